@@ -1,0 +1,11 @@
+pub mod Brought
+pub mod Contents
+pub mod Heads
+pub mod Iters
+pub mod Layouts
+pub mod OneLayout
+pub mod Openings
+pub mod Pieces
+pub mod Places
+pub mod Rules
+pub mod Stands

@@ -1,0 +1,72 @@
+-- What the laws of the layout say.
+use Rattle.std.specs.Prelude.{◌≡◌, ◌≢◌, ◌⊎◌, ℕ, ◌+◌, ◌^◌, ◌<◌, ◌≤◌, ◌==◌, List, ◌∷◌, ◌++◌, length, drop, count_by, All, AllPairs}
+use Rattle.std.specs.List.{concat}
+use Rattle.perfdata_base.specs.declared.raw.Endianness.{Endianness}
+use Rattle.linux_perf_data.specs.Attribute.{Attribute, Rule}
+use Rattle.linux_perf_data.specs.Layout.{Bound, Begins, IsEnd, IsRecord, IsPiece, Fronts, Fault, FaultAt, End, Layout, Handed, handed, handed_at, brought, ToCome, attributes_of, attributes_in, kind_of}
+
+-- no bytes begin with two whole records: none is a proper front of another
+abbrev pub OneRecord : Type 0
+OneRecord = (order : Endianness) (p q after later : List ℕ) → IsRecord order p → IsRecord order q → p ++ after ≡ q ++ later → (p ≡ q) × (after ≡ later)
+
+-- the faults that can stand at an offset exclude one another: the first that holds is the one
+abbrev pub OneFault : Type 0
+OneFault = (order : Endianness) (bound : Bound) (offset : ℕ) (attrs : List Attribute) (rest : List ℕ) (f g : Fault) → Begins bound offset →
+    FaultAt order bound offset attrs rest f → FaultAt order bound offset attrs rest g → f ≡ g
+
+-- no fault stands where a piece does that the attributes allow
+abbrev pub NoFaultAtPiece : Type 0
+NoFaultAtPiece = (order : Endianness) (bound : Bound) (offset : ℕ) (attrs : List Attribute) (rest p : List ℕ) (f : Fault) → Begins bound offset →
+    Fronts order offset rest p → IsPiece order bound p → Rule (attrs ++ attributes_of order bound (kind_of order p) (drop 8 p)) → ¬ FaultAt order bound offset attrs rest f
+
+-- the records end, a fault stands, or such a piece does
+abbrev pub EndFaultOrPiece : Type 0
+EndFaultOrPiece = (order : Endianness) (bound : Bound) (offset : ℕ) (attrs : List Attribute) (rest : List ℕ) → Rule attrs →
+    IsEnd order bound offset rest ⊎ (((f : Fault) × FaultAt order bound offset attrs rest f)
+    ⊎ ((p : List ℕ) × Fronts order offset rest p × IsPiece order bound p × Rule (attrs ++ attributes_of order bound (kind_of order p) (drop 8 p))))
+
+-- no bytes have two layouts
+abbrev pub OneLayout : Type 0
+OneLayout = (order : Endianness) (bytes : List ℕ) (bound : Bound) (offset : ℕ) (attrs : List Attribute) (ps qs : List (List ℕ)) (e f : End) →
+    Layout order bytes bound offset attrs ps e → Layout order bytes bound offset attrs qs f → (ps ≡ qs) × (e ≡ f)
+
+-- all bytes have a layout, where the attributes that came before keep their rule
+abbrev pub SomeLayout : Type 0
+SomeLayout = (order : Endianness) (bytes : List ℕ) (bound : Bound) (offset : ℕ) (attrs : List Attribute) →
+    offset < 2 ^ 64 → Rule attrs → (pieces : List (List ℕ)) × ((end : End) × Layout order bytes bound offset attrs pieces end)
+
+-- no bytes have two lists of records to come, or two ends
+abbrev pub OneToCome : Type 0
+OneToCome = (order : Endianness) (bytes : List ℕ) (bound : Bound) (offset round : ℕ) (attrs : List Attribute) (rs ss : List Handed) (e f : End) →
+    ToCome order bytes bound offset round attrs rs e → ToCome order bytes bound offset round attrs ss f → (rs ≡ ss) × (e ≡ f)
+
+-- a record stands behind another, in its round or a later one
+abbrev pub StandsBehind : Handed → Handed → Type 0
+StandsBehind h later = (h.offset < later.offset) × (h.round ≤ later.round)
+
+-- each record stands behind all records before it, and none before the start
+abbrev pub OffsetsRise : Type 0
+OffsetsRise = (order : Endianness) (bound : Bound) (offset round : ℕ) (attrs : List Attribute) (pieces : List (List ℕ)) → All (IsRecord order) pieces →
+    AllPairs StandsBehind (handed order bound offset round attrs pieces) × All (λ h. (offset ≤ h.offset) × (round ≤ h.round)) (handed order bound offset round attrs pieces)
+
+-- how many of the pieces are markers
+abbrev pub markers_in : Endianness → List (List ℕ) → ℕ
+markers_in order pieces = count_by (λ p. kind_of order p == 68) pieces
+
+-- a piece as it is handed out behind others: its offset and its round count them, and they brought its attributes
+abbrev pub place_in : Endianness → Bound → ℕ → ℕ → List Attribute → List (List ℕ) → List ℕ → Handed
+place_in order bound offset round attrs front p =
+    handed_at order (offset + length (concat front)) (round + markers_in order front) (attrs ++ attributes_in order bound front) p
+
+-- each piece that is no marker is handed out at its place
+abbrev pub PlaceOfPiece : Type 0
+PlaceOfPiece = (order : Endianness) (bound : Bound) (offset round : ℕ) (attrs : List Attribute) (front back : List (List ℕ)) (p : List ℕ) → kind_of order p ≢ 68 →
+    handed order bound offset round attrs (front ++ p ∷ back)
+    ≡ handed order bound offset round attrs front
+    ++ place_in order bound offset round attrs front p
+    ∷ handed order bound (offset + length (concat front) + length p) (round + markers_in order front) ((attrs ++ attributes_in order bound front) ++ attributes_of order bound (kind_of order p) (drop 8 p)) back
+
+-- The attributes that the pieces bring are those that the handed-out records bring.
+abbrev pub RecordsBring : Type 0
+RecordsBring = (order : Endianness) (bound : Bound) (offset round : ℕ) (attrs : List Attribute) (pieces : List (List ℕ)) →
+    brought order bound (handed order bound offset round attrs pieces) ≡ attributes_in order bound pieces

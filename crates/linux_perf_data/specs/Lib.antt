@@ -1,0 +1,9 @@
+pub mod Attribute
+pub mod Layout
+pub mod Laws
+pub mod Known
+pub mod Piece
+pub mod Iter
+pub mod PerfFile
+pub mod Open
+pub mod Opened

@@ -1,0 +1,76 @@
+-- What a caller learns of a file that was opened, or that was refused.
+use Rattle.std.specs.Prelude.{◌≡◌, ◌≢◌, ◌⊎◌, List, drop, Result, Ok, Err, Some, IfSome}
+use Rattle.perfdata_base.specs.Source.{State, Place, Stood}
+use Rattle.perfdata_base.specs.Numbers.{number_in}
+use Rattle.perfdata_base.specs.declared.raw.Endianness.{Endianness}
+use Rattle.perfdata_base.specs.declared.header.PerfHeader.{PerfHeader}
+use Rattle.perfdata_parts.specs.Attributes.{DescribesByAttrSection}
+use Rattle.perfdata_parts.specs.declared.error.Error.{Error}
+use Rattle.perfdata_parts.specs.declared.error.Error.TheVariants.{Memory}
+use Rattle.linux_perf_data.specs.declared.opening.Opening.{Opening}
+use Rattle.linux_perf_data.specs.declared.file_reader.PerfFileReader.{PerfFileReader}
+use Rattle.linux_perf_data.specs.declared.iter.PerfRecordIter.{PerfRecordIter}
+use Rattle.linux_perf_data.specs.declared.iter.Stage.TheVariants.{Running}
+use Rattle.linux_perf_data.specs.declared.perf_file.PerfFile.{PerfFile}
+use Rattle.linux_perf_data.specs.Attribute.{Attribute}
+use Rattle.linux_perf_data.specs.Known.{Knows}
+use Rattle.linux_perf_data.specs.Layout.{Handed, End, ToCome}
+use Rattle.linux_perf_data.specs.Iter.{RecordsToCome, view}
+use Rattle.linux_perf_data.specs.PerfFile.{descriptions_of, features_of, order_of_file, attributes_of_file}
+use Rattle.linux_perf_data.specs.Open.{IsHeader, IsPlain, StopsFile, SourceOwesOpening}
+
+-- the records of a file with this header, and how its data section's layout ends
+abbrev pub RecordsOf : Place → Endianness → PerfHeader → List Attribute → List Handed → End → Type 0
+RecordsOf p order h attrs records end = ToCome order (drop h.data_section.offset p.all) (Some h.data_section.size) 0 0 attrs records end
+
+-- The file that begins at a place says this of itself: its header, and the attributes of its attribute section.
+pub record Describes (p : Place) (header : PerfHeader) (file : PerfFile) : Type 0 where
+  pub is : IsHeader p (order_of_file file) header
+  pub plain : IsPlain header
+  pub features : features_of file ≡ header.features
+  pub attributes : DescribesByAttrSection (number_in (order_of_file file)) header.attr_size header.attr_section p.all (descriptions_of file)
+
+-- A file was refused, and its source dropped: the file shows the reason, or the source failed or paused, as a steady one
+-- never does.
+pub record RefusesFile (old : State) (e : Error) : Type 0 where
+  pub left : State
+  pub stood : Stood old left
+  pub why : e ≢ Memory → IfSome old.place (λ p. StopsFile p e) ⊎ SourceOwesOpening old e left
+
+module _ {R : Type 0} (seen : R → State) where
+  -- an iterator stands at the first record
+  pub record AtFirst (file : PerfFile) (it : PerfRecordIter R) : Type 0 where
+    pub runs : it.stage ≡ Running
+    pub offset : it.offset ≡ 0
+    pub round : it.round ≡ 0
+    pub order : it.endian ≡ order_of_file file
+    pub knows : Knows it.endian it.known (attributes_of_file file)
+
+  -- what is made of an opening
+  pub record Starts (source : R) (opening : Opening) (r : PerfFileReader R) : Type 0 where
+    pub kept : r.record_iter.source ≡ source
+    pub size : r.record_iter.size ≡ opening.size
+    pub first : AtFirst r.perf_file r.record_iter
+    pub order : order_of_file r.perf_file ≡ opening.endian
+    pub features : features_of r.perf_file ≡ opening.features
+    pub attributes : descriptions_of r.perf_file ≡ opening.attributes.items
+
+  -- The file that begins at a place was opened, and its records are those that the iterator is to hand out.
+  pub record OpensFile (p : Place) (file : PerfFile) (it : PerfRecordIter R) : Type 0 where
+    pub header : PerfHeader
+    pub describes : Describes p header file
+    pub bytes : (view seen it).bytes ≡ Some (drop header.data_section.offset p.all)
+    pub comes : (records : List Handed) (end : End) → RecordsOf p (order_of_file file) header (attributes_of_file file) records end
+        → RecordsToCome seen it (attributes_of_file file) records end
+    pub came : (records : List Handed) (end : End) → RecordsToCome seen it (attributes_of_file file) records end
+        → RecordsOf p (order_of_file file) header (attributes_of_file file) records end
+
+  -- a file was opened
+  pub record Opens (old : State) (file : PerfFile) (it : PerfRecordIter R) : Type 0 where
+    pub first : AtFirst file it
+    pub stood : Stood old (view seen it)
+    pub opened : IfSome old.place (λ p. OpensFile p file it)
+
+  abbrev pub ParsesFile : State → Result (PerfFileReader R) Error → Type 0
+  ParsesFile old (Ok r) = Opens old r.perf_file r.record_iter
+  ParsesFile old (Err e) = RefusesFile old e

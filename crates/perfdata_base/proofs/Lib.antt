@@ -1,0 +1,9 @@
+pub mod Attrs
+pub mod Cut
+pub mod Gives
+pub mod Headers
+pub mod Numbers
+pub mod Pieces
+pub mod Sought
+pub mod Strings
+pub mod Words

@@ -1,0 +1,25 @@
+use Rattle.std.proofs.Common.{rules, ◌≡◌, ◌∷◌, [], take}
+use Rattle.std.proofs.lemmas.List.{take_rest}
+use Rattle.perfdata_base.proofs.header.parse_fields.Goals as goal
+
+pub returns : goal.returns
+returns g c =
+    let magic : c.copy_from_slice.new.self ≡ take 8 c.args.bytes.now = search rules in
+    let header_size = rw take_rest at c.read_u64.ensures in
+    let attr_size = rw take_rest at c.read_u64-2.ensures in
+    let attrs = rw take_rest at c.entry_of.ensures in
+    let records = rw take_rest at c.entry_of-2.ensures in
+    let types = rw take_rest at c.entry_of-3.ensures in
+    let first = rw take_rest at c.read_u64-3.ensures in
+    let second = rw take_rest at c.read_u64-4.ensures in
+    let third = rw take_rest at c.read_u64-5.ensures in
+    let fourth = rw take_rest at c.read_u64-6.ensures in
+    λ i. record {
+      magic = magic i;
+      header_size = header_size i;
+      attr_size = attr_size i;
+      attr_section = attrs i;
+      data_section = records i;
+      event_types_section = types i;
+      features = record { 0 = first i ∷ second i ∷ third i ∷ fourth i ∷ [] };
+    }

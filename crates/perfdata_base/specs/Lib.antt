@@ -1,0 +1,9 @@
+pub mod Attr
+pub mod Event
+pub mod Header
+pub mod Numbers
+pub mod Place
+pub mod Raw
+pub mod RecordType
+pub mod Section
+pub mod Source

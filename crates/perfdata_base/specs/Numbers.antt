@@ -1,0 +1,11 @@
+-- Numbers in the order of a file.
+use Rattle.std.specs.Prelude.{ℕ, List}
+use Rattle.byteorder.specs.Endian.{big_number, little_number}
+use Rattle.perfdata_base.specs.declared.raw.Endianness.{Endianness}
+use Rattle.perfdata_base.specs.declared.raw.Endianness.TheVariants.{LittleEndian, BigEndian}
+
+-- The number that the first n bytes of a list spell: the sum of byte times 256 to its place, counted from the first
+-- byte (little-endian) or from the last (big-endian).
+abbrev pub number_in : Endianness → ℕ → List ℕ → ℕ
+number_in LittleEndian n xs = little_number n xs
+number_in BigEndian n xs = big_number n xs

@@ -1,0 +1,42 @@
+use Rattle.std.proofs.Common.{rules, arith, ◌≡◌, ◌+◌, ◌-◌, ◌<◌, ◌≤◌, ◌^◌, refl, inr, ◌∙◌, None}
+use Rattle.perfdata_parts.specs.Attributes.{IsUnread, IsNoFrame, IsDescribed}
+use Rattle.perfdata_parts.specs.declared.feature_sections.AttributeDescription.{AttributeDescription}
+use Rattle.perfdata_parts.proofs.Runs.{run_whole, run_more, run_stops}
+use Rattle.perfdata_parts.proofs.Frames.{described, can_be}
+use Rattle.perfdata_parts.proofs.feature_sections.AttributeDescription.parse_attr_section_from.Goals as goal
+
+pub returns-in-Err-clause-reads : goal.returns-in-Err-clause-reads
+returns-in-Err-clause-reads g c =
+    let some : 0 < c.args.attr_size = omega arith in
+    let sum : c.in-Some.end ≡ c.args.section.now.offset + c.args.section.now.size = search rules in
+    let low : c.args.section.now.offset + c.args.section.now.size < 2 ^ 64 = omega arith in
+    let more : c.args.attr_size ≤ c.args.section.now.offset + c.args.section.now.size - c.frames.at = omega arith in
+    inr (
+      can_be g.T.ByteOrder.number_of c.args.attr_size c.args.section.now some low,
+      run_stops (IsDescribed g.T.ByteOrder.number_of c.args.attr_size) c.args.attr_size c.args.section.now.offset c.args.section.now.size _ _ c.frames.at _ some c.frames.invariant.far
+          (IsNoFrame g.T.ByteOrder.number_of c.args.attr_size) (IsUnread g.T.ByteOrder.number_of c.args.attr_size) (g.C.Source.seen c.read_frame_at.new.source) _ more c.in-Err.ensures.reads,
+    )
+
+pub frames-preserved : goal.frames-preserved
+frames-preserved g c =
+    let some : 0 < c.args.attr_size = omega arith in
+    let sum : c.in-Some.end ≡ c.args.section.now.offset + c.args.section.now.size = search rules in
+    let more : c.args.attr_size ≤ c.args.section.now.offset + c.args.section.now.size - c.frames.at = omega arith in
+    let d : AttributeDescription = record { attr = c.in-Ok.attr; name = None; event_ids = c.new.result } in
+    let lent = c.in-Ok.ensures.lent in
+    record {
+      far = run_more (IsDescribed g.T.ByteOrder.number_of c.args.attr_size) c.args.attr_size c.args.section.now.offset c.args.section.now.size _ _ c.frames.at _ some c.frames.invariant.far
+          (g.C.Source.seen c.read_frame_at.new.source) d c.push.new.self.items more c.in-Ok-push.ensures.items
+          (described g.T.ByteOrder.number_of g.met.T.ByteOrder.reads_first c.args.attr_size _ _ c.frames.at c.in-Ok.attr d refl refl c.new.ensures.items c.in-Ok.ensures.reads);
+      lent = lent ∙ c.frames.invariant.lent;
+    }
+
+pub returns-clause-reads : goal.returns-clause-reads
+returns-clause-reads g c =
+    let some : 0 < c.args.attr_size = omega arith in
+    let sum : c.in-Some.end ≡ c.args.section.now.offset + c.args.section.now.size = search rules in
+    let low : c.args.section.now.offset + c.args.section.now.size < 2 ^ 64 = omega arith in
+    let less : c.args.section.now.offset + c.args.section.now.size - c.frames.at < c.args.attr_size = omega arith in (
+      can_be g.T.ByteOrder.number_of c.args.attr_size c.args.section.now some low,
+      run_whole (IsDescribed g.T.ByteOrder.number_of c.args.attr_size) c.args.attr_size c.args.section.now.offset c.args.section.now.size _ _ c.frames.at _ some c.frames.invariant.far less,
+    )

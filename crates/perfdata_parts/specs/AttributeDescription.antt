@@ -1,0 +1,17 @@
+-- What the description of an attribute tells.
+use Rattle.std.specs.Prelude.{ℕ, List, Option, string_bytes}
+use Rattle.std.specs.Option.{option_map}
+use Rattle.perfdata_base.specs.declared.attr.PerfEventAttr.{PerfEventAttr}
+use Rattle.perfdata_parts.specs.declared.feature_sections.AttributeDescription.{AttributeDescription}
+
+-- the attribute
+abbrev pub attr_in : AttributeDescription → PerfEventAttr
+attr_in d = d.attr
+
+-- the bytes of its name
+abbrev pub name_in : AttributeDescription → Option (List ℕ)
+name_in d = option_map string_bytes d.name
+
+-- its ids
+abbrev pub ids_in : AttributeDescription → List ℕ
+ids_in d = d.event_ids.items

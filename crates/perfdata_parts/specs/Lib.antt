@@ -1,0 +1,5 @@
+pub mod Error
+pub mod Run
+pub mod AttributeDescription
+pub mod Attributes
+pub mod Record

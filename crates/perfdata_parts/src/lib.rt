@@ -1,0 +1,8 @@
+//! The parts of perf.data files: errors, the records that tools write, and the sections that describe a file.
+#![tactic(auto)]
+
+pub mod constants;
+pub mod error;
+pub mod feature_sections;
+pub mod protobuf;
+pub mod record;

@@ -1,0 +1,8 @@
+use Rattle.perflist.proofs.Listings.{listed_file, refused_file}
+use Rattle.perflist.proofs.list.list_file.Goals as goal
+
+pub returns-in-Ok : goal.returns-in-Ok
+returns-in-Ok g c = listed_file g.C.Source.seen _ c.in-Ok.reader.perf_file c.in-Ok.reader.record_iter _ _ _ _ c.in-Ok.ensures.parses c.list_records.ensures
+
+pub returns-in-Err : goal.returns-in-Err
+returns-in-Err g c = refused_file _ _ _ c.in-Err.ensures.parses

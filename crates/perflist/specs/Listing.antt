@@ -1,0 +1,126 @@
+-- What a listing of records writes, and why it stops.
+use Rattle.std.specs.Prelude.{◌≡◌, ◌≢◌, ◌⊎◌, ℕ, ◌<◌, List, [], ◌∷◌, ◌++◌, length, take, flat_map, Option, Result, Ok, Err, IfSome}
+use Rattle.std.specs.Io.KnownBytes.{Appends}
+use Rattle.perfdata_base.specs.Source.{State, Place}
+use Rattle.perfdata_parts.specs.declared.error.Error.{Error}
+use Rattle.perfdata_parts.specs.declared.error.Error.TheVariants.{Memory}
+use Rattle.linux_perf_data.specs.declared.iter.PerfRecordIter.{PerfRecordIter}
+use Rattle.linux_perf_data.specs.declared.perf_file.PerfFile.{PerfFile}
+use Rattle.linux_perf_data.specs.Attribute.{Attribute}
+use Rattle.linux_perf_data.specs.Known.{Knows}
+use Rattle.linux_perf_data.specs.Layout.{Handed, End, whole, faulty, Fault, ToCome}
+use Rattle.linux_perf_data.specs.Piece.{Answers, SourceOwes}
+use Rattle.linux_perf_data.specs.Iter.{view, bound_of, RecordsToCome}
+use Rattle.linux_perf_data.specs.PerfFile.{order_of_file, attributes_of_file}
+use Rattle.linux_perf_data.specs.Open.{StopsFile, SourceOwesOpening}
+use Rattle.linux_perf_data.specs.Opened.{Describes, RecordsOf}
+use Rattle.perflist.specs.Line.{handed_line, line_of}
+use Rattle.perflist.specs.declared.line.Fields.{Fields}
+use Rattle.perflist.specs.declared.list.ListFault.{ListFault}
+use Rattle.perflist.specs.declared.list.ListCause.{ListCause}
+use Rattle.perflist.specs.declared.list.ListCause.TheVariants.{Perf, Write}
+use Rattle.perfdata_base.specs.declared.header.PerfHeader.{PerfHeader}
+
+-- the line that fields tell
+abbrev pub told_by : Fields → List ℕ
+told_by f = line_of f.offset f.round f.time f.attr f.kind f.misc f.body_length
+
+-- the lines of records, one behind another
+abbrev pub lines_of : List Handed → List ℕ
+lines_of records = flat_map handed_line records
+
+-- the source owes this error, wherever in a record it stopped
+abbrev pub SourceOwesSome : State → Error → State → Type 0
+SourceOwesSome old e new = (came : List ℕ) × SourceOwes old came e new
+
+-- these records come first, whatever comes behind them
+abbrev pub ComeFirst : (List Handed → End → Type 0) → List Handed → Type 0
+ComeFirst Come records = (more : List Handed) × ((end : End) × Come (records ++ more) end)
+
+-- The lines of these records were written, so many of them, and of a next one a front that is shorter than its line.
+pub record WroteFront (old new : Option (List ℕ)) (records : List Handed) (next : Handed) : Type 0 where
+  pub count : ℕ
+  pub short : count < length (handed_line next)
+  pub appends : Appends old new (lines_of records ++ take count (handed_line next))
+
+module _ {R : Type 0} (seen : R → State) where
+  -- all records of an iterator were listed, and its layout is whole
+  pub record ListedAll (old : PerfRecordIter R) (before after : Option (List ℕ)) (lines : ℕ) : Type 0 where
+    pub records : List Handed
+    pub count : lines ≡ length records
+    pub appends : Appends before after (lines_of records)
+    pub are : (attrs : List Attribute) → Knows old.endian old.known attrs → RecordsToCome seen old attrs records whole
+
+  -- these are the first of what is to come
+  abbrev pub AreFirst : PerfRecordIter R → List Handed → Type 0
+  AreFirst old records = (attrs : List Attribute) → Knows old.endian old.known attrs
+      → IfSome (view seen old).bytes (λ bytes. ComeFirst (ToCome old.endian bytes (bound_of seen old) old.offset old.round attrs) records)
+
+  -- the layout ends with this fault behind these records, and this is its answer
+  abbrev pub EndsFaulty : PerfRecordIter R → List Handed → Error → Type 0
+  EndsFaulty old records e = IfSome (view seen old).bytes (λ bytes. (f : Fault) × ((attrs : List Attribute) → Knows old.endian old.known attrs
+      → ToCome old.endian bytes (bound_of seen old) old.offset old.round attrs records (faulty f)) × Answers f e)
+
+  -- the first records were listed, and then the input was refused
+  pub record ListedTo (old : PerfRecordIter R) (before after : Option (List ℕ)) (lines : ℕ) (e : Error) (new : PerfRecordIter R) : Type 0 where
+    pub records : List Handed
+    pub count : lines ≡ length records
+    pub appends : Appends before after (lines_of records)
+    pub first : AreFirst old records
+    pub reason : e ≢ Memory → EndsFaulty old records e ⊎ SourceOwesSome (view seen old) e (view seen new)
+
+  -- the first records were listed, and of the next one a front of its line
+  pub record ListedInto (old : PerfRecordIter R) (before after : Option (List ℕ)) (lines : ℕ) : Type 0 where
+    pub records : List Handed
+    pub next : Handed
+    pub count : lines ≡ length records
+    pub wrote : WroteFront before after records next
+    pub first : AreFirst old (records ++ next ∷ [])
+
+  abbrev pub StopsListing : PerfRecordIter R → Option (List ℕ) → Option (List ℕ) → ℕ → ListCause → PerfRecordIter R → Type 0
+  StopsListing old before after lines (Perf e) new = ListedTo old before after lines e new
+  StopsListing old before after lines (Write e) new = ListedInto old before after lines
+
+  -- what a listing of an iterator's records does
+  abbrev pub ListsRecords : PerfRecordIter R → Option (List ℕ) → Result ℕ ListFault → Option (List ℕ) → PerfRecordIter R → Type 0
+  ListsRecords old before (Ok lines) after new = ListedAll old before after lines
+  ListsRecords old before (Err fault) after new = StopsListing old before after fault.lines fault.cause new
+
+-- the file that begins at a place has these records first, and they are so
+abbrev pub OfFile : Place → ((List Handed → End → Type 0) → Type 0) → Type 0
+OfFile p P = (file : PerfFile) × ((header : PerfHeader) × Describes p header file × P (RecordsOf p (order_of_file file) header (attributes_of_file file)))
+
+-- all records of a file were listed, and its layout is whole
+pub record ListedFile (old : State) (before after : Option (List ℕ)) (lines : ℕ) : Type 0 where
+  pub records : List Handed
+  pub count : lines ≡ length records
+  pub appends : Appends before after (lines_of records)
+  pub are : IfSome old.place (λ p. OfFile p (λ Come. Come records whole))
+
+-- The first records of a file were listed, and then it was refused: it doesn't open, and none was listed; or its layout
+-- ends with this fault behind them; or the source failed or paused.
+pub record StoppedFile (old : State) (before after : Option (List ℕ)) (lines : ℕ) (e : Error) : Type 0 where
+  pub records : List Handed
+  pub count : lines ≡ length records
+  pub appends : Appends before after (lines_of records)
+  pub left : State
+  pub why : ((records ≡ []) × (e ≢ Memory → IfSome old.place (λ p. StopsFile p e) ⊎ SourceOwesOpening old e left))
+      ⊎ (IfSome old.place (λ p. OfFile p (λ Come. ComeFirst Come records))
+      × (e ≢ Memory → IfSome old.place (λ p. OfFile p (λ Come. (f : Fault) × Come records (faulty f) × Answers f e)) ⊎ SourceOwesSome old e left))
+
+-- the first records of a file were listed, and of the next one a front of its line
+pub record WroteFile (old : State) (before after : Option (List ℕ)) (lines : ℕ) : Type 0 where
+  pub records : List Handed
+  pub next : Handed
+  pub count : lines ≡ length records
+  pub wrote : WroteFront before after records next
+  pub first : IfSome old.place (λ p. OfFile p (λ Come. ComeFirst Come (records ++ next ∷ [])))
+
+abbrev pub StopsListingFile : State → Option (List ℕ) → Option (List ℕ) → ℕ → ListCause → Type 0
+StopsListingFile old before after lines (Perf e) = StoppedFile old before after lines e
+StopsListingFile old before after lines (Write e) = WroteFile old before after lines
+
+-- what a listing of a file does
+abbrev pub ListsFile : State → Option (List ℕ) → Result ℕ ListFault → Option (List ℕ) → Type 0
+ListsFile old before (Ok lines) after = ListedFile old before after lines
+ListsFile old before (Err fault) after = StopsListingFile old before after fault.lines fault.cause

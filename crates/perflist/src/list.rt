@@ -1,0 +1,200 @@
+//! The records of an input as lines.
+ghost use Rattle.std.specs.Prelude.{◌≡◌, ◌^◌, ◌<◌, [], IfOk, IfErr};
+ghost use Rattle.linux_perf_data.specs.Iter.{IsRunning};
+ghost use Rattle.perflist.specs.Buffer.{held, lines_left, Passes};
+ghost use Rattle.linux_perf_data.specs.Iter.{handed_of};
+ghost use Rattle.perflist.specs.Line.{handed_line};
+ghost use Rattle.perflist.specs.Text.{text_of};
+ghost use Rattle.perflist.specs.Listing.{told_by};
+ghost use Rattle.perflist.specs.Listing.{ListsRecords, ListsFile};
+
+use crate::line::{Fields, Line};
+use crate::output::{LineBuffer, write_line};
+use linux_perf_data::source::{PlacedSource, Source};
+use linux_perf_data::{
+    Error, PerfFile, PerfFileReader, PerfFileRecord, PerfRecordIter, RecordPlace,
+};
+use std::alloc::Global;
+use std::io;
+use std::io::Write;
+
+/// Why a listing stopped before its end.
+#[derive(Debug, Drop)]
+pub enum ListCause {
+    /// The input was refused, or its source failed.
+    Perf(Error),
+    /// The writer refused a line.
+    Write(io::Error),
+}
+
+/// How far a listing came, and why it stopped.
+#[derive(Debug, Drop)]
+pub struct ListFault {
+    /// How many lines were written whole.
+    pub lines: u64,
+    /// What stopped it.
+    pub cause: ListCause,
+}
+
+/// What a line tells of a record.
+fn fields_of(place: RecordPlace, found: &PerfFileRecord<'_>) -> Fields
+    ensures { told_by result ≡ handed_line (handed_of place found.now) }
+{
+    match found {
+        PerfFileRecord::EventRecord { attr_index, event } => Fields {
+            offset: place.offset,
+            round: place.round,
+            time: place.timestamp,
+            attr: Some(*attr_index as u64),
+            kind: event.record_type.0,
+            misc: event.misc,
+            body_length: event.body.len() as u64,
+        },
+        PerfFileRecord::UserRecord(user) => Fields {
+            offset: place.offset,
+            round: place.round,
+            time: place.timestamp,
+            attr: None,
+            kind: user.record_type.record_type().0,
+            misc: user.misc,
+            body_length: user.body.len() as u64,
+        },
+    }
+}
+
+/// The line of a record.
+fn line_for(place: RecordPlace, found: &PerfFileRecord<'_>) -> Line
+    ensures { text_of result ≡ handed_line (handed_of place found.now) }
+{
+    Line::of_record(fields_of(place, found))
+}
+
+/// Writes a line for each record that is to come, and says how many.
+fn list_records<R: Source, W: Write>(
+    iter: &mut PerfRecordIter<R>,
+    file: &mut PerfFile,
+    out: &mut W,
+) -> Result<u64, ListFault>
+    requires { IsRunning iter.old }
+    ensures { ListsRecords R.seen iter.old (W.contents out.old) result (W.contents out.new) iter.new }
+{
+    let mut lines = 0u64;
+    'records: loop {
+        match iter.next_record(file) {
+            Ok(Some((place, record))) => {
+                let line = line_for(place, &record);
+                match write_line(out, line.as_bytes()) {
+                    Ok(()) => lines += 1,
+                    Err(error) => {
+                        return Err(ListFault {
+                            lines,
+                            cause: ListCause::Write(error),
+                        });
+                    }
+                }
+            }
+            Ok(None) => return Ok(lines),
+            Err(error) => {
+                return Err(ListFault {
+                    lines,
+                    cause: ListCause::Perf(error),
+                });
+            }
+        }
+    }
+}
+
+/// Writes a line for each record of a perf.data file, and says how many:
+/// `OFFSET ROUND TIME ATTR TYPE MISC BODYLEN`, numbers in decimal, one space between, `-` for none.
+///
+/// Where it is refused the fault tells how many lines were written whole: none where the file doesn't open, all of its
+/// records where its data section's layout has a fault. Where the writer refuses, a front of the next line was written; a
+/// write that takes none is of kind `WriteZero`, and no write is made a second time.
+pub fn list_file<C: PlacedSource + Drop, W: Write>(
+    alloc: Global,
+    source: C,
+    out: &mut W,
+) -> Result<u64, ListFault>
+    ensures { ListsFile (C.seen source) (W.contents out.old) result (W.contents out.new) }
+{
+    match PerfFileReader::parse_file(alloc, source) {
+        Ok(reader) => {
+            let mut file = reader.perf_file;
+            let mut iter = reader.record_iter;
+            list_records(&mut iter, &mut file, out)
+        }
+        Err(error) => Err(ListFault {
+            lines: 0,
+            cause: ListCause::Perf(error),
+        }),
+    }
+}
+
+/// Lets the lines that are still held leave, unless the writer has refused before, and answers how many records were
+/// listed, or, where anything failed, how many whole lines left.
+pub fn settle<W: Write>(listed: Result<u64, ListFault>, out: &mut LineBuffer<W>) -> Result<u64, u64>
+    ensures passes { Passes W.contents out.old [] out.new }
+    ensures all { IfOk result (λ n. (listed ≡ Ok n) × (held out.new ≡ [])) }
+    ensures left { IfErr result (λ n. n ≡ lines_left out.new) }
+{
+    match listed {
+        Ok(records) => match out.flush() {
+            Ok(()) => Ok(records),
+            Err(_) => Err(out.lines_left()),
+        },
+        Err(
+            ListFault {
+                cause: ListCause::Write(_),
+                ..
+            },
+        ) => Err(out.lines_left()),
+        Err(_) => {
+            let _ = out.flush();
+            Err(out.lines_left())
+        }
+    }
+}
+
+#[cfg(test)]
+mod tests {
+    use super::*;
+    use crate::output::write_line;
+    use std::io::ErrorKind;
+    use std::test::Fail;
+
+    fn stopped_by(cause: ListCause) -> Result<u64, ListFault> {
+        Err(ListFault { lines: 2, cause })
+    }
+
+    fn error() -> io::Error {
+        io::Error::from(ErrorKind::StorageFull)
+    }
+
+    #[test]
+    fn settles(rt: HostRuntime) -> Result<(), Fail> {
+        // what the listing came to, what is answered where the writer takes two lines, and how many of them it has
+        let cases = [
+            (Ok(2), Ok(2), 2),
+            (stopped_by(ListCause::Perf(Error::Failed)), Err(2), 2),
+            (stopped_by(ListCause::Write(error())), Err(0), 0),
+        ];
+        for (listed, answer, lines) in cases {
+            let mut out = LineBuffer::new(rt.alloc(), Vec::new(rt.alloc()))?;
+            write_line(&mut out, b"one\n")?;
+            write_line(&mut out, b"two\n")?;
+            assert!(rt; settle(listed, &mut out) == answer);
+            assert!(rt; out.lines_left() == lines);
+        }
+        Ok(())
+    }
+
+    #[test]
+    fn settles_where_the_end_is_refused(rt: HostRuntime) -> Result<(), Fail> {
+        let mut room = [0u8; 6];
+        let mut out = LineBuffer::new(rt.alloc(), room.as_mut_slice())?;
+        write_line(&mut out, b"one\n")?;
+        write_line(&mut out, b"two\n")?;
+        assert!(rt; settle(Ok(2), &mut out) == Err(1));
+        Ok(())
+    }
+}

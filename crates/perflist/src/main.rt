@@ -1,0 +1,94 @@
+//! Lists the records of a `perf.data` file, of a pipe, or of a jitdump file, one line a record.
+#![tactic(auto)]
+
+mod laws;
+mod line;
+mod list;
+mod output;
+#[cfg(test)]
+mod tests;
+
+use linux_perf_data::source::Counted;
+use list::{list_file, settle};
+use output::{LineBuffer, finish, write_line};
+use std::env::Args;
+use std::fs::File;
+use std::io::{BufReader, ErrorKind, Write};
+use std::process::ExitCode;
+use std::rt::Env;
+use std::{env, io};
+
+/// What stands on standard error where the words ask for nothing that the program does.
+const USAGE: &[u8] = b"usage: perflist file PATH | pipe | jit PATH\n";
+
+/// What is read at once.
+const BUFFER: usize = 65536;
+
+/// What the words after the program's name ask for.
+#[derive(Drop)]
+enum Asked {
+    File(String),
+    Other,
+}
+
+/// Reads the words behind the program's name. A word that isn't UTF-8 makes them other words. It refuses where there is
+/// no memory for them.
+fn read_words<R: Env + AllocGlobal>(rt: &R) -> io::Result<Asked> {
+    match env::args(rt) {
+        Ok(mut words) => {
+            let _program = words.next();
+            Ok(asked_by(words))
+        }
+        Err(error) if error.kind() == ErrorKind::OutOfMemory => Err(error),
+        Err(_) => Ok(Asked::Other),
+    }
+}
+
+/// What the words ask for.
+fn asked_by(mut words: Args) -> Asked {
+    let Some(word) = words.next() else {
+        return Asked::Other;
+    };
+    let Some(path) = words.next() else {
+        return Asked::Other;
+    };
+    if words.next().is_some() {
+        return Asked::Other;
+    }
+    match word.as_str() {
+        "file" => Asked::File(path),
+        _ => Asked::Other,
+    }
+}
+
+/// Lists a file on standard output, and answers how many records it has, or how many lines were written before a fault.
+fn list_path(rt: &HostRuntime, path: &str) -> Result<u64, u64> {
+    let Ok(file) = File::open(rt, path) else {
+        return Err(0);
+    };
+    let Ok(reader) = BufReader::with_capacity(rt.alloc(), BUFFER, file) else {
+        return Err(0);
+    };
+    let Ok(mut out) = LineBuffer::new(rt.alloc(), rt.stdout()) else {
+        return Err(0);
+    };
+    let listed = list_file(rt.alloc(), Counted::new(reader), &mut out);
+    settle(listed, &mut out)
+}
+
+/// Says how the listing ended, and answers the program's status.
+fn end(rt: &HostRuntime, outcome: Result<u64, u64>) -> u8 {
+    finish(outcome, &mut rt.stderr()).unwrap_or(2)
+}
+
+fn main(rt: HostRuntime) -> ExitCode {
+    let status = match read_words(&rt) {
+        Ok(Asked::File(path)) => end(&rt, list_path(&rt, path.as_str())),
+        Ok(Asked::Other) => {
+            let _ = write_line(&mut rt.stderr(), USAGE);
+            1
+        }
+        Err(_) => end(&rt, Err(0)),
+    };
+    ExitCode::from(status)
+}

@@ -1,0 +1,323 @@
+//! Writing to a writer that may refuse: lines, a buffer that counts them, and the program's last word.
+ghost use Rattle.std.specs.Prelude.{◌≡◌, ◌+◌, ◌-◌, ◌^◌, ◌<◌, ◌≤◌, ◌++◌, [], length, take, drop, vec_len, vec_capacity, IfOk, OnOk, OnErr, IfErr};
+ghost use Rattle.std.specs.Io.{WritesAtMost};
+ghost use Rattle.std.specs.Io.KnownBytes.{Appends, Keeps, WriteAppends};
+ghost use Rattle.perflist.specs.Output.{Writes, Finishes, newlines};
+
+use crate::line::Line;
+use std::alloc::{AllocError, Global};
+use std::io;
+use std::io::{ErrorKind, Write};
+
+/// What a line buffer holds before it writes.
+const CAPACITY: usize = 65536;
+
+/// Writes the bytes to the last, or as far as the writer takes them, and returns how many it took. It makes no write a
+/// second time. A write that takes none of some bytes is an error of kind `WriteZero`.
+fn write_front<W: Write>(out: &mut W, bytes: &[u8]) -> (usize, io::Result<()>)
+    ensures bound { result.0 ≤ length bytes.now }
+    ensures whole { OnOk result.1 (result.0 ≡ length bytes.now) }
+    ensures short { OnErr result.1 (result.0 < length bytes.now) }
+    ensures appends { Appends (W.contents out.old) (W.contents out.new) (take result.0 bytes.now) }
+{
+    let mut taken = 0;
+    'pieces: while taken < bytes.len() {
+        match out.write(&bytes[taken..]) {
+            Ok(0) => {
+                let error = io::Error::new(ErrorKind::WriteZero, "the writer takes no byte");
+                return (taken, Err(error));
+            }
+            Ok(count) => taken += count,
+            Err(error) => return (taken, Err(error)),
+        }
+    }
+    (taken, Ok(()))
+}
+
+/// Writes a line. Where the writer refuses, a front of the line is written that is shorter than the line; the error is the
+/// writer's, or of kind `WriteZero` where it took no byte. No write is made a second time.
+pub fn write_line<W: Write>(out: &mut W, line: &[u8]) -> io::Result<()>
+    ensures { Writes (W.contents out.old) (W.contents out.new) line.now result }
+{
+    let (_, written) = write_front(out, line);
+    written
+}
+
+/// Ends the listing: where it went to its end, the status is 0 and nothing is written; where a fault came behind so many
+/// records, the fault's line is written and the status is 2. Its refusal is that of `write_line`.
+pub fn finish<W: Write>(outcome: Result<u64, u64>, err: &mut W) -> io::Result<u8>
+    ensures { Finishes (W.contents err.old) (W.contents err.new) outcome result }
+{
+    match outcome {
+        Ok(_) => Ok(0),
+        Err(records) => {
+            let line = Line::of_fault(records);
+            match write_line(err, line.as_bytes()) {
+                Ok(()) => Ok(2),
+                Err(error) => Err(error),
+            }
+        }
+    }
+}
+
+/// A writer that holds lines back until it is full, and knows how many whole lines have left it for the writer behind it.
+/// Its memory is taken once, as it is made.
+#[derive(Drop)]
+pub struct LineBuffer<W> {
+    inner: W,
+    held: Vec<u8>,
+    lines_left: u64,
+    ghost has_room: { 0 < vec_capacity held },
+    ghost counts: { lines_left < 2 ^ 64 },
+}
+
+/// How many lines end among the bytes.
+fn count_newlines(bytes: &[u8]) -> u64
+    ensures { result ≡ newlines bytes.now }
+{
+    bytes.iter().filter(|byte| **byte == b'\n').count() as u64
+}
+
+/// Takes the first bytes away.
+fn remove_front(bytes: &mut Vec<u8>, count: usize)
+    requires { count ≤ vec_len bytes.old }
+    ensures items { bytes.new.items ≡ drop count bytes.old.items }
+    ensures capacity { vec_capacity bytes.new ≡ vec_capacity bytes.old }
+{
+    let length = bytes.len();
+    bytes.as_mut_slice().copy_within(count..length, 0);
+    bytes.truncate(length - count);
+}
+
+/// Puts bytes behind those that are held.
+#[inline]
+fn append(held: &mut Vec<u8>, bytes: &[u8])
+    requires { vec_len held.old + length bytes.now ≤ vec_capacity held.old }
+    ensures items { held.new.items ≡ held.old.items ++ bytes.now }
+    ensures capacity { vec_capacity held.old ≤ vec_capacity held.new }
+{
+    let Ok(()) = held.extend_from_slice(bytes) else {
+        unreachable!()
+    };
+}
+
+impl<W: Write> LineBuffer<W> {
+    ghost use Rattle.perflist.specs.Buffer.{held, lines_left, behind, Passes, Takes};
+
+    /// A buffer of 64 KiB before a writer. It refuses where there is no memory, and drops the writer.
+    pub fn new(alloc: Global, inner: W) -> Result<LineBuffer<W>, AllocError>
+    where
+        W: Drop,
+        ensures empty { IfOk result (λ b. held b ≡ []) }
+        ensures none_left { IfOk result (λ b. lines_left b ≡ 0) }
+        ensures inner { IfOk result (λ b. behind b ≡ inner) }
+    {
+        match Vec::with_capacity(alloc, CAPACITY) {
+            Ok(held) => Ok(LineBuffer {
+                inner,
+                held,
+                lines_left: 0,
+            }),
+            Err(error) => Err(error),
+        }
+    }
+
+    /// How many whole lines have left for the writer behind it, up to `u64::MAX`.
+    pub fn lines_left(&self) -> u64
+        ensures { result ≡ lines_left self.now }
+    {
+        self.lines_left
+    }
+
+    /// Hands on what is held, as far as the writer behind takes it; what it doesn't take is still held.
+    fn hand_on(&mut self) -> io::Result<()>
+        ensures passes { Passes W.contents self.old [] self.new }
+        ensures empty { OnOk result (held self.new ≡ []) }
+        ensures capacity { vec_capacity self.new.held ≡ vec_capacity self.old.held }
+    {
+        let (taken, written) = write_front(&mut self.inner, self.held.as_slice());
+        let lines = count_newlines(&self.held[..taken]);
+        self.lines_left = self.lines_left.saturating_add(lines);
+        remove_front(&mut self.held, taken);
+        written
+    }
+
+    /// Makes room, and takes as many of the bytes as there is room for.
+    #[cold]
+    #[inline(never)]
+    fn write_over(&mut self, bytes: &[u8]) -> io::Result<usize>
+        ensures bound { WritesAtMost result bytes.now }
+        ensures takes { Takes W.contents self.old bytes.now result self.new }
+        ensures progress { IfOk result (λ n. 0 < length bytes.now → 0 < n) }
+    {
+        match self.hand_on() {
+            Ok(()) => {}
+            Err(error) => return Err(error),
+        }
+        let count = bytes.len().min(self.held.capacity());
+        append(&mut self.held, &bytes[..count]);
+        Ok(count)
+    }
+}
+
+impl<W: Write> Write for LineBuffer<W> {
+    ghost use Rattle.perflist.specs.Buffer.{held, room, all_contents, Passes, Takes};
+
+    ghost contents = { all_contents W.contents };
+
+    #[inline]
+    fn write(&mut self, bytes: &[u8]) -> io::Result<usize>
+        ensures bound { WritesAtMost result bytes.now }
+        ensures bytes { WriteAppends (all_contents W.contents self.old) (all_contents W.contents self.new) result bytes.now }
+        ensures takes { Takes W.contents self.old bytes.now result self.new }
+        ensures progress { IfOk result (λ n. 0 < length bytes.now → 0 < n) }
+        ensures fits { length bytes.now ≤ room self.old → result ≡ Ok (length bytes.now) }
+    {
+        if bytes.len() <= self.held.capacity() - self.held.len() {
+            append(&mut self.held, bytes);
+            return Ok(bytes.len());
+        }
+        self.write_over(bytes)
+    }
+
+    fn flush(&mut self) -> io::Result<()>
+        ensures bytes { Keeps (all_contents W.contents self.old) (all_contents W.contents self.new) }
+        ensures passes { Passes W.contents self.old [] self.new }
+        ensures empty { OnOk result (held self.new ≡ []) }
+    {
+        self.hand_on()?;
+        self.inner.flush()
+    }
+}
+
+#[cfg(test)]
+mod tests {
+    use super::*;
+    use std::test::Fail;
+
+    /// Takes at most `most` bytes a call, and fails, or takes none, once `room` bytes are in.
+    #[derive(Drop)]
+    struct Narrow {
+        taken: Vec<u8>,
+        most: usize,
+        room: usize,
+        fault: Option<ErrorKind>,
+        calls: u64,
+    }
+
+    impl Narrow {
+        fn new(alloc: Global, most: usize, room: usize, fault: Option<ErrorKind>) -> Narrow {
+            Narrow {
+                taken: Vec::new(alloc),
+                most,
+                room,
+                fault,
+                calls: 0,
+            }
+        }
+    }
+
+    impl Write for Narrow {
+        fn write(&mut self, bytes: &[u8]) -> io::Result<usize> {
+            self.calls = self.calls.saturating_add(1);
+            let left = self.room.saturating_sub(self.taken.len());
+            let count = bytes.len().min(self.most).min(left);
+            if count == 0 {
+                return match self.fault {
+                    Some(kind) => Err(io::Error::new(kind, "it is full")),
+                    None => Ok(0),
+                };
+            }
+            self.taken.extend_from_slice(&bytes[..count])?;
+            Ok(count)
+        }
+
+        fn flush(&mut self) -> io::Result<()> {
+            Ok(())
+        }
+    }
+
+    fn kind_of<T: Drop>(outcome: io::Result<T>) -> Option<ErrorKind> {
+        match outcome {
+            Ok(_) => None,
+            Err(error) => Some(error.kind()),
+        }
+    }
+
+    #[test]
+    fn writes_a_line_or_a_front(rt: HostRuntime) -> Result<(), Fail> {
+        let line = b"104 3 77 0 9 2 40\n";
+        let interrupted = Some(ErrorKind::Interrupted);
+        let full = Some(ErrorKind::StorageFull);
+        // the most bytes a call, the room, the fault, how many bytes are taken, the calls, and the kind answered
+        let cases = [
+            (1000, 1000, None, 18, 1, None),
+            (1, 1000, None, 18, 18, None),
+            (7, 18, full, 18, 3, None),
+            (7, 17, full, 17, 4, full),
+            (7, 0, full, 0, 1, full),
+            (5, 10, interrupted, 10, 3, interrupted),
+            (5, 10, None, 10, 3, Some(ErrorKind::WriteZero)),
+        ];
+        for (most, room, fault, taken, calls, kind) in cases {
+            let mut out = Narrow::new(rt.alloc(), most, room, fault);
+            let written = write_line(&mut out, line);
+            assert!(rt; kind_of(written) == kind, "{most} {room}");
+            assert!(rt; out.taken.as_slice() == &line[..taken], "{most} {room}");
+            assert!(rt; out.calls == calls, "{most} {room}");
+        }
+        Ok(())
+    }
+
+    #[test]
+    fn finishes(rt: HostRuntime) -> Result<(), Fail> {
+        let full = Some(ErrorKind::StorageFull);
+        let mut out = Narrow::new(rt.alloc(), 9, 100, None);
+        assert!(rt; finish(Ok(7), &mut out)? == 0);
+        assert!(rt; out.taken.is_empty());
+        assert!(rt; finish(Err(7), &mut out)? == 2);
+        assert!(rt; out.taken.as_slice() == b"perflist: fault after 7 records\n".as_slice());
+
+        let mut short = Narrow::new(rt.alloc(), 9, 12, full);
+        assert!(rt; kind_of(finish(Err(7), &mut short)) == full);
+        assert!(rt; short.taken.as_slice() == b"perflist: fa".as_slice());
+
+        let mut none = Narrow::new(rt.alloc(), 9, 0, None);
+        assert!(rt; kind_of(finish(Err(7), &mut none)) == Some(ErrorKind::WriteZero));
+        Ok(())
+    }
+
+    #[test]
+    fn counts_lines_that_left(rt: HostRuntime) -> Result<(), Fail> {
+        let full = Some(ErrorKind::StorageFull);
+        // the room behind the buffer, and how many of ten lines of four bytes leave whole
+        let cases = [(0, 0), (3, 0), (4, 1), (5, 1), (39, 9), (40, 10), (100, 10)];
+        for (room, lines) in cases {
+            let inner = Narrow::new(rt.alloc(), 3, room, full);
+            let mut out = LineBuffer::new(rt.alloc(), inner)?;
+            for _ in 0..10 {
+                write_line(&mut out, b"abc\n")?;
+            }
+            assert!(rt; out.lines_left() == 0, "{room}");
+            let flushed = out.flush();
+            assert!(rt; flushed.is_ok() == (room >= 40), "{room}");
+            assert!(rt; out.lines_left() == lines, "{room}");
+            assert!(rt; out.inner.taken.len() == room.min(40), "{room}");
+        }
+        Ok(())
+    }
+
+    #[test]
+    fn writes_more_than_it_holds(rt: HostRuntime) -> Result<(), Fail> {
+        let line = b"0123456789abcde\n".as_slice();
+        let many = line.repeat(rt.alloc(), 10_000)?;
+        let inner = Narrow::new(rt.alloc(), 1_000_000, 100_000, None);
+        let mut out = LineBuffer::new(rt.alloc(), inner)?;
+        let written = write_line(&mut out, many.as_slice());
+        assert!(rt; kind_of(written) == Some(ErrorKind::WriteZero));
+        assert!(rt; out.lines_left() == 100_000 / 16);
+        assert!(rt; out.inner.taken.len() == 100_000);
+        assert!(rt; many.as_slice().starts_with(out.inner.taken.as_slice()));
+        Ok(())
+    }
+}
