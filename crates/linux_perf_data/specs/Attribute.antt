@@ -1,17 +1,10 @@
 -- The attributes of an input, the rule that they keep, and the attribute of a record.
-use Rattle.std.specs.Prelude.{◌≡◌, ◌≢◌, ℕ, zero, suc, ◌+◌, ◌-◌, ◌/◌, ◌%◌, ◌≤◌, ◌==◌, nat_lt, Bool, true, false, List, [], ◌∷◌, ◌++◌, length, drop, slice_get, All, if◌then◌else◌, Option, None, Some}
+use Rattle.std.specs.Prelude.{◌≡◌, ◌≢◌, ℕ, ◌+◌, ◌==◌, nat_lt, Bool, true, false, List, [], ◌∷◌, ◌++◌, length, slice_get, All, if◌then◌else◌, Option, None, Some}
 use Rattle.std.specs.Option.{option_map}
-use Rattle.perfdata_base.specs.Numbers.{number_in}
-use Rattle.perfdata_base.specs.Attr.{own_size, attr_of}
 use Rattle.perfdata_base.specs.Place.{is_set, id_places_of, places_of, identifier_of, time_of}
 use Rattle.perfdata_base.specs.declared.raw.Endianness.{Endianness}
-use Rattle.perfdata_base.specs.declared.attr.PerfEventAttr.{PerfEventAttr}
 use Rattle.perfdata_base.specs.declared.place.RecordParseInfo.{RecordParseInfo}
-
--- an event's attribute with the identifiers of its records
-pub record Attribute : Type 0 where
-  pub attr : PerfEventAttr
-  pub ids : List ℕ
+pub use Rattle.perfdata_parts.specs.HeaderAttr.{Attribute, HoldsAttribute, attribute_in, numbers}
 
 -- The rule of attributes: the identifiers of all records stand at the same places.
 abbrev pub Rule : List Attribute → Type 0
@@ -87,21 +80,3 @@ event_of order attrs kind body = if nat_lt kind 64
 abbrev pub event_time : Option Event → ℕ → List ℕ → Option ℕ
 event_time None kind body = None
 event_time (Some e) kind body = time_of e.places kind body
-
--- so many numbers of eight bytes, one behind another
-abbrev pub numbers : (ℕ → List ℕ → ℕ) → ℕ → List ℕ → List ℕ
-numbers number zero bytes = []
-numbers number (suc n) bytes = number 8 bytes ∷ numbers number n (drop 8 bytes)
-
--- a body that holds an attribute: the attribute, and whole identifiers to the body's end
-pub record HoldsAttribute (order : Endianness) (body : List ℕ) : Type 0 where
-  pub head : 8 ≤ length body
-  pub least : 64 ≤ own_size (number_in order) body
-  pub there : own_size (number_in order) body ≤ length body
-  pub even : (length body - own_size (number_in order) body) % 8 ≡ 0
-
-abbrev pub attribute_in : Endianness → List ℕ → Attribute
-attribute_in order body = record {
-  attr = attr_of (number_in order) body;
-  ids = numbers (number_in order) ((length body - own_size (number_in order) body) / 8) (drop (own_size (number_in order) body) body);
-}

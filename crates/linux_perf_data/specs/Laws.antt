@@ -3,7 +3,9 @@ use Rattle.std.specs.Prelude.{◌≡◌, ◌≢◌, ◌⊎◌, ℕ, ◌+◌, ◌
 use Rattle.std.specs.List.{concat}
 use Rattle.perfdata_base.specs.declared.raw.Endianness.{Endianness}
 use Rattle.linux_perf_data.specs.Attribute.{Attribute, Rule}
-use Rattle.linux_perf_data.specs.Layout.{Bound, Begins, IsEnd, IsRecord, IsPiece, Fronts, Fault, FaultAt, End, Layout, Handed, handed, handed_at, brought, ToCome, attributes_of, attributes_in, kind_of}
+use Rattle.linux_perf_data.specs.Layout.{Bound, Begins, IsEnd, IsRecord, IsPiece, Fronts, Fault, FaultAt, End, Layout, Handed, handed, handed_at, brought, ToCome, attributes_of, attributes_in, kind_of, size_of}
+use Rattle.perfdata_base.specs.Numbers.{number_in}
+use Rattle.perfdata_parts.specs.Auxtrace.{HoldsAuxtrace}
 
 -- no bytes begin with two whole records: none is a proper front of another
 abbrev pub OneRecord : Type 0
@@ -70,3 +72,8 @@ PlaceOfPiece = (order : Endianness) (bound : Bound) (offset round : ℕ) (attrs 
 abbrev pub RecordsBring : Type 0
 RecordsBring = (order : Endianness) (bound : Bound) (offset round : ℕ) (attrs : List Attribute) (pieces : List (List ℕ)) →
     brought order bound (handed order bound offset round attrs pieces) ≡ attributes_in order bound pieces
+
+-- the body of a record of type 71 is an auxiliary trace where its head says that it has 48 bytes without its data
+abbrev pub TracesHold : Type 0
+TracesHold = (order : Endianness) (offset round : ℕ) (attrs : List Attribute) (p : List ℕ) → IsRecord order p → kind_of order p ≡ 71 → size_of order p ≡ 48 →
+    HoldsAuxtrace (number_in order) (handed_at order offset round attrs p).body

@@ -1,6 +1,6 @@
 //! Laws of the layout of records, over its definitions alone: what the clauses of a reading promise is one list, and
 //! there is one.
-ghost use Rattle.linux_perf_data.specs.Laws.{OneRecord, OneFault, NoFaultAtPiece, EndFaultOrPiece, OneLayout, SomeLayout, OneToCome, OffsetsRise, PlaceOfPiece, RecordsBring};
+ghost use Rattle.linux_perf_data.specs.Laws.{OneRecord, OneFault, NoFaultAtPiece, EndFaultOrPiece, OneLayout, SomeLayout, OneToCome, OffsetsRise, PlaceOfPiece, RecordsBring, TracesHold};
 
 /// No bytes begin with two whole records.
 pub fn at_most_one_record()
@@ -43,4 +43,9 @@ pub fn place_of_piece()
 /// Markers bring no attributes: all that the pieces bring comes with records that are handed out.
 pub fn records_bring()
     ensures { RecordsBring }
+{}
+
+/// `Auxtrace::parse` accepts the body of each record with auxiliary data that is handed out, where the record's head says 48 bytes.
+pub fn traces_hold()
+    ensures { TracesHold }
 {}

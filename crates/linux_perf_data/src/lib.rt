@@ -13,7 +13,13 @@ pub use file_reader::{PerfFileReader, PerfRecordIter, RecordPlace};
 pub use perf_file::PerfFile;
 pub use perfdata_base::raw::Endianness;
 pub use perfdata_base::{attr, event, features, header, place, raw, section, source};
+pub use perfdata_parts::auxtrace::Auxtrace;
 pub use perfdata_parts::error::{Error, ReadError};
 pub use perfdata_parts::feature_sections::AttributeDescription;
-pub use perfdata_parts::record::{PerfFileRecord, RawUserRecord, UserRecordType};
-pub use perfdata_parts::{constants, error, feature_sections, protobuf, record};
+pub use perfdata_parts::record::{
+    HeaderAttr, HeaderFeature, PerfFileRecord, RawUserRecord, UserRecord, UserRecordType,
+};
+pub use perfdata_parts::thread_map::ThreadMap;
+pub use perfdata_parts::{
+    auxtrace, constants, error, feature_sections, protobuf, record, thread_map,
+};

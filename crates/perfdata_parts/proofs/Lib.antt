@@ -1,2 +1,5 @@
 pub mod Runs
 pub mod Frames
+pub mod Threads
+pub mod Fronts
+pub mod Ids

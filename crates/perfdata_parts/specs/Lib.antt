@@ -3,3 +3,8 @@ pub mod Run
 pub mod AttributeDescription
 pub mod Attributes
 pub mod Record
+pub mod Auxtrace
+pub mod ThreadMap
+pub mod HeaderAttr
+pub mod HeaderFeature
+pub mod UserRecord

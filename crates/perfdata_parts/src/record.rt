@@ -1,5 +1,7 @@
 ghost use Rattle.std.specs.Prelude.{◌≡◌, ◌≤◌, IsSome, IfSome, ◌↔◌};
 
+use crate::constants::*;
+pub use crate::user_record::{HeaderAttr, HeaderFeature, UserRecord};
 use perfdata_base::event::{RawEventRecord, RecordType};
 use perfdata_base::raw::{Endianness, RawData};
 use std::fmt;
@@ -14,115 +16,115 @@ pub struct UserRecordType {
 /// The types that perf and simpleperf write.
 impl UserRecordType {
     pub const PERF_HEADER_ATTR: UserRecordType = UserRecordType {
-        record_type: RecordType(64),
+        record_type: RecordType(PERF_RECORD_HEADER_ATTR),
     };
 
     pub const PERF_HEADER_EVENT_TYPE: UserRecordType = UserRecordType {
-        record_type: RecordType(65),
+        record_type: RecordType(PERF_RECORD_HEADER_EVENT_TYPE),
     };
 
     pub const PERF_HEADER_TRACING_DATA: UserRecordType = UserRecordType {
-        record_type: RecordType(66),
+        record_type: RecordType(PERF_RECORD_HEADER_TRACING_DATA),
     };
 
     pub const PERF_HEADER_BUILD_ID: UserRecordType = UserRecordType {
-        record_type: RecordType(67),
+        record_type: RecordType(PERF_RECORD_HEADER_BUILD_ID),
     };
 
     pub const PERF_FINISHED_ROUND: UserRecordType = UserRecordType {
-        record_type: RecordType(68),
+        record_type: RecordType(PERF_RECORD_FINISHED_ROUND),
     };
 
     pub const PERF_ID_INDEX: UserRecordType = UserRecordType {
-        record_type: RecordType(69),
+        record_type: RecordType(PERF_RECORD_ID_INDEX),
     };
 
     pub const PERF_AUXTRACE_INFO: UserRecordType = UserRecordType {
-        record_type: RecordType(70),
+        record_type: RecordType(PERF_RECORD_AUXTRACE_INFO),
     };
 
     pub const PERF_AUXTRACE: UserRecordType = UserRecordType {
-        record_type: RecordType(71),
+        record_type: RecordType(PERF_RECORD_AUXTRACE),
     };
 
     pub const PERF_AUXTRACE_ERROR: UserRecordType = UserRecordType {
-        record_type: RecordType(72),
+        record_type: RecordType(PERF_RECORD_AUXTRACE_ERROR),
     };
 
     pub const PERF_THREAD_MAP: UserRecordType = UserRecordType {
-        record_type: RecordType(73),
+        record_type: RecordType(PERF_RECORD_THREAD_MAP),
     };
 
     pub const PERF_CPU_MAP: UserRecordType = UserRecordType {
-        record_type: RecordType(74),
+        record_type: RecordType(PERF_RECORD_CPU_MAP),
     };
 
     pub const PERF_STAT_CONFIG: UserRecordType = UserRecordType {
-        record_type: RecordType(75),
+        record_type: RecordType(PERF_RECORD_STAT_CONFIG),
     };
 
     pub const PERF_STAT: UserRecordType = UserRecordType {
-        record_type: RecordType(76),
+        record_type: RecordType(PERF_RECORD_STAT),
     };
 
     pub const PERF_STAT_ROUND: UserRecordType = UserRecordType {
-        record_type: RecordType(77),
+        record_type: RecordType(PERF_RECORD_STAT_ROUND),
     };
 
     pub const PERF_EVENT_UPDATE: UserRecordType = UserRecordType {
-        record_type: RecordType(78),
+        record_type: RecordType(PERF_RECORD_EVENT_UPDATE),
     };
 
     pub const PERF_TIME_CONV: UserRecordType = UserRecordType {
-        record_type: RecordType(79),
+        record_type: RecordType(PERF_RECORD_TIME_CONV),
     };
 
     pub const PERF_HEADER_FEATURE: UserRecordType = UserRecordType {
-        record_type: RecordType(80),
+        record_type: RecordType(PERF_RECORD_HEADER_FEATURE),
     };
 
     pub const PERF_COMPRESSED: UserRecordType = UserRecordType {
-        record_type: RecordType(81),
+        record_type: RecordType(PERF_RECORD_COMPRESSED),
     };
 
     pub const PERF_COMPRESSED2: UserRecordType = UserRecordType {
-        record_type: RecordType(83),
+        record_type: RecordType(PERF_RECORD_COMPRESSED2),
     };
 
     pub const SIMPLEPERF_KERNEL_SYMBOL: UserRecordType = UserRecordType {
-        record_type: RecordType(32769),
+        record_type: RecordType(SIMPLE_PERF_RECORD_KERNEL_SYMBOL),
     };
 
     pub const SIMPLEPERF_DSO: UserRecordType = UserRecordType {
-        record_type: RecordType(32770),
+        record_type: RecordType(SIMPLE_PERF_RECORD_DSO),
     };
 
     pub const SIMPLEPERF_SYMBOL: UserRecordType = UserRecordType {
-        record_type: RecordType(32771),
+        record_type: RecordType(SIMPLE_PERF_RECORD_SYMBOL),
     };
 
     pub const SIMPLEPERF_SPLIT: UserRecordType = UserRecordType {
-        record_type: RecordType(32772),
+        record_type: RecordType(SIMPLE_PERF_RECORD_SPLIT),
     };
 
     pub const SIMPLEPERF_SPLIT_END: UserRecordType = UserRecordType {
-        record_type: RecordType(32773),
+        record_type: RecordType(SIMPLE_PERF_RECORD_SPLIT_END),
     };
 
     pub const SIMPLEPERF_EVENT_ID: UserRecordType = UserRecordType {
-        record_type: RecordType(32774),
+        record_type: RecordType(SIMPLE_PERF_RECORD_EVENT_ID),
     };
 
     pub const SIMPLEPERF_CALLCHAIN: UserRecordType = UserRecordType {
-        record_type: RecordType(32775),
+        record_type: RecordType(SIMPLE_PERF_RECORD_CALLCHAIN),
     };
 
     pub const SIMPLEPERF_UNWINDING_RESULT: UserRecordType = UserRecordType {
-        record_type: RecordType(32776),
+        record_type: RecordType(SIMPLE_PERF_RECORD_UNWINDING_RESULT),
     };
 
     pub const SIMPLEPERF_TRACING_DATA: UserRecordType = UserRecordType {
-        record_type: RecordType(32777),
+        record_type: RecordType(SIMPLE_PERF_RECORD_TRACING_DATA),
     };
 }
 
@@ -163,34 +165,34 @@ impl From<UserRecordType> for RecordType {
 // The name of a type's constant, for the types that perf and simpleperf write.
 fn name_of(number: u32) -> Option<&'static str> {
     match number {
-        64 => Some("PERF_HEADER_ATTR"),
-        65 => Some("PERF_HEADER_EVENT_TYPE"),
-        66 => Some("PERF_HEADER_TRACING_DATA"),
-        67 => Some("PERF_HEADER_BUILD_ID"),
-        68 => Some("PERF_FINISHED_ROUND"),
-        69 => Some("PERF_ID_INDEX"),
-        70 => Some("PERF_AUXTRACE_INFO"),
-        71 => Some("PERF_AUXTRACE"),
-        72 => Some("PERF_AUXTRACE_ERROR"),
-        73 => Some("PERF_THREAD_MAP"),
-        74 => Some("PERF_CPU_MAP"),
-        75 => Some("PERF_STAT_CONFIG"),
-        76 => Some("PERF_STAT"),
-        77 => Some("PERF_STAT_ROUND"),
-        78 => Some("PERF_EVENT_UPDATE"),
-        79 => Some("PERF_TIME_CONV"),
-        80 => Some("PERF_HEADER_FEATURE"),
-        81 => Some("PERF_COMPRESSED"),
-        83 => Some("PERF_COMPRESSED2"),
-        32769 => Some("SIMPLEPERF_KERNEL_SYMBOL"),
-        32770 => Some("SIMPLEPERF_DSO"),
-        32771 => Some("SIMPLEPERF_SYMBOL"),
-        32772 => Some("SIMPLEPERF_SPLIT"),
-        32773 => Some("SIMPLEPERF_SPLIT_END"),
-        32774 => Some("SIMPLEPERF_EVENT_ID"),
-        32775 => Some("SIMPLEPERF_CALLCHAIN"),
-        32776 => Some("SIMPLEPERF_UNWINDING_RESULT"),
-        32777 => Some("SIMPLEPERF_TRACING_DATA"),
+        PERF_RECORD_HEADER_ATTR => Some("PERF_HEADER_ATTR"),
+        PERF_RECORD_HEADER_EVENT_TYPE => Some("PERF_HEADER_EVENT_TYPE"),
+        PERF_RECORD_HEADER_TRACING_DATA => Some("PERF_HEADER_TRACING_DATA"),
+        PERF_RECORD_HEADER_BUILD_ID => Some("PERF_HEADER_BUILD_ID"),
+        PERF_RECORD_FINISHED_ROUND => Some("PERF_FINISHED_ROUND"),
+        PERF_RECORD_ID_INDEX => Some("PERF_ID_INDEX"),
+        PERF_RECORD_AUXTRACE_INFO => Some("PERF_AUXTRACE_INFO"),
+        PERF_RECORD_AUXTRACE => Some("PERF_AUXTRACE"),
+        PERF_RECORD_AUXTRACE_ERROR => Some("PERF_AUXTRACE_ERROR"),
+        PERF_RECORD_THREAD_MAP => Some("PERF_THREAD_MAP"),
+        PERF_RECORD_CPU_MAP => Some("PERF_CPU_MAP"),
+        PERF_RECORD_STAT_CONFIG => Some("PERF_STAT_CONFIG"),
+        PERF_RECORD_STAT => Some("PERF_STAT"),
+        PERF_RECORD_STAT_ROUND => Some("PERF_STAT_ROUND"),
+        PERF_RECORD_EVENT_UPDATE => Some("PERF_EVENT_UPDATE"),
+        PERF_RECORD_TIME_CONV => Some("PERF_TIME_CONV"),
+        PERF_RECORD_HEADER_FEATURE => Some("PERF_HEADER_FEATURE"),
+        PERF_RECORD_COMPRESSED => Some("PERF_COMPRESSED"),
+        PERF_RECORD_COMPRESSED2 => Some("PERF_COMPRESSED2"),
+        SIMPLE_PERF_RECORD_KERNEL_SYMBOL => Some("SIMPLEPERF_KERNEL_SYMBOL"),
+        SIMPLE_PERF_RECORD_DSO => Some("SIMPLEPERF_DSO"),
+        SIMPLE_PERF_RECORD_SYMBOL => Some("SIMPLEPERF_SYMBOL"),
+        SIMPLE_PERF_RECORD_SPLIT => Some("SIMPLEPERF_SPLIT"),
+        SIMPLE_PERF_RECORD_SPLIT_END => Some("SIMPLEPERF_SPLIT_END"),
+        SIMPLE_PERF_RECORD_EVENT_ID => Some("SIMPLEPERF_EVENT_ID"),
+        SIMPLE_PERF_RECORD_CALLCHAIN => Some("SIMPLEPERF_CALLCHAIN"),
+        SIMPLE_PERF_RECORD_UNWINDING_RESULT => Some("SIMPLEPERF_UNWINDING_RESULT"),
+        SIMPLE_PERF_RECORD_TRACING_DATA => Some("SIMPLEPERF_TRACING_DATA"),
         _ => None,
     }
 }
@@ -251,102 +253,179 @@ mod tests {
     }
 
     #[test]
-    fn shows_names(rt: HostRuntime) -> Result<(), Fail> {
-        for (user, number, text) in [
-            (UserRecordType::PERF_HEADER_ATTR, 64, "\"PERF_HEADER_ATTR\""),
+    fn names_the_constants(rt: HostRuntime) -> Result<(), Fail> {
+        for (user, constant, number, text) in [
+            (
+                UserRecordType::PERF_HEADER_ATTR,
+                PERF_RECORD_HEADER_ATTR,
+                64,
+                "\"PERF_HEADER_ATTR\"",
+            ),
             (
                 UserRecordType::PERF_HEADER_EVENT_TYPE,
+                PERF_RECORD_HEADER_EVENT_TYPE,
                 65,
                 "\"PERF_HEADER_EVENT_TYPE\"",
             ),
             (
                 UserRecordType::PERF_HEADER_TRACING_DATA,
+                PERF_RECORD_HEADER_TRACING_DATA,
                 66,
                 "\"PERF_HEADER_TRACING_DATA\"",
             ),
             (
                 UserRecordType::PERF_HEADER_BUILD_ID,
+                PERF_RECORD_HEADER_BUILD_ID,
                 67,
                 "\"PERF_HEADER_BUILD_ID\"",
             ),
             (
                 UserRecordType::PERF_FINISHED_ROUND,
+                PERF_RECORD_FINISHED_ROUND,
                 68,
                 "\"PERF_FINISHED_ROUND\"",
             ),
-            (UserRecordType::PERF_ID_INDEX, 69, "\"PERF_ID_INDEX\""),
+            (
+                UserRecordType::PERF_ID_INDEX,
+                PERF_RECORD_ID_INDEX,
+                69,
+                "\"PERF_ID_INDEX\"",
+            ),
             (
                 UserRecordType::PERF_AUXTRACE_INFO,
+                PERF_RECORD_AUXTRACE_INFO,
                 70,
                 "\"PERF_AUXTRACE_INFO\"",
             ),
-            (UserRecordType::PERF_AUXTRACE, 71, "\"PERF_AUXTRACE\""),
+            (
+                UserRecordType::PERF_AUXTRACE,
+                PERF_RECORD_AUXTRACE,
+                71,
+                "\"PERF_AUXTRACE\"",
+            ),
             (
                 UserRecordType::PERF_AUXTRACE_ERROR,
+                PERF_RECORD_AUXTRACE_ERROR,
                 72,
                 "\"PERF_AUXTRACE_ERROR\"",
             ),
-            (UserRecordType::PERF_THREAD_MAP, 73, "\"PERF_THREAD_MAP\""),
-            (UserRecordType::PERF_CPU_MAP, 74, "\"PERF_CPU_MAP\""),
-            (UserRecordType::PERF_STAT_CONFIG, 75, "\"PERF_STAT_CONFIG\""),
-            (UserRecordType::PERF_STAT, 76, "\"PERF_STAT\""),
-            (UserRecordType::PERF_STAT_ROUND, 77, "\"PERF_STAT_ROUND\""),
+            (
+                UserRecordType::PERF_THREAD_MAP,
+                PERF_RECORD_THREAD_MAP,
+                73,
+                "\"PERF_THREAD_MAP\"",
+            ),
+            (
+                UserRecordType::PERF_CPU_MAP,
+                PERF_RECORD_CPU_MAP,
+                74,
+                "\"PERF_CPU_MAP\"",
+            ),
+            (
+                UserRecordType::PERF_STAT_CONFIG,
+                PERF_RECORD_STAT_CONFIG,
+                75,
+                "\"PERF_STAT_CONFIG\"",
+            ),
+            (
+                UserRecordType::PERF_STAT,
+                PERF_RECORD_STAT,
+                76,
+                "\"PERF_STAT\"",
+            ),
+            (
+                UserRecordType::PERF_STAT_ROUND,
+                PERF_RECORD_STAT_ROUND,
+                77,
+                "\"PERF_STAT_ROUND\"",
+            ),
             (
                 UserRecordType::PERF_EVENT_UPDATE,
+                PERF_RECORD_EVENT_UPDATE,
                 78,
                 "\"PERF_EVENT_UPDATE\"",
             ),
-            (UserRecordType::PERF_TIME_CONV, 79, "\"PERF_TIME_CONV\""),
+            (
+                UserRecordType::PERF_TIME_CONV,
+                PERF_RECORD_TIME_CONV,
+                79,
+                "\"PERF_TIME_CONV\"",
+            ),
             (
                 UserRecordType::PERF_HEADER_FEATURE,
+                PERF_RECORD_HEADER_FEATURE,
                 80,
                 "\"PERF_HEADER_FEATURE\"",
             ),
-            (UserRecordType::PERF_COMPRESSED, 81, "\"PERF_COMPRESSED\""),
-            (UserRecordType::PERF_COMPRESSED2, 83, "\"PERF_COMPRESSED2\""),
+            (
+                UserRecordType::PERF_COMPRESSED,
+                PERF_RECORD_COMPRESSED,
+                81,
+                "\"PERF_COMPRESSED\"",
+            ),
+            (
+                UserRecordType::PERF_COMPRESSED2,
+                PERF_RECORD_COMPRESSED2,
+                83,
+                "\"PERF_COMPRESSED2\"",
+            ),
             (
                 UserRecordType::SIMPLEPERF_KERNEL_SYMBOL,
+                SIMPLE_PERF_RECORD_KERNEL_SYMBOL,
                 32769,
                 "\"SIMPLEPERF_KERNEL_SYMBOL\"",
             ),
-            (UserRecordType::SIMPLEPERF_DSO, 32770, "\"SIMPLEPERF_DSO\""),
+            (
+                UserRecordType::SIMPLEPERF_DSO,
+                SIMPLE_PERF_RECORD_DSO,
+                32770,
+                "\"SIMPLEPERF_DSO\"",
+            ),
             (
                 UserRecordType::SIMPLEPERF_SYMBOL,
+                SIMPLE_PERF_RECORD_SYMBOL,
                 32771,
                 "\"SIMPLEPERF_SYMBOL\"",
             ),
             (
                 UserRecordType::SIMPLEPERF_SPLIT,
+                SIMPLE_PERF_RECORD_SPLIT,
                 32772,
                 "\"SIMPLEPERF_SPLIT\"",
             ),
             (
                 UserRecordType::SIMPLEPERF_SPLIT_END,
+                SIMPLE_PERF_RECORD_SPLIT_END,
                 32773,
                 "\"SIMPLEPERF_SPLIT_END\"",
             ),
             (
                 UserRecordType::SIMPLEPERF_EVENT_ID,
+                SIMPLE_PERF_RECORD_EVENT_ID,
                 32774,
                 "\"SIMPLEPERF_EVENT_ID\"",
             ),
             (
                 UserRecordType::SIMPLEPERF_CALLCHAIN,
+                SIMPLE_PERF_RECORD_CALLCHAIN,
                 32775,
                 "\"SIMPLEPERF_CALLCHAIN\"",
             ),
             (
                 UserRecordType::SIMPLEPERF_UNWINDING_RESULT,
+                SIMPLE_PERF_RECORD_UNWINDING_RESULT,
                 32776,
                 "\"SIMPLEPERF_UNWINDING_RESULT\"",
             ),
             (
                 UserRecordType::SIMPLEPERF_TRACING_DATA,
+                SIMPLE_PERF_RECORD_TRACING_DATA,
                 32777,
                 "\"SIMPLEPERF_TRACING_DATA\"",
             ),
         ] {
             assert_eq!(rt; user.record_type(), RecordType(number));
+            assert_eq!(rt; constant, number);
             let shown = format!(in rt.alloc(); "{user:?}")?;
             assert_eq!(rt; shown.as_str(), text);
         }
@@ -354,16 +433,18 @@ mod tests {
     }
 
     #[test]
-    fn shows_unknown_types(rt: HostRuntime) -> Result<(), Fail> {
+    fn shows_other_types_by_number(rt: HostRuntime) -> Result<(), Fail> {
         for (number, text) in [
             (82, "Unknown UserRecordType 82"),
             (84, "Unknown UserRecordType 84"),
             (32768, "Unknown UserRecordType 32768"),
             (32778, "Unknown UserRecordType 32778"),
+            (u32::MAX, "Unknown UserRecordType 4294967295"),
         ] {
-            let user = UserRecordType::try_from(RecordType(number)).ok_or("no user type")?;
-            let shown = format!(in rt.alloc(); "{user:?}")?;
-            assert_eq!(rt; shown.as_str(), text);
+            if let Some(user) = UserRecordType::try_from(RecordType(number)) {
+                let shown = format!(in rt.alloc(); "{user:?}")?;
+                assert_eq!(rt; shown.as_str(), text);
+            }
         }
         Ok(())
     }

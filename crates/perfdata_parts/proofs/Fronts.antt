@@ -1,0 +1,13 @@
+-- Numbers that stand in the first bytes.
+use Rattle.std.proofs.Common.{◌≡◌, ℕ, ◌+◌, ◌≤◌, List, length, take, drop, sym, ap, ◌∙◌, arith, length-drop}
+use Rattle.std.proofs.lemmas.List.{take-append-drop, length-take-le}
+use Rattle.perfdata_base.proofs.Numbers.{ReadsFirst, first_take, first_drop_front}
+
+-- a number at place k of the first m bytes, read from a piece of j bytes there
+pub number_within : (number : ℕ → List ℕ → ℕ) → ReadsFirst number → (n k j m : ℕ) (xs head : List ℕ) → head ≡ take m xs → m ≤ length xs → n ≤ j → k + j ≤ m
+    → number n (take j (drop k head)) ≡ number n (drop k xs)
+number_within number first n k j m xs head is room small within =
+    let long = length-take-le m xs room in
+    ap (λ l. number n (take j (drop k l))) is
+    ∙ first_take number first n j (drop k (take m xs)) small (omega (arith, length-drop k (take m xs)))
+    ∙ sym (first_drop_front number first n k (take m xs) (drop m xs) (omega arith)) ∙ ap (λ l. number n (drop k l)) (take-append-drop m xs)
