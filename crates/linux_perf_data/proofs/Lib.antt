@@ -9,3 +9,7 @@ pub mod Pieces
 pub mod Places
 pub mod Rules
 pub mod Stands
+pub mod Slices
+pub mod TextLists
+pub mod Tables
+pub mod Starting

@@ -1,10 +1,11 @@
 -- How what a header says and what its section holds come to an opening, or to the reason why there is none.
-use Rattle.std.proofs.Common.{◌≡◌, ◌≢◌, ℕ, ◌+◌, ◌*◌, ◌^◌, ◌≤◌, ◌++◌, List, length, take, drop, refl, sym, ap, ◌∙◌, subst, arith, inl, inr, length-append, Option, None, Some}
+use Rattle.std.proofs.Common.{◌≡◌, ◌≢◌, ℕ, zero, suc, ◌+◌, ◌*◌, ◌/◌, ◌^◌, ◌<◌, ◌≤◌, ◌++◌, List, length, take, drop, refl, sym, ap, ◌∙◌, subst, arith, inl, inr, length-append, Option, None, Some}
 use Rattle.std.specs.Prelude.{◌⊎◌, Result, Ok, Err, IfSome, Vec}
 use Rattle.std.specs.declared.io.Error.{Error as IoErrorValue}
 use Rattle.std.specs.declared.alloc.Global.{Global}
 use Rattle.std.proofs.Math.Seq.{take-append_seam}
-use Rattle.perfdata_base.specs.Source.{State, Place, IsPlaced, Stood, CutShort, put_at, all_of, behind, prepend}
+use Rattle.std.proofs.lemmas.Bool.{cases_order}
+use Rattle.perfdata_base.specs.Source.{State, Place, IsPlaced, Stood, Failed, CutShort, put_at, all_of, behind, prepend}
 use Rattle.perfdata_base.proofs.Cut.{stood_more, failed_after_stood, paused_after_stood, none_or_paused, all_came}
 use Rattle.perfdata_base.specs.Numbers.{number_in}
 use Rattle.perfdata_base.specs.Header.{header_of, Begins, TookHeader, NotPassed, RefusedHeader}
@@ -15,8 +16,13 @@ use Rattle.perfdata_parts.specs.Run.{Run, StopsRun}
 use Rattle.perfdata_parts.specs.declared.feature_sections.AttributeDescription.{AttributeDescription}
 use Rattle.perfdata_parts.specs.declared.error.Error.{Error}
 use Rattle.perfdata_parts.specs.declared.error.Error.TheVariants.{IoError, NoAttributes, UnrecognizedMagicValue}
+use Rattle.indexmap.specs.IndexMap.{IndexMap}
+use Rattle.perfdata_base.specs.Features.{features_of}
+use Rattle.perfdata_base.specs.declared.features.Feature.{Feature}
+use Rattle.perfdata_parts.specs.Error.{IsShort, IsUnsupported, IsIo}
+use Rattle.linux_perf_data.specs.Sections.{ReadsSections, LacksSections, SourceOwesBytes, data_in}
 use Rattle.linux_perf_data.specs.declared.opening.Opening.{Opening}
-use Rattle.linux_perf_data.specs.Open.{IsPlain, RefusedBehind, StopsBehind, SourceOwesOpening, HasHeader, StopsFile, RefusedFile, ReadFile, OpenedAt, ReadBehind, ReadsBehind, ReadsFile, magic_of}
+use Rattle.linux_perf_data.specs.Open.{EndsNear, Several, TellsElsewhere, table_place, HoldsSections, section_data, StopsAttrSection, IsPlain, RefusedBehind, StopsBehind, SourceOwesOpening, HasHeader, StopsFile, RefusedFile, ReadFile, OpenedAt, ReadBehind, ReadsBehind, ReadsFile, magic_of}
 
 -- what holds of each value holds of that which is there
 if_each : {T : Type 0} (o : Option T) (P : T → Type 0) → ((x : T) → P x) → IfSome o P
@@ -41,40 +47,135 @@ if_both : {T : Type 0} (o : Option T) (P Q S : T → Type 0) → ((x : T) → P 
 if_both None P Q S both p q = tt
 if_both (Some x) P Q S both p q = both x p q
 
+-- both hold of all bytes
+if_pair : {T : Type 0} (o : Option T) (P Q : T → Type 0) → IfSome o P → IfSome o Q → IfSome o (λ x. P x × Q x)
+if_pair o P Q p q = if_both o P Q (λ x. P x × Q x) (λ x p q. (p, q)) p q
+
+bytes_owe : (a b : State) (e : Error) → SourceOwesBytes a e b → SourceOwesOpening a e b
+bytes_owe a b e (inl io) = inl io
+bytes_owe a b e (inr short) = inr (inl short)
+
+-- the sections of the features weren't read
+pub sections_refused : (order : Endianness) (h : PerfHeader) (a b : State) (S : Type 0) (e : Error) → EndsNear h
+    → ReadsSections {S = S} order (table_place h) (features_of h.features) a (Err e) b → RefusedBehind order h a e b
+sections_refused order h a b S e near refused = record {
+  stood = refused.0;
+  why = λ m. elim (refused.1 m) [
+    | inl lacks ↦ inl (if_more (all_of a.place) (λ all. IsShort e × LacksSections order all (table_place h) (features_of h.features)) (λ all. StopsBehind order h all e) (λ all here. inr (inl (here.0, near, here.1))) lacks)
+    | inr owes ↦ inr (bytes_owe a b e owes)
+  ];
+}
+
+-- what was read before attributes are looked for
+pub record HasRead (order : Endianness) (h : PerfHeader) (a b : State) : Type 0 where
+  pub stood : Stood a b
+  pub holds : IfSome (all_of a.place) (HoldsSections order h)
+
+pub has_read : {S : Type 0} (order : Endianness) (h : PerfHeader) (a b : State) (m : IndexMap Feature (Vec ℕ Global) S)
+    → ReadsSections order (table_place h) (features_of h.features) a (Ok m) b → HasRead order h a b
+has_read order h a b m read = record {
+  stood = read.0;
+  holds = if_more (all_of a.place) (λ all. HoldsSections order h all × ((n : ℕ) → data_in m n ≡ section_data order h all n)) (HoldsSections order h) (λ all both. both.0) read.1;
+}
+
+-- attributes are told elsewhere, or there is room for several
+pub elsewhere_refused : (order : Endianness) (h : PerfHeader) (a b : State) (e : Error) → EndsNear h → HasRead order h a b → IsUnsupported e → ((¬ TellsElsewhere h) → Several h.attr_section h.attr_size)
+    → RefusedBehind order h a e b
+elsewhere_refused order h a b e near read is why = record {
+  stood = read.stood;
+  why = λ _. inl (if_more (all_of a.place) (HoldsSections order h) (λ all. StopsBehind order h all e) (λ all holds. inr (inr (inl (is, near, holds, why)))) read.holds);
+}
+
 -- the section's frames stop, as all bytes show, or the source owes the error
-stops_behind : (order : Endianness) (h : PerfHeader) (a b c : State) (e : Error) → IsPlain h → ¬ IsNoSection (number_in order) h.attr_size h.attr_section → Stood a b
+stops_behind : (order : Endianness) (h : PerfHeader) (a b c : State) (e : Error) → IsPlain h → ¬ IsNoSection (number_in order) h.attr_size h.attr_section → HasRead order h a b
     → StopsRun (IsDescribed (number_in order) h.attr_size) (IsNoFrame (number_in order) h.attr_size) (IsUnread (number_in order) h.attr_size) h.attr_size b h.attr_section.offset h.attr_section.size e c
     → IfSome (all_of a.place) (λ all. StopsBehind order h all e) ⊎ SourceOwesOpening a e c
-stops_behind order h a b c e plain can stood stops = elim stops.next [
+stops_behind order h a b c e plain can read stops = elim stops.next [
   | inl there ↦ elim there.why [
-    | inl shown ↦ inl (shown_before a b (λ all. StopsBehind order h all e) stood
-        (if_both (all_of b.place) (λ all. Run (IsDescribed (number_in order) h.attr_size) h.attr_size all h.attr_section.offset stops.before) (λ all. IsNoFrame (number_in order) h.attr_size e (drop (h.attr_section.offset + length stops.before * h.attr_size) all)) (λ all. StopsBehind order h all e)
-        (λ all each here. inr (inr (inr (inl (plain, can, record { before = stops.before; few = stops.few; each = each; here = here })))))
-        stops.are shown.1))
-    | inr source ↦ inr (later_owes a b c e stood (inr (inr (source.0.0, source.1))))
+    | inl shown ↦ inl (if_both (all_of a.place) (HoldsSections order h) (λ all. StopsAttrSection order h.attr_size h.attr_section e all) (λ all. StopsBehind order h all e)
+        (λ all holds here. inr (inr (inr (inr (inl (plain, holds, can, here))))))
+        read.holds
+        (shown_before a b (StopsAttrSection order h.attr_size h.attr_section e) read.stood
+        (if_both (all_of b.place) (λ all. Run (IsDescribed (number_in order) h.attr_size) h.attr_size all h.attr_section.offset stops.before) (λ all. IsNoFrame (number_in order) h.attr_size e (drop (h.attr_section.offset + length stops.before * h.attr_size) all)) (StopsAttrSection order h.attr_size h.attr_section e)
+        (λ all each here. record { before = stops.before; few = stops.few; each = each; here = here })
+        stops.are shown.1)))
+    | inr source ↦ inr (later_owes a b c e read.stood (inr (inr (source.0.0, source.1))))
   ]
-  | inr seek ↦ inr (later_owes a b c e stood (inl seek))
+  | inr seek ↦ inr (later_owes a b c e read.stood (inl seek))
 ]
 
 -- the attributes of a plain file's section weren't read
-pub attributes_refused : (order : Endianness) (h : PerfHeader) (a b c : State) (e : Error) → IsPlain h → Stood a b
+pub attributes_refused : (order : Endianness) (h : PerfHeader) (a b c : State) (e : Error) → IsPlain h → HasRead order h a b
     → ReadsAttrSection (number_in order) h.attr_size h.attr_section b (Err e) c → RefusedBehind order h a e c
-attributes_refused order h a b c e plain stood (inl (cannot, is, same)) = record {
-  stood = subst (Stood a) (sym same) stood;
-  why = λ _. inl (if_each (all_of a.place) (λ all. StopsBehind order h all e) (λ all. inr (inr (inl (is, plain, cannot)))));
+attributes_refused order h a b c e plain read (inl (cannot, is, same)) = record {
+  stood = subst (Stood a) (sym same) read.stood;
+  why = λ _. inl (if_more (all_of a.place) (HoldsSections order h) (λ all. StopsBehind order h all e) (λ all holds. inr (inr (inr (inl (is, plain, holds, cannot))))) read.holds);
 }
-attributes_refused order h a b c e plain stood (inr (can, refused)) = record {
-  stood = stood_more a b c stood refused.0;
-  why = λ m. stops_behind order h a b c e plain can stood (refused.1 m);
+attributes_refused order h a b c e plain read (inr (can, refused)) = record {
+  stood = stood_more a b c read.stood refused.0;
+  why = λ m. stops_behind order h a b c e plain can read (refused.1 m);
 }
 
 -- it holds none
-pub attributes_none : (order : Endianness) (h : PerfHeader) (a b c : State) (v : Vec AttributeDescription Global) → IsPlain h → Stood a b
+pub attributes_none : (order : Endianness) (h : PerfHeader) (a b c : State) (v : Vec AttributeDescription Global) → IsPlain h → HasRead order h a b
     → ReadsAttrSection (number_in order) h.attr_size h.attr_section b (Ok v) c → length v.items ≡ 0 → RefusedBehind order h a NoAttributes c
-attributes_none order h a b c v plain stood (can, took) none = record {
-  stood = stood_more a b c stood took.stood;
-  why = λ _. inl (if_each (all_of a.place) (λ all. StopsBehind order h all NoAttributes) (λ all. inr (inr (inr (inr (refl, plain, can, sym took.count ∙ none))))));
+attributes_none order h a b c v plain read (can, took) none = record {
+  stood = stood_more a b c read.stood took.stood;
+  why = λ _. inl (if_more (all_of a.place) (HoldsSections order h) (λ all. StopsBehind order h all NoAttributes) (λ all holds. inr (inr (inr (inr (inr (refl, plain, holds, can, sym took.count ∙ none)))))) read.holds);
 }
+
+some_size : (n : ℕ) → n ≢ 0 → 0 < n
+some_size zero none = absurd (none refl)
+some_size (suc n) none = omega arith
+
+below_or : (n : ℕ) → ¬ (2 ^ 64 ≤ n) → n < 2 ^ 64
+below_or n far = elim (cases_order n (2 ^ 64)) [ inl e ↦ absurd (far (omega arith)) | inr h ↦ elim h [ inl low ↦ low | inr high ↦ absurd (far (omega arith)) ] ]
+
+less_or : (n : ℕ) → ¬ (2 ≤ n) → n < 2
+less_or n two = elim (cases_order n 2) [ inl e ↦ absurd (two (omega arith)) | inr h ↦ elim h [ inl low ↦ low | inr high ↦ absurd (two (omega arith)) ] ]
+
+-- a place that is sought is the same among the same bytes
+put_same : (n : ℕ) (o o' : Option Place) → all_of o' ≡ all_of o → put_at n o' ≡ put_at n o
+put_same n None None same = refl
+put_same n None (Some p) same = cc
+put_same n (Some p) None same = cc
+put_same n (Some p) (Some q) same = let all : q.all ≡ p.all = cc in ap (λ l. Some (record { all = l; at = n })) all
+
+-- the source couldn't go to the records
+pub records_refused : (order : Endianness) (h : PerfHeader) (a b c d : State) (v : Vec AttributeDescription Global) (e : Error) → HasRead order h a b
+    → ReadsAttrSection (number_in order) h.attr_size h.attr_section b (Ok v) c → Stood c d × IsIo e × Failed c d → RefusedBehind order h a e d
+records_refused order h a b c d v e read (can, took) (stood, io, failed) =
+    let stood_c = stood_more a b c read.stood took.stood in record {
+      stood = stood_more a c d stood_c stood;
+      why = λ _. inr (inl (io, failed_after_stood a c d stood_c failed));
+    }
+
+-- one attribute, as there isn't room for several, and some
+one_of_few : (h : PerfHeader) (n : ℕ) → (¬ Several h.attr_section h.attr_size) → ¬ ((h.attr_size ≡ 0) ⊎ (2 ^ 64 ≤ h.attr_section.offset + h.attr_section.size)) → n ≡ h.attr_section.size / h.attr_size → n ≢ 0 → n ≡ 1
+one_of_few h n few can count some =
+    let sized : 0 < h.attr_size = some_size h.attr_size (λ none. can (inl none)) in
+    let fits : h.attr_section.offset + h.attr_section.size < 2 ^ 64 = below_or (h.attr_section.offset + h.attr_section.size) (λ far. can (inr far)) in
+    let less : n < 2 = less_or n (λ two. few (record { some = sized; fits = fits; two = omega (arith, count) })) in
+    let least : 0 < n = some_size n some in
+    omega arith
+
+-- the opening holds what the header and its sections say
+pub behind_read : (order : Endianness) (h : PerfHeader) (a b c d : State) (opening : Opening) → IsPlain h → opening.endian ≡ order → opening.features ≡ h.features → opening.size ≡ h.data_section.size
+    → ReadsSections order (table_place h) (features_of h.features) a (Ok opening.sections) b
+    → ReadsAttrSection (number_in order) h.attr_size h.attr_section b (Ok opening.attributes) c → length opening.attributes.items ≢ 0 → Stood c d × (d.place ≡ put_at h.data_section.offset c.place)
+    → ReadBehind order h a opening d
+behind_read order h a b c d opening plain endian features size sections (can, took) some (stood, place) =
+    let stood_c = stood_more a b c sections.0 took.stood in record {
+      endian = endian;
+      plain = plain;
+      features = features;
+      size = size;
+      one = one_of_few h (length opening.attributes.items) plain.one can took.count some;
+      stood = stood_more a c d stood_c stood;
+      place = place ∙ put_same h.data_section.offset a.place c.place stood_c.all;
+      sections = sections.1;
+      attributes = shown_before a b (λ all. DescribesByAttrSection (number_in order) h.attr_size h.attr_section all opening.attributes.items) sections.0 took.is;
+    }
 
 -- what the first 104 bytes from a place on are, where these come first there
 front_there : (p : Place) (bytes : List ℕ) (rest : Option (List ℕ)) → length bytes ≡ 104 → Some (drop p.at p.all) ≡ prepend bytes rest → (104 ≤ length (drop p.at p.all)) × (bytes ≡ take 104 (drop p.at p.all))
@@ -148,12 +249,16 @@ behind_header a b c order h opening placed took magic read = record {
   stood = stood_more a b c took.stood read.stood;
   opened = place_shows a (λ p. OpenedAt p opening c) (λ p is.
       let there = all_there a b p took.stood is in
+      let shown_at : HoldsSections order h p.all × ((n : ℕ) → data_in opening.sections n ≡ section_data order h p.all n) =
+      subst (λ o. IfSome o (λ all. HoldsSections order h all × ((n : ℕ) → data_in opening.sections n ≡ section_data order h all n))) there read.sections in
       record {
         header = h;
         is = record { has = has_header a p h placed is took.begins; magic = magic ∙ ap magic_of (sym read.endian) };
         plain = read.plain;
         features = read.features;
         size = read.size;
+        holds = subst (λ o. HoldsSections o h p.all) (sym read.endian) (shown_at.0);
+        sections = subst (λ o. (n : ℕ) → data_in opening.sections n ≡ section_data o h p.all n) (sym read.endian) shown_at.1;
         attributes = subst (λ o. IfSome o (λ all. DescribesByAttrSection (number_in opening.endian) h.attr_size h.attr_section all opening.attributes.items)) there
             (subst (λ o. IfSome (all_of b.place) (λ all. DescribesByAttrSection (number_in o) h.attr_size h.attr_section all opening.attributes.items)) (sym read.endian) read.attributes);
         place = read.place ∙ place_put h.data_section.offset b.place p there;

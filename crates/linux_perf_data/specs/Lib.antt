@@ -5,5 +5,7 @@ pub mod Known
 pub mod Piece
 pub mod Iter
 pub mod PerfFile
+pub mod Sections
 pub mod Open
 pub mod Opened
+pub mod Values

@@ -1,5 +1,5 @@
 -- What a perf.data file says of itself, and what an opening of it meets first.
-use Rattle.std.specs.Prelude.{◌≡◌, ◌≢◌, ℕ, ◌+◌, ◌*◌, ◌/◌, ◌^◌, ◌<◌, ◌≤◌, ◌⊎◌, Bool, true, false, List, [], ◌∷◌, length, take, drop, codes, Result, Ok, Err, Some, IfSome, Vec}
+use Rattle.std.specs.Prelude.{◌≡◌, ◌≢◌, ℕ, ◌+◌, ◌*◌, ◌/◌, ◌^◌, ◌<◌, ◌≤◌, ◌⊎◌, Bool, true, false, List, [], ◌∷◌, length, take, drop, codes, Option, Result, Ok, Err, Some, IfSome, Vec}
 use Rattle.std.specs.declared.alloc.Global.{Global}
 use Rattle.perfdata_base.specs.Source.{State, Place, Stood, Failed, Paused, put_at, all_of}
 use Rattle.perfdata_base.specs.Numbers.{number_in}
@@ -16,6 +16,8 @@ use Rattle.perfdata_parts.specs.declared.feature_sections.AttributeDescription.{
 use Rattle.perfdata_parts.specs.declared.error.Error.{Error}
 use Rattle.perfdata_parts.specs.declared.error.Error.TheVariants.{Read, UnrecognizedMagicValue, NoAttributes, Memory}
 use Rattle.perfdata_parts.specs.declared.error.ReadError.TheVariants.{FeatureSection, PerfEventAttr as OfAttr}
+use Rattle.perfdata_base.specs.Features.{HasFeature, features_of}
+use Rattle.linux_perf_data.specs.Sections.{HasSections, LacksSections, table_of, data_by, data_in}
 use Rattle.linux_perf_data.specs.declared.opening.Opening.{Opening}
 
 -- the magic value of an order of numbers
@@ -26,11 +28,6 @@ magic_of BigEndian = codes "2ELIFREP"
 abbrev pub TellsOrder : List ℕ → Result Endianness Error → Type 0
 TellsOrder magic (Ok order) = magic ≡ magic_of order
 TellsOrder magic (Err e) = (e ≡ UnrecognizedMagicValue magic) × ((order : Endianness) → magic ≢ magic_of order)
-
--- a source went to a place from its first byte, or failed
-abbrev pub GoesTo : {A : Type 0} → State → ℕ → Result A Error → State → Type 0
-GoesTo old at (Ok _) new = Stood old new × (new.place ≡ put_at at old.place)
-GoesTo old at (Err e) new = Stood old new × IsIo e × Failed old new
 
 -- an attribute section that has room for two attributes or more
 pub record Several (section : PerfFileSection) (attr_size : ℕ) : Type 0 where
@@ -49,16 +46,27 @@ ReadsAttributes order attr_size section old result new = ReadsAttrSection (numbe
 abbrev pub EndsNear : PerfHeader → Type 0
 EndsNear h = h.data_section.offset + h.data_section.size < 2 ^ 64
 
--- no feature is set
-abbrev pub HasNoFeature : FeatureSet → Type 0
-HasNoFeature f = f.0 ≡ 0 ∷ 0 ∷ 0 ∷ 0 ∷ []
+-- attributes are told by EVENT_DESC (12), by event types, or with simpleperf's meta info (129)
+abbrev pub TellsElsewhere : PerfHeader → Type 0
+TellsElsewhere h = HasFeature h.features 12 ⊎ ((h.event_types_section.size ≢ 0) ⊎ HasFeature h.features 129)
 
--- the header of a file whose one attribute stands in its attribute section, and which has no feature
+-- the header of a file whose one attribute stands in its attribute section alone
 pub record IsPlain (h : PerfHeader) : Type 0 where
   pub near : EndsNear h
-  pub features : HasNoFeature h.features
-  pub event_types : h.event_types_section.size ≡ 0
+  pub here : ¬ TellsElsewhere h
   pub one : ¬ Several h.attr_section h.attr_size
+
+-- where the table of a file's sections begins: just behind the data section
+abbrev pub table_place : PerfHeader → ℕ
+table_place h = h.data_section.offset + h.data_section.size
+
+-- all bytes hold the sections of a header's features
+abbrev pub HoldsSections : Endianness → PerfHeader → List ℕ → Type 0
+HoldsSections order h all = HasSections order all (table_place h) (features_of h.features)
+
+-- the bytes of a feature's section
+abbrev pub section_data : Endianness → PerfHeader → List ℕ → ℕ → Option (List ℕ)
+section_data order h all = data_by all (table_of order all (table_place h) (features_of h.features))
 
 -- the first frames of a section hold attributes, fewer than it has room for, and the next is none, as this error says
 pub record StopsAttrSection (order : Endianness) (attr_size : ℕ) (section : PerfFileSection) (e : Error) (all : List ℕ) : Type 0 where
@@ -67,16 +75,17 @@ pub record StopsAttrSection (order : Endianness) (attr_size : ℕ) (section : Pe
   pub each : Run (IsDescribed (number_in order) attr_size) attr_size all section.offset before
   pub here : IsNoFrame (number_in order) attr_size e (drop (section.offset + length before * attr_size) all)
 
--- What an opening meets first behind a header, as all bytes show: the data section ends too far; there is a feature, an
--- event types section or room for several attributes, which aren't read yet; no attribute section can stand where the
--- header says; its frames stop; or it has none.
+-- What an opening meets first behind a header, as all bytes show: the data section ends too far; the table of sections or a
+-- section ends early; attributes are told elsewhere, or there is room for several, which isn't read yet; no attribute
+-- section can stand where the header says; its frames stop; or it has none.
 abbrev pub StopsBehind : Endianness → PerfHeader → List ℕ → Error → Type 0
 StopsBehind order h all e =
     ((e ≡ Read FeatureSection) × (2 ^ 64 ≤ h.data_section.offset + h.data_section.size))
-    ⊎ ((IsUnsupported e × EndsNear h × (HasNoFeature h.features → h.event_types_section.size ≡ 0 → Several h.attr_section h.attr_size))
-    ⊎ (((e ≡ Read OfAttr) × IsPlain h × IsNoSection (number_in order) h.attr_size h.attr_section)
-    ⊎ ((IsPlain h × (¬ IsNoSection (number_in order) h.attr_size h.attr_section) × StopsAttrSection order h.attr_size h.attr_section e all)
-    ⊎ ((e ≡ NoAttributes) × IsPlain h × (¬ IsNoSection (number_in order) h.attr_size h.attr_section) × (h.attr_section.size / h.attr_size ≡ 0)))))
+    ⊎ ((IsShort e × EndsNear h × LacksSections order all (table_place h) (features_of h.features))
+    ⊎ ((IsUnsupported e × EndsNear h × HoldsSections order h all × ((¬ TellsElsewhere h) → Several h.attr_section h.attr_size))
+    ⊎ (((e ≡ Read OfAttr) × IsPlain h × HoldsSections order h all × IsNoSection (number_in order) h.attr_size h.attr_section)
+    ⊎ ((IsPlain h × HoldsSections order h all × (¬ IsNoSection (number_in order) h.attr_size h.attr_section) × StopsAttrSection order h.attr_size h.attr_section e all)
+    ⊎ ((e ≡ NoAttributes) × IsPlain h × HoldsSections order h all × (¬ IsNoSection (number_in order) h.attr_size h.attr_section) × (h.attr_section.size / h.attr_size ≡ 0))))))
 
 -- what the source owes where it failed or paused: a fault of its own in the header and of a seek, else the attribute's
 abbrev pub SourceOwesOpening : State → Error → State → Type 0
@@ -91,6 +100,7 @@ pub record ReadBehind (order : Endianness) (h : PerfHeader) (old : State) (openi
   pub one : length opening.attributes.items ≡ 1
   pub stood : Stood old new
   pub place : new.place ≡ put_at h.data_section.offset old.place
+  pub sections : IfSome (all_of old.place) (λ all. HoldsSections order h all × ((n : ℕ) → data_in opening.sections n ≡ section_data order h all n))
   pub attributes : IfSome (all_of old.place) (λ all. DescribesByAttrSection (number_in order) h.attr_size h.attr_section all opening.attributes.items)
 
 pub record RefusedBehind (order : Endianness) (h : PerfHeader) (old : State) (e : Error) (new : State) : Type 0 where
@@ -127,6 +137,8 @@ pub record OpenedAt (p : Place) (opening : Opening) (new : State) : Type 0 where
   pub plain : IsPlain header
   pub features : opening.features ≡ header.features
   pub size : opening.size ≡ header.data_section.size
+  pub holds : HoldsSections opening.endian header p.all
+  pub sections : (n : ℕ) → data_in opening.sections n ≡ section_data opening.endian header p.all n
   pub attributes : DescribesByAttrSection (number_in opening.endian) header.attr_size header.attr_section p.all opening.attributes.items
   pub place : new.place ≡ Some (record { all = p.all; at = header.data_section.offset })
 

@@ -1,5 +1,5 @@
 -- What a caller learns of a file that was opened, or that was refused.
-use Rattle.std.specs.Prelude.{◌≡◌, ◌≢◌, ◌⊎◌, List, drop, Result, Ok, Err, Some, IfSome}
+use Rattle.std.specs.Prelude.{◌≡◌, ◌≢◌, ◌⊎◌, ℕ, List, drop, Result, Ok, Err, Some, IfSome}
 use Rattle.perfdata_base.specs.Source.{State, Place, Stood}
 use Rattle.perfdata_base.specs.Numbers.{number_in}
 use Rattle.perfdata_base.specs.declared.raw.Endianness.{Endianness}
@@ -16,18 +16,22 @@ use Rattle.linux_perf_data.specs.Attribute.{Attribute}
 use Rattle.linux_perf_data.specs.Known.{Knows}
 use Rattle.linux_perf_data.specs.Layout.{Handed, End, ToCome}
 use Rattle.linux_perf_data.specs.Iter.{RecordsToCome, view}
-use Rattle.linux_perf_data.specs.PerfFile.{descriptions_of, features_of, order_of_file, attributes_of_file}
-use Rattle.linux_perf_data.specs.Open.{IsHeader, IsPlain, StopsFile, SourceOwesOpening}
+use Rattle.linux_perf_data.specs.Sections.{data_in}
+use Rattle.linux_perf_data.specs.PerfFile.{descriptions_of, features_of, order_of_file, data_of, attributes_of_file}
+use Rattle.linux_perf_data.specs.Open.{IsHeader, IsPlain, HoldsSections, section_data, StopsFile, SourceOwesOpening}
 
 -- the records of a file with this header, and how its data section's layout ends
 abbrev pub RecordsOf : Place → Endianness → PerfHeader → List Attribute → List Handed → End → Type 0
 RecordsOf p order h attrs records end = ToCome order (drop h.data_section.offset p.all) (Some h.data_section.size) 0 0 attrs records end
 
--- The file that begins at a place says this of itself: its header, and the attributes of its attribute section.
+-- The file that begins at a place says this of itself: its header, the sections of its features, which stand there whole,
+-- and the attributes of its attribute section.
 pub record Describes (p : Place) (header : PerfHeader) (file : PerfFile) : Type 0 where
   pub is : IsHeader p (order_of_file file) header
   pub plain : IsPlain header
   pub features : features_of file ≡ header.features
+  pub holds : HoldsSections (order_of_file file) header p.all
+  pub sections : (n : ℕ) → data_of file n ≡ section_data (order_of_file file) header p.all n
   pub attributes : DescribesByAttrSection (number_in (order_of_file file)) header.attr_size header.attr_section p.all (descriptions_of file)
 
 -- A file was refused, and its source dropped: the file shows the reason, or the source failed or paused, as a steady one
@@ -53,6 +57,7 @@ module _ {R : Type 0} (seen : R → State) where
     pub first : AtFirst r.perf_file r.record_iter
     pub order : order_of_file r.perf_file ≡ opening.endian
     pub features : features_of r.perf_file ≡ opening.features
+    pub sections : (n : ℕ) → data_of r.perf_file n ≡ data_in opening.sections n
     pub attributes : descriptions_of r.perf_file ≡ opening.attributes.items
 
   -- The file that begins at a place was opened, and its records are those that the iterator is to hand out.

@@ -1,5 +1,7 @@
 -- What a `PerfFile` holds.
-use Rattle.std.specs.Prelude.{List, map}
+use Rattle.std.specs.Prelude.{ℕ, List, map, nat_eq, Option}
+use Rattle.std.specs.Map.{lookup}
+use Rattle.std.specs.Option.{option_map}
 use Rattle.perfdata_base.specs.declared.raw.Endianness.{Endianness}
 use Rattle.perfdata_base.specs.declared.features.FeatureSet.{FeatureSet}
 use Rattle.perfdata_parts.specs.declared.feature_sections.AttributeDescription.{AttributeDescription}
@@ -13,6 +15,10 @@ descriptions_of file = file.attributes.items
 
 abbrev pub features_of : PerfFile → FeatureSet
 features_of file = file.features
+
+-- the bytes of a feature's section
+abbrev pub data_of : PerfFile → ℕ → Option (List ℕ)
+data_of file n = option_map (λ v. v.items) (lookup (λ f. nat_eq n f.0) file.sections.entries)
 
 abbrev pub order_of_file : PerfFile → Endianness
 order_of_file file = file.endian

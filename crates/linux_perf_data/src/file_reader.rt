@@ -38,6 +38,7 @@ impl<C: PlacedSource + Drop> PerfFileReader<C> {
         let perf_file = PerfFile {
             endian: opening.endian,
             features: opening.features,
+            sections: opening.sections,
             attributes: opening.attributes,
         };
         PerfFileReader {
@@ -46,11 +47,16 @@ impl<C: PlacedSource + Drop> PerfFileReader<C> {
         }
     }
 
-    /// Opens a perf.data file: reads its header and its attributes where the source stands, and goes to its records.
+    /// Opens a perf.data file: reads its header where the source stands, the sections of its features and its
+    /// attributes, and goes to its records.
     ///
-    /// Places in the file count from the source's first byte. A refusal names the first thing in the file that stands
-    /// in the way, or the source's own fault: an [`Error::IoError`] in the header and where the source can't go to a
-    /// place, [`ReadError::PerfEventAttr`] in an attribute.
+    /// Places in the file count from the source's first byte. Just behind the data section stands a table with an entry
+    /// of 16 bytes for each feature, ascending, which says where the feature's section is. A refusal names the first
+    /// thing in the file that stands in the way, or the source's own fault: an [`Error::IoError`] in the header, the
+    /// table and the sections, and where the source can't go to a place, [`ReadError::FeatureSection`] where the data
+    /// section ends past 2^64 - 1, [`ReadError::PerfEventAttr`] in an attribute. An [`Error::IoError`] of kind
+    /// `Unsupported` says that attributes are told by EVENT_DESC, by event types or with simpleperf's meta info, or that
+    /// there is room for several.
     pub fn parse_file(alloc: Global, source: C) -> Result<PerfFileReader<C>, Error>
         ensures parses { ParsesFile C.seen (C.seen source) result }
         ensures lent { IfOk result (λ r. C.lent r.record_iter.source ≡ C.lent source) }

@@ -1,8 +1,10 @@
-ghost use Rattle.std.specs.Prelude.{◌≡◌};
-ghost use Rattle.linux_perf_data.specs.Open.{GoesTo, TellsOrder, TestsSeveral, ReadsAttributes, ReadsBehind, ReadsFile};
+ghost use Rattle.std.specs.Prelude.{◌≡◌, ◌↔◌, IsTrue};
+ghost use Rattle.linux_perf_data.specs.Open.{TellsElsewhere, TellsOrder, TestsSeveral, ReadsAttributes, ReadsBehind, ReadsFile};
 
+use crate::sections::{go_to, read_sections};
 use byteorder::{BigEndian, LittleEndian};
-use perfdata_base::features::FeatureSet;
+use indexmap::IndexMap;
+use perfdata_base::features::{Feature, FeatureSet};
 use perfdata_base::header::PerfHeader;
 use perfdata_base::raw::Endianness;
 use perfdata_base::section::PerfFileSection;
@@ -10,7 +12,6 @@ use perfdata_base::source::PlacedSource;
 use perfdata_parts::error::{Error, ReadError, unsupported};
 use perfdata_parts::feature_sections::AttributeDescription;
 use std::alloc::Global;
-use std::io::SeekFrom;
 
 const LITTLE_MAGIC: [u8; 8] = *b"PERFILE2";
 
@@ -21,19 +22,9 @@ const BIG_MAGIC: [u8; 8] = *b"2ELIFREP";
 pub(crate) struct Opening {
     pub(crate) endian: Endianness,
     pub(crate) features: FeatureSet,
+    pub(crate) sections: IndexMap<Feature, Vec<u8>>,
     pub(crate) attributes: Vec<AttributeDescription>,
     pub(crate) size: u64,
-}
-
-// Goes to a place from the source's first byte.
-fn go_to<C: PlacedSource>(source: &mut C, place: u64) -> Result<(), Error>
-    ensures goes { GoesTo (C.seen source.old) place result (C.seen source.new) }
-    ensures lent { C.lent source.new ≡ C.lent source.old }
-{
-    match source.seek_to(SeekFrom::Start(place)) {
-        Ok(_) => Ok(()),
-        Err(error) => Err(Error::IoError(error)),
-    }
 }
 
 // The order that a magic value tells.
@@ -60,6 +51,15 @@ fn counts_several(section: &PerfFileSection, attr_size: u64) -> bool
         Some(_) => section.size / attr_size >= 2,
         None => false,
     }
+}
+
+// Whether attributes are told by EVENT_DESC, by event types, or with simpleperf's meta info.
+fn tells_attributes_elsewhere(header: &PerfHeader) -> bool
+    ensures { IsTrue result ↔ TellsElsewhere header.now }
+{
+    header.features.has_feature(Feature::EVENT_DESC)
+        || header.event_types_section.size != 0
+        || header.features.has_feature(Feature::SIMPLEPERF_META_INFO)
 }
 
 // The attributes of the attribute section.
@@ -100,14 +100,11 @@ fn open_behind<C: PlacedSource>(
         Some(table) => table,
         None => return Err(Error::Read(ReadError::FeatureSection)),
     };
-    if !header.features.is_empty() {
-        return Err(unsupported());
-    }
-    match go_to(source, table) {
-        Ok(()) => {}
+    let sections = match read_sections(alloc, source, endian, &header.features, table) {
+        Ok(sections) => sections,
         Err(error) => return Err(error),
-    }
-    if header.event_types_section.size != 0 {
+    };
+    if tells_attributes_elsewhere(header) {
         return Err(unsupported());
     }
     if counts_several(&header.attr_section, header.attr_size) {
@@ -133,6 +130,7 @@ fn open_behind<C: PlacedSource>(
     Ok(Opening {
         endian,
         features: header.features,
+        sections,
         attributes,
         size: data.size,
     })

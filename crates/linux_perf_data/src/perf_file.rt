@@ -1,20 +1,30 @@
-ghost use Rattle.std.specs.Prelude.{◌≡◌, ◌<◌, length, vec_len};
+ghost use Rattle.std.specs.Prelude.{◌≡◌, ◌<◌, ◌↔◌, IsTrue, length, vec_len};
+ghost use Rattle.std.specs.Option.{option_map};
+ghost use Rattle.perfdata_base.specs.Features.{HasFeature};
+ghost use Rattle.linux_perf_data.specs.Values.{TellsOf, TellsText, TellsTexts, TellsNumber, TellsCpus, TellsTimes, TellsCompression, TellsClock, TellsUnits};
 
-use perfdata_base::features::FeatureSet;
+use crate::values;
+use indexmap::IndexMap;
+use perfdata_base::features::{Feature, FeatureSet};
 use perfdata_base::raw::Endianness;
-use perfdata_parts::feature_sections::AttributeDescription;
+use perfdata_parts::error::Error;
+use perfdata_parts::feature_sections::{
+    AttributeDescription, ClockData, CompressionInfo, NrCpus, PmuMappings, SampleTimeRange,
+};
+use std::alloc::Global;
 
 /// What a perf.data file or pipe says of itself beside its records. It has at least one attribute.
 #[derive(Drop)]
 pub struct PerfFile {
     pub(crate) endian: Endianness,
     pub(crate) features: FeatureSet,
+    pub(crate) sections: IndexMap<Feature, Vec<u8>>,
     pub(crate) attributes: Vec<AttributeDescription>,
     ghost some: { 0 < vec_len attributes },
 }
 
 impl PerfFile {
-    ghost use Rattle.linux_perf_data.specs.PerfFile.{descriptions_of, features_of, order_of_file};
+    ghost use Rattle.linux_perf_data.specs.PerfFile.{descriptions_of, features_of, order_of_file, data_of};
 
     /// The attributes of the events that were recorded: at least one.
     pub fn event_attributes(&self) -> &[AttributeDescription]
@@ -36,5 +46,204 @@ impl PerfFile {
         ensures { result ≡ order_of_file self.now }
     {
         self.endian
+    }
+
+    /// The bytes of a feature's section, or none where the file doesn't have the feature.
+    pub fn feature_section_data(&self, feature: Feature) -> Option<&[u8]>
+        ensures { option_map (λ s. s.now) result ≡ data_of self.now feature.0 }
+    {
+        match self.sections.get(&feature) {
+            Some(bytes) => Some(bytes.as_slice()),
+            None => None,
+        }
+    }
+
+    /// Whether the file was written by `perf stat`.
+    pub fn is_stats(&self) -> bool
+        ensures { IsTrue result ↔ HasFeature (features_of self.now) 19 }
+    {
+        FeatureSet::has_feature(&self.features, Feature::STAT)
+    }
+
+    // The text in a string's section.
+    fn text(&self, feature: Feature) -> Result<Option<&str>, Error>
+        ensures { TellsOf (TellsText (order_of_file self.now)) (data_of self.now feature.0) result }
+    {
+        match self.feature_section_data(feature) {
+            Some(bytes) => match values::text(self.endian, bytes) {
+                Ok(text) => Ok(Some(text)),
+                Err(error) => Err(error),
+            },
+            None => Ok(None),
+        }
+    }
+
+    // The number in a number's section.
+    fn number(&self, feature: Feature) -> Result<Option<u64>, Error>
+        ensures { TellsOf (TellsNumber (order_of_file self.now)) (data_of self.now feature.0) result }
+    {
+        match self.feature_section_data(feature) {
+            Some(bytes) => match values::number(self.endian, bytes) {
+                Ok(number) => Ok(Some(number)),
+                Err(error) => Err(error),
+            },
+            None => Ok(None),
+        }
+    }
+
+    /// The name of the machine (section HOSTNAME), as `uname -n` prints it.
+    ///
+    /// A string's section holds a length of four bytes and so many bytes, of which those before the first NUL are the
+    /// text. `NotEnoughSpaceForStringLen` where there are fewer than four bytes, `StringLengthTooLong` where they end
+    /// before the length says, `StringUtf8` where the text isn't UTF-8.
+    pub fn hostname(&self) -> Result<Option<&str>, Error>
+        ensures { TellsOf (TellsText (order_of_file self.now)) (data_of self.now 3) result }
+    {
+        self.text(Feature::HOSTNAME)
+    }
+
+    /// The release of the system (section OSRELEASE), as `uname -r` prints it. Refusals are those of `hostname`.
+    pub fn os_release(&self) -> Result<Option<&str>, Error>
+        ensures { TellsOf (TellsText (order_of_file self.now)) (data_of self.now 4) result }
+    {
+        self.text(Feature::OSRELEASE)
+    }
+
+    /// The version of the tool that recorded (section VERSION). Refusals are those of `hostname`.
+    pub fn perf_version(&self) -> Result<Option<&str>, Error>
+        ensures { TellsOf (TellsText (order_of_file self.now)) (data_of self.now 5) result }
+    {
+        self.text(Feature::VERSION)
+    }
+
+    /// The processor's architecture (section ARCH), as `uname -m` prints it. Refusals are those of `hostname`.
+    pub fn arch(&self) -> Result<Option<&str>, Error>
+        ensures { TellsOf (TellsText (order_of_file self.now)) (data_of self.now 6) result }
+    {
+        self.text(Feature::ARCH)
+    }
+
+    /// The processor's description (section CPUDESC). Refusals are those of `hostname`.
+    pub fn cpu_desc(&self) -> Result<Option<&str>, Error>
+        ensures { TellsOf (TellsText (order_of_file self.now)) (data_of self.now 8) result }
+    {
+        self.text(Feature::CPUDESC)
+    }
+
+    /// The processor's identifier (section CPUID). Refusals are those of `hostname`.
+    pub fn cpu_id(&self) -> Result<Option<&str>, Error>
+        ensures { TellsOf (TellsText (order_of_file self.now)) (data_of self.now 9) result }
+    {
+        self.text(Feature::CPUID)
+    }
+
+    /// The words of the command line that recorded (section CMDLINE): their number in four bytes, and a string for each.
+    ///
+    /// `NotEnoughSpaceForStringListLen` where there are fewer than four bytes, and for a string the refusals of
+    /// `hostname`. `Memory` where memory runs out.
+    pub fn cmdline(&self, alloc: Global) -> Result<Option<Vec<&str>>, Error>
+        ensures { TellsOf (TellsTexts (order_of_file self.now)) (data_of self.now 11) result }
+    {
+        match self.feature_section_data(Feature::CMDLINE) {
+            Some(bytes) => match values::texts(alloc, self.endian, bytes) {
+                Ok(words) => Ok(Some(words)),
+                Err(error) => Err(error),
+            },
+            None => Ok(None),
+        }
+    }
+
+    /// How much memory the machine has, in units of 1,024 bytes (section TOTAL_MEM, of eight bytes).
+    ///
+    /// `FeatureSectionTooSmall` where there are fewer.
+    pub fn total_mem(&self) -> Result<Option<u64>, Error>
+        ensures { TellsOf (TellsNumber (order_of_file self.now)) (data_of self.now 10) result }
+    {
+        self.number(Feature::TOTAL_MEM)
+    }
+
+    /// How many nanoseconds a tick of the clock takes that times were taken from (section CLOCKID, of eight bytes).
+    ///
+    /// `FeatureSectionTooSmall` where there are fewer.
+    pub fn clock_frequency(&self) -> Result<Option<u64>, Error>
+        ensures { TellsOf (TellsNumber (order_of_file self.now)) (data_of self.now 23) result }
+    {
+        self.number(Feature::CLOCKID)
+    }
+
+    /// How many processors the machine has (section NRCPUS).
+    ///
+    /// An `IoError` of kind `UnexpectedEof` where there are fewer than 8 bytes.
+    pub fn nr_cpus(&self) -> Result<Option<NrCpus>, Error>
+        ensures { TellsOf (TellsCpus (order_of_file self.now)) (data_of self.now 7) result }
+    {
+        match self.feature_section_data(Feature::NRCPUS) {
+            Some(bytes) => match values::nr_cpus(self.endian, bytes) {
+                Ok(cpus) => Ok(Some(cpus)),
+                Err(error) => Err(error),
+            },
+            None => Ok(None),
+        }
+    }
+
+    /// The times of the first and of the last sample (section SAMPLE_TIME).
+    ///
+    /// An `IoError` of kind `UnexpectedEof` where there are fewer than 16 bytes.
+    pub fn sample_time_range(&self) -> Result<Option<SampleTimeRange>, Error>
+        ensures { TellsOf (TellsTimes (order_of_file self.now)) (data_of self.now 21) result }
+    {
+        match self.feature_section_data(Feature::SAMPLE_TIME) {
+            Some(bytes) => match values::sample_times(self.endian, bytes) {
+                Ok(times) => Ok(Some(times)),
+                Err(error) => Err(error),
+            },
+            None => Ok(None),
+        }
+    }
+
+    /// The clock that times were taken from, and what it showed at a time of the wall clock (section CLOCK_DATA).
+    ///
+    /// An `IoError` of kind `InvalidData` where its version isn't 1, and of kind `UnexpectedEof` where there are fewer
+    /// than 24 bytes.
+    pub fn clock_data(&self) -> Result<Option<ClockData>, Error>
+        ensures { TellsOf (TellsClock (order_of_file self.now)) (data_of self.now 29) result }
+    {
+        match self.feature_section_data(Feature::CLOCK_DATA) {
+            Some(bytes) => match values::clock(self.endian, bytes) {
+                Ok(clock) => Ok(Some(clock)),
+                Err(error) => Err(error),
+            },
+            None => Ok(None),
+        }
+    }
+
+    /// How records were compressed (section COMPRESSED).
+    ///
+    /// An `IoError` of kind `UnexpectedEof` where there are fewer than 20 bytes.
+    pub fn compression_info(&self) -> Result<Option<CompressionInfo>, Error>
+        ensures { TellsOf (TellsCompression (order_of_file self.now)) (data_of self.now 27) result }
+    {
+        match self.feature_section_data(Feature::COMPRESSED) {
+            Some(bytes) => match values::compression(self.endian, bytes) {
+                Ok(compression) => Ok(Some(compression)),
+                Err(error) => Err(error),
+            },
+            None => Ok(None),
+        }
+    }
+
+    /// The names of the performance monitoring units (section PMU_MAPPINGS).
+    ///
+    /// An `IoError` of kind `UnexpectedEof` where the bytes end early, and `Memory` where memory runs out.
+    pub fn pmu_mappings(&self, alloc: Global) -> Result<Option<PmuMappings>, Error>
+        ensures { TellsOf (TellsUnits (order_of_file self.now)) (data_of self.now 16) result }
+    {
+        match self.feature_section_data(Feature::PMU_MAPPINGS) {
+            Some(bytes) => match values::units(alloc, self.endian, bytes) {
+                Ok(units) => Ok(Some(units)),
+                Err(error) => Err(error),
+            },
+            None => Ok(None),
+        }
     }
 }

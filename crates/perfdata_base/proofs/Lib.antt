@@ -2,6 +2,7 @@ pub mod Attrs
 pub mod Cut
 pub mod Gives
 pub mod Headers
+pub mod Members
 pub mod Numbers
 pub mod Pieces
 pub mod Sought

@@ -1,5 +1,6 @@
 pub mod Attr
 pub mod Event
+pub mod Features
 pub mod Header
 pub mod Numbers
 pub mod Place

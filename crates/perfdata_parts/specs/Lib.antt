@@ -8,3 +8,7 @@ pub mod ThreadMap
 pub mod HeaderAttr
 pub mod HeaderFeature
 pub mod UserRecord
+pub mod Part
+pub mod NumberSections
+pub mod Strings
+pub mod Pmu

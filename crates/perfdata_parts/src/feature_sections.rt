@@ -12,6 +12,17 @@ use perfdata_base::source::{PlacedSource, Source};
 use std::alloc::Global;
 use std::io::SeekFrom;
 
+mod numbers;
+mod pmu;
+mod strings;
+
+pub use numbers::{ClockData, CompressionInfo, NrCpus, SampleTimeRange};
+pub use pmu::PmuMappings;
+pub use strings::{HeaderString, before_nul};
+
+/// How many bytes of an attribute have a meaning.
+const KNOWN: usize = 136;
+
 /// An event's attribute, with its name and its ids where they are known.
 #[derive(Debug, Drop)]
 pub struct AttributeDescription {
@@ -19,9 +30,6 @@ pub struct AttributeDescription {
     pub(crate) name: Option<String>,
     pub(crate) event_ids: Vec<u64>,
 }
-
-/// How many bytes of an attribute have a meaning.
-const KNOWN: usize = 136;
 
 // The attribute of a frame at the front of a source.
 fn read_frame<R: Source, T: FileOrder>(

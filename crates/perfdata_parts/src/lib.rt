@@ -2,6 +2,7 @@
 #![tactic(auto)]
 
 pub mod auxtrace;
+pub mod bytes;
 pub mod constants;
 pub mod error;
 pub mod feature_sections;

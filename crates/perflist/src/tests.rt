@@ -1,5 +1,6 @@
 //! The cases of files: their lines, and how their reading ends.
 mod example;
+mod features;
 mod image;
 mod slow;
 
@@ -130,7 +131,13 @@ fn two_samples_and_a_marker(rt: HostRuntime) -> Result<(), Fail> {
         let image = Image::patched(rt.alloc(), endian, 40, u64::MAX)?;
         shows(&rt, "data far away", &image.bytes, "", End::Feature)?;
         let image = Image::patched(rt.alloc(), endian, 72, 8)?;
-        shows(&rt, "a feature", &image.bytes, "", End::Unsupported)?;
+        shows(
+            &rt,
+            "a feature without its entry",
+            &image.bytes,
+            "",
+            End::Short,
+        )?;
         let image = Image::patched(rt.alloc(), endian, 64, 1)?;
         shows(&rt, "event types", &image.bytes, "", End::Unsupported)?;
         let image = Image::patched(rt.alloc(), endian, 32, 128)?;

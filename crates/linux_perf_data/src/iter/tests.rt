@@ -1,5 +1,6 @@
 use super::*;
 use byteorder::LittleEndian;
+use indexmap::IndexMap;
 use perfdata_base::features::FeatureSet;
 use perfdata_base::section::PerfFileSection;
 use perfdata_base::source::Counted;
@@ -41,6 +42,7 @@ fn file(alloc: Global) -> Result<PerfFile, Error> {
     Ok(PerfFile {
         endian: Endianness::LittleEndian,
         features: FeatureSet([0; 4]),
+        sections: IndexMap::new(alloc),
         attributes,
     })
 }

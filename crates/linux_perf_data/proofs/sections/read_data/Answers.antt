@@ -1,0 +1,27 @@
+use Rattle.std.proofs.Common.{◌≡◌, ◌∙◌, ◌++◌, ap, sym, take, get_or, rules, take-append-drop, drop-cons, Vec}
+use Rattle.std.proofs.lemmas.List.{take_more}
+use Rattle.perfdata_base.specs.declared.features.Feature.{Feature}
+use Rattle.perfdata_base.specs.declared.section.PerfFileSection.{PerfFileSection}
+use Rattle.linux_perf_data.proofs.Tables.{data_more, data_refused, data_put}
+use Rattle.linux_perf_data.proofs.sections.read_data.Goals as goal
+
+abbrev default : Feature × PerfFileSection
+default = (record { 0 = 0 }, record { offset = 0; size = 0 })
+
+pub returns-in-Err-clause-reads : goal.returns-in-Err-clause-reads
+returns-in-Err-clause-reads g c =
+    let table = c.args.table.now in
+    let i = c.sections.entry-index in
+    let entry = get_or table i default in
+    let split = sym (take-append-drop i table) ∙ ap (λ l. take i table ++ l) (drop-cons table i default c.sections-test.true) in
+    data_refused _ _ _ c.sections.sections c.sections.sections table i entry.0 entry.1 c.in-Err.error _ c.sections.invariant.so split c.in-Err.ensures.reads
+
+pub sections-preserved : goal.sections-preserved
+sections-preserved g c =
+    let table = c.args.table.now in
+    let i = c.sections.entry-index in
+    let entry = get_or table i default in record {
+      so = data_more _ _ _ c.sections.sections c.insert.new.self table i entry.0 entry.1 c.in-Ok.bytes c.sections.invariant.so (take_more table i default c.sections-test.true) c.in-Ok.ensures.reads
+          (data_put c.sections.sections c.insert.new.self entry.0 c.in-Ok.bytes c.in-Ok-insert.ensures.updates.0);
+      lent = search rules;
+    }

@@ -1,0 +1,164 @@
+ghost use Rattle.std.specs.Prelude.{◌≡◌, ◌≤◌, length, take, drop};
+ghost use Rattle.perfdata_base.specs.Numbers.{number_in};
+ghost use Rattle.linux_perf_data.specs.Values.{TellsText, TellsTexts, TellsNumber, TellsCpus, TellsTimes, TellsCompression, TellsClock, TellsUnits, TellsTextBefore};
+
+use byteorder::{BigEndian, ByteOrder, LittleEndian};
+use perfdata_base::raw::Endianness;
+use perfdata_parts::bytes::as_error;
+use perfdata_parts::error::Error;
+use perfdata_parts::feature_sections::{
+    ClockData, CompressionInfo, NrCpus, PmuMappings, SampleTimeRange, before_nul,
+};
+use std::alloc::Global;
+
+// The number of four bytes at the front.
+fn read_u32(endian: Endianness, bytes: &[u8]) -> u32
+    requires { 4 ≤ length bytes.now }
+    ensures { result ≡ number_in endian 4 bytes.now }
+{
+    match endian {
+        Endianness::LittleEndian => LittleEndian::read_u32(bytes),
+        Endianness::BigEndian => BigEndian::read_u32(bytes),
+    }
+}
+
+// The number of eight bytes at the front.
+fn read_u64(endian: Endianness, bytes: &[u8]) -> u64
+    requires { 8 ≤ length bytes.now }
+    ensures { result ≡ number_in endian 8 bytes.now }
+{
+    match endian {
+        Endianness::LittleEndian => LittleEndian::read_u64(bytes),
+        Endianness::BigEndian => BigEndian::read_u64(bytes),
+    }
+}
+
+// The text of the string at the front, and what stands behind that.
+fn split_text(endian: Endianness, bytes: &[u8]) -> Result<(&str, &[u8]), Error>
+    ensures { TellsTextBefore endian bytes.now result }
+{
+    if bytes.len() < 4 {
+        return Err(Error::NotEnoughSpaceForStringLen);
+    }
+    let length = read_u32(endian, bytes) as usize;
+    let behind = &bytes[4..];
+    if behind.len() < length {
+        return Err(Error::StringLengthTooLong);
+    }
+    match std::str::from_utf8(before_nul(&behind[..length])) {
+        Ok(text) => Ok((text, &behind[length..])),
+        Err(_) => Err(Error::StringUtf8),
+    }
+}
+
+// The text of a string's section.
+pub(crate) fn text(endian: Endianness, bytes: &[u8]) -> Result<&str, Error>
+    ensures { TellsText endian bytes.now result }
+{
+    match split_text(endian, bytes) {
+        Ok((text, _)) => Ok(text),
+        Err(error) => Err(error),
+    }
+}
+
+// The texts of the section of a list of strings.
+pub(crate) fn texts(alloc: Global, endian: Endianness, bytes: &[u8]) -> Result<Vec<&str>, Error>
+    ensures { TellsTexts endian bytes.now result }
+{
+    if bytes.len() < 4 {
+        return Err(Error::NotEnoughSpaceForStringListLen);
+    }
+    let count = read_u32(endian, bytes);
+    let mut behind = &bytes[4..];
+    let mut texts = Vec::new(alloc);
+    'texts: for _index in 0..count {
+        let (text, rest) = match split_text(endian, behind) {
+            Ok(split) => split,
+            Err(error) => return Err(error),
+        };
+        match texts.push(text) {
+            Ok(()) => {}
+            Err(_) => return Err(Error::Memory),
+        }
+        behind = rest;
+    }
+    Ok(texts)
+}
+
+// The number of a number's section.
+pub(crate) fn number(endian: Endianness, bytes: &[u8]) -> Result<u64, Error>
+    ensures { TellsNumber endian bytes.now result }
+{
+    if bytes.len() < 8 {
+        return Err(Error::FeatureSectionTooSmall);
+    }
+    Ok(read_u64(endian, bytes))
+}
+
+pub(crate) fn nr_cpus(endian: Endianness, bytes: &[u8]) -> Result<NrCpus, Error>
+    ensures { TellsCpus endian bytes.now result }
+{
+    let parsed = match endian {
+        Endianness::LittleEndian => NrCpus::parse::<&[u8], LittleEndian>(bytes),
+        Endianness::BigEndian => NrCpus::parse::<&[u8], BigEndian>(bytes),
+    };
+    match parsed {
+        Ok(cpus) => Ok(cpus),
+        Err(error) => Err(Error::IoError(error)),
+    }
+}
+
+pub(crate) fn sample_times(endian: Endianness, bytes: &[u8]) -> Result<SampleTimeRange, Error>
+    ensures { TellsTimes endian bytes.now result }
+{
+    let parsed = match endian {
+        Endianness::LittleEndian => SampleTimeRange::parse::<&[u8], LittleEndian>(bytes),
+        Endianness::BigEndian => SampleTimeRange::parse::<&[u8], BigEndian>(bytes),
+    };
+    match parsed {
+        Ok(times) => Ok(times),
+        Err(error) => Err(Error::IoError(error)),
+    }
+}
+
+pub(crate) fn compression(endian: Endianness, bytes: &[u8]) -> Result<CompressionInfo, Error>
+    ensures { TellsCompression endian bytes.now result }
+{
+    let parsed = match endian {
+        Endianness::LittleEndian => CompressionInfo::parse::<&[u8], LittleEndian>(bytes),
+        Endianness::BigEndian => CompressionInfo::parse::<&[u8], BigEndian>(bytes),
+    };
+    match parsed {
+        Ok(compression) => Ok(compression),
+        Err(error) => Err(Error::IoError(error)),
+    }
+}
+
+pub(crate) fn clock(endian: Endianness, bytes: &[u8]) -> Result<ClockData, Error>
+    ensures { TellsClock endian bytes.now result }
+{
+    let parsed = match endian {
+        Endianness::LittleEndian => ClockData::parse::<&[u8], LittleEndian>(bytes),
+        Endianness::BigEndian => ClockData::parse::<&[u8], BigEndian>(bytes),
+    };
+    match parsed {
+        Ok(clock) => Ok(clock),
+        Err(error) => Err(Error::IoError(error)),
+    }
+}
+
+pub(crate) fn units(alloc: Global, endian: Endianness, bytes: &[u8]) -> Result<PmuMappings, Error>
+    ensures { TellsUnits endian bytes.now result }
+{
+    let mut source = bytes;
+    let read = match endian {
+        Endianness::LittleEndian => {
+            PmuMappings::read_from::<&[u8], LittleEndian>(alloc, &mut source)
+        }
+        Endianness::BigEndian => PmuMappings::read_from::<&[u8], BigEndian>(alloc, &mut source),
+    };
+    match read {
+        Ok(units) => Ok(units),
+        Err(fault) => Err(as_error(fault)),
+    }
+}
