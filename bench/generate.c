@@ -1,73 +1,308 @@
-// Writes a perf.data file of about as many bytes as asked: one attribute whose records have TIME, and
-// records of mixed kinds and sizes. The same bytes come out at each run.
-#include <inttypes.h>
+// Writes the files that `run` times, of about as many bytes as asked: `generate KIND PATH SIZE`. The same bytes come out at each
+// run. KIND is
+//   one          a perf.data file with one attribute whose records have TIME, and records of mixed kinds and sizes
+//   events       one with eight attributes and their identifiers, laid out as perf record does: ids, attributes, records, EVENT_DESC
+//   pipe         the records of `one` as a stream
+//   pipe-events  the records of `events` as a stream
+//   late         a stream that begins with one attribute and in which SIZE more come, a sample behind each
+//   late-named   the same with an EVENT_DESC behind the first attribute
+//   jit          a jitdump of loads, moves and debug info
+#include "bytes.h"
 #include <stdio.h>
 #include <stdlib.h>
 #include <string.h>
 
-enum { HEADER = 104, ATTRIBUTE = 64 };
-enum { MOST_BODY = 200, ROUND = 1000 };
-enum { SAMPLE = 9, THREAD_MAP = 73, FINISHED_ROUND = 68 };
+enum { HEADER = 104, ATTRIBUTE = 64, PERF_ATTRIBUTE = 128, EVENTS = 8, CPUS = 16 };
+enum { MOST_BODY = 200, ROUND = 1000, MOST_RECORD = 4096 };
+enum { MMAP = 1, LOST = 2, COMM = 3, EXIT = 4, FORK = 7, SAMPLE = 9, MMAP2 = 10, ATTR = 64, FINISHED_ROUND = 68, THREAD_MAP = 73, FEATURE = 80 };
+enum { EVENT_DESC = 12 };
 
-static const uint64_t SAMPLE_TYPE = 1 << 0 | 1 << 1 | 1 << 2; // IP, TID, TIME
-static const uint64_t FLAGS = 1 << 18;                        // SAMPLE_ID_ALL
+static const uint64_t IP = 1 << 0, TID = 1 << 1, TIME = 1 << 2, CPU = 1 << 7, PERIOD = 1 << 8, IDENTIFIER = 1 << 16;
+static const uint64_t SAMPLE_ID_ALL = 1 << 18;
 
-static void put(unsigned char *at, uint64_t value, int count) {
-    for (int i = 0; i < count; i++) at[i] = (unsigned char)(value >> (8 * i));
+static FILE *out;
+
+static void write_bytes(const void *bytes, size_t count) {
+    if (fwrite(bytes, 1, count, out) != count) exit(1);
 }
 
-static uint64_t next(uint64_t *state) {
-    *state = *state * 6364136223846793005u + 1442695040888963407u;
-    return *state >> 33;
+static void write_number(uint64_t value, int count) {
+    unsigned char bytes[8];
+    put(bytes, value, count);
+    write_bytes(bytes, (size_t)count);
 }
 
-static void put_header(unsigned char *at, uint64_t data) {
-    memset(at, 0, HEADER + ATTRIBUTE);
-    memcpy(at, "PERFILE2", 8);
-    put(at + 8, HEADER, 8);
-    put(at + 16, ATTRIBUTE, 8);
-    put(at + 24, HEADER, 8);
-    put(at + 32, ATTRIBUTE, 8);
-    put(at + 40, HEADER + ATTRIBUTE, 8);
-    put(at + 48, data, 8);
-    unsigned char *attribute = at + HEADER;
-    put(attribute + 4, ATTRIBUTE, 4);
-    put(attribute + 24, SAMPLE_TYPE, 8);
-    put(attribute + 40, FLAGS, 8);
+static size_t put_head(unsigned char *at, uint64_t kind, uint64_t misc, size_t size) {
+    put(at, kind, 4);
+    put(at + 4, misc, 2);
+    put(at + 6, size, 2);
+    return size;
 }
+
+static void put_attribute(unsigned char *at, size_t size, uint64_t type, uint64_t flags) {
+    memset(at, 0, size);
+    put(at + 4, size, 4);
+    put(at + 24, type, 8);
+    put(at + 40, flags, 8);
+}
+
+// ---- records of one attribute
+
+static uint64_t clock_of(uint64_t number, uint64_t *state) { return 1000000000000u + number * 1000 + next(state) % 1000; }
 
 // One record; its time rises slowly.
 static size_t put_record(unsigned char *at, uint64_t number, uint64_t *state) {
-    static const int kinds[16] = {SAMPLE, SAMPLE, SAMPLE, 1, SAMPLE, SAMPLE, 2, SAMPLE, SAMPLE, 3, SAMPLE, SAMPLE, SAMPLE, THREAD_MAP, SAMPLE, SAMPLE};
-    uint64_t time = 1000000000000u + number * 1000 + next(state) % 1000;
+    static const int kinds[16] = {SAMPLE, SAMPLE, SAMPLE, MMAP, SAMPLE, SAMPLE, LOST, SAMPLE, SAMPLE, COMM, SAMPLE, SAMPLE, SAMPLE, THREAD_MAP, SAMPLE, SAMPLE};
+    uint64_t time = clock_of(number, state);
     int kind = number % ROUND == ROUND - 1 ? FINISHED_ROUND : kinds[next(state) % 16];
     size_t body = kind == FINISHED_ROUND ? 0 : 8 * (1 + next(state) % (MOST_BODY / 8));
-    put(at, kind, 4);
-    put(at + 4, next(state) % 8, 2);
-    put(at + 6, 8 + body, 2);
+    put_head(at, kind, next(state) % 8, 8 + body);
     for (size_t i = 0; i < body; i += 8) put(at + 8 + i, next(state) * 2654435761u, 8);
     if (kind == SAMPLE && body >= 24) put(at + 8 + 16, time, 8);
     if (kind < 64 && kind != SAMPLE && body >= 8) put(at + 8 + body - 8, time, 8);
     return 8 + body;
 }
 
-int main(int argc, char **argv) {
-    if (argc != 3) return 1;
-    FILE *out = fopen(argv[1], "wb");
-    uint64_t wanted = strtoull(argv[2], NULL, 10);
-    if (!out) return 1;
-    unsigned char head[HEADER + ATTRIBUTE];
-    put_header(head, 0);
-    fwrite(head, 1, sizeof head, out);
+// ---- records of eight attributes
+
+// The identifier of an event on a CPU, as the kernel counts them: event by event, with gaps.
+static uint64_t id_of(int event, int cpu) { return 4000 + 97 * (uint64_t)event + 5 * (uint64_t)cpu; }
+
+// One record, of an event on a CPU; a sample begins with its identifier, all others end with theirs.
+static size_t put_event_record(unsigned char *at, uint64_t number, uint64_t *state) {
+    static const int kinds[16] = {SAMPLE, SAMPLE, SAMPLE, SAMPLE, SAMPLE, MMAP2, SAMPLE, SAMPLE, SAMPLE, COMM, SAMPLE, SAMPLE, MMAP, SAMPLE, SAMPLE, SAMPLE};
+    if (number % ROUND == ROUND - 1) return put_head(at, FINISHED_ROUND, 0, 8);
+    uint64_t time = clock_of(number, state);
+    int kind = kinds[next(state) % 16], event = (int)(next(state) % EVENTS), cpu = (int)(next(state) % CPUS);
+    uint64_t id = id_of(event, cpu);
+    // the least body, and what a call chain or a name adds
+    size_t body = (kind == SAMPLE ? 48 : 64) + 8 * (next(state) % 13);
+    put_head(at, kind, kind == SAMPLE ? 2 : 0, 8 + body);
+    for (size_t i = 0; i < body; i += 8) put(at + 8 + i, next(state) * 2654435761u, 8);
+    if (kind == SAMPLE) {
+        put(at + 8, id, 8);
+        put(at + 8 + 24, time, 8);
+    } else {
+        unsigned char *words = at + 8 + body - 32;
+        put(words, 0x100000001, 8);
+        put(words + 8, time, 8);
+        put(words + 16, (uint64_t)cpu, 8);
+        put(words + 24, id, 8);
+    }
+    return 8 + body;
+}
+
+typedef size_t (*Put)(unsigned char *, uint64_t, uint64_t *);
+
+static uint64_t write_records(Put put_one, uint64_t wanted) {
     uint64_t state = 1, size = 0;
     for (uint64_t number = 0; size < wanted; number++) {
-        unsigned char record[8 + MOST_BODY];
-        size_t length = put_record(record, number, &state);
-        fwrite(record, 1, length, out);
+        unsigned char record[MOST_RECORD];
+        size_t length = put_one(record, number, &state);
+        write_bytes(record, length);
         size += length;
     }
-    put_header(head, size);
+    return size;
+}
+
+// ---- files
+
+static void write_header(uint64_t attr_size, uint64_t attrs, uint64_t attrs_size, uint64_t records, uint64_t size, uint64_t features) {
+    write_bytes("PERFILE2", 8);
+    uint64_t fields[] = {HEADER, attr_size, attrs, attrs_size, records, size, 0, 0, features, 0, 0, 0};
+    for (size_t i = 0; i < sizeof fields / sizeof *fields; i++) write_number(fields[i], 8);
+}
+
+static const uint64_t ONE_TYPE = IP | TID | TIME;
+static const uint64_t EVENT_TYPE = IDENTIFIER | IP | TID | TIME | CPU | PERIOD;
+
+static void write_one(uint64_t wanted) {
+    unsigned char attribute[ATTRIBUTE];
+    put_attribute(attribute, sizeof attribute, ONE_TYPE, SAMPLE_ID_ALL);
+    write_header(ATTRIBUTE, HEADER, ATTRIBUTE, HEADER + ATTRIBUTE, 0, 0);
+    write_bytes(attribute, sizeof attribute);
+    uint64_t size = write_records(put_record, wanted);
     rewind(out);
-    fwrite(head, 1, sizeof head, out);
-    return fclose(out) ? 1 : 0;
+    write_header(ATTRIBUTE, HEADER, ATTRIBUTE, HEADER + ATTRIBUTE, size, 0);
+}
+
+// An EVENT_DESC section: each attribute with its name and its identifiers.
+static void write_descriptions(void) {
+    unsigned char attribute[PERF_ATTRIBUTE];
+    put_attribute(attribute, sizeof attribute, EVENT_TYPE, SAMPLE_ID_ALL);
+    write_number(EVENTS, 4);
+    write_number(PERF_ATTRIBUTE, 4);
+    for (int event = 0; event < EVENTS; event++) {
+        char name[16] = {0};
+        snprintf(name, sizeof name, "event-%d", event);
+        write_bytes(attribute, sizeof attribute);
+        write_number(CPUS, 4);
+        write_number(sizeof name, 4);
+        write_bytes(name, sizeof name);
+        for (int cpu = 0; cpu < CPUS; cpu++) write_number(id_of(event, cpu), 8);
+    }
+}
+
+enum { DESCRIPTIONS = 8 + EVENTS * (PERF_ATTRIBUTE + 4 + 4 + 16 + 8 * CPUS) };
+
+static void write_events(uint64_t wanted) {
+    const uint64_t attr_size = PERF_ATTRIBUTE + 16, attrs = HEADER + EVENTS * CPUS * 8;
+    const uint64_t records = attrs + EVENTS * attr_size;
+    uint64_t size = 0;
+    for (int pass = 0; pass < 2; pass++) {
+        rewind(out);
+        write_header(attr_size, attrs, EVENTS * attr_size, records, size, 1 << EVENT_DESC);
+        if (pass) break;
+        for (int event = 0; event < EVENTS; event++)
+            for (int cpu = 0; cpu < CPUS; cpu++) write_number(id_of(event, cpu), 8);
+        unsigned char attribute[PERF_ATTRIBUTE];
+        put_attribute(attribute, sizeof attribute, EVENT_TYPE, SAMPLE_ID_ALL);
+        for (int event = 0; event < EVENTS; event++) {
+            write_bytes(attribute, sizeof attribute);
+            write_number(HEADER + (uint64_t)event * CPUS * 8, 8);
+            write_number(CPUS * 8, 8);
+        }
+        size = write_records(put_event_record, wanted);
+        write_number(records + size + 16, 8);
+        write_number(DESCRIPTIONS, 8);
+        write_descriptions();
+    }
+}
+
+// ---- streams
+
+static void write_pipe_header(void) {
+    write_bytes("PERFILE2", 8);
+    write_number(16, 8);
+}
+
+// A record that tells an attribute, with its identifiers.
+static void write_attribute(size_t size, uint64_t type, uint64_t flags, const uint64_t *ids, size_t count) {
+    unsigned char record[8 + PERF_ATTRIBUTE];
+    put_head(record, ATTR, 0, 8 + size + 8 * count);
+    put_attribute(record + 8, size, type, flags);
+    write_bytes(record, 8 + size);
+    for (size_t i = 0; i < count; i++) write_number(ids[i], 8);
+}
+
+static void write_pipe(uint64_t wanted) {
+    write_pipe_header();
+    write_attribute(ATTRIBUTE, ONE_TYPE, SAMPLE_ID_ALL, NULL, 0);
+    write_records(put_record, wanted);
+}
+
+// A record that tells an EVENT_DESC.
+static void write_description_record(void) {
+    unsigned char head[8];
+    put_head(head, FEATURE, 0, 16 + DESCRIPTIONS);
+    write_bytes(head, sizeof head);
+    write_number(EVENT_DESC, 8);
+    write_descriptions();
+}
+
+static void write_pipe_events(uint64_t wanted) {
+    write_pipe_header();
+    for (int event = 0; event < EVENTS; event++) {
+        uint64_t ids[CPUS];
+        for (int cpu = 0; cpu < CPUS; cpu++) ids[cpu] = id_of(event, cpu);
+        write_attribute(PERF_ATTRIBUTE, EVENT_TYPE, SAMPLE_ID_ALL, ids, CPUS);
+    }
+    write_description_record();
+    write_records(put_event_record, wanted);
+}
+
+static void write_attributes(uint64_t count, int is_named) {
+    write_pipe_header();
+    for (uint64_t id = 1; id <= count + 1; id++) {
+        unsigned char sample[24];
+        write_attribute(ATTRIBUTE, IDENTIFIER | TIME, 0, &id, 1);
+        if (is_named && id == 1) write_description_record();
+        put_head(sample, SAMPLE, 2, sizeof sample);
+        put(sample + 8, 1 + id / 2, 8);
+        put(sample + 16, 1000 * id, 8);
+        write_bytes(sample, sizeof sample);
+    }
+}
+
+static void write_late(uint64_t count) { write_attributes(count, 0); }
+
+static void write_late_named(uint64_t count) { write_attributes(count, 1); }
+
+// ---- jitdump
+
+static size_t put_jit_head(unsigned char *at, uint64_t kind, size_t size, uint64_t time) {
+    put(at, kind, 4);
+    put(at + 4, size, 4);
+    put(at + 8, time, 8);
+    return size;
+}
+
+// A load of 100 to 20,000 bytes, small ones more often.
+static size_t put_load(unsigned char *at, uint64_t number, uint64_t *state) {
+    size_t most = 100 + 19900 / (1 + next(state) % 10), size = 100 + next(state) % (most - 99);
+    char name[44];
+    size_t named = (size_t)snprintf(name, sizeof name, "LazyCompile:*f%" PRIu64 " app.js:%" PRIu64, number, number % 5000) + 1;
+    put(at + 16, 7, 4);
+    put(at + 20, 7, 4);
+    put(at + 24, 0x10000 + number * 64, 8);
+    put(at + 32, 0x10000 + number * 64, 8);
+    put(at + 40, size - 56 - named, 8);
+    put(at + 48, number, 8);
+    memset(at + 56, (int)(number % 256), size - 56);
+    memcpy(at + 56, name, named);
+    return size;
+}
+
+static size_t put_debug_info(unsigned char *at, uint64_t number, uint64_t *state) {
+    uint64_t count = 1 + next(state) % 40;
+    put(at + 16, 0x10000 + number * 64, 8);
+    put(at + 24, count, 8);
+    size_t size = 32;
+    for (uint64_t i = 0; i < count; i++) {
+        put(at + size, 0x10000 + number * 64 + 4 * i, 8);
+        put(at + size + 8, i, 4);
+        put(at + size + 12, 0, 4);
+        memcpy(at + size + 16, "app.js", 7);
+        size += 16 + 7;
+    }
+    return size;
+}
+
+static size_t put_move(unsigned char *at, uint64_t number) {
+    uint64_t words[] = {0x700000007, 0x10000, 0x10000, 0x20000 + number, 64, number};
+    for (size_t i = 0; i < 6; i++) put(at + 16 + 8 * i, words[i], 8);
+    return 64;
+}
+
+static void write_jit(uint64_t wanted) {
+    unsigned char header[40] = "DTiJ";
+    put(header + 4, 1, 4);
+    put(header + 8, sizeof header, 4);
+    put(header + 12, 62, 4);
+    put(header + 20, 7, 4);
+    write_bytes(header, sizeof header);
+    uint64_t state = 1, size = sizeof header;
+    for (uint64_t number = 0; size < wanted; number++) {
+        static unsigned char record[32768];
+        uint64_t choice = next(&state) % 8, kind = choice < 5 ? 0 : choice < 7 ? 2 : 1;
+        size_t length = kind == 0 ? put_load(record, number, &state) : kind == 2 ? put_debug_info(record, number, &state) : put_move(record, number);
+        put_jit_head(record, kind, length, 1000000000 + 500 * number);
+        write_bytes(record, length);
+        size += length;
+    }
+}
+
+int main(int argc, char **argv) {
+    static const struct { const char *name; void (*write)(uint64_t); } kinds[] = {
+        {"one", write_one}, {"events", write_events}, {"pipe", write_pipe}, {"pipe-events", write_pipe_events}, {"late", write_late}, {"late-named", write_late_named}, {"jit", write_jit},
+    };
+    if (argc != 4) return 1;
+    out = fopen(argv[2], "wb");
+    if (!out) return 1;
+    for (size_t i = 0; i < sizeof kinds / sizeof *kinds; i++) {
+        if (strcmp(argv[1], kinds[i].name)) continue;
+        kinds[i].write(strtoull(argv[3], NULL, 10));
+        return fclose(out) ? 1 : 0;
+    }
+    return 1;
 }

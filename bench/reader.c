@@ -1,87 +1,195 @@
-// A plain reader of perf.data files with one attribute and little-endian numbers: it reads each record's
-// head and body and prints the record's line.
-#include <inttypes.h>
+// A plain reader of perf.data: `reader file PATH` or `reader pipe` for a stream on standard input, both with little-endian
+// numbers. It reads each record's head and body, and prints the record's line. Attributes come from EVENT_DESC or are the one of
+// the attribute section, or come as records in a stream; the identifiers stand in an array in ascending order.
+#include "bytes.h"
 #include <stdio.h>
 #include <stdlib.h>
 #include <string.h>
 
-enum { SAMPLE = 9, FINISHED_ROUND = 68, FIRST_OF_TOOLS = 64, BUFFER = 65536 };
+enum { ATTR = 64, FEATURE = 80, SAMPLE = 9, FINISHED_ROUND = 68, FIRST_OF_TOOLS = 64, BUFFER = 65536, EVENT_DESC = 12 };
 
-static uint64_t get(const unsigned char *at, int count) {
-    uint64_t value = 0;
-    for (int i = count; i-- > 0;) value = value << 8 | at[i];
-    return value;
-}
+typedef struct { uint64_t id, index; } Pair;
+
+static Pair *pairs;
+static size_t count_pairs, room_pairs;
+static uint64_t count_attributes;
+// where the words of a record stand, in bytes, or -1
+static long time_in_sample, id_in_sample, time_from_end, id_from_end;
 
 static int is_set(uint64_t bits, int bit) { return bits >> bit & 1; }
 
-// Writes a number and a byte behind it.
-static char *put_number(char *at, uint64_t number, char behind) {
-    char digits[20];
-    int count = 0;
-    do {
-        digits[count++] = (char)('0' + number % 10);
-        number /= 10;
-    } while (number);
-    while (count > 0) *at++ = digits[--count];
-    *at++ = behind;
-    return at;
+static void fail(void) {
+    fflush(stdout);
+    exit(2);
 }
 
-// The place of the time from the front of a sample, or -1.
-static long place_in_sample(uint64_t type) {
-    if (!is_set(type, 2)) return -1;
-    return 8 * (is_set(type, 16) + is_set(type, 0) + is_set(type, 1));
+static void read_exactly(FILE *in, void *place, size_t count) {
+    if (fread(place, 1, count, in) != count) fail();
 }
 
-// The place of the time from the end of another record of the kernel, or -1.
-static long place_from_end(uint64_t type, uint64_t flags) {
-    if (!is_set(type, 2) || !is_set(flags, 18)) return -1;
-    return 8 * (1 + is_set(type, 6) + is_set(type, 9) + is_set(type, 7) + is_set(type, 16));
+static void go_to(FILE *in, uint64_t place) {
+    if (fseek(in, (long)place, SEEK_SET)) fail();
+}
+
+static void take_places(uint64_t type, uint64_t flags) {
+    int of_identifier = is_set(type, 16), of_id = is_set(type, 6), of_time = is_set(type, 2), is_all = is_set(flags, 18);
+    int front = of_identifier + is_set(type, 0) + is_set(type, 1), back = is_set(type, 9) + is_set(type, 7) + of_identifier;
+    time_in_sample = of_time ? 8 * front : -1;
+    time_from_end = of_time && is_all ? 8 * (1 + of_id + back) : -1;
+    id_in_sample = of_identifier ? 0 : of_id ? 8 * (front + of_time + is_set(type, 3)) : -1;
+    id_from_end = !is_all ? -1 : of_identifier ? 8 : of_id ? 8 * (1 + back) : -1;
+}
+
+// How many pairs have a smaller identifier.
+static size_t rank_of(uint64_t id) {
+    size_t from = 0, to = count_pairs;
+    while (from < to) {
+        size_t middle = from + (to - from) / 2;
+        if (pairs[middle].id < id) from = middle + 1;
+        else to = middle;
+    }
+    return from;
+}
+
+static uint64_t index_of(uint64_t id) {
+    size_t rank = rank_of(id);
+    return rank < count_pairs && pairs[rank].id == id ? pairs[rank].index : 0;
+}
+
+static void put_id(uint64_t id, uint64_t index) {
+    size_t rank = rank_of(id);
+    if (rank == count_pairs || pairs[rank].id != id) {
+        if (count_pairs == room_pairs) {
+            room_pairs = room_pairs ? 2 * room_pairs : 64;
+            pairs = realloc(pairs, room_pairs * sizeof *pairs);
+            if (!pairs) fail();
+        }
+        memmove(pairs + rank + 1, pairs + rank, (count_pairs - rank) * sizeof *pairs);
+        count_pairs++;
+    }
+    pairs[rank] = (Pair){id, index};
+}
+
+static void take_attribute(const unsigned char *attribute) {
+    if (count_attributes++ == 0) take_places(get(attribute + 24, 8), get(attribute + 40, 8));
+}
+
+static uint64_t read_number(FILE *in, int count) {
+    unsigned char bytes[8];
+    read_exactly(in, bytes, (size_t)count);
+    return get(bytes, count);
+}
+
+static void read_descriptions(FILE *in) {
+    uint64_t events = read_number(in, 4), size = read_number(in, 4);
+    for (uint64_t event = 0; event < events; event++) {
+        unsigned char attribute[4096];
+        if (size < 64 || size > sizeof attribute) fail();
+        read_exactly(in, attribute, size);
+        uint64_t ids = read_number(in, 4), name = read_number(in, 4);
+        if (fseek(in, (long)name, SEEK_CUR)) fail();
+        take_attribute(attribute);
+        for (uint64_t i = 0; i < ids; i++) put_id(read_number(in, 8), event);
+    }
+}
+
+// Reads what stands before the records, and says how many bytes of records there are.
+static uint64_t open_file(FILE *in) {
+    unsigned char header[104], attribute[64];
+    read_exactly(in, header, sizeof header);
+    if (memcmp(header, "PERFILE2", 8)) fail();
+    uint64_t records = get(header + 40, 8), size = get(header + 48, 8), features = get(header + 72, 8);
+    if (is_set(features, EVENT_DESC)) {
+        uint64_t before = features & ((1 << EVENT_DESC) - 1), entry = 0;
+        for (; before; before &= before - 1) entry++;
+        go_to(in, records + size + 16 * entry);
+        go_to(in, read_number(in, 8));
+        read_descriptions(in);
+    } else {
+        go_to(in, get(header + 24, 8));
+        read_exactly(in, attribute, sizeof attribute);
+        take_attribute(attribute);
+    }
+    go_to(in, records);
+    return size;
+}
+
+// An attribute that came as a record.
+static void take_record(const unsigned char *body, size_t length) {
+    if (length < 64) fail();
+    uint64_t size = get(body + 4, 4);
+    if (size < 64 || size > length) fail();
+    uint64_t index = count_attributes;
+    take_attribute(body);
+    for (size_t at = size; at + 8 <= length; at += 8) put_id(get(body + at, 8), index);
+}
+
+// Takes the records that a stream begins with, and leaves the head of the first other one.
+static int open_pipe(FILE *in, unsigned char *head, unsigned char *body) {
+    read_exactly(in, head, 8);
+    if (memcmp(head, "PERFILE2", 8)) fail();
+    read_exactly(in, head, 8);
+    while (fread(head, 1, 8, in) == 8) {
+        uint64_t kind = get(head, 4), length = get(head + 6, 2);
+        if (length < 8) fail();
+        if (kind != ATTR && kind != FEATURE) return 1;
+        read_exactly(in, body, length - 8);
+        if (kind == ATTR) take_record(body, length - 8);
+    }
+    return 0;
+}
+
+static void print_line(uint64_t offset, uint64_t round, const unsigned char *head, const unsigned char *body) {
+    uint64_t kind = get(head, 4), misc = get(head + 4, 2), length = get(head + 6, 2) - 8;
+    long time = -1, id = -1;
+    if (kind == SAMPLE) {
+        time = time_in_sample;
+        id = id_in_sample;
+    } else if (kind < FIRST_OF_TOOLS) {
+        if (time_from_end >= 0) time = (long)length - time_from_end;
+        if (id_from_end >= 0) id = (long)length - id_from_end;
+    }
+    char line[160], *end = put_number(put_number(line, offset, ' '), round, ' ');
+    if (time >= 0 && time + 8 <= (long)length) end = put_number(end, get(body + time, 8), ' ');
+    else *end++ = '-', *end++ = ' ';
+    if (kind >= FIRST_OF_TOOLS) *end++ = '-', *end++ = ' ';
+    else end = put_number(end, id >= 0 && id + 8 <= (long)length ? index_of(get(body + id, 8)) : 0, ' ');
+    end = put_number(put_number(put_number(end, kind, ' '), misc, ' '), length, '\n');
+    if (fwrite(line, 1, (size_t)(end - line), stdout) != (size_t)(end - line)) fail();
 }
 
 int main(int argc, char **argv) {
-    if (argc != 2) return 1;
-    FILE *in = fopen(argv[1], "rb");
+    int is_pipe = argc == 2 && !strcmp(argv[1], "pipe");
+    if (!is_pipe && (argc != 3 || strcmp(argv[1], "file"))) return 1;
+    FILE *in = is_pipe ? stdin : fopen(argv[2], "rb");
     if (!in) return 2;
     static char in_buffer[BUFFER], out_buffer[BUFFER];
+    static unsigned char head[8], body[65536];
     setvbuf(in, in_buffer, _IOFBF, BUFFER);
     setvbuf(stdout, out_buffer, _IOFBF, BUFFER);
-    unsigned char header[104], attribute[64], body[65536];
-    if (fread(header, 1, 104, in) != 104 || memcmp(header, "PERFILE2", 8)) return 2;
-    if (fseek(in, (long)get(header + 24, 8), SEEK_SET) || fread(attribute, 1, 64, in) != 64) return 2;
-    uint64_t size = get(header + 48, 8);
-    uint64_t type = get(attribute + 24, 8), flags = get(attribute + 40, 8);
-    long in_sample = place_in_sample(type), from_end = place_from_end(type, flags);
-    if (fseek(in, (long)get(header + 40, 8), SEEK_SET)) return 2;
-    uint64_t offset = 0, round = 0;
+    uint64_t size = UINT64_MAX, offset = 0, round = 0;
+    int is_held = 0;
+    if (!is_pipe) size = open_file(in);
+    else if (!(is_held = open_pipe(in, head, body))) return 0;
     while (offset < size) {
-        unsigned char head[8];
-        if (fread(head, 1, 8, in) != 8) return 2;
-        uint64_t kind = get(head, 4), misc = get(head + 4, 2), length = get(head + 6, 2);
-        if (length < 8) return 2;
-        length -= 8;
-        if (fread(body, 1, length, in) != length) return 2;
-        uint64_t at = offset;
-        offset += 8 + length;
+        if (!is_held && fread(head, 1, 8, in) != 8) {
+            if (is_pipe) break;
+            fail();
+        }
+        is_held = 0;
+        uint64_t kind = get(head, 4), length = get(head + 6, 2);
+        if (length < 8) fail();
+        if (fread(body, 1, length - 8, in) != length - 8) {
+            if (is_pipe) break;
+            fail();
+        }
         if (kind == FINISHED_ROUND) {
             round++;
-            continue;
+        } else {
+            if (is_pipe && kind == ATTR) take_record(body, length - 8);
+            print_line(offset, round, head, body);
         }
-        long place = -1;
-        if (kind == SAMPLE) place = in_sample;
-        else if (kind < FIRST_OF_TOOLS && from_end >= 0) place = (long)length - from_end;
-        char line[128], *end = line;
-        end = put_number(end, at, ' ');
-        end = put_number(end, round, ' ');
-        if (place >= 0 && place + 8 <= (long)length) end = put_number(end, get(body + place, 8), ' ');
-        else *end++ = '-', *end++ = ' ';
-        *end++ = kind < FIRST_OF_TOOLS ? '0' : '-';
-        *end++ = ' ';
-        end = put_number(end, kind, ' ');
-        end = put_number(end, misc, ' ');
-        end = put_number(end, length, '\n');
-        if (fwrite(line, 1, (size_t)(end - line), stdout) != (size_t)(end - line)) return 2;
+        offset += length;
     }
     return fflush(stdout) ? 2 : 0;
 }

@@ -1,6 +1,5 @@
 -- How what belongs to a head comes with its auxiliary data.
 use Rattle.std.proofs.Common.{◌≡◌, ℕ, ◌+◌, ◌-◌, ◌≤◌, ◌++◌, List, [], length, sym, ap, ◌∙◌, subst, arith, inl, inr, length-append}
-use Rattle.std.specs.Prelude.{Result, Ok, Err}
 use Rattle.perfdata_base.specs.Source.{State, Gave}
 use Rattle.perfdata_base.proofs.Gives.{gave_more, failed_later, gave_none_later}
 use Rattle.perfdata_base.specs.Numbers.{number_in}
@@ -9,7 +8,7 @@ use Rattle.perfdata_base.specs.declared.raw.Endianness.{Endianness}
 use Rattle.perfdata_base.specs.declared.event.PerfEventHeader.{PerfEventHeader}
 use Rattle.perfdata_parts.specs.declared.error.Error.{Error}
 use Rattle.linux_perf_data.specs.Layout.{IsCompressed}
-use Rattle.linux_perf_data.specs.Piece.{TookBytes, Kept, TookTrace, TraceRefused, ReadsTrace, TookContent, WhyNoContent, CameContent, ReadsContent}
+use Rattle.linux_perf_data.specs.Piece.{TookBytes, Kept, TookTrace, TraceRefused, TookContent, WhyNoContent, CameContent}
 
 -- an empty buffer holds what came
 kept_alone : (a b : State) (held body : List ℕ) (count : ℕ) → held ≡ [] → Kept a held count body b → TookBytes a count body b
@@ -53,7 +52,7 @@ traced_refused order a b c head body now end e least kind took (inr (inl (is, en
       bound = omega (arith, ap length holds);
       why = inr (inr (inr (inr (inl (is, long, kind, omega (arith, long, enough), far)))));
     }
-traced_refused order a b c head body now end e least kind took (inr (inr (enough, fits, (part, why)))) =
+traced_refused order a b c head body now end e least kind took (inr (inr (enough, fits, part, why))) =
     let long = took.long in
     let came = body ++ part.part in
     let came_long : length came ≡ length body + length part.part = length-append body part.part in
@@ -82,7 +81,11 @@ traced_refused order a b c head body now end e least kind took (inr (inr (enough
     }
 
 -- the body of a record with auxiliary data, and then that
-pub content_traced : (order : Endianness) (a b c : State) (head : PerfEventHeader) (held body now : List ℕ) (end : ℕ) (r : Result ℕ Error) → held ≡ [] → 8 ≤ head.size → ¬ IsCompressed head.type_ → head.type_ ≡ 71
-    → Kept a held (head.size - 8) body b → ReadsTrace order b body end r now c → ReadsContent order a head end r now c
-content_traced order a b c head held body now end (Ok whole) empty least plain kind kept t = traced_whole order a b c head body now end whole least plain kind (kept_alone a b held body (head.size - 8) empty kept) t
-content_traced order a b c head held body now end (Err e) empty least plain kind kept t = traced_refused order a b c head body now end e least kind (kept_alone a b held body (head.size - 8) empty kept) t
+pub content_traced : (order : Endianness) (a b c : State) (head : PerfEventHeader) (held body now : List ℕ) (end whole : ℕ) → held ≡ [] → 8 ≤ head.size → ¬ IsCompressed head.type_ → head.type_ ≡ 71
+    → Kept a held (head.size - 8) body b → TookTrace order b body end whole now c → TookContent order a head end whole now c
+content_traced order a b c head held body now end whole empty least plain kind kept t = traced_whole order a b c head body now end whole least plain kind (kept_alone a b held body (head.size - 8) empty kept) t
+
+-- the body came, and its auxiliary data is refused
+pub content_untraced : (order : Endianness) (a b c : State) (head : PerfEventHeader) (held body now : List ℕ) (end : ℕ) (e : Error) → held ≡ [] → 8 ≤ head.size → head.type_ ≡ 71
+    → Kept a held (head.size - 8) body b → TraceRefused order b body end e now c → CameContent a e now c (WhyNoContent order a head end e c)
+content_untraced order a b c head held body now end e empty least kind kept t = traced_refused order a b c head body now end e least kind (kept_alone a b held body (head.size - 8) empty kept) t

@@ -1,37 +1,29 @@
 -- How what a header says and what its section holds come to an opening, or to the reason why there is none.
-use Rattle.std.proofs.Common.{◌≡◌, ◌≢◌, ℕ, zero, suc, ◌+◌, ◌*◌, ◌/◌, ◌^◌, ◌<◌, ◌≤◌, ◌++◌, List, length, take, drop, refl, sym, ap, ◌∙◌, subst, arith, inl, inr, length-append, Option, None, Some}
+use Rattle.std.proofs.Common.{◌≡◌, ◌≢◌, ℕ, ◌+◌, ◌^◌, ◌<◌, ◌≤◌, ◌++◌, List, [], ◌∷◌, length, take, drop, refl, sym, ap, ◌∙◌, subst, arith, inl, inr, length-append, Option, None, Some}
 use Rattle.std.specs.Prelude.{◌⊎◌, Result, Ok, Err, IfSome, Vec}
 use Rattle.std.specs.declared.io.Error.{Error as IoErrorValue}
 use Rattle.std.specs.declared.alloc.Global.{Global}
 use Rattle.std.proofs.Math.Seq.{take-append_seam}
-use Rattle.std.proofs.lemmas.Bool.{cases_order}
 use Rattle.perfdata_base.specs.Source.{State, Place, IsPlaced, Stood, Failed, CutShort, put_at, all_of, behind, prepend}
 use Rattle.perfdata_base.proofs.Cut.{stood_more, failed_after_stood, paused_after_stood, none_or_paused, all_came}
-use Rattle.perfdata_base.specs.Numbers.{number_in}
 use Rattle.perfdata_base.specs.Header.{header_of, Begins, TookHeader, NotPassed, RefusedHeader}
 use Rattle.perfdata_base.specs.declared.raw.Endianness.{Endianness}
 use Rattle.perfdata_base.specs.declared.header.PerfHeader.{PerfHeader}
-use Rattle.perfdata_parts.specs.Attributes.{ReadsAttrSection, DescribesByAttrSection, IsDescribed, IsNoFrame, IsUnread, IsNoSection}
-use Rattle.perfdata_parts.specs.Run.{Run, StopsRun}
+use Rattle.linux_perf_data.specs.Attribute.{Breach, Breaks, Rule}
+use Rattle.linux_perf_data.specs.Described.{attributes_by}
+use Rattle.linux_perf_data.specs.Rules.{error_of_breach}
+use Rattle.linux_perf_data.specs.AttributeSources.{Told, told_by, DescribesFrom, StopsFrom, ReadsAttributes}
+use Rattle.linux_perf_data.proofs.Attributes.{if_more, if_both}
 use Rattle.perfdata_parts.specs.declared.feature_sections.AttributeDescription.{AttributeDescription}
 use Rattle.perfdata_parts.specs.declared.error.Error.{Error}
 use Rattle.perfdata_parts.specs.declared.error.Error.TheVariants.{IoError, NoAttributes, UnrecognizedMagicValue}
 use Rattle.indexmap.specs.IndexMap.{IndexMap}
 use Rattle.perfdata_base.specs.Features.{features_of}
 use Rattle.perfdata_base.specs.declared.features.Feature.{Feature}
-use Rattle.perfdata_parts.specs.Error.{IsShort, IsUnsupported, IsIo}
+use Rattle.perfdata_parts.specs.Error.{IsShort, IsIo}
 use Rattle.linux_perf_data.specs.Sections.{ReadsSections, LacksSections, SourceOwesBytes, data_in}
 use Rattle.linux_perf_data.specs.declared.opening.Opening.{Opening}
-use Rattle.linux_perf_data.specs.Open.{EndsNear, Several, TellsElsewhere, table_place, HoldsSections, section_data, StopsAttrSection, IsPlain, RefusedBehind, StopsBehind, SourceOwesOpening, HasHeader, StopsFile, RefusedFile, ReadFile, OpenedAt, ReadBehind, ReadsBehind, ReadsFile, magic_of}
-
--- what holds of each value holds of that which is there
-if_each : {T : Type 0} (o : Option T) (P : T → Type 0) → ((x : T) → P x) → IfSome o P
-if_each None P each = tt
-if_each (Some x) P each = each x
-
-if_more : {T : Type 0} (o : Option T) (P Q : T → Type 0) → ((x : T) → P x → Q x) → IfSome o P → IfSome o Q
-if_more None P Q more is = tt
-if_more (Some x) P Q more is = more x is
+use Rattle.linux_perf_data.specs.Open.{EndsNear, table_place, HoldsSections, section_data, told_of, DescribesAttributes, StopsAtAttributes, RefusedBehind, StopsBehind, SourceOwesOpening, HasHeader, StopsFile, RefusedFile, ReadFile, OpenedAt, ReadBehind, ReadsBehind, ReadsFile, magic_of}
 
 -- what all bytes show, where they stay the same
 shown_before : (a b : State) (P : List ℕ → Type 0) → Stood a b → IfSome (all_of b.place) P → IfSome (all_of a.place) P
@@ -42,14 +34,6 @@ later_owes a b c e stood (inl (is, failed)) = inl (is, failed_after_stood a b c 
 later_owes a b c e stood (inr (inl (is, paused))) = inr (inl (is, paused_after_stood a b c stood paused))
 later_owes a b c e stood (inr (inr (is, inl failed))) = inr (inr (is, inl (failed_after_stood a b c stood failed)))
 later_owes a b c e stood (inr (inr (is, inr paused))) = inr (inr (is, inr (paused_after_stood a b c stood paused)))
-
-if_both : {T : Type 0} (o : Option T) (P Q S : T → Type 0) → ((x : T) → P x → Q x → S x) → IfSome o P → IfSome o Q → IfSome o S
-if_both None P Q S both p q = tt
-if_both (Some x) P Q S both p q = both x p q
-
--- both hold of all bytes
-if_pair : {T : Type 0} (o : Option T) (P Q : T → Type 0) → IfSome o P → IfSome o Q → IfSome o (λ x. P x × Q x)
-if_pair o P Q p q = if_both o P Q (λ x. P x × Q x) (λ x p q. (p, q)) p q
 
 bytes_owe : (a b : State) (e : Error) → SourceOwesBytes a e b → SourceOwesOpening a e b
 bytes_owe a b e (inl io) = inl io
@@ -66,73 +50,63 @@ sections_refused order h a b S e near refused = record {
   ];
 }
 
--- what was read before attributes are looked for
-pub record HasRead (order : Endianness) (h : PerfHeader) (a b : State) : Type 0 where
+-- what was read before attributes are looked for: the sections, and among them EVENT_DESC
+pub told_both : (d d' i i' : Option (List ℕ)) → d ≡ d' → i ≡ i' → told_by d i ≡ told_by d' i'
+told_both d d' i i' x y = ap (λ o. told_by o i) x ∙ ap (told_by d') y
+
+pub record HasRead (order : Endianness) (h : PerfHeader) (a b : State) (told : Told) : Type 0 where
   pub stood : Stood a b
-  pub holds : IfSome (all_of a.place) (HoldsSections order h)
+  pub holds : IfSome (all_of a.place) (λ all. HoldsSections order h all × (told ≡ told_of order h all))
 
-pub has_read : {S : Type 0} (order : Endianness) (h : PerfHeader) (a b : State) (m : IndexMap Feature (Vec ℕ Global) S)
-    → ReadsSections order (table_place h) (features_of h.features) a (Ok m) b → HasRead order h a b
-has_read order h a b m read = record {
+pub has_read : {S : Type 0} (order : Endianness) (h : PerfHeader) (a b : State) (m : IndexMap Feature (Vec ℕ Global) S) (told : Told) → told ≡ told_by (data_in m 12) (data_in m 129)
+    → ReadsSections order (table_place h) (features_of h.features) a (Ok m) b → HasRead order h a b told
+has_read order h a b m told is read = record {
   stood = read.0;
-  holds = if_more (all_of a.place) (λ all. HoldsSections order h all × ((n : ℕ) → data_in m n ≡ section_data order h all n)) (HoldsSections order h) (λ all both. both.0) read.1;
+  holds = if_more (all_of a.place) (λ all. HoldsSections order h all × ((n : ℕ) → data_in m n ≡ section_data order h all n)) (λ all. HoldsSections order h all × (told ≡ told_of order h all)) (λ all both. (both.0, is ∙ ap (λ d. told_by d (data_in m 129)) (both.1 12) ∙ ap (told_by (section_data order h all 12)) (both.1 129))) read.1;
 }
 
--- attributes are told elsewhere, or there is room for several
-pub elsewhere_refused : (order : Endianness) (h : PerfHeader) (a b : State) (e : Error) → EndsNear h → HasRead order h a b → IsUnsupported e → ((¬ TellsElsewhere h) → Several h.attr_section h.attr_size)
-    → RefusedBehind order h a e b
-elsewhere_refused order h a b e near read is why = record {
-  stood = read.stood;
-  why = λ _. inl (if_more (all_of a.place) (HoldsSections order h) (λ all. StopsBehind order h all e) (λ all holds. inr (inr (inl (is, near, holds, why)))) read.holds);
+-- what stops behind the sections stops behind the header
+at_attributes : (order : Endianness) (h : PerfHeader) (a b : State) (told : Told) (e : Error) (P : Told → List ℕ → Type 0) → EndsNear h → HasRead order h a b told → ((all : List ℕ) → P (told_of order h all) all → StopsAtAttributes order h all e)
+    → IfSome (all_of b.place) (P told) → IfSome (all_of a.place) (λ all. StopsBehind order h all e)
+at_attributes order h a b told e P near read stops shown =
+    if_both (all_of a.place) (λ all. HoldsSections order h all × (told ≡ told_of order h all)) (P told) (λ all. StopsBehind order h all e)
+    (λ all has here. inr (inr (near, has.0, stops all (subst (λ d. P d all) has.1 here)))) read.holds (shown_before a b (P told) read.stood shown)
+
+-- the attributes weren't read
+pub attributes_refused : (order : Endianness) (h : PerfHeader) (a b c : State) (told : Told) (e : Error) → EndsNear h → HasRead order h a b told → ReadsAttributes order h told b (Err e) c → RefusedBehind order h a e c
+attributes_refused order h a b c told e near read (stood, why) = record {
+  stood = stood_more a b c read.stood stood;
+  why = λ m. elim (why m) [
+    | inl shown ↦ inl (at_attributes order h a b told e (λ d all. StopsFrom order h d all e) near read (λ all stops. inl stops) shown)
+    | inr owes ↦ inr (later_owes a b c e read.stood owes)
+  ];
 }
 
--- the section's frames stop, as all bytes show, or the source owes the error
-stops_behind : (order : Endianness) (h : PerfHeader) (a b c : State) (e : Error) → IsPlain h → ¬ IsNoSection (number_in order) h.attr_size h.attr_section → HasRead order h a b
-    → StopsRun (IsDescribed (number_in order) h.attr_size) (IsNoFrame (number_in order) h.attr_size) (IsUnread (number_in order) h.attr_size) h.attr_size b h.attr_section.offset h.attr_section.size e c
-    → IfSome (all_of a.place) (λ all. StopsBehind order h all e) ⊎ SourceOwesOpening a e c
-stops_behind order h a b c e plain can read stops = elim stops.next [
-  | inl there ↦ elim there.why [
-    | inl shown ↦ inl (if_both (all_of a.place) (HoldsSections order h) (λ all. StopsAttrSection order h.attr_size h.attr_section e all) (λ all. StopsBehind order h all e)
-        (λ all holds here. inr (inr (inr (inr (inl (plain, holds, can, here))))))
-        read.holds
-        (shown_before a b (StopsAttrSection order h.attr_size h.attr_section e) read.stood
-        (if_both (all_of b.place) (λ all. Run (IsDescribed (number_in order) h.attr_size) h.attr_size all h.attr_section.offset stops.before) (λ all. IsNoFrame (number_in order) h.attr_size e (drop (h.attr_section.offset + length stops.before * h.attr_size) all)) (StopsAttrSection order h.attr_size h.attr_section e)
-        (λ all each here. record { before = stops.before; few = stops.few; each = each; here = here })
-        stops.are shown.1)))
-    | inr source ↦ inr (later_owes a b c e read.stood (inr (inr (source.0.0, source.1))))
-  ]
-  | inr seek ↦ inr (later_owes a b c e read.stood (inl seek))
-]
+items_none : {X : Type 0} (xs : List X) → length xs ≡ 0 → xs ≡ []
+items_none [] none = refl
+items_none (x ∷ xs) none = absurd (omega (arith, none))
 
--- the attributes of a plain file's section weren't read
-pub attributes_refused : (order : Endianness) (h : PerfHeader) (a b c : State) (e : Error) → IsPlain h → HasRead order h a b
-    → ReadsAttrSection (number_in order) h.attr_size h.attr_section b (Err e) c → RefusedBehind order h a e c
-attributes_refused order h a b c e plain read (inl (cannot, is, same)) = record {
-  stood = subst (Stood a) (sym same) read.stood;
-  why = λ _. inl (if_more (all_of a.place) (HoldsSections order h) (λ all. StopsBehind order h all e) (λ all holds. inr (inr (inr (inl (is, plain, holds, cannot))))) read.holds);
-}
-attributes_refused order h a b c e plain read (inr (can, refused)) = record {
-  stood = stood_more a b c read.stood refused.0;
-  why = λ m. stops_behind order h a b c e plain can read (refused.1 m);
+-- there are none
+pub attributes_none : (order : Endianness) (h : PerfHeader) (a b c : State) (told : Told) (v : Vec AttributeDescription Global) → EndsNear h → HasRead order h a b told → ReadsAttributes order h told b (Ok v) c → length v.items ≡ 0
+    → RefusedBehind order h a NoAttributes c
+attributes_none order h a b c told v near read (stood, is) none = record {
+  stood = stood_more a b c read.stood stood;
+  why = λ _. inl (at_attributes order h a b told NoAttributes (λ d all. DescribesFrom order h d all v.items) near read
+      (λ all described. inr (inl (refl, subst (DescribesFrom order h (told_of order h all) all) (items_none v.items none) described))) is);
 }
 
--- it holds none
-pub attributes_none : (order : Endianness) (h : PerfHeader) (a b c : State) (v : Vec AttributeDescription Global) → IsPlain h → HasRead order h a b
-    → ReadsAttrSection (number_in order) h.attr_size h.attr_section b (Ok v) c → length v.items ≡ 0 → RefusedBehind order h a NoAttributes c
-attributes_none order h a b c v plain read (can, took) none = record {
-  stood = stood_more a b c read.stood took.stood;
-  why = λ _. inl (if_more (all_of a.place) (HoldsSections order h) (λ all. StopsBehind order h all NoAttributes) (λ all holds. inr (inr (inr (inr (inr (refl, plain, holds, can, sym took.count ∙ none)))))) read.holds);
+-- they break their rule
+pub attributes_unruly : (order : Endianness) (h : PerfHeader) (a b c : State) (told : Told) (v : Vec AttributeDescription Global) (e : Error) → EndsNear h → HasRead order h a b told → ReadsAttributes order h told b (Ok v) c
+    → (breach : Breach) × Breaks (attributes_by v.items) breach × (e ≡ error_of_breach breach) → RefusedBehind order h a e c
+attributes_unruly order h a b c told v e near read (stood, is) (breach, breaks, tells) = record {
+  stood = stood_more a b c read.stood stood;
+  why = λ _. inl (at_attributes order h a b told e (λ d all. DescribesFrom order h d all v.items) near read
+      (λ all described. inr (inr (record { ds = v.items; described = described; breach = breach; breaks = breaks; is = tells }))) is);
 }
 
-some_size : (n : ℕ) → n ≢ 0 → 0 < n
-some_size zero none = absurd (none refl)
-some_size (suc n) none = omega arith
-
-below_or : (n : ℕ) → ¬ (2 ^ 64 ≤ n) → n < 2 ^ 64
-below_or n far = elim (cases_order n (2 ^ 64)) [ inl e ↦ absurd (far (omega arith)) | inr h ↦ elim h [ inl low ↦ low | inr high ↦ absurd (far (omega arith)) ] ]
-
-less_or : (n : ℕ) → ¬ (2 ≤ n) → n < 2
-less_or n two = elim (cases_order n 2) [ inl e ↦ absurd (two (omega arith)) | inr h ↦ elim h [ inl low ↦ low | inr high ↦ absurd (two (omega arith)) ] ]
+some_length : {X : Type 0} (xs : List X) → length xs ≢ 0 → 0 < length xs
+some_length [] none = absurd (none refl)
+some_length (x ∷ xs) some = omega arith
 
 -- a place that is sought is the same among the same bytes
 put_same : (n : ℕ) (o o' : Option Place) → all_of o' ≡ all_of o → put_at n o' ≡ put_at n o
@@ -142,39 +116,31 @@ put_same n (Some p) None same = cc
 put_same n (Some p) (Some q) same = let all : q.all ≡ p.all = cc in ap (λ l. Some (record { all = l; at = n })) all
 
 -- the source couldn't go to the records
-pub records_refused : (order : Endianness) (h : PerfHeader) (a b c d : State) (v : Vec AttributeDescription Global) (e : Error) → HasRead order h a b
-    → ReadsAttrSection (number_in order) h.attr_size h.attr_section b (Ok v) c → Stood c d × IsIo e × Failed c d → RefusedBehind order h a e d
-records_refused order h a b c d v e read (can, took) (stood, io, failed) =
-    let stood_c = stood_more a b c read.stood took.stood in record {
+pub records_refused : (order : Endianness) (h : PerfHeader) (a b c d : State) (told : Told) (v : Vec AttributeDescription Global) (e : Error) → HasRead order h a b told → ReadsAttributes order h told b (Ok v) c → Stood c d × IsIo e × Failed c d
+    → RefusedBehind order h a e d
+records_refused order h a b c d told v e read (stood_b, described) (stood, io, failed) =
+    let stood_c = stood_more a b c read.stood stood_b in record {
       stood = stood_more a c d stood_c stood;
       why = λ _. inr (inl (io, failed_after_stood a c d stood_c failed));
     }
 
--- one attribute, as there isn't room for several, and some
-one_of_few : (h : PerfHeader) (n : ℕ) → (¬ Several h.attr_section h.attr_size) → ¬ ((h.attr_size ≡ 0) ⊎ (2 ^ 64 ≤ h.attr_section.offset + h.attr_section.size)) → n ≡ h.attr_section.size / h.attr_size → n ≢ 0 → n ≡ 1
-one_of_few h n few can count some =
-    let sized : 0 < h.attr_size = some_size h.attr_size (λ none. can (inl none)) in
-    let fits : h.attr_section.offset + h.attr_section.size < 2 ^ 64 = below_or (h.attr_section.offset + h.attr_section.size) (λ far. can (inr far)) in
-    let less : n < 2 = less_or n (λ two. few (record { some = sized; fits = fits; two = omega (arith, count) })) in
-    let least : 0 < n = some_size n some in
-    omega arith
-
 -- the opening holds what the header and its sections say
-pub behind_read : (order : Endianness) (h : PerfHeader) (a b c d : State) (opening : Opening) → IsPlain h → opening.endian ≡ order → opening.features ≡ h.features → opening.size ≡ h.data_section.size
-    → ReadsSections order (table_place h) (features_of h.features) a (Ok opening.sections) b
-    → ReadsAttrSection (number_in order) h.attr_size h.attr_section b (Ok opening.attributes) c → length opening.attributes.items ≢ 0 → Stood c d × (d.place ≡ put_at h.data_section.offset c.place)
-    → ReadBehind order h a opening d
-behind_read order h a b c d opening plain endian features size sections (can, took) some (stood, place) =
-    let stood_c = stood_more a b c sections.0 took.stood in record {
+pub behind_read : (order : Endianness) (h : PerfHeader) (a b c d : State) (told : Told) (opening : Opening) → EndsNear h → opening.endian ≡ order → opening.features ≡ h.features → opening.size ≡ h.data_section.size
+    → HasRead order h a b told → ReadsSections order (table_place h) (features_of h.features) a (Ok opening.sections) b → ReadsAttributes order h told b (Ok opening.attributes) c → length opening.attributes.items ≢ 0
+    → Rule (attributes_by opening.attributes.items) → Stood c d × (d.place ≡ put_at h.data_section.offset c.place) → ReadBehind order h a opening d
+behind_read order h a b c d told opening near endian features size read sections (stood_b, described) some rule (stood, place) =
+    let stood_c = stood_more a b c sections.0 stood_b in record {
       endian = endian;
-      plain = plain;
+      near = near;
       features = features;
       size = size;
-      one = one_of_few h (length opening.attributes.items) plain.one can took.count some;
+      some = some_length opening.attributes.items some;
+      rule = rule;
       stood = stood_more a c d stood_c stood;
       place = place ∙ put_same h.data_section.offset a.place c.place stood_c.all;
       sections = sections.1;
-      attributes = shown_before a b (λ all. DescribesByAttrSection (number_in order) h.attr_size h.attr_section all opening.attributes.items) sections.0 took.is;
+      attributes = if_both (all_of a.place) (λ all. HoldsSections order h all × (told ≡ told_of order h all)) (λ all. DescribesFrom order h told all opening.attributes.items) (λ all. DescribesAttributes order h all opening.attributes.items)
+          (λ all has is. subst (λ o. DescribesFrom order h o all opening.attributes.items) has.1 is) read.holds (shown_before a b (λ all. DescribesFrom order h told all opening.attributes.items) sections.0 described);
     }
 
 -- what the first 104 bytes from a place on are, where these come first there
@@ -245,7 +211,8 @@ place_put n (Some q) p is = let same : q.all ≡ p.all = cc in ap (λ l. Some (r
 -- what stands behind a header is what the file says
 pub behind_header : (a b c : State) (order : Endianness) (h : PerfHeader) (opening : Opening) → IsPlaced a → TookHeader a h b → h.magic ≡ magic_of order → ReadBehind order h b opening c → ReadFile a opening c
 behind_header a b c order h opening placed took magic read = record {
-  one = read.one;
+  some = read.some;
+  rule = read.rule;
   stood = stood_more a b c took.stood read.stood;
   opened = place_shows a (λ p. OpenedAt p opening c) (λ p is.
       let there = all_there a b p took.stood is in
@@ -254,13 +221,13 @@ behind_header a b c order h opening placed took magic read = record {
       record {
         header = h;
         is = record { has = has_header a p h placed is took.begins; magic = magic ∙ ap magic_of (sym read.endian) };
-        plain = read.plain;
+        near = read.near;
         features = read.features;
         size = read.size;
         holds = subst (λ o. HoldsSections o h p.all) (sym read.endian) (shown_at.0);
         sections = subst (λ o. (n : ℕ) → data_in opening.sections n ≡ section_data o h p.all n) (sym read.endian) shown_at.1;
-        attributes = subst (λ o. IfSome o (λ all. DescribesByAttrSection (number_in opening.endian) h.attr_size h.attr_section all opening.attributes.items)) there
-            (subst (λ o. IfSome (all_of b.place) (λ all. DescribesByAttrSection (number_in o) h.attr_size h.attr_section all opening.attributes.items)) (sym read.endian) read.attributes);
+        attributes = subst (λ o. IfSome o (λ all. DescribesAttributes opening.endian h all opening.attributes.items)) there
+            (subst (λ o. IfSome (all_of b.place) (λ all. DescribesAttributes o h all opening.attributes.items)) (sym read.endian) read.attributes);
         place = read.place ∙ place_put h.data_section.offset b.place p there;
       });
 }

@@ -3,19 +3,20 @@ use Rattle.std.proofs.Common.{◌≡◌, ◌≢◌, ℕ, ◌+◌, ◌-◌, ◌^�
 use Rattle.std.proofs.lemmas.Bool.{cases_eq}
 use Rattle.std.specs.Prelude.{◌⊎◌, Option, None, Some, Ok, Err, IfSome}
 use Rattle.std.proofs.Math.Seq.{drop-append_seam}
-use Rattle.perfdata_base.specs.Source.{State, prepend, Gave}
-use Rattle.perfdata_base.proofs.Gives.{gave_more, failed_later, paused_later}
+use Rattle.perfdata_base.specs.Source.{State, prepend, Gave, GaveNone}
+use Rattle.perfdata_base.proofs.Gives.{gave_more, gave_none_later, failed_later, paused_later}
 use Rattle.perfdata_base.proofs.Cut.{none_or_paused, all_came}
 use Rattle.perfdata_base.specs.Numbers.{number_in}
 use Rattle.perfdata_base.proofs.Numbers.{number_front}
 use Rattle.perfdata_base.specs.declared.raw.Endianness.{Endianness}
 use Rattle.perfdata_base.specs.declared.event.PerfEventHeader.{PerfEventHeader}
 use Rattle.perfdata_parts.specs.declared.error.Error.{Error}
-use Rattle.perfdata_parts.specs.declared.error.Error.TheVariants.{Memory, Failed}
+use Rattle.perfdata_parts.specs.declared.error.Error.TheVariants.{Read, Memory, Failed}
+use Rattle.perfdata_parts.specs.declared.error.ReadError.TheVariants.{PerfEventData}
 use Rattle.perfdata_parts.specs.Error.{IsShort, IsUnsupported, IsIo}
 use Rattle.linux_perf_data.specs.Attribute.{Attribute}
-use Rattle.linux_perf_data.specs.Layout.{Bound, Fault, short_head, bad_size, too_far, cut_body, compressed, short_trace, trace_too_far, cut_trace, FaultAt, IsCompressed, IsRecord, HasHead, HasBody, HasTrace, kind_of, misc_of, size_of, trace_of, extent_of}
-use Rattle.linux_perf_data.specs.Piece.{Answers, TookBytes, TookHead, ReadsHead, Checks, BodyCut, TookContent, CameContent, WhyNoContent, SourceOwes, RefusedAt}
+use Rattle.linux_perf_data.specs.Layout.{Bound, Fault, short_head, bad_size, too_far, cut_body, compressed, short_trace, trace_too_far, cut_trace, FaultAt, IsCompressed, IsTruncated, IsRecord, HasHead, HasBody, HasTrace, kind_of, misc_of, size_of, trace_of, extent_of}
+use Rattle.linux_perf_data.specs.Piece.{Answers, TookBytes, TookHead, EndedIn, FailedIn, Checks, TookContent, EndedContent, CameContent, WhyNoContent, SourceOwes, RefusedAt, CutAt}
 use Rattle.linux_perf_data.proofs.Heads.{kind_front, misc_front, size_front, extent_traced, extent_plain}
 
 -- what a head says, where these bytes follow it
@@ -73,9 +74,14 @@ not_unsupported_failed e unsupported is = subst IsUnsupported is unsupported
 not_unsupported_memory : (e : Error) → IsUnsupported e → e ≡ Memory → ⊥
 not_unsupported_memory e unsupported is = subst IsUnsupported is unsupported
 
--- the head is cut
-pub head_refused : (order : Endianness) (a b : State) (bound : Bound) (offset held : ℕ) (e : Error) → bound ≢ None → held ≡ 0 → ReadsHead order a (Err e) b → RefusedAt order a bound offset e held b
-head_refused order a b bound offset held e file empty (inl (short, ended)) =
+-- the head is cut: in a pipe the records end, in a file it is refused
+pub head_cut : (order : Endianness) (a b : State) (offset held : ℕ) → held ≡ 0 → EndedIn a 8 b → CutAt order a offset held b
+head_cut order a b offset held empty ended =
+    let less = ended.less in
+    record { came = ended.part; gave = ended.gave; few = omega arith; truncated = λ eight. absurd (omega (arith, eight, less)); none = ended.none }
+
+pub head_short : (order : Endianness) (a b : State) (bound : Bound) (offset held : ℕ) (e : Error) → bound ≢ None → held ≡ 0 → IsShort e → EndedIn a 8 b → RefusedAt order a bound offset e held b
+head_short order a b bound offset held e file empty short ended =
     let less = ended.less in
     record {
       came = ended.part;
@@ -85,10 +91,12 @@ head_refused order a b bound offset held e file empty (inl (short, ended)) =
       memory = λ is. absurd (not_short_memory e short is);
       why = λ _. elim (none_or_paused a b ended.none) [
         | inl none ↦ inl (shown_whole a.bytes ended.part (Owes order bound offset e) (all_came a b ended.part ended.gave none) (short_head, (λ _. (file, less)), short))
-        | inr paused ↦ inr (inl (less, inr (short, paused)))
+        | inr paused ↦ inr (inl (less, inr (short, file, paused)))
       ];
     }
-head_refused order a b bound offset held e file empty (inr (io, failed)) =
+
+pub head_failed : (order : Endianness) (a b : State) (bound : Bound) (offset held : ℕ) (e : Error) → held ≡ 0 → IsIo e × FailedIn a 8 b → RefusedAt order a bound offset e held b
+head_failed order a b bound offset held e empty (io, failed) =
     let less = failed.less in
     record {
       came = failed.part;
@@ -137,29 +145,61 @@ has_trace order head offset end all x h checks there kind least =
     let size = h.size in
     record { body = has_body order head offset end all x h checks there; kind = h.kind ∙ kind; least = omega (arith, size, least) }
 
--- a marker's body is cut
-pub pass_refused : (order : Endianness) (a b c : State) (bound : Bound) (offset end held : ℕ) (head : PerfEventHeader) (e : Error) → bound ≢ None → held ≡ 0 → TookHead order a head b → Checks offset head.size (Ok end)
-    → BodyCut b (head.size - 8) e c → RefusedAt order a bound offset e held c
-pass_refused order a b c bound offset end held head e file empty t checks (is, inl ended) =
-    let all = gave_more a b c t.bytes ended.part t.took.gave ended.gave in
-    let h = headed order a b head t ended.part in
-    let less = ended.less in
+-- a head came, and not all that it counts
+part_truncated : (order : Endianness) (a b : State) (offset end : ℕ) (head : PerfEventHeader) (t : TookHead order a head b) (x : List ℕ) → Checks offset head.size (Ok end) → length x < head.size - 8 → IsTruncated order offset (t.bytes ++ x)
+part_truncated order a b offset end head t x checks less =
+    let h = headed order a b head t x in
     let size = h.size in
     let long = h.long in
     let least = checks.0 in
+    λ _. (has_head order head offset end (t.bytes ++ x) x h checks, omega (arith, size, long, less, least))
+
+-- what the head counts is cut: in a pipe the records end, in a file it is refused
+body_cut : (order : Endianness) (a b c : State) (offset end held : ℕ) (head : PerfEventHeader) (t : TookHead order a head b) (x : List ℕ) → Checks offset head.size (Ok end) → length x < head.size - 8 → Gave b x c → GaveNone b c → held ≤ length x + 4096
+    → CutAt order a offset held c
+body_cut order a b c offset end held head t x checks less gave none few =
+    let behind = ap length (behind_head t.bytes x t.took.long) in
     record {
-      came = t.bytes ++ ended.part;
+      came = t.bytes ++ x;
+      gave = gave_more a b c t.bytes x t.took.gave gave;
+      few = omega (arith, few, behind);
+      truncated = part_truncated order a b offset end head t x checks less;
+      none = gave_none_later a b c t.bytes t.took.gave none;
+    }
+
+body_short : (order : Endianness) (a b c : State) (bound : Bound) (offset end held : ℕ) (head : PerfEventHeader) (e : Error) (t : TookHead order a head b) (x : List ℕ) → bound ≢ None → e ≡ Read PerfEventData → Checks offset head.size (Ok end)
+    → length x < head.size - 8 → Gave b x c → GaveNone b c → held ≤ length x + 4096 → RefusedAt order a bound offset e held c
+body_short order a b c bound offset end held head e t x file is checks less gave none few =
+    let all = gave_more a b c t.bytes x t.took.gave gave in
+    let h = headed order a b head t x in
+    let size = h.size in
+    let long = h.long in
+    let least = checks.0 in
+    let behind = ap length (behind_head t.bytes x t.took.long) in
+    record {
+      came = t.bytes ++ x;
       gave = all;
-      few = omega arith;
+      few = omega (arith, few, behind);
       unfailed = λ f. cc;
       memory = λ m. absurd cc;
-      why = λ _. elim (none_or_paused b c ended.none) [
-        | inl none ↦ inl (shown_whole a.bytes (t.bytes ++ ended.part) (Owes order bound offset e) (all_came a c (t.bytes ++ ended.part) all none)
-            (cut_body, (λ _. (file, has_head order head offset end (t.bytes ++ ended.part) ended.part h checks, omega (arith, size, long, less, least))), is))
-        | inr paused ↦ inr (inr (omega (arith, long), is, inr (paused_later a b c t.bytes t.took.gave paused)))
+      why = λ _. elim (none_or_paused b c none) [
+        | inl end' ↦ inl (shown_whole a.bytes (t.bytes ++ x) (Owes order bound offset e) (all_came a c (t.bytes ++ x) all end')
+            (cut_body, (λ _. (file, has_head order head offset end (t.bytes ++ x) x h checks, omega (arith, size, long, less, least))), is))
+        | inr paused ↦ inr (inr (omega (arith, long), is, inr ((λ pipe. absurd (file pipe)), paused_later a b c t.bytes t.took.gave paused)))
       ];
     }
-pass_refused order a b c bound offset end held head e file empty t checks (is, inr failed) =
+
+-- a marker's body is cut
+pub pass_cut : (order : Endianness) (a b c : State) (offset end held : ℕ) (head : PerfEventHeader) → held ≡ 0 → TookHead order a head b → Checks offset head.size (Ok end) → EndedIn b (head.size - 8) c → CutAt order a offset held c
+pass_cut order a b c offset end held head empty t checks ended = body_cut order a b c offset end held head t ended.part checks ended.less ended.gave ended.none (omega arith)
+
+pub pass_short : (order : Endianness) (a b c : State) (bound : Bound) (offset end held : ℕ) (head : PerfEventHeader) (e : Error) → bound ≢ None → held ≡ 0 → e ≡ Read PerfEventData → TookHead order a head b → Checks offset head.size (Ok end)
+    → EndedIn b (head.size - 8) c → RefusedAt order a bound offset e held c
+pass_short order a b c bound offset end held head e file empty is t checks ended = body_short order a b c bound offset end held head e t ended.part file is checks ended.less ended.gave ended.none (omega arith)
+
+-- the source failed in it
+pub pass_failed : (order : Endianness) (a b c : State) (bound : Bound) (offset held : ℕ) (head : PerfEventHeader) (e : Error) → held ≡ 0 → TookHead order a head b → (e ≡ Read PerfEventData) × FailedIn b (head.size - 8) c → RefusedAt order a bound offset e held c
+pass_failed order a b c bound offset held head e empty t (is, failed) =
     let h = headed order a b head t failed.part in
     let long = h.long in
     record {
@@ -170,6 +210,14 @@ pass_refused order a b c bound offset end held head e file empty t checks (is, i
       memory = λ m. absurd cc;
       why = λ _. inr (inr (omega (arith, long), is, inl (failed_later a b c t.bytes t.took.gave failed.failed)));
     }
+
+-- the body of another record is cut
+pub content_cut : (order : Endianness) (a b c : State) (offset end : ℕ) (head : PerfEventHeader) (now : List ℕ) → TookHead order a head b → Checks offset head.size (Ok end) → EndedContent b head now c → CutAt order a offset (length now) c
+content_cut order a b c offset end head now t checks ended = body_cut order a b c offset end (length now) head t ended.came checks ended.less ended.gave ended.none ended.bound
+
+pub content_short : (order : Endianness) (a b c : State) (bound : Bound) (offset end : ℕ) (head : PerfEventHeader) (e : Error) (now : List ℕ) → bound ≢ None → e ≡ Read PerfEventData → TookHead order a head b → Checks offset head.size (Ok end) → EndedContent b head now c
+    → RefusedAt order a bound offset e (length now) c
+content_short order a b c bound offset end head e now file is t checks ended = body_short order a b c bound offset end (length now) head e t ended.came file is checks ended.less ended.gave ended.none ended.bound
 
 -- what a head says, where more bytes come behind those that came
 behind : (order : Endianness) (a b : State) (head : PerfEventHeader) (t : TookHead order a head b) (x rest : List ℕ) → Head order head ((t.bytes ++ x) ++ rest) (x ++ rest)
@@ -190,38 +238,27 @@ extent_is order a b head t x rest kind enough =
     ap (extent_of order) (append_assoc t.bytes x rest) ∙ whole ∙ ap (λ n. head.size + n) number
 
 -- Why what belongs to a head didn't come.
-content_why : (order : Endianness) (a b c : State) (bound : Bound) (offset end : ℕ) (head : PerfEventHeader) (e : Error) (t : TookHead order a head b) (came : List ℕ) → bound ≢ None → Checks offset head.size (Ok end)
-    → Gave b came c → e ≢ Memory → WhyNoContent order b head end e c came → IfSome a.bytes (Owes order bound offset e) ⊎ SourceOwes a (t.bytes ++ came) e c
-content_why order a b c bound offset end head e t came file checks gave other (inl (is, some)) = absurd (other is)
-content_why order a b c bound offset end head e t came file checks gave other (inr (inl (is, less, inl none))) =
-    let all = gave_more a b c t.bytes came t.took.gave gave in
-    let h = headed order a b head t came in
-    let size = h.size in
-    let long = h.long in
-    let least = checks.0 in
-    elim (none_or_paused b c none) [
-      | inl end' ↦ inl (shown_whole a.bytes (t.bytes ++ came) (Owes order bound offset e) (all_came a c (t.bytes ++ came) all end')
-          (cut_body, (λ _. (file, has_head order head offset end (t.bytes ++ came) came h checks, omega (arith, size, long, less, least))), is))
-      | inr paused ↦ inr (inr (omega (arith, long), is, inr (paused_later a b c t.bytes t.took.gave paused)))
-    ]
-content_why order a b c bound offset end head e t came file checks gave other (inr (inl (is, less, inr failed))) =
+content_why : (order : Endianness) (a b c : State) (bound : Bound) (offset end : ℕ) (head : PerfEventHeader) (e : Error) (t : TookHead order a head b) (came : List ℕ) → Checks offset head.size (Ok end)
+    → Gave b came c → e ≢ Memory → WhyNoContent order b head end e c came → IfSome a.bytes (Owes order bound offset e) ⊎ SourceOwes order bound a (t.bytes ++ came) e c
+content_why order a b c bound offset end head e t came checks gave other (inl (is, some)) = absurd (other is)
+content_why order a b c bound offset end head e t came checks gave other (inr (inl (is, less, failed))) =
     let h = headed order a b head t came in
     let long = h.long in
     inr (inr (omega (arith, long), is, inl (failed_later a b c t.bytes t.took.gave failed)))
-content_why order a b c bound offset end head e t came file checks gave other (inr (inr (inl (is, long', kind)))) =
+content_why order a b c bound offset end head e t came checks gave other (inr (inr (inl (is, long', kind)))) =
     inl (shown a.bytes c.bytes (t.bytes ++ came) (Owes order bound offset e) (gave_more a b c t.bytes came t.took.gave gave).bytes
     (λ rest. let h = behind order a b head t came rest in let least = checks.0 in
     (compressed, (λ _. (has_body order head offset end ((t.bytes ++ came) ++ rest) (came ++ rest) h checks (omega (arith, length-append came rest, long', least)), subst IsCompressed (sym h.kind) kind)), is)))
-content_why order a b c bound offset end head e t came file checks gave other (inr (inr (inr (inl (is, long', kind, short))))) =
+content_why order a b c bound offset end head e t came checks gave other (inr (inr (inr (inl (is, long', kind, short))))) =
     inl (shown a.bytes c.bytes (t.bytes ++ came) (Owes order bound offset e) (gave_more a b c t.bytes came t.took.gave gave).bytes
     (λ rest. let h = behind order a b head t came rest in let least = checks.0 in let size = h.size in
     (short_trace, (λ _. (has_body order head offset end ((t.bytes ++ came) ++ rest) (came ++ rest) h checks (omega (arith, length-append came rest, long', least)), h.kind ∙ kind, omega (arith, size, short))), is)))
-content_why order a b c bound offset end head e t came file checks gave other (inr (inr (inr (inr (inl (is, long', kind, enough, far)))))) =
+content_why order a b c bound offset end head e t came checks gave other (inr (inr (inr (inr (inl (is, long', kind, enough, far)))))) =
     inl (shown a.bytes c.bytes (t.bytes ++ came) (Owes order bound offset e) (gave_more a b c t.bytes came t.took.gave gave).bytes
     (λ rest. let h = behind order a b head t came rest in let least = checks.0 in let ends = checks.1 in
     let extent = extent_is order a b head t came rest kind (omega (arith, long', enough)) in
     (trace_too_far, (λ _. (has_trace order head offset end ((t.bytes ++ came) ++ rest) (came ++ rest) h checks (omega (arith, length-append came rest, long', least)) kind enough, omega (arith, extent, ends, far))), is)))
-content_why order a b c bound offset end head e t came file checks gave other (inr (inr (inr (inr (inr (is, there, kind, enough, fits, less, inl none)))))) =
+content_why order a b c bound offset end head e t came checks gave other (inr (inr (inr (inr (inr (is, there, kind, enough, fits, less, inl none)))))) =
     let all = gave_more a b c t.bytes came t.took.gave gave in
     let h = headed order a b head t came in
     let size = h.size in
@@ -233,9 +270,9 @@ content_why order a b c bound offset end head e t came file checks gave other (i
           let extent = extent_alone order a b head t came kind (omega (arith, there, enough)) in
           shown_whole a.bytes (t.bytes ++ came) (Owes order bound offset e) (all_came a c (t.bytes ++ came) all end')
           (cut_trace, (λ _. (has_trace order head offset end (t.bytes ++ came) came h checks (omega (arith, there, least)) kind enough, omega (arith, extent, ends, fits), omega (arith, extent, long, less, least))), is))
-      | inr paused ↦ inr (inr (omega (arith, long), is, inr (paused_later a b c t.bytes t.took.gave paused)))
+      | inr paused ↦ inr (inr (omega (arith, long), is, inr ((λ _. omega (arith, size, long, there, least)), paused_later a b c t.bytes t.took.gave paused)))
     ]
-content_why order a b c bound offset end head e t came file checks gave other (inr (inr (inr (inr (inr (is, there, kind, enough, fits, less, inr failed)))))) =
+content_why order a b c bound offset end head e t came checks gave other (inr (inr (inr (inr (inr (is, there, kind, enough, fits, less, inr failed)))))) =
     let h = headed order a b head t came in
     let long = h.long in
     inr (inr (omega (arith, long), is, inl (failed_later a b c t.bytes t.took.gave failed)))
@@ -257,9 +294,9 @@ content_memory order b c head end e came (inr (inr (inr (inr (inl (is, long, kin
 content_memory order b c head end e came (inr (inr (inr (inr (inr (is, there, kind, enough, fits, less, source)))))) m = absurd cc
 
 -- what belongs to a head didn't come
-pub content_refused : (order : Endianness) (a b c : State) (bound : Bound) (offset end : ℕ) (head : PerfEventHeader) (e : Error) (now : List ℕ) → bound ≢ None → head.type_ ≢ 68 → TookHead order a head b → Checks offset head.size (Ok end)
+pub content_refused : (order : Endianness) (a b c : State) (bound : Bound) (offset end : ℕ) (head : PerfEventHeader) (e : Error) (now : List ℕ) → head.type_ ≢ 68 → TookHead order a head b → Checks offset head.size (Ok end)
     → CameContent b e now c (WhyNoContent order b head end e c) → RefusedAt order a bound offset e (length now) c
-content_refused order a b c bound offset end head e now file other t checks n =
+content_refused order a b c bound offset end head e now other t checks n =
     let h = headed order a b head t n.came in
     let bound' = n.bound in
     record {
@@ -269,7 +306,7 @@ content_refused order a b c bound offset end head e now file other t checks n =
       unfailed = content_unfailed order b c head end e n.came n.why;
       memory = λ m. let some = content_memory order b c head end e n.came n.why m in let size = h.size in let long = h.long in
           record { head = omega (arith, long); kind = λ k. other (sym h.kind ∙ k); size = omega (arith, size, some) };
-      why = λ m. content_why order a b c bound offset end head e t n.came file checks n.gave m n.why;
+      why = λ m. content_why order a b c bound offset end head e t n.came checks n.gave m n.why;
     }
 
 -- a head and what belongs to it are a record

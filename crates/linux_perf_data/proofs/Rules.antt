@@ -125,7 +125,7 @@ start_told b words is = subst (λ c. from_start (cond c (16 ∷ words) words) 16
 word_told : (b : Bool) → b ≡ true → ◌≡◌ {A = ℕ} (if b then 16 else 6) 16
 word_told b is = ap (λ c. if c then 16 else 6) is
 
-abbrev told_places : Bool → RecordIdParseInfo
+abbrev pub told_places : Bool → RecordIdParseInfo
 told_places trailing = record { sample_id_from_start = Some 0; other_id_from_end = if trailing then Some 8 else None }
 
 pub places_told : (a : PerfEventAttr) → is_set a.sample_format.0 16 ≡ true → id_places_of a ≡ told_places (is_set a.flags.0 18)
@@ -140,11 +140,11 @@ places_told a is =
     ap (λ x. record { sample_id_from_start = x; other_id_from_end = from_end trailing (identifier_word format) }) start in
     first ∙ ap (λ x. record { sample_id_from_start = Some 0; other_id_from_end = x }) back
 
-same_places : (first a : Attribute) → has_identifier first ≡ true → Conforms first a → id_places_of a.attr ≡ id_places_of first.attr
+pub same_places : (first a : Attribute) → has_identifier first ≡ true → Conforms first a → id_places_of a.attr ≡ id_places_of first.attr
 same_places first a has conforms = places_told a.attr conforms.0 ∙ ap told_places conforms.1 ∙ sym (places_told first.attr has)
 
 -- attributes that all conform keep the rule
-conforming_rule : (a : Attribute) (more : List Attribute) → All (Conforms a) (a ∷ more) → Rule (a ∷ more)
+pub conforming_rule : (a : Attribute) (more : List Attribute) → All (Conforms a) (a ∷ more) → Rule (a ∷ more)
 conforming_rule a more all =
     let has = (All-head (Conforms a) a more all).0 in
     All-weaker (Conforms a) (λ b. id_places_of b.attr ≡ id_places_of a.attr) (λ b conforms. same_places a b has conforms) more (All-tail (Conforms a) a more all)
@@ -157,7 +157,7 @@ same_or_not None (Some n) = inr (λ e. cc)
 same_or_not (Some m) None = inr (λ e. cc)
 same_or_not (Some m) (Some n) = elim (cases_eq m n) [ inl is ↦ inl (ap Some is) | inr isnt ↦ inr (λ e. isnt (cc)) ]
 
-agreed : (p q : RecordIdParseInfo) → p.sample_id_from_start ≡ q.sample_id_from_start → p.other_id_from_end ≡ q.other_id_from_end → p ≡ q
+pub agreed : (p q : RecordIdParseInfo) → p.sample_id_from_start ≡ q.sample_id_from_start → p.other_id_from_end ≡ q.other_id_from_end → p ≡ q
 agreed p q start back =
     let one : p ≡ record { sample_id_from_start = q.sample_id_from_start; other_id_from_end = p.other_id_from_end } = ap (λ x. record { sample_id_from_start = x; other_id_from_end = p.other_id_from_end }) start in
     one ∙ ap (λ x. record { sample_id_from_start = q.sample_id_from_start; other_id_from_end = x }) back

@@ -1,10 +1,10 @@
 -- What a reading of a slice as a source says of its bytes.
-use Rattle.std.proofs.Common.{◌≡◌, ◌≢◌, ℕ, ◌+◌, ◌<◌, ◌≤◌, ◌⊎◌, List, [], ◌++◌, length, drop, Some, None, refl, sym, ap, ◌∙◌, subst, arith, inl, inr, length-append}
+use Rattle.std.proofs.Common.{◌≡◌, ℕ, List, ◌++◌, length, Some, None, refl, sym, ap, ◌∙◌, subst, arith, inl, inr, length-append}
 use Rattle.std.specs.Prelude.{Option, Result, Ok, Err}
 use Rattle.std.specs.IoError.{error_kind}
 use Rattle.std.specs.declared.io.Error.{Error as IoErrorValue}
 use Rattle.std.specs.declared.io.ErrorKind.TheVariants.{UnexpectedEof}
-use Rattle.perfdata_base.specs.Source.{State, Gave, GaveNone, Failed, prepend, told}
+use Rattle.perfdata_base.specs.Source.{State, Gave, prepend, told}
 use Rattle.perfdata_base.proofs.Cut.{none_or_paused, all_came}
 use Rattle.perfdata_base.proofs.Numbers.{number_front, number_drop_front}
 use Rattle.perfdata_base.specs.Numbers.{number_in}

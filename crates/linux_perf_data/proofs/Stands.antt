@@ -4,10 +4,13 @@ use Rattle.std.specs.Prelude.{◌⊎◌, None, Some}
 use Rattle.std.proofs.lemmas.Bool.{cases_eq, cases_lt}
 use Rattle.std.proofs.lemmas.List.{append-nil, length-take-le, take-append-drop}
 use Rattle.perfdata_base.specs.Numbers.{number_in}
-use Rattle.perfdata_base.specs.Attr.{own_size}
+use Rattle.perfdata_base.specs.Attr.{own_size, IsTooSmall}
+use Rattle.perfdata_base.proofs.Numbers.{in_reads_first}
 use Rattle.perfdata_base.specs.declared.raw.Endianness.{Endianness}
 use Rattle.linux_perf_data.specs.Attribute.{Attribute, Rule, Breach, Breaks, HoldsAttribute}
-use Rattle.linux_perf_data.specs.Layout.{Bound, Begins, IsCompressed, IsRecord, IsPiece, IsEnd, HasHead, HasBody, HoldsNone, Fronts, attributes_of, Fault, short_head, bad_size, too_far, cut_body, compressed, short_trace, trace_too_far, cut_trace, bad_metadata, unruly, FaultAt, End, whole, faulty, Ends, kind_of, size_of, extent_of}
+use Rattle.perfdata_parts.proofs.EventFronts.{told_or_not}
+use Rattle.linux_perf_data.specs.Names.{TellsNames, event_desc, feature_of}
+use Rattle.linux_perf_data.specs.Layout.{Bound, Begins, IsCompressed, IsRecord, IsPiece, IsEnd, HasHead, HasBody, HoldsNone, Fronts, attributes_of, Fault, short_head, bad_size, too_far, cut_body, compressed, short_trace, trace_too_far, cut_trace, bad_metadata, Spoilt, cut_metadata, small_attribute, CutsAttribute, bad_names, HoldsNoNames, unruly, FaultAt, End, whole, faulty, Ends, kind_of, size_of, extent_of}
 use Rattle.linux_perf_data.proofs.Heads.{kind_front, size_front, extent_front, extent_plain, size_in_extent, record_least, record_length, same_front}
 use Rattle.linux_perf_data.proofs.Rules.{rule_unbroken, breach_one, rule_or_breach}
 
@@ -34,6 +37,17 @@ over_begins : (bound : Bound) (offset : ℕ) → Over bound offset → Begins bo
 over_begins None offset over begins = over
 over_begins (Some size) offset over begins = omega (arith, over, begins)
 
+-- an attribute that ends early is none, and isn't too small
+pub cut_or_held : (order : Endianness) (body : List ℕ) → CutsAttribute order body → HoldsAttribute order body → ⊥
+cut_or_held order body (inl (inl short)) holds = let head = holds.head in omega (arith, short, head)
+cut_or_held order body (inl (inr (least, short))) holds = let there = holds.there in omega (arith, short, there)
+cut_or_held order body (inr cut) holds = cut.odd holds.even
+
+cut_or_small : (order : Endianness) (body : List ℕ) → CutsAttribute order body → IsTooSmall (number_in order) body → ⊥
+cut_or_small order body (inl (inl short)) small = let head = small.0 in omega (arith, short, head)
+cut_or_small order body (inl (inr (least, short))) small = let below = small.1 in omega (arith, least, below)
+cut_or_small order body (inr cut) small = let least = cut.least in let below = small.1 in omega (arith, least, below)
+
 -- One test: it ends the search with this, or the search goes on.
 abbrev Test : Standing → Standing → Type 0 → Type 0 → Type 0 → Type 0
 Test s found P Q More = ((s ≡ found) × P) ⊎ (Q × More)
@@ -46,8 +60,14 @@ test_one s t found P Q X Y apart later (inr x) (inr y) = later x.1 y.1
 
 -- all tests in their order: those of a head, of a body, and of what stands behind a whole record
 module _ (order : Endianness) (bound : Bound) (offset : ℕ) (attrs : List Attribute) (rest : List ℕ) where
+  -- a whole record that should hold metadata, and doesn't, for this reason
+  abbrev Refuses : Fault → List ℕ → Type 0
+  Refuses (bad_metadata w) p = HoldsNone order w p
+  Refuses (bad_names o bytes) p = (o ≡ order) × HoldsNoNames order bytes p
+  Refuses _ p = ⊥
+
   abbrev Bad : Standing → Type 0
-  Bad s = (s ≡ ended (faulty bad_metadata)) × (bound ≡ None) × ((p : List ℕ) × Fronts order offset rest p × HoldsNone order p)
+  Bad s = (f : Fault) × (s ≡ ended (faulty f)) × (bound ≡ None) × ((p : List ℕ) × Fronts order offset rest p × Refuses f p)
 
   abbrev Unruly : Standing → Type 0
   Unruly s = (b : Breach) × (s ≡ ended (faulty (unruly b))) × (bound ≡ None)
@@ -136,15 +156,48 @@ module _ (order : Endianness) (bound : Bound) (offset : ℕ) (attrs : List Attri
   record_one : (p q : List ℕ) → Fronts order offset rest p → Fronts order offset rest q → p ≡ q
   record_one p q x y = (same_front order p q x.behind y.behind x.is_record y.is_record (sym x.cut ∙ y.cut)).0
 
-  none_or_piece : (p q : List ℕ) → Fronts order offset rest p → Fronts order offset rest q → HoldsNone order p → IsPiece order None q → ⊥
-  none_or_piece p q x y (inl (kind, bad)) is = let e = sym (record_one p q x y) in bad ((subst (IsPiece order None) e is).attribute refl kind)
-  none_or_piece p q x y (inr (kind, bad)) is = let e = sym (record_one p q x y) in let long = (subst (IsPiece order None) e is).feature refl kind in omega (arith, long, bad)
+  none_or_piece : (w : Spoilt) (p q : List ℕ) → Fronts order offset rest p → Fronts order offset rest q → HoldsNone order w p → IsPiece order None q → ⊥
+  none_or_piece cut_metadata p q x y (inl (kind, bad)) is = let e = sym (record_one p q x y) in cut_or_held order (drop 8 p) bad ((subst (IsPiece order None) e is).attribute refl kind)
+  none_or_piece cut_metadata p q x y (inr (kind, bad)) is = let e = sym (record_one p q x y) in let long = (subst (IsPiece order None) e is).feature refl kind in omega (arith, long, bad)
+  none_or_piece small_attribute p q x y (kind, bad) is = let e = sym (record_one p q x y) in let least = ((subst (IsPiece order None) e is).attribute refl kind).least in let small = bad.1 in omega (arith, least, small)
+
+  unnamed_or_piece : (bytes p : List ℕ) → HoldsNoNames order bytes p → IsPiece order None p → ⊥
+  unnamed_or_piece bytes p none is = none.unread (subst (TellsNames order) (sym none.are) (is.names refl none.kind none.is))
+
+  refused_or_piece : (f : Fault) (p q : List ℕ) → Fronts order offset rest p → Fronts order offset rest q → Refuses f p → IsPiece order None q → ⊥
+  refused_or_piece (bad_metadata w) p q x y bad is = none_or_piece w p q x y bad is
+  refused_or_piece (bad_names o bytes) p q x y (same, none) is = unnamed_or_piece bytes p none (subst (IsPiece order None) (sym (record_one p q x y)) is)
+  refused_or_piece _ p q x y bad is = absurd bad
+
+  spoilt_same : (v w : Spoilt) (p : List ℕ) → HoldsNone order v p → HoldsNone order w p → v ≡ w
+  spoilt_same cut_metadata cut_metadata p x y = refl
+  spoilt_same small_attribute small_attribute p x y = refl
+  spoilt_same cut_metadata small_attribute p (inl (kind, cut)) (other, small) = absurd (cut_or_small order (drop 8 p) cut small)
+  spoilt_same cut_metadata small_attribute p (inr (kind, cut)) (other, small) = absurd (omega (arith, kind, other))
+  spoilt_same small_attribute cut_metadata p (other, small) (inl (kind, cut)) = absurd (cut_or_small order (drop 8 p) cut small)
+  spoilt_same small_attribute cut_metadata p (other, small) (inr (kind, cut)) = absurd (omega (arith, kind, other))
+
+  spoilt_or_unnamed : (w : Spoilt) (bytes p : List ℕ) → HoldsNone order w p → HoldsNoNames order bytes p → ⊥
+  spoilt_or_unnamed cut_metadata bytes p (inl (kind, cut)) none = let other = none.kind in omega (arith, kind, other)
+  spoilt_or_unnamed cut_metadata bytes p (inr (kind, short)) none = let there = none.there in omega (arith, short, there)
+  spoilt_or_unnamed small_attribute bytes p (kind, small) none = let other = none.kind in omega (arith, kind, other)
+
+  refused_same : (f g : Fault) (p : List ℕ) → Refuses f p → Refuses g p → f ≡ g
+  refused_same (bad_metadata v) (bad_metadata w) p x y = ap bad_metadata (spoilt_same v w p x y)
+  refused_same (bad_metadata v) (bad_names o bytes) p x (same, y) = absurd (spoilt_or_unnamed v bytes p x y)
+  refused_same (bad_names o bytes) (bad_metadata w) p (same, x) y = absurd (spoilt_or_unnamed w bytes p y x)
+  refused_same (bad_names o bytes) (bad_names r others) p (same, x) (same', y) = ap (λ e. bad_names e bytes) (same ∙ sym same') ∙ ap (bad_names r) (x.are ∙ sym y.are)
+  refused_same (bad_metadata v) _ p x y = absurd y
+  refused_same (bad_names o bytes) _ p x y = absurd y
+  refused_same _ g p x y = absurd x
 
   of_record_one : (s t : Standing) → OfRecord s → OfRecord t → s ≡ t
-  of_record_one s t (inl x) (inl y) = x.0 ∙ sym y.0
-  of_record_one s t (inl x) (inr (inl y)) = absurd (none_or_piece x.2.0 y.3.0 x.2.1 y.3.1 x.2.2 y.3.2)
-  of_record_one s t (inl x) (inr (inr y)) = absurd (none_or_piece x.2.0 y.0 x.2.1 y.2 x.2.2 (subst (λ b. IsPiece order b y.0) x.1 y.3))
-  of_record_one s t (inr (inl x)) (inl y) = absurd (none_or_piece y.2.0 x.3.0 y.2.1 x.3.1 y.2.2 x.3.2)
+  of_record_one s t (inl x) (inl y) =
+      let bad = subst (Refuses x.0) (record_one x.3.0 y.3.0 x.3.1 y.3.1) x.3.2 in
+      x.1 ∙ ap (λ f. ended (faulty f)) (refused_same x.0 y.0 y.3.0 bad y.3.2) ∙ sym y.1
+  of_record_one s t (inl x) (inr (inl y)) = absurd (refused_or_piece x.0 x.3.0 y.3.0 x.3.1 y.3.1 x.3.2 y.3.2)
+  of_record_one s t (inl x) (inr (inr y)) = absurd (refused_or_piece x.0 x.3.0 y.0 x.3.1 y.2 x.3.2 (subst (λ b. IsPiece order b y.0) x.2 y.3))
+  of_record_one s t (inr (inl x)) (inl y) = absurd (refused_or_piece y.0 y.3.0 x.3.0 y.3.1 x.3.1 y.3.2 x.3.2)
   of_record_one s t (inr (inl x)) (inr (inl y)) =
       let breaks = subst (λ p. Breaks (attrs ++ attributes_of order None (kind_of order p) (drop 8 p)) x.0) (record_one x.3.0 y.3.0 x.3.1 y.3.1) x.3.3 in
       x.1 ∙ ap (λ b. ended (faulty (unruly b))) (breach_one (attrs ++ attributes_of order None (kind_of order y.3.0) (drop 8 y.3.0)) x.0 y.0 breaks y.3.3) ∙ sym y.1
@@ -152,7 +205,7 @@ module _ (order : Endianness) (bound : Bound) (offset : ℕ) (attrs : List Attri
       let breaks = subst (λ p. Breaks (attrs ++ attributes_of order None (kind_of order p) (drop 8 p)) x.0) (record_one x.3.0 y.0 x.3.1 y.2) x.3.3 in
       let rule = subst (λ b. Rule (attrs ++ attributes_of order b (kind_of order y.0) (drop 8 y.0))) x.2 y.4 in
       absurd (rule_unbroken (attrs ++ attributes_of order None (kind_of order y.0) (drop 8 y.0)) x.0 rule breaks)
-  of_record_one s t (inr (inr x)) (inl y) = absurd (none_or_piece y.2.0 x.0 y.2.1 x.2 y.2.2 (subst (λ b. IsPiece order b x.0) y.1 x.3))
+  of_record_one s t (inr (inr x)) (inl y) = absurd (refused_or_piece y.0 y.3.0 x.0 y.3.1 x.2 y.3.2 (subst (λ b. IsPiece order b x.0) y.2 x.3))
   of_record_one s t (inr (inr x)) (inr (inl y)) =
       let breaks = subst (λ p. Breaks (attrs ++ attributes_of order None (kind_of order p) (drop 8 p)) y.0) (record_one y.3.0 x.0 y.3.1 x.2) y.3.3 in
       let rule = subst (λ b. Rule (attrs ++ attributes_of order b (kind_of order x.0) (drop 8 x.0))) y.2 x.4 in
@@ -202,8 +255,10 @@ fault_tests order bound offset attrs rest cut_trace begins is =
     let t = is.0 in
     past_body order bound offset attrs rest (ended (faulty cut_trace)) begins t.body
     (inr (not_compressed order bound offset attrs rest t.kind, inr ((λ _. t.least), inr ((λ _. is.1), inl (refl, (t.kind, is.2))))))
-fault_tests order bound offset attrs rest bad_metadata begins is =
-    past_record order bound offset attrs rest (ended (faulty bad_metadata)) is.1.0 begins is.1.1 (inl (refl, is.0, is.1))
+fault_tests order bound offset attrs rest (bad_metadata why) begins is =
+    past_record order bound offset attrs rest (ended (faulty (bad_metadata why))) is.1.0 begins is.1.1 (inl (bad_metadata why, refl, is.0, is.1))
+fault_tests order bound offset attrs rest (bad_names o bytes) begins is =
+    past_record order bound offset attrs rest (ended (faulty (bad_names o bytes))) is.2.0 begins is.2.1 (inl (bad_names o bytes, refl, is.0, (is.2.0, is.2.1, (is.1, is.2.2))))
 fault_tests order bound offset attrs rest (unruly b) begins is =
     past_record order bound offset attrs rest (ended (faulty (unruly b))) is.1.0 begins is.1.1 (inr (inl (b, refl, is.0, is.1)))
 
@@ -238,41 +293,57 @@ found_cut : (order : Endianness) (bound : Bound) (offset : ℕ) (attrs : List At
 found_cut order None offset attrs rest begins head cut = (ended whole, λ long. (head, cut))
 found_cut order (Some size) offset attrs rest begins head cut = (ended (faulty cut_body), (begins, ((λ e. cc), head, cut)))
 
-pub holds_or_not : (order : Endianness) (body : List ℕ) → HoldsAttribute order body ⊎ (¬ HoldsAttribute order body)
-holds_or_not order body = elim (cases_lt (length body) 8) [
-  | inl short ↦ inr (λ h. let x = h.head in omega (arith, x, short))
+-- a body holds an attribute, or it is cut, or the attribute is too small
+pub held_cut_or_small : (order : Endianness) (body : List ℕ) → HoldsAttribute order body ⊎ (CutsAttribute order body ⊎ IsTooSmall (number_in order) body)
+held_cut_or_small order body = elim (cases_lt (length body) 8) [
+  | inl short ↦ inr (inl (inl (inl short)))
   | inr head ↦ elim (cases_lt (own_size (number_in order) body) 64) [
-    | inl small ↦ inr (λ h. let x = h.least in omega (arith, x, small))
+    | inl small ↦ inr (inr (head, small))
     | inr least ↦ elim (cases_lt (length body) (own_size (number_in order) body)) [
-      | inl cut ↦ inr (λ h. let x = h.there in omega (arith, x, cut))
+      | inl cut ↦ inr (inl (inl (inr (least, cut))))
       | inr there ↦ elim (cases_eq ((length body - own_size (number_in order) body) % 8) 0) [
         | inl even ↦ inl (record { head = head; least = least; there = there; even = even })
-        | inr odd ↦ inr (λ h. odd h.even)
+        | inr odd ↦ inr (inl (inr (record { head = head; least = least; there = there; odd = odd })))
       ]
     ]
   ]
 ]
 
-pub piece_or_none : (order : Endianness) (p : List ℕ) → IsRecord order p → IsPiece order None p ⊎ HoldsNone order p
-piece_or_none order p is = elim (cases_eq (kind_of order p) 64) [
-  | inl attribute ↦ elim (holds_or_not order (drop 8 p)) [
-    | inl holds ↦ inl (record { is_record = is; attribute = λ _ _. holds; feature = λ _ other. absurd (omega (arith, attribute, other)) })
-    | inr bad ↦ inr (inl (attribute, bad))
+-- a record of a feature holds its number, and names where that is EVENT_DESC's
+names_or_none : (order : Endianness) (p : List ℕ) → IsRecord order p → kind_of order p ≡ 80 → 8 ≤ length (drop 8 p) → IsPiece order None p ⊎ ((bytes : List ℕ) × HoldsNoNames order bytes p)
+names_or_none order p is kind long = elim (cases_eq (feature_of order (drop 8 p)) event_desc) [
+  | inr other ↦ inl (record { is_record = is; attribute = λ _ e. absurd (omega (arith, kind, e)); feature = λ _ _. long; names = λ _ _ e. absurd (other e) })
+  | inl named ↦ elim (told_or_not (number_in order) (in_reads_first order) (drop 16 p)) [
+    | inl told ↦ inl (record { is_record = is; attribute = λ _ e. absurd (omega (arith, kind, e)); feature = λ _ _. long; names = λ _ _ _. told })
+    | inr unread ↦ inr (drop 16 p, record { kind = kind; there = long; is = named; are = refl; unread = unread })
   ]
-  | inr plain ↦ elim (cases_eq (kind_of order p) 80) [
-    | inr other ↦ inl (record { is_record = is; attribute = λ _ e. absurd (plain e); feature = λ _ e. absurd (other e) })
-    | inl feature ↦ elim (cases_lt (length (drop 8 p)) 8) [
-      | inl short ↦ inr (inr (feature, short))
-      | inr long ↦ inl (record { is_record = is; attribute = λ _ e. absurd (plain e); feature = λ _ _. long })
+]
+
+abbrev PieceOrNone : Endianness → List ℕ → Type 0
+PieceOrNone order p = IsPiece order None p ⊎ (((why : Spoilt) × HoldsNone order why p) ⊎ ((bytes : List ℕ) × HoldsNoNames order bytes p))
+
+pub piece_or_none : (order : Endianness) (p : List ℕ) → IsRecord order p → IsPiece order None p ⊎ (((why : Spoilt) × HoldsNone order why p) ⊎ ((bytes : List ℕ) × HoldsNoNames order bytes p))
+piece_or_none order p is = elim (cases_eq (kind_of order p) 64) as (λ _. PieceOrNone order p) [
+  | inl attribute ↦ elim (held_cut_or_small order (drop 8 p)) as (λ _. PieceOrNone order p) [
+    | inl holds ↦ inl (record { is_record = is; attribute = λ _ _. holds; feature = λ _ other. absurd (omega (arith, attribute, other)); names = λ _ other _. absurd (omega (arith, attribute, other)) })
+    | inr (inl cut) ↦ inr (inl (cut_metadata, inl (attribute, cut)))
+    | inr (inr small) ↦ inr (inl (small_attribute, (attribute, small)))
+  ]
+  | inr plain ↦ elim (cases_eq (kind_of order p) 80) as (λ _. PieceOrNone order p) [
+    | inr other ↦ inl (record { is_record = is; attribute = λ _ e. absurd (plain e); feature = λ _ e. absurd (other e); names = λ _ e _. absurd (other e) })
+    | inl feature ↦ elim (cases_lt (length (drop 8 p)) 8) as (λ _. PieceOrNone order p) [
+      | inl short ↦ inr (inl (cut_metadata, inr (feature, short)))
+      | inr long ↦ elim (names_or_none order p is feature long) as (λ _. PieceOrNone order p) [ inl good ↦ inl good | inr none ↦ inr (inr none) ]
     ]
   ]
 ]
 
 found_record : (order : Endianness) (bound : Bound) (offset : ℕ) (attrs : List Attribute) (rest p : List ℕ) → Rule attrs → Begins bound offset → Fronts order offset rest p → Found order bound offset attrs rest
 found_record order (Some size) offset attrs rest p rule begins fronts =
-    (piece p, (begins, fronts, record { is_record = fronts.is_record; attribute = λ e. absurd (cc); feature = λ e. absurd (cc) }, subst Rule (sym (append-nil attrs)) rule))
+    (piece p, (begins, fronts, record { is_record = fronts.is_record; attribute = λ e. absurd (cc); feature = λ e. absurd (cc); names = λ e. absurd (cc) }, subst Rule (sym (append-nil attrs)) rule))
 found_record order None offset attrs rest p rule begins fronts = elim (piece_or_none order p fronts.is_record) [
-  | inr bad ↦ (ended (faulty bad_metadata), (begins, (refl, (p, fronts, bad))))
+  | inr (inl bad) ↦ (ended (faulty (bad_metadata bad.0)), (begins, (refl, (p, fronts, bad.1))))
+  | inr (inr none) ↦ (ended (faulty (bad_names order none.0)), (begins, (refl, refl, (p, fronts, none.1))))
   | inl is ↦ elim (rule_or_breach (attrs ++ attributes_of order None (kind_of order p) (drop 8 p))) [
     | inl kept ↦ (piece p, (begins, fronts, is, kept))
     | inr broken ↦ (ended (faulty (unruly broken.0)), (begins, (refl, (p, fronts, is, broken.1))))

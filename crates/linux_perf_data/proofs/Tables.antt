@@ -1,18 +1,15 @@
 -- How the entries and the bytes that were read come to a file's sections, or to the reason why there are none.
-use Rattle.std.proofs.Common.{◌≡◌, ◌≢◌, ℕ, ◌+◌, ◌*◌, ◌<◌, ◌≤◌, ◌⊎◌, true, false, List, [], ◌∷◌, ◌++◌, length, take, drop, get_or, refl, sym, ap, ◌∙◌, subst, arith, inl, inr, length-append, length-drop, append_assoc, append-nil, take-append-drop, drop-cons, add-one, Option, None, Some}
-use Rattle.std.specs.Prelude.{Result, Ok, Err, IfSome, Vec, All, map, cond, nat_eq}
+use Rattle.std.proofs.Common.{◌≡◌, ℕ, ◌+◌, ◌*◌, ◌≤◌, ◌⊎◌, true, false, List, [], ◌∷◌, ◌++◌, length, take, drop, refl, sym, ap, ◌∙◌, subst, arith, inl, inr, length-append, length-drop, append_assoc, append-nil, Option, None, Some}
+use Rattle.std.specs.Prelude.{Result, Ok, Err, IfSome, Vec, All, cond, nat_eq}
 use Rattle.std.specs.Option.{option_map}
 use Rattle.std.specs.Map.{lookup, update, update_all}
 use Rattle.std.specs.declared.alloc.Global.{Global}
-use Rattle.std.specs.IoError.{error_kind}
 use Rattle.std.specs.declared.io.Error.{Error as IoErrorValue}
-use Rattle.std.specs.declared.io.ErrorKind.TheVariants.{UnexpectedEof}
-use Rattle.std.proofs.Math.Seq.{drop-append_seam}
 use Rattle.std.proofs.lemmas.List.{drop-append-le, map_push, map-append, take_all}
 use Rattle.std.proofs.lemmas.List.Elements.{All-nil, All-push}
 use Rattle.std.proofs.lemmas.List.Sums.{fold_push}
 use Rattle.indexmap.specs.IndexMap.{IndexMap, get}
-use Rattle.perfdata_base.specs.Source.{State, Place, Gave, GaveNone, Stood, Failed, Paused, CamePart, CutShort, IsPlaced, all_of, behind, prepend, put_at}
+use Rattle.perfdata_base.specs.Source.{State, Place, Stood, CutShort, IsPlaced, all_of, behind, prepend, put_at}
 use Rattle.perfdata_base.specs.Numbers.{number_in}
 use Rattle.perfdata_base.specs.Section.{section_of, TookSection}
 use Rattle.perfdata_base.specs.declared.features.Feature.{Feature}
@@ -27,7 +24,7 @@ use Rattle.perfdata_parts.specs.Part.{ReadsBytes, error_of}
 use Rattle.perfdata_parts.specs.Error.{IsShort}
 use Rattle.perfdata_parts.specs.declared.error.Error.{Error}
 use Rattle.perfdata_parts.specs.declared.error.Error.TheVariants.{IoError, Memory as OfMemory}
-use Rattle.linux_perf_data.specs.Sections.{Entry, entries_in, entries_of, HoldsSection, LacksSection, bytes_of_section, sections_by, data_by, data_in, LacksOne, table_of, HasTable, HasSections, LacksSections, SourceOwesBytes, TookTable, StoppedTable, ReadsTable, ReadsSection, ReadsData, ReadsSections}
+use Rattle.linux_perf_data.specs.Sections.{Entry, entries_in, entries_of, HoldsSection, LacksSection, bytes_of_section, sections_by, data_by, data_in, LacksOne, table_of, HasTable, HasSections, LacksSections, SourceOwesBytes, TookTable, StoppedTable, ReadsSection, ReadsData, ReadsSections}
 
 -- ---- one section
 

@@ -4,7 +4,7 @@ use Rattle.std.specs.Option.{option_map}
 use Rattle.perfdata_base.specs.Place.{is_set, id_places_of, places_of, identifier_of, time_of}
 use Rattle.perfdata_base.specs.declared.raw.Endianness.{Endianness}
 use Rattle.perfdata_base.specs.declared.place.RecordParseInfo.{RecordParseInfo}
-pub use Rattle.perfdata_parts.specs.HeaderAttr.{Attribute, HoldsAttribute, attribute_in, numbers}
+pub use Rattle.perfdata_records.specs.HeaderAttr.{Attribute, HoldsAttribute, attribute_in, numbers}
 
 -- The rule of attributes: the identifiers of all records stand at the same places.
 abbrev pub Rule : List Attribute → Type 0

@@ -1,11 +1,17 @@
 -- What the laws of the layout say.
-use Rattle.std.specs.Prelude.{◌≡◌, ◌≢◌, ◌⊎◌, ℕ, ◌+◌, ◌^◌, ◌<◌, ◌≤◌, ◌==◌, List, ◌∷◌, ◌++◌, length, drop, count_by, All, AllPairs}
+use Rattle.std.specs.Prelude.{◌≡◌, ◌≢◌, ◌⊎◌, ℕ, ◌+◌, ◌^◌, ◌<◌, ◌≤◌, ◌==◌, List, ◌∷◌, ◌++◌, length, drop, map, count_by, All, AllPairs, Option}
 use Rattle.std.specs.List.{concat}
 use Rattle.perfdata_base.specs.declared.raw.Endianness.{Endianness}
-use Rattle.linux_perf_data.specs.Attribute.{Attribute, Rule}
+use Rattle.linux_perf_data.specs.Attribute.{Attribute, Rule, Breach, Breaks}
 use Rattle.linux_perf_data.specs.Layout.{Bound, Begins, IsEnd, IsRecord, IsPiece, Fronts, Fault, FaultAt, End, Layout, Handed, handed, handed_at, brought, ToCome, attributes_of, attributes_in, kind_of, size_of}
 use Rattle.perfdata_base.specs.Numbers.{number_in}
-use Rattle.perfdata_parts.specs.Auxtrace.{HoldsAuxtrace}
+use Rattle.perfdata_parts.specs.AttributeDescription.{name_in, ids_in}
+use Rattle.perfdata_records.specs.Auxtrace.{HoldsAuxtrace}
+use Rattle.perfdata_parts.specs.EventDesc.{NoEventDesc}
+use Rattle.perfdata_parts.specs.declared.error.Error.{Error}
+use Rattle.perfdata_parts.specs.declared.feature_sections.AttributeDescription.{AttributeDescription}
+use Rattle.linux_perf_data.specs.Names.{TellsNames, Named}
+use Rattle.linux_perf_data.specs.PipeOpen.{IsPipeHeader, AreMetadata, EndsMetadata, CanOpen, StopsPipe}
 
 -- no bytes begin with two whole records: none is a proper front of another
 abbrev pub OneRecord : Type 0
@@ -26,6 +32,14 @@ abbrev pub EndFaultOrPiece : Type 0
 EndFaultOrPiece = (order : Endianness) (bound : Bound) (offset : ℕ) (attrs : List Attribute) (rest : List ℕ) → Rule attrs →
     IsEnd order bound offset rest ⊎ (((f : Fault) × FaultAt order bound offset attrs rest f)
     ⊎ ((p : List ℕ) × Fronts order offset rest p × IsPiece order bound p × Rule (attrs ++ attributes_of order bound (kind_of order p) (drop 8 p))))
+
+-- attributes keep the rule, or some attribute is the first that breaks it: no identifiers stand at other places
+abbrev pub RuleOrBreach : Type 0
+RuleOrBreach = (attrs : List Attribute) → Rule attrs ⊎ ((b : Breach) × Breaks attrs b)
+
+-- and not both
+abbrev pub OneBreach : Type 0
+OneBreach = (attrs : List Attribute) (b c : Breach) → Breaks attrs b → Breaks attrs c → (b ≡ c) × (¬ Rule attrs)
 
 -- no bytes have two layouts
 abbrev pub OneLayout : Type 0
@@ -77,3 +91,22 @@ RecordsBring = (order : Endianness) (bound : Bound) (offset round : ℕ) (attrs 
 abbrev pub TracesHold : Type 0
 TracesHold = (order : Endianness) (offset round : ℕ) (attrs : List Attribute) (p : List ℕ) → IsRecord order p → kind_of order p ≡ 71 → size_of order p ≡ 48 →
     HoldsAuxtrace (number_in order) (handed_at order offset round attrs p).body
+
+-- bytes of which a refusal is true tell no names
+abbrev pub NoNamesAtRefusal : Type 0
+NoNamesAtRefusal = (order : Endianness) (e : Error) (bytes : List ℕ) → NoEventDesc (number_in order) e bytes → ¬ TellsNames order bytes
+
+-- attributes with the same ids have the same names by one EVENT_DESC, and where there is none
+abbrev pub OneNaming : Type 0
+OneNaming = (order : Endianness) (desc : Option (List ℕ)) (ds es : List AttributeDescription) →
+    Named order desc ds → Named order desc es → map ids_in ds ≡ map ids_in es → map name_in ds ≡ map name_in es
+
+-- bytes begin with one run of records of metadata behind which none stands
+abbrev pub OneOpening : Type 0
+OneOpening = (order : Endianness) (ps qs : List (List ℕ)) (behind later : List ℕ) → AreMetadata order ps → AreMetadata order qs → EndsMetadata order behind → EndsMetadata order later →
+    concat ps ++ behind ≡ concat qs ++ later → (ps ≡ qs) × (behind ≡ later)
+
+-- where what it tells opens a pipe, no refusal is true
+abbrev pub OpeningStands : Type 0
+OpeningStands = (order : Endianness) (header : List ℕ) (ps : List (List ℕ)) (behind : List ℕ) (e : Error) → IsPipeHeader order header → AreMetadata order ps → EndsMetadata order behind → CanOpen order ps →
+    ¬ StopsPipe (header ++ (concat ps ++ behind)) e

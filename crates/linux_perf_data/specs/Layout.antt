@@ -3,6 +3,9 @@ use Rattle.std.specs.Prelude.{◌≡◌, ◌≢◌, ◌⊎◌, ℕ, ◌+◌, ◌
 use Rattle.std.specs.List.{concat}
 use Rattle.perfdata_base.specs.Numbers.{number_in}
 use Rattle.perfdata_base.specs.declared.raw.Endianness.{Endianness}
+use Rattle.perfdata_base.specs.Attr.{IsUnfinished, IsTooSmall}
+use Rattle.perfdata_records.specs.HeaderAttr.{CutsIds}
+use Rattle.linux_perf_data.specs.Names.{TellsNames, event_desc, feature_of}
 use Rattle.linux_perf_data.specs.Attribute.{Attribute, Event, Rule, Breach, Breaks, HoldsAttribute, attribute_in, event_of, event_time}
 
 -- Where records stand: in a section of this size, or, where there is none, in a pipe, whose records may hold metadata.
@@ -18,6 +21,11 @@ Begins (Some size) offset = offset < size
 abbrev pub IsCompressed : ℕ → Type 0
 IsCompressed kind = (kind ≡ 81) ⊎ (kind ≡ 83)
 
+-- how a record of a pipe spoils the metadata that its type promises: it ends early, or its attribute's own size is below 64
+pub data Spoilt : Type 0 where
+  cut_metadata : Spoilt
+  small_attribute : Spoilt
+
 -- what the layout can have in a record's place
 pub data Fault : Type 0 where
   short_head : Fault
@@ -28,7 +36,9 @@ pub data Fault : Type 0 where
   short_trace : Fault
   trace_too_far : Fault
   cut_trace : Fault
-  bad_metadata : Fault
+  bad_metadata : Spoilt → Fault
+  -- these bytes are an EVENT_DESC in this order that can't be read
+  bad_names : Endianness → List ℕ → Fault
   unruly : Breach → Fault
 
 -- how a layout ends
@@ -94,6 +104,7 @@ module _ (order : Endianness) where
     pub is_record : IsRecord p
     pub attribute : bound ≡ None → kind_of p ≡ 64 → HoldsAttribute order (drop 8 p)
     pub feature : bound ≡ None → kind_of p ≡ 80 → 8 ≤ length (drop 8 p)
+    pub names : bound ≡ None → kind_of p ≡ 80 → feature_of order (drop 8 p) ≡ event_desc → TellsNames order (drop 16 p)
 
   -- bytes begin with a whole record
   pub record Fronts (offset : ℕ) (rest p : List ℕ) : Type 0 where
@@ -102,9 +113,22 @@ module _ (order : Endianness) where
     pub cut : rest ≡ p ++ behind
     pub fits : offset + length p < 2 ^ 64
 
-  -- a record of a pipe that should hold metadata, and doesn't
-  abbrev pub HoldsNone : List ℕ → Type 0
-  HoldsNone p = ((kind_of p ≡ 64) × ¬ HoldsAttribute order (drop 8 p)) ⊎ ((kind_of p ≡ 80) × (length (drop 8 p) < 8))
+  -- an attribute, or the last identifier behind it, that ends early
+  abbrev pub CutsAttribute : List ℕ → Type 0
+  CutsAttribute body = IsUnfinished (number_in order) body ⊎ CutsIds (number_in order) body
+
+  -- a record of a pipe that should hold metadata, and doesn't, for this reason
+  abbrev pub HoldsNone : Spoilt → List ℕ → Type 0
+  HoldsNone cut_metadata p = ((kind_of p ≡ 64) × CutsAttribute (drop 8 p)) ⊎ ((kind_of p ≡ 80) × (length (drop 8 p) < 8))
+  HoldsNone small_attribute p = (kind_of p ≡ 64) × IsTooSmall (number_in order) (drop 8 p)
+
+  -- a record of a pipe that should hold an EVENT_DESC, and these bytes are none
+  pub record HoldsNoNames (bytes p : List ℕ) : Type 0 where
+    pub kind : kind_of p ≡ 80
+    pub there : 8 ≤ length (drop 8 p)
+    pub is : feature_of order (drop 8 p) ≡ event_desc
+    pub are : bytes ≡ drop 16 p
+    pub unread : ¬ TellsNames order bytes
 
   -- a whole head stands at an offset, and says where its record ends
   pub record HasHead (offset : ℕ) (rest : List ℕ) : Type 0 where
@@ -133,7 +157,8 @@ module _ (order : Endianness) where
   FaultAt bound offset attrs rest short_trace = HasBody offset rest × (kind_of rest ≡ 71) × (size_of rest < 48)
   FaultAt bound offset attrs rest trace_too_far = HasTrace offset rest × (2 ^ 64 ≤ offset + extent_of rest)
   FaultAt bound offset attrs rest cut_trace = HasTrace offset rest × (offset + extent_of rest < 2 ^ 64) × (length rest < extent_of rest)
-  FaultAt bound offset attrs rest bad_metadata = (bound ≡ None) × ((p : List ℕ) × Fronts offset rest p × HoldsNone p)
+  FaultAt bound offset attrs rest (bad_metadata why) = (bound ≡ None) × ((p : List ℕ) × Fronts offset rest p × HoldsNone why p)
+  FaultAt bound offset attrs rest (bad_names o bytes) = (bound ≡ None) × (o ≡ order) × ((p : List ℕ) × Fronts offset rest p × HoldsNoNames bytes p)
   FaultAt bound offset attrs rest (unruly b) =
       (bound ≡ None) × ((p : List ℕ) × Fronts offset rest p × IsPiece None p × Breaks (attrs ++ attributes_of None (kind_of p) (drop 8 p)) b)
 

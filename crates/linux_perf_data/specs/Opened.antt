@@ -1,10 +1,8 @@
 -- What a caller learns of a file that was opened, or that was refused.
 use Rattle.std.specs.Prelude.{◌≡◌, ◌≢◌, ◌⊎◌, ℕ, List, drop, Result, Ok, Err, Some, IfSome}
 use Rattle.perfdata_base.specs.Source.{State, Place, Stood}
-use Rattle.perfdata_base.specs.Numbers.{number_in}
 use Rattle.perfdata_base.specs.declared.raw.Endianness.{Endianness}
 use Rattle.perfdata_base.specs.declared.header.PerfHeader.{PerfHeader}
-use Rattle.perfdata_parts.specs.Attributes.{DescribesByAttrSection}
 use Rattle.perfdata_parts.specs.declared.error.Error.{Error}
 use Rattle.perfdata_parts.specs.declared.error.Error.TheVariants.{Memory}
 use Rattle.linux_perf_data.specs.declared.opening.Opening.{Opening}
@@ -12,27 +10,29 @@ use Rattle.linux_perf_data.specs.declared.file_reader.PerfFileReader.{PerfFileRe
 use Rattle.linux_perf_data.specs.declared.iter.PerfRecordIter.{PerfRecordIter}
 use Rattle.linux_perf_data.specs.declared.iter.Stage.TheVariants.{Running}
 use Rattle.linux_perf_data.specs.declared.perf_file.PerfFile.{PerfFile}
-use Rattle.linux_perf_data.specs.Attribute.{Attribute}
+use Rattle.linux_perf_data.specs.Attribute.{Attribute, Rule}
 use Rattle.linux_perf_data.specs.Known.{Knows}
 use Rattle.linux_perf_data.specs.Layout.{Handed, End, ToCome}
-use Rattle.linux_perf_data.specs.Iter.{RecordsToCome, view}
+use Rattle.linux_perf_data.specs.declared.input.Input.TheVariants.{Section}
+use Rattle.linux_perf_data.specs.Iter.{RecordsToCome, view, bound_of}
 use Rattle.linux_perf_data.specs.Sections.{data_in}
 use Rattle.linux_perf_data.specs.PerfFile.{descriptions_of, features_of, order_of_file, data_of, attributes_of_file}
-use Rattle.linux_perf_data.specs.Open.{IsHeader, IsPlain, HoldsSections, section_data, StopsFile, SourceOwesOpening}
+use Rattle.linux_perf_data.specs.Open.{IsHeader, EndsNear, HoldsSections, section_data, DescribesAttributes, StopsFile, SourceOwesOpening}
 
 -- the records of a file with this header, and how its data section's layout ends
 abbrev pub RecordsOf : Place → Endianness → PerfHeader → List Attribute → List Handed → End → Type 0
 RecordsOf p order h attrs records end = ToCome order (drop h.data_section.offset p.all) (Some h.data_section.size) 0 0 attrs records end
 
 -- The file that begins at a place says this of itself: its header, the sections of its features, which stand there whole,
--- and the attributes of its attribute section.
+-- and its attributes, which keep their rule.
 pub record Describes (p : Place) (header : PerfHeader) (file : PerfFile) : Type 0 where
   pub is : IsHeader p (order_of_file file) header
-  pub plain : IsPlain header
+  pub near : EndsNear header
   pub features : features_of file ≡ header.features
   pub holds : HoldsSections (order_of_file file) header p.all
   pub sections : (n : ℕ) → data_of file n ≡ section_data (order_of_file file) header p.all n
-  pub attributes : DescribesByAttrSection (number_in (order_of_file file)) header.attr_size header.attr_section p.all (descriptions_of file)
+  pub attributes : DescribesAttributes (order_of_file file) header p.all (descriptions_of file)
+  pub rule : Rule (attributes_of_file file)
 
 -- A file was refused, and its source dropped: the file shows the reason, or the source failed or paused, as a steady one
 -- never does.
@@ -53,12 +53,17 @@ module _ {R : Type 0} (seen : R → State) where
   -- what is made of an opening
   pub record Starts (source : R) (opening : Opening) (r : PerfFileReader R) : Type 0 where
     pub kept : r.record_iter.source ≡ source
-    pub size : r.record_iter.size ≡ opening.size
+    pub input : r.record_iter.input ≡ Section opening.size
     pub first : AtFirst r.perf_file r.record_iter
     pub order : order_of_file r.perf_file ≡ opening.endian
     pub features : features_of r.perf_file ≡ opening.features
     pub sections : (n : ℕ) → data_of r.perf_file n ≡ data_in opening.sections n
     pub attributes : descriptions_of r.perf_file ≡ opening.attributes.items
+
+  -- or memory ran out
+  abbrev pub StartsOrNot : R → Opening → Result (PerfFileReader R) Error → Type 0
+  StartsOrNot source opening (Ok r) = Starts source opening r
+  StartsOrNot source opening (Err e) = e ≡ Memory
 
   -- The file that begins at a place was opened, and its records are those that the iterator is to hand out.
   pub record OpensFile (p : Place) (file : PerfFile) (it : PerfRecordIter R) : Type 0 where
@@ -73,6 +78,7 @@ module _ {R : Type 0} (seen : R → State) where
   -- a file was opened
   pub record Opens (old : State) (file : PerfFile) (it : PerfRecordIter R) : Type 0 where
     pub first : AtFirst file it
+    pub section : (size : ℕ) × (bound_of seen it ≡ Some size)
     pub stood : Stood old (view seen it)
     pub opened : IfSome old.place (λ p. OpensFile p file it)
 

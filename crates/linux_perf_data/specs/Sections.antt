@@ -2,9 +2,7 @@
 use Rattle.std.specs.Prelude.{◌≡◌, ◌≢◌, ℕ, ◌*◌, ◌<◌, ◌≤◌, ◌++◌, ◌⊎◌, List, [], ◌∷◌, length, take, drop, map, nat_eq, All, Option, None, Result, Ok, Err, IfSome, Vec}
 use Rattle.std.specs.Map.{lookup, update_all}
 use Rattle.std.specs.Option.{option_map}
-use Rattle.std.specs.Borrow.{Bor}
 use Rattle.std.specs.declared.alloc.Global.{Global}
-use Rattle.std.specs.IoError.{error_kind}
 use Rattle.indexmap.specs.IndexMap.{IndexMap}
 use Rattle.perfdata_base.specs.Source.{State, Gave, GaveNone, Stood, Failed, Paused, all_of, put_at}
 use Rattle.perfdata_base.specs.Numbers.{number_in}

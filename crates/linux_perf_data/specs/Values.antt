@@ -10,7 +10,7 @@ use Rattle.perfdata_base.specs.declared.raw.Endianness.{Endianness}
 use Rattle.perfdata_parts.specs.Error.{IsShort}
 use Rattle.perfdata_parts.specs.Strings.{before_nul}
 use Rattle.perfdata_parts.specs.NumberSections.{nr_cpus_of, sample_times_of, compression_of, clock_of, IsCutClock}
-use Rattle.perfdata_parts.specs.Pmu.{PmuUnit, IsPmuSectionOf, IsCutPmuSection}
+use Rattle.perfdata_parts.specs.Pmu.{IsPmuSectionOf, IsCutPmuSection}
 use Rattle.perfdata_parts.specs.declared.error.Error.{Error}
 use Rattle.perfdata_parts.specs.declared.error.Error.TheVariants.{IoError, NotEnoughSpaceForStringLen, NotEnoughSpaceForStringListLen, StringLengthTooLong, StringUtf8, FeatureSectionTooSmall, Memory}
 use Rattle.perfdata_parts.specs.declared.feature_sections.numbers.NrCpus.{NrCpus}

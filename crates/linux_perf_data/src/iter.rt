@@ -1,15 +1,18 @@
 ghost use Rattle.std.specs.Prelude.{◌≡◌, ◌≤◌, []};
 ghost use Rattle.perfdata_base.specs.Raw.{bytes_of};
 
+use crate::input::{Input, cut};
 use crate::known::{FoundEvent, Known};
+use crate::late::take_in;
 use crate::perf_file::PerfFile;
 use crate::piece::{HEAD, end_of, pass_body, read_content, read_head};
 use perfdata_base::event::{PerfEventHeader, RawEventRecord, RecordType};
 use perfdata_base::raw::{Endianness, RawData};
 use perfdata_base::source::Source;
 use perfdata_parts::constants::PERF_RECORD_FINISHED_ROUND;
-use perfdata_parts::error::Error;
-use perfdata_parts::record::{PerfFileRecord, RawUserRecord, UserRecordType};
+use perfdata_parts::error::{Error, ReadError, short};
+use perfdata_records::record::{PerfFileRecord, RawUserRecord, UserRecordType};
+use std::alloc::Global;
 
 /// Where a record stands, and when it was written.
 #[derive(Clone, Copy, Debug, PartialEq, Eq)]
@@ -46,7 +49,34 @@ pub(crate) struct Found {
 }
 
 impl Found {
-    ghost use Rattle.linux_perf_data.specs.Iter.{handed_of, found_with};
+    ghost use Rattle.linux_perf_data.specs.Iter.{handed_of, found_with, FindsRecord};
+    ghost use Rattle.linux_perf_data.specs.Known.{StillKnows};
+
+    // The record of this head, with this body, at this place.
+    fn at(known: &mut Known, body: &[u8], offset: u64, round: u64, head: PerfEventHeader) -> Found
+        ensures finds { FindsRecord known.old offset round head body.now result }
+        ensures knows { StillKnows known.old known.new }
+    {
+        let record_type = RecordType(head.type_);
+        let (writer, timestamp) = match UserRecordType::try_from(record_type) {
+            Some(user_type) => (Writer::Tool(user_type), None),
+            None => {
+                let event = known.event_of(record_type, body);
+                let time = event.places.time_of(record_type, body);
+                (Writer::Kernel(event), time)
+            }
+        };
+        Found {
+            place: RecordPlace {
+                timestamp,
+                offset,
+                round,
+            },
+            record_type,
+            misc: head.misc,
+            writer,
+        }
+    }
 
     // The record with its body.
     fn with_body<'a>(self, endian: Endianness, body: RawData<'a>) -> PerfFileRecord<'a>
@@ -77,31 +107,74 @@ impl Found {
 /// It reads nothing ahead: after a record the source stands exactly behind it.
 #[derive(Drop)]
 pub struct PerfRecordIter<R> {
+    pub(crate) alloc: Global,
     pub(crate) source: R,
+    pub(crate) input: Input,
     pub(crate) endian: Endianness,
     pub(crate) known: Known,
     pub(crate) body: Vec<u8>,
     pub(crate) offset: u64,
     pub(crate) round: u64,
-    pub(crate) size: u64,
     pub(crate) stage: Stage,
     ghost rounds_fit: { round ≤ offset },
 }
 
+impl<R> PerfRecordIter<R> {
+    // An iterator that stands at the first record.
+    pub(crate) fn at_first(
+        alloc: Global,
+        source: R,
+        input: Input,
+        endian: Endianness,
+        known: Known,
+        stage: Stage,
+    ) -> PerfRecordIter<R>
+        ensures source { result.source ≡ source }
+        ensures input { result.input ≡ input }
+        ensures order { result.endian ≡ endian }
+        ensures known { result.known ≡ known }
+        ensures stage { result.stage ≡ stage }
+        ensures first { (result.offset ≡ 0) × (result.round ≡ 0) }
+    {
+        PerfRecordIter {
+            alloc,
+            source,
+            input,
+            endian,
+            known,
+            body: Vec::new(alloc),
+            offset: 0,
+            round: 0,
+            stage,
+        }
+    }
+}
+
 impl<R: Source> PerfRecordIter<R> {
-    ghost use Rattle.linux_perf_data.specs.Iter.{NextPiece, FindsRecord, Advances, Nexts};
+    ghost use Rattle.linux_perf_data.specs.Iter.{NextPiece, MayBegin, TakesRecord, Advances, Nexts, bound_of};
     ghost use Rattle.std.specs.Io.BufRead.{Rests};
     ghost use Rattle.std.specs.Borrow.{sem};
     ghost use Rattle.linux_perf_data.specs.contracts.iter.PerfRecordIter.{the_row};
 
-    // The piece at the front of the source: a record, whose body is then held, or a marker.
-    fn next_piece(&mut self) -> Result<PerfEventHeader, Error>
+    // Whether a record may begin here: in a file the section's end ends the records.
+    fn may_begin(&self) -> bool
+        ensures { MayBegin (bound_of R.seen self.now) self.now.offset result }
+    {
+        match self.input {
+            Input::Section(size) => self.offset < size,
+            Input::Pipe(_) => true,
+        }
+    }
+
+    // The piece at the front of the source: a record, whose body is then held, or a marker. None where a pipe ends.
+    fn next_piece(&mut self) -> Result<Option<PerfEventHeader>, Error>
         requires empty { self.old.body.items ≡ [] }
         ensures piece { NextPiece R.seen self.old result self.new }
         ensures lent { R.lent self.new.source ≡ R.lent self.old.source }
     {
-        let head = match read_head(&mut self.source, self.endian) {
-            Ok(head) => head,
+        let head = match read_head(&mut self.source, &mut self.input, self.endian) {
+            Ok(Some(head)) => head,
+            Ok(None) => return cut(self.input, short()),
             Err(error) => return Err(error),
         };
         let end = match end_of(self.offset, head.size) {
@@ -110,50 +183,52 @@ impl<R: Source> PerfRecordIter<R> {
         };
         if head.type_ == PERF_RECORD_FINISHED_ROUND {
             match pass_body(&mut self.source, (head.size - HEAD) as u64) {
-                Ok(()) => {}
+                Ok(true) => {}
+                Ok(false) => return cut(self.input, Error::Read(ReadError::PerfEventData)),
                 Err(error) => return Err(error),
             }
             self.round += 1;
             self.offset = end;
-            return Ok(head);
+            return Ok(Some(head));
         }
         match read_content(&mut self.source, self.endian, head, &mut self.body, end) {
-            Ok(whole) => {
+            Ok(Some(whole)) => {
                 self.offset = whole;
-                Ok(head)
+                Ok(Some(head))
             }
+            Ok(None) => cut(self.input, Error::Read(ReadError::PerfEventData)),
             Err(error) => Err(error),
         }
     }
 
-    // The record of this head, of which the body is held, at this place.
-    fn found_at(&self, offset: u64, round: u64, head: PerfEventHeader) -> Found
-        ensures { FindsRecord self.now offset round head result }
+    // The record whose body is held, found by the attributes that came before it. What it brings is then taken in.
+    fn take_record(
+        &mut self,
+        file: &mut PerfFile,
+        offset: u64,
+        round: u64,
+        head: PerfEventHeader,
+    ) -> Result<Found, Error>
+        ensures takes { TakesRecord R.seen self.old file.old offset round head result self.new file.new }
+        ensures lent { R.lent self.new.source ≡ R.lent self.old.source }
     {
-        let record_type = RecordType(head.type_);
-        let (writer, timestamp) = match UserRecordType::try_from(record_type) {
-            Some(user_type) => (Writer::Tool(user_type), None),
-            None => {
-                let event = self.known.event_of(record_type, self.body.as_slice());
-                let time = event.places.time_of(record_type, self.body.as_slice());
-                (Writer::Kernel(event), time)
+        let body = self.body.as_slice();
+        let found = Found::at(&mut self.known, body, offset, round, head);
+        match self.input {
+            Input::Section(_) => Ok(found),
+            Input::Pipe(_) => {
+                let (alloc, endian) = (self.alloc, self.endian);
+                match take_in(alloc, endian, &mut self.known, file, head.type_, body) {
+                    Ok(()) => Ok(found),
+                    Err(error) => Err(error),
+                }
             }
-        };
-        Found {
-            place: RecordPlace {
-                timestamp,
-                offset,
-                round,
-            },
-            record_type,
-            misc: head.misc,
-            writer,
         }
     }
 
     // Goes to the next record, whose body is then held.
-    fn advance(&mut self) -> Result<Option<Found>, Error>
-        ensures advances { Advances R.seen self.old result self.new }
+    fn advance(&mut self, file: &mut PerfFile) -> Result<Option<Found>, Error>
+        ensures advances { Advances R.seen self.old file.old result self.new file.new }
         ensures lent { R.lent self.new.source ≡ R.lent self.old.source }
     {
         match self.stage {
@@ -163,14 +238,25 @@ impl<R: Source> PerfRecordIter<R> {
         }
         self.body.clear();
         let _offset = self.offset;
-        'pieces: while self.offset < self.size {
+        'pieces: while self.may_begin() {
             let offset = self.offset;
             let round = self.round;
             match self.next_piece() {
-                Ok(head) => {
+                Ok(Some(head)) => {
                     if head.type_ != PERF_RECORD_FINISHED_ROUND {
-                        return Ok(Some(self.found_at(offset, round, head)));
+                        match self.take_record(file, offset, round, head) {
+                            Ok(found) => return Ok(Some(found)),
+                            Err(error) => {
+                                self.offset = offset;
+                                self.stage = Stage::Failed;
+                                return Err(error);
+                            }
+                        }
                     }
+                }
+                Ok(None) => {
+                    self.stage = Stage::Ended;
+                    return Ok(None);
                 }
                 Err(error) => {
                     self.stage = Stage::Failed;
@@ -190,16 +276,23 @@ impl<R: Source> PerfRecordIter<R> {
     /// where what belongs to a head ends early or can't be read, or would end past 2^64 - 1; `IoError` of kind `Unsupported`
     /// at a compressed record (types 81 and 83), whose bytes were read; `Memory` where memory runs out for a body.
     ///
+    /// A pipe ends where a head, or what its size counts, is cut off: that is no fault there. A pipe's record of metadata
+    /// (types 64 and 80) is taken into `perf_file` before it is handed out: its attribute stands behind those before, which
+    /// all get their names anew by EVENT_DESC, and its feature's data takes the place of what was there. Where such a record
+    /// can't be taken in, `perf_file` stays as it was: `IoError` of kind `InvalidInput` where the `perf_file` doesn't have as
+    /// many attributes as came, `UnexpectedEof` where the record ends early, `InvalidData` where an attribute tells a size
+    /// below 64; the refusal of `parse_event_desc_section` where EVENT_DESC can't be read; `NoIdentifierDespiteMultiEvent`
+    /// and `InconsistentSampleIdAllWithMultiEvent` where the attributes break their rule; `Memory`.
+    ///
     /// A refusal is answered once with its cause; from then on each call answers [`Error::Failed`] and reads nothing.
     /// After the end each call answers `Ok(None)` and reads nothing.
     pub fn next_record(
         &mut self,
-        _perf_file: &mut PerfFile,
+        perf_file: &mut PerfFile,
     ) -> Result<Option<(RecordPlace, PerfFileRecord<'_>)>, Error>
-        ensures file { _perf_file.new ≡ _perf_file.old }
-        ensures* after_borrow { sem 𝓛 (Rests (the_row R.row) self.entry (λ new. Nexts R.seen R.lent self.old result new)) }
+        ensures* after_borrow { sem 𝓛 (Rests (the_row R.row) self.entry (λ new. Nexts R.seen R.lent self.old perf_file.old result new perf_file.new)) }
     {
-        match self.advance() {
+        match self.advance(perf_file) {
             Ok(Some(found)) => {
                 let endian = self.endian;
                 let body = RawData::Single(self.body.as_slice());

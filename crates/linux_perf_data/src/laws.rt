@@ -1,6 +1,8 @@
 //! Laws of the layout of records, over its definitions alone: what the clauses of a reading promise is one list, and
 //! there is one.
-ghost use Rattle.linux_perf_data.specs.Laws.{OneRecord, OneFault, NoFaultAtPiece, EndFaultOrPiece, OneLayout, SomeLayout, OneToCome, OffsetsRise, PlaceOfPiece, RecordsBring, TracesHold};
+ghost use Rattle.linux_perf_data.specs.BuildIds.{OneListOfEntries, KeysEqualByTexts};
+ghost use Rattle.linux_perf_data.specs.Late.{HoldsNone, HoldsMore, NamesStay};
+ghost use Rattle.linux_perf_data.specs.Laws.{OneRecord, OneFault, NoFaultAtPiece, EndFaultOrPiece, RuleOrBreach, OneBreach, OneLayout, SomeLayout, OneToCome, OffsetsRise, PlaceOfPiece, RecordsBring, TracesHold, NoNamesAtRefusal, OneNaming, OneOpening, OpeningStands};
 
 /// No bytes begin with two whole records.
 pub fn at_most_one_record()
@@ -12,6 +14,13 @@ pub fn one_thing_stands()
     ensures one_fault { OneFault }
     ensures no_fault_at_piece { NoFaultAtPiece }
     ensures something { EndFaultOrPiece }
+{}
+
+/// Where the identifiers of attributes' records don't all stand at the same places, some attribute breaks the rule of
+/// attributes, and the first that does is determined.
+pub fn rule_kept_or_broken()
+    ensures kept_or_broken { RuleOrBreach }
+    ensures one_breach { OneBreach }
 {}
 
 /// No bytes have two layouts: the records that they begin with are determined, and so is the end or the fault behind
@@ -45,7 +54,38 @@ pub fn records_bring()
     ensures { RecordsBring }
 {}
 
+/// What a pipe's records bring into a `PerfFile` one behind another is what they bring together, and an EVENT_DESC that
+/// can be read is always followed by one that can.
+pub fn several_records_bring()
+    ensures none { HoldsNone }
+    ensures more { HoldsMore }
+    ensures names { NamesStay }
+{}
+
 /// `Auxtrace::parse` accepts the body of each record with auxiliary data that is handed out, where the record's head says 48 bytes.
 pub fn traces_hold()
     ensures { TracesHold }
+{}
+
+/// The records of metadata that open a pipe are determined by its bytes, and where what they tell opens it no refusal is true.
+pub fn one_opening()
+    ensures one { OneOpening }
+    ensures stands { OpeningStands }
+{}
+
+/// The names of a pipe's attributes are determined by the attributes' ids and the bytes of EVENT_DESC, and where those are refused
+/// there are none.
+pub fn one_naming()
+    ensures refused { NoNamesAtRefusal }
+    ensures determined { OneNaming }
+{}
+
+/// The section of build ids is cut into entries in one way, so its map is determined.
+pub fn one_list_of_build_ids()
+    ensures { OneListOfEntries }
+{}
+
+/// Keys of mapped objects are equal exactly where they are of one kind with the same texts.
+pub fn keys_equal_by_texts()
+    ensures { KeysEqualByTexts }
 {}

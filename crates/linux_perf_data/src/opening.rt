@@ -1,6 +1,11 @@
-ghost use Rattle.std.specs.Prelude.{◌≡◌, ◌↔◌, IsTrue};
-ghost use Rattle.linux_perf_data.specs.Open.{TellsElsewhere, TellsOrder, TestsSeveral, ReadsAttributes, ReadsBehind, ReadsFile};
+ghost use Rattle.std.specs.Prelude.{◌≡◌};
+ghost use Rattle.std.specs.Option.{option_map};
+ghost use Rattle.linux_perf_data.specs.AttributeSources.{told_by, ReadsAttributes, ReadsTypes, ReadsMeta, ReadsNamed, ReadsAttrs};
+ghost use Rattle.linux_perf_data.specs.Open.{TellsOrder, ReadsBehind, ReadsFile};
+ghost use Rattle.linux_perf_data.specs.Sections.{data_in};
 
+use crate::names::read_event_desc;
+use crate::rule::check_rule;
 use crate::sections::{go_to, read_sections};
 use byteorder::{BigEndian, LittleEndian};
 use indexmap::IndexMap;
@@ -9,8 +14,9 @@ use perfdata_base::header::PerfHeader;
 use perfdata_base::raw::Endianness;
 use perfdata_base::section::PerfFileSection;
 use perfdata_base::source::PlacedSource;
-use perfdata_parts::error::{Error, ReadError, unsupported};
+use perfdata_parts::error::{Error, ReadError};
 use perfdata_parts::feature_sections::AttributeDescription;
+use perfdata_simpleperf::simpleperf::{SimplePerfEventType, get_event_types, parse_meta_info_map};
 use std::alloc::Global;
 
 const LITTLE_MAGIC: [u8; 8] = *b"PERFILE2";
@@ -28,7 +34,7 @@ pub(crate) struct Opening {
 }
 
 // The order that a magic value tells.
-fn order_of(magic: [u8; 8]) -> Result<Endianness, Error>
+pub(crate) fn order_of(magic: [u8; 8]) -> Result<Endianness, Error>
     ensures { TellsOrder magic result }
 {
     if magic == LITTLE_MAGIC {
@@ -40,37 +46,50 @@ fn order_of(magic: [u8; 8]) -> Result<Endianness, Error>
     Err(Error::UnrecognizedMagicValue(magic))
 }
 
-// Whether a section has room for two attributes or more.
-fn counts_several(section: &PerfFileSection, attr_size: u64) -> bool
-    ensures { TestsSeveral section.now attr_size result }
+// The bytes of a feature's section, where the file has it.
+pub(crate) fn section_of(sections: &IndexMap<Feature, Vec<u8>>, feature: Feature) -> Option<&[u8]>
+    ensures { option_map (λ s. s.now) result ≡ data_in sections.now feature.0 }
 {
-    if attr_size == 0 {
-        return false;
-    }
-    match section.offset.checked_add(section.size) {
-        Some(_) => section.size / attr_size >= 2,
-        None => false,
+    match sections.get(&feature) {
+        Some(bytes) => Some(bytes.as_slice()),
+        None => None,
     }
 }
 
-// Whether attributes are told by EVENT_DESC, by event types, or with simpleperf's meta info.
-fn tells_attributes_elsewhere(header: &PerfHeader) -> bool
-    ensures { IsTrue result ↔ TellsElsewhere header.now }
-{
-    header.features.has_feature(Feature::EVENT_DESC)
-        || header.event_types_section.size != 0
-        || header.features.has_feature(Feature::SIMPLEPERF_META_INFO)
-}
-
-// The attributes of the attribute section.
-fn read_attributes<C: PlacedSource>(
+// The attributes of the event types section.
+fn read_event_types<C: PlacedSource>(
     alloc: Global,
     source: &mut C,
     endian: Endianness,
     section: &PerfFileSection,
     attr_size: u64,
 ) -> Result<Vec<AttributeDescription>, Error>
-    ensures reads { ReadsAttributes endian attr_size section.now (C.seen source.old) result (C.seen source.new) }
+    ensures reads { ReadsTypes endian attr_size section.now (C.seen source.old) result (C.seen source.new) }
+    ensures lent { C.lent source.new ≡ C.lent source.old }
+{
+    match endian {
+        Endianness::LittleEndian => {
+            AttributeDescription::parse_event_types_section_from::<C, LittleEndian>(
+                alloc, source, section, attr_size,
+            )
+        }
+        Endianness::BigEndian => {
+            AttributeDescription::parse_event_types_section_from::<C, BigEndian>(
+                alloc, source, section, attr_size,
+            )
+        }
+    }
+}
+
+// The attributes of the attribute section.
+fn read_attr_section<C: PlacedSource>(
+    alloc: Global,
+    source: &mut C,
+    endian: Endianness,
+    section: &PerfFileSection,
+    attr_size: u64,
+) -> Result<Vec<AttributeDescription>, Error>
+    ensures reads { ReadsAttrs endian attr_size section.now (C.seen source.old) result (C.seen source.new) }
     ensures lent { C.lent source.new ≡ C.lent source.old }
 {
     match endian {
@@ -82,6 +101,80 @@ fn read_attributes<C: PlacedSource>(
         Endianness::BigEndian => AttributeDescription::parse_attr_section_from::<C, BigEndian>(
             alloc, source, section, attr_size,
         ),
+    }
+}
+
+// The event types that simpleperf's meta info of these bytes names.
+fn event_types_in(alloc: Global, bytes: &[u8]) -> Result<Vec<SimplePerfEventType>, Error>
+    ensures { ReadsMeta bytes.now result }
+{
+    let map = match parse_meta_info_map(alloc, bytes) {
+        Ok(map) => map,
+        Err(error) => return Err(error),
+    };
+    match get_event_types(alloc, &map) {
+        Ok(Some(types)) => Ok(types),
+        Ok(None) => Err(Error::NoEventTypesInSimpleperfMetaInfo),
+        Err(_) => Err(Error::Memory),
+    }
+}
+
+// The attributes of simpleperf's attribute section, named by these event types.
+fn read_named<C: PlacedSource>(
+    alloc: Global,
+    source: &mut C,
+    endian: Endianness,
+    header: &PerfHeader,
+    types: &[SimplePerfEventType],
+) -> Result<Vec<AttributeDescription>, Error>
+    ensures reads { ReadsNamed endian header.now.attr_size header.now.attr_section types.now (C.seen source.old) result (C.seen source.new) }
+    ensures lent { C.lent source.new ≡ C.lent source.old }
+{
+    let section = &header.attr_section;
+    let attr_size = header.attr_size;
+    match endian {
+        Endianness::LittleEndian => {
+            AttributeDescription::parse_simpleperf_attr_section_from::<C, LittleEndian>(
+                alloc, source, section, attr_size, types,
+            )
+        }
+        Endianness::BigEndian => {
+            AttributeDescription::parse_simpleperf_attr_section_from::<C, BigEndian>(
+                alloc, source, section, attr_size, types,
+            )
+        }
+    }
+}
+
+// The attributes of a file, from the first of their sources that it has.
+fn read_attributes<C: PlacedSource>(
+    alloc: Global,
+    source: &mut C,
+    endian: Endianness,
+    header: &PerfHeader,
+    event_desc: Option<&[u8]>,
+    meta_info: Option<&[u8]>,
+) -> Result<Vec<AttributeDescription>, Error>
+    ensures reads { ReadsAttributes endian header.now (told_by (option_map (λ s. s.now) event_desc.entry) (option_map (λ s. s.now) meta_info.entry)) (C.seen source.old) result (C.seen source.new) }
+    ensures lent { C.lent source.new ≡ C.lent source.old }
+{
+    match event_desc {
+        Some(bytes) => return read_event_desc(alloc, endian, bytes),
+        None => {}
+    }
+    if header.event_types_section.size != 0 {
+        let section = &header.event_types_section;
+        return read_event_types(alloc, source, endian, section, header.attr_size);
+    }
+    match meta_info {
+        Some(bytes) => match event_types_in(alloc, bytes) {
+            Ok(types) => read_named(alloc, source, endian, header, &types),
+            Err(error) => Err(error),
+        },
+        None => {
+            let section = &header.attr_section;
+            read_attr_section(alloc, source, endian, section, header.attr_size)
+        }
     }
 }
 
@@ -104,24 +197,18 @@ fn open_behind<C: PlacedSource>(
         Ok(sections) => sections,
         Err(error) => return Err(error),
     };
-    if tells_attributes_elsewhere(header) {
-        return Err(unsupported());
-    }
-    if counts_several(&header.attr_section, header.attr_size) {
-        return Err(unsupported());
-    }
-    let attributes = match read_attributes(
-        alloc,
-        source,
-        endian,
-        &header.attr_section,
-        header.attr_size,
-    ) {
+    let event_desc = section_of(&sections, Feature::EVENT_DESC);
+    let meta_info = section_of(&sections, Feature::SIMPLEPERF_META_INFO);
+    let attributes = match read_attributes(alloc, source, endian, header, event_desc, meta_info) {
         Ok(attributes) => attributes,
         Err(error) => return Err(error),
     };
     if attributes.is_empty() {
         return Err(Error::NoAttributes);
+    }
+    match check_rule(&attributes) {
+        Ok(()) => {}
+        Err(error) => return Err(error),
     }
     match go_to(source, data.offset) {
         Ok(()) => {}

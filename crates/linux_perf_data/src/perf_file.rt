@@ -1,9 +1,13 @@
-ghost use Rattle.std.specs.Prelude.{◌≡◌, ◌<◌, ◌↔◌, IsTrue, length, vec_len};
+ghost use Rattle.std.specs.Prelude.{◌≡◌, ◌<◌, ◌↔◌, false, IsTrue, length, vec_len};
 ghost use Rattle.std.specs.Option.{option_map};
 ghost use Rattle.perfdata_base.specs.Features.{HasFeature};
+ghost use Rattle.perfdata_simpleperf.specs.MetaInfo.{ParsesMetaInfo};
+ghost use Rattle.linux_perf_data.specs.Names.{Unnamed};
+ghost use Rattle.linux_perf_data.specs.Simpleperf.{TellsSymbolTables};
 ghost use Rattle.linux_perf_data.specs.Values.{TellsOf, TellsText, TellsTexts, TellsNumber, TellsCpus, TellsTimes, TellsCompression, TellsClock, TellsUnits};
+ghost use Rattle.linux_perf_data.specs.BuildIds.{TellsBuildIds};
 
-use crate::values;
+use crate::{build_ids, values};
 use indexmap::IndexMap;
 use perfdata_base::features::{Feature, FeatureSet};
 use perfdata_base::raw::Endianness;
@@ -11,7 +15,13 @@ use perfdata_parts::error::Error;
 use perfdata_parts::feature_sections::{
     AttributeDescription, ClockData, CompressionInfo, NrCpus, PmuMappings, SampleTimeRange,
 };
+use perfdata_records::dso_info::DsoInfo;
+use perfdata_records::dso_key::DsoKey;
+use perfdata_simpleperf::simpleperf::{
+    SimpleperfFileRecord, parse_file_section, parse_file2_section, parse_meta_info_map,
+};
 use std::alloc::Global;
+use std::collections::HashMap;
 
 /// What a perf.data file or pipe says of itself beside its records. It has at least one attribute.
 #[derive(Drop)]
@@ -20,7 +30,10 @@ pub struct PerfFile {
     pub(crate) features: FeatureSet,
     pub(crate) sections: IndexMap<Feature, Vec<u8>>,
     pub(crate) attributes: Vec<AttributeDescription>,
+    // Whether an attribute may have a name.
+    pub(crate) named: bool,
     ghost some: { 0 < vec_len attributes },
+    ghost unnamed: { named ≡ false → Unnamed attributes.items },
 }
 
 impl PerfFile {
@@ -241,6 +254,58 @@ impl PerfFile {
         match self.feature_section_data(Feature::PMU_MAPPINGS) {
             Some(bytes) => match values::units(alloc, self.endian, bytes) {
                 Ok(units) => Ok(Some(units)),
+                Err(error) => Err(error),
+            },
+            None => Ok(None),
+        }
+    }
+
+    /// The build ids of mapped objects by their keys (section BUILD_ID): for each key the path and the build id of the
+    /// last entry with that key, and none where the file doesn't have the section.
+    ///
+    /// The section is read up to the first entry that isn't there whole; an entry whose path has no key is passed over.
+    /// `Memory` where memory runs out.
+    pub fn build_ids(&self, alloc: Global) -> Result<HashMap<DsoKey, DsoInfo>, Error>
+        ensures { TellsBuildIds (order_of_file self.now) (data_of self.now 2) result }
+    {
+        match self.feature_section_data(Feature::BUILD_ID) {
+            Some(bytes) => build_ids::build_ids(alloc, self.endian, bytes),
+            None => Ok(HashMap::new(alloc)),
+        }
+    }
+
+    /// What simpleperf says of the recording, by keys (section SIMPLEPERF_META_INFO), as `parse_meta_info_map` reads it.
+    ///
+    /// `StringUtf8` where a key or a value isn't UTF-8, and `Memory` where memory runs out.
+    pub fn simpleperf_meta_info(&self, alloc: Global) -> Result<Option<HashMap<&str, &str>>, Error>
+        ensures { TellsOf ParsesMetaInfo (data_of self.now 129) result }
+    {
+        match self.feature_section_data(Feature::SIMPLEPERF_META_INFO) {
+            Some(bytes) => match parse_meta_info_map(alloc, bytes) {
+                Ok(map) => Ok(Some(map)),
+                Err(error) => Err(error),
+            },
+            None => Ok(None),
+        }
+    }
+
+    /// The files that simpleperf met, with their symbols (section SIMPLEPERF_FILE2, or SIMPLEPERF_FILE where that isn't
+    /// there). Refusals are those of `parse_file2_section` and `parse_file_section`.
+    pub fn simpleperf_symbol_tables(
+        &self,
+        alloc: Global,
+    ) -> Result<Option<Vec<SimpleperfFileRecord>>, Error>
+        ensures { TellsSymbolTables (order_of_file self.now) (data_of self.now 132) (data_of self.now 128) result }
+    {
+        if let Some(bytes) = self.feature_section_data(Feature::SIMPLEPERF_FILE2) {
+            return match parse_file2_section(alloc, bytes, self.endian) {
+                Ok(records) => Ok(Some(records)),
+                Err(error) => Err(error),
+            };
+        }
+        match self.feature_section_data(Feature::SIMPLEPERF_FILE) {
+            Some(bytes) => match parse_file_section(alloc, bytes, self.endian) {
+                Ok(records) => Ok(Some(records)),
                 Err(error) => Err(error),
             },
             None => Ok(None),

@@ -1,7 +1,10 @@
 ghost use Rattle.std.specs.Prelude.{◌≡◌, ◌≤◌, []};
+ghost use Rattle.perfdata_base.specs.Event.{head_of};
+ghost use Rattle.perfdata_base.specs.Numbers.{number_in};
+ghost use Rattle.linux_perf_data.specs.Input.{TookKept, view_in};
 ghost use Rattle.linux_perf_data.specs.Piece.{Checks, PassesBody, ReadsBody, ReadsContent, ReadsHead, ReadsTrace, TestsCompressed};
 
-use byteorder::{BigEndian, LittleEndian};
+use crate::input::{HEAD_BYTES, Input, take_head};
 use perfdata_base::event::PerfEventHeader;
 use perfdata_base::raw::Endianness;
 use perfdata_base::source::{AppendFault, Source, append, pass_over};
@@ -16,21 +19,31 @@ pub(crate) const HEAD: u16 = 8;
 /// How many bytes the body of a record with auxiliary data has at the least.
 const LEAST_TRACE: usize = 40;
 
-// The head at the front of the source.
+// The head of a record that these bytes are.
+pub(crate) fn head_in(endian: Endianness, bytes: &[u8; HEAD_BYTES]) -> PerfEventHeader
+    ensures { result ≡ head_of (number_in endian) bytes.now }
+{
+    PerfEventHeader {
+        type_: endian.read_u32(bytes),
+        misc: endian.read_u16(&bytes[4..]),
+        size: endian.read_u16(&bytes[6..]),
+    }
+}
+
+// The head at the front of the source, or the head that is kept. None where the source has fewer bytes.
 pub(crate) fn read_head<R: Source>(
     source: &mut R,
+    input: &mut Input,
     endian: Endianness,
-) -> Result<PerfEventHeader, Error>
-    ensures head { ReadsHead endian (R.seen source.old) result (R.seen source.new) }
+) -> Result<Option<PerfEventHeader>, Error>
+    ensures kept { TookKept input.old input.new }
+    ensures head { ReadsHead endian (view_in input.old (R.seen source.old)) result (view_in input.new (R.seen source.new)) }
     ensures lent { R.lent source.new ≡ R.lent source.old }
 {
-    let parsed = match endian {
-        Endianness::LittleEndian => PerfEventHeader::parse_from::<R, LittleEndian>(source),
-        Endianness::BigEndian => PerfEventHeader::parse_from::<R, BigEndian>(source),
-    };
-    match parsed {
-        Ok(head) => Ok(head),
-        Err(error) => Err(Error::IoError(error)),
+    match take_head(source, input) {
+        Ok(Some(bytes)) => Ok(Some(head_in(endian, &bytes))),
+        Ok(None) => Ok(None),
+        Err(error) => Err(error),
     }
 }
 
@@ -47,33 +60,33 @@ pub(crate) fn end_of(offset: u64, size: u16) -> Result<u64, Error>
     }
 }
 
-// Passes over so many bytes, and keeps none.
-pub(crate) fn pass_body<R: Source>(source: &mut R, count: u64) -> Result<(), Error>
+// Passes over so many bytes, and keeps none. False where the source has fewer.
+pub(crate) fn pass_body<R: Source>(source: &mut R, count: u64) -> Result<bool, Error>
     ensures passes { PassesBody (R.seen source.old) count result (R.seen source.new) }
     ensures lent { R.lent source.new ≡ R.lent source.old }
 {
     match pass_over(source, count) {
         Ok(came) => {
             if came < count {
-                return Err(Error::Read(ReadError::PerfEventData));
+                return Ok(false);
             }
-            Ok(())
+            Ok(true)
         }
         Err(_) => Err(Error::Read(ReadError::PerfEventData)),
     }
 }
 
-// Appends so many bytes to what the body holds.
-fn read_body<R: Source>(source: &mut R, body: &mut Vec<u8>, count: usize) -> Result<(), Error>
+// Appends so many bytes to what the body holds. False where the source has fewer.
+fn read_body<R: Source>(source: &mut R, body: &mut Vec<u8>, count: usize) -> Result<bool, Error>
     ensures reads { ReadsBody (R.seen source.old) body.old.items count result body.new.items (R.seen source.new) }
     ensures lent { R.lent source.new ≡ R.lent source.old }
 {
     match append(source, body, count) {
         Ok(came) => {
             if came < count {
-                return Err(Error::Read(ReadError::PerfEventData));
+                return Ok(false);
             }
-            Ok(())
+            Ok(true)
         }
         Err(AppendFault::Memory) => Err(Error::Memory),
         Err(AppendFault::Source(_)) => Err(Error::Read(ReadError::PerfEventData)),
@@ -105,33 +118,39 @@ fn read_trace<R: Source>(
         None => return Err(Error::Read(ReadError::PerfEventData)),
     };
     match read_body(source, body, count as usize) {
-        Ok(()) => Ok(whole),
+        Ok(true) => Ok(whole),
+        Ok(false) => Err(Error::Read(ReadError::PerfEventData)),
         Err(error) => Err(error),
     }
 }
 
-// Reads what belongs to a head that isn't a marker's into an empty body. Says where the record ends.
+// Reads what belongs to a head that isn't a marker's into an empty body. Says where the record ends; None where the source
+// has less than the head counts.
 pub(crate) fn read_content<R: Source>(
     source: &mut R,
     endian: Endianness,
     head: PerfEventHeader,
     body: &mut Vec<u8>,
     end: u64,
-) -> Result<u64, Error>
+) -> Result<Option<u64>, Error>
     requires size { 8 ≤ head.size }
     requires empty { body.old.items ≡ [] }
     ensures reads { ReadsContent endian (R.seen source.old) head end result body.new.items (R.seen source.new) }
     ensures lent { R.lent source.new ≡ R.lent source.old }
 {
     match read_body(source, body, (head.size - HEAD) as usize) {
-        Ok(()) => {}
+        Ok(true) => {}
+        Ok(false) => return Ok(None),
         Err(error) => return Err(error),
     }
     if is_compressed(head.type_) {
         return Err(unsupported());
     }
     if head.type_ != PERF_RECORD_AUXTRACE {
-        return Ok(end);
+        return Ok(Some(end));
     }
-    read_trace(source, endian, body, end)
+    match read_trace(source, endian, body, end) {
+        Ok(whole) => Ok(Some(whole)),
+        Err(error) => Err(error),
+    }
 }

@@ -1,10 +1,13 @@
 pub mod Attrs
+pub mod Caches
 pub mod Cut
 pub mod Gives
 pub mod Headers
 pub mod Members
 pub mod Numbers
 pub mod Pieces
+pub mod PipeHeaders
+pub mod Shown
 pub mod Sought
 pub mod Strings
 pub mod Words

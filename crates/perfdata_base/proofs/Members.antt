@@ -1,5 +1,5 @@
 -- The features of a set, one by one.
-use Rattle.std.proofs.Common.{◌≡◌, ℕ, zero, suc, ◌+◌, ◌-◌, ◌*◌, ◌/◌, ◌%◌, ◌^◌, ◌<◌, ◌≤◌, ◌==◌, ◌⊎◌, ◌↔◌, Bool, true, false, not, IsTrue, List, [], ◌∷◌, length, refl, sym, ap, ◌∙◌, subst, arith, inl, inr, pow_pos}
+use Rattle.std.proofs.Common.{◌≡◌, ℕ, zero, suc, ◌+◌, ◌-◌, ◌*◌, ◌%◌, ◌^◌, ◌<◌, ◌≤◌, ◌⊎◌, Bool, true, false, not, IsTrue, [], ◌∷◌, length, refl, arith, inl, inr, pow_pos}
 use Rattle.std.specs.Prelude.{Contains, All, filter, cond}
 use Rattle.std.specs.Bool.{nat_eq}
 use Rattle.std.specs.List.{range_with_len}
@@ -9,7 +9,7 @@ use Rattle.std.proofs.Math.Pow.{pow-lt}
 use Rattle.std.proofs.lemmas.Bool.{cases_order}
 use Rattle.std.proofs.lemmas.Bool.Decides.{nat_tests}
 use Rattle.std.proofs.lemmas.Nat.Bits.{and_pow, bit_at-lt}
-use Rattle.std.proofs.lemmas.List.Elements.{All-cons, All-nil, All-weaker, All-filter, All-contains, Contains-append_right, filter_passes}
+use Rattle.std.proofs.lemmas.List.Elements.{All-cons, All-nil, All-filter, All-contains, Contains-append_right, filter_passes}
 use Rattle.perfdata_base.specs.Place.{is_set}
 use Rattle.perfdata_base.specs.Features.{HasFeature, has_bit, features_from, features_of}
 use Rattle.perfdata_base.specs.declared.features.FeatureSet.{FeatureSet}

@@ -1,5 +1,5 @@
 -- The features of a perf.data file: their names, and which of them a set of bits has.
-use Rattle.std.specs.Prelude.{ℕ, ◌+◌, ◌-◌, ◌/◌, ◌%◌, ◌++◌, ◌<◌, Bool, IsTrue, List, [], ◌∷◌, codes, filter, find, slice_index, Option, Some, None}
+use Rattle.std.specs.Prelude.{◌≡◌, ◌⊎◌, ◌↔◌, ℕ, ◌-◌, ◌/◌, ◌%◌, ◌++◌, ◌<◌, Bool, IsTrue, List, [], ◌∷◌, codes, filter, find, slice_index, Option}
 use Rattle.std.specs.Option.{option_map, unwrap_or}
 use Rattle.std.specs.Bool.{nat_eq}
 use Rattle.std.specs.Fmt.{decimal}
@@ -63,6 +63,10 @@ has_bit set n = is_set (slice_index set.0 (n / 64)) (n % 64)
 -- a set has feature n
 abbrev pub HasFeature : FeatureSet → ℕ → Type 0
 HasFeature set n = (n < 256) × IsTrue (has_bit set n)
+
+-- a set has the features that it had and this one, if it is one
+abbrev pub PutsFeature : FeatureSet → ℕ → FeatureSet → Type 0
+PutsFeature old feature new = (n : ℕ) → HasFeature new n ↔ (HasFeature old n ⊎ ((n < 256) × (feature ≡ n)))
 
 -- those features of a set that are n and more, ascending; there are features below 256
 unfoldable pub features_from : FeatureSet → ℕ → List ℕ

@@ -2,9 +2,12 @@ pub mod Attr
 pub mod Event
 pub mod Features
 pub mod Header
+pub mod IdCache
 pub mod Numbers
+pub mod PipeHeader
 pub mod Place
 pub mod Raw
 pub mod RecordType
+pub mod Script
 pub mod Section
 pub mod Source

@@ -185,6 +185,10 @@ IsPlaced s = s.bytes ≡ behind s.place
 abbrev pub IsSmall : State → Type 0
 IsSmall s = IfSome (all_of s.place) (λ all. length all < 2 ^ 63)
 
+-- its place, where it is told, is one of 64 bits
+abbrev pub IsWithinReach : State → Type 0
+IsWithinReach s = IfSome s.place (λ p. p.at < 2 ^ 64)
+
 -- after a seek the source has the same bytes in all, and no count fell
 pub record Stood (old new : State) : Type 0 where
   pub placed : IsPlaced new

@@ -1,7 +1,7 @@
 ghost use Rattle.std.specs.Prelude.{◌≡◌, ◌↔◌, IsTrue, [], Contains, Some, length};
 ghost use Rattle.std.specs.Iterator.{YieldsFirstBy, item_count};
 ghost use Rattle.std.specs.Option.{option_map};
-ghost use Rattle.perfdata_base.specs.Features.{HasFeature, feature_name, feature_text, features_of, members_left};
+ghost use Rattle.perfdata_base.specs.Features.{HasFeature, PutsFeature, feature_name, feature_text, features_of, members_left};
 
 use std::fmt;
 
@@ -262,6 +262,17 @@ impl FeatureSet {
         }
         let word = self.0[(feature.0 / 64) as usize];
         word & (1 << (feature.0 % 64)) != 0
+    }
+
+    /// Puts a feature into the set, which stays as it is where there is no such feature, from 256 on.
+    pub fn insert(&mut self, feature: Feature)
+        ensures { PutsFeature self.old feature.0 self.new }
+    {
+        if feature.0 >= FeatureSet::MAX_BITS {
+            return;
+        }
+        let index = (feature.0 / 64) as usize;
+        self.0[index] |= 1 << (feature.0 % 64);
     }
 }
 

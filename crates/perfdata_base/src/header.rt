@@ -11,6 +11,10 @@ use crate::source::{PlacedSource, read_all};
 use byteorder::{BigEndian, LittleEndian};
 use std::io::{Error, ErrorKind, Result, SeekFrom};
 
+mod pipe;
+
+pub use pipe::PerfPipeHeader;
+
 /// The header of a perf.data file (`perf_file_header`).
 #[derive(Clone, Copy, Debug)]
 pub struct PerfHeader {

@@ -9,6 +9,10 @@ use crate::event::RecordType;
 use crate::raw::{Endianness, FileOrder, RawData};
 use bitflags::Flags;
 
+mod id_cache;
+
+pub use id_cache::IdCache;
+
 /// Where the identifier of a record stands.
 #[derive(Clone, Copy, Debug, PartialEq, Eq)]
 pub struct RecordIdParseInfo {

@@ -1,9 +1,7 @@
 ghost use Rattle.std.specs.Prelude.{◌≡◌, ◌+◌, ◌<◌, ◌≤◌, ◌++◌, ◌==◌, ◌⊎◌, ℕ, List, length, take, drop, slice_index, slice_range, refl, IfErr, IfNone, IfOk, IfSome, IsOkAnd, OnErr, OnOk};
 ghost use Rattle.std.specs.Cow.{cow_slice_items, IsBorrowedSlice, IsOwnedSlice};
 ghost use Rattle.std.specs.Int.{w32, cast_signed};
-ghost use Rattle.std.specs.IoError.{error_kind};
 ghost use Rattle.std.specs.Str.{bytes_eq};
-ghost use Rattle.std.specs.declared.io.ErrorKind.TheVariants.{UnexpectedEof};
 ghost use Rattle.std.specs.Cmp.{partial_equiv_from_equiv};
 ghost use Rattle.std.specs.Cmp.Lexicographic.{on_texts_equal};
 ghost use Rattle.memchr.specs.Find.{IsFirstByte, is_byte};
@@ -13,11 +11,12 @@ ghost use Rattle.perfdata_base.specs.declared.raw.Endianness.{Endianness};
 ghost use Rattle.perfdata_base.specs.declared.raw.Endianness.TheVariants.{LittleEndian as Little, BigEndian as Big};
 ghost use Rattle.perfdata_base.specs.declared.raw.RawData.TheVariants.{Single};
 
+use crate::source::short;
 use byteorder::{BigEndian, ByteOrder, LittleEndian};
 use memchr::memchr;
 use std::alloc::{AllocError, Global};
 use std::borrow::CowSlice;
-use std::io::{self, Error, ErrorKind};
+use std::io;
 use std::ops::Range;
 
 /// The order of a number's bytes.
@@ -93,12 +92,6 @@ impl FileOrder for BigEndian {
 pub enum RawData<'a> {
     Single(&'a [u8]),
     Split(&'a [u8], &'a [u8]),
-}
-
-fn short() -> Error
-    ensures { error_kind result ≡ UnexpectedEof }
-{
-    Error::from(ErrorKind::UnexpectedEof)
 }
 
 // No slice of bytes is longer than half of memory, so the sum fits.
@@ -405,6 +398,7 @@ impl Eq for RawData<'_> {
 #[cfg(test)]
 mod tests {
     use super::*;
+    use std::io::ErrorKind;
     use std::test::Fail;
 
     const FIVE: [u8; 5] = [1, 2, 3, 4, 5];

@@ -4,11 +4,17 @@ ghost use Rattle.std.proofs.lemmas.Bool.{false≢true};
 ghost use Rattle.std.specs.Io.Cursor.{cursor_inner, cursor_position};
 ghost use Rattle.std.specs.IoError.{error_kind};
 ghost use Rattle.std.specs.declared.io.ErrorKind.TheVariants.{Interrupted, UnexpectedEof};
-ghost use Rattle.perfdata_base.specs.Source.{State, told, told_from, untold, counted, CanCount, CountsRead, CountsSeek, IsPlaced, IsSmall, Seeks, Reads, Fills, PassesOver, Appends, ReadsAll, SkipsAll};
+ghost use Rattle.perfdata_base.specs.Source.{State, told, told_from, untold, counted, CanCount, CountsRead, CountsSeek, IsPlaced, IsSmall, IsWithinReach, Seeks, Reads, Fills, PassesOver, Appends, ReadsAll, SkipsAll};
 ghost use Rattle.perfdata_base.specs.declared.source.AppendFault.TheVariants.{Memory, Source as FromSource};
+ghost use Rattle.perfdata_base.specs.Raw.{bytes_of};
 
+use crate::raw::RawData;
 use std::alloc::AllocError;
 use std::io::{Cursor, Error, ErrorKind, Read, Result, Seek, SeekFrom};
+
+mod scripted;
+
+pub use scripted::{Script, Step};
 
 /// Where bytes come from.
 ///
@@ -64,6 +70,20 @@ impl<S: Source> Source for &mut S {
     }
 
     ghost steady_can_count = { λ s. S.steady_can_count s.now };
+}
+
+impl Source for RawData<'_> {
+    ghost seen = { λ r. told (bytes_of r) };
+
+    ghost lent = { λ _. 0 };
+
+    fn read_front(&mut self, place: &mut [u8]) -> Result<usize> {
+        let count = self.len().min(place.len());
+        self.read_exact(&mut place[..count])?;
+        Ok(count)
+    }
+
+    ghost steady_can_count = { λ _ _. record { faults = lit< tt; pauses = lit< tt } };
 }
 
 // Copies what lies behind the place, as much as fits, and says how much.
@@ -171,11 +191,12 @@ pub trait PlacedSource: Source {
     /// A place past the last byte is one, where no byte is to come. From the end a place is reckoned by the length that
     /// the source shows at that moment, which is never above that of all bytes. An `Err` says that there is no such
     /// place from 0 to `u64::MAX`, or that the source failed, which is counted; the source stands at some place then.
-    /// All bytes stay the same, and they are fewer than 2^63.
+    /// All bytes stay the same, and they are fewer than 2^63; the place before is at most `u64::MAX`.
     fn seek_to(&mut self, to: SeekFrom) -> Result<u64>
         ensures seeks { Seeks (Self.seen self.old) to result (Self.seen self.new) }
         ensures counts { CountsSeek (Self.seen self.old) result (Self.seen self.new) }
         ensures small { IsSmall (Self.seen self.old) }
+        ensures within_reach { IsWithinReach (Self.seen self.old) }
         ensures lent { Self.lent self.new ≡ Self.lent self.old };
 
     /// The bytes to come are those from the place on.
@@ -184,6 +205,7 @@ pub trait PlacedSource: Source {
 
 impl PlacedSource for Cursor<Vec<u8>> {
     fn seek_to(&mut self, to: SeekFrom) -> Result<u64> {
+        let _at = self.position();
         Seek::seek(self, to)
     }
 
@@ -192,6 +214,7 @@ impl PlacedSource for Cursor<Vec<u8>> {
 
 impl PlacedSource for Cursor<&[u8]> {
     fn seek_to(&mut self, to: SeekFrom) -> Result<u64> {
+        let _at = self.position();
         Seek::seek(self, to)
     }
 
@@ -359,7 +382,8 @@ pub fn append<S: Source>(
     Ok(appended)
 }
 
-fn short() -> Error
+/// The error of bytes that ended early.
+pub fn short() -> Error
     ensures { error_kind result ≡ UnexpectedEof }
 {
     Error::from(ErrorKind::UnexpectedEof)
@@ -474,6 +498,7 @@ mod tests {
         takes_ten(&rt, Cursor::new(BYTES))?;
         takes_ten(&rt, Cursor::new(BYTES.to_vec(rt.alloc())?))?;
         takes_ten(&rt, &mut Cursor::new(BYTES))?;
+        takes_ten(&rt, RawData::Split(b"01234", b"56789"))?;
         takes_ten(&rt, Counted::new(BYTES))
     }
 

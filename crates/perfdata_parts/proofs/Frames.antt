@@ -1,22 +1,28 @@
 -- How the pieces of a frame come to its attribute, or to the reason why there is none.
-use Rattle.std.proofs.Common.{◌≡◌, ℕ, ◌+◌, ◌-◌, ◌^◌, ◌<◌, ◌≤◌, ◌++◌, List, [], length, refl, sym, ap, ◌∙◌, subst, inl, inr, arith, length-append, None}
-use Rattle.std.specs.Prelude.{Result, Ok, Err}
+use Rattle.std.proofs.Common.{◌≡◌, ℕ, ◌+◌, ◌-◌, ◌^◌, ◌<◌, ◌≤◌, ◌++◌, List, [], length, take, refl, sym, ap, ◌∙◌, subst, inl, inr, arith, length-append, None}
+use Rattle.std.specs.Prelude.{Result, Ok, Err, nat_eq, if◌then◌else◌}
+use Rattle.std.proofs.Math.ListN.{replicate}
+use Rattle.std.proofs.Math.Seq.{take-append_seam}
+use Rattle.std.proofs.lemmas.List.{length-take-le, take-take, length-replicate}
 use Rattle.std.specs.declared.io.Error.{Error as SourceError}
 use Rattle.std.specs.declared.io.SeekFrom.TheVariants.{Start}
 use Rattle.perfdata_base.specs.Source.{State, CutShort, Sought}
 use Rattle.perfdata_base.proofs.Gives.{gave_more, gave_none_later, failed_later}
-use Rattle.perfdata_base.specs.Attr.{own_size, TookOwn, RefusedOwn, TookRest}
-use Rattle.perfdata_base.proofs.Attrs.{own_stays, attr_stays, whole_attr, size_with}
+use Rattle.perfdata_base.specs.Attr.{own_size, attr_with, TookOwn, RefusedOwn, TookRest}
+use Rattle.perfdata_base.proofs.Attrs.{own_stays, attr_stays, attr_front, number_front, whole_attr, size_with}
 use Rattle.perfdata_base.specs.declared.attr.PerfEventAttr.{PerfEventAttr}
 use Rattle.perfdata_base.specs.declared.section.PerfFileSection.{PerfFileSection}
 use Rattle.perfdata_parts.specs.AttributeDescription.{attr_in, name_in, ids_in}
 use Rattle.perfdata_parts.specs.Run.{RefusedNext, TookOne}
 use Rattle.perfdata_parts.specs.Attributes.{IsUnread, IsFramed, IsCutFrame, IsNoFrame, TookFrame, ReadsFrame, ReadsFrameAt, IsDescribed, IsNoSection}
-use Rattle.perfdata_parts.proofs.Runs.{if_some_more, why_bytes, why_few, refused_there, took_there}
+use Rattle.perfdata_parts.proofs.Runs.{if_some_more, later, why_bytes, why_few, refused_there, took_there, Carries}
 use Rattle.perfdata_parts.specs.declared.feature_sections.AttributeDescription.{AttributeDescription}
 use Rattle.perfdata_parts.specs.declared.error.Error.{Error}
 use Rattle.perfdata_parts.specs.declared.error.Error.TheVariants.{Read, InconsistentAttributeSizes}
 use Rattle.perfdata_parts.specs.declared.error.ReadError.TheVariants.{PerfEventAttr as OfAttr}
+
+zeros : (n : ℕ) → (xs : List ℕ) × (length xs ≡ n)
+zeros n = (replicate n 0, length-replicate n 0)
 
 module _ (number : ℕ → List ℕ → ℕ) (first : (n : ℕ) (xs ys : List ℕ) → n ≤ length xs → number n (xs ++ ys) ≡ number n xs) (attr_size : ℕ) where
   -- the first eight bytes were refused
@@ -25,7 +31,7 @@ module _ (number : ℕ → List ℕ → ℕ) (first : (n : ℕ) (xs ys : List �
     front = own.front;
     gave = own.gave;
     why = elim own.why [
-      | inl short ↦ why_few (IsNoFrame number attr_size) (IsUnread number attr_size) a b own.front (Read OfAttr) own.gave (inl (inl short.0)) (refl, inl short.0) (elim short.1 [ inl none ↦ inl none.1 | inr failed ↦ inr failed ])
+      | inl short ↦ why_few (IsNoFrame number attr_size) (IsUnread number attr_size) a b own.front (Read OfAttr) own.gave (inl (inl short.0)) (λ end. ((refl, inl short.0), end)) (elim short.1 [ inl none ↦ inl none.1 | inr failed ↦ inr failed ])
       | inr small ↦ why_bytes (IsNoFrame number attr_size) (IsUnread number attr_size) a b own.front (Read OfAttr) own.gave (λ rest.
           let size = own_stays number first own.front rest (omega (arith, small.0)) in
           inr (omega (arith, length-append own.front rest, small.0), omega (arith, small.1, size)))
@@ -53,7 +59,7 @@ module _ (number : ℕ → List ℕ → ℕ) (first : (n : ℕ) (xs ys : List �
         front = head ++ cut.part;
         gave = gave_more a b c head cut.part took.gave cut.gave;
         why = why_few (IsNoFrame number attr_size) (IsUnread number attr_size) a c (head ++ cut.part) (Read OfAttr) (gave_more a b c head cut.part took.gave cut.gave)
-            (inl few) (refl, few) (elim cut.why [
+            (inl few) (λ end. ((refl, few), end)) (elim cut.why [
               | inl short ↦ inl (gave_none_later a b c head took.gave short.1)
               | inr failed ↦ inr (failed_later a b c head took.gave failed)
             ]);
@@ -63,10 +69,56 @@ module _ (number : ℕ → List ℕ → ℕ) (first : (n : ℕ) (xs ys : List �
   frame_whole a b c head own attr long took within more =
       let whole = whole_attr number first a b c head own attr long took more in
       let size : own_size number whole.bytes ≡ own = sym (size_with number (own_size number whole.bytes) whole.bytes) ∙ sym (ap (λ a. a.size) whole.is.is) ∙ whole.size in
-      record { bytes = whole.bytes; gave = whole.gave; is = record { is = whole.is; within = omega arith } }
+      let sized : attr.size ≡ own = whole.size in
+      record {
+        bytes = whole.bytes;
+        long = whole.long ∙ sym sized;
+        small = omega arith;
+        gave = whole.gave;
+        is = record { is = whole.is; within = omega arith };
+      }
+
+  -- a frame stands in other bytes whose own ones are the same
+  framed_same : (xs ys : List ℕ) (a : PerfEventAttr) → IsFramed number attr_size xs a → own_size number xs ≤ length ys → take (own_size number xs) xs ≡ take (own_size number xs) ys → IsFramed number attr_size ys a
+  framed_same xs ys a framed fits same =
+      let least = framed.is.least in
+      let there = framed.is.there in
+      let within = framed.within in
+      let size : own_size number ys ≡ own_size number xs =
+      ap (λ s. if nat_eq s 0 then 64 else s) (sym (number_front number first 4 4 (own_size number xs) xs ys (omega arith) there fits same))
+      in
+      let is : a ≡ attr_with number (own_size number xs) ys =
+      framed.is.is ∙ attr_front number first (own_size number xs) (own_size number xs) xs ys (λ k low high. low) there fits same
+      in
+      record {
+        is = record { least = omega arith; there = omega arith; is = is ∙ ap (λ own. attr_with number own ys) (sym size) };
+        within = omega arith;
+      }
+
+  -- it stands in so many bytes as the frame has, where there are as many
+  pub framed_front : (xs : List ℕ) (a : PerfEventAttr) → IsFramed number attr_size xs a → attr_size ≤ length xs → IsFramed number attr_size (take attr_size xs) a
+  framed_front xs a framed room =
+      let within = framed.within in
+      let long = length-take-le attr_size xs room in
+      framed_same xs (take attr_size xs) a framed (omega arith) (sym (take-take (own_size number xs) attr_size xs within))
+
+  -- and in its own bytes and any others, as many as the frame has
+  pub framed_filled : (xs : List ℕ) (a : PerfEventAttr) → IsFramed number attr_size xs a → (ys : List ℕ) × (length ys ≡ attr_size) × IsFramed number attr_size ys a
+  framed_filled xs a framed =
+      let own = own_size number xs in
+      let within = framed.within in
+      let there = framed.is.there in
+      let long : length (take own xs) ≡ own = length-take-le own xs there in
+      let pad = zeros (attr_size - own) in
+      let gap : length pad.0 ≡ attr_size - own = pad.1 in
+      let all : length (take own xs ++ pad.0) ≡ attr_size = omega (arith, length-append (take own xs) pad.0, long, gap) in
+      let same : take own xs ≡ take own (take own xs ++ pad.0) =
+      sym (ap (λ n. take n (take own xs ++ pad.0)) (sym long) ∙ take-append_seam (take own xs) pad.0)
+      in
+      (take own xs ++ pad.0, all, framed_same xs (take own xs ++ pad.0) a framed (omega (arith, all, within)) same)
 
   -- a frame stands in its bytes whatever follows
-  frame_stays : (xs rest : List ℕ) (a : PerfEventAttr) → IsFramed number attr_size xs a → IsFramed number attr_size (xs ++ rest) a
+  pub frame_stays : (xs rest : List ℕ) (a : PerfEventAttr) → IsFramed number attr_size xs a → IsFramed number attr_size (xs ++ rest) a
   frame_stays xs rest a framed =
       let least = framed.is.least in
       let there = framed.is.there in
@@ -74,10 +126,14 @@ module _ (number : ℕ → List ℕ → ℕ) (first : (n : ℕ) (xs ys : List �
       let size = own_stays number first xs rest (omega arith) in
       record { is = attr_stays number first xs rest a framed.is; within = omega arith }
 
+  -- a fault of a frame's read is one also for who looks from an earlier state
+  pub frame_carries : Carries (IsUnread number attr_size)
+  frame_carries a b c e front stood owed = (owed.0, later a b c stood owed.1)
+
   -- a seek, and a frame behind it or none
   pub frame_result : (a b c : State) (at n : ℕ) (r : Result PerfEventAttr Error) → Sought a (Start at) n b → ReadsFrame number attr_size b r c → ReadsFrameAt number attr_size a at r c
   frame_result a b c at n (Ok attr) sought took = took_there (IsFramed number attr_size) a b c at n took.bytes attr sought took.gave (λ rest. frame_stays took.bytes rest attr took.is)
-  frame_result a b c at n (Err e) sought refused = refused_there (IsNoFrame number attr_size) (IsUnread number attr_size) a b c at n e sought refused
+  frame_result a b c at n (Err e) sought refused = refused_there (IsNoFrame number attr_size) (IsUnread number attr_size) frame_carries a b c at n e sought refused
 
   -- the attribute of a frame is described with no name and no ids
   pub described : (a b : State) (at : ℕ) (attr : PerfEventAttr) (d : AttributeDescription) → attr_in d ≡ attr → name_in d ≡ None → ids_in d ≡ [] → TookOne (IsFramed number attr_size) a at attr b → TookOne (IsDescribed number attr_size) a at d b

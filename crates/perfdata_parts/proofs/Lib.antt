@@ -1,8 +1,9 @@
 pub mod Runs
 pub mod Frames
-pub mod Threads
-pub mod Fronts
-pub mod Ids
 pub mod Parts
 pub mod Texts
 pub mod Pmus
+pub mod IdLists
+pub mod Entries
+pub mod Events
+pub mod EventFronts

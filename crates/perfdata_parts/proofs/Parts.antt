@@ -1,13 +1,13 @@
 -- How the pieces of a part that were read come to the part, or to the reason why there is none.
-use Rattle.std.proofs.Common.{◌≡◌, ◌≢◌, ℕ, ◌+◌, ◌<◌, ◌≤◌, ◌⊎◌, List, ◌++◌, length, drop, refl, sym, ap, ◌∙◌, subst, inl, inr, arith, length-append}
+use Rattle.std.proofs.Common.{◌≡◌, ℕ, ◌+◌, ◌<◌, List, ◌++◌, length, drop, refl, sym, ap, ◌∙◌, inl, inr, arith, length-append}
 use Rattle.std.proofs.Math.Seq.{drop-append_seam}
 use Rattle.std.proofs.lemmas.List.{drop-drop}
 use Rattle.std.specs.declared.io.Error.{Error}
-use Rattle.perfdata_base.specs.Source.{State, Gave, GaveNone, Failed, CutShort}
+use Rattle.perfdata_base.specs.Source.{State, Gave, CutShort}
 use Rattle.perfdata_base.proofs.Gives.{gave_more, gave_none_later, failed_later}
 use Rattle.perfdata_base.proofs.Numbers.{ReadsFirst}
 use Rattle.perfdata_parts.specs.Part.{Took, Stopped}
-use Rattle.perfdata_parts.specs.NumberSections.{clock_of, IsClock, IsCutClock}
+use Rattle.perfdata_parts.specs.NumberSections.{IsClock, IsCutClock}
 use Rattle.perfdata_parts.specs.declared.feature_sections.numbers.ClockData.{ClockData}
 
 -- what stands n bytes behind a front

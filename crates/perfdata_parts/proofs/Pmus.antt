@@ -1,6 +1,6 @@
 -- How the units that were read come to the section, or to the reason why there is none.
-use Rattle.std.proofs.Common.{◌≡◌, ℕ, ◌+◌, ◌<◌, ◌≤◌, List, [], ◌∷◌, ◌++◌, length, drop, refl, sym, ap, ◌∙◌, subst, inl, inr, true, false, arith, length-append, append_assoc, append-nil, None, Some}
-use Rattle.std.specs.Prelude.{Result, Ok, Err, Option, String, string_bytes, nat_eq, cond, filter_map, fold}
+use Rattle.std.proofs.Common.{◌≡◌, ℕ, ◌+◌, ◌<◌, ◌≤◌, List, [], ◌∷◌, ◌++◌, length, refl, sym, ap, ◌∙◌, subst, inl, inr, true, false, arith, length-append, append_assoc, append-nil, None, Some}
+use Rattle.std.specs.Prelude.{Err, Option, String, string_bytes, nat_eq, cond}
 use Rattle.std.specs.Option.{option_map}
 use Rattle.std.specs.Map.{lookup, update, update_all}
 use Rattle.std.specs.declared.alloc.Global.{Global}
@@ -20,7 +20,7 @@ use Rattle.perfdata_base.proofs.Gives.{gave_more, gave_none, gave_none_later, fa
 use Rattle.perfdata_base.proofs.Numbers.{ReadsFirst}
 use Rattle.perfdata_parts.specs.Part.{Took, CameSome, Stopped}
 use Rattle.perfdata_parts.specs.Strings.{IsStringOf, IsCutString, ReadsString}
-use Rattle.perfdata_parts.specs.Pmu.{PmuUnit, named, last_name, name_at, MapsUnits, IsUnit, IsCutUnit, AreUnits, CutUnits, IsPmuSection, IsPmuSectionOf, IsCutPmuSection, IsInPmuSection, ReadsUnit, TookUnits, ReadsUnits, ReadsPmus}
+use Rattle.perfdata_parts.specs.Pmu.{PmuUnit, named, last_name, name_at, IsUnit, IsCutUnit, AreUnits, CutUnits, IsPmuSection, IsPmuSectionOf, IsCutPmuSection, IsInPmuSection, ReadsUnit, TookUnits, ReadsUnits, ReadsPmus}
 use Rattle.perfdata_parts.proofs.Parts.{drop_front, stopped_at_once}
 
 -- what ended early behind a front, as a part of the whole

@@ -5,9 +5,12 @@ use Rattle.std.proofs.lemmas.Nat.{div-mul-add, le-div}
 use Rattle.std.proofs.lemmas.List.Elements.{All-push}
 use Rattle.std.specs.declared.io.Error.{Error as SourceError}
 use Rattle.std.specs.declared.io.SeekFrom.TheVariants.{Start}
-use Rattle.perfdata_base.specs.Source.{State, Place, prepend, moved, behind, put_at, all_of, Gave, GaveNone, Failed, Paused, Stood, Sought, SoughtNowhere}
+use Rattle.std.specs.IoError.{error_kind}
+use Rattle.std.specs.declared.io.ErrorKind.TheVariants.{UnexpectedEof}
+use Rattle.perfdata_base.specs.Source.{State, Place, prepend, moved, behind, put_at, all_of, Gave, GaveNone, CutShort, Failed, Paused, Stood, Sought, SoughtNowhere}
 use Rattle.perfdata_base.proofs.Cut.{none_or_paused, all_came, gave_stood, stood_more, failed_after_stood, paused_after_stood}
-use Rattle.perfdata_parts.specs.Run.{SomeBytes, Why, RefusedNext, RefusedAt, TookOne, Run, IsRun, TookRun, StopsRun}
+use Rattle.perfdata_parts.specs.Part.{Stopped}
+use Rattle.perfdata_parts.specs.Run.{SomeBytes, Why, RefusedNext, RefusedAt, IsShortOf, IsUnreadOf, IsFewer, TookOne, Run, IsRun, TookRun, StopsRunBy}
 use Rattle.perfdata_parts.specs.declared.error.Error.{Error}
 use Rattle.perfdata_parts.specs.declared.error.Error.TheVariants.{IoError, Memory}
 
@@ -27,7 +30,7 @@ pub shown : (a b : Option (List ℕ)) (front : List ℕ) (P : List ℕ → Type 
 shown a None front P is more = subst (λ o. IfSome o P) (sym is) tt
 shown a (Some rest) front P is more = subst (λ o. IfSome o P) (sym is) (more rest)
 
-later : (a b c : State) → Stood a b → Failed b c ⊎ Paused b c → Failed a c ⊎ Paused a c
+pub later : (a b c : State) → Stood a b → Failed b c ⊎ Paused b c → Failed a c ⊎ Paused a c
 later a b c stood why = elim why [
   | inl failed ↦ inl (failed_after_stood a b c stood failed)
   | inr paused ↦ inr (paused_after_stood a b c stood paused)
@@ -62,31 +65,35 @@ put_same n place place' same = put_is n place ∙ ap (put_in n) same ∙ sym (pu
 far_seek : (a : State) (at : ℕ) → at < 2 ^ 64 → SoughtNowhere a (Start at) → ⊥
 far_seek a at low none = let far : 2 ^ 64 ≤ at = none.nowhere in omega arith
 
-module _ (IsNot : Error → List ℕ → Type 0) (IsOfRead : Error → List ℕ → Type 0) where
+-- a fault of a read is one also for who looks from an earlier state
+abbrev pub Carries : (Error → List ℕ → State → State → Type 0) → Type 0
+Carries IsOfRead = (a b c : State) (e : Error) (front : List ℕ) → Stood a b → IsOfRead e front b c → IsOfRead e front a c
+
+module _ (IsNot : Error → List ℕ → Type 0) (IsOfRead : Error → List ℕ → State → State → Type 0) where
   -- these bytes came, and whatever follows, none begins there
   pub why_bytes : (a b : State) (front : List ℕ) (e : Error) → Gave a front b → ((rest : List ℕ) → IsNot e (front ++ rest)) → Why IsNot IsOfRead a a.bytes (IsNot e) front e b
   why_bytes a b front e gave none = inl ((front ++ [], none []), shown a.bytes b.bytes front (IsNot e) gave.bytes none)
 
   -- these bytes came, too few, and no more as the source gave none or failed
-  pub why_few : (a b : State) (front : List ℕ) (e : Error) → Gave a front b → IsNot e front → IsOfRead e front → GaveNone a b ⊎ Failed a b → Why IsNot IsOfRead a a.bytes (IsNot e) front e b
+  pub why_few : (a b : State) (front : List ℕ) (e : Error) → Gave a front b → IsNot e front → (Failed a b ⊎ Paused a b → IsOfRead e front a b) → GaveNone a b ⊎ Failed a b → Why IsNot IsOfRead a a.bytes (IsNot e) front e b
   why_few a b front e gave few of_read end = elim end [
     | inl none ↦ elim (none_or_paused a b none) [
       | inl none ↦ inl ((front, few), if_some_is a.bytes (IsNot e) front (all_came a b front gave none) few)
-      | inr paused ↦ inr (of_read, inr paused)
+      | inr paused ↦ inr (of_read (inr paused))
     ]
-    | inr failed ↦ inr (of_read, inl failed)
+    | inr failed ↦ inr (of_read (inl failed))
   ]
 
   -- a seek, and a refusal behind it
-  pub refused_there : (a b c : State) (at n : ℕ) (e : Error) → Sought a (Start at) n b → RefusedNext IsNot IsOfRead b e c → Stood a c × (e ≢ Memory → RefusedAt IsNot IsOfRead a at e c)
-  refused_there a b c at n e sought refused = (
+  pub refused_there : Carries IsOfRead → (a b c : State) (at n : ℕ) (e : Error) → Sought a (Start at) n b → RefusedNext IsNot IsOfRead b e c → Stood a c × (e ≢ Memory → RefusedAt IsNot IsOfRead a at e c)
+  refused_there carries a b c at n e sought refused = (
     stood_more a b c sought.stood (gave_stood b c refused.front sought.stood.placed refused.gave),
     λ _. inl (record {
       front = refused.front;
       place = refused.gave.place ∙ ap (moved (length refused.front)) sought.place ∙ placed_on a.place at n (length refused.front) sought.target;
       why = elim refused.why [
         | inl bytes ↦ inl (bytes.0, placed_bytes a.place b.place b.bytes at n (IsNot e) sought.place sought.stood.placed sought.target bytes.1)
-        | inr source ↦ inr (source.0, later a b c sought.stood source.1)
+        | inr source ↦ inr (carries a b c e refused.front sought.stood source)
       ];
     }),
   )
@@ -102,18 +109,49 @@ module _ (IsNot : Error → List ℕ → Type 0) (IsOfRead : Error → List ℕ 
   )
 
   -- what was refused at a later state was refused
-  refused_later : (a b c : State) (at : ℕ) (e : Error) → Stood a b → RefusedAt IsNot IsOfRead b at e c → RefusedAt IsNot IsOfRead a at e c
-  refused_later a b c at e stood refused = elim refused [
+  pub refused_later : Carries IsOfRead → (a b c : State) (at : ℕ) (e : Error) → Stood a b → RefusedAt IsNot IsOfRead b at e c → RefusedAt IsNot IsOfRead a at e c
+  refused_later carries a b c at e stood refused = elim refused [
     | inl there ↦ inl (record {
       front = there.front;
       place = there.place ∙ put_same (at + length there.front) b.place a.place stood.all;
       why = elim there.why [
         | inl bytes ↦ inl (bytes.0, subst (λ o. IfSome o (λ all. IsNot e (drop at all))) stood.all bytes.1)
-        | inr source ↦ inr (source.0, later a b c stood source.1)
+        | inr source ↦ inr (carries a b c e there.front stood source)
       ];
     })
     | inr sought ↦ inr (sought.0, failed_after_stood a b c stood sought.1)
   ]
+
+module _ (IsCut : List ℕ → Type 0) where
+  pub unread_carries : Carries (IsUnreadOf IsCut)
+  unread_carries a b c e front stood owed = (
+    owed.0,
+    elim owed.1 [
+      | inl failed ↦ inl (failed.0, failed_after_stood a b c stood failed.1)
+      | inr paused ↦ inr (paused.0, paused_after_stood a b c stood paused.1)
+    ],
+  )
+
+  -- too few bytes came, as the source gave no more, which is short, or failed
+  pub short_next : (a b : State) (e : SourceError) (front : List ℕ) → Gave a front b → IsCut front → ((error_kind e ≡ UnexpectedEof) × GaveNone a b) ⊎ Failed a b → RefusedNext (IsShortOf IsCut) (IsUnreadOf IsCut) a (IoError e) b
+  short_next a b e front gave few why = record {
+    front = front;
+    gave = gave;
+    why = elim why [
+      | inl short ↦ elim (none_or_paused a b short.1) [
+        | inl end ↦ inl ((front, (short.0, few)), if_some_is a.bytes (IsShortOf IsCut (IoError e)) front (all_came a b front gave end) (short.0, few))
+        | inr paused ↦ inr (few, inr (short.0, paused))
+      ]
+      | inr failed ↦ inr (few, inl (tt, failed))
+    ];
+  }
+
+  pub stopped_next : (a b : State) (e : SourceError) → Stopped IsCut a e b → RefusedNext (IsShortOf IsCut) (IsUnreadOf IsCut) a (IoError e) b
+  stopped_next a b e stopped = short_next a b e stopped.bytes stopped.gave stopped.cut stopped.why
+
+-- bytes of a promised length ended early
+pub cut_next : (a b : State) (n : ℕ) (e : SourceError) → CutShort a n e b → RefusedNext (IsShortOf (IsFewer n)) (IsUnreadOf (IsFewer n)) a (IoError e) b
+cut_next a b n e cut = short_next (IsFewer n) a b e cut.part cut.gave cut.less cut.why
 
 module _ {D : Type 0} (IsOne : List ℕ → D → Type 0) where
   -- a seek, and bytes behind it that begin with this whatever follows
@@ -170,10 +208,10 @@ module _ {D : Type 0} (IsOne : List ℕ → D → Type 0) where
                 far.is (subst (λ o. IfSome o (λ all. IsOne (drop at all) d)) far.stood.all took.is);
           }
 
-      -- the next is none, or wasn't read
-      pub run_stops : (IsNot IsOfRead : Error → List ℕ → Type 0) (c : State) (e : Error) → step ≤ offset + size - at → Stood b c × (e ≢ Memory → RefusedAt IsNot IsOfRead b at e c)
-          → Stood a c × (e ≢ Memory → StopsRun IsOne IsNot IsOfRead step a offset size e c)
-      run_stops IsNot IsOfRead c e more refused =
+      -- the next wasn't read
+      pub run_stops : (Refuses : State → ℕ → Error → State → Type 0) (c : State) (e : Error) → ((k : ℕ) → Refuses b k e c → Refuses a k e c) → step ≤ offset + size - at → Stood b c × (e ≢ Memory → Refuses b at e c)
+          → Stood a c × (e ≢ Memory → StopsRunBy IsOne Refuses step a offset size e c)
+      run_stops Refuses c e earlier more refused =
           let s = size_is in
           let fits : suc (length ds) * step ≤ size = omega arith in (
             stood_more a b c far.stood refused.0,
@@ -182,6 +220,6 @@ module _ {D : Type 0} (IsOne : List ℕ → D → Type 0) where
               few = le-div (suc (length ds)) size step can fits;
               some = far.some;
               are = far.is;
-              next = subst (λ k. RefusedAt IsNot IsOfRead a k e c) far.there (refused_later IsNot IsOfRead a b c at e far.stood (refused.1 ne));
+              next = subst (λ k. Refuses a k e c) far.there (earlier at (refused.1 ne));
             },
           )

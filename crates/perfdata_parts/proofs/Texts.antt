@@ -1,8 +1,7 @@
 -- The bytes before the first NUL, and the text that they are.
-use Rattle.std.proofs.Common.{◌≡◌, ℕ, ◌+◌, ◌<◌, ◌≤◌, ◌==◌, true, false, List, ◌++◌, length, take, drop, get_or, refl, sym, ap, ◌∙◌, subst, arith, length-append, None, Some}
-use Rattle.std.specs.Prelude.{if◌then◌else◌, Option, Err}
+use Rattle.std.proofs.Common.{◌≡◌, ℕ, ◌<◌, ◌==◌, true, false, List, ◌++◌, length, take, get_or, refl, sym, ap, ◌∙◌, arith, length-append, None, Some}
+use Rattle.std.specs.Prelude.{Option, Err}
 use Rattle.std.specs.Str.{IsUtf8, is_utf8}
-use Rattle.std.specs.List.{prefix_len, position_or_len}
 use Rattle.std.proofs.lemmas.Bool.{false_from_ne_true}
 use Rattle.std.proofs.lemmas.List.{take_all}
 use Rattle.std.proofs.lemmas.List.Sums.{position_or_len_is}
@@ -16,7 +15,7 @@ use Rattle.perfdata_base.proofs.Numbers.{ReadsFirst}
 use Rattle.perfdata_base.specs.declared.source.AppendFault.{AppendFault}
 use Rattle.perfdata_base.specs.declared.source.AppendFault.TheVariants.{Memory, Source}
 use Rattle.perfdata_parts.specs.Part.{Took, CameSome, Stopped, ReadsBytes}
-use Rattle.perfdata_parts.specs.Strings.{before_nul, utf8_text, IsString, IsCutString, IsStringOf, ReadsString}
+use Rattle.perfdata_parts.specs.Strings.{before_nul, utf8_text, IsCutString, IsStringOf, ReadsString}
 use Rattle.perfdata_parts.proofs.Parts.{drop_front, stopped_behind, stopped_at_once}
 
 -- the first NUL ends the text

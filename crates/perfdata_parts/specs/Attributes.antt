@@ -1,16 +1,21 @@
 -- Attributes in frames, as the bytes of a file describe them. A frame has so many bytes in all, and the attribute at its front as many as it says.
 use Rattle.std.specs.Prelude.{◌≡◌, ℕ, ◌+◌, ◌^◌, ◌<◌, ◌≤◌, ◌⊎◌, List, [], length, None, Result, Ok, Err, Vec}
 use Rattle.std.specs.declared.alloc.Global.{Global}
-use Rattle.perfdata_base.specs.Source.{State, Gave}
+use Rattle.perfdata_base.specs.Source.{State, Gave, Failed, Paused}
 use Rattle.perfdata_base.specs.Attr.{own_size, IsAttr, IsTooSmall}
 use Rattle.perfdata_base.specs.declared.attr.PerfEventAttr.{PerfEventAttr}
 use Rattle.perfdata_base.specs.declared.section.PerfFileSection.{PerfFileSection}
 use Rattle.perfdata_parts.specs.AttributeDescription.{attr_in, name_in, ids_in}
+use Rattle.perfdata_parts.specs.Error.{IsShort, IsIo}
 use Rattle.perfdata_parts.specs.Run.{RefusedNext, ReadsAt, IsRun, ReadsRun}
 use Rattle.perfdata_parts.specs.declared.feature_sections.AttributeDescription.{AttributeDescription}
 use Rattle.perfdata_parts.specs.declared.error.Error.{Error}
 use Rattle.perfdata_parts.specs.declared.error.Error.TheVariants.{Read, InconsistentAttributeSizes}
 use Rattle.perfdata_parts.specs.declared.error.ReadError.TheVariants.{PerfEventAttr as OfAttr}
+
+-- what a source owes that failed or paused while attributes were read: its own error, one that is short, or that of an attribute
+abbrev pub OwesAttributes : State → Error → State → Type 0
+OwesAttributes old e new = (IsIo e × Failed old new) ⊎ ((IsShort e × Paused old new) ⊎ ((e ≡ Read OfAttr) × (Failed old new ⊎ Paused old new)))
 
 module _ (number : ℕ → List ℕ → ℕ) (attr_size : ℕ) where
   -- these bytes begin with a frame, and in it this attribute; the frame's end needn't be there
@@ -29,13 +34,15 @@ module _ (number : ℕ → List ℕ → ℕ) (attr_size : ℕ) where
   IsNoFrame (InconsistentAttributeSizes own size) xs = (8 ≤ length xs) × (own ≡ own_size number xs) × (size ≡ attr_size) × (64 ≤ own) × (attr_size < own)
   IsNoFrame _ xs = ⊥
 
-  -- the error where a read of a frame failed or paused, and these of its bytes came
-  abbrev pub IsUnread : Error → List ℕ → Type 0
-  IsUnread e xs = (e ≡ Read OfAttr) × IsCutFrame xs
+  -- a read of a frame failed or paused, and these of its bytes came
+  abbrev pub IsUnread : Error → List ℕ → State → State → Type 0
+  IsUnread e xs old new = ((e ≡ Read OfAttr) × IsCutFrame xs) × (Failed old new ⊎ Paused old new)
 
-  -- an attribute in a frame came
+  -- an attribute in a frame came, and no byte behind its own
   pub record TookFrame (old : State) (a : PerfEventAttr) (new : State) : Type 0 where
     pub bytes : List ℕ
+    pub long : length bytes ≡ a.size
+    pub small : a.size ≤ attr_size
     pub gave : Gave old bytes new
     pub is : IsFramed bytes a
 

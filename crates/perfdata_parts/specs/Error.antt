@@ -1,7 +1,7 @@
 -- What an error says.
 use Rattle.std.specs.Prelude.{◌≡◌}
 use Rattle.std.specs.IoError.{error_kind}
-use Rattle.std.specs.declared.io.ErrorKind.TheVariants.{UnexpectedEof, Unsupported, InvalidInput}
+use Rattle.std.specs.declared.io.ErrorKind.TheVariants.{UnexpectedEof, Unsupported, InvalidInput, InvalidData}
 use Rattle.perfdata_parts.specs.declared.error.Error.{Error}
 use Rattle.perfdata_parts.specs.declared.error.Error.TheVariants.{IoError}
 
@@ -14,6 +14,11 @@ IsShort _ = ⊥
 abbrev pub IsUnsupported : Error → Type 0
 IsUnsupported (IoError e) = error_kind e ≡ Unsupported
 IsUnsupported _ = ⊥
+
+-- what stands there has no meaning
+abbrev pub IsInvalidData : Error → Type 0
+IsInvalidData (IoError e) = error_kind e ≡ InvalidData
+IsInvalidData _ = ⊥
 
 -- what stands there asks for what can't be done
 abbrev pub IsInvalidInput : Error → Type 0

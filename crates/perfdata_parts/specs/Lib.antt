@@ -2,13 +2,11 @@ pub mod Error
 pub mod Run
 pub mod AttributeDescription
 pub mod Attributes
-pub mod Record
-pub mod Auxtrace
-pub mod ThreadMap
-pub mod HeaderAttr
-pub mod HeaderFeature
-pub mod UserRecord
 pub mod Part
 pub mod NumberSections
 pub mod Strings
 pub mod Pmu
+pub mod EventIds
+pub mod EventTypes
+pub mod SimpleperfAttrs
+pub mod EventDesc

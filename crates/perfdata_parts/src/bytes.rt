@@ -1,18 +1,10 @@
 ghost use Rattle.std.specs.Prelude.{◌≡◌};
-ghost use Rattle.std.specs.IoError.{error_kind};
-ghost use Rattle.std.specs.declared.io.ErrorKind.TheVariants.{UnexpectedEof};
 ghost use Rattle.perfdata_parts.specs.Part.{ReadsBytes, TellsFault, error_of};
 
 use crate::error::Error as FileError;
-use perfdata_base::source::{AppendFault, Source, append};
+use perfdata_base::source::{AppendFault, Source, append, short};
 use std::alloc::Global;
 use std::io::{Error, ErrorKind};
-
-fn short() -> Error
-    ensures { error_kind result ≡ UnexpectedEof }
-{
-    Error::from(ErrorKind::UnexpectedEof)
-}
 
 /// Reads so many bytes into memory of their own, in pieces of at most 4,096.
 ///
@@ -38,8 +30,8 @@ pub fn read_bytes<R: Source>(
     }
 }
 
-// The fault of a reading into memory as an error of the source's, want of memory as an `OutOfMemory` error.
-pub(crate) fn as_io(fault: AppendFault) -> Error
+/// The fault of a reading into memory as an error of the source's, want of memory as an `OutOfMemory` error.
+pub fn as_io(fault: AppendFault) -> Error
     ensures { TellsFault fault result }
 {
     match fault {

@@ -2,7 +2,8 @@ ghost use Rattle.std.specs.Prelude.{◌≡◌};
 ghost use Rattle.perfdata_parts.specs.Error.{IsShort, IsUnsupported};
 ghost use Rattle.perfdata_parts.specs.declared.error.Error.TheVariants.{Memory as OfMemory, Read as OfRead, IoError as OfIo, StringUtf8 as OfUtf8};
 
-use crate::protobuf::DecodeError;
+use crate::decode_error::DecodeError;
+use perfdata_base::source;
 use std::alloc::AllocError;
 use std::io;
 use std::io::ErrorKind;
@@ -125,7 +126,7 @@ impl From<AllocError> for Error {
 pub fn short() -> Error
     ensures { IsShort result }
 {
-    Error::IoError(io::Error::from(ErrorKind::UnexpectedEof))
+    Error::IoError(source::short())
 }
 
 /// The error of a record that can't be handled, as one whose bytes are compressed.

@@ -1,10 +1,17 @@
-ghost use Rattle.std.specs.Prelude.{◌≡◌};
+ghost use Rattle.std.specs.Prelude.{◌≡◌, string_bytes};
 ghost use Rattle.std.specs.Option.{option_map};
 ghost use Rattle.perfdata_base.specs.Source.{State};
 ghost use Rattle.perfdata_parts.specs.AttributeDescription.{attr_in, name_in, ids_in};
 ghost use Rattle.perfdata_parts.specs.Attributes.{ReadsFrame, ReadsFrameAt, ReadsAttrSection};
+ghost use Rattle.perfdata_parts.specs.EventDesc.{ReadsEventDesc};
+ghost use Rattle.perfdata_parts.specs.EventTypes.{ReadsEventTypes};
+ghost use Rattle.perfdata_parts.specs.SimpleperfAttrs.{ReadsSimpleperfAttrs};
 
 use crate::error::{Error, ReadError};
+use crate::event_type::SimplePerfEventType;
+use crate::feature_sections::event_desc::read_event_desc;
+use crate::feature_sections::event_types::read_described;
+use crate::feature_sections::simpleperf_attrs::read_simpleperf_attrs;
 use perfdata_base::attr::{PerfEventAttr, read_own, read_rest};
 use perfdata_base::raw::FileOrder;
 use perfdata_base::section::PerfFileSection;
@@ -12,8 +19,12 @@ use perfdata_base::source::{PlacedSource, Source};
 use std::alloc::Global;
 use std::io::SeekFrom;
 
+mod event_desc;
+mod event_ids;
+mod event_types;
 mod numbers;
 mod pmu;
+mod simpleperf_attrs;
 mod strings;
 
 pub use numbers::{ClockData, CompressionInfo, NrCpus, SampleTimeRange};
@@ -69,6 +80,32 @@ fn read_frame_at<C: PlacedSource, T: FileOrder>(
 }
 
 impl AttributeDescription {
+    /// An event with this attribute, name and ids.
+    pub fn new(
+        attr: PerfEventAttr,
+        name: Option<String>,
+        event_ids: Vec<u64>,
+    ) -> AttributeDescription
+        ensures attr { attr_in result ≡ attr }
+        ensures name { name_in result ≡ option_map string_bytes name }
+        ensures ids { ids_in result ≡ event_ids.items }
+    {
+        AttributeDescription {
+            attr,
+            name,
+            event_ids,
+        }
+    }
+
+    /// Gives the event another name, or takes its name away.
+    pub fn set_name(&mut self, name: Option<String>)
+        ensures attr { attr_in self.new ≡ attr_in self.old }
+        ensures name { name_in self.new ≡ option_map string_bytes name }
+        ensures ids { ids_in self.new ≡ ids_in self.old }
+    {
+        self.name = name;
+    }
+
     /// The event's attribute.
     pub fn attributes(&self) -> &PerfEventAttr
         ensures { result.now ≡ attr_in self.now }
@@ -144,6 +181,109 @@ impl AttributeDescription {
     {
         AttributeDescription::parse_attr_section_from::<C, T>(alloc, &mut c, section, attr_size)
     }
+
+    /// The attributes of the section EVENT_DESC that stands at the front of a source that is kept: a count and an
+    /// attribute's size, of four bytes each, and for each event a frame of that size, a count of four bytes, a string and so
+    /// many ids of eight bytes each. The string is the event's name, or it has none where that isn't UTF-8.
+    ///
+    /// `Read(PerfEventAttr)` where an attribute's own size is 1 to 63, and where the bytes of an attribute end early or a
+    /// read of them fails; `InconsistentAttributeSizes(own, attr_size)` where an attribute's own size is above that of its
+    /// frame; `IoError` where other bytes end early, a read of them fails, or the seek behind an attribute to its frame's
+    /// end; `Memory` where memory runs out. A seek fails with the source's own error, also where a source goes to no such place.
+    pub fn parse_event_desc_section_from<C: PlacedSource, T: FileOrder>(
+        alloc: Global,
+        cursor: &mut C,
+    ) -> Result<Vec<AttributeDescription>, Error>
+        ensures reads { ReadsEventDesc T.number_of (C.seen cursor.old) result (C.seen cursor.new) }
+        ensures lent { C.lent cursor.new ≡ C.lent cursor.old }
+    {
+        read_event_desc::<C, T>(alloc, cursor)
+    }
+
+    /// The attributes of the section EVENT_DESC that stands at the front of a source, as by `parse_event_desc_section_from`.
+    pub fn parse_event_desc_section<C: PlacedSource + Drop, T: FileOrder>(
+        alloc: Global,
+        mut cursor: C,
+    ) -> Result<Vec<AttributeDescription>, Error>
+        ensures { (left : State) × ReadsEventDesc T.number_of (C.seen cursor) result left }
+    {
+        AttributeDescription::parse_event_desc_section_from::<C, T>(alloc, &mut cursor)
+    }
+
+    /// The attributes of the event types section, from a source that is kept: entries of a frame of `attr_size` bytes, and
+    /// of the offset and the size of a section of ids of eight bytes each. There are as many entries, and ids, as their
+    /// sections have whole ones. All entries are read before any ids. They have no names.
+    ///
+    /// `Read(PerfEventAttr)` where an entry's size, or a section's end, is past 2^64 - 1, where an attribute's own size is 1
+    /// to 63, and where the bytes of an attribute end early or a read of them fails;
+    /// `InconsistentAttributeSizes(own, attr_size)` where an attribute's own size is above `attr_size`; `IoError` where a
+    /// seek fails, where other bytes end early, or a read of them fails; `Memory` where memory runs out.
+    pub fn parse_event_types_section_from<C: PlacedSource, T: FileOrder>(
+        alloc: Global,
+        cursor: &mut C,
+        section: &PerfFileSection,
+        attr_size: u64,
+    ) -> Result<Vec<AttributeDescription>, Error>
+        ensures reads { ReadsEventTypes T.number_of attr_size section.now (C.seen cursor.old) result (C.seen cursor.new) }
+        ensures lent { C.lent cursor.new ≡ C.lent cursor.old }
+    {
+        read_described::<C, T>(alloc, cursor, section, attr_size, &[])
+    }
+
+    /// The attributes of the event types section, as by `parse_event_types_section_from`.
+    pub fn parse_event_types_section<C: PlacedSource + Drop, T: FileOrder>(
+        alloc: Global,
+        mut cursor: C,
+        section: &PerfFileSection,
+        attr_size: u64,
+    ) -> Result<Vec<AttributeDescription>, Error>
+        ensures { (left : State) × ReadsEventTypes T.number_of attr_size section.now (C.seen cursor) result left }
+    {
+        AttributeDescription::parse_event_types_section_from::<C, T>(
+            alloc,
+            &mut cursor,
+            section,
+            attr_size,
+        )
+    }
+
+    /// The attributes of the attribute section of a file by simpleperf, from a source that is kept: entries as by
+    /// `parse_event_types_section_from`, whose frames are 16 bytes shorter than `attr_size`. An entry has the name of the
+    /// event type of its index, or none where there is no such type.
+    ///
+    /// `Read(PerfEventAttr)` where `attr_size` is below 16, and else the errors of `parse_event_types_section_from` with
+    /// `attr_size` less 16.
+    pub fn parse_simpleperf_attr_section_from<C: PlacedSource, T: FileOrder>(
+        alloc: Global,
+        cursor: &mut C,
+        section: &PerfFileSection,
+        attr_size: u64,
+        types: &[SimplePerfEventType],
+    ) -> Result<Vec<AttributeDescription>, Error>
+        ensures reads { ReadsSimpleperfAttrs T.number_of attr_size section.now types.now (C.seen cursor.old) result (C.seen cursor.new) }
+        ensures lent { C.lent cursor.new ≡ C.lent cursor.old }
+    {
+        read_simpleperf_attrs::<C, T>(alloc, cursor, section, attr_size, types)
+    }
+
+    /// The attributes of the attribute section of a file by simpleperf, as by `parse_simpleperf_attr_section_from`.
+    pub fn parse_simpleperf_attr_section<C: PlacedSource + Drop, T: FileOrder>(
+        alloc: Global,
+        mut cursor: C,
+        section: &PerfFileSection,
+        attr_size: u64,
+        types: &[SimplePerfEventType],
+    ) -> Result<Vec<AttributeDescription>, Error>
+        ensures { (left : State) × ReadsSimpleperfAttrs T.number_of attr_size section.now types.now (C.seen cursor) result left }
+    {
+        AttributeDescription::parse_simpleperf_attr_section_from::<C, T>(
+            alloc,
+            &mut cursor,
+            section,
+            attr_size,
+            types,
+        )
+    }
 }
 
 #[cfg(test)]
@@ -198,6 +338,40 @@ mod tests {
             72,
         )?;
         assert!(rt; none.is_empty());
+        Ok(())
+    }
+
+    // Of a field that isn't told nothing is read, whatever stands behind the attribute's own size.
+    #[test]
+    fn reads_as_many_fields_as_the_size_tells(rt: HostRuntime) -> Result<(), Fail> {
+        const SEVENS: u64 = 0x0707_0707_0707_0707;
+        let section = PerfFileSection {
+            offset: 0,
+            size: 136,
+        };
+        for (told, own, config2, config3) in [
+            (0, 64, 0, 0),
+            (72, 72, SEVENS, 0),
+            (136, 136, SEVENS, SEVENS),
+        ] {
+            let mut bytes = [7; 136];
+            bytes[4..8].copy_from_slice(&[told, 0, 0, 0]);
+            let all = AttributeDescription::parse_attr_section::<_, LittleEndian>(
+                rt.alloc(),
+                Cursor::new(&bytes[..]),
+                &section,
+                136,
+            )?;
+            assert_eq!(rt; all.len(), 1);
+            for description in &all {
+                let attr = description.attributes();
+                assert_eq!(rt; attr.size, own);
+                assert_eq!(rt; attr.config1, SEVENS);
+                assert_eq!(rt; attr.config2, config2);
+                assert_eq!(rt; attr.branch_sample_type, config3);
+                assert_eq!(rt; attr.config3, config3);
+            }
+        }
         Ok(())
     }
 

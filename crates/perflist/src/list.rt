@@ -1,15 +1,16 @@
 //! The records of an input as lines.
 ghost use Rattle.std.specs.Prelude.{◌≡◌, ◌^◌, ◌<◌, [], IfOk, IfErr};
-ghost use Rattle.linux_perf_data.specs.Iter.{IsRunning};
 ghost use Rattle.perflist.specs.Buffer.{held, lines_left, Passes};
 ghost use Rattle.linux_perf_data.specs.Iter.{handed_of};
 ghost use Rattle.perflist.specs.Line.{handed_line};
 ghost use Rattle.perflist.specs.Text.{text_of};
 ghost use Rattle.perflist.specs.Listing.{told_by};
-ghost use Rattle.perflist.specs.Listing.{ListsRecords, ListsFile};
+ghost use Rattle.perflist.specs.Listing.{IsOwn, IsUnfailed, ListsRecords, ListsFile};
+ghost use Rattle.perflist.specs.PipeListing.{ListsPipe, ReadsPipe};
 
 use crate::line::{Fields, Line};
 use crate::output::{LineBuffer, write_line};
+use linux_perf_data::jitdump::JitDumpError;
 use linux_perf_data::source::{PlacedSource, Source};
 use linux_perf_data::{
     Error, PerfFile, PerfFileReader, PerfFileRecord, PerfRecordIter, RecordPlace,
@@ -23,6 +24,10 @@ use std::io::Write;
 pub enum ListCause {
     /// The input was refused, or its source failed.
     Perf(Error),
+    /// A jitdump file couldn't be opened.
+    Jit(JitDumpError),
+    /// The next record of a jitdump file can't be one, or its source failed.
+    Read(io::Error),
     /// The writer refused a line.
     Write(io::Error),
 }
@@ -75,8 +80,9 @@ fn list_records<R: Source, W: Write>(
     file: &mut PerfFile,
     out: &mut W,
 ) -> Result<u64, ListFault>
-    requires { IsRunning iter.old }
-    ensures { ListsRecords R.seen iter.old (W.contents out.old) result (W.contents out.new) iter.new }
+    requires unfailed { IsUnfailed iter.old }
+    requires own { IsOwn R.seen iter.old file.old }
+    ensures { ListsRecords R.seen iter.old file.old (W.contents out.old) result (W.contents out.new) iter.new file.new }
 {
     let mut lines = 0u64;
     'records: loop {
@@ -128,6 +134,55 @@ pub fn list_file<C: PlacedSource + Drop, W: Write>(
             cause: ListCause::Perf(error),
         }),
     }
+}
+
+/// Reads a whole pipe: writes a line for each of its records, as [`list_pipe`] does, and answers how many there are, and all that
+/// the pipe says of itself, in its opening and later.
+fn read_pipe<R: Source + Drop, W: Write>(
+    alloc: Global,
+    source: R,
+    out: &mut W,
+) -> Result<(u64, PerfFile), ListFault>
+    ensures { ReadsPipe (R.seen source) (W.contents out.old) result (W.contents out.new) }
+{
+    match PerfFileReader::parse_pipe(alloc, source) {
+        Ok(reader) => {
+            let mut file = reader.perf_file;
+            let mut iter = reader.record_iter;
+            match list_records(&mut iter, &mut file, out) {
+                Ok(lines) => Ok((lines, file)),
+                Err(fault) => Err(fault),
+            }
+        }
+        Err(error) => {
+            let cause = ListCause::Perf(error);
+            Err(ListFault { lines: 0, cause })
+        }
+    }
+}
+
+/// Writes a line for each record of a pipe, and says how many, as `list_file` does.
+///
+/// The source is read as far as the records go and no byte further: at the end of the records it stands behind the last of
+/// them, and where the end is inside a record, behind what came of that one. Attributes and features that come after the
+/// first other record are taken in, and have their lines as records.
+///
+/// Where it is refused the fault tells how many lines were written whole: none where the pipe doesn't open, and else all of
+/// the records in front of the one that is refused. A record that is cut off is the end and no fault. Where the writer
+/// refuses, a front of the next line was written; a write that takes none is of kind `WriteZero`, and no write is made a
+/// second time.
+pub fn list_pipe<R: Source + Drop, W: Write>(
+    alloc: Global,
+    source: R,
+    out: &mut W,
+) -> Result<u64, ListFault>
+    ensures { ListsPipe (R.seen source) (W.contents out.old) result (W.contents out.new) }
+{
+    let (lines, _file) = match read_pipe(alloc, source, out) {
+        Ok(read) => read,
+        Err(fault) => return Err(fault),
+    };
+    Ok(lines)
 }
 
 /// Lets the lines that are still held leave, unless the writer has refused before, and answers how many records were

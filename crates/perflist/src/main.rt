@@ -1,6 +1,7 @@
 //! Lists the records of a `perf.data` file, of a pipe, or of a jitdump file, one line a record.
 #![tactic(auto)]
 
+mod jit;
 mod laws;
 mod line;
 mod list;
@@ -8,8 +9,9 @@ mod output;
 #[cfg(test)]
 mod tests;
 
+use jit::list_jit;
 use linux_perf_data::source::Counted;
-use list::{list_file, settle};
+use list::{list_file, list_pipe, settle};
 use output::{LineBuffer, finish, write_line};
 use std::env::Args;
 use std::fs::File;
@@ -28,6 +30,8 @@ const BUFFER: usize = 65536;
 #[derive(Drop)]
 enum Asked {
     File(String),
+    Pipe,
+    Jit(String),
     Other,
 }
 
@@ -49,30 +53,63 @@ fn asked_by(mut words: Args) -> Asked {
     let Some(word) = words.next() else {
         return Asked::Other;
     };
-    let Some(path) = words.next() else {
-        return Asked::Other;
-    };
+    let path = words.next();
     if words.next().is_some() {
         return Asked::Other;
     }
-    match word.as_str() {
-        "file" => Asked::File(path),
+    match (word.as_str(), path) {
+        ("file", Some(path)) => Asked::File(path),
+        ("pipe", None) => Asked::Pipe,
+        ("jit", Some(path)) => Asked::Jit(path),
         _ => Asked::Other,
     }
 }
 
-/// Lists a file on standard output, and answers how many records it has, or how many lines were written before a fault.
-fn list_path(rt: &HostRuntime, path: &str) -> Result<u64, u64> {
+/// The file of a path, read in large pieces.
+fn open(rt: &HostRuntime, path: &str) -> Option<Counted<BufReader<File>>> {
     let Ok(file) = File::open(rt, path) else {
-        return Err(0);
+        return None;
     };
-    let Ok(reader) = BufReader::with_capacity(rt.alloc(), BUFFER, file) else {
+    match BufReader::with_capacity(rt.alloc(), BUFFER, file) {
+        Ok(reader) => Some(Counted::new(reader)),
+        Err(_) => None,
+    }
+}
+
+/// Lists a perf.data file on standard output, and answers how many records it has, or how many lines were written before a
+/// fault.
+fn list_path(rt: &HostRuntime, path: &str) -> Result<u64, u64> {
+    let Some(file) = open(rt, path) else {
         return Err(0);
     };
     let Ok(mut out) = LineBuffer::new(rt.alloc(), rt.stdout()) else {
         return Err(0);
     };
-    let listed = list_file(rt.alloc(), Counted::new(reader), &mut out);
+    let listed = list_file(rt.alloc(), file, &mut out);
+    settle(listed, &mut out)
+}
+
+/// Lists a pipe, which is standard input, in the same way.
+fn list_input(rt: &HostRuntime) -> Result<u64, u64> {
+    let Ok(input) = BufReader::with_capacity(rt.alloc(), BUFFER, rt.stdin()) else {
+        return Err(0);
+    };
+    let Ok(mut out) = LineBuffer::new(rt.alloc(), rt.stdout()) else {
+        return Err(0);
+    };
+    let listed = list_pipe(rt.alloc(), Counted::new(input), &mut out);
+    settle(listed, &mut out)
+}
+
+/// Lists a jitdump file in the same way.
+fn list_jit_path(rt: &HostRuntime, path: &str) -> Result<u64, u64> {
+    let Some(file) = open(rt, path) else {
+        return Err(0);
+    };
+    let Ok(mut out) = LineBuffer::new(rt.alloc(), rt.stdout()) else {
+        return Err(0);
+    };
+    let listed = list_jit(rt.alloc(), file, &mut out);
     settle(listed, &mut out)
 }
 
@@ -84,6 +121,8 @@ fn end(rt: &HostRuntime, outcome: Result<u64, u64>) -> u8 {
 fn main(rt: HostRuntime) -> ExitCode {
     let status = match read_words(&rt) {
         Ok(Asked::File(path)) => end(&rt, list_path(&rt, path.as_str())),
+        Ok(Asked::Pipe) => end(&rt, list_input(&rt)),
+        Ok(Asked::Jit(path)) => end(&rt, list_jit_path(&rt, path.as_str())),
         Ok(Asked::Other) => {
             let _ = write_line(&mut rt.stderr(), USAGE);
             1

@@ -1,14 +1,22 @@
-//! The cases of files: their lines, and how their reading ends.
+//! The cases of files and pipes: their lines, and how their reading ends.
+mod attributes;
+mod build_ids;
 mod example;
 mod features;
 mod image;
+mod jit;
+mod late;
+mod many;
+mod pipe;
+mod simpleperf;
 mod slow;
 
 use crate::list::{ListCause, ListFault, list_file, settle};
 use crate::output::{LineBuffer, finish};
-use image::Image;
-use linux_perf_data::source::Counted;
-use linux_perf_data::{Endianness, Error, PerfFileReader, ReadError};
+use image::{Image, Part};
+use linux_perf_data::source::{Counted, PlacedSource};
+use linux_perf_data::{AttributeDescription, Endianness, Error, PerfFileReader, ReadError};
+use std::alloc::{AllocError, Global};
 use std::io::{BufReader, Cursor, ErrorKind};
 use std::process::Abort;
 use std::test::Fail;
@@ -30,7 +38,21 @@ pub enum End {
     /// A record's size is below 8.
     Size,
     Unsupported,
+    /// A read was interrupted too often.
+    Interrupted,
+    /// What was handed in isn't what came with the records.
+    Foreign,
+    /// A value that can't be.
+    Invalid,
     NoAttributes,
+    /// An attribute's own size is above what there is for it.
+    Sizes,
+    /// The attribute of this index has no IDENTIFIER, or differs about SAMPLE_ID_ALL.
+    Lacks(usize),
+    Differs(usize),
+    /// Simpleperf's meta info tells no event types, or a text of it isn't UTF-8.
+    NoEventTypes,
+    Text,
     Failed,
     Other,
 }
@@ -40,6 +62,9 @@ fn end_of_error(error: &Error) -> End {
         Error::IoError(error) => match error.kind() {
             ErrorKind::UnexpectedEof => End::Short,
             ErrorKind::Unsupported => End::Unsupported,
+            ErrorKind::Interrupted => End::Interrupted,
+            ErrorKind::InvalidInput => End::Foreign,
+            ErrorKind::InvalidData => End::Invalid,
             _ => End::Other,
         },
         Error::Read(ReadError::PerfEventData) => End::Data,
@@ -54,6 +79,11 @@ fn end_of_error(error: &Error) -> End {
         }
         Error::InvalidPerfEventSize => End::Size,
         Error::NoAttributes => End::NoAttributes,
+        Error::InconsistentAttributeSizes(_, _) => End::Sizes,
+        Error::NoIdentifierDespiteMultiEvent(index) => End::Lacks(*index),
+        Error::InconsistentSampleIdAllWithMultiEvent(index) => End::Differs(*index),
+        Error::NoEventTypesInSimpleperfMetaInfo => End::NoEventTypes,
+        Error::StringUtf8 => End::Text,
         Error::Failed => End::Failed,
         _ => End::Other,
     }
@@ -64,7 +94,7 @@ fn end_of(listed: &Result<u64, ListFault>) -> End {
         Ok(_) => End::Whole,
         Err(fault) => match &fault.cause {
             ListCause::Perf(error) => end_of_error(error),
-            ListCause::Write(_) => End::Other,
+            _ => End::Other,
         },
     }
 }
@@ -76,7 +106,27 @@ fn lines_of(listed: &Result<u64, ListFault>) -> u64 {
     }
 }
 
-/// Lists a file in three ways, and compares the lines, their number and the end with what is wanted.
+/// Lists a file from a source, and compares the lines, their number and the end with what is wanted.
+fn lists<C: PlacedSource + Drop>(
+    rt: &(impl Abort + AllocGlobal),
+    name: &str,
+    way: &str,
+    source: C,
+    wanted: &str,
+    end: End,
+) {
+    let mut out: Vec<u8> = Vec::new(rt.alloc());
+    let listed = list_file(rt.alloc(), source, &mut out);
+    assert_eq!(rt; end_of(&listed), end, "{name}, {way}");
+    assert_eq!(rt;
+        lines_of(&listed),
+        wanted.lines().count() as u64,
+        "{name}, {way}"
+    );
+    assert_eq!(rt; out.as_slice(), wanted.as_bytes(), "{name}, {way}");
+}
+
+/// Lists a file in three ways.
 fn shows(
     rt: &(impl Abort + AllocGlobal),
     name: &str,
@@ -84,22 +134,11 @@ fn shows(
     wanted: &str,
     end: End,
 ) -> Result<(), Fail> {
-    let count = wanted.lines().count() as u64;
-    let mut out: Vec<u8> = Vec::new(rt.alloc());
-    let listed = list_file(rt.alloc(), Cursor::new(file), &mut out);
-    assert_eq!(rt; end_of(&listed), end, "{name}");
-    assert_eq!(rt; lines_of(&listed), count, "{name}");
-    assert_eq!(rt; out.as_slice(), wanted.as_bytes(), "{name}");
-    let mut again: Vec<u8> = Vec::new(rt.alloc());
-    let buffered = BufReader::new(rt.alloc(), Cursor::new(file))?;
-    let listed = list_file(rt.alloc(), Counted::new(buffered), &mut again);
-    assert_eq!(rt; end_of(&listed), end, "{name}, counted");
-    assert_eq!(rt; again.as_slice(), wanted.as_bytes(), "{name}, counted");
-    let mut owned: Vec<u8> = Vec::new(rt.alloc());
+    lists(rt, name, "lent", Cursor::new(file), wanted, end);
     let copy = Vec::from_slice(rt.alloc(), file)?;
-    let listed = list_file(rt.alloc(), Cursor::new(copy), &mut owned);
-    assert_eq!(rt; end_of(&listed), end, "{name}, owned");
-    assert_eq!(rt; owned.as_slice(), wanted.as_bytes(), "{name}, owned");
+    lists(rt, name, "owned", Cursor::new(copy), wanted, end);
+    let buffered = BufReader::new(rt.alloc(), Cursor::new(file))?;
+    lists(rt, name, "counted", Counted::new(buffered), wanted, end);
     Ok(())
 }
 
@@ -112,13 +151,62 @@ fn opens(
     end: End,
 ) -> Result<(), Fail> {
     shows(rt, name, file, wanted, end)?;
+    plainly(rt, name, file, wanted, end)
+}
+
+/// What the plain program says of a file.
+fn plainly(
+    rt: &(impl Abort + AllocGlobal),
+    name: &str,
+    file: &[u8],
+    wanted: &str,
+    end: End,
+) -> Result<(), Fail> {
     let (text, plain) = slow::lines_of(rt.alloc(), file)?;
     assert_eq!(rt; text.as_str(), wanted, "{name}, plain");
     assert_eq!(rt; plain, end, "{name}, plain");
     Ok(())
 }
 
+/// A little-endian file whose data section has this size, whose attribute has this sample type and these flags, and that ends with these parts.
+fn made(
+    alloc: Global,
+    (size, sample_type, flags): (u64, u64, u64),
+    parts: &[Part<'_>],
+) -> Result<Image, AllocError> {
+    let mut image = Image::little(alloc, size, sample_type, flags)?;
+    for part in parts {
+        image.part(*part)?;
+    }
+    Ok(image)
+}
+
+/// What such a file, which opens, comes to.
+fn reads(
+    rt: &(impl Abort + AllocGlobal),
+    name: &str,
+    file: (u64, u64, u64),
+    parts: &[Part<'_>],
+    wanted: &str,
+    end: End,
+) -> Result<(), Fail> {
+    let image = made(rt.alloc(), file, parts)?;
+    opens(rt, name, &image.bytes, wanted, end)
+}
+
 const FIRST: &str = "0 0 20 0 9 0 8\n24 1 10 0 9 0 8\n";
+
+/// The first file with a number written over, which doesn't open.
+fn patched(
+    rt: &(impl Abort + AllocGlobal),
+    name: &str,
+    endian: Endianness,
+    (at, number): (usize, u64),
+    end: End,
+) -> Result<(), Fail> {
+    let image = Image::patched(rt.alloc(), endian, at, number)?;
+    shows(rt, name, &image.bytes, "", end)
+}
 
 #[test]
 fn two_samples_and_a_marker(rt: HostRuntime) -> Result<(), Fail> {
@@ -126,27 +214,29 @@ fn two_samples_and_a_marker(rt: HostRuntime) -> Result<(), Fail> {
         let image = Image::first(rt.alloc(), endian)?;
         assert_eq!(rt; image.bytes.len(), 208);
         opens(&rt, "first", &image.bytes, FIRST, End::Whole)?;
-        let image = Image::patched(rt.alloc(), endian, 16, 0)?;
-        shows(&rt, "no attribute size", &image.bytes, "", End::Attribute)?;
-        let image = Image::patched(rt.alloc(), endian, 40, u64::MAX)?;
-        shows(&rt, "data far away", &image.bytes, "", End::Feature)?;
-        let image = Image::patched(rt.alloc(), endian, 72, 8)?;
-        shows(
-            &rt,
-            "a feature without its entry",
-            &image.bytes,
-            "",
-            End::Short,
-        )?;
-        let image = Image::patched(rt.alloc(), endian, 64, 1)?;
-        shows(&rt, "event types", &image.bytes, "", End::Unsupported)?;
-        let image = Image::patched(rt.alloc(), endian, 32, 128)?;
-        shows(&rt, "two attributes", &image.bytes, "", End::Unsupported)?;
-        let image = Image::patched(rt.alloc(), endian, 32, 63)?;
-        shows(&rt, "no attributes", &image.bytes, "", End::NoAttributes)?;
     }
     let zeros = [0u8; 104];
     shows(&rt, "zeros", &zeros, "", End::ZeroMagic)
+}
+
+#[test]
+fn numbers_written_over(rt: HostRuntime) -> Result<(), Fail> {
+    for (endian, of_sample) in [
+        (Endianness::LittleEndian, End::Sizes),
+        (Endianness::BigEndian, End::Attribute),
+    ] {
+        for (name, patch, end) in [
+            ("no attribute size", (16usize, 0u64), End::Attribute),
+            ("data far away", (40, u64::MAX), End::Feature),
+            ("a feature without its entry", (72, 8), End::Short),
+            ("no event types", (64, 1), End::NoAttributes),
+            ("a sample as an attribute", (32, 128), of_sample),
+            ("no attributes", (32, 63), End::NoAttributes),
+        ] {
+            patched(&rt, name, endian, patch, end)?;
+        }
+    }
+    Ok(())
 }
 
 #[test]
@@ -170,63 +260,100 @@ fn every_cut_of_the_first_file(rt: HostRuntime) -> Result<(), Fail> {
 
 #[test]
 fn markers_and_the_end_of_a_section(rt: HostRuntime) -> Result<(), Fail> {
-    let mut image = Image::little(rt.alloc(), 48, 4, 0)?;
-    image.sample(20)?;
-    image.marker(16)?;
-    image.sample(10)?;
     let wanted = "0 0 20 0 9 0 8\n32 1 10 0 9 0 8\n";
-    opens(&rt, "a marker's body", &image.bytes, wanted, End::Whole)?;
+    let parts = [Part::Sample(20), Part::Marker(16), Part::Sample(10)];
+    reads(
+        &rt,
+        "a marker's body",
+        (48, 4, 0),
+        &parts,
+        wanted,
+        End::Whole,
+    )?;
     let both = "0 0 20 0 9 0 8\n16 0 10 0 9 0 8\n";
+    let parts = [Part::Sample(20), Part::Sample(10)];
     for (size, wanted) in [(20, both), (16, "0 0 20 0 9 0 8\n"), (0, "")] {
-        let mut image = Image::little(rt.alloc(), size, 4, 0)?;
-        image.sample(20)?;
-        image.sample(10)?;
-        opens(&rt, "a section's end", &image.bytes, wanted, End::Whole)?;
+        reads(
+            &rt,
+            "a section's end",
+            (size, 4, 0),
+            &parts,
+            wanted,
+            End::Whole,
+        )?;
     }
-    let mut image = Image::little(rt.alloc(), 16, 4, 0)?;
-    image.marker(16)?;
-    opens(&rt, "markers alone", &image.bytes, "", End::Whole)
+    reads(
+        &rt,
+        "markers alone",
+        (16, 4, 0),
+        &[Part::Marker(16)],
+        "",
+        End::Whole,
+    )
 }
 
 #[test]
 fn records_of_every_kind(rt: HostRuntime) -> Result<(), Fail> {
-    let mut image = Image::little(rt.alloc(), 24, 4, 0)?;
-    image.head(73, 0, 8)?;
-    image.sample(7)?;
+    let parts = [Part::Head(73, 0, 8), Part::Sample(7)];
     let wanted = "0 0 - - 73 0 0\n8 0 7 0 9 0 8\n";
-    opens(&rt, "a user record", &image.bytes, wanted, End::Whole)?;
-    let mut image = Image::little(rt.alloc(), 16, 0, 0)?;
-    image.sample(7)?;
-    opens(&rt, "no time", &image.bytes, "0 0 - 0 9 0 8\n", End::Whole)?;
-    let mut image = Image::little(rt.alloc(), 8, 4, 0)?;
-    image.head(9, 0, 7)?;
-    opens(&rt, "a size of 7", &image.bytes, "", End::Size)?;
-    let mut image = Image::little(rt.alloc(), 16, 4, 0)?;
-    image.head(81, 0, 16)?;
-    image.filled(0, 4)?;
-    opens(&rt, "compressed, cut", &image.bytes, "", End::Data)?;
-    image.filled(0, 4)?;
-    opens(&rt, "compressed", &image.bytes, "", End::Unsupported)?;
-    let mut image = Image::little(rt.alloc(), 32, 0x10006, 0x40000)?;
-    image.head(3, 0, 32)?;
-    for number in [1, 33, 5] {
-        image.long(number)?;
-    }
-    opens(
+    reads(&rt, "a user record", (24, 4, 0), &parts, wanted, End::Whole)?;
+    reads(
         &rt,
-        "trailing ids",
-        &image.bytes,
-        "0 0 33 0 3 0 24\n",
+        "no time",
+        (16, 0, 0),
+        &[Part::Sample(7)],
+        "0 0 - 0 9 0 8\n",
         End::Whole,
     )?;
-    let mut image = Image::little(rt.alloc(), 23, 0x10006, 0x40000)?;
-    image.head(3, 0, 23)?;
-    image.filled(1, 15)?;
-    opens(
+    reads(
+        &rt,
+        "a size of 7",
+        (8, 4, 0),
+        &[Part::Head(9, 0, 7)],
+        "",
+        End::Size,
+    )?;
+    let parts = [
+        Part::Head(81, 0, 16),
+        Part::Filled(0, 4),
+        Part::Filled(0, 4),
+    ];
+    reads(
+        &rt,
+        "compressed, cut",
+        (16, 4, 0),
+        &parts[..2],
+        "",
+        End::Data,
+    )?;
+    reads(&rt, "compressed", (16, 4, 0), &parts, "", End::Unsupported)
+}
+
+#[test]
+fn records_with_trailing_ids(rt: HostRuntime) -> Result<(), Fail> {
+    let parts = [
+        Part::Head(3, 0, 32),
+        Part::Long(1),
+        Part::Long(33),
+        Part::Long(5),
+    ];
+    let wanted = "0 0 33 0 3 0 24\n";
+    reads(
+        &rt,
+        "trailing ids",
+        (32, 0x10006, 0x40000),
+        &parts,
+        wanted,
+        End::Whole,
+    )?;
+    let parts = [Part::Head(3, 0, 23), Part::Filled(1, 15)];
+    let wanted = "0 0 - 0 3 0 15\n";
+    reads(
         &rt,
         "no room for ids",
-        &image.bytes,
-        "0 0 - 0 3 0 15\n",
+        (23, 0x10006, 0x40000),
+        &parts,
+        wanted,
         End::Whole,
     )
 }
@@ -234,27 +361,26 @@ fn records_of_every_kind(rt: HostRuntime) -> Result<(), Fail> {
 #[test]
 fn auxiliary_data(rt: HostRuntime) -> Result<(), Fail> {
     let both = "0 0 - - 71 0 41\n49 0 20 0 9 0 8\n";
+    let parts = [Part::Trace(1, &[0]), Part::Sample(20)];
     for (size, wanted) in [(65, both), (48, "0 0 - - 71 0 41\n")] {
-        let mut image = Image::little(rt.alloc(), size, 4, 0)?;
-        image.trace(1, &[0])?;
-        image.sample(20)?;
-        opens(&rt, "one byte of it", &image.bytes, wanted, End::Whole)?;
+        reads(
+            &rt,
+            "one byte of it",
+            (size, 4, 0),
+            &parts,
+            wanted,
+            End::Whole,
+        )?;
     }
-    let mut image = Image::little(rt.alloc(), 64, 4, 0)?;
-    image.trace(0, &[])?;
-    image.sample(20)?;
+    let parts = [Part::Trace(0, &[]), Part::Sample(20)];
     let wanted = "0 0 - - 71 0 40\n48 0 20 0 9 0 8\n";
-    opens(&rt, "none of it", &image.bytes, wanted, End::Whole)?;
-    let mut image = Image::little(rt.alloc(), 64, 4, 0)?;
-    image.trace(u64::MAX, &[])?;
-    opens(&rt, "too much of it", &image.bytes, "", End::Data)?;
-    let mut image = Image::little(rt.alloc(), 64, 4, 0)?;
-    image.trace(9, &[1, 2, 3, 4, 5, 6, 7, 8])?;
-    opens(&rt, "cut", &image.bytes, "", End::Data)?;
-    let mut image = Image::little(rt.alloc(), 47, 4, 0)?;
-    image.head(71, 0, 47)?;
-    image.filled(0, 39)?;
-    opens(&rt, "a short body", &image.bytes, "", End::Short)
+    reads(&rt, "none of it", (64, 4, 0), &parts, wanted, End::Whole)?;
+    let parts = [Part::Trace(u64::MAX, &[])];
+    reads(&rt, "too much of it", (64, 4, 0), &parts, "", End::Data)?;
+    let parts = [Part::Trace(9, &[1, 2, 3, 4, 5, 6, 7, 8])];
+    reads(&rt, "cut", (64, 4, 0), &parts, "", End::Data)?;
+    let parts = [Part::Head(71, 0, 47), Part::Filled(0, 39)];
+    reads(&rt, "a short body", (47, 4, 0), &parts, "", End::Short)
 }
 
 #[test]
@@ -270,50 +396,57 @@ fn memory_is_there(rt: HostRuntime) -> Result<(), Fail> {
 
 /// One sample of this size whose body is of zeros.
 fn body_of(rt: &(impl Abort + AllocGlobal), size: u16) -> Result<(), Fail> {
-    let mut image = Image::little(rt.alloc(), size as u64, 0, 0)?;
-    image.head(9, 0, size)?;
     let long = (size as usize).saturating_sub(8);
-    image.filled(0, long)?;
+    let parts = [Part::Head(9, 0, size), Part::Filled(0, long)];
     let wanted = format!(in rt.alloc(); "0 0 - 0 9 0 {long}\n")?;
-    opens(rt, "a body of zeros", &image.bytes, &wanted, End::Whole)
+    reads(
+        rt,
+        "a body of zeros",
+        (size as u64, 0, 0),
+        &parts,
+        &wanted,
+        End::Whole,
+    )
 }
 
-/// The ends of the calls of `next_record` over a file that opens, as many as are asked for.
-fn ends_of(rt: &(impl Abort + AllocGlobal), file: &[u8], calls: usize) -> Result<Vec<End>, Fail> {
-    let mut ends = Vec::new(rt.alloc());
+/// What the first calls of `next_record` over such a file come to, one end a call.
+fn ends(
+    rt: &(impl Abort + AllocGlobal),
+    file: (u64, u64, u64),
+    parts: &[Part<'_>],
+    wanted: &[End],
+) -> Result<(), Fail> {
+    let image = made(rt.alloc(), file, parts)?;
     let PerfFileReader {
         mut perf_file,
         mut record_iter,
-    } = PerfFileReader::parse_file(rt.alloc(), Cursor::new(file))?;
-    for _ in 0..calls {
-        let end = match record_iter.next_record(&mut perf_file) {
+    } = PerfFileReader::parse_file(rt.alloc(), Cursor::new(image.bytes.as_slice()))?;
+    for end in wanted {
+        let came = match record_iter.next_record(&mut perf_file) {
             Ok(Some(_)) => End::Other,
             Ok(None) => End::Whole,
             Err(error) => end_of_error(&error),
         };
-        ends.push(end)?;
+        assert_eq!(rt; came, *end);
     }
-    Ok(ends)
+    Ok(())
 }
 
 #[test]
 fn a_refusal_and_an_end_stay(rt: HostRuntime) -> Result<(), Fail> {
-    let mut image = Image::little(rt.alloc(), 8, 4, 0)?;
-    image.head(9, 0, 7)?;
-    let ends = ends_of(&rt, &image.bytes, 3)?;
-    assert_eq!(rt;
-        ends.as_slice(),
-        [End::Size, End::Failed, End::Failed].as_slice()
-    );
-    let mut image = Image::little(rt.alloc(), 16, 4, 0)?;
-    image.marker(16)?;
-    let ends = ends_of(&rt, &image.bytes, 2)?;
-    assert_eq!(rt; ends.as_slice(), [End::Whole, End::Whole].as_slice());
-    let mut image = Image::little(rt.alloc(), 0, 4, 0)?;
-    image.sample(20)?;
-    let ends = ends_of(&rt, &image.bytes, 1)?;
-    assert_eq!(rt; ends.as_slice(), [End::Whole].as_slice());
-    Ok(())
+    let refused = [End::Size, End::Failed, End::Failed];
+    ends(&rt, (8, 4, 0), &[Part::Head(9, 0, 7)], &refused)?;
+    let ended = [End::Whole, End::Whole];
+    ends(&rt, (16, 4, 0), &[Part::Marker(16)], &ended)?;
+    ends(&rt, (0, 4, 0), &[Part::Sample(20)], &ended[..1])
+}
+
+/// A file's one attribute has the sample type 4, no name and no ids.
+fn is_plain(rt: &impl Abort, attributes: &[AttributeDescription]) {
+    assert_eq!(rt; attributes.len(), 1);
+    assert_eq!(rt; attributes[0].attributes().sample_format.0, 4);
+    assert!(rt; attributes[0].name().is_none());
+    assert!(rt; attributes[0].ids().is_empty());
 }
 
 #[test]
@@ -323,35 +456,35 @@ fn what_a_file_says_of_itself(rt: HostRuntime) -> Result<(), Fail> {
         let reader = PerfFileReader::parse_file(rt.alloc(), Cursor::new(image.bytes.as_slice()))?;
         assert_eq!(rt; reader.perf_file.endian(), endian);
         assert!(rt; reader.perf_file.features().is_empty());
-        let attributes = reader.perf_file.event_attributes();
-        assert_eq!(rt; attributes.len(), 1);
-        assert_eq!(rt; attributes[0].attributes().sample_format.0, 4);
-        assert!(rt; attributes[0].name().is_none());
-        assert!(rt; attributes[0].ids().is_empty());
+        is_plain(&rt, reader.perf_file.event_attributes());
     }
+    Ok(())
+}
+
+/// The status and the line on standard error after a file is listed.
+fn ends_with(
+    rt: &(impl Abort + AllocGlobal),
+    file: &[u8],
+    status: u8,
+    line: &str,
+) -> Result<(), Fail> {
+    let mut out = LineBuffer::new(rt.alloc(), Vec::new(rt.alloc()))?;
+    let mut err: Vec<u8> = Vec::new(rt.alloc());
+    let listed = list_file(rt.alloc(), Cursor::new(file), &mut out);
+    let outcome = settle(listed, &mut out);
+    assert_eq!(rt; finish(outcome, &mut err)?, status);
+    assert_eq!(rt; err.as_slice(), line.as_bytes());
     Ok(())
 }
 
 #[test]
 fn the_program_tells_a_fault(rt: HostRuntime) -> Result<(), Fail> {
-    let mut bad = Image::little(rt.alloc(), 8, 4, 0)?;
-    bad.head(9, 0, 7)?;
     let good = Image::first(rt.alloc(), Endianness::LittleEndian)?;
+    ends_with(&rt, &good.bytes, 0, "")?;
     let cut = good.bytes.get(..200).unwrap_or(&[]);
-    let cases = [
-        (bad.bytes.as_slice(), 2, "perflist: fault after 0 records\n"),
-        (cut, 2, "perflist: fault after 1 records\n"),
-        (good.bytes.as_slice(), 0, ""),
-    ];
-    for (file, status, line) in cases {
-        let mut out = LineBuffer::new(rt.alloc(), Vec::new(rt.alloc()))?;
-        let mut err: Vec<u8> = Vec::new(rt.alloc());
-        let listed = list_file(rt.alloc(), Cursor::new(file), &mut out);
-        let outcome = settle(listed, &mut out);
-        assert_eq!(rt; finish(outcome, &mut err)?, status);
-        assert_eq!(rt; err.as_slice(), line.as_bytes());
-    }
-    Ok(())
+    ends_with(&rt, cut, 2, "perflist: fault after 1 records\n")?;
+    let bad = made(rt.alloc(), (8, 4, 0), &[Part::Head(9, 0, 7)])?;
+    ends_with(&rt, &bad.bytes, 2, "perflist: fault after 0 records\n")
 }
 
 /// A writer that takes 20 bytes and then fails.

@@ -1,9 +1,10 @@
 use super::*;
+use crate::rule::check_rule;
 use byteorder::LittleEndian;
 use indexmap::IndexMap;
 use perfdata_base::features::FeatureSet;
 use perfdata_base::section::PerfFileSection;
-use perfdata_base::source::Counted;
+use perfdata_base::source::{Counted, Script, Step};
 use perfdata_parts::error::ReadError;
 use perfdata_parts::feature_sections::AttributeDescription;
 use std::alloc::Global;
@@ -44,26 +45,29 @@ fn file(alloc: Global) -> Result<PerfFile, Error> {
         features: FeatureSet([0; 4]),
         sections: IndexMap::new(alloc),
         attributes,
+        named: true,
     })
 }
 
-fn records_of<R: Source>(
+fn records_of<R: Source + Drop>(
     alloc: Global,
     file: &PerfFile,
     source: R,
-    size: u64,
-) -> PerfRecordIter<R> {
+    input: Input,
+) -> Result<PerfRecordIter<R>, Error> {
     let endian = file.endian();
-    PerfRecordIter {
+    check_rule(file.event_attributes())?;
+    Ok(PerfRecordIter {
+        alloc,
         source,
+        input,
         endian,
-        known: Known::new(file.event_attributes()[0].attributes(), endian),
+        known: Known::new(alloc, file.event_attributes(), endian)?,
         body: Vec::new(alloc),
         offset: 0,
         round: 0,
-        size,
         stage: Stage::Running,
-    }
+    })
 }
 
 // The type, the flags and the body's length of a record.
@@ -82,7 +86,7 @@ fn parts_of(record: PerfFileRecord<'_>) -> (u32, u16, usize) {
 fn hands_out_records_with_their_places(rt: HostRuntime) -> Result<(), Fail> {
     let mut file = file(rt.alloc())?;
     let source = Counted::new(RECORDS.as_slice());
-    let mut records = records_of(rt.alloc(), &file, source, 107);
+    let mut records = records_of(rt.alloc(), &file, source, Input::Section(107))?;
     for (offset, round, timestamp, parts) in [
         (0, 0, Some(100), (9, 2, 16)),
         (32, 1, None, (71, 0, 43)),
@@ -136,7 +140,7 @@ fn refuses_what_is_no_record(rt: HostRuntime) -> Result<(), Fail> {
         (&RECORDS[32..82], "data"),
         (&[68, 0, 0, 0, 0, 0, 12, 0, 0][..], "data"),
     ] {
-        let mut records = records_of(rt.alloc(), &file, bytes, 200);
+        let mut records = records_of(rt.alloc(), &file, bytes, Input::Section(200))?;
         for want in [fault, "failed", "failed"] {
             match records.next_record(&mut file) {
                 Ok(_) => assert!(rt; false, "{fault}"),
@@ -144,5 +148,83 @@ fn refuses_what_is_no_record(rt: HostRuntime) -> Result<(), Fail> {
             }
         }
     }
+    Ok(())
+}
+
+// The records as a pipe whose opening read the first head.
+#[test]
+fn hands_out_records_of_a_pipe(rt: HostRuntime) -> Result<(), Fail> {
+    let mut file = file(rt.alloc())?;
+    let kept = Input::Pipe(Some([9, 0, 0, 0, 2, 0, 24, 0]));
+    let mut records = records_of(rt.alloc(), &file, &RECORDS[8..], kept)?;
+    for (offset, round, timestamp, parts) in [
+        (0, 0, Some(100), (9, 2, 16)),
+        (32, 1, None, (71, 0, 43)),
+        (83, 1, Some(300), (3, 0, 16)),
+    ] {
+        let place = RecordPlace {
+            timestamp,
+            offset,
+            round,
+        };
+        match records.next_record(&mut file)? {
+            Some((found, record)) => {
+                assert_eq!(rt; found, place);
+                assert_eq!(rt; parts_of(record), parts);
+            }
+            None => assert!(rt; false, "at {offset}"),
+        }
+    }
+    assert!(rt; records.next_record(&mut file)?.is_none());
+    assert!(rt; records.next_record(&mut file)?.is_none());
+    Ok(())
+}
+
+// Heads and bodies that are cut, and auxiliary data.
+#[test]
+fn ends_a_pipe_where_a_record_is_cut(rt: HostRuntime) -> Result<(), Fail> {
+    let mut file = file(rt.alloc())?;
+    for bytes in [
+        &[][..],
+        &[9, 0, 0, 0, 0, 0, 8][..],
+        &[9, 0, 0, 0, 0, 0, 10, 0, 1][..],
+        &[81, 0, 0, 0, 0, 0, 9, 0][..],
+        &[68, 0, 0, 0, 0, 0, 12, 0, 0][..],
+        &[68, 0, 0, 0, 0, 0, 8, 0, 64, 0, 0, 0, 0, 0, 80, 0, 1][..],
+        &RECORDS[32..79],
+    ] {
+        let mut records = records_of(rt.alloc(), &file, bytes, Input::Pipe(None))?;
+        for _ in 0..2 {
+            assert!(rt; records.next_record(&mut file)?.is_none());
+        }
+    }
+    for (bytes, fault) in [
+        (&[9, 0, 0, 0, 0, 0, 7, 0][..], "size"),
+        (&[81, 0, 0, 0, 0, 0, 9, 0, 1][..], "unsupported"),
+        (&RECORDS[32..82], "data"),
+    ] {
+        let mut records = records_of(rt.alloc(), &file, bytes, Input::Pipe(None))?;
+        for want in [fault, "failed"] {
+            match records.next_record(&mut file) {
+                Ok(_) => assert!(rt; false, "{fault}"),
+                Err(error) => assert_eq!(rt; name_of(&error), want),
+            }
+        }
+    }
+    Ok(())
+}
+
+// A pause in a body ends a pipe, also where more bytes come behind it.
+#[test]
+fn ends_a_pipe_that_pauses(rt: HostRuntime) -> Result<(), Fail> {
+    let mut file = file(rt.alloc())?;
+    let bytes = Vec::from_array(rt.alloc(), RECORDS)?;
+    let whole = Step::Give(64);
+    let steps = vec![in rt.alloc(); whole, whole, whole, whole, Step::Give(4), Step::Pause]?;
+    let source = Script::new(bytes, 107, steps, Vec::new(rt.alloc()));
+    let mut records = records_of(rt.alloc(), &file, source, Input::Pipe(None))?;
+    assert!(rt; records.next_record(&mut file)?.is_some());
+    assert!(rt; records.next_record(&mut file)?.is_none());
+    assert!(rt; records.next_record(&mut file)?.is_none());
     Ok(())
 }

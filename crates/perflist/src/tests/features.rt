@@ -1,12 +1,14 @@
 //! The cases of features and their sections.
 use super::image::Image;
 use super::{End, FIRST, opens, shows};
+use linux_perf_data::feature_sections::PmuMappings;
 use linux_perf_data::{Endianness, Error, Feature, PerfFile, PerfFileReader};
 use std::alloc::{AllocError, Global};
 use std::io::{Cursor, ErrorKind};
+use std::process::Abort;
 use std::test::Fail;
 
-const ORDERS: [Endianness; 2] = [Endianness::LittleEndian, Endianness::BigEndian];
+pub const ORDERS: [Endianness; 2] = [Endianness::LittleEndian, Endianness::BigEndian];
 
 /// The first file with these words of feature bits, and behind its 208 bytes these entries and bytes.
 fn file(
@@ -48,7 +50,7 @@ fn word_of(feature: Feature, from: u32) -> u64 {
 }
 
 /// The first file with one feature, whose section holds these bytes.
-fn with_section(
+pub fn with_section(
     alloc: Global,
     endian: Endianness,
     feature: Feature,
@@ -69,13 +71,13 @@ fn with_section(
     )
 }
 
-fn opened(alloc: Global, image: &Image) -> Result<PerfFile, Error> {
+pub fn opened(alloc: Global, image: &Image) -> Result<PerfFile, Error> {
     let reader = PerfFileReader::parse_file(alloc, Cursor::new(image.bytes.as_slice()))?;
     Ok(reader.perf_file)
 }
 
 /// What the first little-endian file says of itself with one feature, whose section holds these bytes.
-fn little(alloc: Global, feature: Feature, content: &[u8]) -> Result<PerfFile, Fail> {
+pub fn little(alloc: Global, feature: Feature, content: &[u8]) -> Result<PerfFile, Fail> {
     let image = with_section(alloc, Endianness::LittleEndian, feature, content)?;
     Ok(opened(alloc, &image)?)
 }
@@ -126,61 +128,79 @@ fn a_file_with_a_host_name(rt: HostRuntime) -> Result<(), Fail> {
         HOST,
     )?;
     assert_eq!(rt; image.bytes.len(), 233);
-    opens(&rt, "a host name", &image.bytes, FIRST, End::Whole)?;
-    let file = opened(rt.alloc(), &image)?;
+    opens(&rt, "a host name", &image.bytes, FIRST, End::Whole)
+}
+
+#[test]
+fn what_a_file_says_with_a_host_name(rt: HostRuntime) -> Result<(), Fail> {
+    let file = little(rt.alloc(), Feature::HOSTNAME, HOST)?;
     assert_eq!(rt; file.features().len(), 1);
     assert!(rt; file.features().has_feature(Feature::HOSTNAME));
-    assert_eq!(rt; file.hostname()?, Some("ab"));
-    assert_eq!(rt; file.os_release()?, None);
+    assert!(rt; matches!(file.hostname(), Ok(Some("ab"))));
+    assert!(rt; matches!(file.os_release(), Ok(None)));
     assert!(rt; !file.is_stats());
     assert_eq!(rt; file.feature_section_data(Feature::HOSTNAME), Some(HOST));
     assert_eq!(rt; file.feature_section_data(Feature::OSRELEASE), None);
     Ok(())
 }
 
+/// The first little-endian file with a host name's bit, these entries and these bytes.
+fn with_entries(
+    alloc: Global,
+    entries: &[(u64, u64)],
+    content: &[u8],
+) -> Result<Image, AllocError> {
+    let little = Endianness::LittleEndian;
+    file(alloc, little, [8, 0, 0, 0], entries, content)
+}
+
+/// Such a file is cut short.
+fn is_cut(
+    rt: &(impl Abort + AllocGlobal),
+    name: &str,
+    entries: &[(u64, u64)],
+    content: &[u8],
+) -> Result<(), Fail> {
+    let image = with_entries(rt.alloc(), entries, content)?;
+    shows(rt, name, &image.bytes, "", End::Short)
+}
+
 #[test]
 fn entries_that_lie_otherwise(rt: HostRuntime) -> Result<(), Fail> {
-    let words = [8, 0, 0, 0];
     for entry in [(224, 10), (u64::MAX, 1), (224, 1 << 40), (233, 1)] {
-        let image = file(rt.alloc(), Endianness::LittleEndian, words, &[entry], HOST)?;
-        shows(&rt, "a section cut", &image.bytes, "", End::Short)?;
+        is_cut(&rt, "a section cut", &[entry], HOST)?;
     }
-    let image = file(
-        rt.alloc(),
-        Endianness::LittleEndian,
-        words,
-        &[(0, 233)],
-        HOST,
-    )?;
+    is_cut(&rt, "no table", &[], &[])?;
+    is_cut(&rt, "a table cut", &[], &[0; 15])
+}
+
+#[test]
+fn a_section_of_the_whole_file(rt: HostRuntime) -> Result<(), Fail> {
+    let image = with_entries(rt.alloc(), &[(0, 233)], HOST)?;
     opens(&rt, "the whole file", &image.bytes, FIRST, End::Whole)?;
     let whole = opened(rt.alloc(), &image)?;
-    assert_eq!(rt;
-        whole.feature_section_data(Feature::HOSTNAME),
-        Some(image.bytes.as_slice())
-    );
-    let image = file(
-        rt.alloc(),
-        Endianness::LittleEndian,
-        words,
-        &[(u64::MAX, 0)],
-        HOST,
-    )?;
+    let data = whole.feature_section_data(Feature::HOSTNAME);
+    assert_eq!(rt; data, Some(image.bytes.as_slice()));
+    Ok(())
+}
+
+#[test]
+fn an_empty_section_far_away(rt: HostRuntime) -> Result<(), Fail> {
+    let image = with_entries(rt.alloc(), &[(u64::MAX, 0)], HOST)?;
     let none = opened(rt.alloc(), &image)?;
-    assert_eq!(rt;
-        none.feature_section_data(Feature::HOSTNAME),
-        Some(&[] as &[u8])
-    );
-    let image = file(rt.alloc(), Endianness::LittleEndian, words, &[], &[])?;
-    shows(&rt, "no table", &image.bytes, "", End::Short)?;
-    let image = file(rt.alloc(), Endianness::LittleEndian, words, &[], &[0; 15])?;
-    shows(&rt, "a table cut", &image.bytes, "", End::Short)
+    let data = none.feature_section_data(Feature::HOSTNAME);
+    assert_eq!(rt; data, Some(&[] as &[u8]));
+    Ok(())
 }
 
 #[test]
 fn attributes_told_elsewhere(rt: HostRuntime) -> Result<(), Fail> {
-    for feature in [Feature::EVENT_DESC, Feature::SIMPLEPERF_META_INFO] {
+    for (feature, end) in [
+        (Feature::EVENT_DESC, End::Short),
+        (Feature::SIMPLEPERF_META_INFO, End::NoEventTypes),
+    ] {
         let image = with_section(rt.alloc(), Endianness::BigEndian, feature, &[])?;
-        shows(&rt, "elsewhere", &image.bytes, "", End::Unsupported)?;
+        shows(&rt, "elsewhere", &image.bytes, "", end)?;
     }
     Ok(())
 }
@@ -211,78 +231,90 @@ fn many_features(rt: HostRuntime) -> Result<(), Fail> {
     Ok(())
 }
 
-#[test]
-fn texts_that_are_none(rt: HostRuntime) -> Result<(), Fail> {
-    let mut long = [0u8; 9];
-    long.copy_from_slice(HOST);
-    long[0] = 6;
-    let file = little(rt.alloc(), Feature::HOSTNAME, &long)?;
-    assert!(rt; matches!(file.hostname(), Err(Error::StringLengthTooLong)));
-    let file = little(rt.alloc(), Feature::ARCH, &[5, 0, 0])?;
-    assert!(rt; matches!(file.arch(), Err(Error::NotEnoughSpaceForStringLen)));
-    let file = little(rt.alloc(), Feature::CPUID, &[0; 4])?;
-    assert_eq!(rt; file.cpu_id()?, Some(""));
-    let file = little(rt.alloc(), Feature::VERSION, &[1, 0, 0, 0, 0xff])?;
-    assert!(rt; matches!(file.perf_version(), Err(Error::StringUtf8)));
-    Ok(())
+/// How an accessor refuses.
+#[derive(Clone, Copy, Debug, PartialEq, Eq)]
+enum Refusal {
+    /// An input ended early where no part is named.
+    Short,
+    /// The version of clock data isn't the one that is known.
+    Version,
+    /// A section is too small for its number.
+    Small,
+    /// A text is longer than its section.
+    Long,
+    /// There is no room for a text's length.
+    NoLength,
+    /// There is no room for the count of a list of texts.
+    NoCount,
+    /// A text isn't UTF-8.
+    Utf8,
+    None,
+    Other,
 }
 
-#[test]
-fn words_of_a_command_line(rt: HostRuntime) -> Result<(), Fail> {
-    let mut words = [2, 0, 0, 0, 1, 0, 0, 0, b'a', 1, 0, 0, 0, b'b'];
-    let file = little(rt.alloc(), Feature::CMDLINE, &words)?;
-    let Some(line) = file.cmdline(rt.alloc())? else {
-        return Err(Fail::from("no command line"));
-    };
-    assert_eq!(rt; line.as_slice(), ["a", "b"].as_slice());
-    for byte in words.iter_mut().take(4) {
-        *byte = 0xff;
-    }
-    let file = little(rt.alloc(), Feature::CMDLINE, &words)?;
-    assert!(rt;
-        matches!(
-            file.cmdline(rt.alloc()),
-            Err(Error::NotEnoughSpaceForStringLen)
-        )
-    );
-    let file = little(rt.alloc(), Feature::CMDLINE, &[0; 3])?;
-    assert!(rt;
-        matches!(
-            file.cmdline(rt.alloc()),
-            Err(Error::NotEnoughSpaceForStringListLen)
-        )
-    );
-    Ok(())
-}
-
-fn is_of_kind(error: &Error, kind: ErrorKind) -> bool {
-    match error {
-        Error::IoError(error) => error.kind() == kind,
-        _ => false,
+fn refused<T: Drop>(answer: Result<T, Error>) -> Refusal {
+    match answer {
+        Ok(_) => Refusal::None,
+        Err(Error::IoError(error)) => match error.kind() {
+            ErrorKind::UnexpectedEof => Refusal::Short,
+            ErrorKind::InvalidData => Refusal::Version,
+            _ => Refusal::Other,
+        },
+        Err(Error::FeatureSectionTooSmall) => Refusal::Small,
+        Err(Error::StringLengthTooLong) => Refusal::Long,
+        Err(Error::NotEnoughSpaceForStringLen) => Refusal::NoLength,
+        Err(Error::NotEnoughSpaceForStringListLen) => Refusal::NoCount,
+        Err(Error::StringUtf8) => Refusal::Utf8,
+        Err(_) => Refusal::Other,
     }
 }
 
-#[test]
-fn sections_that_end_early(rt: HostRuntime) -> Result<(), Fail> {
-    let short = ErrorKind::UnexpectedEof;
-    let seven = [2, 0, 0, 0, 0, 0, 0];
-    let file = little(rt.alloc(), Feature::NRCPUS, &seven)?;
-    assert!(rt; matches!(file.nr_cpus(), Err(error) if is_of_kind(&error, short)));
-    let file = little(rt.alloc(), Feature::SAMPLE_TIME, &seven)?;
-    assert!(rt; matches!(file.sample_time_range(), Err(error) if is_of_kind(&error, short)));
-    let file = little(rt.alloc(), Feature::COMPRESSED, &seven)?;
-    assert!(rt; matches!(file.compression_info(), Err(error) if is_of_kind(&error, short)));
-    let file = little(rt.alloc(), Feature::TOTAL_MEM, &seven)?;
-    assert!(rt; matches!(file.total_mem(), Err(Error::FeatureSectionTooSmall)));
-    let file = little(rt.alloc(), Feature::CLOCKID, &seven)?;
-    assert!(rt; matches!(file.clock_frequency(), Err(Error::FeatureSectionTooSmall)));
-    let file = little(rt.alloc(), Feature::CLOCK_DATA, &seven)?;
-    let version = ErrorKind::InvalidData;
-    assert!(rt; matches!(file.clock_data(), Err(error) if is_of_kind(&error, version)));
-    let file = little(rt.alloc(), Feature::CLOCK_DATA, &[1, 0, 0, 0])?;
-    assert!(rt; matches!(file.clock_data(), Err(error) if is_of_kind(&error, short)));
-    let file = little(rt.alloc(), Feature::PMU_MAPPINGS, &[5, 0, 0, 0])?;
-    assert!(rt; matches!(file.pmu_mappings(rt.alloc()), Err(error) if is_of_kind(&error, short)));
+/// A text that a file tells of itself.
+#[derive(Clone, Copy)]
+enum Text {
+    Hostname,
+    Release,
+    Version,
+    Arch,
+    CpuDesc,
+    CpuId,
+}
+
+impl Text {
+    fn feature(self) -> Feature {
+        match self {
+            Text::Hostname => Feature::HOSTNAME,
+            Text::Release => Feature::OSRELEASE,
+            Text::Version => Feature::VERSION,
+            Text::Arch => Feature::ARCH,
+            Text::CpuDesc => Feature::CPUDESC,
+            Text::CpuId => Feature::CPUID,
+        }
+    }
+
+    fn of(self, file: &PerfFile) -> Result<Option<&str>, Error> {
+        match self {
+            Text::Hostname => file.hostname(),
+            Text::Release => file.os_release(),
+            Text::Version => file.perf_version(),
+            Text::Arch => file.arch(),
+            Text::CpuDesc => file.cpu_desc(),
+            Text::CpuId => file.cpu_id(),
+        }
+    }
+}
+
+/// A file tells this text by its section of these bytes.
+fn tells(
+    rt: &(impl Abort + AllocGlobal),
+    endian: Endianness,
+    text: Text,
+    content: &[u8],
+    wanted: &str,
+) -> Result<(), Fail> {
+    let image = with_section(rt.alloc(), endian, text.feature(), content)?;
+    let file = opened(rt.alloc(), &image)?;
+    assert!(rt; matches!(text.of(&file), Ok(Some(told)) if told == wanted));
     Ok(())
 }
 
@@ -291,17 +323,15 @@ fn texts_in_both_orders(rt: HostRuntime) -> Result<(), Fail> {
     for endian in ORDERS {
         let mut content = Content::new(rt.alloc(), endian);
         content.string(b"x86_64\0\0")?;
-        let wanted = Some("x86_64");
-        let image = with_section(rt.alloc(), endian, Feature::OSRELEASE, &content.bytes)?;
-        assert_eq!(rt; opened(rt.alloc(), &image)?.os_release()?, wanted);
-        let image = with_section(rt.alloc(), endian, Feature::VERSION, &content.bytes)?;
-        assert_eq!(rt; opened(rt.alloc(), &image)?.perf_version()?, wanted);
-        let image = with_section(rt.alloc(), endian, Feature::ARCH, &content.bytes)?;
-        assert_eq!(rt; opened(rt.alloc(), &image)?.arch()?, wanted);
-        let image = with_section(rt.alloc(), endian, Feature::CPUDESC, &content.bytes)?;
-        assert_eq!(rt; opened(rt.alloc(), &image)?.cpu_desc()?, wanted);
-        let image = with_section(rt.alloc(), endian, Feature::CPUID, &content.bytes)?;
-        assert_eq!(rt; opened(rt.alloc(), &image)?.cpu_id()?, wanted);
+        for text in [
+            Text::Release,
+            Text::Version,
+            Text::Arch,
+            Text::CpuDesc,
+            Text::CpuId,
+        ] {
+            tells(&rt, endian, text, &content.bytes, "x86_64")?;
+        }
         let image = with_section(rt.alloc(), endian, Feature::STAT, &[])?;
         assert!(rt; opened(rt.alloc(), &image)?.is_stats());
     }
@@ -309,49 +339,169 @@ fn texts_in_both_orders(rt: HostRuntime) -> Result<(), Fail> {
 }
 
 #[test]
-fn numbers_in_both_orders(rt: HostRuntime) -> Result<(), Fail> {
-    for endian in ORDERS {
-        let mut content = Content::new(rt.alloc(), endian);
-        content.long(0x1_0000_0005)?;
-        content.long(0x2_0000_0003)?;
-        content.long(7)?;
-        let image = with_section(rt.alloc(), endian, Feature::TOTAL_MEM, &content.bytes)?;
-        assert_eq!(rt;
-            opened(rt.alloc(), &image)?.total_mem()?,
-            Some(0x1_0000_0005)
-        );
-        let image = with_section(rt.alloc(), endian, Feature::CLOCKID, &content.bytes)?;
-        assert_eq!(rt;
-            opened(rt.alloc(), &image)?.clock_frequency()?,
-            Some(0x1_0000_0005)
-        );
-        let image = with_section(rt.alloc(), endian, Feature::SAMPLE_TIME, &content.bytes)?;
-        let times = opened(rt.alloc(), &image)?.sample_time_range()?;
-        assert!(rt;
-            matches!(times, Some(times) if times.first_sample_time == 0x1_0000_0005 && times.last_sample_time == 0x2_0000_0003)
-        );
-        let mut content = Content::new(rt.alloc(), endian);
-        for number in [1, 2, 3, 4, 5u32] {
-            content.word(number)?;
+fn texts_that_are_none(rt: HostRuntime) -> Result<(), Fail> {
+    tells(&rt, Endianness::LittleEndian, Text::CpuId, &[0; 4], "")?;
+    let mut long = [0u8; 9];
+    long.copy_from_slice(HOST);
+    long[0] = 6;
+    for (text, content, wanted) in [
+        (Text::Hostname, &long as &[u8], Refusal::Long),
+        (Text::Arch, &[5, 0, 0], Refusal::NoLength),
+        (Text::Version, &[1, 0, 0, 0, 0xff], Refusal::Utf8),
+    ] {
+        let file = little(rt.alloc(), text.feature(), content)?;
+        assert_eq!(rt; refused(text.of(&file)), wanted);
+    }
+    Ok(())
+}
+
+#[test]
+fn words_of_a_command_line(rt: HostRuntime) -> Result<(), Fail> {
+    let words = [2, 0, 0, 0, 1, 0, 0, 0, b'a', 1, 0, 0, 0, b'b'];
+    let file = little(rt.alloc(), Feature::CMDLINE, &words)?;
+    let line = file.cmdline(rt.alloc())?;
+    assert!(rt; matches!(&line, Some(line) if line.as_slice() == ["a", "b"].as_slice()));
+    Ok(())
+}
+
+#[test]
+fn a_command_line_that_is_none(rt: HostRuntime) -> Result<(), Fail> {
+    let words = [0xff, 0xff, 0xff, 0xff, 1, 0, 0, 0, b'a', 1, 0, 0, 0, b'b'];
+    for (content, wanted) in [
+        (&words as &[u8], Refusal::NoLength),
+        (&[0; 3], Refusal::NoCount),
+    ] {
+        let file = little(rt.alloc(), Feature::CMDLINE, content)?;
+        assert_eq!(rt; refused(file.cmdline(rt.alloc())), wanted);
+    }
+    Ok(())
+}
+
+/// Numbers that a file tells of itself.
+#[derive(Clone, Copy)]
+enum Numbers {
+    Cpus,
+    Times,
+    Compression,
+    Memory,
+    Frequency,
+    Clock,
+    Units,
+}
+
+impl Numbers {
+    fn feature(self) -> Feature {
+        match self {
+            Numbers::Cpus => Feature::NRCPUS,
+            Numbers::Times => Feature::SAMPLE_TIME,
+            Numbers::Compression => Feature::COMPRESSED,
+            Numbers::Memory => Feature::TOTAL_MEM,
+            Numbers::Frequency => Feature::CLOCKID,
+            Numbers::Clock => Feature::CLOCK_DATA,
+            Numbers::Units => Feature::PMU_MAPPINGS,
         }
-        let image = with_section(rt.alloc(), endian, Feature::NRCPUS, &content.bytes)?;
-        let cpus = opened(rt.alloc(), &image)?.nr_cpus()?;
+    }
+
+    fn refusal(self, alloc: Global, file: &PerfFile) -> Refusal {
+        match self {
+            Numbers::Cpus => refused(file.nr_cpus()),
+            Numbers::Times => refused(file.sample_time_range()),
+            Numbers::Compression => refused(file.compression_info()),
+            Numbers::Memory => refused(file.total_mem()),
+            Numbers::Frequency => refused(file.clock_frequency()),
+            Numbers::Clock => refused(file.clock_data()),
+            Numbers::Units => refused(file.pmu_mappings(alloc)),
+        }
+    }
+}
+
+#[test]
+fn sections_that_end_early(rt: HostRuntime) -> Result<(), Fail> {
+    let seven = [2, 0, 0, 0, 0, 0, 0];
+    for (numbers, content, wanted) in [
+        (Numbers::Cpus, &seven as &[u8], Refusal::Short),
+        (Numbers::Times, &seven, Refusal::Short),
+        (Numbers::Compression, &seven, Refusal::Short),
+        (Numbers::Memory, &seven, Refusal::Small),
+        (Numbers::Frequency, &seven, Refusal::Small),
+        (Numbers::Clock, &seven, Refusal::Version),
+        (Numbers::Clock, &[1, 0, 0, 0], Refusal::Short),
+        (Numbers::Units, &[5, 0, 0, 0], Refusal::Short),
+    ] {
+        let file = little(rt.alloc(), numbers.feature(), content)?;
+        assert_eq!(rt; numbers.refusal(rt.alloc(), &file), wanted);
+    }
+    Ok(())
+}
+
+/// What a file in this order says of itself with one feature, whose section is of words of these numbers of bytes.
+fn told(
+    alloc: Global,
+    endian: Endianness,
+    feature: Feature,
+    words: &[(u64, u32)],
+) -> Result<PerfFile, Fail> {
+    let mut content = Content::new(alloc, endian);
+    for (number, bytes) in words {
+        if *bytes == 8 {
+            content.long(*number)?;
+        } else {
+            content.word(u32::try_from(*number).unwrap_or(u32::MAX))?;
+        }
+    }
+    let image = with_section(alloc, endian, feature, &content.bytes)?;
+    Ok(opened(alloc, &image)?)
+}
+
+const LONGS: [(u64, u32); 3] = [(0x1_0000_0005, 8), (0x2_0000_0003, 8), (7, 8)];
+
+const WORDS: [(u64, u32); 5] = [(1, 4), (2, 4), (3, 4), (4, 4), (5, 4)];
+
+#[test]
+fn memory_and_frequency(rt: HostRuntime) -> Result<(), Fail> {
+    for endian in ORDERS {
+        let file = told(rt.alloc(), endian, Feature::TOTAL_MEM, &LONGS)?;
+        assert!(rt; matches!(file.total_mem(), Ok(Some(0x1_0000_0005))));
+        let file = told(rt.alloc(), endian, Feature::CLOCKID, &LONGS)?;
+        assert!(rt; matches!(file.clock_frequency(), Ok(Some(0x1_0000_0005))));
+    }
+    Ok(())
+}
+
+#[test]
+fn times_and_cpus(rt: HostRuntime) -> Result<(), Fail> {
+    for endian in ORDERS {
+        let file = told(rt.alloc(), endian, Feature::SAMPLE_TIME, &LONGS)?;
         assert!(rt;
-            matches!(cpus, Some(cpus) if cpus.nr_cpus_available == 1 && cpus.nr_cpus_online == 2)
+            matches!(file.sample_time_range(), Ok(Some(times)) if times.first_sample_time == 0x1_0000_0005 && times.last_sample_time == 0x2_0000_0003)
         );
-        let image = with_section(rt.alloc(), endian, Feature::COMPRESSED, &content.bytes)?;
-        let Some(info) = opened(rt.alloc(), &image)?.compression_info()? else {
+        let file = told(rt.alloc(), endian, Feature::NRCPUS, &WORDS)?;
+        assert!(rt;
+            matches!(file.nr_cpus(), Ok(Some(cpus)) if cpus.nr_cpus_available == 1 && cpus.nr_cpus_online == 2)
+        );
+    }
+    Ok(())
+}
+
+#[test]
+fn compression_in_both_orders(rt: HostRuntime) -> Result<(), Fail> {
+    for endian in ORDERS {
+        let file = told(rt.alloc(), endian, Feature::COMPRESSED, &WORDS)?;
+        let Ok(Some(info)) = file.compression_info() else {
             return Err(Fail::from("no compression"));
         };
         assert_eq!(rt; (info.version, info.type_, info.level), (1, 2, 3));
         assert_eq!(rt; (info.ratio, info.mmap_len), (4, 5));
-        let mut content = Content::new(rt.alloc(), endian);
-        content.word(1)?;
-        content.word(4)?;
-        content.long(9)?;
-        content.long(0x3_0000_0001)?;
-        let image = with_section(rt.alloc(), endian, Feature::CLOCK_DATA, &content.bytes)?;
-        let Some(clock) = opened(rt.alloc(), &image)?.clock_data()? else {
+    }
+    Ok(())
+}
+
+#[test]
+fn clock_in_both_orders(rt: HostRuntime) -> Result<(), Fail> {
+    for endian in ORDERS {
+        let words = [(1, 4), (4, 4), (9, 8), (0x3_0000_0001, 8)];
+        let file = told(rt.alloc(), endian, Feature::CLOCK_DATA, &words)?;
+        let Ok(Some(clock)) = file.clock_data() else {
             return Err(Fail::from("no clock"));
         };
         assert_eq!(rt; clock.clockid, 4);
@@ -361,27 +511,38 @@ fn numbers_in_both_orders(rt: HostRuntime) -> Result<(), Fail> {
     Ok(())
 }
 
+/// A section of four units.
+fn units(alloc: Global, endian: Endianness) -> Result<Content, AllocError> {
+    let mut content = Content::new(alloc, endian);
+    content.word(4)?;
+    for (number, name) in [(7, b"b" as &[u8]), (1, b"\xff"), (2, b"a"), (7, b"c")] {
+        content.word(number)?;
+        content.string(name)?;
+    }
+    Ok(content)
+}
+
+/// The units are 2, named a, and 7, named c.
+fn are_two(rt: &impl Abort, units: &PmuMappings) {
+    let mut names = units.0.iter();
+    for wanted in [(2, "a"), (7, "c")] {
+        assert!(rt;
+            matches!(names.next(), Some((number, name)) if (*number, name.as_str()) == wanted)
+        );
+    }
+    assert!(rt; names.next().is_none());
+}
+
 #[test]
 fn units_by_number(rt: HostRuntime) -> Result<(), Fail> {
     for endian in ORDERS {
-        let mut content = Content::new(rt.alloc(), endian);
-        content.word(4)?;
-        for (number, name) in [(7, b"b" as &[u8]), (1, b"\xff"), (2, b"a"), (7, b"c")] {
-            content.word(number)?;
-            content.string(name)?;
-        }
+        let content = units(rt.alloc(), endian)?;
         let image = with_section(rt.alloc(), endian, Feature::PMU_MAPPINGS, &content.bytes)?;
         let file = opened(rt.alloc(), &image)?;
-        let Some(units) = file.pmu_mappings(rt.alloc())? else {
+        let Ok(Some(units)) = file.pmu_mappings(rt.alloc()) else {
             return Err(Fail::from("no units"));
         };
-        let mut names = units.0.iter();
-        for wanted in [(2, "a"), (7, "c")] {
-            assert!(rt;
-                matches!(names.next(), Some((number, name)) if (*number, name.as_str()) == wanted)
-            );
-        }
-        assert!(rt; names.next().is_none());
+        are_two(&rt, &units);
     }
     Ok(())
 }

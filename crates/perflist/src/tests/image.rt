@@ -9,17 +9,69 @@ pub struct Image {
     endian: Endianness,
 }
 
+/// What a file's data section is made of.
+#[derive(Clone, Copy)]
+pub enum Part<'a> {
+    /// A head of this type, misc and size.
+    Head(u32, u16, u16),
+    Long(u64),
+    /// So many bytes of one value.
+    Filled(u8, usize),
+    Sample(u64),
+    Marker(u16),
+    /// A record that promises so many bytes of auxiliary data, and those that are there.
+    Trace(u64, &'a [u8]),
+    /// A sample that holds this identifier and this time.
+    Identified(u64, u64),
+    /// A record that holds an attribute of this sample type and these flags, and its identifiers.
+    Attribute(u64, u64, &'a [u64]),
+    /// A record that holds a feature of this number, and its data.
+    Feature(u64, &'a [u8]),
+    Raw(&'a [u8]),
+}
+
+/// The size of a record that has so many bytes and then so many more.
+fn size_of(bytes: usize, more: usize) -> u16 {
+    u16::try_from(bytes.saturating_add(more)).unwrap_or(u16::MAX)
+}
+
 impl Image {
-    /// A header of 104 bytes: one attribute of 64 bytes behind it, and then a data section of this size.
-    pub fn file(alloc: Global, endian: Endianness, size: u64) -> Result<Image, AllocError> {
-        let mut image = Image {
+    pub fn empty(alloc: Global, endian: Endianness) -> Image {
+        Image {
             bytes: Vec::new(alloc),
             endian,
-        };
-        match endian {
-            Endianness::LittleEndian => image.bytes.extend_from_slice(b"PERFILE2")?,
-            Endianness::BigEndian => image.bytes.extend_from_slice(b"2ELIFREP")?,
         }
+    }
+
+    /// A little-endian header of the numbers behind its magic.
+    pub fn header(alloc: Global, numbers: [u64; 12]) -> Result<Image, AllocError> {
+        let mut image = Image::empty(alloc, Endianness::LittleEndian);
+        image.magic()?;
+        for number in numbers {
+            image.long(number)?;
+        }
+        Ok(image)
+    }
+
+    /// The header of a pipe, of 16 bytes.
+    pub fn pipe(alloc: Global, endian: Endianness) -> Result<Image, AllocError> {
+        let mut image = Image::empty(alloc, endian);
+        image.magic()?;
+        image.long(16)?;
+        Ok(image)
+    }
+
+    fn magic(&mut self) -> Result<(), AllocError> {
+        match self.endian {
+            Endianness::LittleEndian => self.bytes.extend_from_slice(b"PERFILE2"),
+            Endianness::BigEndian => self.bytes.extend_from_slice(b"2ELIFREP"),
+        }
+    }
+
+    /// A header of 104 bytes: one attribute of 64 bytes behind it, and then a data section of this size.
+    pub fn file(alloc: Global, endian: Endianness, size: u64) -> Result<Image, AllocError> {
+        let mut image = Image::empty(alloc, endian);
+        image.magic()?;
         for number in [104, 64, 104, 64, 168, size, 0, 0, 0, 0, 0, 0] {
             image.long(number)?;
         }
@@ -87,10 +139,54 @@ impl Image {
         self.short(size)
     }
 
+    pub fn part(&mut self, part: Part<'_>) -> Result<(), AllocError> {
+        match part {
+            Part::Head(kind, misc, size) => self.head(kind, misc, size),
+            Part::Long(number) => self.long(number),
+            Part::Filled(value, count) => self.filled(value, count),
+            Part::Sample(time) => self.sample(time),
+            Part::Marker(size) => self.marker(size),
+            Part::Trace(promised, content) => self.trace(promised, content),
+            Part::Identified(id, time) => self.identified(id, time),
+            Part::Attribute(sample_type, flags, ids) => self.described(sample_type, flags, ids),
+            Part::Feature(number, content) => self.feature(number, content),
+            Part::Raw(bytes) => self.raw(bytes),
+        }
+    }
+
     /// A sample that holds this time alone.
     pub fn sample(&mut self, time: u64) -> Result<(), AllocError> {
         self.head(9, 0, 16)?;
         self.long(time)
+    }
+
+    /// A sample that holds this identifier and this time.
+    pub fn identified(&mut self, id: u64, time: u64) -> Result<(), AllocError> {
+        self.head(9, 0, 24)?;
+        self.long(id)?;
+        self.long(time)
+    }
+
+    /// A record that holds an attribute and its identifiers.
+    pub fn described(
+        &mut self,
+        sample_type: u64,
+        flags: u64,
+        ids: &[u64],
+    ) -> Result<(), AllocError> {
+        self.head(64, 0, size_of(72, ids.len().saturating_mul(8)))?;
+        self.attribute(sample_type, flags)?;
+        for id in ids {
+            self.long(*id)?;
+        }
+        Ok(())
+    }
+
+    /// A record that holds a feature and its data.
+    pub fn feature(&mut self, number: u64, content: &[u8]) -> Result<(), AllocError> {
+        self.head(80, 0, size_of(16, content.len()))?;
+        self.long(number)?;
+        self.raw(content)
     }
 
     /// A marker of this size, whose body is of bytes `ff`.

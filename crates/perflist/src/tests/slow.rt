@@ -1,9 +1,13 @@
 //! The records of a file, computed from the definitions in a plain and slow way.
+pub mod events;
+pub mod pipe;
+
 use crate::tests::End;
+use events::{Event, breach_of, event_of, events_in, index_of, word_of};
 use std::alloc::{AllocError, Global};
 
 /// The number of n bytes from a place on, or none where they aren't there.
-fn number_at(bytes: &[u8], at: usize, n: usize, big: bool) -> Option<u64> {
+pub fn number_at(bytes: &[u8], at: usize, n: usize, big: bool) -> Option<u64> {
     let part = bytes.get(at..at.checked_add(n)?)?;
     let mut value = 0u64;
     if big {
@@ -20,14 +24,14 @@ fn number_at(bytes: &[u8], at: usize, n: usize, big: bool) -> Option<u64> {
 
 /// A record that was cut off the front of some bytes.
 #[derive(Clone, Copy)]
-struct Piece<'a> {
-    kind: u64,
-    misc: u64,
-    bytes: &'a [u8],
+pub struct Piece<'a> {
+    pub kind: u64,
+    pub misc: u64,
+    pub bytes: &'a [u8],
 }
 
 /// What stands at an offset: a whole record, or a fault.
-fn piece_at<'a>(rest: &'a [u8], offset: u64, big: bool) -> Result<Piece<'a>, End> {
+pub fn piece_at<'a>(rest: &'a [u8], offset: u64, big: bool) -> Result<Piece<'a>, End> {
     let kind = number_at(rest, 0, 4, big).ok_or(End::Short)?;
     let misc = number_at(rest, 4, 2, big).ok_or(End::Short)?;
     let size = number_at(rest, 6, 2, big).ok_or(End::Short)?;
@@ -55,90 +59,138 @@ fn piece_at<'a>(rest: &'a [u8], offset: u64, big: bool) -> Result<Piece<'a>, End
     Ok(Piece { kind, misc, bytes })
 }
 
-/// The time of a record: the number at the word of bit 2 in the words that the format asks for.
-fn time_of(piece: Piece<'_>, format: u64, flags: u64, big: bool) -> Option<u64> {
-    let body = piece.bytes.get(8..)?;
-    let mut words = 0usize;
-    let mut index = None;
-    let listed: &[u32] = if piece.kind == 9 {
-        &[16, 0, 1, 2, 3, 6]
-    } else {
-        &[1, 2, 6, 9, 7, 16]
-    };
-    for bit in listed.iter() {
-        if format.checked_shr(*bit).unwrap_or(0) % 2 == 1 {
-            if *bit == 2 {
-                index = Some(words);
-            }
-            words = words.saturating_add(1);
-        }
-    }
-    let index = index?;
-    if piece.kind == 9 {
-        return number_at(body, index.checked_mul(8)?, 8, big);
-    }
-    if flags.checked_shr(18).unwrap_or(0) % 2 == 0 {
-        return None;
-    }
-    let back = words.checked_sub(index)?.checked_mul(8)?;
-    number_at(body, body.len().checked_sub(back)?, 8, big)
-}
-
-/// The lines of a file that opens, and how its data section ends.
-pub fn lines_of(alloc: Global, file: &[u8]) -> Result<(String, End), AllocError> {
-    let big = file.first().copied() != Some(b'P');
-    let from = number_at(file, 40, 8, big).unwrap_or(0);
-    let size = number_at(file, 48, 8, big).unwrap_or(0);
-    let format = number_at(file, 128, 8, big).unwrap_or(0);
-    let flags = number_at(file, 144, 8, big).unwrap_or(0);
-    let data = file.get(from as usize..).unwrap_or(&[]);
-    let mut pieces: Vec<Piece<'_>> = Vec::new(alloc);
-    let mut end = End::Whole;
-    for _ in 0..file.len() {
-        let offset: u64 = sum_of(&pieces);
-        if offset >= size {
-            break;
-        }
-        match piece_at(data.get(offset as usize..).unwrap_or(&[]), offset, big) {
-            Ok(piece) => pieces.push(piece)?,
-            Err(fault) => {
-                end = fault;
-                break;
-            }
-        }
-    }
-    let mut text = String::new(alloc);
-    for (index, piece) in pieces.iter().enumerate() {
-        let before = pieces.get(..index).unwrap_or(&[]);
-        if piece.kind == 68 {
-            continue;
-        }
-        let offset = sum_of(before);
-        let round = before.iter().filter(|p| p.kind == 68).count();
-        text.push_str(format!(in alloc; "{offset} {round} ")?.as_str())?;
-        let time = if piece.kind < 64 {
-            time_of(*piece, format, flags, big)
-        } else {
-            None
-        };
-        match time {
-            Some(time) => text.push_str(format!(in alloc; "{time} ")?.as_str())?,
-            None => text.push_str("- ")?,
-        }
-        text.push_str(if piece.kind < 64 { "0 " } else { "- " })?;
-        let kind = piece.kind;
-        let misc = piece.misc;
-        let long = piece.bytes.len().saturating_sub(8);
-        text.push_str(format!(in alloc; "{kind} {misc} {long}\n")?.as_str())?;
-    }
-    Ok((text, end))
-}
-
 /// How many bytes these records have.
-fn sum_of(pieces: &[Piece<'_>]) -> u64 {
+pub fn sum_of(pieces: &[Piece<'_>]) -> u64 {
     let mut sum = 0u64;
     for piece in pieces {
         sum = sum.saturating_add(piece.bytes.len() as u64);
     }
     sum
+}
+
+/// The line of a record behind these, where these events are known.
+pub fn line_of(
+    alloc: Global,
+    before: &[Piece<'_>],
+    piece: Piece<'_>,
+    events: &[Event],
+    big: bool,
+) -> Result<String, AllocError> {
+    let offset = sum_of(before);
+    let round = before.iter().filter(|p| p.kind == 68).count();
+    let Piece { kind, misc, bytes } = piece;
+    let long = bytes.len().saturating_sub(8);
+    if kind >= 64 {
+        return format!(in alloc; "{offset} {round} - - {kind} {misc} {long}\n");
+    }
+    let index = index_of(events, piece, big);
+    let event = events.get(index);
+    match event.and_then(|event| word_of(event, 2, piece, big)) {
+        Some(time) => format!(in alloc; "{offset} {round} {time} {index} {kind} {misc} {long}\n"),
+        None => format!(in alloc; "{offset} {round} - {index} {kind} {misc} {long}\n"),
+    }
+}
+
+/// Where a file that opens has its records, and its events.
+#[derive(Drop)]
+struct Facts {
+    big: bool,
+    from: u64,
+    size: u64,
+    events: Vec<Event>,
+}
+
+/// The bytes from a place on.
+fn behind(bytes: &[u8], place: u64) -> &[u8] {
+    bytes.get(place as usize..).unwrap_or(&[])
+}
+
+fn facts_of(alloc: Global, file: &[u8]) -> Result<Facts, AllocError> {
+    let big = file.first().copied() != Some(b'P');
+    let from = number_at(file, 40, 8, big).unwrap_or(0);
+    let size = number_at(file, 48, 8, big).unwrap_or(0);
+    let features = number_at(file, 72, 8, big).unwrap_or(0);
+    let mut events = Vec::new(alloc);
+    if features / 4096 % 2 == 1 {
+        // the entry of feature 12 stands behind those of the features below it
+        let before = (features % 4096).count_ones() as u64;
+        let table = behind(file, from.saturating_add(size));
+        let entry = behind(table, before.saturating_mul(16));
+        let section = behind(file, number_at(entry, 0, 8, big).unwrap_or(0));
+        if let Ok(told) = events_in(alloc, section, big)? {
+            events = told;
+        }
+    } else {
+        let entries = number_at(file, 64, 8, big).unwrap_or(0);
+        events = events_at(alloc, file, entries, big)?;
+    }
+    Ok(Facts {
+        big,
+        from,
+        size,
+        events,
+    })
+}
+
+/// The events of the event types section, which has this size, or, where it is empty, of the attribute section.
+fn events_at(alloc: Global, file: &[u8], size: u64, big: bool) -> Result<Vec<Event>, AllocError> {
+    let long = number_at(file, 16, 8, big).unwrap_or(0);
+    let (section, size, step) = if size == 0 {
+        (24, number_at(file, 32, 8, big).unwrap_or(0), long)
+    } else {
+        (56, size, long.saturating_add(16))
+    };
+    let mut at = number_at(file, section, 8, big).unwrap_or(0);
+    let mut events = Vec::new(alloc);
+    for _ in 0..size.checked_div(step).unwrap_or(0) {
+        let mut ids: &[u8] = &[];
+        if section == 56 {
+            let entry = behind(file, at.saturating_add(long));
+            let place = number_at(entry, 0, 8, big).unwrap_or(0);
+            let count = number_at(entry, 8, 8, big).unwrap_or(0);
+            ids = behind(file, place).get(..count as usize).unwrap_or(&[]);
+        }
+        events.push(event_of(alloc, behind(file, at), ids, big)?)?;
+        at = at.saturating_add(step);
+    }
+    Ok(events)
+}
+
+/// The records of a file that opens, and how its data section ends.
+fn pieces_of<'a>(
+    alloc: Global,
+    file: &'a [u8],
+    facts: &Facts,
+) -> Result<(Vec<Piece<'a>>, End), AllocError> {
+    let data = behind(file, facts.from);
+    let mut pieces: Vec<Piece<'a>> = Vec::new(alloc);
+    for _ in 0..file.len() {
+        let offset: u64 = sum_of(&pieces);
+        if offset >= facts.size {
+            break;
+        }
+        match piece_at(behind(data, offset), offset, facts.big) {
+            Ok(piece) => pieces.push(piece)?,
+            Err(fault) => return Ok((pieces, fault)),
+        }
+    }
+    Ok((pieces, End::Whole))
+}
+
+/// The lines of a file whose sections and attributes can be read, and how its data section ends.
+pub fn lines_of(alloc: Global, file: &[u8]) -> Result<(String, End), AllocError> {
+    let facts = facts_of(alloc, file)?;
+    let mut text = String::new(alloc);
+    if let Some(end) = breach_of(&facts.events) {
+        return Ok((text, end));
+    }
+    let (pieces, end) = pieces_of(alloc, file, &facts)?;
+    for (index, piece) in pieces.iter().enumerate() {
+        if piece.kind != 68 {
+            let before = pieces.get(..index).unwrap_or(&[]);
+            let line = line_of(alloc, before, *piece, &facts.events, facts.big)?;
+            text.push_str(line.as_str())?;
+        }
+    }
+    Ok((text, end))
 }

@@ -1,4 +1,4 @@
-use Rattle.std.proofs.Common.{◌≡◌, ◌∙◌, ◌++◌, ap, sym, take, get_or, rules, take-append-drop, drop-cons, Vec}
+use Rattle.std.proofs.Common.{◌∙◌, ◌++◌, ap, sym, take, get_or, rules, take-append-drop, drop-cons}
 use Rattle.std.proofs.lemmas.List.{take_more}
 use Rattle.perfdata_base.specs.declared.features.Feature.{Feature}
 use Rattle.perfdata_base.specs.declared.section.PerfFileSection.{PerfFileSection}

@@ -1,4 +1,4 @@
-use Rattle.std.proofs.Common.{◌≡◌, ap, subst}
+use Rattle.std.proofs.Common.{subst}
 use Rattle.perfdata_base.specs.Features.{features_of}
 use Rattle.linux_perf_data.specs.Sections.{ReadsData, entries_of}
 use Rattle.linux_perf_data.proofs.Tables.{sections_read}

@@ -1,6 +1,6 @@
-use Rattle.std.proofs.Common.{◌≡◌, ◌∙◌, ap, rules}
+use Rattle.std.proofs.Common.{◌∙◌, ap, rules}
 use Rattle.perfdata_base.specs.Features.{features_of, members_left}
-use Rattle.linux_perf_data.proofs.Tables.{table_none, table_more, table_cut, table_full, table_done}
+use Rattle.linux_perf_data.proofs.Tables.{table_none, table_more, table_cut, table_full}
 use Rattle.linux_perf_data.proofs.sections.read_table.Goals as goal
 
 pub entries-init : goal.entries-init

@@ -1,7 +1,6 @@
-use Rattle.std.proofs.Common.{◌≡◌, ◌+◌, arith, length, drop, subst, sym, ap, rules, Bor, List, ℕ}
+use Rattle.std.proofs.Common.{arith, length, drop, subst, ap, Bor, List, ℕ}
 use Rattle.std.specs.Prelude.{map}
 use Rattle.std.proofs.lemmas.List.{length-map, length_push}
-use Rattle.perfdata_base.specs.Numbers.{number_in}
 use Rattle.linux_perf_data.specs.Values.{IsNoText}
 use Rattle.linux_perf_data.proofs.TextLists.{texts_more, texts_stop}
 use Rattle.linux_perf_data.proofs.values.texts.Goals as goal

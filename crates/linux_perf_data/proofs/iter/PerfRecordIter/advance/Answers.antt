@@ -1,7 +1,8 @@
-use Rattle.std.proofs.Common.{arith, refl, [], ◌∙◌}
+use Rattle.std.proofs.Common.{arith, refl, subst, [], ◌∙◌}
 use Rattle.perfdata_base.proofs.Gives.{gave_none}
-use Rattle.linux_perf_data.specs.Iter.{view}
-use Rattle.linux_perf_data.proofs.Iters.{idles_on, hands_out, stops, at_end}
+use Rattle.linux_perf_data.specs.Iter.{view, TookRecord, DeclinedRecord}
+use Rattle.linux_perf_data.proofs.Cuts.{some_piece, no_piece}
+use Rattle.linux_perf_data.proofs.Iters.{idles_on, hands_out, stops, late_stops, section_ends, pipe_ends, same_later}
 use Rattle.linux_perf_data.proofs.iter.PerfRecordIter.advance.Goals as goal
 
 pub pieces-init : goal.pieces-init
@@ -9,7 +10,8 @@ pieces-init g c = record {
   idles = record {
     ran = c.in-Running.is;
     runs = c.in-Running.is;
-    same = record { order = refl; size = refl; known = refl };
+    same = record { order = refl; bound = refl };
+    known = refl;
     empty = c.clear.ensures.items;
     fits = omega arith;
     markers = [];
@@ -18,44 +20,86 @@ pieces-init g c = record {
     before = λ rest attrs rs e come. come;
   };
   lent = refl;
+  file = refl;
 }
 
 pub pieces-preserved : goal.pieces-preserved
 pieces-preserved g c =
+    let seen = g.R.Source.seen in
     let i = c.pieces.invariant in
+    let t = some_piece seen c.pieces.self c.next_piece.new.self _ c.in-Ok-Some.head c.in-Ok-Some.field-0-is c.in-Ok-Some.ensures.piece in
     record {
-      idles = idles_on g.R.Source.seen _ c.pieces.self c.next_piece.new.self c.in-Ok.head i.idles c.in-Ok.ensures.piece c.if-head-ne-PERF_RECORD_FINISHED_ROUND.false c.pieces-test.true;
-      lent = c.in-Ok.ensures.lent ∙ i.lent;
+      idles = idles_on seen _ c.pieces.self c.next_piece.new.self c.in-Ok-Some.head i.idles t c.if-head-ne-PERF_RECORD_FINISHED_ROUND.false c.pieces-test.ensures;
+      lent = c.in-Ok-Some.ensures.lent ∙ i.lent;
+      file = i.file;
     }
 
-pub returns-then-head-ne-PERF_RECORD_FINISHED_ROUND-clause-advances : goal.returns-then-head-ne-PERF_RECORD_FINISHED_ROUND-clause-advances
-returns-then-head-ne-PERF_RECORD_FINISHED_ROUND-clause-advances g c =
-    hands_out g.R.Source.seen c.args.self.now c.pieces.self c.next_piece.new.self c.in-Ok.head c.found_at.result c.pieces.invariant.idles c.in-Ok.ensures.piece c.if-head-ne-PERF_RECORD_FINISHED_ROUND.true c.pieces-test.true c.found_at.ensures
+pub returns-in-Ok-clause-advances : goal.returns-in-Ok-clause-advances
+returns-in-Ok-clause-advances g c =
+    let seen = g.R.Source.seen in
+    let i = c.pieces.invariant in
+    let piece = c.next_piece.new.self in
+    let head = c.in-Ok-Some.head in
+    let t = some_piece seen c.pieces.self piece _ head c.in-Ok-Some.field-0-is c.in-Ok-Some.ensures.piece in
+    let took = subst (λ f. TookRecord seen piece f c.pieces.self.offset c.pieces.self.round head c.in-Ok.found c.take_record.new.self c.take_record.new.file) i.file c.in-Ok.ensures.takes in
+    hands_out seen c.args.self.now c.pieces.self piece c.take_record.new.self c.args.file.now c.take_record.new.file head c.in-Ok.found i.idles t c.if-head-ne-PERF_RECORD_FINISHED_ROUND.true c.pieces-test.ensures took
+
+pub returns-in-Err-take_record-clause-advances : goal.returns-in-Err-take_record-clause-advances
+returns-in-Err-take_record-clause-advances g c =
+    let seen = g.R.Source.seen in
+    let i = c.pieces.invariant in
+    let piece = c.next_piece.new.self in
+    let head = c.in-Ok-Some.head in
+    let e = c.in-Err-take_record.error in
+    let t = some_piece seen c.pieces.self piece _ head c.in-Ok-Some.field-0-is c.in-Ok-Some.ensures.piece in
+    let d = subst (λ f. DeclinedRecord seen piece f head e c.take_record.new.self c.take_record.new.file) i.file c.in-Err-take_record.ensures.takes in
+    record {
+      fails = refl;
+      unended = λ ended. let ran = i.idles.ran in cc;
+      again = λ failed. let ran = i.idles.ran in absurd cc;
+      first = λ is. absurd (d.unfailed is);
+      stops = λ _. late_stops seen c.args.self.now c.pieces.self piece c.take_record.new.self _ c.args.file.now c.take_record.new.file head e i.idles t c.if-head-ne-PERF_RECORD_FINISHED_ROUND.true c.pieces-test.ensures d
+          (record { source = refl; input = refl; body = refl }) refl;
+      kept = d.same;
+    }
+
+pub returns-in-Ok-None-clause-advances : goal.returns-in-Ok-None-clause-advances
+returns-in-Ok-None-clause-advances g c =
+    let seen = g.R.Source.seen in
+    let i = c.pieces.invariant in
+    let new = c.next_piece.new.self in
+    let cut = no_piece seen c.pieces.self new _ c.in-Ok-None.field-0-is c.in-Ok-None.ensures.piece in
+    record {
+      ended = refl;
+      unfailed = λ failed. let ran = i.idles.ran in cc;
+      again = λ ended. let ran = i.idles.ran in absurd cc;
+      first = λ _. pipe_ends seen c.args.self.now c.pieces.self new _ i.idles cut (record { source = refl; input = refl; body = refl }) refl;
+      untouched = i.file;
+    }
 
 pub returns-in-Err-clause-advances : goal.returns-in-Err-clause-advances
 returns-in-Err-clause-advances g c =
-    let i = c.pieces.invariant.idles in
+    let seen = g.R.Source.seen in
+    let i = c.pieces.invariant in
+    let new = c.next_piece.new.self in
     let r = c.in-Err.ensures.piece in
     record {
       fails = refl;
-      unended = λ e. let ran = i.ran in cc;
-      again = λ e. let ran = i.ran in absurd cc;
-      first = λ e. absurd (r.refused.unfailed e);
-      stops = λ _. stops g.R.Source.seen c.args.self.now c.pieces.self c.next_piece.new.self _ c.in-Err.error i c.pieces-test.true r refl refl refl;
+      unended = λ ended. let ran = i.idles.ran in cc;
+      again = λ failed. let ran = i.idles.ran in absurd cc;
+      first = λ is. absurd (r.refused.unfailed is);
+      stops = λ _. stops seen c.args.self.now c.pieces.self new _ c.args.file.now c.in-Err.error i.idles c.pieces-test.ensures r (record { source = refl; input = refl; body = refl }) refl;
+      kept = same_later c.pieces.file c.args.file.now i.file;
     }
 
 pub returns-clause-advances : goal.returns-clause-advances
 returns-clause-advances g c =
-    let i = c.pieces.invariant.idles in
+    let seen = g.R.Source.seen in
+    let i = c.pieces.invariant in
     record {
       ended = refl;
-      unfailed = λ e. let ran = i.ran in cc;
-      again = λ e. let ran = i.ran in absurd cc;
-      first = λ _. record {
-        none = λ attrs k. at_end g.R.Source.seen c.args.self.now c.pieces.self i c.pieces-test.false attrs k;
-        markers = i.markers;
-        place = i.offset;
-        gave = i.gave;
-        held = i.empty;
-      };
+      unfailed = λ failed. let ran = i.idles.ran in cc;
+      again = λ ended. let ran = i.idles.ran in absurd cc;
+      first = λ _. section_ends seen c.args.self.now c.pieces.self _ i.idles c.pieces-test.ensures (record { source = refl; input = refl; body = refl }) refl;
+      untouched = i.file;
     }

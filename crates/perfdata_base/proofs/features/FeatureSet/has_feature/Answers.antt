@@ -1,7 +1,4 @@
-use Rattle.std.proofs.Common.{◌≡◌, ◌/◌, ◌%◌, ◌*◌, ◌^◌, not, IsTrue, slice_index, sym, ◌∙◌, arith, rules}
-use Rattle.std.specs.Bool.{nat_eq}
-use Rattle.std.specs.Int.RustNames.{bit_and}
-use Rattle.perfdata_base.specs.Features.{has_bit}
+use Rattle.std.proofs.Common.{◌/◌, ◌%◌, slice_index, sym, ◌∙◌, arith, rules}
 use Rattle.perfdata_base.proofs.Members.{bit_test, has_member, member_has}
 use Rattle.perfdata_base.proofs.features.FeatureSet.has_feature.Goals as goal
 

@@ -1,4 +1,4 @@
-use Rattle.std.proofs.Common.{◌≡◌, ◌-◌, ◌≤◌}
+use Rattle.std.proofs.Common.{◌≡◌, ◌-◌}
 use Rattle.perfdata_base.specs.Features.{features_from}
 use Rattle.perfdata_base.proofs.features.FeatureSetIterIterator.next.Given as goal
 

@@ -1,4 +1,4 @@
-use Rattle.std.proofs.Common.{rules, ◌≡◌, arith, sym, subst, Err, BuildHasherDefault, FoldHasher}
+use Rattle.std.proofs.Common.{rules, arith, sym, subst, Err, BuildHasherDefault, FoldHasher}
 use Rattle.perfdata_parts.specs.Pmu.{ReadsUnits}
 use Rattle.std.specs.Prelude.{string_bytes}
 use Rattle.std.specs.Option.{option_map}

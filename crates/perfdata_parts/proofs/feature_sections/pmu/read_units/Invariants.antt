@@ -1,4 +1,4 @@
-use Rattle.std.proofs.Common.{◌≡◌, ◌≤◌}
+use Rattle.std.proofs.Common.{◌≡◌}
 use Rattle.perfdata_parts.specs.Pmu.{TookUnits}
 use Rattle.perfdata_parts.proofs.feature_sections.pmu.read_units.Given as goal
 

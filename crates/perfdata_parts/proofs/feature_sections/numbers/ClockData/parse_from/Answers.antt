@@ -1,4 +1,4 @@
-use Rattle.std.proofs.Common.{rules, inr, ◌≡◌, length}
+use Rattle.std.proofs.Common.{rules, inr, length}
 use Rattle.perfdata_parts.proofs.Parts.{clock_rest_cut, clock_took}
 use Rattle.perfdata_parts.proofs.feature_sections.numbers.ClockData.parse_from.Goals as goal
 

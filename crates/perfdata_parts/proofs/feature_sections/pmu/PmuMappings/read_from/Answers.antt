@@ -1,4 +1,4 @@
-use Rattle.std.proofs.Common.{rules, ◌≡◌, BuildHasherDefault, FoldHasher}
+use Rattle.std.proofs.Common.{rules, BuildHasherDefault, FoldHasher}
 use Rattle.perfdata_parts.proofs.Pmus.{section_refused, section_some, section_took}
 use Rattle.perfdata_parts.proofs.feature_sections.pmu.PmuMappings.read_from.Goals as goal
 

@@ -1,4 +1,4 @@
-use Rattle.std.proofs.Common.{rules, ◌≡◌, length}
+use Rattle.std.proofs.Common.{rules}
 use Rattle.perfdata_parts.proofs.Texts.{string_took, string_body_refused}
 use Rattle.perfdata_parts.proofs.feature_sections.strings.HeaderString.read_from.Goals as goal
 

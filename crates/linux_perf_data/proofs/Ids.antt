@@ -1,0 +1,311 @@
+-- Which index stands with an identifier: by the order of attributes, of pairs that aren't ordered, and of those that are.
+use Rattle.std.proofs.Common.{◌≡◌, ◌≢◌, ◌==◌, ℕ, zero, suc, ◌+◌, ◌<◌, ◌≤◌, ◌++◌, max, List, [], ◌∷◌, Bool, true, false, length, get_or, drop, map, All, refl, sym, ap, ◌∙◌, subst, arith, inl, inr, append_assoc, append-nil, length-append, drop-cons, eq-eqb}
+use Rattle.std.specs.Prelude.{◌⊎◌, if◌then◌else◌, Option, None, Some}
+use Rattle.std.specs.List.Sorted.{IsPermutation}
+use Rattle.std.specs.Option.{option_or, unwrap_or}
+use Rattle.std.proofs.lemmas.Bool.{cases_eq, cases_order, cases_Bool, ne_eqb}
+use Rattle.std.proofs.lemmas.List.Elements.{All-nil, All-cons, All-head, All-tail, All-weaker}
+use Rattle.std.proofs.Math.Seq.{get_or-append_seam}
+use Rattle.std.proofs.Math.ListN.{get_or-append}
+use Rattle.std.proofs.lemmas.List.{drop_all}
+use Rattle.std.proofs.lemmas.List.Quantifiers.{all_pairs_push}
+use Rattle.std.proofs.lemmas.List.Sorted.{All-permutation, IsPermutation-sym}
+use Rattle.perfdata_parts.specs.AttributeDescription.{ids_in}
+use Rattle.perfdata_parts.specs.declared.feature_sections.AttributeDescription.{AttributeDescription}
+use Rattle.linux_perf_data.specs.Described.{attributes_by}
+use Rattle.linux_perf_data.specs.Attribute.{Attribute, lists, greatest}
+use Rattle.linux_perf_data.specs.Pairs.{index_in, last_listing, pairs_by, rank, AreOrdered, Ascend, key_at, IsPlace}
+
+abbrev pub Pairs : Type 0
+Pairs = List (ℕ × ℕ)
+
+-- what one pair tells of an identifier
+abbrev told : ℕ → ℕ × ℕ → ℕ
+told id p = if p.0 == id then p.1 + 1 else 0
+
+-- the index that a rank stands for
+abbrev pub index_by : ℕ → Option ℕ
+index_by zero = None
+index_by (suc n) = Some n
+
+told_own : (id : ℕ) (p : ℕ × ℕ) → p.0 ≡ id → told id p ≡ p.1 + 1
+told_own id p is = ap (λ b. if b then p.1 + 1 else 0) (eq-eqb p.0 id is)
+
+told_none : (id : ℕ) (p : ℕ × ℕ) → p.0 ≢ id → told id p ≡ 0
+told_none id p other = ap (λ b. if b then p.1 + 1 else 0) (ne_eqb p.0 id other)
+
+bound_all : (id n : ℕ) (xs : Pairs) → rank id xs ≤ n → All (λ p. told id p ≤ n) xs
+bound_all id n [] le = All-nil (λ p. told id p ≤ n)
+bound_all id n (p ∷ ps) le =
+    let head : told id p ≤ n = omega (arith, le) in
+    All-cons (λ p. told id p ≤ n) p ps head (bound_all id n ps (omega (arith, le)))
+
+all_bound : (id n : ℕ) (xs : Pairs) → All (λ p. told id p ≤ n) xs → rank id xs ≤ n
+all_bound id n [] all = omega arith
+all_bound id n (p ∷ ps) all =
+    let head : told id p ≤ n = All-head (λ p. told id p ≤ n) p ps all in
+    let rest = all_bound id n ps (All-tail (λ p. told id p ≤ n) p ps all) in
+    omega (arith, head, rest)
+
+rank_at_most : (id : ℕ) (xs ys : Pairs) → IsPermutation xs ys → rank id ys ≤ rank id xs
+rank_at_most id xs ys moved = all_bound id (rank id xs) ys (All-permutation (λ p. told id p ≤ rank id xs) xs ys moved (bound_all id (rank id xs) xs (omega arith)))
+
+-- the order of pairs changes nothing
+pub rank_permuted : (id : ℕ) (xs ys : Pairs) → IsPermutation xs ys → rank id ys ≡ rank id xs
+rank_permuted id xs ys moved = omega (arith, rank_at_most id xs ys moved, rank_at_most id ys xs (IsPermutation-sym xs ys moved))
+
+rank_append : (id : ℕ) (xs ys : Pairs) → rank id (xs ++ ys) ≡ max (rank id xs) (rank id ys)
+rank_append id [] ys = omega arith
+rank_append id (p ∷ ps) ys = omega (arith, rank_append id ps ys)
+
+told_less : (id : ℕ) (p q : ℕ × ℕ) → p.0 ≡ q.0 → p.1 ≤ q.1 → told id p ≤ told id q
+told_less id p q same less = elim (cases_eq p.0 id) [
+  | inl is ↦ omega (arith, told_own id p is, told_own id q (sym same ∙ is), less)
+  | inr other ↦ omega (arith, told_none id p other)
+]
+
+-- a pair in front of another of its identifier with no lower index tells nothing more
+pub rank_passed : (id : ℕ) (front rest : Pairs) (p q : ℕ × ℕ) → p.0 ≡ q.0 → p.1 ≤ q.1 → rank id (front ++ p ∷ q ∷ rest) ≡ rank id (front ++ q ∷ rest)
+rank_passed id front rest p q same less =
+    omega (arith, rank_append id front (p ∷ q ∷ rest), rank_append id front (q ∷ rest), told_less id p q same less)
+
+-- Of pairs of which each identifier stands once the rank tells the index.
+
+pub ascend_first : (p : ℕ × ℕ) (ps : Pairs) → Ascend (p ∷ ps) → All (λ q. p.0 < q.0) ps
+ascend_first p ps up = λ k d inside. up 0 (suc k) d (omega arith) (omega (arith, inside))
+
+pub ascend_rest : (p : ℕ × ℕ) (ps : Pairs) → Ascend (p ∷ ps) → Ascend ps
+ascend_rest p ps up = λ i j d before inside. up (suc i) (suc j) d (omega (arith, before)) (omega (arith, inside))
+
+rank_none : (id : ℕ) (ps : Pairs) → All (λ q. q.0 ≢ id) ps → rank id ps ≡ 0
+rank_none id ps others =
+    let few : rank id ps ≤ 0 = all_bound id 0 ps (All-weaker (λ q. q.0 ≢ id) (λ q. told id q ≤ 0) (λ q other. omega (arith, told_none id q other)) ps others) in
+    omega (arith, few)
+
+pub index_ranked : (id : ℕ) (ps : Pairs) → Ascend ps → index_in id ps ≡ index_by (rank id ps)
+index_ranked id [] up = refl
+index_ranked id (p ∷ ps) up = elim (cases_eq p.0 id) [
+  | inl is ↦
+      let none : rank id ps ≡ 0 = rank_none id ps (All-weaker (λ q. p.0 < q.0) (λ q. q.0 ≢ id) (λ q above same. absurd (omega (arith, above, same, is))) ps (ascend_first p ps up)) in
+      let all : rank id (p ∷ ps) ≡ suc p.1 = omega (arith, told_own id p is, none) in
+      ap (λ b. if b then Some p.1 else index_in id ps) (eq-eqb p.0 id is) ∙ sym (ap index_by all)
+  | inr other ↦
+      let all : rank id (p ∷ ps) ≡ rank id ps = omega (arith, told_none id p other) in
+      ap (λ b. if b then Some p.1 else index_in id ps) (ne_eqb p.0 id other) ∙ index_ranked id ps (ascend_rest p ps up) ∙ sym (ap index_by all)
+]
+
+-- The pairs of attributes.
+
+rank_ids : (id i : ℕ) (ids : List ℕ) → rank id (map (λ x. (x, i)) ids) ≡ (if lists id ids then i + 1 else 0)
+rank_ids id i [] = refl
+rank_ids id i (x ∷ xs) = elim (cases_eq x id) [
+  | inl is ↦
+      let own = told_own id (x, i) is in
+      let rest = rank_ids id i xs in
+      let few : rank id (map (λ x. (x, i)) xs) ≤ i + 1 = elim (cases_Bool (lists id xs)) [
+        | inl listed ↦ omega (arith, rest, ap (λ b. if b then i + 1 else 0) listed)
+        | inr unlisted ↦ omega (arith, rest, ap (λ b. if b then i + 1 else 0) unlisted)
+      ] in
+      let all : rank id (map (λ x. (x, i)) (x ∷ xs)) ≡ i + 1 = omega (arith, own, few) in
+      all ∙ sym (ap (λ b. if (if b then true else lists id xs) then i + 1 else 0) (eq-eqb x id is))
+  | inr other ↦
+      let all : rank id (map (λ x. (x, i)) (x ∷ xs)) ≡ rank id (map (λ x. (x, i)) xs) = omega (arith, told_none id (x, i) other) in
+      all ∙ rank_ids id i xs ∙ sym (ap (λ b. if (if b then true else lists id xs) then i + 1 else 0) (ne_eqb x id other))
+]
+
+rank_step : (id i : ℕ) (a : Attribute) (more : List Attribute) → rank id (pairs_by i (a ∷ more)) ≡ max (if lists id a.ids then i + 1 else 0) (rank id (pairs_by (i + 1) more))
+rank_step id i a more = rank_append id (map (λ x. (x, i)) a.ids) (pairs_by (i + 1) more) ∙ ap (λ n. max n (rank id (pairs_by (i + 1) more))) (rank_ids id i a.ids)
+
+pick_late : (b : Bool) (i m : ℕ) → (m ≡ 0) ⊎ (i + 1 < m) → (max (if b then i + 1 else 0) m ≡ 0) ⊎ (i < max (if b then i + 1 else 0) m)
+pick_late true i m late = inr (omega arith)
+pick_late false i m (inl none) = inl (omega (arith, none))
+pick_late false i m (inr some) = inr (omega (arith, some))
+
+-- the ranks of pairs whose indices begin at i
+rank_late : (id i : ℕ) (attrs : List Attribute) → (rank id (pairs_by i attrs) ≡ 0) ⊎ (i < rank id (pairs_by i attrs))
+rank_late id i [] = inl refl
+rank_late id i (a ∷ more) =
+    let later = pick_late (lists id a.ids) i (rank id (pairs_by (i + 1) more)) (rank_late id (i + 1) more) in
+    subst (λ n. (n ≡ 0) ⊎ (i < n)) (sym (rank_step id i a more)) later
+
+or_none : (m : ℕ) → option_or (index_by m) None ≡ index_by m
+or_none zero = refl
+or_none (suc m) = refl
+
+pick : (b : Bool) (i m : ℕ) → (m ≡ 0) ⊎ (i + 1 < m) → index_by (max (if b then i + 1 else 0) m) ≡ option_or (index_by m) (if b then Some i else None)
+pick false i m late = (let same : max 0 m ≡ m = omega arith in ap index_by same) ∙ sym (or_none m)
+pick true i zero late = let same : max (i + 1) 0 ≡ suc i = omega arith in ap index_by same
+pick true i (suc m) (inl none) = absurd (omega (arith, none))
+pick true i (suc m) (inr some) = let same : max (i + 1) (suc m) ≡ suc m = omega (arith, some) in ap index_by same
+
+-- the rank of an identifier is that of the last attribute that lists it
+pub index_listed : (id i : ℕ) (attrs : List Attribute) → index_by (rank id (pairs_by i attrs)) ≡ last_listing id i attrs
+index_listed id i [] = refl
+index_listed id i (a ∷ more) =
+    ap index_by (rank_step id i a more)
+    ∙ pick (lists id a.ids) i (rank id (pairs_by (i + 1) more)) (rank_late id (i + 1) more)
+    ∙ ap (λ o. option_or o (if lists id a.ids then Some i else None)) (index_listed id (i + 1) more)
+
+or_best : (o : Option ℕ) (b : Bool) (i best : ℕ) → unwrap_or o (if b then i else best) ≡ unwrap_or (option_or o (if b then Some i else None)) best
+or_best (Some k) b i best = refl
+or_best None true i best = refl
+or_best None false i best = refl
+
+-- the greatest index is the last one's
+pub greatest_listed : (id i best : ℕ) (attrs : List Attribute) → greatest id i best attrs ≡ unwrap_or (last_listing id i attrs) best
+greatest_listed id i best [] = refl
+greatest_listed id i best (a ∷ more) = greatest_listed id (i + 1) (if lists id a.ids then i else best) more ∙ or_best (last_listing id (i + 1) more) (lists id a.ids) i best
+
+-- no index is too high
+within_step : (o : Option ℕ) (b : Bool) (i n k : ℕ) → ((k : ℕ) → o ≡ Some k → k < i + 1 + n) → option_or o (if b then Some i else None) ≡ Some k → k < i + suc n
+within_step (Some m) b i n k inside is = let low = inside k is in omega (arith, low)
+within_step None true i n k inside is = let same : i ≡ k = cc in omega (arith, same)
+within_step None false i n k inside is = absurd (let off : ◌≡◌ {A = Option ℕ} None (Some k) = is in cc)
+
+pub listed_within : (id i : ℕ) (attrs : List Attribute) (k : ℕ) → last_listing id i attrs ≡ Some k → k < i + length attrs
+listed_within id i [] k is = absurd (let off : ◌≡◌ {A = Option ℕ} None (Some k) = is in cc)
+listed_within id i (a ∷ more) k is = within_step (last_listing id (i + 1) more) (lists id a.ids) i (length more) k (listed_within id (i + 1) more) is
+
+-- The last pairs of identifiers, as far as ordered pairs were gone through.
+
+drop_next : (ps : Pairs) (i : ℕ) → i < length ps → drop i ps ≡ get_or ps i (0, 0) ∷ drop (i + 1) ps
+drop_next ps i inside = let next : suc i ≡ i + 1 = omega arith in drop-cons ps i (0, 0) inside ∙ ap (λ n. get_or ps i (0, 0) ∷ drop n ps) next
+
+pub record LastSoFar (ordered last : Pairs) (at : ℕ) : Type 0 where
+  pub ranks : (id : ℕ) → rank id (last ++ drop at ordered) ≡ rank id ordered
+  pub up : Ascend last
+  pub below : at < length ordered → (k : ℕ) (d : ℕ × ℕ) → k < length last → (get_or last k d).0 < key_at ordered at
+
+pub last_none : (ordered : Pairs) → LastSoFar ordered [] 0
+last_none ordered = record { ranks = λ id. refl; up = λ i j d before inside. absurd (omega (arith, inside)); below = λ more k d inside. absurd (omega (arith, inside)) }
+
+pub last_passed : (ordered last : Pairs) (at : ℕ) → AreOrdered ordered → at < length ordered → (at + 1 < length ordered) × (key_at ordered at ≡ key_at ordered (at + 1)) → LastSoFar ordered last at → LastSoFar ordered last (at + 1)
+last_passed ordered last at kept more (next, same) so =
+    let p = get_or ordered at (0, 0) in
+    let q = get_or ordered (at + 1) (0, 0) in
+    let split : drop at ordered ≡ p ∷ drop (at + 1) ordered = drop_next ordered at more in
+    let split' : drop (at + 1) ordered ≡ q ∷ drop (at + 1 + 1) ordered = drop_next ordered (at + 1) next in
+    let less = (kept at (0, 0) next).1 same in
+    record {
+      ranks = λ id.
+          ap (λ l. rank id (last ++ l)) split' ∙ sym (rank_passed id last (drop (at + 1 + 1) ordered) p q same less)
+          ∙ sym (ap (λ l. rank id (last ++ l)) (split ∙ ap (λ l. p ∷ l) split')) ∙ so.ranks id;
+      up = so.up;
+      below = λ _ k d inside. let low = so.below more k d inside in omega (arith, low, same);
+    }
+
+pub last_pushed : (ordered last : Pairs) (at : ℕ) → AreOrdered ordered → at < length ordered → (at + 1 < length ordered → key_at ordered at ≢ key_at ordered (at + 1)) → LastSoFar ordered last at
+    → LastSoFar ordered (last ++ get_or ordered at (0, 0) ∷ []) (at + 1)
+last_pushed ordered last at kept more apart so =
+    let p = get_or ordered at (0, 0) in
+    let split : drop at ordered ≡ p ∷ drop (at + 1) ordered = drop_next ordered at more in
+    record {
+      ranks = λ id. ap (rank id) (append_assoc last (p ∷ []) (drop (at + 1) ordered) ∙ ap (λ l. last ++ l) (sym split)) ∙ so.ranks id;
+      up = all_pairs_push (λ p q. p.0 < q.0) last p so.up (so.below more);
+      below = λ next k d inside.
+          let less : key_at ordered at ≤ key_at ordered (at + 1) = (kept at (0, 0) next).0 in
+          let other = apart next in
+          elim (cases_order k (length last)) [
+            | inl is ↦
+                let own : (get_or (last ++ p ∷ []) k d) ≡ p = ap (λ i. get_or (last ++ p ∷ []) i d) is ∙ get_or-append_seam last p [] d in
+                omega (arith, ap (λ x. x.0) own, less, other)
+            | inr (inl low) ↦
+                let before = so.below more k d low in
+                let own : get_or (last ++ p ∷ []) k d ≡ get_or last k d = get_or-append last (p ∷ []) d k low in
+                omega (arith, ap (λ x. x.0) own, before, less)
+            | inr (inr high) ↦ absurd (omega (arith, high, inside, length-append last (p ∷ [])))
+          ];
+    }
+
+pub last_all : (ordered last : Pairs) (at : ℕ) → length ordered ≤ at → LastSoFar ordered last at → Ascend last × ((id : ℕ) → rank id last ≡ rank id ordered)
+last_all ordered last at done so = (so.up, λ id. sym (ap (λ l. rank id l) (ap (λ l. last ++ l) (drop_all at ordered done) ∙ append-nil last)) ∙ so.ranks id)
+
+-- Halving.
+
+-- what stands at an index within a list, whatever it would be beyond its end
+pub pair_there : (ps : Pairs) (m : ℕ) (p : ℕ × ℕ) → m < length ps → p ≡ get_or ps m p → p ≡ get_or ps m (0, 0)
+pair_there [] m p inside is = absurd (omega (arith, inside))
+pair_there (q ∷ ps) zero p inside is = is
+pair_there (q ∷ ps) (suc m) p inside is = pair_there ps m p (omega (arith, inside)) is
+
+pub index_at : (id : ℕ) (ps : Pairs) (m : ℕ) → Ascend ps → m < length ps → key_at ps m ≡ id → index_in id ps ≡ Some (get_or ps m (0, 0)).1
+index_at id [] m up inside is = absurd (omega (arith, inside))
+index_at id (p ∷ ps) zero up inside is = ap (λ b. if b then Some p.1 else index_in id ps) (eq-eqb p.0 id is)
+index_at id (p ∷ ps) (suc m) up inside is =
+    let above : p.0 < key_at ps m = ascend_first p ps up m (0, 0) (omega (arith, inside)) in
+    ap (λ b. if b then Some p.1 else index_in id ps) (ne_eqb p.0 id (λ same. omega (arith, above, is, same))) ∙ index_at id ps m (ascend_rest p ps up) (omega (arith, inside)) is
+
+pub index_none : (id : ℕ) (ps : Pairs) → ((k : ℕ) → k < length ps → key_at ps k ≢ id) → index_in id ps ≡ None
+index_none id [] others = refl
+index_none id (p ∷ ps) others =
+    ap (λ b. if b then Some p.1 else index_in id ps) (ne_eqb p.0 id (others 0 (omega arith))) ∙ index_none id ps (λ k inside. others (suc k) (omega (arith, inside)))
+
+-- the keys before a low one are lower, and those behind a high one higher
+pub key_below : (ps : Pairs) (i j : ℕ) → Ascend ps → i ≤ j → j < length ps → key_at ps i ≤ key_at ps j
+key_below ps i j up before inside = elim (cases_order i j) [
+  | inl is ↦ omega (arith, ap (key_at ps) is)
+  | inr (inl low) ↦ (let less = up i j (0, 0) low inside in omega (arith, less))
+  | inr (inr high) ↦ absurd (omega (arith, high, before))
+]
+
+-- the place lies between low and high
+pub record Halved (ps : Pairs) (id low high : ℕ) : Type 0 where
+  pub order : low ≤ high
+  pub within : high ≤ length ps
+  pub below : (k : ℕ) → k < low → key_at ps k < id
+  pub above : (k : ℕ) → high ≤ k → k < length ps → id ≤ key_at ps k
+
+pub halved_all : (ps : Pairs) (id : ℕ) → Halved ps id 0 (length ps)
+halved_all ps id = record { order = omega arith; within = omega arith; below = λ k low. absurd (omega (arith, low)); above = λ k high inside. absurd (omega (arith, high, inside)) }
+
+pub halved_up : (ps : Pairs) (id low high middle : ℕ) → Ascend ps → low ≤ middle → middle < high → key_at ps middle < id → Halved ps id low high → Halved ps id (middle + 1) high
+halved_up ps id low high middle up from to less h =
+    let within = h.within in record {
+      order = omega (arith, to);
+      within = within;
+      below = λ k before. (let lower = key_below ps k middle up (omega (arith, before)) (omega (arith, to, within)) in omega (arith, lower, less));
+      above = h.above;
+    }
+
+pub halved_down : (ps : Pairs) (id low high middle : ℕ) → Ascend ps → low ≤ middle → middle < high → id ≤ key_at ps middle → Halved ps id low high → Halved ps id low middle
+halved_down ps id low high middle up from to more h =
+    let within = h.within in record {
+      order = from;
+      within = omega (arith, to, within);
+      below = h.below;
+      above = λ k behind inside. (let higher = key_below ps middle k up behind inside in omega (arith, higher, more));
+    }
+
+pub halved_place : (ps : Pairs) (id low high : ℕ) → high ≤ low → Halved ps id low high → IsPlace ps id low
+halved_place ps id low high met h =
+    let order = h.order in
+    let within = h.within in record {
+      within = omega (arith, order, within);
+      below = h.below;
+      above = λ k behind inside. h.above k (omega (arith, behind, met)) inside;
+    }
+
+-- an identifier that doesn't stand at its place stands nowhere
+pub place_none : (ps : Pairs) (id at : ℕ) → Ascend ps → IsPlace ps id at → (at < length ps → key_at ps at ≢ id) → index_in id ps ≡ None
+place_none ps id at up place other = index_none id ps (λ k inside is. elim (cases_order k at) [
+  | inl same ↦ other (omega (arith, same, inside)) (ap (key_at ps) (sym same) ∙ is)
+  | inr (inl before) ↦ (let below = place.below k before in omega (arith, below, is))
+  | inr (inr behind) ↦ (let less = up at k (0, 0) behind inside in let above = place.above at (omega arith) (omega (arith, behind, inside)) in omega (arith, above, less, is))
+])
+
+-- What the attributes' pairs are, as far as they were gone through.
+
+pub pairs_more : (ds : List AttributeDescription) (i : ℕ) (d : AttributeDescription) (before after : Pairs) → i < length ds → d ≡ get_or ds i d → after ≡ before ++ map (λ id. (id, i)) (ids_in d)
+    → before ++ pairs_by i (attributes_by (drop i ds)) ≡ pairs_by 0 (attributes_by ds) → after ++ pairs_by (i + 1) (attributes_by (drop (i + 1) ds)) ≡ pairs_by 0 (attributes_by ds)
+pairs_more ds i d before after inside is pushed so =
+    let next : suc i ≡ i + 1 = omega arith in
+    let split : drop i ds ≡ d ∷ drop (i + 1) ds = drop-cons ds i d inside ∙ ap (λ x. x ∷ drop (suc i) ds) (sym is) ∙ ap (λ n. d ∷ drop n ds) next in
+    ap (λ l. l ++ pairs_by (i + 1) (attributes_by (drop (i + 1) ds))) pushed
+    ∙ append_assoc before (map (λ id. (id, i)) (ids_in d)) (pairs_by (i + 1) (attributes_by (drop (i + 1) ds)))
+    ∙ ap (λ l. before ++ pairs_by i (attributes_by l)) (sym split) ∙ so
+
+-- a table of the last pairs tells the last attribute that lists an identifier
+pub table_tells : (attrs : List Attribute) (pairs ordered last : Pairs) → pairs ≡ pairs_by 0 attrs → IsPermutation pairs ordered → Ascend last → ((id : ℕ) → rank id last ≡ rank id ordered)
+    → (id : ℕ) → index_in id last ≡ last_listing id 0 attrs
+table_tells attrs pairs ordered last are moved up same id =
+    index_ranked id last up ∙ ap index_by (same id ∙ rank_permuted id pairs ordered moved ∙ ap (rank id) are) ∙ index_listed id 0 attrs

@@ -1,0 +1,106 @@
+-- What a table and a cache tell of attributes that are known.
+use Rattle.std.proofs.Common.{◌≡◌, ◌≢◌, ℕ, zero, suc, ◌%◌, ◌<◌, List, [], ◌∷◌, Bool, true, false, length, get_or, drop, nat_lt, refl, sym, ap, ◌∙◌, subst, arith, inl, inr}
+use Rattle.std.specs.Prelude.{if◌then◌else◌, slice_get, Option, None, Some}
+use Rattle.std.specs.Option.{unwrap_or, option_map}
+use Rattle.std.proofs.lemmas.Bool.{cases_eq, cond-true, lt-ltb}
+use Rattle.perfdata_base.specs.Place.{id_places_of, places_of, identifier_of, time_of}
+use Rattle.perfdata_base.specs.IdCache.{cached}
+use Rattle.perfdata_base.specs.declared.place.id_cache.IdCache.{IdCache}
+use Rattle.perfdata_base.specs.declared.place.RecordParseInfo.{RecordParseInfo}
+use Rattle.perfdata_base.specs.declared.raw.Endianness.{Endianness}
+use Rattle.linux_perf_data.specs.declared.known.Known.{Known}
+use Rattle.linux_perf_data.specs.declared.id_table.IdTable.{IdTable}
+use Rattle.linux_perf_data.specs.Attribute.{Attribute, Event, greatest, greatest_or_first, index_of, event_of, event_time}
+use Rattle.linux_perf_data.specs.Layout.{Handed, handed_with}
+use Rattle.perfdata_parts.specs.declared.feature_sections.AttributeDescription.{AttributeDescription}
+use Rattle.linux_perf_data.specs.Described.{attribute_by, attributes_by, all_places}
+use Rattle.linux_perf_data.specs.IdTable.{found}
+use Rattle.linux_perf_data.specs.Pairs.{last_listing}
+use Rattle.linux_perf_data.specs.Indices.{TableBelow}
+use Rattle.linux_perf_data.specs.Known.{Knows}
+use Rattle.linux_perf_data.proofs.Ids.{greatest_listed, listed_within}
+
+-- one identifier's answer is put, and a cache still tells what holds of each answer
+pub cache_put : (old new : IdCache) (id index : ℕ) (P : ℕ → ℕ → Type 0) → P id index → cached new id ≡ Some index
+    → ((other : ℕ) → other ≢ id → other % 64 ≡ id % 64 → cached new other ≡ None) → ((other : ℕ) → other % 64 ≢ id % 64 → cached new other ≡ cached old other)
+    → ((other i : ℕ) → cached old other ≡ Some i → P other i) → (other i : ℕ) → cached new other ≡ Some i → P other i
+cache_put old new id index P is put gone kept before other i told = elim (cases_eq other id) [
+  | inl same ↦
+      let there : Some index ≡ Some i = sym put ∙ ap (cached new) (sym same) ∙ told in
+      let index_is : index ≡ i = cc in
+      subst (λ n. P n i) (sym same) (subst (P id) index_is is)
+  | inr apart ↦ elim (cases_eq (other % 64) (id % 64)) [
+    | inl shared ↦ absurd (let none : ◌≡◌ {A = Option ℕ} None (Some i) = sym (gone other apart shared) ∙ told in cc)
+    | inr elsewhere ↦ before other i (sym (kept other elsewhere) ∙ told)
+  ]
+]
+
+-- Kernel records.
+
+pub all_counted : (order : Endianness) (attrs : List Attribute) → length (all_places order attrs) ≡ length attrs
+all_counted order [] = refl
+all_counted order (a ∷ attrs) = ap suc (all_counted order attrs)
+
+pub described_counted : (ds : List AttributeDescription) → length (attributes_by ds) ≡ length ds
+described_counted [] = refl
+described_counted (d ∷ ds) = ap suc (described_counted ds)
+
+-- an attribute at the least has a first
+pub first_more : (ds : List AttributeDescription) (d : AttributeDescription) → 0 < length ds → d ≡ get_or ds 0 d → attributes_by ds ≡ attribute_by d ∷ attributes_by (drop 1 ds)
+first_more [] d some is = absurd (omega (arith, some))
+first_more (x ∷ ds) d some is = ap (λ y. attribute_by y ∷ attributes_by ds) (sym is)
+
+place_there : (order : Endianness) (attrs : List Attribute) (n i : ℕ) (d : RecordParseInfo) → i < length attrs
+    → option_map {U = Event} (λ a. record { index = n; places = places_of a.attr order }) (slice_get attrs i) ≡ Some (record { index = n; places = get_or (all_places order attrs) i d })
+place_there order [] n i d inside = absurd (omega (arith, inside))
+place_there order (a ∷ attrs) n zero d inside = refl
+place_there order (a ∷ attrs) n (suc i) d inside = place_there order attrs n i d (omega (arith, inside))
+
+-- a record of the kernel has the attribute of this index, with its places
+event_there : (order : Endianness) (attrs : List Attribute) (kind : ℕ) (body : List ℕ) (i : ℕ) (d : RecordParseInfo) → kind < 64 → index_of order attrs kind body ≡ i → i < length attrs
+    → event_of order attrs kind body ≡ Some (record { index = i; places = get_or (all_places order attrs) i d })
+event_there order attrs kind body i d kernel at inside =
+    cond-true (nat_lt kind 64) (option_map {U = Event} (λ a. record { index = index_of order attrs kind body; places = places_of a.attr order }) (slice_get attrs (index_of order attrs kind body))) None (lt-ltb kind 64 kernel)
+    ∙ ap (λ n. option_map {U = Event} (λ a. record { index = n; places = places_of a.attr order }) (slice_get attrs n)) at ∙ place_there order attrs i i d inside
+
+index_several : (order : Endianness) (first : Attribute) (more : List Attribute) (kind : ℕ) (body : List ℕ) (id : ℕ) → length (first ∷ more) ≢ 1 → identifier_of order (id_places_of first.attr) kind body ≡ Some id
+    → index_of order (first ∷ more) kind body ≡ greatest id 0 0 (first ∷ more)
+index_several order first [] kind body id several is = absurd (several refl)
+index_several order first (b ∷ rest) kind body id several is = ap (λ o. greatest_or_first o (first ∷ b ∷ rest)) is
+
+-- of several attributes, that of the identifier
+pub told_event : (order : Endianness) (k : Known) (attrs : List Attribute) (kind : ℕ) (body : List ℕ) (id i : ℕ) (places : RecordParseInfo) → Knows order k attrs → kind < 64 → length k.places.items ≢ 1
+    → identifier_of k.first.endian k.first.id_parse_info kind body ≡ Some id → i ≡ greatest id 0 0 attrs → i < length k.places.items → places ≡ get_or k.places.items i places
+    → event_of order attrs kind body ≡ Some (record { index = i; places = places })
+told_event order k attrs kind body id i places knows kernel several is answer inside there =
+    let count : length k.places.items ≡ length attrs = ap length knows.places ∙ all_counted order attrs in
+    let id_is : identifier_of order (id_places_of knows.first.attr) kind body ≡ Some id = ap (λ p. identifier_of p.endian p.id_parse_info kind body) (sym knows.front) ∙ is in
+    let at : index_of order (knows.first ∷ knows.more) kind body ≡ i =
+    index_several order knows.first knows.more kind body id (λ one. several (count ∙ ap length knows.are ∙ one)) id_is ∙ ap (greatest id 0 0) (sym knows.are) ∙ sym answer in
+    event_there order attrs kind body i places kernel (ap (λ l. index_of order l kind body) knows.are ∙ at) (omega (arith, inside, count))
+    ∙ sym (ap (λ p. Some (record { index = i; places = p })) (there ∙ ap (λ l. get_or l i places) knows.places))
+
+-- the table's indices are those of attributes
+pub table_below : (t : IdTable) (attrs : List Attribute) (n : ℕ) → length attrs ≡ n → ((id : ℕ) → found t id ≡ last_listing id 0 attrs) → TableBelow t n
+table_below t attrs n count tells id i is = (let inside = listed_within id 0 attrs i (sym (tells id) ∙ is) in omega (arith, inside, count))
+
+pub table_answers : (t : IdTable) (attrs : List Attribute) → ((id : ℕ) → found t id ≡ last_listing id 0 attrs) → (id : ℕ) → unwrap_or (found t id) 0 ≡ greatest id 0 0 attrs
+table_answers t attrs tells id = ap (λ o. unwrap_or o 0) (tells id) ∙ sym (greatest_listed id 0 0 attrs)
+
+-- A record that is handed out.
+
+ordered_places : (order : Endianness) (b : Bool) (o : Option Attribute) (i : ℕ) (e : Event) → (if b then option_map {U = Event} (λ a. record { index = i; places = places_of a.attr order }) o else None) ≡ Some e → e.places.endian ≡ order
+ordered_places order true (Some a) i e is = (let same : e ≡ record { index = i; places = places_of a.attr order } = cc in ap (λ x. x.places.endian) same)
+ordered_places order true None i e is = absurd (let off : ◌≡◌ {A = Option Event} None (Some e) = is in cc)
+ordered_places order false o i e is = absurd (let off : ◌≡◌ {A = Option Event} None (Some e) = is in cc)
+
+-- the order of an event's places is that of its attributes
+event_order : (order : Endianness) (attrs : List Attribute) (kind : ℕ) (body : List ℕ) (e : Event) → event_of order attrs kind body ≡ Some e → e.places.endian ≡ order
+event_order order attrs kind body e is = ordered_places order (nat_lt kind 64) (slice_get attrs (index_of order attrs kind body)) (index_of order attrs kind body) e is
+
+-- a record of the kernel as the code and as the layout have it
+pub kernel_found : (order : Endianness) (attrs : List Attribute) (offset round kind misc : ℕ) (body : List ℕ) (e : Event) (time : Option ℕ) → event_of order attrs kind body ≡ Some e → time ≡ time_of e.places kind body
+    → record { offset = offset; round = round; kind = kind; misc = misc; order = e.places.endian; body = body; event = Some e; time = time } ≡ handed_with order offset round attrs kind misc body
+kernel_found order attrs offset round kind misc body e time tells at =
+    let with' : Endianness → Option Event → Option ℕ → Handed = λ o ev t. record { offset = offset; round = round; kind = kind; misc = misc; order = o; body = body; event = ev; time = t } in
+    ap (λ o. with' o (Some e) time) (event_order order attrs kind body e tells) ∙ ap (λ ev. with' order ev time) (sym tells) ∙ ap (λ t. with' order (event_of order attrs kind body) t) (at ∙ ap (λ ev. event_time ev kind body) (sym tells))

@@ -1,0 +1,75 @@
+-- How attributes come to their names, one after the other.
+use Rattle.std.proofs.Common.{◌≡◌, ℕ, zero, suc, ◌+◌, ◌<◌, true, false, List, [], ◌∷◌, ◌++◌, length, get_or, set, take, drop, refl, sym, ap, ◌∙◌, subst, arith, Option, None}
+use Rattle.std.specs.Prelude.{map, All, String, string_bytes}
+use Rattle.std.specs.Option.{option_map}
+use Rattle.std.specs.declared.alloc.Global.{Global}
+use Rattle.std.proofs.lemmas.List.{at_drop_more, take_more, take_more_set, map_push, get_or-drop, get_or_default, drop-drop, drop-set-lt}
+use Rattle.std.proofs.lemmas.List.Elements.{All-nil, All-cons, All-push}
+use Rattle.perfdata_parts.specs.AttributeDescription.{attr_in, name_in, ids_in}
+use Rattle.perfdata_parts.specs.declared.feature_sections.AttributeDescription.{AttributeDescription}
+use Rattle.linux_perf_data.specs.Attribute.{Attribute}
+use Rattle.linux_perf_data.specs.Described.{attribute_by, attributes_by}
+use Rattle.linux_perf_data.specs.Names.{same_first, name_for, names_in, texts_of, names_for, NamedBy, Unnamed}
+
+-- ---- the first description of an id
+
+module _ (told : List AttributeDescription) (ids : List ℕ) (i : ℕ) (d : AttributeDescription) (there : i < length told) (is : d ≡ get_or told i d) where
+  name_next : name_for (drop i told) ids ≡ name_for (d ∷ drop (i + 1) told) ids
+  name_next = at_drop_more (λ l. name_for l ids) told i d there ∙ sym (ap (λ x. name_for (x ∷ drop (i + 1) told) ids) is)
+
+  pub name_found : same_first (ids_in d) ids ≡ true → name_for (drop i told) ids ≡ name_in d
+  name_found same = name_next ∙ (rw same refl)
+
+  pub name_later : same_first (ids_in d) ids ≡ false → name_for (drop i told) ids ≡ name_for (drop (i + 1) told) ids
+  name_later other = name_next ∙ (rw other refl)
+
+-- ---- one attribute more that has another name
+
+set_same : {A B : Type 0} (f : A → B) (xs : List A) (i : ℕ) (y : A) → f y ≡ f (get_or xs i y) → map f (set xs i y) ≡ map f xs
+set_same f [] i y is = refl
+set_same f (x ∷ xs) zero y is = ap (λ b. b ∷ map f xs) is
+set_same f (x ∷ xs) (suc i) y is = ap (λ l. f x ∷ l) (set_same f xs i y is)
+
+module _ (ds : List AttributeDescription) (i : ℕ) (old new : AttributeDescription) (there : i < length ds) where
+  -- its attribute and its ids stay
+  pub renamed : attr_in new ≡ attr_in (get_or ds i old) → ids_in new ≡ ids_in (get_or ds i old) → attributes_by (set ds i new) ≡ attributes_by ds
+  renamed attr ids =
+      let one : attribute_by new ≡ attribute_by (get_or ds i old) = cc in
+      set_same attribute_by ds i new (one ∙ ap attribute_by (get_or_default ds i old new there))
+
+  -- it has none any more
+  pub unnamed_more : Unnamed (take i ds) → name_in new ≡ None → Unnamed (take (i + 1) (set ds i new))
+  unnamed_more before one = subst Unnamed (sym (take_more_set ds i new there)) (All-push (λ d. name_in d ≡ None) (take i ds) new before one)
+
+  -- it has the name at its index
+  pub named_more : (names left : List (Option (String Global))) (n : Option (String Global)) → i < length names → names_in (take i ds) ≡ texts_of (take i names) → drop i left ≡ drop i names
+      → n ≡ get_or left i n → name_in new ≡ option_map string_bytes n → names_in (take (i + 1) (set ds i new)) ≡ texts_of (take (i + 1) names)
+  named_more names left n within before same is one =
+      let none : i + 0 ≡ i = omega arith in
+      let at : get_or left (i + 0) n ≡ get_or names (i + 0) n = sym (get_or-drop i left 0 n) ∙ ap (λ l. get_or l 0 n) same ∙ get_or-drop i names 0 n in
+      let here : get_or names i n ≡ n = sym (is ∙ (subst (λ k. get_or left k n ≡ get_or names k n) none at)) in
+      ap names_in (take_more_set ds i new there) ∙ map_push name_in (take i ds) new
+      ∙ ap (λ l. l ++ name_in new ∷ []) before ∙ ap (λ x. texts_of (take i names) ++ x ∷ []) (one ∙ ap (λ m. option_map string_bytes m) (sym here))
+      ∙ sym (ap texts_of (take_more names i n within) ∙ map_push (λ name. option_map string_bytes name) (take i names) (get_or names i n))
+
+-- the names behind it are left
+pub left_more : {A : Type 0} (names left : List A) (i : ℕ) (x : A) → drop i left ≡ drop i names → drop (i + 1) (set left i x) ≡ drop (i + 1) names
+left_more names left i x same = drop-set-lt (i + 1) left i x (omega arith) ∙ sym (drop-drop 1 i left) ∙ ap (λ l. drop 1 l) same ∙ drop-drop 1 i names
+
+-- ---- all of them
+
+pub all_by_map : {A B : Type 0} (f g : A → B) (xs : List A) → map f xs ≡ map g xs → All (λ x. f x ≡ g x) xs
+all_by_map f g [] same = All-nil (λ x. f x ≡ g x)
+all_by_map f g (x ∷ xs) same =
+    let here : f x ≡ g x = cc in
+    let later : map f xs ≡ map g xs = cc in
+    All-cons (λ x. f x ≡ g x) x xs here (all_by_map f g xs later)
+
+pub names_by_attributes : (told ds : List AttributeDescription) → names_for told ds ≡ map (λ (a : Attribute). name_for told a.ids) (attributes_by ds)
+names_by_attributes told [] = refl
+names_by_attributes told (d ∷ ds) = ap (λ l. name_for told (ids_in d) ∷ l) (names_by_attributes told ds)
+
+-- attributes that have the names of descriptions, which were told by their ids
+pub named_by : (told ds new : List AttributeDescription) → names_in new ≡ names_for told ds → attributes_by new ≡ attributes_by ds → NamedBy told new
+named_by told ds new names same = all_by_map name_in (λ d. name_for told (ids_in d)) new
+    (names ∙ names_by_attributes told ds ∙ ap (map (λ (a : Attribute). name_for told a.ids)) (sym same) ∙ sym (names_by_attributes told new))

@@ -1,0 +1,195 @@
+-- Bytes have one opening of a pipe: one run of records of metadata that none follows. And where what they tell opens a pipe,
+-- nothing stands in the way.
+use Rattle.std.proofs.Common.{◌≡◌, ℕ, ◌+◌, ◌-◌, ◌^◌, ◌<◌, ◌≤◌, List, [], ◌∷◌, ◌++◌, length, take, drop, refl, sym, ap, ◌∙◌, subst, inl, inr, arith, length-append, append_assoc, None}
+use Rattle.std.specs.Prelude.{◌⊎◌, All}
+use Rattle.std.specs.List.{concat}
+use Rattle.std.proofs.Math.Seq.{drop-append_seam, take-append_seam}
+use Rattle.std.proofs.lemmas.List.{take-append-le}
+use Rattle.std.proofs.lemmas.List.Elements.{All-head, All-tail}
+use Rattle.perfdata_base.specs.Numbers.{number_in}
+use Rattle.perfdata_base.specs.declared.raw.Endianness.{Endianness}
+use Rattle.perfdata_base.specs.declared.raw.Endianness.TheVariants.{LittleEndian, BigEndian}
+use Rattle.perfdata_base.proofs.Numbers.{number_drop_front}
+use Rattle.perfdata_parts.specs.declared.error.Error.{Error}
+use Rattle.linux_perf_data.specs.Late.{IsMetadata, Spoils}
+use Rattle.linux_perf_data.specs.Layout.{attributes_in, kind_of}
+use Rattle.linux_perf_data.specs.Open.{magic_of}
+use Rattle.linux_perf_data.specs.PipeOpen.{IsPipeHeader, IsMetadataRecord, AreMetadata, EndsMetadata, StopsRecord, StopsTold, StopsMetadata, StopsPipe, CanOpen}
+use Rattle.linux_perf_data.proofs.Heads.{kind_front, size_front, size_in_extent, record_least, same_front}
+use Rattle.linux_perf_data.proofs.NamesTold.{refused_tells}
+use Rattle.linux_perf_data.proofs.Rules.{rule_unbroken}
+use Rattle.linux_perf_data.proofs.Stands.{cut_or_held}
+
+module _ (order : Endianness) where
+  -- ---- what stands behind records of metadata
+
+  metadata_goes_on : (p after : List ℕ) → IsMetadataRecord order p → EndsMetadata order (p ++ after) → ⊥
+  metadata_goes_on p after is ends =
+      let least = record_least order p is.is_record in
+      (ends (omega (arith, least, length-append p after))).1 (subst IsMetadata (sym (kind_front order p after least)) is.kind)
+
+  spoils_none : (p : List ℕ) (e : Error) → IsMetadataRecord order p → Spoils order (kind_of order p) (drop 8 p) e → ⊥
+  spoils_none p e is (inl (short, inl (kind, cut))) = cut_or_held order (drop 8 p) cut (is.attribute kind)
+  spoils_none p e is (inl (short, inr (kind, few))) = let long = is.feature kind in omega (arith, few, long)
+  spoils_none p e is (inr (invalid, kind, small)) = let least = (is.attribute kind).least in let below = small.1 in omega (arith, least, below)
+
+  spoils_metadata : (kind : ℕ) (body : List ℕ) (e : Error) → Spoils order kind body e → IsMetadata kind
+  spoils_metadata kind body e (inl (short, inl (is, cut))) = inl is
+  spoils_metadata kind body e (inl (short, inr (is, few))) = inr is
+  spoils_metadata kind body e (inr (invalid, is, small)) = inl is
+
+  -- a record of metadata isn't refused
+  record_stands : (offset : ℕ) (p after : List ℕ) (e : Error) → IsMetadataRecord order p → offset + length p < 2 ^ 64 → StopsRecord order offset (p ++ after) e → ⊥
+  record_stands offset p after e is fits (inl (error, head, small)) =
+      let size = size_front order p after (record_least order p is.is_record) in
+      let least = is.is_record.least in
+      omega (arith, size, least, small)
+  record_stands offset p after e is fits (inr (inl (error, kind, head, least, far))) =
+      let size = size_front order p after (record_least order p is.is_record) in
+      let long = is.is_record.long in
+      omega (arith, size, far, fits, long, size_in_extent order p)
+  record_stands offset p after e is fits (inr (inr (inl (error, kind, head, cut)))) =
+      let size = size_front order p after (record_least order p is.is_record) in
+      let long = is.is_record.long in
+      omega (arith, size, cut, long, size_in_extent order p, length-append p after)
+  record_stands offset p after e is fits (inr (inr (inr (q, fronts, spoils)))) =
+      let same = (same_front order q p fronts.behind after fronts.is_record is.is_record (sym fronts.cut)).0 in
+      spoils_none p e is (subst (λ r. Spoils order (kind_of order r) (drop 8 r) e) same spoils)
+
+  -- nor is what ends them
+  end_stands : (offset : ℕ) (behind : List ℕ) (e : Error) → EndsMetadata order behind → StopsRecord order offset behind e → ⊥
+  end_stands offset behind e ends (inl (error, head, small)) = let least = (ends head).0 in omega (arith, least, small)
+  end_stands offset behind e ends (inr (inl (error, kind, head, least, far))) = (ends head).1 kind
+  end_stands offset behind e ends (inr (inr (inl (error, kind, head, cut)))) = (ends head.head).1 kind
+  end_stands offset behind e ends (inr (inr (inr (q, fronts, spoils)))) =
+      let least = record_least order q fronts.is_record in
+      let whole = ap length fronts.cut in
+      let kind : kind_of order behind ≡ kind_of order q = ap (kind_of order) fronts.cut ∙ kind_front order q fronts.behind least in
+      (ends (omega (arith, least, whole, length-append q fronts.behind))).1 (subst IsMetadata (sym kind) (spoils_metadata (kind_of order q) (drop 8 q) e spoils))
+
+  -- ---- two runs of them
+
+  -- a record of metadata stands at an offset
+  pub record Next (offset : ℕ) (rest : List ℕ) : Type 0 where
+    pub first : List ℕ
+    pub after : List ℕ
+    pub cut : rest ≡ first ++ after
+    pub is : IsMetadataRecord order first
+    pub fits : offset + length first < 2 ^ 64
+
+  -- behind a run that is no longer than the longest either the longest ends too, or a record of metadata stands
+  abbrev Same : ℕ → List (List ℕ) → List (List ℕ) → List ℕ → List ℕ → Type 0
+  Same offset ps qs behind later = ((ps ≡ qs) × (behind ≡ later)) ⊎ Next (offset + length (concat qs)) later
+
+  runs_agree : (offset : ℕ) (ps qs : List (List ℕ)) (behind later : List ℕ) → All (IsMetadataRecord order) ps → All (IsMetadataRecord order) qs → EndsMetadata order behind → offset + length (concat ps) < 2 ^ 64
+      → concat ps ++ behind ≡ concat qs ++ later → Same offset ps qs behind later
+  runs_agree offset [] [] behind later x y ends fits same = inl (refl, same)
+  runs_agree offset [] (q ∷ qs) behind later x y ends fits same =
+      let whole : behind ≡ q ++ (concat qs ++ later) = same ∙ append_assoc q (concat qs) later in
+      absurd (metadata_goes_on q (concat qs ++ later) (All-head (IsMetadataRecord order) q qs y) (subst (EndsMetadata order) whole ends))
+  runs_agree offset (p ∷ ps) [] behind later x y ends fits same =
+      inr (record {
+        first = p;
+        after = concat ps ++ behind;
+        cut = sym same ∙ append_assoc p (concat ps) behind;
+        is = All-head (IsMetadataRecord order) p ps x;
+        fits = omega (arith, fits, length-append p (concat ps));
+      })
+  runs_agree offset (p ∷ ps) (q ∷ qs) behind later x y ends fits same =
+      let is = All-head (IsMetadataRecord order) p ps x in
+      let is' = All-head (IsMetadataRecord order) q qs y in
+      let whole : p ++ (concat ps ++ behind) ≡ q ++ (concat qs ++ later) = sym (append_assoc p (concat ps) behind) ∙ same ∙ append_assoc q (concat qs) later in
+      let here = same_front order p q (concat ps ++ behind) (concat qs ++ later) is.is_record is'.is_record whole in
+      let near : offset + length p + length (concat ps) < 2 ^ 64 = omega (arith, fits, length-append p (concat ps)) in
+      let long : length p ≡ length q = ap length here.0 in
+      let sum : offset + length p + length (concat qs) ≡ offset + length (q ++ concat qs) = omega (arith, long, length-append q (concat qs)) in
+      elim (runs_agree (offset + length p) ps qs behind later (All-tail (IsMetadataRecord order) p ps x) (All-tail (IsMetadataRecord order) q qs y) ends near here.1) [
+        | inl both ↦ inl (ap (λ l. l ∷ ps) here.0 ∙ ap (λ l. q ∷ l) both.0, both.1)
+        | inr next ↦ inr (subst (λ o. Next o later) sum next)
+      ]
+
+  next_goes_on : (offset : ℕ) (rest : List ℕ) → Next offset rest → EndsMetadata order rest → ⊥
+  next_goes_on offset rest next ends = metadata_goes_on next.first next.after next.is (subst (EndsMetadata order) next.cut ends)
+
+  next_stands : (offset : ℕ) (rest : List ℕ) (e : Error) → Next offset rest → StopsRecord order offset rest e → ⊥
+  next_stands offset rest e next stops = record_stands offset next.first next.after e next.is next.fits (subst (λ l. StopsRecord order offset l e) next.cut stops)
+
+  pub one_opening : (ps qs : List (List ℕ)) (behind later : List ℕ) → AreMetadata order ps → AreMetadata order qs → EndsMetadata order behind → EndsMetadata order later → concat ps ++ behind ≡ concat qs ++ later → (ps ≡ qs) × (behind ≡ later)
+  one_opening ps qs behind later x y ends ends' same =
+      let fits = x.fits in
+      elim (runs_agree 0 ps qs behind later x.are y.are ends (omega (arith, fits)) same) [
+        | inl both ↦ both
+        | inr next ↦ absurd (next_goes_on (0 + length (concat qs)) later next ends')
+      ]
+
+  -- what opens a pipe isn't refused
+  told_stands : (ps : List (List ℕ)) (e : Error) → CanOpen order ps → StopsTold order ps e → ⊥
+  told_stands ps e opens (inl (error, none)) = opens.some none
+  told_stands ps e opens (inr (inl (bytes, some, told, refused))) = refused_tells order e bytes refused (opens.names bytes told)
+  told_stands ps e opens (inr (inr (b, told, breaks, error))) = rule_unbroken (attributes_in order None ps) b opens.rule breaks
+
+  metadata_stands : (ps : List (List ℕ)) (behind : List ℕ) (e : Error) → AreMetadata order ps → EndsMetadata order behind → CanOpen order ps → StopsMetadata order (concat ps ++ behind) e → ⊥
+  metadata_stands ps behind e are ends opens stops =
+      let fits = are.fits in
+      elim (runs_agree 0 ps stops.pieces behind stops.behind are.are stops.are.are ends (omega (arith, fits)) stops.cut) as (λ _. ⊥) [
+        | inl both ↦ elim stops.why as (λ _. ⊥) [
+          | inl here ↦ end_stands (length (concat stops.pieces)) stops.behind e (subst (EndsMetadata order) both.1 ends) here
+          | inr told ↦ told_stands stops.pieces e (subst (CanOpen order) both.0 opens) told.1
+        ]
+        | inr next ↦
+            let z : 0 + length (concat stops.pieces) ≡ length (concat stops.pieces) = omega arith in
+            let near = subst (λ o. Next o stops.behind) z next in
+            elim stops.why as (λ _. ⊥) [
+              | inl here ↦ next_stands (length (concat stops.pieces)) stops.behind e near here
+              | inr told ↦ next_goes_on (length (concat stops.pieces)) stops.behind near told.0
+            ]
+      ]
+
+-- ---- the header
+
+abbrev first_of : List ℕ → ℕ
+first_of [] = 0
+first_of (x ∷ xs) = x
+
+same_order : (a b : Endianness) → magic_of a ≡ magic_of b → a ≡ b
+same_order LittleEndian LittleEndian e = refl
+same_order BigEndian BigEndian e = refl
+same_order LittleEndian BigEndian e = let same : 80 ≡ 50 = ap first_of e in absurd (omega (arith, same))
+same_order BigEndian LittleEndian e = let same : 50 ≡ 80 = ap first_of e in absurd (omega (arith, same))
+
+header_long : (order : Endianness) (header : List ℕ) → IsPipeHeader order header → 16 ≤ length header
+header_long order header is = let long = is.long in omega (arith, long)
+
+header_magic : (order : Endianness) (header rest : List ℕ) → IsPipeHeader order header → take 8 (header ++ rest) ≡ magic_of order
+header_magic order header rest is = take-append-le 8 header rest (omega (arith, header_long order header is)) ∙ is.magic
+
+header_size : (order : Endianness) (header rest : List ℕ) → IsPipeHeader order header → number_in order 8 (drop 8 (header ++ rest)) ≡ number_in order 8 (drop 8 header)
+header_size order header rest is = number_drop_front order 8 8 header rest (header_long order header is)
+
+same_cut : (a b c d : List ℕ) → length a ≡ length c → a ++ b ≡ c ++ d → (a ≡ c) × (b ≡ d)
+same_cut a b c d long same = (
+  sym (take-append_seam a b) ∙ ap (take (length a)) same ∙ ap (λ n. take n (c ++ d)) long ∙ take-append_seam c d,
+  sym (drop-append_seam a b) ∙ ap (drop (length a)) same ∙ ap (λ n. drop n (c ++ d)) long ∙ drop-append_seam c d,
+)
+
+-- bytes that open a pipe are never refused
+pub opening_stands : (order : Endianness) (header : List ℕ) (ps : List (List ℕ)) (behind : List ℕ) (e : Error) → IsPipeHeader order header → AreMetadata order ps → EndsMetadata order behind → CanOpen order ps
+    → StopsPipe (header ++ (concat ps ++ behind)) e → ⊥
+opening_stands order header ps behind e is are ends opens (inl (short, few)) =
+    omega (arith, few, header_long order header is, length-append header (concat ps ++ behind))
+opening_stands order header ps behind e is are ends opens (inr (inl (error, long, unknown))) = unknown order (header_magic order header (concat ps ++ behind) is)
+opening_stands order header ps behind e is are ends opens (inr (inr (inl (other, error, long, magic, cut)))) =
+    let same : other ≡ order = same_order other order (sym magic ∙ header_magic order header (concat ps ++ behind) is) in
+    let few : length (header ++ (concat ps ++ behind)) < number_in order 8 (drop 8 (header ++ (concat ps ++ behind))) = subst (λ o. length (header ++ (concat ps ++ behind)) < number_in o 8 (drop 8 (header ++ (concat ps ++ behind)))) same cut in
+    let says = header_size order header (concat ps ++ behind) is in
+    let all = is.long in
+    omega (arith, few, says, all, length-append header (concat ps ++ behind))
+opening_stands order header ps behind e is are ends opens (inr (inr (inr stops))) =
+    let same : stops.order ≡ order = same_order stops.order order (sym (header_magic stops.order stops.header stops.rest stops.is) ∙ ap (take 8) (sym stops.cut) ∙ header_magic order header (concat ps ++ behind) is) in
+    let other : IsPipeHeader order stops.header = subst (λ o. IsPipeHeader o stops.header) same stops.is in
+    let size : number_in order 8 (drop 8 header) ≡ number_in order 8 (drop 8 stops.header) =
+    sym (header_size order header (concat ps ++ behind) is) ∙ ap (λ l. number_in order 8 (drop 8 l)) stops.cut ∙ header_size order stops.header stops.rest other in
+    let long : length header ≡ length stops.header = is.long ∙ ap (λ n. 16 + (n - 16)) size ∙ sym other.long in
+    let cut = same_cut header (concat ps ++ behind) stops.header stops.rest long stops.cut in
+    let met = subst (λ l. StopsMetadata order l e) (sym cut.1) (subst (λ o. StopsMetadata o stops.rest e) same stops.stops) in
+    metadata_stands order ps behind e are ends opens met

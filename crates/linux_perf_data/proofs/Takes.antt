@@ -1,0 +1,150 @@
+-- What taking in a record comes to: a piece of the layout, or the reason why it is none.
+use Rattle.std.proofs.Common.{◌≡◌, ◌≢◌, ◌==◌, ℕ, ◌+◌, ◌^◌, ◌<◌, ◌≤◌, ◌++◌, List, [], ◌∷◌, length, drop, refl, sym, ap, ◌∙◌, subst, arith, inl, inr, eq-eqb, Option, None, Some}
+use Rattle.std.specs.Prelude.{◌⊎◌, nat_eq}
+use Rattle.std.specs.Map.{update_all}
+use Rattle.std.proofs.lemmas.Bool.{cond-true}
+use Rattle.std.proofs.lemmas.List.{drop-drop}
+use Rattle.perfdata_base.specs.Source.{State}
+use Rattle.perfdata_base.specs.Numbers.{number_in}
+use Rattle.perfdata_base.proofs.Numbers.{in_reads_first}
+use Rattle.perfdata_base.specs.declared.raw.Endianness.{Endianness}
+use Rattle.perfdata_base.specs.declared.event.PerfEventHeader.{PerfEventHeader}
+use Rattle.perfdata_parts.specs.declared.error.Error.{Error}
+use Rattle.perfdata_parts.specs.Error.{IsInvalidInput}
+use Rattle.perfdata_parts.specs.AttributeDescription.{events_in}
+use Rattle.perfdata_parts.specs.EventDesc.{NoEventDesc}
+use Rattle.perfdata_parts.proofs.EventFronts.{told_or_refused}
+use Rattle.linux_perf_data.specs.declared.iter.PerfRecordIter.{PerfRecordIter}
+use Rattle.linux_perf_data.specs.declared.iter.Found.{Found}
+use Rattle.linux_perf_data.specs.declared.known.Known.{Known}
+use Rattle.linux_perf_data.specs.declared.perf_file.PerfFile.{PerfFile}
+use Rattle.linux_perf_data.specs.Attribute.{Attribute, HoldsAttribute}
+use Rattle.linux_perf_data.specs.Known.{Knows, StillKnows}
+use Rattle.linux_perf_data.specs.Layout.{Bound, IsRecord, IsPiece, Fronts, Fault, bad_metadata, cut_metadata, small_attribute, bad_names, unruly, FaultAt, kind_of, attributes_of}
+use Rattle.linux_perf_data.specs.Names.{TellsNames, Named, event_desc, feature_of}
+use Rattle.linux_perf_data.specs.PerfFile.{descriptions_of, data_of}
+use Rattle.linux_perf_data.specs.Late.{IsMetadata, FileTook, TookIn, Declined, TakesNot}
+use Rattle.linux_perf_data.specs.Piece.{Answers}
+use Rattle.linux_perf_data.specs.Iter.{bound_of, IsAfter, FindsRecord, TookRecord, DeclinedRecord}
+
+-- an EVENT_DESC that was taken in can be read
+named_told : (order : Endianness) (told : Option (List ℕ)) (bytes : List ℕ) (file : PerfFile) → told ≡ Some bytes → Named order told (descriptions_of file) → TellsNames order bytes
+named_told order told bytes file is named = let n : Named order (Some bytes) (descriptions_of file) = subst (λ o. Named order o (descriptions_of file)) is named in (events_in n.0, n.1)
+
+names_told : (order : Endianness) (kind : ℕ) (body : List ℕ) (file file' : PerfFile) → FileTook order None kind body file file' → kind ≡ 80 → feature_of order body ≡ event_desc → TellsNames order (drop 8 body)
+names_told order kind body file file' took is desc =
+    let brings : List (ℕ × List ℕ) = (feature_of order body, drop 8 body) ∷ [] in
+    let there : data_of file' event_desc ≡ Some (drop 8 body) =
+    took.kept event_desc ∙ ap (λ l. update_all nat_eq (data_of file) l event_desc) (cond-true (kind == 80) brings [] (eq-eqb kind 80 is))
+    ∙ ap (λ n. update_all nat_eq (data_of file) ((n, drop 8 body) ∷ []) event_desc) desc in
+    named_told order (data_of file' event_desc) (drop 8 body) file' there (took.named (inr (is, desc)))
+
+-- a record whose metadata was taken in is a piece
+pub taken_piece : (order : Endianness) (bound : Bound) (kind : ℕ) (p body : List ℕ) (file file' : PerfFile) → IsRecord order p → kind_of order p ≡ kind → body ≡ drop 8 p → (bound ≡ None → kind ≡ 64 → HoldsAttribute order body)
+    → (bound ≡ None → kind ≡ 80 → 8 ≤ length body) → FileTook order bound kind body file file' → IsPiece order bound p
+taken_piece order bound kind p body file file' is kind_is held attribute feature took = record {
+  is_record = is;
+  attribute = λ pipe k. subst (HoldsAttribute order) held (attribute pipe (sym kind_is ∙ k));
+  feature = λ pipe k. (let long = feature pipe (sym kind_is ∙ k) in let same = ap length held in omega (arith, long, same));
+  names = λ pipe k desc.
+      let took' : FileTook order None kind body file file' = subst (λ b. FileTook order b kind body file file') pipe took in
+      let told : TellsNames order (drop 8 body) = names_told order kind body file file' took' (sym kind_is ∙ k) (ap (feature_of order) held ∙ desc) in
+      subst (TellsNames order) (ap (drop 8) held ∙ drop-drop 8 8 p) told;
+}
+
+-- and so is a marker
+pub marker_piece : (order : Endianness) (bound : Bound) (p : List ℕ) → IsRecord order p → kind_of order p ≡ 68 → IsPiece order bound p
+marker_piece order bound p is marker = record {
+  is_record = is;
+  attribute = λ pipe k. absurd (omega (arith, k, marker));
+  feature = λ pipe k. absurd (omega (arith, k, marker));
+  names = λ pipe k desc. absurd (omega (arith, k, marker));
+}
+
+-- a record with an attribute that can be read is a piece
+attribute_piece : (order : Endianness) (p : List ℕ) → IsRecord order p → kind_of order p ≡ 64 → HoldsAttribute order (drop 8 p) → IsPiece order None p
+attribute_piece order p is kind holds = record {
+  is_record = is;
+  attribute = λ pipe k. holds;
+  feature = λ pipe k. absurd (omega (arith, k, kind));
+  names = λ pipe k desc. absurd (omega (arith, k, kind));
+}
+
+-- why a record of metadata isn't taken in: a fault of the layout, or a `PerfFile` of another input
+abbrev pub LateFault : Endianness → Known → ℕ → List ℕ → Error → Type 0
+LateFault order known offset p e = (f : Fault) × ((rest : List ℕ) (attrs : List Attribute) → Knows order known attrs → FaultAt order None offset attrs (p ++ rest) f) × Answers f e
+
+abbrev pub Foreign : Endianness → Known → PerfFile → List ℕ → Error → Type 0
+Foreign order known file p e = (IsInvalidInput e × ((attrs : List Attribute) → Knows order known attrs → length (descriptions_of file) ≢ length attrs))
+    ⊎ ((kind_of order p ≡ 64) × HoldsAttribute order (drop 8 p) × ((bytes : List ℕ) × (data_of file event_desc ≡ Some bytes) × NoEventDesc (number_in order) e bytes))
+
+fronts : (order : Endianness) (offset : ℕ) (p rest : List ℕ) → IsRecord order p → offset + length p < 2 ^ 64 → Fronts order offset (p ++ rest) p
+fronts order offset p rest is fits = record { is_record = is; behind = rest; cut = refl; fits = fits }
+
+-- an EVENT_DESC that is refused can't be read
+unread : (order : Endianness) (e : Error) (bytes : List ℕ) → NoEventDesc (number_in order) e bytes → ¬ TellsNames order bytes
+unread order e bytes stops told = told_or_refused (number_in order) (in_reads_first order) e bytes told.0 stops told.1
+
+pub late_why : (order : Endianness) (known : Known) (file : PerfFile) (offset : ℕ) (p : List ℕ) (e : Error) → IsRecord order p → offset + length p < 2 ^ 64 → TakesNot order known file (kind_of order p) (drop 8 p) e
+    → LateFault order known offset p e ⊎ Foreign order known file p e
+late_why order known file offset p e is fits (inl differ) = inr (inl differ)
+late_why order known file offset p e is fits (inr (inl (inl (short, inl (kind, cuts))))) =
+    inl (bad_metadata cut_metadata, (λ rest attrs k. (refl, (p, fronts order offset p rest is fits, inl (kind, cuts)))), short)
+late_why order known file offset p e is fits (inr (inl (inl (short, inr (kind, few))))) =
+    inl (bad_metadata cut_metadata, (λ rest attrs k. (refl, (p, fronts order offset p rest is fits, inr (kind, few)))), short)
+late_why order known file offset p e is fits (inr (inl (inr (invalid, kind, small)))) =
+    inl (bad_metadata small_attribute, (λ rest attrs k. (refl, (p, fronts order offset p rest is fits, (kind, small)))), invalid)
+late_why order known file offset p e is fits (inr (inr (inl (bytes, inl (kind, holds, there), stops)))) = inr (inr (kind, holds, (bytes, there, stops)))
+late_why order known file offset p e is fits (inr (inr (inl (bytes, inr (kind, there, desc, are), stops)))) =
+    inl (
+      bad_names order bytes,
+      (λ rest attrs k. (
+        refl,
+        refl,
+        (
+          p,
+          fronts order offset p rest is fits,
+          record { kind = kind; there = there; is = desc; are = are ∙ drop-drop 8 8 p; unread = unread order e bytes stops },
+        ),
+      )),
+      stops,
+    )
+late_why order known file offset p e is fits (inr (inr (inr (b, kind, holds, answer, breaks)))) =
+    inl (unruly b, (λ rest attrs k. (refl, (p, fronts order offset p rest is fits, attribute_piece order p is kind holds, breaks attrs k))), answer)
+
+module _ {R : Type 0} (seen : R → State) where
+  -- a pipe's record was taken in
+  pub took_record : (old new : PerfRecordIter R) (file file' : PerfFile) (offset round : ℕ) (head : PerfEventHeader) (found : Found) (known : Known) (body : List ℕ) → body ≡ old.body.items → bound_of seen old ≡ None
+      → FindsRecord old.known offset round head body found → StillKnows old.known known → TookIn old.endian known file head.type_ body new.known file' → ((¬ IsMetadata head.type_) → file' ≡ file) → IsAfter seen old new → new.stage ≡ old.stage
+      → TookRecord seen old file offset round head found new file'
+  took_record old new file file' offset round head found known body is pipe finds learns took others after running =
+      let took' : TookIn old.endian known file head.type_ old.body.items new.known file' = subst (λ b. TookIn old.endian known file head.type_ b new.known file') is took in
+      record {
+        after = after;
+        running = running;
+        finds = subst (λ b. FindsRecord old.known offset round head b found) is finds;
+        knows = λ attrs k. subst (λ b. Knows old.endian new.known (attrs ++ attributes_of old.endian b head.type_ old.body.items)) (sym pipe) (took'.knows attrs (learns old.endian attrs k));
+        attribute = λ _ kind. took'.attribute kind;
+        feature = λ _ kind. took'.feature kind;
+        count = λ _ metadata attrs k. took'.count metadata attrs (learns old.endian attrs k);
+        took = subst (λ b. FileTook old.endian b head.type_ old.body.items file file') (sym pipe) took'.took;
+        other = λ why. elim why [ inl file ↦ absurd (file pipe) | inr isnt ↦ others isnt ];
+      }
+
+  -- what isn't taken in at what is known now wasn't at what was known before
+  learned_not : (order : Endianness) (known known' : Known) (file : PerfFile) (kind : ℕ) (body : List ℕ) (e : Error) → StillKnows known known' → TakesNot order known' file kind body e → TakesNot order known file kind body e
+  learned_not order known known' file kind body e learns (inl (is, differ)) = inl (is, λ attrs k. differ attrs (learns order attrs k))
+  learned_not order known known' file kind body e learns (inr (inl spoils)) = inr (inl spoils)
+  learned_not order known known' file kind body e learns (inr (inr (inl names))) = inr (inr (inl names))
+  learned_not order known known' file kind body e learns (inr (inr (inr (b, is, holds, answer, breaks)))) = inr (inr (inr (b, is, holds, answer, λ attrs k. breaks attrs (learns order attrs k))))
+
+  pub declined_record : (old new : PerfRecordIter R) (file file' : PerfFile) (head : PerfEventHeader) (e : Error) (known : Known) (body : List ℕ) → body ≡ old.body.items → bound_of seen old ≡ None → StillKnows old.known known
+      → Declined old.endian known file head.type_ body e file' → IsAfter seen old new → DeclinedRecord seen old file head e new file'
+  declined_record old new file file' head e known body is pipe learns declined after = record {
+    after = after;
+    pipe = pipe;
+    metadata = declined.metadata;
+    same = declined.same;
+    unfailed = declined.unfailed;
+    why = λ other. subst (λ b. TakesNot old.endian old.known file head.type_ b e) is (learned_not old.endian old.known known file head.type_ body e learns (declined.why other));
+  }

@@ -1,0 +1,9 @@
+use Rattle.std.proofs.Common.{◌-◌}
+use Rattle.linux_perf_data.proofs.Ids.{Halved}
+use Rattle.linux_perf_data.proofs.id_table.IdTable.place_of.Given as goal
+
+abbrev pub invariant-halving : goal.invariant-halving
+invariant-halving l = Halved l.self.pairs.items l.id l.low l.high
+
+abbrev pub decreases-halving : goal.decreases-halving
+decreases-halving l = l.high - l.low

@@ -1,0 +1,210 @@
+ghost use Rattle.std.specs.Prelude.{◌≡◌, ◌++◌, ◌<◌, ℕ, length, map, IfOk, OnOk};
+ghost use Rattle.std.specs.List.Sorted.{IsPermutation};
+ghost use Rattle.linux_perf_data.specs.Described.{attributes_by};
+ghost use Rattle.linux_perf_data.specs.Pairs.{last_listing, pairs_by, rank, AreOrdered, Ascend, IsPlace, TestsLast, TestsPair};
+
+use perfdata_parts::feature_sections::AttributeDescription;
+use std::alloc::{AllocError, Global};
+
+// Which attribute lists an identifier: pairs of an identifier and an index, ascending, each identifier once.
+#[derive(Drop)]
+pub(crate) struct IdTable {
+    pairs: Vec<(u64, usize)>,
+    ghost ascending: { Ascend pairs.items },
+}
+
+// Appends the pairs of one attribute.
+fn push_ids(pairs: &mut Vec<(u64, usize)>, ids: &[u64], index: usize) -> Result<(), AllocError>
+    ensures { OnOk result (pairs.new.items ≡ pairs.old.items ++ map (λ id. (id, index)) ids.now) }
+{
+    'ids: for id in ids {
+        pairs.push((*id, index))?;
+    }
+    Ok(())
+}
+
+// All pairs of the attributes.
+fn pairs_of(
+    alloc: Global,
+    attributes: &[AttributeDescription],
+) -> Result<Vec<(u64, usize)>, AllocError>
+    ensures { IfOk result (λ v. v.items ≡ pairs_by 0 (attributes_by attributes.now)) }
+{
+    let mut pairs = Vec::new(alloc);
+    let mut index = 0;
+    'attributes: for attribute in attributes {
+        push_ids(&mut pairs, attribute.ids(), index)?;
+        index += 1;
+    }
+    Ok(pairs)
+}
+
+// Brings pairs into their order.
+fn order(pairs: &mut Vec<(u64, usize)>)
+    ensures ordered { AreOrdered pairs.new.items }
+    ensures permutation { IsPermutation pairs.old.items pairs.new.items }
+{
+    pairs.sort_unstable();
+}
+
+// Whether a pair is the last of its identifier.
+fn is_last(ordered: &[(u64, usize)], at: usize) -> bool
+    requires { at < length ordered.now }
+    ensures { TestsLast ordered.now at result }
+{
+    at + 1 == ordered.len() || ordered[at + 1].0 != ordered[at].0
+}
+
+// The last pair of each identifier.
+fn last_of_each(alloc: Global, ordered: &[(u64, usize)]) -> Result<Vec<(u64, usize)>, AllocError>
+    requires { AreOrdered ordered.now }
+    ensures { IfOk result (λ v. Ascend v.items × ((id : ℕ) → rank id v.items ≡ rank id ordered.now)) }
+{
+    let mut last = Vec::new(alloc);
+    'pairs: for at in 0..ordered.len() {
+        if is_last(ordered, at) {
+            last.push(ordered[at])?;
+        }
+    }
+    Ok(last)
+}
+
+impl IdTable {
+    ghost use Rattle.linux_perf_data.specs.IdTable.{found, Inserts, InsertsAll};
+
+    // The table of what these attributes list. An identifier that several list is the last one's.
+    pub(crate) fn new(
+        alloc: Global,
+        attributes: &[AttributeDescription],
+    ) -> Result<IdTable, AllocError>
+        ensures { IfOk result (λ t. (id : ℕ) → found t id ≡ last_listing id 0 (attributes_by attributes.now)) }
+    {
+        let mut pairs = pairs_of(alloc, attributes)?;
+        order(&mut pairs);
+        let pairs = last_of_each(alloc, &pairs)?;
+        Ok(IdTable { pairs })
+    }
+
+    // The place of an identifier, found by halving.
+    fn place_of(&self, id: u64) -> usize
+        ensures { IsPlace self.now.pairs.items id result }
+    {
+        let mut low = 0;
+        let mut high = self.pairs.len();
+        'halving: while low < high {
+            let middle = low + (high - low) / 2;
+            let (key, _) = self.pairs[middle];
+            if key < id {
+                low = middle + 1;
+            } else {
+                high = middle;
+            }
+        }
+        low
+    }
+
+    // Whether an identifier's pair stands at a place.
+    fn stands_at(&self, id: u64, at: usize) -> bool
+        ensures { TestsPair self.now.pairs.items id at result }
+    {
+        at < self.pairs.len() && self.pairs[at].0 == id
+    }
+
+    // The index of the attribute that lists an identifier.
+    pub(crate) fn find(&self, id: u64) -> Option<usize>
+        ensures { result ≡ found self.now id }
+    {
+        let at = self.place_of(id);
+        if self.stands_at(id, at) {
+            let (_, index) = self.pairs[at];
+            Some(index)
+        } else {
+            None
+        }
+    }
+
+    // Has an identifier stand with this index, in place of the one that it had.
+    pub(crate) fn insert(&mut self, id: u64, index: usize) -> Result<(), AllocError>
+        ensures { Inserts self.old id index result self.new }
+    {
+        let at = self.place_of(id);
+        if self.stands_at(id, at) {
+            self.pairs[at] = (id, index);
+            return Ok(());
+        }
+        match self.pairs.insert(at, (id, index)) {
+            Ok(()) => Ok(()),
+            Err(_) => Err(AllocError),
+        }
+    }
+
+    // Has identifiers stand with this index, one after the other.
+    pub(crate) fn insert_all(&mut self, ids: &[u64], index: usize) -> Result<(), AllocError>
+        ensures { InsertsAll self.old ids.now index result self.new }
+    {
+        'ids: for id in ids {
+            match self.insert(*id, index) {
+                Ok(()) => {}
+                Err(error) => return Err(error),
+            }
+        }
+        Ok(())
+    }
+}
+
+#[cfg(test)]
+mod tests {
+    use super::*;
+    use std::test::Fail;
+
+    // Of the pairs of one identifier the one with the greatest index stays.
+    #[test]
+    fn finds_the_last_index(rt: HostRuntime) -> Result<(), Fail> {
+        let mut pairs = Vec::new(rt.alloc());
+        push_ids(&mut pairs, &[70, 5, u64::MAX, 0], 0)?;
+        push_ids(&mut pairs, &[6, 5], 1)?;
+        push_ids(&mut pairs, &[5, 0], 2)?;
+        order(&mut pairs);
+        let table = IdTable {
+            pairs: last_of_each(rt.alloc(), &pairs)?,
+        };
+        for (id, index) in [
+            (0, Some(2)),
+            (1, None),
+            (5, Some(2)),
+            (6, Some(1)),
+            (70, Some(0)),
+            (71, None),
+            (u64::MAX, Some(0)),
+        ] {
+            assert_eq!(rt; table.find(id), index, "of {id}");
+        }
+        Ok(())
+    }
+
+    // An identifier that comes again gets the later index, wherever it stands.
+    #[test]
+    fn inserts(rt: HostRuntime) -> Result<(), Fail> {
+        let mut table = IdTable {
+            pairs: Vec::new(rt.alloc()),
+        };
+        table.insert_all(&[70, 5, u64::MAX, 0, 5], 0)?;
+        table.insert_all(&[], 1)?;
+        table.insert_all(&[6, 5], 2)?;
+        table.insert_all(&[5, 0, 71], 3)?;
+        for (id, index) in [
+            (0, Some(3)),
+            (1, None),
+            (5, Some(3)),
+            (6, Some(2)),
+            (70, Some(0)),
+            (71, Some(3)),
+            (72, None),
+            (u64::MAX, Some(0)),
+        ] {
+            assert_eq!(rt; table.find(id), index, "of {id}");
+        }
+        assert_eq!(rt; table.pairs.len(), 6);
+        Ok(())
+    }
+}

@@ -1,0 +1,183 @@
+ghost use Rattle.std.specs.Prelude.{◌≡◌, ◌≤◌, vec_len, refl};
+ghost use Rattle.std.proofs.lemmas.Bool.{false≢true};
+
+use crate::source::{PlacedSource, Source, copy_from};
+use std::io::{Cursor, Error, ErrorKind, Result, SeekFrom};
+
+/// What one read of a [`Script`] does.
+#[derive(Clone, Copy, Debug)]
+pub enum Step {
+    /// Gives at most so many of the shown bytes.
+    Give(usize),
+    /// Gives none.
+    Pause,
+    /// Fails, with an error of this kind.
+    Fault(ErrorKind),
+    /// Shows so many bytes more, at most all, and then does what the following step says.
+    Grow(usize),
+}
+
+/// A source for tests, of which a front is shown and grows, and whose reads and seeks give, pause and fail as a script
+/// says.
+///
+/// Each read into a place that isn't empty takes the next step. With no step left a read gives all shown bytes that fit.
+#[derive(Drop)]
+pub struct Script {
+    bytes: Vec<u8>,
+    shown: usize,
+    at: u64,
+    steps: Vec<Step>,
+    taken: usize,
+    seek_faults: Vec<u64>,
+    seeks: u64,
+    faults: u64,
+    pauses: u64,
+    ghost within: { shown ≤ vec_len bytes },
+}
+
+impl Script {
+    ghost use Rattle.perfdata_base.specs.Script.{scripted, starts};
+
+    /// A source of these bytes, of which the first so many are shown, at most all.
+    ///
+    /// A seek fails, with an error of kind [`ErrorKind::Other`], where its number is among `seek_faults`; the first has
+    /// number 0.
+    pub fn new(bytes: Vec<u8>, shown: usize, steps: Vec<Step>, seek_faults: Vec<u64>) -> Script
+        ensures { scripted result ≡ starts bytes.items }
+    {
+        let shown = shown.min(bytes.len());
+        Script {
+            bytes,
+            shown,
+            at: 0,
+            steps,
+            taken: 0,
+            seek_faults,
+            seeks: 0,
+            faults: 0,
+            pauses: 0,
+        }
+    }
+
+    // Shows what grows before the next read, and says how many bytes that read gives at most, or how it fails.
+    fn next_most(&mut self) -> std::result::Result<usize, ErrorKind>
+        ensures { scripted self.new ≡ scripted self.old }
+    {
+        'growths: while self.taken < self.steps.len() {
+            let step = self.steps[self.taken];
+            self.taken += 1;
+            match step {
+                Step::Give(most) => return Ok(most),
+                Step::Pause => return Ok(0),
+                Step::Fault(kind) => return Err(kind),
+                Step::Grow(count) => {
+                    self.shown = self.shown.saturating_add(count).min(self.bytes.len());
+                }
+            }
+        }
+        Ok(usize::MAX)
+    }
+}
+
+impl Source for Script {
+    ghost use Rattle.perfdata_base.specs.Script.{scripted};
+
+    ghost seen = { scripted };
+
+    ghost lent = { λ _. 0 };
+
+    fn read_front(&mut self, place: &mut [u8]) -> Result<usize> {
+        if place.is_empty() {
+            return Ok(0);
+        }
+        let most = match self.next_most() {
+            Ok(most) => most.min(place.len()),
+            Err(kind) => {
+                self.faults = self.faults.saturating_add(1);
+                return Err(Error::from(kind));
+            }
+        };
+        let count = copy_from(&self.bytes[..self.shown], self.at, &mut place[..most]);
+        if count == 0 {
+            self.pauses = self.pauses.saturating_add(1);
+            return Ok(0);
+        }
+        self.at += count as u64;
+        Ok(count)
+    }
+
+    ghost steady_can_count = { λ _ steady. absurd (false≢true steady) };
+}
+
+impl PlacedSource for Script {
+    fn seek_to(&mut self, to: SeekFrom) -> Result<u64> {
+        let at = self.at;
+        let number = self.seeks;
+        self.seeks = self.seeks.saturating_add(1);
+        if self.seek_faults.contains(&number) {
+            self.faults = self.faults.saturating_add(1);
+            return Err(Error::from(ErrorKind::Other));
+        }
+        let mut shown = Cursor::new(&self.bytes[..self.shown]);
+        shown.set_position(at);
+        match shown.seek_to(to) {
+            Ok(at) => {
+                self.at = at;
+                Ok(at)
+            }
+            Err(error) => Err(error),
+        }
+    }
+
+    ghost placed = { λ _. refl };
+}
+
+#[cfg(test)]
+mod tests {
+    use super::*;
+    use std::result::Result;
+    use std::test::Fail;
+
+    #[test]
+    fn follows_its_steps(rt: HostRuntime) -> Result<(), Fail> {
+        let mut steps = Vec::new(rt.alloc());
+        let fault = Step::Fault(ErrorKind::TimedOut);
+        for step in [
+            Step::Give(1),
+            Step::Pause,
+            fault,
+            Step::Grow(3),
+            Step::Give(9),
+        ] {
+            steps.push(step)?;
+        }
+        let mut seek_faults = Vec::new(rt.alloc());
+        seek_faults.push(1)?;
+        let bytes = b"0123456789".to_vec(rt.alloc())?;
+        let mut source = Script::new(bytes, 4, steps, seek_faults);
+        let mut place = [0u8; 5];
+        for (came, byte) in [
+            (Some(1), b'0'),
+            (Some(0), 0),
+            (None, 0),
+            (Some(5), b'1'),
+            (Some(1), b'6'),
+        ] {
+            assert_eq!(rt; source.read_front(&mut place).ok(), came);
+            if came > Some(0) {
+                assert_eq!(rt; place[0], byte);
+            }
+        }
+        assert_eq!(rt; (source.faults, source.pauses), (1, 1));
+        for (to, at) in [
+            (SeekFrom::End(0), Some(7)),
+            (SeekFrom::Start(0), None),
+            (SeekFrom::Start(2), Some(2)),
+        ] {
+            assert_eq!(rt; source.seek_to(to).ok(), at);
+        }
+        assert_eq!(rt; source.read_front(&mut place)?, 5);
+        assert_eq!(rt; &place[..], b"23456".as_slice());
+        Ok(())
+    }
+}

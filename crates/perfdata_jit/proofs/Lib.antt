@@ -1,0 +1,12 @@
+pub mod Entries
+pub mod Fields
+pub mod Fillings
+pub mod Heads
+pub mod JitHeaders
+pub mod Keeping
+pub mod Lookups
+pub mod Places
+pub mod Ranges
+pub mod Runs
+pub mod Seeks
+pub mod Steps

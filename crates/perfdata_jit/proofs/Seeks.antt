@@ -1,0 +1,48 @@
+-- Passing over bytes by seeks.
+use Rattle.std.proofs.Common.{◌≡◌, ℕ, ◌+◌, ◌-◌, ◌≤◌, ◌++◌, length, take, drop, replicate, refl, sym, ap, ◌∙◌, arith, pos, Option, None, Some, length-drop}
+use Rattle.std.proofs.lemmas.List.{length-take-le, take-append-drop, drop-drop, length-replicate}
+use Rattle.std.specs.declared.io.SeekFrom.TheVariants.{Start, End, Current}
+use Rattle.perfdata_base.specs.Source.{State, Place, prepend, behind, put_at, IsPlaced, Sought}
+use Rattle.perfdata_jit.specs.BufferedReader.{SameCounts}
+use Rattle.perfdata_jit.specs.Seeking.{PassedBySeek, PassesBySeek}
+use Rattle.std.specs.Prelude.{Bool, true, false, Ok}
+
+-- what the places say, where the source stood at this place before
+passed_from : (place : Option Place) (s a b t : State) (here end count to : ℕ) → s.place ≡ place → IsPlaced s → Sought s (Current (pos 0)) here a → Sought a (End (pos 0)) end b → Sought b (Start (here + count)) to t → here ≤ end → count ≤ end - here → SameCounts s t
+    → PassedBySeek s count t
+passed_from None s a b t here end count to is placed x y z le fits counts = record {
+  bytes = replicate count 0;
+  long = length-replicate count 0;
+  is =
+      let first : a.place ≡ None = x.place ∙ ap (put_at here) is in
+      let second : b.place ≡ None = y.place ∙ ap (put_at end) first in
+      let third : t.place ≡ None = z.place ∙ ap (put_at to) second in
+      placed ∙ ap behind is ∙ ap (prepend (replicate count 0)) (sym (z.stood.placed ∙ ap behind third));
+  counts = counts;
+}
+passed_from (Some p) s a b t here end count to is placed x y z le fits counts =
+    let stands : here ≡ p.at + 0 = x.target p is in
+    let first : a.place ≡ Some (record { all = p.all; at = here }) = x.place ∙ ap (put_at here) is in
+    let second : b.place ≡ Some (record { all = p.all; at = end }) = y.place ∙ ap (put_at end) first in
+    let third : t.place ≡ Some (record { all = p.all; at = to }) = z.place ∙ ap (put_at to) second in
+    let shown = y.target (record { all = p.all; at = here }) first in
+    let goes : to ≡ here + count = z.target (record { all = p.all; at = end }) second in
+    let there : p.at + count ≤ length p.all = omega (arith, shown.1, shown.2, stands) in
+    let target : p.at + count ≡ to = omega (arith, goes, stands) in
+    record {
+      bytes = take count (drop p.at p.all);
+      long = length-take-le count (drop p.at p.all) (omega (arith, length-drop p.at p.all));
+      is =
+          placed ∙ ap behind is
+          ∙ ap Some (sym (take-append-drop count (drop p.at p.all)) ∙ ap (λ r. take count (drop p.at p.all) ++ r) (drop-drop count p.at p.all ∙ ap (λ n. drop n p.all) target))
+          ∙ ap (prepend (take count (drop p.at p.all))) (sym (z.stood.placed ∙ ap behind third));
+      counts = counts;
+    }
+
+pub passed_by_seek : (s a b t : State) (here end count to : ℕ) → IsPlaced s → Sought s (Current (pos 0)) here a → Sought a (End (pos 0)) end b → Sought b (Start (here + count)) to t → here ≤ end → count ≤ end - here → SameCounts s t → PassedBySeek s count t
+passed_by_seek s a b t here end count to = passed_from s.place s a b t here end count to refl
+
+-- they were passed over where the answer says so
+pub passed_if : (old new : State) (count : ℕ) (passed : Bool) → passed ≡ true → PassesBySeek old count (Ok passed) new → PassedBySeek old count new
+passed_if old new count true is p = p
+passed_if old new count false is p = absurd cc

@@ -1,0 +1,36 @@
+-- What is held in the overflow buffer and the ring.
+use Rattle.std.specs.Prelude.{◌≡◌, ℕ, ◌<◌, ◌≤◌, List, ◌++◌, take, drop, slice_range, vec_len}
+use Rattle.perfdata_jit.specs.Ring.{ring_bytes, ring_size}
+use Rattle.perfdata_jit.specs.declared.held.Held.{Held}
+use Rattle.perfdata_jit.specs.declared.held.Span.{Span}
+
+-- the bytes held, in order
+abbrev pub held_bytes : Held → List ℕ
+held_bytes h = drop h.passed h.overflow.items ++ ring_bytes h.ring
+
+-- how long the overflow buffer is, its consumed front counted
+abbrev pub overflow_len : Held → ℕ
+overflow_len h = vec_len h.overflow
+
+-- the length of the fixed buffer
+abbrev pub held_size : Held → ℕ
+held_size h = ring_size h.ring
+
+-- the first n bytes are gone, and the buffers are as long as they were
+pub record TakesOff (n : ℕ) (old new : Held) : Type 0 where
+  pub bytes : held_bytes new ≡ drop n (held_bytes old)
+  pub overflow : overflow_len new ≡ overflow_len old
+  pub size : held_size new ≡ held_size old
+
+-- the span lies within the buffers, and at most two of its pieces have bytes
+pub record LiesIn (h : Held) (p : Span) : Type 0 where
+  pub overflow_order : p.from ≤ p.to
+  pub overflow_within : p.to ≤ overflow_len h
+  pub ring_order : p.start ≤ p.end
+  pub ring_within : p.end ≤ held_size h
+  pub front_within : p.front ≤ held_size h
+  pub two_pieces : 0 < p.front → p.from ≡ p.to
+
+-- the bytes there
+abbrev pub bytes_at : Held → Span → List ℕ
+bytes_at h p = slice_range h.overflow.items p.from p.to ++ (slice_range h.ring.buffer.items p.start p.end ++ take p.front h.ring.buffer.items)

@@ -1,0 +1,13 @@
+pub mod Answer
+pub mod BufferedReader
+pub mod Calls
+pub mod Filling
+pub mod Held
+pub mod JitDumpReader
+pub mod JitHead
+pub mod JitHeader
+pub mod JitRecord
+pub mod JitRecords
+pub mod ReadExact
+pub mod Ring
+pub mod Seeking

@@ -1,0 +1,23 @@
+-- Passing over bytes of a source by seeks, where it shows that many.
+use Rattle.std.specs.Prelude.{◌≡◌, ℕ, List, length, Bool, true, false, Result, Ok, Err}
+use Rattle.std.specs.declared.io.Error.{Error}
+use Rattle.perfdata_base.specs.Source.{State, prepend, Failed}
+use Rattle.perfdata_jit.specs.BufferedReader.{SameCounts}
+
+-- the next bytes, so many, were passed over
+pub record PassedBySeek (old : State) (count : ℕ) (new : State) : Type 0 where
+  pub bytes : List ℕ
+  pub long : length bytes ≡ count
+  pub is : old.bytes ≡ prepend bytes new.bytes
+  pub counts : SameCounts old new
+
+-- the source stands where it stood
+pub record StoodStill (old new : State) : Type 0 where
+  pub is : new.bytes ≡ old.bytes
+  pub counts : SameCounts old new
+
+-- what a passing over so many bytes does
+abbrev pub PassesBySeek : State → ℕ → Result Bool Error → State → Type 0
+PassesBySeek old count (Ok true) new = PassedBySeek old count new
+PassesBySeek old count (Ok false) new = StoodStill old new
+PassesBySeek old count (Err e) new = Failed old new

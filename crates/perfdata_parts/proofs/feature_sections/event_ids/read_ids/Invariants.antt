@@ -1,0 +1,10 @@
+use Rattle.std.proofs.Common.{◌≡◌}
+use Rattle.perfdata_parts.specs.Part.{Took}
+use Rattle.perfdata_parts.specs.EventIds.{AreIds}
+use Rattle.perfdata_parts.proofs.feature_sections.event_ids.read_ids.Given as goal
+
+abbrev pub invariant-ids : goal.invariant-ids
+invariant-ids g l = record {
+  took : Took (AreIds g.T.ByteOrder.number_of l._index) (g.R.Source.seen l.initial.source) l.ids.items (g.R.Source.seen l.source);
+  lent : g.R.Source.lent l.source ≡ g.R.Source.lent l.initial.source;
+}

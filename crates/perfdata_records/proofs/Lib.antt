@@ -1,0 +1,4 @@
+pub mod Threads
+pub mod Fronts
+pub mod Ids
+pub mod BuildIds

@@ -1,0 +1,83 @@
+-- What stands before a NUL, and the threads of a map.
+use Rattle.std.proofs.Common.{◌≡◌, ◌≢◌, ℕ, zero, suc, ◌+◌, ◌*◌, ◌/◌, ◌<◌, ◌≤◌, ◌==◌, ◌++◌, true, not, cond, List, [], ◌∷◌, length, take, drop, refl, sym, ap, ◌∙◌, arith, length-drop}
+use Rattle.std.proofs.lemmas.Nat.{div-mul-add}
+use Rattle.std.proofs.Math.Nat.{mul-add-div}
+use Rattle.std.proofs.lemmas.List.{take-append-drop, take-append-le, drop-append-le, length-take-le}
+use Rattle.std.proofs.lemmas.List.Sums.{take_while-cons}
+use Rattle.std.proofs.lemmas.List.Elements.{All-tail}
+use Rattle.perfdata_base.specs.Raw.{HasNoNul}
+use Rattle.perfdata_base.proofs.Numbers.{ReadsFirst}
+use Rattle.perfdata_parts.specs.Strings.{before_nul}
+use Rattle.perfdata_records.specs.ThreadMap.{thread_at, threads_in, IsThreadMap}
+
+no_nul : (x : ℕ) → x ≢ 0 → not (x == 0) ≡ true
+no_nul x h = grind arith
+
+-- a string that a NUL ends stands before the first NUL
+pub before_string : (string rest : List ℕ) → HasNoNul string → before_nul (string ++ (0 ∷ rest)) ≡ string
+before_string [] rest none = take_while-cons (λ b. not (b == 0)) 0 rest
+before_string (x ∷ xs) rest none =
+    take_while-cons (λ b. not (b == 0)) x (xs ++ (0 ∷ rest))
+    ∙ ap (λ t. cond t (x ∷ before_nul (xs ++ (0 ∷ rest))) []) (no_nul x (none 0 0 (omega arith)))
+    ∙ ap (λ l. x ∷ l) (before_string xs rest (All-tail (λ b. b ≢ 0) x xs none))
+
+-- where no byte is NUL, all do
+pub before_none : (bytes : List ℕ) → HasNoNul bytes → before_nul bytes ≡ bytes
+before_none [] none = refl
+before_none (x ∷ xs) none =
+    take_while-cons (λ b. not (b == 0)) x xs
+    ∙ ap (λ t. cond t (x ∷ before_nul xs) []) (no_nul x (none 0 0 (omega arith)))
+    ∙ ap (λ l. x ∷ l) (before_none xs (All-tail (λ b. b ≢ 0) x xs none))
+
+module _ (number : ℕ → List ℕ → ℕ) where
+  pub threads_long : (n : ℕ) (xs : List ℕ) → length (threads_in number n xs) ≡ n
+  threads_long zero xs = refl
+  threads_long (suc n) xs = ap suc (threads_long n (drop 24 xs))
+
+  -- the first of the threads that whole entries hold, and the others
+  pub threads_step : (xs : List ℕ) → 24 ≤ length xs
+      → threads_in number (length xs / 24) xs ≡ thread_at number xs ∷ threads_in number (length (drop 24 xs) / 24) (drop 24 xs)
+  threads_step xs room =
+      let long : length xs ≡ 24 * 1 + length (drop 24 xs) = omega (arith, length-drop 24 xs) in
+      let one : length xs / 24 ≡ suc (length (drop 24 xs) / 24) =
+      ap (λ n. n / 24) long ∙ mul-add-div {m = 24} (omega arith) 1 (length (drop 24 xs)) ∙ omega arith
+      in
+      ap (λ n. threads_in number n xs) one
+
+  -- a cut entry holds none
+  pub threads_none : (xs : List ℕ) → length xs < 24 → threads_in number (length xs / 24) xs ≡ []
+  threads_none xs few =
+      let long : length xs ≡ 0 * 24 + length xs = omega arith in
+      ap (λ n. threads_in number n xs) (ap (λ n. n / 24) long ∙ div-mul-add 0 24 (length xs) few)
+
+  module _ (first : ReadsFirst number) where
+    -- bytes behind the entries change nothing
+    pub threads_front : (n : ℕ) (xs ys : List ℕ) → n * 24 ≤ length xs → threads_in number n (xs ++ ys) ≡ threads_in number n xs
+    threads_front zero xs ys room = refl
+    threads_front (suc n) xs ys room =
+        let all : 24 + n * 24 ≤ length xs = omega arith in
+        let eight = drop-append-le 8 xs ys (omega arith) in
+        let name : take 16 (drop 8 (xs ++ ys)) ≡ take 16 (drop 8 xs) =
+        ap (take 16) eight ∙ take-append-le 16 (drop 8 xs) ys (omega (arith, length-drop 8 xs))
+        in
+        let later : threads_in number n (drop 24 (xs ++ ys)) ≡ threads_in number n (drop 24 xs) =
+        ap (threads_in number n) (drop-append-le 24 xs ys (omega arith)) ∙ threads_front n (drop 24 xs) ys (omega (arith, length-drop 24 xs))
+        in
+        λ i. record { number = first 8 xs ys (omega arith) i; name = before_nul (name i) } ∷ later i
+
+    -- entries that were cut off behind their count are a map
+    pub is_map : (other : ℕ → List ℕ → ℕ) → ((n : ℕ) (xs : List ℕ) → number n xs ≡ other n xs) → (body rest entries : List ℕ) → 8 ≤ length body → rest ≡ drop 8 body
+        → number 8 body * 24 ≤ length rest → entries ≡ take (number 8 body * 24) rest
+        → IsThreadMap number body (threads_in other (length entries / 24) entries)
+    is_map other same body rest entries head behind room cut =
+        let count = number 8 body in
+        let long : length entries ≡ count * 24 + 0 = ap length cut ∙ length-take-le (count * 24) rest room ∙ omega arith in
+        let many : length entries / 24 ≡ count = ap (λ n. n / 24) long ∙ div-mul-add count 24 0 (omega arith) in
+        let order : other ≡ number = λ i n xs. sym (same n xs) i in
+        record {
+          head = head;
+          there = omega (arith, length-drop 8 body, ap length behind);
+          are = ap (λ f. threads_in f (length entries / 24) entries) order ∙ ap (λ n. threads_in number n entries) many ∙ ap (threads_in number count) cut
+              ∙ sym (threads_front count (take (count * 24) rest) (drop (count * 24) rest) (omega (arith, length-take-le (count * 24) rest room)))
+              ∙ ap (threads_in number count) (take-append-drop (count * 24) rest ∙ behind);
+        }

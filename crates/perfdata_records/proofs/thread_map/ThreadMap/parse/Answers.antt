@@ -1,0 +1,19 @@
+use Rattle.std.proofs.Common.{◌*◌, take, arith, ap, sym, ◌∙◌}
+use Rattle.perfdata_base.specs.Raw.{bytes_of}
+use Rattle.perfdata_base.specs.Numbers.{number_in}
+use Rattle.perfdata_records.proofs.Threads.{is_map}
+use Rattle.perfdata_records.proofs.thread_map.ThreadMap.parse.Goals as goal
+
+pub returns-clause-value : goal.returns-clause-value
+returns-clause-value g c =
+    let number = g.T.ByteOrder.number_of in
+    let order = c.ENDIAN.result in
+    let counted = c.in_ok-count.ensures in
+    let cut = c.in_ok-entries.ensures in
+    let size = c.in-Some.ensures.1 in
+    let many = ap (λ n. n * 24) counted.value in
+    is_map number g.met.T.ByteOrder.reads_first (number_in order)
+    (λ n xs. g.met.T.FileOrder.reads_by n xs ∙ ap (λ o. number_in o n xs) (sym c.ENDIAN.ensures))
+    (bytes_of c.args.body) (bytes_of c.read_u64.new.self) (bytes_of c.in_ok-entries.entries)
+    counted.taken.enough counted.taken.left (omega (arith, cut.taken.enough, size, many))
+    (cut.prefix ∙ ap (λ n. take n (bytes_of c.read_u64.new.self)) (size ∙ many))

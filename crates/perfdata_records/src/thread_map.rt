@@ -1,0 +1,252 @@
+ghost use Rattle.std.specs.Prelude.{◌≡◌, ◌==◌, ◌<◌, ◌≤◌, IfOk, IfErr, OnOk, IfSome, IfNone, length, drop};
+ghost use Rattle.std.specs.Iterator.{YieldsFirstBy, item_count};
+ghost use Rattle.perfdata_base.specs.Raw.{bytes_of, IsShort, Takes};
+ghost use Rattle.perfdata_base.specs.Numbers.{number_in};
+ghost use Rattle.perfdata_parts.specs.Strings.{before_nul};
+ghost use Rattle.perfdata_records.specs.ThreadMap.{IsNoThreadMap, IsThreadMap, thread_at, thread_of, threads_left, threads_of};
+
+use byteorder::{BigEndian, LittleEndian};
+use perfdata_base::raw::{Endianness, FileOrder, RawData};
+use std::io::{Error, ErrorKind, Result};
+
+/// How many bytes an entry has: a number of 8, and 16 of name.
+const ENTRY_SIZE: usize = 24;
+
+/// How many of them are the name's.
+const NAME_SIZE: usize = 16;
+
+/// The threads that were recorded (`PERF_RECORD_THREAD_MAP` of Linux's perf). Contracts see them by `threads_of`.
+#[derive(Clone, Debug, Drop, PartialEq, Eq)]
+pub struct ThreadMap<'a> {
+    endian: Endianness,
+    // the entries whole, and nothing behind them
+    entries: RawData<'a>,
+}
+
+/// A thread of a thread map.
+#[derive(Clone, Copy, Debug, PartialEq, Eq)]
+pub struct ThreadMapEntry<'a> {
+    /// The thread's number.
+    pub tid: u64,
+    /// The thread's name, which perf mostly leaves empty.
+    pub name: RawData<'a>,
+}
+
+/// The threads of a thread map, in order. Contracts see those that are left by `threads_left`.
+#[derive(Drop)]
+pub struct ThreadMapIter<'a> {
+    endian: Endianness,
+    rest: RawData<'a>,
+}
+
+impl<'a> ThreadMap<'a> {
+    /// The map in the body of a record: a count of eight bytes, and that many entries of 24. What stands behind them is passed over.
+    ///
+    /// An `InvalidData` error where the count times 24 passes 2^64 - 1, and an `UnexpectedEof` error where the count or the entries are cut.
+    pub fn parse<T: FileOrder>(body: RawData<'a>) -> Result<ThreadMap<'a>>
+        ensures value { IfOk result (λ map. IsThreadMap T.number_of (bytes_of body.entry) (threads_of map)) }
+        ensures refused { IfErr result (λ error. IsNoThreadMap T.number_of (bytes_of body.entry) error) }
+    {
+        let mut rest = body;
+        let count = rest.read_u64::<T>()?;
+        let Some(size) = (count as usize).checked_mul(ENTRY_SIZE) else {
+            return Err(Error::from(ErrorKind::InvalidData));
+        };
+        let entries = rest.split_off_prefix(size)?;
+        Ok(ThreadMap {
+            endian: T::ENDIAN,
+            entries,
+        })
+    }
+
+    /// How many threads there are.
+    pub fn len(&self) -> usize
+        ensures { result ≡ length (threads_of self.now) }
+    {
+        self.entries.len() / ENTRY_SIZE
+    }
+
+    /// Whether there is no thread.
+    pub fn is_empty(&self) -> bool
+        ensures { result ≡ (length (threads_of self.now) == 0) }
+    {
+        self.len() == 0
+    }
+
+    /// The threads, in order.
+    pub fn iter(&self) -> ThreadMapIter<'a>
+        ensures { threads_left result ≡ threads_of self.now }
+    {
+        ThreadMapIter {
+            endian: self.endian,
+            rest: self.entries,
+        }
+    }
+}
+
+// The number of the first eight bytes, which are taken off.
+fn read_number(endian: Endianness, bytes: &mut RawData<'_>) -> Result<u64>
+    ensures value { IfOk result (λ number. number ≡ number_in endian 8 (bytes_of bytes.old)) }
+    ensures taken { OnOk result (Takes 8 bytes.old bytes.new) }
+    ensures short { IfErr result (λ error. IsShort 8 (bytes_of bytes.old) error) }
+{
+    match endian {
+        Endianness::LittleEndian => bytes.read_u64::<LittleEndian>(),
+        Endianness::BigEndian => bytes.read_u64::<BigEndian>(),
+    }
+}
+
+// What stands before the first NUL, or all where there is none.
+fn cut_at_nul(bytes: RawData<'_>) -> RawData<'_>
+    ensures { bytes_of result ≡ before_nul (bytes_of bytes.entry) }
+{
+    let mut rest = bytes;
+    match rest.read_string() {
+        Some(string) => string,
+        None => bytes,
+    }
+}
+
+// The thread of an entry, and what stands behind it.
+fn split_entry(endian: Endianness, bytes: RawData<'_>) -> Option<(ThreadMapEntry<'_>, RawData<'_>)>
+    ensures none { IfNone result (length (bytes_of bytes.entry) < 24) }
+    ensures some { IfSome result (λ _. 24 ≤ length (bytes_of bytes.entry)) }
+    ensures entry { IfSome result (λ parts. thread_of parts.0 ≡ thread_at (number_in endian) (bytes_of bytes.entry)) }
+    ensures rest { IfSome result (λ parts. bytes_of parts.1 ≡ drop 24 (bytes_of bytes.entry)) }
+{
+    let mut rest = bytes;
+    let Ok(tid) = read_number(endian, &mut rest) else {
+        return None;
+    };
+    match rest.split_off_prefix(NAME_SIZE) {
+        Ok(name) => Some((
+            ThreadMapEntry {
+                tid,
+                name: cut_at_nul(name),
+            },
+            rest,
+        )),
+        Err(_) => None,
+    }
+}
+
+impl<'a> Iterator for ThreadMapIter<'a> {
+    type Item = ThreadMapEntry<'a>;
+
+    ghost next_gives = { YieldsFirstBy thread_of threads_left };
+
+    ghost remaining = { item_count threads_left };
+
+    fn next(&mut self) -> Option<ThreadMapEntry<'a>> {
+        let (entry, rest) = split_entry(self.endian, self.rest)?;
+        self.rest = rest;
+        Some(entry)
+    }
+}
+
+#[cfg(test)]
+mod tests {
+    use super::*;
+    use byteorder::ByteOrder;
+    use std::result::Result;
+    use std::test::Fail;
+
+    const TIDS: [u64; 12] = [
+        95141, 95145, 95147, 95148, 95163, 95164, 95165, 95166, 95167, 95170, 95173, 95175,
+    ];
+
+    // A map of these threads without names, whose count is told as another.
+    fn twelve(count: u64) -> [u8; 296] {
+        let mut body = [0; 296];
+        LittleEndian::write_u64(&mut body, count);
+        for (index, tid) in TIDS.iter().enumerate() {
+            LittleEndian::write_u64(&mut body[8 + 24 * index..], *tid);
+        }
+        body
+    }
+
+    #[test]
+    fn gives_each_thread_wherever_it_is_split(rt: HostRuntime) -> Result<(), Fail> {
+        let body = twelve(12);
+        let whole = ThreadMap::parse::<LittleEndian>(RawData::Single(&body))?;
+        assert_eq!(rt; whole.len(), 12);
+        assert!(rt; !whole.is_empty());
+        assert_eq!(rt; whole.iter().count(), 12);
+        let eighth = whole.iter().nth(8);
+        assert!(rt; matches!(eighth, Some(entry) if entry.tid == 95167 && entry.name.is_empty()));
+        for at in 0..297usize {
+            let (front, back) = body.split_at(at);
+            let map = ThreadMap::parse::<LittleEndian>(RawData::Split(front, back))?;
+            assert!(rt; map == whole, "split at {at}");
+            for (entry, tid) in map.iter().zip(&TIDS) {
+                assert_eq!(rt; entry.tid, *tid, "split at {at}");
+                assert!(rt; entry.name.is_empty(), "split at {at}");
+            }
+        }
+        Ok(())
+    }
+
+    #[test]
+    fn passes_over_what_follows(rt: HostRuntime) -> Result<(), Fail> {
+        let body = twelve(11);
+        let map = ThreadMap::parse::<LittleEndian>(RawData::Single(&body))?;
+        assert_eq!(rt; map.len(), 11);
+        let last = map.iter().last();
+        assert!(rt; matches!(last, Some(entry) if entry.tid == 95173));
+        let none = ThreadMap::parse::<BigEndian>(RawData::Single(&[0; 30]))?;
+        assert_eq!(rt; none.len(), 0);
+        assert!(rt; none.is_empty());
+        assert!(rt; none.iter().next().is_none());
+        Ok(())
+    }
+
+    #[test]
+    fn cuts_names_at_nul(rt: HostRuntime) -> Result<(), Fail> {
+        // one thread, in each order, and its name's sixteen bytes
+        let mut little = [0; 32];
+        let mut big = [0; 32];
+        LittleEndian::write_u64(&mut little, 1);
+        LittleEndian::write_u64(&mut little[8..], 542_572);
+        BigEndian::write_u64(&mut big, 1);
+        BigEndian::write_u64(&mut big[8..], 542_572);
+        for (name, shown) in [
+            (*b"\0\0\0\0\0\0\0\0\0\0\0\0\0\0\0\0", &b""[..]),
+            (*b"worker\0rest\0\0\0\0\0", b"worker"),
+            (*b"sixteen bytes...", b"sixteen bytes..."),
+        ] {
+            little[16..].copy_from_slice(&name);
+            big[16..].copy_from_slice(&name);
+            let map = ThreadMap::parse::<LittleEndian>(RawData::Single(&little))?;
+            let other = ThreadMap::parse::<BigEndian>(RawData::Single(&big))?;
+            for entry in map.iter().chain(other.iter()) {
+                assert_eq!(rt; entry.tid, 542_572);
+                assert!(rt; entry.name == RawData::Single(shown));
+            }
+            assert_eq!(rt; (map.len(), other.len()), (1, 1));
+        }
+        Ok(())
+    }
+
+    #[test]
+    fn refuses_bad_counts(rt: HostRuntime) {
+        for (count, held, kind) in [
+            (13, 296usize, ErrorKind::UnexpectedEof),
+            (12, 295, ErrorKind::UnexpectedEof),
+            (1, 7, ErrorKind::UnexpectedEof),
+            (0, 0, ErrorKind::UnexpectedEof),
+            (768_614_336_404_564_650, 8, ErrorKind::UnexpectedEof),
+            (768_614_336_404_564_651, 8, ErrorKind::InvalidData),
+            (u64::MAX, 296, ErrorKind::InvalidData),
+        ] {
+            let body = twelve(count);
+            for at in 0..held + 1 {
+                let (front, back) = body[..held].split_at(at);
+                let got = ThreadMap::parse::<LittleEndian>(RawData::Split(front, back));
+                assert!(rt;
+                    matches!(&got, Err(error) if error.kind() == kind),
+                    "{count} split at {at}"
+                );
+            }
+        }
+    }
+}

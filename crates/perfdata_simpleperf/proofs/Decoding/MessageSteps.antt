@@ -1,0 +1,96 @@
+-- Fields in a row, and the values over them.
+use Rattle.std.proofs.Common.{◌≡◌, ℕ, ◌<◌, ◌≤◌, ◌⊎◌, inl, inr, List, [], ◌∷◌, ◌++◌, length, map, refl, ap, sym, ◌∙◌, subst, arith, append_assoc}
+use Rattle.std.proofs.lemmas.List.Concat.{flat_map-append}
+use Rattle.std.proofs.lemmas.List.{map-append}
+use Rattle.perfdata_parts.specs.declared.decode_error.DecodeError.{DecodeError}
+use Rattle.perfdata_parts.specs.declared.decode_error.DecodeError.TheVariants as errors
+use Rattle.perfdata_simpleperf.specs.declared.protobuf.field.Message.{Message}
+use Rattle.perfdata_simpleperf.specs.declared.protobuf.wire.Wire.{Wire}
+use Rattle.perfdata_simpleperf.specs.declared.protobuf.wire.Wire.TheVariants as wires
+use Rattle.std.proofs.Common.{Bool, true, false, cond}
+use Rattle.std.specs.Prelude.{◌==◌}
+use Rattle.perfdata_simpleperf.specs.declared.protobuf.field.Message.TheVariants as messages
+use Rattle.perfdata_simpleperf.specs.declared.protobuf.field.Shape.TheVariants as shapes
+use Rattle.perfdata_simpleperf.specs.Protobuf.Wire.{Contents, number, bytes, skipped, NumberAt}
+use Rattle.perfdata_simpleperf.specs.Protobuf.Groups.{Tokens, none, more}
+use Rattle.perfdata_simpleperf.specs.Protobuf.Fields.{Part, shape, FieldAt, Holds}
+use Rattle.perfdata_simpleperf.specs.Protobuf.Messages.{IsFine, IsWrong, FieldsBy, FaultBy, NumbersAt, NoInner}
+use Rattle.perfdata_simpleperf.specs.FileRecord.{SymbolValue}
+use Rattle.perfdata_simpleperf.specs.Protobuf.Values.{numbers, numbers_in, texts, texts_in, last_or, low, symbol_from, AreOffsets, contents_of, contents_in}
+use Rattle.perfdata_simpleperf.proofs.Decoding.GroupSteps.{key_shorter, value_shorter, token_shorter}
+
+module _ (Inner : Message → List ℕ → Type 0) (message : Message) where
+  pub fields_then : (bs : List ℕ) (ps : List Part) (mid : List ℕ) (p : Part) (rest : List ℕ) → FieldsBy Inner message bs ps mid → FieldAt message mid p rest → IsFine Inner (shape message p.number) p.contents → FieldsBy Inner message bs (ps ++ p ∷ []) rest
+  fields_then bs [] mid p rest before at fine = (rest, subst (λ (x : List ℕ). FieldAt message x p rest) (sym before) at, fine, refl)
+  fields_then bs (q ∷ ps) mid p rest before at fine = (before.0, before.1, before.2, fields_then before.0 ps mid p rest before.3 at fine)
+
+pub tokens_le : {around bs inner rest : List ℕ} → Tokens around bs inner rest → length rest ≤ length bs
+tokens_le none = omega arith
+tokens_le (more t ts) = let a = token_shorter t in let b = tokens_le ts in omega (arith, a, b)
+
+holds_shorter : (wire : Wire) (n : ℕ) (bs : List ℕ) (x : Contents) (rest : List ℕ) → Holds wire n bs x rest → length rest ≤ length bs
+holds_shorter wires.Begin n bs skipped rest h = tokens_le h
+holds_shorter wires.Begin n bs (number k) rest h = absurd h
+holds_shorter wires.Begin n bs (bytes k) rest h = absurd h
+holds_shorter wires.End n bs x rest h = value_shorter wires.End bs x rest h
+holds_shorter wires.Number n bs x rest h = value_shorter wires.Number bs x rest h
+holds_shorter wires.Eight n bs x rest h = value_shorter wires.Eight bs x rest h
+holds_shorter wires.Four n bs x rest h = value_shorter wires.Four bs x rest h
+holds_shorter wires.Length n bs x rest h = value_shorter wires.Length bs x rest h
+
+pub field_shorter : (message : Message) (bs : List ℕ) (p : Part) (rest : List ℕ) → FieldAt message bs p rest → length rest < length bs
+field_shorter message bs p rest at =
+    let k = key_shorter bs p.number at.wire at.mid at.key in
+    let h = holds_shorter at.wire p.number at.mid p.contents rest at.holds in
+    omega (arith, k, h)
+
+-- ---- values
+
+pub last_or-append : {A : Type 0} (d : A) (xs ys : List A) → last_or (last_or d xs) ys ≡ last_or d (xs ++ ys)
+last_or-append d [] ys = refl
+last_or-append d (x ∷ xs) ys = last_or-append x xs ys
+
+pub numbers-append : (k : ℕ) (ps qs : List Part) → numbers k (ps ++ qs) ≡ numbers k ps ++ numbers k qs
+numbers-append k ps qs = flat_map-append (numbers_in k) ps qs
+
+pub texts-append : (k : ℕ) (ps qs : List Part) → texts k (ps ++ qs) ≡ texts k ps ++ texts k qs
+texts-append k ps qs = flat_map-append (texts_in k) ps qs
+
+pub last_number : (d k : ℕ) (ps qs : List Part) → last_or (last_or d (numbers k ps)) (numbers k qs) ≡ last_or d (numbers k (ps ++ qs))
+last_number d k ps qs = last_or-append d (numbers k ps) (numbers k qs) ∙ ap (λ (xs : List ℕ). last_or d xs) (sym (numbers-append k ps qs))
+
+pub last_low : (d k : ℕ) (ps qs : List Part) → last_or (last_or d (map low (numbers k ps))) (map low (numbers k qs)) ≡ last_or d (map low (numbers k (ps ++ qs)))
+last_low d k ps qs = last_or-append d (map low (numbers k ps)) (map low (numbers k qs)) ∙ ap (λ (xs : List ℕ). last_or d xs) (sym (ap (λ (xs : List ℕ). map low xs) (numbers-append k ps qs) ∙ map-append low (numbers k ps) (numbers k qs)))
+
+pub last_text : (d : List ℕ) (k : ℕ) (ps qs : List Part) → last_or (last_or d (texts k ps)) (texts k qs) ≡ last_or d (texts k (ps ++ qs))
+last_text d k ps qs = last_or-append d (texts k ps) (texts k qs) ∙ ap (λ (xs : List (List ℕ)). last_or d xs) (sym (texts-append k ps qs))
+
+pub symbol_more : (s : SymbolValue) (ps qs : List Part) → symbol_from (symbol_from s ps) qs ≡ symbol_from s (ps ++ qs)
+symbol_more s ps qs = rw (last_number s.vaddr 1 ps qs, last_low s.len 2 ps qs, last_text s.name 3 ps qs) refl
+
+module _ (Inner : Message → List ℕ → Type 0) (InnerFault : Message → List ℕ → DecodeError → Type 0) (message : Message) where
+  pub contents_fault : (bs : List ℕ) (ps : List Part) (mid : List ℕ) (p : Part) (rest : List ℕ) (e : DecodeError) → FieldsBy Inner message bs ps mid → FieldAt message mid p rest → (e ≡ errors.Memory) ⊎ IsWrong InnerFault (shape message p.number) p.contents e → (e ≡ errors.Memory) ⊎ FaultBy Inner (IsWrong InnerFault) message bs e
+  contents_fault bs ps mid p rest e before at (inl memory) = inl memory
+  contents_fault bs ps mid p rest e before at (inr wrong) = inr record { fields = ps; mid = mid; before = before; inside = (let s = field_shorter message mid p rest at in omega (arith, s)); here = inr record { field = p; rest = rest; at = at; wrong = wrong } }
+
+pub numbers_then : (bs ns mid : List ℕ) (n : ℕ) (rest : List ℕ) → NumbersAt bs ns mid → NumberAt mid n rest → NumbersAt bs (ns ++ n ∷ []) rest
+numbers_then bs [] mid n rest before at = (rest, subst (λ (x : List ℕ). NumberAt x n rest) (sym before) at, refl)
+numbers_then bs (m ∷ ns) mid n rest before at = (before.0, before.1, numbers_then before.0 ns mid n rest before.2 at)
+
+pub offsets_append : (xs ys : List Contents) (a b : List ℕ) → AreOffsets xs a → AreOffsets ys b → AreOffsets (xs ++ ys) (a ++ b)
+offsets_append [] ys a b p q = rw p q
+offsets_append (x ∷ xs) ys a b p q = (p.0, p.1 ++ b, p.2, offsets_append xs ys p.1 b p.3 q, rw p.4 (append_assoc p.0 p.1 b))
+
+pub contents-append : (k : ℕ) (ps qs : List Part) → contents_of k (ps ++ qs) ≡ contents_of k ps ++ contents_of k qs
+contents-append k ps qs = flat_map-append (contents_in k) ps qs
+
+pub offsets_more : (k : ℕ) (ps qs : List Part) (a b : List ℕ) → AreOffsets (contents_of k ps) a → AreOffsets (contents_of k qs) b → AreOffsets (contents_of k (ps ++ qs)) (a ++ b)
+offsets_more k ps qs a b p q = subst (λ (x : List Contents). AreOffsets x (a ++ b)) (sym (contents-append k ps qs)) (offsets_append (contents_of k ps) (contents_of k qs) a b p q)
+
+-- no contents of an address message can be wrong
+fine_if : (b : Bool) (x : Contents) → IsFine NoInner (cond b shapes.Number shapes.Unknown) x
+fine_if true x = tt
+fine_if false x = tt
+
+pub address_fine : (n : ℕ) (x : Contents) → IsFine NoInner (shape messages.Address n) x
+address_fine n x = fine_if (n == 1) x

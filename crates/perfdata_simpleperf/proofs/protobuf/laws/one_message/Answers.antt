@@ -1,0 +1,11 @@
+use Rattle.perfdata_simpleperf.proofs.Decoding.OneMessage.{file_same, file_whole, file_fault}
+use Rattle.perfdata_simpleperf.proofs.protobuf.laws.one_message.Goals as goal
+
+pub returns-clause-value : goal.returns-clause-value
+returns-clause-value c = file_same
+
+pub returns-clause-whole : goal.returns-clause-whole
+returns-clause-whole c = file_whole
+
+pub returns-clause-fault : goal.returns-clause-fault
+returns-clause-fault c = file_fault

@@ -1,0 +1,11 @@
+use Rattle.perfdata_simpleperf.proofs.Decoding.OneNumber.{number_one}
+use Rattle.perfdata_simpleperf.proofs.protobuf.laws.one_number.Goals as goal
+
+pub returns-clause-value : goal.returns-clause-value
+returns-clause-value c = λ bs. (number_one bs).value
+
+pub returns-clause-whole : goal.returns-clause-whole
+returns-clause-whole c = λ bs. (number_one bs).whole
+
+pub returns-clause-fault : goal.returns-clause-fault
+returns-clause-fault c = λ bs. (number_one bs).fault

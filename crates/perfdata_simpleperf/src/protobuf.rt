@@ -1,0 +1,10 @@
+//! Protobuf messages in which simpleperf keeps the symbol tables of files.
+
+mod field;
+mod groups;
+mod laws;
+pub(crate) mod messages;
+mod wire;
+
+pub use laws::{groups_nest, one_message, one_number, one_value};
+pub use perfdata_parts::decode_error::DecodeError;

@@ -1,0 +1,131 @@
+ghost use Rattle.std.specs.Prelude.{IfOk, Some};
+ghost use Rattle.perfdata_simpleperf.specs.MetaInfo.{text_at};
+ghost use Rattle.perfdata_simpleperf.specs.SimpleperfEvents.{parts, event_type_info, GivesEvent, GivesEventTypes, IsFirstThree};
+
+use perfdata_parts::event_type::SimplePerfEventType;
+use std::alloc::{AllocError, Global};
+use std::collections::HashMap;
+
+// The key whose value names the events.
+const EVENT_TYPE_INFO: &str = "event_type_info";
+
+// The first three parts of a line, where it has three or more.
+fn first_three(line: &str) -> Option<(&str, &str, &str)>
+    ensures { IsFirstThree (λ s. s.now) (parts line.now) result }
+{
+    let mut parts = line.split(',');
+    let Some(first) = parts.next() else {
+        return None;
+    };
+    let Some(second) = parts.next() else {
+        return None;
+    };
+    match parts.next() {
+        Some(third) => Some((first, second, third)),
+        None => None,
+    }
+}
+
+// The event that a line tells, or none.
+fn event_of(alloc: Global, line: &str) -> Result<Option<SimplePerfEventType>, AllocError>
+    ensures { IfOk result (λ event. GivesEvent (parts line.now) event) }
+{
+    let Some((name, type_, config)) = first_three(line) else {
+        return Ok(None);
+    };
+    let (Ok(type_), Ok(config)) = (type_.parse::<u64>(), config.parse::<u64>()) else {
+        return Ok(None);
+    };
+    let name = String::from_str(alloc, name)?;
+    Ok(Some(SimplePerfEventType::new(name, type_, config)))
+}
+
+// The events that the lines of a text tell, or none where a line tells none.
+fn events_of(alloc: Global, text: &str) -> Result<Option<Vec<SimplePerfEventType>>, AllocError>
+    ensures { IfOk result (λ events. GivesEventTypes (Some text.now) events) }
+{
+    let mut events = Vec::new(alloc);
+    'lines: for line in text.split('\n') {
+        let event = match event_of(alloc, line) {
+            Ok(Some(event)) => event,
+            Ok(None) => return Ok(None),
+            Err(error) => return Err(error),
+        };
+        match events.push(event) {
+            Ok(()) => {}
+            Err(_) => return Err(AllocError),
+        }
+    }
+    Ok(Some(events))
+}
+
+/// The events that a file's meta info names: the lines of the value of `event_type_info`, each with a name, a type and a
+/// config between commas. Parts of a line behind these three are passed over. A number has decimal digits, may have a plus
+/// sign in front, and is below 2^64.
+///
+/// None where the key is missing or any line lacks one of the three, as an empty line behind a last newline does.
+pub fn get_event_types(
+    alloc: Global,
+    meta_info_map: &HashMap<&str, &str>,
+) -> Result<Option<Vec<SimplePerfEventType>>, AllocError>
+    ensures { IfOk result (λ events. GivesEventTypes (text_at meta_info_map.now event_type_info) events) }
+{
+    match meta_info_map.get(EVENT_TYPE_INFO) {
+        Some(text) => events_of(alloc, text),
+        None => Ok(None),
+    }
+}
+
+#[cfg(test)]
+mod tests {
+    use super::*;
+    use std::test::Fail;
+
+    #[test]
+    fn tells_the_events_of_the_lines(rt: HostRuntime) -> Result<(), Fail> {
+        for (text, expected) in [
+            (
+                "cpu-clock,1,0\nsched:sched_switch,2,45",
+                [("cpu-clock", 1, 0), ("sched:sched_switch", 2, 45)].as_slice(),
+            ),
+            ("a,0,+2", &[("a", 0, 2)]),
+            (",+18446744073709551615,007,x,", &[("", u64::MAX, 7)]),
+        ] {
+            let mut map = HashMap::new(rt.alloc());
+            map.insert("event_type_info", text)?;
+            map.insert("Event_type_info", "")?;
+            let found = get_event_types(rt.alloc(), &map)?;
+            assert!(rt; matches!(&found, Some(events) if events.len() == expected.len()));
+            for events in &found {
+                for (event, (name, type_, config)) in events.iter().zip(expected) {
+                    assert_eq!(rt; event.name.as_str(), *name);
+                    assert_eq!(rt; (event.type_, event.config), (*type_, *config));
+                }
+            }
+        }
+        Ok(())
+    }
+
+    #[test]
+    fn tells_none_where_a_line_lacks_a_part(rt: HostRuntime) -> Result<(), Fail> {
+        for text in [
+            "cpu-clock,1,0\nsched:sched_switch,2,45\n",
+            "cpu-clock,1\nsched:sched_switch,2,45",
+            "a,0,-2",
+            "a,0,",
+            "a,0,18446744073709551616",
+            "a,0,+",
+            "a,0,++2",
+            "a, 0,2",
+            "",
+        ] {
+            let mut map = HashMap::new(rt.alloc());
+            map.insert("event_type_info", text)?;
+            assert!(rt; get_event_types(rt.alloc(), &map)?.is_none(), "{text}");
+        }
+        let mut map = HashMap::new(rt.alloc());
+        map.insert("Event_type_info", "a,0,2")?;
+        assert!(rt; get_event_types(rt.alloc(), &map)?.is_none());
+        Ok(())
+    }
+}

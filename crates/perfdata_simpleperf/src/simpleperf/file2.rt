@@ -1,0 +1,126 @@
+ghost use Rattle.std.specs.Prelude.{◌≡◌, ◌⊎◌, List, IfOk, IfErr, IsErrAnd, MatchResult, map};
+ghost use Rattle.perfdata_simpleperf.specs.File2.{IsFile2Of, File2Fault, TellsFile2, TellsMessage};
+ghost use Rattle.perfdata_simpleperf.specs.FileRecord.{FileValue, record_value};
+ghost use Rattle.perfdata_simpleperf.specs.Pieces.{PieceFault};
+ghost use Rattle.perfdata_simpleperf.specs.Protobuf.Messages.{FileFault};
+ghost use Rattle.perfdata_simpleperf.specs.Protobuf.Values.{IsFileRecord};
+ghost use Rattle.perfdata_parts.specs.declared.error.Error.TheVariants.{Memory};
+ghost use Rattle.perfdata_parts.specs.declared.decode_error.DecodeError.{DecodeError};
+
+use crate::simpleperf::SimpleperfFileRecord;
+use crate::simpleperf::pieces::piece_at;
+use perfdata_base::raw::Endianness;
+use perfdata_parts::decode_error::DecodeError;
+use perfdata_parts::error::Error;
+use std::alloc::Global;
+
+// The record of a message, or the section's error.
+fn record_in(alloc: Global, message: &[u8]) -> Result<SimpleperfFileRecord, Error>
+    ensures found { IfOk result (λ r. IsFileRecord message.now (record_value r)) }
+    ensures fault { IfErr result (λ e. (e ≡ Memory) ⊎ ((f : DecodeError) × FileFault message.now f × TellsMessage f e)) }
+{
+    match SimpleperfFileRecord::decode(alloc, message) {
+        Ok(record) => Ok(record),
+        Err(DecodeError::Memory) => Err(Error::Memory),
+        Err(fault) => Err(Error::ProtobufParsingSimpleperfFileSection(fault)),
+    }
+}
+
+// The records of a section.
+fn read_messages(
+    alloc: Global,
+    bytes: &[u8],
+    endian: Endianness,
+) -> Result<Vec<SimpleperfFileRecord>, Error>
+    ensures found { IfOk result (λ v. IsFile2Of endian bytes.now (map record_value v.items)) }
+    ensures fault { IfErr result (λ e. (e ≡ Memory) ⊎ ((f : PieceFault DecodeError) × File2Fault endian bytes.now f × TellsFile2 f e)) }
+{
+    let mut records = Vec::new(alloc);
+    let mut rest = bytes;
+    'messages: while !rest.is_empty() {
+        let (message, after) = piece_at(endian, rest)?;
+        let record = record_in(alloc, message)?;
+        match records.push(record) {
+            Ok(()) => {}
+            Err(_) => return Err(Error::Memory),
+        }
+        rest = after;
+    }
+    Ok(records)
+}
+
+/// The files with their symbols (section FILE2 of Android's simpleperf): up to the section's end a length of four bytes, and so many bytes of a message.
+///
+/// `IoError` of kind `UnexpectedEof` where a length isn't there whole, `FeatureSectionTooSmall` where it goes beyond the section,
+/// `ProtobufParsingSimpleperfFileSection` where a message can't be read. The first fault from the left is answered.
+pub fn parse_file2_section(
+    alloc: Global,
+    bytes: &[u8],
+    endian: Endianness,
+) -> Result<Vec<SimpleperfFileRecord>, Error>
+    // The section's messages have these values.
+    ensures found { IfOk result (λ v. IsFile2Of endian bytes.now (map record_value v.items)) }
+    // Messages are read, unless memory runs out, and have no other values.
+    ensures only { (vs : List FileValue) → IsFile2Of endian bytes.now vs → MatchResult result (λ v. map record_value v.items ≡ vs) (λ e. e ≡ Memory) }
+    // A refusal tells a fault with only whole messages before it, unless memory ran out.
+    ensures fault { IfErr result (λ e. (e ≡ Memory) ⊎ ((f : PieceFault DecodeError) × File2Fault endian bytes.now f × TellsFile2 f e)) }
+    // Such a fault is refused, by its error, unless memory runs out before it.
+    ensures first { (f : PieceFault DecodeError) → File2Fault endian bytes.now f → IsErrAnd result (λ e. (e ≡ Memory) ⊎ TellsFile2 f e) }
+{
+    read_messages(alloc, bytes, endian)
+}
+
+#[cfg(test)]
+mod tests {
+    use super::*;
+    use std::io::ErrorKind;
+    use std::test::Fail;
+
+    // A length and a message of 20 bytes.
+    fn section(length: [u8; 4]) -> [u8; 24] {
+        let [a, b, c, d] = length;
+        [
+            a, b, c, d, 0x0a, 1, b'a', 0x10, 2, 0x18, 0x80, 1, 0x40, 5, 0x2a, 4, 0x0a, 2, 1, 2,
+            0x2a, 2, 8, 3,
+        ]
+    }
+
+    #[test]
+    fn reads_each_message(rt: HostRuntime) -> Result<(), Fail> {
+        for (length, endian) in [
+            ([20, 0, 0, 0], Endianness::LittleEndian),
+            ([0, 0, 0, 20], Endianness::BigEndian),
+        ] {
+            let one = section(length);
+            let mut bytes = Vec::from_slice(rt.alloc(), &one)?;
+            for count in 1..3usize {
+                let records = parse_file2_section(rt.alloc(), &bytes, endian)?;
+                assert_eq!(rt; records.len(), count);
+                for record in &records {
+                    assert_eq!(rt; record.path.as_str(), "a");
+                    assert_eq!(rt; record.min_vaddr, 128);
+                }
+                bytes.extend_from_slice(&one)?;
+            }
+        }
+        Ok(())
+    }
+
+    #[test]
+    fn refuses_what_is_cut(rt: HostRuntime) {
+        let endian = Endianness::LittleEndian;
+        let cut = parse_file2_section(rt.alloc(), &[20, 0, 0], endian);
+        assert!(rt; matches!(&cut, Err(Error::IoError(e)) if e.kind() == ErrorKind::UnexpectedEof));
+        let long = parse_file2_section(rt.alloc(), &section([21, 0, 0, 0]), endian);
+        assert!(rt; matches!(&long, Err(Error::FeatureSectionTooSmall)));
+        let bad = parse_file2_section(rt.alloc(), &[1, 0, 0, 0, 0x80], endian);
+        assert!(rt;
+            matches!(
+                &bad,
+                Err(Error::ProtobufParsingSimpleperfFileSection(DecodeError::Truncated))
+            )
+        );
+        let none = parse_file2_section(rt.alloc(), &[], endian);
+        assert!(rt; matches!(&none, Ok(records) if records.is_empty()));
+    }
+}

@@ -1,0 +1,244 @@
+-- What the records of a pipe that were listed come to.
+use Rattle.std.proofs.Common.{◌≡◌, ◌≢◌, ℕ, ◌+◌, ◌^◌, ◌<◌, ◌≤◌, ◌++◌, List, [], ◌∷◌, length, take, drop, refl, sym, ap, ◌∙◌, subst, Option, None, Some, Ok, Err, Result, inl, inr, arith, append_assoc, append-nil, length-append, nat_eq}
+use Rattle.std.specs.Prelude.{◌⊎◌, ◌↔◌, IfSome, IsSome}
+use Rattle.std.specs.List.{concat}
+use Rattle.std.specs.Map.{update_all}
+use Rattle.std.specs.Io.KnownBytes.{Appends}
+use Rattle.std.proofs.KnownBytes.{Appends-nil}
+use Rattle.perfdata_base.specs.Source.{State, prepend, Gave, GaveNone, Failed, Paused}
+use Rattle.perfdata_base.specs.Features.{HasFeature}
+use Rattle.perfdata_base.specs.declared.raw.Endianness.{Endianness}
+use Rattle.perfdata_base.proofs.Cut.{none_or_paused}
+use Rattle.perfdata_base.proofs.Gives.{failed_later, paused_later}
+use Rattle.perfdata_parts.specs.declared.error.Error.{Error}
+use Rattle.linux_perf_data.specs.declared.iter.PerfRecordIter.{PerfRecordIter}
+use Rattle.linux_perf_data.specs.declared.iter.Stage.TheVariants.{Running, Ended}
+use Rattle.linux_perf_data.specs.declared.perf_file.PerfFile.{PerfFile}
+use Rattle.linux_perf_data.specs.Attribute.{Attribute, Rule}
+use Rattle.linux_perf_data.specs.Known.{Knows}
+use Rattle.linux_perf_data.specs.Late.{FileHolds, IsMetadata, BroughtFeature, brought_features}
+use Rattle.linux_perf_data.specs.Layout.{Bound, Handed, End, whole, faulty, Fault, ToCome, attributes_in, brought, handed, kind_of, size_of}
+use Rattle.linux_perf_data.specs.Names.{CanName, Named, event_desc}
+use Rattle.linux_perf_data.specs.Iter.{view, bound_of, RecordsToCome}
+use Rattle.linux_perf_data.specs.OpenedPipe.{EndsThere, HoldsMetadata, KeepsHead, OpensPipe, RefusesPipe, unplaced}
+use Rattle.linux_perf_data.specs.PerfFile.{attributes_of_file, data_of, descriptions_of}
+use Rattle.linux_perf_data.specs.Piece.{Answers}
+use Rattle.linux_perf_data.specs.PipeOpen.{IsPipeHeader, AreMetadata, EndsMetadata, data_told}
+use Rattle.linux_perf_data.proofs.Heads.{kind_front, size_front}
+use Rattle.linux_perf_data.proofs.Layouts.{nothing_more}
+use Rattle.linux_perf_data.proofs.OneLayout.{some_layout}
+use Rattle.linux_perf_data.proofs.Takings.{can_name}
+use Rattle.perflist.specs.Listing.{AreFirst, ComeFirst, EndsFaulty, IsOwn, IsUnfailed, ListedAll, ListedInto, ListedTo, ListsRecords, SourceOwesSome, StopsListing, lines_of}
+use Rattle.perflist.specs.PipeListing.{BeginsPipe, HoldsAll, IsWholePipe, ListedPipe, OfPipe, ReadsPipe, StoppedPipe, StopsListingPipe}
+use Rattle.perflist.specs.declared.list.ListFault.{ListFault}
+use Rattle.perflist.specs.declared.list.ListCause.{ListCause}
+use Rattle.perflist.specs.declared.list.ListCause.TheVariants.{Perf, Jit, Read, Write}
+use Rattle.perflist.proofs.Listings.{first_more, fault_more, if_some_each, owes_since}
+
+-- what is so of the bytes behind a front is so of all bytes
+behind_front : (o left : Option (List ℕ)) (front : List ℕ) (P Q : List ℕ → Type 0) → o ≡ prepend front left → ((rest : List ℕ) → left ≡ Some rest → P rest → Q (front ++ rest)) → IfSome left P → IfSome o Q
+behind_front o left front P Q is each p = go left refl p
+  where
+    go : (l : Option (List ℕ)) → left ≡ l → IfSome l P → IfSome o Q
+    go None none p = subst (λ x. IfSome x Q) (sym (is ∙ ap (prepend front) none)) tt
+    go (Some rest) some p = subst (λ x. IfSome x Q) (sym (is ∙ ap (prepend front) some)) (each rest some p)
+
+module _ {R : Type 0} (seen : R → State) (old : State) (file : PerfFile) (it : PerfRecordIter R) (o : OpensPipe seen old file it) where
+  abbrev front : List ℕ
+  front = o.header ++ concat o.pieces
+
+  begins : (rest : List ℕ) → BeginsPipe it.endian o.pieces (front ++ rest) rest
+  begins rest = record { header = o.header; cut = append_assoc o.header (concat o.pieces) rest; is = o.is; are = o.are }
+
+  rule : Rule (attributes_of_file file)
+  rule = o.knows.rule
+
+  told_rule : Rule (attributes_in it.endian None o.pieces)
+  told_rule = subst Rule o.holds.attributes rule
+
+  -- what an iterator is yet to hand out is what stands behind the opening
+  abbrev Come : List ℕ → List Handed → End → Type 0
+  Come rest = ToCome it.endian rest (bound_of seen it) it.offset it.round (attributes_of_file file)
+
+  abbrev Told : List ℕ → List Handed → End → Type 0
+  Told rest = ToCome it.endian rest None 0 0 (attributes_in it.endian None o.pieces)
+
+  same_come : Come ≡ Told
+  same_come = λ i rest. ToCome it.endian rest (o.bound i) (o.offset i) (o.round i) (o.holds.attributes i)
+
+  -- the `PerfFile` holds what came in all
+  pub holds_all : (records : List Handed) (file' : PerfFile) → FileHolds it.endian (bound_of seen it) records file file' → HoldsAll it.endian o.pieces records file'
+  holds_all records file' h = record {
+    is = h.stays ∙ o.holds.is;
+    attributes = h.attributes ∙ (λ i. o.holds.attributes i ++ brought it.endian (o.bound i) records);
+    kept = λ n. h.kept n ∙ (λ i. update_all nat_eq (λ m. o.holds.kept m i) (brought_features it.endian (o.bound i) records) n);
+    features = λ n. (
+      λ is. elim ((h.features n).0 is) [
+        | inl first ↦ inl ((o.holds.features n).0 first)
+        | inr later ↦ inr (later.0, subst (λ b. BroughtFeature it.endian b n records) o.bound later.1)
+      ],
+      λ is. elim is [
+        | inl first ↦ (h.features n).1 (inl ((o.holds.features n).1 first))
+        | inr later ↦ (h.features n).1 (inr (later.0, subst (λ b. BroughtFeature it.endian b n records) (sym o.bound) later.1))
+      ],
+    );
+    named = h.named o.holds.named;
+  }
+
+  -- its `PerfFile` is the iterator's own
+  pub own_pipe : IsOwn seen it file
+  own_pipe = record { knows = o.knows; names = λ pipe. can_name it.endian (data_of file event_desc) (descriptions_of file) o.holds.named }
+
+  pub unfailed_pipe : IsUnfailed it
+  unfailed_pipe = record { stage = elim o.behind [ inl k ↦ inl k.runs | inr e ↦ inr e.ended ]; fits = (let z = o.offset in omega (arith, z)) }
+
+  module _ (k : KeepsHead seen old front it) where
+    all_bytes : old.bytes ≡ prepend front (view seen it).bytes
+    all_bytes = k.gave.bytes
+
+    -- no record of metadata stands where the iterator does
+    ends_there : (rest : List ℕ) → (view seen it).bytes ≡ Some rest → EndsMetadata it.endian rest
+    ends_there rest is = go (seen it.source).bytes refl
+      where
+        go : (s : Option (List ℕ)) → (seen it.source).bytes ≡ s → EndsMetadata it.endian rest
+        go None none = (let e : Some rest ≡ None = sym is ∙ k.begins.bytes ∙ ap (prepend k.head) none in absurd cc)
+        go (Some more) some = λ long.
+            let e : Some rest ≡ Some (k.head ++ more) = sym is ∙ k.begins.bytes ∙ ap (prepend k.head) some in
+            let same : rest ≡ k.head ++ more = ap (λ s. elim s [ None ↦ rest | Some x ↦ x ]) e in
+            let head_long : 8 ≤ length k.head = (let l = k.long in omega (arith, l)) in (
+              subst (λ n. 8 ≤ n) (sym (ap (size_of it.endian) same ∙ size_front it.endian k.head more head_long)) k.least,
+              λ metadata. k.other (subst IsMetadata (ap (kind_of it.endian) same ∙ kind_front it.endian k.head more head_long) metadata),
+            )
+
+    first_there : (records : List Handed) → AreFirst seen it records → IfSome old.bytes (λ bytes. OfPipe it.endian o.pieces bytes (λ C. ComeFirst C records))
+    first_there records first = behind_front old.bytes (view seen it).bytes front (λ rest. ComeFirst (Told rest) records) (λ bytes. OfPipe it.endian o.pieces bytes (λ C. ComeFirst C records))
+        all_bytes (λ rest is comes. (rest, begins rest, comes))
+        (subst (λ C. IfSome (view seen it).bytes (λ rest. ComeFirst (C rest) records)) same_come (first (attributes_of_file file) o.knows))
+
+    whole_there : (records : List Handed) → RecordsToCome seen it (attributes_of_file file) records whole → IfSome old.bytes (IsWholePipe it.endian o.pieces records)
+    whole_there records come = behind_front old.bytes (view seen it).bytes front (λ rest. Told rest records whole) (IsWholePipe it.endian o.pieces records)
+        all_bytes (λ rest is comes. (rest, begins rest, ends_there rest is, comes))
+        (subst (λ C. IfSome (view seen it).bytes (λ rest. C rest records whole)) same_come come)
+
+    fault_there : (records : List Handed) (e : Error) → EndsFaulty seen it records e → IfSome old.bytes (λ bytes. OfPipe it.endian o.pieces bytes (λ C. (f : Fault) × C records (faulty f) × Answers f e))
+    fault_there records e ends = behind_front old.bytes (view seen it).bytes front (λ rest. (f : Fault) × Told rest records (faulty f) × Answers f e)
+        (λ bytes. OfPipe it.endian o.pieces bytes (λ C. (f : Fault) × C records (faulty f) × Answers f e))
+        all_bytes (λ rest is comes. (rest, begins rest, comes))
+        (subst (λ C. IfSome (view seen it).bytes (λ rest. (f : Fault) × C rest records (faulty f) × Answers f e)) same_come
+        (if_some_each (view seen it).bytes (λ rest. (f : Fault) × ((attrs : List Attribute) → Knows it.endian it.known attrs → ToCome it.endian rest (bound_of seen it) it.offset it.round attrs records (faulty f)) × Answers f e)
+        (λ rest. (f : Fault) × Come rest records (faulty f) × Answers f e) (λ rest f. (f.0, f.1 (attributes_of_file file) o.knows, f.2)) ends))
+
+    pauses : (new : State) → Paused (view seen it) new → Paused old new
+    pauses new p = let q = paused_later (unplaced old) (view seen it) new front k.gave p in record { rose = q.rose; unsteady = q.unsteady }
+
+    owes_there : (new : State) (e : Error) → SourceOwesSome it.endian (bound_of seen it) (view seen it) e new → SourceOwesSome it.endian None (unplaced old) e new
+    owes_there new e owes = subst (λ b. SourceOwesSome it.endian b (unplaced old) e new) o.bound
+        (owes_since it.endian (bound_of seen it) (unplaced old) (view seen it) new e (failed_later (unplaced old) (view seen it) new front k.gave) (paused_later (unplaced old) (view seen it) new front k.gave) owes)
+
+    listed_behind : (new : PerfRecordIter R) (file' : PerfFile) (before after : Option (List ℕ)) (lines : ℕ) → ListedAll seen it file before after lines new file' → ListedPipe old before after lines file'
+    listed_behind new file' before after lines l = record {
+      order = it.endian;
+      pieces = o.pieces;
+      records = l.records;
+      count = l.count;
+      appends = l.appends;
+      holds = holds_all l.records file' l.holds;
+      first = first_there l.records l.first;
+      last = view seen new;
+      are = elim (l.are k.runs) [
+        | inl come ↦ inl (whole_there l.records (come (attributes_of_file file) o.knows))
+        | inr paused ↦ inr (pauses (view seen new) paused.1)
+      ];
+    }
+
+  module _ (e : EndsThere seen old front it) where
+    abbrev left : Option (List ℕ)
+    left = (seen it.source).bytes
+
+    all_came : old.bytes ≡ prepend (front ++ e.last) left
+    all_came = e.taken.bytes
+
+    none_first : (rest : List ℕ) → ComeFirst (Told rest) []
+    none_first rest =
+        let layout = some_layout it.endian rest None 0 (attributes_in it.endian None o.pieces) (omega arith) told_rule in
+        (handed it.endian None 0 0 (attributes_in it.endian None o.pieces) layout.0, (layout.1.0, record { pieces = layout.0; layout = layout.1.1; are = refl }))
+
+    first_none : IfSome old.bytes (λ bytes. OfPipe it.endian o.pieces bytes (λ C. ComeFirst C []))
+    first_none = if_any old.bytes left refl all_came
+      where
+        if_any : (b l : Option (List ℕ)) → left ≡ l → b ≡ prepend (front ++ e.last) left → IfSome b (λ bytes. OfPipe it.endian o.pieces bytes (λ C. ComeFirst C []))
+        if_any b None none is = subst (λ x. IfSome x (λ bytes. OfPipe it.endian o.pieces bytes (λ C. ComeFirst C []))) (sym (is ∙ ap (prepend (front ++ e.last)) none)) tt
+        if_any b (Some more) some is =
+            let cut : b ≡ Some (front ++ (e.last ++ more)) = is ∙ ap (prepend (front ++ e.last)) some ∙ ap Some (append_assoc front e.last more) in
+            subst (λ x. IfSome x (λ bytes. OfPipe it.endian o.pieces bytes (λ C. ComeFirst C []))) (sym cut) (e.last ++ more, begins (e.last ++ more), none_first (e.last ++ more))
+
+    whole_none : left ≡ Some [] → IfSome old.bytes (IsWholePipe it.endian o.pieces [])
+    whole_none is =
+        let cut : old.bytes ≡ Some (front ++ e.last) = all_came ∙ ap (prepend (front ++ e.last)) is ∙ ap Some (append-nil (front ++ e.last)) in
+        let few = e.short in
+        subst (λ x. IfSome x (IsWholePipe it.endian o.pieces [])) (sym cut) (
+          e.last,
+          begins e.last,
+          (λ long. absurd (omega (arith, few, long))),
+          nothing_more it.endian e.last None 0 0 (attributes_in it.endian None o.pieces) (omega arith) told_rule (λ long. absurd (omega (arith, few, long))),
+        )
+
+    listed_none : (new : PerfRecordIter R) (file' : PerfFile) (before after : Option (List ℕ)) (lines : ℕ) → ListedAll seen it file before after lines new file' → ListedPipe old before after lines file'
+    listed_none new file' before after lines l =
+        let none = l.over e.ended in record {
+          order = it.endian;
+          pieces = o.pieces;
+          records = l.records;
+          count = l.count;
+          appends = l.appends;
+          holds = holds_all l.records file' l.holds;
+          first = subst (λ rs. IfSome old.bytes (λ bytes. OfPipe it.endian o.pieces bytes (λ C. ComeFirst C rs))) (sym none) first_none;
+          last = seen it.source;
+          are = elim (none_or_paused old (seen it.source) e.none) [
+            | inl is ↦ inl (subst (λ rs. IfSome old.bytes (IsWholePipe it.endian o.pieces rs)) (sym none) (whole_none is))
+            | inr paused ↦ inr paused
+          ];
+        }
+
+  stopped : (new : PerfRecordIter R) (before after : Option (List ℕ)) (lines : ℕ) (cause : ListCause) → KeepsHead seen old front it → StopsListing seen it before after lines cause new → StopsListingPipe old before after lines cause
+  stopped new before after lines (Perf e) k l = record {
+    records = l.records;
+    count = l.count;
+    appends = l.appends;
+    why = inr (record {
+      order = it.endian;
+      pieces = o.pieces;
+      left = view seen new;
+      first = first_there k l.records l.first;
+      why = λ other. elim (l.reason other) [ inl ends ↦ inl (fault_there k l.records e ends) | inr owes ↦ inr (owes_there k (view seen new) e owes) ];
+    });
+  }
+  stopped new before after lines (Write e) k l = record {
+    order = it.endian;
+    pieces = o.pieces;
+    records = l.records;
+    next = l.next;
+    count = l.count;
+    wrote = l.wrote;
+    first = first_there k (l.records ++ l.next ∷ []) l.first;
+  }
+  stopped new before after lines (Jit e) k l = elim l [ ]
+  stopped new before after lines (Read e) k l = elim l [ ]
+
+  -- an iterator that had ended refuses nothing
+  runs_or_not : (new : PerfRecordIter R) (before after : Option (List ℕ)) (lines : ℕ) (cause : ListCause) → EndsThere seen old front it → StopsListing seen it before after lines cause new → ⊥
+  runs_or_not new before after lines (Perf e) ended l = (let r = l.ran in let s = ended.ended in absurd cc)
+  runs_or_not new before after lines (Write e) ended l = (let r = l.ran in let s = ended.ended in absurd cc)
+  runs_or_not new before after lines (Jit e) ended l = elim l [ ]
+  runs_or_not new before after lines (Read e) ended l = elim l [ ]
+
+  -- a pipe was opened, and its records were listed
+  pub listed_pipe : (new : PerfRecordIter R) (file' : PerfFile) (before after : Option (List ℕ)) (lines : ℕ) → ListedAll seen it file before after lines new file' → ListedPipe old before after lines file'
+  listed_pipe new file' before after lines l = elim o.behind [ inl k ↦ listed_behind k new file' before after lines l | inr e ↦ listed_none e new file' before after lines l ]
+
+  pub stopped_pipe : (new : PerfRecordIter R) (before after : Option (List ℕ)) (lines : ℕ) (cause : ListCause) → StopsListing seen it before after lines cause new → StopsListingPipe old before after lines cause
+  stopped_pipe new before after lines cause l = elim o.behind [ inl k ↦ stopped new before after lines cause k l | inr e ↦ absurd (runs_or_not new before after lines cause e l) ]
+
+-- a pipe was refused
+pub refused_pipe : {R : Type 0} (seen : R → State) (old : State) (e : Error) (out : Option (List ℕ)) → RefusesPipe seen old e → StoppedPipe old out out 0 e
+refused_pipe seen old e out refused = record { records = []; count = refl; appends = Appends-nil out; why = inl (refl, (refused.left, refused.refused)) }

@@ -1,0 +1,162 @@
+//! The cases of jitdump files.
+use crate::jit::list_jit;
+use crate::list::{ListCause, ListFault};
+use crate::tests::Twenty;
+use linux_perf_data::source::{Counted, Script, Step};
+use std::alloc::{AllocError, Global};
+use std::io::{Cursor, ErrorKind};
+use std::test::Fail;
+
+/// A header of 40 bytes, a load record of 62 at 9, and a closing one of 16 at 11.
+pub const FILE: [u8; 118] = [
+    0x44, 0x54, 0x69, 0x4a, 1, 0, 0, 0, 40, 0, 0, 0, 62, 0, 0, 0, 0, 0, 0, 0, 7, 0, 0, 0, 5, 0, 0,
+    0, 0, 0, 0, 0, 0, 0, 0, 0, 0, 0, 0, 0, 0, 0, 0, 0, 62, 0, 0, 0, 9, 0, 0, 0, 0, 0, 0, 0, 7, 0,
+    0, 0, 7, 0, 0, 0, 0, 0x10, 0, 0, 0, 0, 0, 0, 0, 0x10, 0, 0, 0, 0, 0, 0, 2, 0, 0, 0, 0, 0, 0, 0,
+    0, 0, 0, 0, 0, 0, 0, 0, b'f', b'o', b'o', 0, 0x90, 0xc3, 3, 0, 0, 0, 16, 0, 0, 0, 11, 0, 0, 0,
+    0, 0, 0, 0,
+];
+
+const FIRST: &[u8] = b"40 9 0 62\n";
+
+const LINES: &[u8] = b"40 9 0 62\n102 11 3 16\n";
+
+/// Of what node 20.20 wrote by `--perf-prof`: the header, its first record (of unwinding), and the smallest of debug info and
+/// of code, cut out at their boundaries.
+const NODE: [u8; 369] = [
+    68, 84, 105, 74, 1, 0, 0, 0, 40, 0, 0, 0, 62, 0, 0, 0, 239, 190, 173, 222, 13, 106, 0, 0, 214,
+    11, 75, 21, 221, 96, 6, 0, 0, 0, 0, 0, 0, 0, 0, 0, 4, 0, 0, 0, 64, 0, 0, 0, 22, 195, 80, 160,
+    184, 2, 0, 0, 20, 0, 0, 0, 0, 0, 0, 0, 20, 0, 0, 0, 0, 0, 0, 0, 0, 0, 0, 0, 0, 0, 0, 0, 1, 27,
+    3, 59, 0, 0, 0, 0, 0, 0, 0, 0, 0, 0, 0, 0, 0, 0, 0, 0, 0, 0, 0, 0, 2, 0, 0, 0, 128, 0, 0, 0,
+    227, 245, 116, 164, 184, 2, 0, 0, 128, 97, 124, 211, 35, 127, 0, 0, 3, 0, 0, 0, 0, 0, 0, 0,
+    192, 97, 124, 211, 35, 127, 0, 0, 1, 0, 0, 0, 22, 0, 0, 0, 41, 246, 3, 0, 0, 0, 0, 0, 217, 128,
+    169, 39, 122, 88, 31, 0, 194, 97, 124, 211, 35, 127, 0, 0, 1, 0, 0, 0, 31, 0, 0, 0, 41, 246, 3,
+    0, 0, 0, 0, 0, 217, 128, 169, 39, 122, 88, 31, 0, 197, 97, 124, 211, 35, 127, 0, 0, 1, 0, 0, 0,
+    35, 0, 0, 0, 41, 246, 3, 0, 0, 0, 0, 0, 217, 128, 169, 39, 122, 88, 31, 0, 0, 0, 0, 0, 137, 0,
+    0, 0, 228, 248, 116, 164, 184, 2, 0, 0, 13, 106, 0, 0, 13, 106, 0, 0, 128, 97, 124, 211, 35,
+    127, 0, 0, 128, 97, 124, 211, 35, 127, 0, 0, 52, 0, 0, 0, 0, 0, 0, 0, 150, 8, 0, 0, 0, 0, 0, 0,
+    74, 83, 58, 94, 97, 100, 100, 32, 47, 116, 109, 112, 47, 106, 105, 116, 47, 104, 111, 116, 46,
+    106, 115, 58, 49, 58, 49, 51, 0, 51, 219, 73, 188, 129, 178, 252, 197, 234, 56, 0, 0, 232, 175,
+    102, 228, 31, 72, 139, 69, 32, 72, 139, 85, 24, 51, 219, 232, 224, 43, 234, 31, 187, 3, 0, 0,
+    0, 72, 199, 193, 250, 255, 255, 255, 233, 15, 105, 228, 31, 204, 204, 204,
+];
+
+const NODE_LINES: &[u8] =
+    b"40 2991986885398 4 64\n104 2992056366563 2 128\n232 2992056367332 0 137\n";
+
+/// How a listing ends.
+#[derive(Clone, Copy, Debug, PartialEq, Eq)]
+enum End {
+    Whole,
+    Unopened,
+    Read(ErrorKind),
+    Write(ErrorKind),
+    Other,
+}
+
+// How it ended, and how many lines it tells.
+fn end_of(listed: Result<u64, ListFault>) -> (End, u64) {
+    match listed {
+        Ok(lines) => (End::Whole, lines),
+        Err(fault) => {
+            let end = match fault.cause {
+                ListCause::Jit(_) => End::Unopened,
+                ListCause::Read(error) => End::Read(error.kind()),
+                ListCause::Write(error) => End::Write(error.kind()),
+                ListCause::Perf(_) => End::Other,
+            };
+            (end, fault.lines)
+        }
+    }
+}
+
+#[test]
+fn lists_a_jitdump_file(rt: HostRuntime) -> Result<(), Fail> {
+    let mut out: Vec<u8> = Vec::new(rt.alloc());
+    assert_eq!(rt;
+        end_of(list_jit(rt.alloc(), &FILE[..], &mut out)),
+        (End::Whole, 2)
+    );
+    assert_eq!(rt; out.as_slice(), LINES);
+    let mut again: Vec<u8> = Vec::new(rt.alloc());
+    let file = Counted::new(Cursor::new(&FILE[..]));
+    assert_eq!(rt;
+        end_of(list_jit(rt.alloc(), file, &mut again)),
+        (End::Whole, 2)
+    );
+    assert_eq!(rt; again.as_slice(), LINES);
+    Ok(())
+}
+
+#[test]
+fn lists_what_node_wrote(rt: HostRuntime) -> Result<(), Fail> {
+    let mut out: Vec<u8> = Vec::new(rt.alloc());
+    assert_eq!(rt;
+        end_of(list_jit(rt.alloc(), &NODE[..], &mut out)),
+        (End::Whole, 3)
+    );
+    assert_eq!(rt; out.as_slice(), NODE_LINES);
+    Ok(())
+}
+
+#[test]
+fn lists_what_is_whole(rt: HostRuntime) -> Result<(), Fail> {
+    // how many bytes there are, how it ends, how many lines it tells, and which
+    let cases: [(usize, End, u64, &[u8]); 7] = [
+        (0, End::Unopened, 0, b""),
+        (39, End::Unopened, 0, b""),
+        (40, End::Whole, 0, b""),
+        (101, End::Whole, 0, b""),
+        (102, End::Whole, 1, FIRST),
+        (117, End::Whole, 1, FIRST),
+        (118, End::Whole, 2, LINES),
+    ];
+    for (shown, end, lines, wanted) in cases {
+        assert!(rt; shown <= FILE.len());
+        let mut out: Vec<u8> = Vec::new(rt.alloc());
+        let listed = list_jit(rt.alloc(), &FILE[..shown], &mut out);
+        assert_eq!(rt; end_of(listed), (end, lines), "{shown}");
+        assert_eq!(rt; out.as_slice(), wanted, "{shown}");
+    }
+    let mut bytes = FILE;
+    bytes[106] = 15;
+    let mut out: Vec<u8> = Vec::new(rt.alloc());
+    let listed = list_jit(rt.alloc(), &bytes[..], &mut out);
+    assert_eq!(rt; end_of(listed), (End::Read(ErrorKind::InvalidData), 1));
+    assert_eq!(rt; out.as_slice(), FIRST);
+    Ok(())
+}
+
+// A source of the file whose reads do this.
+fn scripted(alloc: Global, steps: &[Step]) -> Result<Script, AllocError> {
+    let bytes = Vec::from_slice(alloc, &FILE)?;
+    let steps = Vec::from_slice(alloc, steps)?;
+    Ok(Script::new(bytes, FILE.len(), steps, Vec::new(alloc)))
+}
+
+#[test]
+fn tells_lines_before_a_fault(rt: HostRuntime) -> Result<(), Fail> {
+    let fault = Step::Fault(ErrorKind::TimedOut);
+    let failed = End::Read(ErrorKind::TimedOut);
+    let cases: [(&[Step], End, &[u8]); 4] = [
+        (&[Step::Give(39), fault], End::Unopened, b""),
+        (&[Step::Give(40), Step::Pause, fault], failed, b""),
+        (&[Step::Give(102), Step::Pause, fault], failed, FIRST),
+        (&[Step::Give(110), Step::Pause, fault], failed, FIRST),
+    ];
+    for (steps, end, wanted) in cases {
+        let mut out: Vec<u8> = Vec::new(rt.alloc());
+        let listed = list_jit(rt.alloc(), scripted(rt.alloc(), steps)?, &mut out);
+        let lines = if wanted.is_empty() { 0 } else { 1 };
+        assert_eq!(rt; end_of(listed), (end, lines));
+        assert_eq!(rt; out.as_slice(), wanted);
+    }
+    Ok(())
+}
+
+#[test]
+fn tells_lines_before_a_refused_write(rt: HostRuntime) {
+    let mut out = Twenty { taken: 0 };
+    let listed = list_jit(rt.alloc(), &FILE[..], &mut out);
+    assert_eq!(rt; end_of(listed), (End::Write(ErrorKind::StorageFull), 1));
+    assert_eq!(rt; out.taken, 20);
+}

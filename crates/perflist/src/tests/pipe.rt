@@ -1,0 +1,423 @@
+//! The cases of pipes: their lines, how their reading ends, and how far their source is read.
+use super::image::{Image, Part};
+use super::{End, FIRST, end_of, end_of_error, lines_of, lists};
+use crate::list::list_pipe;
+use linux_perf_data::source::{Counted, Script, Source, Step};
+use linux_perf_data::{Endianness, Feature, PerfFileReader};
+use std::alloc::{AllocError, Global};
+use std::io::{BufReader, Cursor, ErrorKind};
+use std::process::Abort;
+use std::test::Fail;
+
+/// A pipe of these parts behind its header.
+pub fn piped(alloc: Global, endian: Endianness, parts: &[Part<'_>]) -> Result<Image, AllocError> {
+    let mut image = Image::pipe(alloc, endian)?;
+    for part in parts {
+        image.part(*part)?;
+    }
+    Ok(image)
+}
+
+/// A little-endian one.
+pub fn little(alloc: Global, parts: &[Part<'_>]) -> Result<Image, AllocError> {
+    piped(alloc, Endianness::LittleEndian, parts)
+}
+
+/// A source of these bytes whose reads do these steps in turn.
+fn scripted(alloc: Global, bytes: &[u8], steps: Vec<Step>) -> Result<Script, AllocError> {
+    let copy = Vec::from_slice(alloc, bytes)?;
+    Ok(Script::new(copy, bytes.len(), steps, Vec::new(alloc)))
+}
+
+/// So many steps of one kind.
+fn steps_of(alloc: Global, step: Step, count: usize) -> Result<Vec<Step>, AllocError> {
+    let mut steps = Vec::new(alloc);
+    for _ in 0..count {
+        steps.push(step)?;
+    }
+    Ok(steps)
+}
+
+/// Lists a pipe from a source, and compares the lines, their number and the end with what is wanted.
+fn pipes<R: Source + Drop>(
+    rt: &(impl Abort + AllocGlobal),
+    name: &str,
+    way: &str,
+    source: R,
+    wanted: &str,
+    end: End,
+) {
+    let mut out: Vec<u8> = Vec::new(rt.alloc());
+    let listed = list_pipe(rt.alloc(), source, &mut out);
+    assert_eq!(rt; end_of(&listed), end, "{name}, {way}");
+    assert_eq!(rt;
+        lines_of(&listed),
+        wanted.lines().count() as u64,
+        "{name}, {way}"
+    );
+    assert_eq!(rt; out.as_slice(), wanted.as_bytes(), "{name}, {way}");
+}
+
+/// Lists a pipe in four ways.
+pub fn shows(
+    rt: &(impl Abort + AllocGlobal),
+    name: &str,
+    bytes: &[u8],
+    wanted: &str,
+    end: End,
+) -> Result<(), Fail> {
+    pipes(rt, name, "lent", bytes, wanted, end);
+    let copy = Vec::from_slice(rt.alloc(), bytes)?;
+    pipes(rt, name, "owned", Cursor::new(copy), wanted, end);
+    let buffered = BufReader::new(rt.alloc(), bytes)?;
+    pipes(rt, name, "counted", Counted::new(buffered), wanted, end);
+    let steps = steps_of(rt.alloc(), Step::Give(1), bytes.len())?;
+    let source = scripted(rt.alloc(), bytes, steps)?;
+    pipes(rt, name, "one byte a read", source, wanted, end);
+    Ok(())
+}
+
+/// What such a pipe comes to.
+pub fn reads(
+    rt: &(impl Abort + AllocGlobal),
+    name: &str,
+    parts: &[Part<'_>],
+    wanted: &str,
+    end: End,
+) -> Result<(), Fail> {
+    let image = little(rt.alloc(), parts)?;
+    shows(rt, name, &image.bytes, wanted, end)
+}
+
+const PLAIN: Part<'_> = Part::Attribute(4, 0, &[]);
+
+/// Two attributes that list the same identifier, and two samples.
+pub const TWO: [Part<'_>; 4] = [
+    Part::Attribute(0x10004, 0, &[5]),
+    Part::Attribute(0x10004, 0, &[5]),
+    Part::Identified(5, 7),
+    Part::Identified(6, 8),
+];
+
+const TWO_LINES: &str = "0 0 7 1 9 0 16\n24 0 8 0 9 0 16\n";
+
+/// An attribute, a record with one byte of auxiliary data, and a sample: 153 bytes.
+const TRACED: [Part<'_>; 3] = [PLAIN, Part::Trace(1, &[0]), Part::Sample(20)];
+
+const TRACED_LINES: &str = "0 0 - - 71 0 41\n49 0 20 0 9 0 8\n";
+
+const TRACE_LINE: &str = "0 0 - - 71 0 41\n";
+
+#[test]
+fn lines_of_pipes(rt: HostRuntime) -> Result<(), Fail> {
+    for endian in [Endianness::LittleEndian, Endianness::BigEndian] {
+        let image = piped(rt.alloc(), endian, &TWO)?;
+        shows(&rt, "two attributes", &image.bytes, TWO_LINES, End::Whole)?;
+        let image = piped(rt.alloc(), endian, &TRACED)?;
+        assert_eq!(rt; image.bytes.len(), 153);
+        shows(&rt, "a trace", &image.bytes, TRACED_LINES, End::Whole)?;
+    }
+    reads(
+        &rt,
+        "a marker's body",
+        &[PLAIN, Part::Marker(16), Part::Sample(3)],
+        "16 1 3 0 9 0 8\n",
+        End::Whole,
+    )
+}
+
+#[test]
+fn attributes_of_pipes_are_refused(rt: HostRuntime) -> Result<(), Fail> {
+    let first = Part::Attribute(0x10004, 0, &[]);
+    let lacks = [first, Part::Attribute(4, 0, &[])];
+    let differs = [first, Part::Attribute(0x10004, 0x40000, &[])];
+    for (name, parts, end) in [
+        ("no IDENTIFIER", lacks.as_slice(), End::Lacks(1)),
+        ("another SAMPLE_ID_ALL", &differs, End::Differs(1)),
+        ("no attributes", &[], End::NoAttributes),
+        ("a record alone", &[Part::Sample(3)], End::NoAttributes),
+    ] {
+        reads(&rt, name, parts, "", end)?;
+    }
+    Ok(())
+}
+
+#[test]
+fn ends_of_pipes(rt: HostRuntime) -> Result<(), Fail> {
+    let sample = [PLAIN, Part::Head(9, 0, 16), Part::Filled(0, 4)];
+    let compressed = [PLAIN, Part::Head(81, 0, 16), Part::Filled(0, 4)];
+    let marker = [PLAIN, Part::Head(68, 0, 16), Part::Filled(0, 4)];
+    let small = [PLAIN, Part::Head(9, 0, 7)];
+    let small_first = [Part::Head(64, 0, 7)];
+    let whole = [PLAIN, Part::Head(81, 0, 16), Part::Filled(0, 8)];
+    let trace = [PLAIN, Part::Head(71, 0, 47), Part::Filled(0, 39)];
+    for (name, parts, end) in [
+        ("a cut sample", sample.as_slice(), End::Whole),
+        ("a cut compressed record", &compressed, End::Whole),
+        ("a cut marker", &marker, End::Whole),
+        ("a compressed record", &whole, End::Unsupported),
+        ("a short body of auxiliary data", &trace, End::Short),
+        ("a size of 7", &small, End::Size),
+        ("a size of 7 in front", &small_first, End::Size),
+    ] {
+        reads(&rt, name, parts, "", end)?;
+    }
+    Ok(())
+}
+
+/// How a pipe's opening ends, whatever comes of its records.
+fn opening_of(rt: &impl AllocGlobal, bytes: &[u8]) -> End {
+    match PerfFileReader::parse_pipe(rt.alloc(), bytes) {
+        Ok(_) => End::Whole,
+        Err(error) => end_of_error(&error),
+    }
+}
+
+#[test]
+fn every_cut_of_a_pipe(rt: HostRuntime) -> Result<(), Fail> {
+    let image = little(rt.alloc(), &TRACED)?;
+    for (index, _) in image.bytes.iter().enumerate() {
+        let cut = image.bytes.get(..index).unwrap_or(&[]);
+        let name = format!(in rt.alloc(); "cut to {index}")?;
+        let (opening, lines, end) = match index {
+            0..=15 => (End::Short, "", End::Short),
+            16..=23 => (End::NoAttributes, "", End::NoAttributes),
+            24..=87 => (End::Short, "", End::Short),
+            88..=135 => (End::Whole, "", End::Whole),
+            136 => (End::Whole, "", End::Data),
+            _ => (End::Whole, TRACE_LINE, End::Whole),
+        };
+        assert_eq!(rt; opening_of(&rt, cut), opening, "{name}");
+        shows(&rt, &name, cut, lines, end)?;
+    }
+    Ok(())
+}
+
+/// How many of a pipe's bytes are left once it is opened and so many records are asked for.
+fn left_after(rt: &(impl Abort + AllocGlobal), bytes: &[u8], calls: usize) -> Result<usize, Fail> {
+    let mut rest = bytes;
+    let PerfFileReader {
+        mut perf_file,
+        mut record_iter,
+    } = PerfFileReader::parse_pipe(rt.alloc(), &mut rest)?;
+    for _ in 0..calls {
+        assert!(rt; record_iter.next_record(&mut perf_file)?.is_some());
+    }
+    drop(record_iter);
+    Ok(rest.len())
+}
+
+#[test]
+fn nothing_is_read_ahead(rt: HostRuntime) -> Result<(), Fail> {
+    let image = little(rt.alloc(), &TRACED)?;
+    for (calls, left) in [(0usize, 57usize), (1, 16), (2, 0)] {
+        assert_eq!(rt; left_after(&rt, &image.bytes, calls)?, left, "{calls}");
+    }
+    Ok(())
+}
+
+#[test]
+fn a_longer_header(rt: HostRuntime) -> Result<(), Fail> {
+    let mut image = little(rt.alloc(), &[])?;
+    for (slot, byte) in image.bytes.iter_mut().skip(8).zip([20u8]) {
+        *slot = byte;
+    }
+    image.filled(7, 2)?;
+    shows(&rt, "it ends early", &image.bytes, "", End::NoAttributes)?;
+    image.filled(7, 2)?;
+    image.part(PLAIN)?;
+    image.sample(3)?;
+    let line = "0 0 3 0 9 0 8\n";
+    shows(&rt, "four bytes more", &image.bytes, line, End::Whole)?;
+    let zeros = [0u8; 16];
+    shows(&rt, "zeros", &zeros, "", End::ZeroMagic)
+}
+
+const LINE: &str = "0 0 3 0 9 0 8\n";
+
+#[test]
+fn features_of_pipes(rt: HostRuntime) -> Result<(), Fail> {
+    let parts = [PLAIN, Part::Feature(300, b"a"), Part::Sample(3)];
+    reads(&rt, "feature 300", &parts, LINE, End::Whole)?;
+    let image = little(rt.alloc(), &parts)?;
+    let reader = PerfFileReader::parse_pipe(rt.alloc(), image.bytes.as_slice())?;
+    assert!(rt; reader.perf_file.features().is_empty());
+    let data = reader.perf_file.feature_section_data(Feature(300));
+    assert_eq!(rt; data, Some(b"a".as_slice()));
+    let parts = [
+        Part::Feature(3, &[1, 0, 0, 0, b'a']),
+        PLAIN,
+        Part::Feature((1 << 32) + 3, &[1, 0, 0, 0, b'b']),
+    ];
+    let image = little(rt.alloc(), &parts)?;
+    let reader = PerfFileReader::parse_pipe(rt.alloc(), image.bytes.as_slice())?;
+    assert_eq!(rt; reader.perf_file.features().len(), 1);
+    assert_eq!(rt; reader.perf_file.hostname()?, Some("b"));
+    let cut = [PLAIN, Part::Head(80, 0, 12), Part::Filled(0, 4)];
+    reads(&rt, "a cut number", &cut, "", End::Short)
+}
+
+/// EVENT_DESC of 90 bytes: the event `c` with the id 5, and frames of this size.
+pub fn described(alloc: Global, endian: Endianness, size: u32) -> Result<Image, AllocError> {
+    lettered(alloc, endian, size, b"c")
+}
+
+/// EVENT_DESC of events with these letters for names, each with the id 5, and frames of this size.
+fn lettered(
+    alloc: Global,
+    endian: Endianness,
+    size: u32,
+    letters: &[u8],
+) -> Result<Image, AllocError> {
+    let mut image = Image::empty(alloc, endian);
+    image.word(u32::try_from(letters.len()).unwrap_or(0))?;
+    image.word(size)?;
+    for letter in letters {
+        image.attribute(4, 0)?;
+        image.word(1)?;
+        image.word(2)?;
+        image.raw(&[*letter, 0])?;
+        image.long(5)?;
+    }
+    Ok(image)
+}
+
+#[test]
+fn the_first_description_names(rt: HostRuntime) -> Result<(), Fail> {
+    for (letters, name) in [
+        (b"cd".as_slice(), Some("c")),
+        (b"\xffd", None),
+        (b"\0d", Some("")),
+        (b"", None),
+    ] {
+        let events = lettered(rt.alloc(), Endianness::LittleEndian, 64, letters)?;
+        let mut image = little(rt.alloc(), &[])?;
+        image.feature(12, &events.bytes)?;
+        image.described(4, 0, &[5])?;
+        let reader = PerfFileReader::parse_pipe(rt.alloc(), image.bytes.as_slice())?;
+        let first = reader.perf_file.event_attributes().first();
+        assert_eq!(rt; first.and_then(|one| one.name()), name, "{letters:?}");
+    }
+    Ok(())
+}
+
+#[test]
+fn event_desc_names_attributes(rt: HostRuntime) -> Result<(), Fail> {
+    let events = described(rt.alloc(), Endianness::LittleEndian, 64)?;
+    assert_eq!(rt; events.bytes.len(), 90);
+    for (id, name) in [(5u64, Some("c")), (6, None)] {
+        let mut image = little(rt.alloc(), &[])?;
+        image.described(4, 0, &[id])?;
+        image.feature(12, &events.bytes)?;
+        image.sample(3)?;
+        shows(&rt, "EVENT_DESC", &image.bytes, LINE, End::Whole)?;
+        let reader = PerfFileReader::parse_pipe(rt.alloc(), image.bytes.as_slice())?;
+        let attributes = reader.perf_file.event_attributes();
+        assert_eq!(rt; attributes.len(), 1);
+        assert_eq!(rt; attributes[0].name(), name);
+        assert_eq!(rt; attributes[0].ids(), [id].as_slice());
+    }
+    let small = described(rt.alloc(), Endianness::LittleEndian, 56)?;
+    let parts = [PLAIN, Part::Feature(12, &small.bytes)];
+    reads(&rt, "a small frame", &parts, "", End::Sizes)
+}
+
+#[test]
+fn symbol_tables_of_pipes(rt: HostRuntime) -> Result<(), Fail> {
+    for (feature, content) in [
+        (132, super::simpleperf::FILE2.as_slice()),
+        (128, super::simpleperf::FILE.as_slice()),
+    ] {
+        let image = little(rt.alloc(), &[PLAIN, Part::Feature(feature, content)])?;
+        let reader = PerfFileReader::parse_pipe(rt.alloc(), image.bytes.as_slice())?;
+        let tables = reader.perf_file.simpleperf_symbol_tables(rt.alloc())?;
+        assert!(rt; matches!(&tables, Some(records) if records.len() == 1));
+    }
+    Ok(())
+}
+
+#[test]
+fn memory_is_there_for_pipes(rt: HostRuntime) -> Result<(), Fail> {
+    for size in 8..601u16 {
+        body_of(&rt, size)?;
+    }
+    for size in [4104, 4105, 65535u16] {
+        body_of(&rt, size)?;
+    }
+    Ok(())
+}
+
+/// One sample of this size whose body is of zeros.
+fn body_of(rt: &(impl Abort + AllocGlobal), size: u16) -> Result<(), Fail> {
+    let long = (size as usize).saturating_sub(8);
+    let parts = [
+        Part::Attribute(0, 0, &[]),
+        Part::Head(9, 0, size),
+        Part::Filled(0, long),
+    ];
+    let wanted = format!(in rt.alloc(); "0 0 - 0 9 0 {long}\n")?;
+    let image = little(rt.alloc(), &parts)?;
+    let source = image.bytes.as_slice();
+    pipes(rt, "a body of zeros", "lent", source, &wanted, End::Whole);
+    Ok(())
+}
+
+#[test]
+fn interrupted_reads(rt: HostRuntime) -> Result<(), Fail> {
+    let file = Image::first(rt.alloc(), Endianness::LittleEndian)?;
+    let steps = steps_of(rt.alloc(), Step::Give(1), file.bytes.len())?;
+    let source = scripted(rt.alloc(), &file.bytes, steps)?;
+    lists(&rt, "a file", "one byte a read", source, FIRST, End::Whole);
+    let pipe = little(rt.alloc(), &TRACED)?;
+    let cases = [
+        (16usize, FIRST, TRACED_LINES, End::Whole),
+        (17, "", "", End::Interrupted),
+    ];
+    for (times, lines, pipe_lines, end) in cases {
+        // the header and the attribute have 168 bytes, and those of the pipe 88
+        let source = interrupted(rt.alloc(), &file.bytes, 168, times)?;
+        lists(&rt, "a file", "interrupted", source, lines, end);
+        let source = interrupted(rt.alloc(), &pipe.bytes, 88, times)?;
+        pipes(&rt, "a pipe", "interrupted", source, pipe_lines, end);
+    }
+    Ok(())
+}
+
+/// A source that gives so many bytes one by one, is then interrupted so often, and gives the rest.
+fn interrupted(
+    alloc: Global,
+    bytes: &[u8],
+    given: usize,
+    times: usize,
+) -> Result<Script, AllocError> {
+    let mut steps = steps_of(alloc, Step::Give(1), given)?;
+    for _ in 0..times {
+        steps.push(Step::Fault(ErrorKind::Interrupted))?;
+    }
+    scripted(alloc, bytes, steps)
+}
+
+/// A source that gives so many bytes and then fails once.
+fn failing(alloc: Global, bytes: &[u8], given: usize) -> Result<Script, AllocError> {
+    let mut steps = steps_of(alloc, Step::Give(1), given)?;
+    steps.push(Step::Fault(ErrorKind::Interrupted))?;
+    steps.push(Step::Fault(ErrorKind::TimedOut))?;
+    scripted(alloc, bytes, steps)
+}
+
+#[test]
+fn a_fault_is_no_end(rt: HostRuntime) -> Result<(), Fail> {
+    let image = little(rt.alloc(), &TRACED)?;
+    for (given, _) in image.bytes.iter().enumerate() {
+        let source = failing(rt.alloc(), &image.bytes, given)?;
+        let (lines, end) = match given {
+            // in the header and the attribute's record, and in a head
+            0..=95 => ("", End::Other),
+            96..=136 => ("", End::Data),
+            137..=144 => (TRACE_LINE, End::Other),
+            _ => (TRACE_LINE, End::Data),
+        };
+        pipes(&rt, "a pipe", "failing", source, lines, end);
+    }
+    Ok(())
+}
