@@ -18,14 +18,14 @@ use Rattle.linux_perf_data.specs.declared.known.Known.{Known}
 use Rattle.linux_perf_data.specs.Attribute.{Attribute, Rule}
 use Rattle.linux_perf_data.specs.Known.{Knows}
 use Rattle.linux_perf_data.specs.Input.{bound_in, view_in}
-use Rattle.linux_perf_data.specs.Late.{IsMetadata, FileTook, SameFile, TakesNot}
+use Rattle.linux_perf_data.specs.Late.{IsMetadata, FileTook, HasContents, Passed, SameFile, TakesNot}
 use Rattle.linux_perf_data.specs.PerfFile.{order_of_file, descriptions_of, features_of, data_of}
-use Rattle.linux_perf_data.specs.Layout.{Bound, Begins, IsEnd, IsTruncated, IsRecord, IsPiece, kind_of, misc_of, Handed, End, whole, faulty, Fault, FaultAt, ToCome, handed_with, handed_at, attributes_of, brought}
+use Rattle.linux_perf_data.specs.Layout.{Bound, Begins, IsEnd, IsTruncated, IsRecord, IsPiece, kind_of, misc_of, Handed, End, whole, faulty, Fault, IsLate, FaultAt, ToCome, handed_with, handed_at, attributes_of, brought}
 use Rattle.linux_perf_data.specs.Piece.{Answers, SourceOwes, WantsMemory}
 use Rattle.linux_perf_data.specs.Iter.{view, bound_of, MayBegin, SameInput, TookPiece, CutPiece, RefusedPiece, FindsRecord, found_with, RecordsToCome, IsAfter, TookRecord, DeclinedRecord, HandsOut, RanOut, AtEnd, LateForeign, Reason, Stops, Refuses, Handing}
 use Rattle.linux_perf_data.proofs.Brought.{brings_none, brought_one}
 use Rattle.linux_perf_data.proofs.Heads.{record_least}
-use Rattle.linux_perf_data.proofs.Takes.{LateFault, Foreign, taken_piece, marker_piece, late_why}
+use Rattle.linux_perf_data.proofs.Takes.{LateFault, Foreign, taken_piece, marker_piece, late_why, wants_memory}
 use Rattle.linux_perf_data.proofs.Layouts.{nothing_more, fault_next, to_come_more}
 
 -- what holds of the bytes to come after a read holds of those before it, in another form
@@ -226,18 +226,19 @@ module _ {R : Type 0} (seen : R → State) where
   owes_same o o' b b' a c came e po pb owes = subst (λ x. SourceOwes x b' a came e c) po (subst (λ x. SourceOwes o x a came e c) pb owes)
 
   reason : (old now new : PerfRecordIter R) (file : PerfFile) (came : List ℕ) (e : Error) → Idles old now → Begins (bound_of seen now) now.offset
-      → IfSome (view seen now).bytes (λ bytes. (f : Fault) × ((attrs : List Attribute) → FaultAt now.endian (bound_of seen now) now.offset attrs bytes f) × Answers f e) ⊎ SourceOwes now.endian (bound_of seen now) (view seen now) came e (view seen new)
+      → IfSome (view seen now).bytes (λ bytes. (f : Fault) × ((attrs : List Attribute) → FaultAt now.endian (bound_of seen now) now.offset attrs bytes f) × (¬ IsLate f) × Answers f e) ⊎ SourceOwes now.endian (bound_of seen now) (view seen now) came e (view seen new)
       → Reason seen old file came e new
   reason old now new file came e i more (inl fault) = inl (
       lift_on (view seen old).bytes (view seen now).bytes i.markers
-      (λ bytes. (f : Fault) × ((attrs : List Attribute) → Knows old.endian old.known attrs → ToComeOf old bytes attrs [] (faulty f)) × Answers f e)
-      (λ bytes. (f : Fault) × ((attrs : List Attribute) → FaultAt now.endian (bound_of seen now) now.offset attrs bytes f) × Answers f e)
+      (λ bytes. (f : Fault) × ((attrs : List Attribute) → Knows old.endian old.known attrs → ToComeOf old bytes attrs [] (faulty f)) × Passed old.endian old.known file f × Answers f e)
+      (λ bytes. (f : Fault) × ((attrs : List Attribute) → FaultAt now.endian (bound_of seen now) now.offset attrs bytes f) × (¬ IsLate f) × Answers f e)
       i.gave.bytes
       (λ rest f. (
         f.0,
         (λ attrs k. i.before rest attrs [] (faulty f.0)
             (fault_next now.endian rest (bound_of seen now) now.offset now.round attrs f.0 i.fits (knows_rule old.endian old.known attrs k) more (f.1 attrs))),
-        f.2,
+        (λ late. absurd (f.2 late)),
+        f.3,
       ))
       fault)
   reason old now new file came e i more (inr source) =
@@ -266,7 +267,7 @@ module _ {R : Type 0} (seen : R → State) where
         place = offset ∙ r.offset ∙ i.offset;
         gave = subst (λ s. Gave (view seen old) (i.markers ++ refused.came) s) (sym same) (gave_more _ _ _ i.markers refused.came i.gave refused.gave);
         held = (let few = refused.few in let b = ap (λ v. length v.items) stopped.body in omega (arith, few, b));
-        memory = λ m. inl (subst (λ o. WantsMemory o refused.came) i.same.order (refused.memory m));
+        memory = λ m. subst (λ o. WantsMemory o refused.came) i.same.order (refused.memory m);
         reason = λ m. reason old now new' file refused.came e i more (elim (refused.why m) [
           | inl fault ↦ inl fault
           | inr owes ↦ inr (subst (λ s. SourceOwes now.endian (bound_of seen now) (view seen now) refused.came e s) (sym same) owes)
@@ -275,10 +276,10 @@ module _ {R : Type 0} (seen : R → State) where
 
   -- a fault of the layout in a record of metadata
   late_fault : (old now piece new : PerfRecordIter R) (file : PerfFile) (head : PerfEventHeader) (e : Error) → Idles old now → (t : TookPiece seen now head piece) → Begins (bound_of seen now) now.offset → bound_of seen now ≡ None → view seen new ≡ view seen piece
-      → LateFault now.endian old.known now.offset t.piece e → Reason seen old file t.piece e new
-  late_fault old now piece new file head e i t more pipe same (f, at, answers) = inl (
+      → LateFault now.endian old.known file now.offset t.piece e → Reason seen old file t.piece e new
+  late_fault old now piece new file head e i t more pipe same (f, at, passed, answers) = inl (
       all_told (view seen old).bytes (view seen piece).bytes (i.markers ++ t.piece)
-      (λ bytes. (f : Fault) × ((attrs : List Attribute) → Knows old.endian old.known attrs → ToComeOf old bytes attrs [] (faulty f)) × Answers f e)
+      (λ bytes. (f : Fault) × ((attrs : List Attribute) → Knows old.endian old.known attrs → ToComeOf old bytes attrs [] (faulty f)) × Passed old.endian old.known file f × Answers f e)
       (gave_more _ _ _ i.markers t.piece i.gave t.gave).bytes
       (λ rest. (
         f,
@@ -286,11 +287,12 @@ module _ {R : Type 0} (seen : R → State) where
             (i.before (t.piece ++ rest) attrs [] (faulty f)
             (fault_next now.endian (t.piece ++ rest) (bound_of seen now) now.offset now.round attrs f i.fits (knows_rule old.endian old.known attrs k) more
             (subst (λ b. FaultAt now.endian b now.offset attrs (t.piece ++ rest) f) (sym pipe) (at rest attrs (subst (λ o. Knows o old.known attrs) (sym i.same.order) k)))))),
+        subst (λ o. Passed o old.known file f) i.same.order passed,
         answers,
       )))
 
   late_reason : (old now piece new : PerfRecordIter R) (file : PerfFile) (head : PerfEventHeader) (e : Error) → Idles old now → (t : TookPiece seen now head piece) → Begins (bound_of seen now) now.offset → bound_of seen now ≡ None
-      → IsMetadata head.type_ → view seen new ≡ view seen piece → LateFault now.endian old.known now.offset t.piece e ⊎ Foreign now.endian old.known file t.piece e → Reason seen old file t.piece e new
+      → IsMetadata head.type_ → view seen new ≡ view seen piece → LateFault now.endian old.known file now.offset t.piece e ⊎ Foreign now.endian old.known file t.piece e → Reason seen old file t.piece e new
   late_reason old now piece new file head e i t more pipe metadata same (inl fault) = late_fault old now piece new file head e i t more pipe same fault
   late_reason old now piece new file head e i t more pipe metadata same (inr foreign) = inr (inr (record {
     pipe = sym i.same.bound ∙ pipe;
@@ -308,14 +310,15 @@ module _ {R : Type 0} (seen : R → State) where
       let held = ap (λ v. length v.items) stopped.body ∙ ap length (d.after.body ∙ t.held other) in
       let order : piece.endian ≡ now.endian = t.same.order in
       let fits : now.offset + length t.piece < 2 ^ 64 = (let o = t.offset in let f = t.fits in omega (arith, o, f)) in
-      let metadata : IsMetadata (kind_of old.endian t.piece) = subst IsMetadata (sym t.kind ∙ ap (λ o. kind_of o t.piece) i.same.order) d.metadata in
       record {
         markers = i.markers;
         came = t.piece;
         place = offset ∙ i.offset;
         gave = subst (λ s. Gave (view seen old) (i.markers ++ t.piece) s) (sym same) (gave_more _ _ _ i.markers t.piece i.gave t.gave);
         held = omega (arith, held);
-        memory = λ m. inr (sym i.same.bound ∙ pipe, subst (λ o. IsRecord o t.piece) i.same.order t.is_record, metadata);
+        memory = λ m.
+            let contents : HasContents now.endian head.type_ piece.body.items = subst (λ o. HasContents o head.type_ piece.body.items) order (d.memory m).1 in
+            subst (λ o. WantsMemory o t.piece) i.same.order (wants_memory now.endian head.type_ t.piece t.is_record t.kind (subst (HasContents now.endian head.type_) (t.held other) contents));
         reason = λ m. late_reason old now piece new' file head e i t more pipe d.metadata same
             (late_why now.endian old.known file now.offset t.piece e t.is_record fits
             (subst (λ k. TakesNot now.endian old.known file k (drop 8 t.piece) e) (sym t.kind)
@@ -426,7 +429,7 @@ module _ {R : Type 0} (seen : R → State) where
         | inl fault ↦ inl (
             lift (view seen old).bytes (view seen now).bytes before.front
             (λ bytes. (f : Fault) × ((attrs : List Attribute) → Knows old.endian old.known attrs → ToCome old.endian bytes (bound_of seen old) old.offset old.round attrs records (faulty f)) × Answers f e)
-            (λ bytes. (f : Fault) × ((attrs : List Attribute) → Knows now.endian now.known attrs → ToCome now.endian bytes (bound_of seen now) now.offset now.round attrs [] (faulty f)) × Answers f e)
+            (λ bytes. (f : Fault) × ((attrs : List Attribute) → Knows now.endian now.known attrs → ToCome now.endian bytes (bound_of seen now) now.offset now.round attrs [] (faulty f)) × Passed now.endian now.known file f × Answers f e)
             before.gave.bytes
             (λ x y is is' f. (
               f.0,
@@ -435,7 +438,7 @@ module _ {R : Type 0} (seen : R → State) where
                   let now' : RecordsToCome seen now (attrs ++ b) [] (faulty f.0) = subst (λ o. IfSome o (λ l. ToComeOf now l (attrs ++ b) [] (faulty f.0))) (sym is') (f.1 (attrs ++ b) (before.knows attrs k)) in
                   let old' : RecordsToCome seen old attrs records (faulty f.0) = subst (λ l. RecordsToCome seen old attrs l (faulty f.0)) (append-nil records) (before.next attrs k [] (faulty f.0) now') in
                   subst (λ o. IfSome o (λ l. ToComeOf old l attrs records (faulty f.0))) is old'),
-              f.2,
+              f.3,
             ))
             fault)
         | inr why ↦ elim why [

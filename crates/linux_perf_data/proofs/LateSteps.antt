@@ -118,20 +118,23 @@ attribute_at order known known' file new body (Ok _) count t = record {
     unnamed = λ none. absurd (none (inl refl));
   };
 }
-attribute_at order known known' file new body (Err e) count (same, why) = record {
+attribute_at order known known' file new body (Err e) count (same, memory, why) = record {
   same = same;
-  count = λ _. count;
   metadata = inl refl;
   unfailed = unfailed e (λ m. elim (why m) [
     | inl spoils ↦ spoils_unfailed order 64 body e spoils
     | inr (inl (holds, (bytes, there, none))) ↦ desc_unfailed order bytes e none
-    | inr (inr (b, holds, is, breaks)) ↦ breach_unfailed b e is
+    | inr (inr (b, holds, can, is, breaks)) ↦ breach_unfailed b e is
   ]);
-  why = λ m. elim (why m) [
-    | inl spoils ↦ inr (inl spoils)
-    | inr (inl (holds, (bytes, there, none))) ↦ inr (inr (inl (bytes, inl (refl, holds, there), none)))
-    | inr (inr (b, holds, is, breaks)) ↦ inr (inr (inr (b, refl, holds, is, breaks)))
-  ];
+  memory = λ m. (count, inl (refl, memory m));
+  why = λ m. inr (
+    count,
+    elim (why m) [
+      | inl spoils ↦ inl spoils
+      | inr (inl (holds, (bytes, there, none))) ↦ inr (inl (bytes, inl (refl, holds, there), none))
+      | inr (inr (b, holds, can, is, breaks)) ↦ inr (inr (b, refl, holds, can, is, breaks))
+    ],
+  );
 }
 
 pub attribute_taken : {A : Type 0} (order : Endianness) (known known' : Known) (file new : PerfFile) (kind : ℕ) (body : List ℕ) (r : Result A Error) → kind ≡ 64 → vec_len file.attributes ≡ vec_len known.places → TakesAttribute order known file body r known' new → TakesIn order known file kind body r known' new
@@ -160,18 +163,21 @@ feature_at order known file new body (Ok _) count t = record {
     unnamed = λ none. t.others (λ desc. none (inr (refl, desc)));
   };
 }
-feature_at order known file new body (Err e) count (same, why) = record {
+feature_at order known file new body (Err e) count (same, memory, why) = record {
   same = same;
-  count = λ _. count;
   metadata = inr refl;
   unfailed = unfailed e (λ m. elim (why m) [
     | inl spoils ↦ spoils_unfailed order 80 body e spoils
     | inr (there, desc, none) ↦ desc_unfailed order (drop 8 body) e none
   ]);
-  why = λ m. elim (why m) [
-    | inl spoils ↦ inr (inl spoils)
-    | inr (there, desc, none) ↦ inr (inr (inl (drop 8 body, inr (refl, there, desc, refl), none)))
-  ];
+  memory = λ m. (count, inr (refl, memory m));
+  why = λ m. inr (
+    count,
+    elim (why m) [
+      | inl spoils ↦ inl spoils
+      | inr (there, desc, none) ↦ inr (inl (drop 8 body, inr (refl, there, desc, refl), none))
+    ],
+  );
 }
 
 pub feature_taken : {A : Type 0} (order : Endianness) (known : Known) (file new : PerfFile) (kind : ℕ) (body : List ℕ) (r : Result A Error) → kind ≡ 80 → vec_len file.attributes ≡ vec_len known.places → TakesFeature order file body r new → TakesIn order known file kind body r known new
@@ -186,7 +192,7 @@ foreign_refused A order known file kind body e metadata is apart = record {
   same = record { stays = refl; descriptions = refl; features = refl; kept = λ n. refl };
   metadata = metadata;
   unfailed = λ f. subst IsInvalidInput f is;
-  count = λ other. absurd (other is);
+  memory = λ m. absurd (subst IsInvalidInput m is);
   why = λ m. inl (
     is,
     λ attrs k same.

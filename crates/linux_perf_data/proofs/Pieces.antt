@@ -15,7 +15,7 @@ use Rattle.perfdata_parts.specs.declared.error.Error.TheVariants.{Read, Memory, 
 use Rattle.perfdata_parts.specs.declared.error.ReadError.TheVariants.{PerfEventData}
 use Rattle.perfdata_parts.specs.Error.{IsShort, IsUnsupported, IsIo}
 use Rattle.linux_perf_data.specs.Attribute.{Attribute}
-use Rattle.linux_perf_data.specs.Layout.{Bound, Fault, short_head, bad_size, too_far, cut_body, compressed, short_trace, trace_too_far, cut_trace, FaultAt, IsCompressed, IsTruncated, IsRecord, HasHead, HasBody, HasTrace, kind_of, misc_of, size_of, trace_of, extent_of}
+use Rattle.linux_perf_data.specs.Layout.{Bound, Fault, short_head, bad_size, too_far, cut_body, compressed, short_trace, trace_too_far, cut_trace, IsLate, FaultAt, IsCompressed, IsTruncated, IsRecord, HasHead, HasBody, HasTrace, kind_of, misc_of, size_of, trace_of, extent_of}
 use Rattle.linux_perf_data.specs.Piece.{Answers, TookBytes, TookHead, EndedIn, FailedIn, Checks, TookContent, EndedContent, CameContent, WhyNoContent, SourceOwes, RefusedAt, CutAt}
 use Rattle.linux_perf_data.proofs.Heads.{kind_front, misc_front, size_front, extent_traced, extent_plain}
 
@@ -54,7 +54,7 @@ shown_whole a all P is p = subst (λ o. IfSome o P) (sym is) p
 
 -- what a fault of the layout owes
 abbrev Owes : Endianness → Bound → ℕ → Error → List ℕ → Type 0
-Owes order bound offset e bytes = (f : Fault) × ((attrs : List Attribute) → FaultAt order bound offset attrs bytes f) × Answers f e
+Owes order bound offset e bytes = (f : Fault) × ((attrs : List Attribute) → FaultAt order bound offset attrs bytes f) × (¬ IsLate f) × Answers f e
 
 not_io_memory : (e : Error) → IsIo e → e ≡ Memory → ⊥
 not_io_memory e io is = subst IsIo is io
@@ -90,7 +90,7 @@ head_short order a b bound offset held e file empty short ended =
       unfailed = not_short_failed e short;
       memory = λ is. absurd (not_short_memory e short is);
       why = λ _. elim (none_or_paused a b ended.none) [
-        | inl none ↦ inl (shown_whole a.bytes ended.part (Owes order bound offset e) (all_came a b ended.part ended.gave none) (short_head, (λ _. (file, less)), short))
+        | inl none ↦ inl (shown_whole a.bytes ended.part (Owes order bound offset e) (all_came a b ended.part ended.gave none) (short_head, (λ _. (file, less)), (λ l. l), short))
         | inr paused ↦ inr (inl (less, inr (short, file, paused)))
       ];
     }
@@ -116,7 +116,7 @@ size_refused order a b bound offset held head e empty t (inl (is, small)) = reco
   unfailed = λ f. cc;
   memory = λ m. absurd cc;
   why = λ _. inl (shown a.bytes b.bytes t.bytes (Owes order bound offset e) t.took.gave.bytes
-      (λ rest. let h = headed order a b head t rest in let size = h.size in let long = h.long in (bad_size, (λ _. (omega (arith, long), omega (arith, size, small))), is)));
+      (λ rest. let h = headed order a b head t rest in let size = h.size in let long = h.long in (bad_size, (λ _. (omega (arith, long), omega (arith, size, small))), (λ l. l), is)));
 }
 size_refused order a b bound offset held head e empty t (inr (is, least, far)) = record {
   came = t.bytes;
@@ -125,7 +125,7 @@ size_refused order a b bound offset held head e empty t (inr (is, least, far)) =
   unfailed = λ f. cc;
   memory = λ m. absurd cc;
   why = λ _. inl (shown a.bytes b.bytes t.bytes (Owes order bound offset e) t.took.gave.bytes
-      (λ rest. let h = headed order a b head t rest in let size = h.size in let long = h.long in (too_far, (λ _. (omega (arith, long), omega (arith, size, least), omega (arith, size, far))), is)));
+      (λ rest. let h = headed order a b head t rest in let size = h.size in let long = h.long in (too_far, (λ _. (omega (arith, long), omega (arith, size, least), omega (arith, size, far))), (λ l. l), is)));
 }
 
 has_head : (order : Endianness) (head : PerfEventHeader) (offset end : ℕ) (all x : List ℕ) → Head order head all x → Checks offset head.size (Ok end) → HasHead order offset all
@@ -184,7 +184,7 @@ body_short order a b c bound offset end held head e t x file is checks less gave
       memory = λ m. absurd cc;
       why = λ _. elim (none_or_paused b c none) [
         | inl end' ↦ inl (shown_whole a.bytes (t.bytes ++ x) (Owes order bound offset e) (all_came a c (t.bytes ++ x) all end')
-            (cut_body, (λ _. (file, has_head order head offset end (t.bytes ++ x) x h checks, omega (arith, size, long, less, least))), is))
+            (cut_body, (λ _. (file, has_head order head offset end (t.bytes ++ x) x h checks, omega (arith, size, long, less, least))), (λ l. l), is))
         | inr paused ↦ inr (inr (omega (arith, long), is, inr ((λ pipe. absurd (file pipe)), paused_later a b c t.bytes t.took.gave paused)))
       ];
     }
@@ -248,16 +248,16 @@ content_why order a b c bound offset end head e t came checks gave other (inr (i
 content_why order a b c bound offset end head e t came checks gave other (inr (inr (inl (is, long', kind)))) =
     inl (shown a.bytes c.bytes (t.bytes ++ came) (Owes order bound offset e) (gave_more a b c t.bytes came t.took.gave gave).bytes
     (λ rest. let h = behind order a b head t came rest in let least = checks.0 in
-    (compressed, (λ _. (has_body order head offset end ((t.bytes ++ came) ++ rest) (came ++ rest) h checks (omega (arith, length-append came rest, long', least)), subst IsCompressed (sym h.kind) kind)), is)))
+    (compressed, (λ _. (has_body order head offset end ((t.bytes ++ came) ++ rest) (came ++ rest) h checks (omega (arith, length-append came rest, long', least)), subst IsCompressed (sym h.kind) kind)), (λ l. l), is)))
 content_why order a b c bound offset end head e t came checks gave other (inr (inr (inr (inl (is, long', kind, short))))) =
     inl (shown a.bytes c.bytes (t.bytes ++ came) (Owes order bound offset e) (gave_more a b c t.bytes came t.took.gave gave).bytes
     (λ rest. let h = behind order a b head t came rest in let least = checks.0 in let size = h.size in
-    (short_trace, (λ _. (has_body order head offset end ((t.bytes ++ came) ++ rest) (came ++ rest) h checks (omega (arith, length-append came rest, long', least)), h.kind ∙ kind, omega (arith, size, short))), is)))
+    (short_trace, (λ _. (has_body order head offset end ((t.bytes ++ came) ++ rest) (came ++ rest) h checks (omega (arith, length-append came rest, long', least)), h.kind ∙ kind, omega (arith, size, short))), (λ l. l), is)))
 content_why order a b c bound offset end head e t came checks gave other (inr (inr (inr (inr (inl (is, long', kind, enough, far)))))) =
     inl (shown a.bytes c.bytes (t.bytes ++ came) (Owes order bound offset e) (gave_more a b c t.bytes came t.took.gave gave).bytes
     (λ rest. let h = behind order a b head t came rest in let least = checks.0 in let ends = checks.1 in
     let extent = extent_is order a b head t came rest kind (omega (arith, long', enough)) in
-    (trace_too_far, (λ _. (has_trace order head offset end ((t.bytes ++ came) ++ rest) (came ++ rest) h checks (omega (arith, length-append came rest, long', least)) kind enough, omega (arith, extent, ends, far))), is)))
+    (trace_too_far, (λ _. (has_trace order head offset end ((t.bytes ++ came) ++ rest) (came ++ rest) h checks (omega (arith, length-append came rest, long', least)) kind enough, omega (arith, extent, ends, far))), (λ l. l), is)))
 content_why order a b c bound offset end head e t came checks gave other (inr (inr (inr (inr (inr (is, there, kind, enough, fits, less, inl none)))))) =
     let all = gave_more a b c t.bytes came t.took.gave gave in
     let h = headed order a b head t came in
@@ -269,7 +269,7 @@ content_why order a b c bound offset end head e t came checks gave other (inr (i
       | inl end' ↦ inl (
           let extent = extent_alone order a b head t came kind (omega (arith, there, enough)) in
           shown_whole a.bytes (t.bytes ++ came) (Owes order bound offset e) (all_came a c (t.bytes ++ came) all end')
-          (cut_trace, (λ _. (has_trace order head offset end (t.bytes ++ came) came h checks (omega (arith, there, least)) kind enough, omega (arith, extent, ends, fits), omega (arith, extent, long, less, least))), is))
+          (cut_trace, (λ _. (has_trace order head offset end (t.bytes ++ came) came h checks (omega (arith, there, least)) kind enough, omega (arith, extent, ends, fits), omega (arith, extent, long, less, least))), (λ l. l), is))
       | inr paused ↦ inr (inr (omega (arith, long), is, inr ((λ _. omega (arith, size, long, there, least)), paused_later a b c t.bytes t.took.gave paused)))
     ]
 content_why order a b c bound offset end head e t came checks gave other (inr (inr (inr (inr (inr (is, there, kind, enough, fits, less, inr failed)))))) =

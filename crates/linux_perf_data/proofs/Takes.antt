@@ -3,7 +3,7 @@ use Rattle.std.proofs.Common.{◌≡◌, ◌≢◌, ◌==◌, ℕ, ◌+◌, ◌^
 use Rattle.std.specs.Prelude.{◌⊎◌, nat_eq}
 use Rattle.std.specs.Map.{update_all}
 use Rattle.std.proofs.lemmas.Bool.{cond-true}
-use Rattle.std.proofs.lemmas.List.{drop-drop}
+use Rattle.std.proofs.lemmas.List.{drop-drop, length-drop}
 use Rattle.perfdata_base.specs.Source.{State}
 use Rattle.perfdata_base.specs.Numbers.{number_in}
 use Rattle.perfdata_base.proofs.Numbers.{in_reads_first}
@@ -23,9 +23,10 @@ use Rattle.linux_perf_data.specs.Known.{Knows, StillKnows}
 use Rattle.linux_perf_data.specs.Layout.{Bound, IsRecord, IsPiece, Fronts, Fault, bad_metadata, cut_metadata, small_attribute, bad_names, unruly, FaultAt, kind_of, attributes_of}
 use Rattle.linux_perf_data.specs.Names.{TellsNames, Named, event_desc, feature_of}
 use Rattle.linux_perf_data.specs.PerfFile.{descriptions_of, data_of}
-use Rattle.linux_perf_data.specs.Late.{IsMetadata, FileTook, TookIn, Declined, TakesNot}
-use Rattle.linux_perf_data.specs.Piece.{Answers}
+use Rattle.linux_perf_data.specs.Late.{IsMetadata, FileTook, HasContents, SameCount, TookIn, Declined, TakesNot, Passed}
+use Rattle.linux_perf_data.specs.Piece.{Answers, WantsMemory}
 use Rattle.linux_perf_data.specs.Iter.{bound_of, IsAfter, FindsRecord, TookRecord, DeclinedRecord}
+use Rattle.linux_perf_data.proofs.Heads.{extent_plain}
 
 -- an EVENT_DESC that was taken in can be read
 named_told : (order : Endianness) (told : Option (List ℕ)) (bytes : List ℕ) (file : PerfFile) → told ≡ Some bytes → Named order told (descriptions_of file) → TellsNames order bytes
@@ -71,12 +72,12 @@ attribute_piece order p is kind holds = record {
 }
 
 -- why a record of metadata isn't taken in: a fault of the layout, or a `PerfFile` of another input
-abbrev pub LateFault : Endianness → Known → ℕ → List ℕ → Error → Type 0
-LateFault order known offset p e = (f : Fault) × ((rest : List ℕ) (attrs : List Attribute) → Knows order known attrs → FaultAt order None offset attrs (p ++ rest) f) × Answers f e
+abbrev pub LateFault : Endianness → Known → PerfFile → ℕ → List ℕ → Error → Type 0
+LateFault order known file offset p e = (f : Fault) × ((rest : List ℕ) (attrs : List Attribute) → Knows order known attrs → FaultAt order None offset attrs (p ++ rest) f) × Passed order known file f × Answers f e
 
 abbrev pub Foreign : Endianness → Known → PerfFile → List ℕ → Error → Type 0
 Foreign order known file p e = (IsInvalidInput e × ((attrs : List Attribute) → Knows order known attrs → length (descriptions_of file) ≢ length attrs))
-    ⊎ ((kind_of order p ≡ 64) × HoldsAttribute order (drop 8 p) × ((bytes : List ℕ) × (data_of file event_desc ≡ Some bytes) × NoEventDesc (number_in order) e bytes))
+    ⊎ (SameCount order known file × (kind_of order p ≡ 64) × HoldsAttribute order (drop 8 p) × ((bytes : List ℕ) × (data_of file event_desc ≡ Some bytes) × NoEventDesc (number_in order) e bytes))
 
 fronts : (order : Endianness) (offset : ℕ) (p rest : List ℕ) → IsRecord order p → offset + length p < 2 ^ 64 → Fronts order offset (p ++ rest) p
 fronts order offset p rest is fits = record { is_record = is; behind = rest; cut = refl; fits = fits }
@@ -86,16 +87,16 @@ unread : (order : Endianness) (e : Error) (bytes : List ℕ) → NoEventDesc (nu
 unread order e bytes stops told = told_or_refused (number_in order) (in_reads_first order) e bytes told.0 stops told.1
 
 pub late_why : (order : Endianness) (known : Known) (file : PerfFile) (offset : ℕ) (p : List ℕ) (e : Error) → IsRecord order p → offset + length p < 2 ^ 64 → TakesNot order known file (kind_of order p) (drop 8 p) e
-    → LateFault order known offset p e ⊎ Foreign order known file p e
+    → LateFault order known file offset p e ⊎ Foreign order known file p e
 late_why order known file offset p e is fits (inl differ) = inr (inl differ)
-late_why order known file offset p e is fits (inr (inl (inl (short, inl (kind, cuts))))) =
-    inl (bad_metadata cut_metadata, (λ rest attrs k. (refl, (p, fronts order offset p rest is fits, inl (kind, cuts)))), short)
-late_why order known file offset p e is fits (inr (inl (inl (short, inr (kind, few))))) =
-    inl (bad_metadata cut_metadata, (λ rest attrs k. (refl, (p, fronts order offset p rest is fits, inr (kind, few)))), short)
-late_why order known file offset p e is fits (inr (inl (inr (invalid, kind, small)))) =
-    inl (bad_metadata small_attribute, (λ rest attrs k. (refl, (p, fronts order offset p rest is fits, (kind, small)))), invalid)
-late_why order known file offset p e is fits (inr (inr (inl (bytes, inl (kind, holds, there), stops)))) = inr (inr (kind, holds, (bytes, there, stops)))
-late_why order known file offset p e is fits (inr (inr (inl (bytes, inr (kind, there, desc, are), stops)))) =
+late_why order known file offset p e is fits (inr (count, inl (inl (short, inl (kind, cuts))))) =
+    inl (bad_metadata cut_metadata, (λ rest attrs k. (refl, (p, fronts order offset p rest is fits, inl (kind, cuts)))), (λ _. (count, λ b other. absurd cc)), short)
+late_why order known file offset p e is fits (inr (count, inl (inl (short, inr (kind, few))))) =
+    inl (bad_metadata cut_metadata, (λ rest attrs k. (refl, (p, fronts order offset p rest is fits, inr (kind, few)))), (λ _. (count, λ b other. absurd cc)), short)
+late_why order known file offset p e is fits (inr (count, inl (inr (invalid, kind, small)))) =
+    inl (bad_metadata small_attribute, (λ rest attrs k. (refl, (p, fronts order offset p rest is fits, (kind, small)))), (λ _. (count, λ b other. absurd cc)), invalid)
+late_why order known file offset p e is fits (inr (count, inr (inl (bytes, inl (kind, holds, there), stops)))) = inr (inr (count, kind, holds, (bytes, there, stops)))
+late_why order known file offset p e is fits (inr (count, inr (inl (bytes, inr (kind, there, desc, are), stops)))) =
     inl (
       bad_names order bytes,
       (λ rest attrs k. (
@@ -107,10 +108,29 @@ late_why order known file offset p e is fits (inr (inr (inl (bytes, inr (kind, t
           record { kind = kind; there = there; is = desc; are = are ∙ drop-drop 8 8 p; unread = unread order e bytes stops },
         ),
       )),
+      (λ _. (count, λ b other. absurd cc)),
       stops,
     )
-late_why order known file offset p e is fits (inr (inr (inr (b, kind, holds, answer, breaks)))) =
-    inl (unruly b, (λ rest attrs k. (refl, (p, fronts order offset p rest is fits, attribute_piece order p is kind holds, breaks attrs k))), answer)
+late_why order known file offset p e is fits (inr (count, inr (inr (b, kind, holds, can, answer, breaks)))) =
+    inl (unruly b, (λ rest attrs k. (refl, (p, fronts order offset p rest is fits, attribute_piece order p is kind holds, breaks attrs k))), (λ _. (count, λ _ _. can)), answer)
+
+-- contents that are whole have eight bytes and more, and are no auxiliary data and no marker
+pub contents_there : (order : Endianness) (kind : ℕ) (body : List ℕ) → HasContents order kind body → (8 ≤ length body) × (kind ≢ 71) × (kind ≢ 68)
+contents_there order kind body (inl (is, holds)) = (holds.head, λ k. absurd (omega (arith, k, is)), λ k. absurd (omega (arith, k, is)))
+contents_there order kind body (inr (is, there)) = (there, λ k. absurd (omega (arith, k, is)), λ k. absurd (omega (arith, k, is)))
+
+-- a record that holds them has a body
+pub wants_memory : (order : Endianness) (kind : ℕ) (p : List ℕ) → IsRecord order p → kind_of order p ≡ kind → HasContents order kind (drop 8 p) → WantsMemory order p
+wants_memory order kind p is same contents =
+    let there = contents_there order kind (drop 8 p) contents in
+    let long = is.long ∙ extent_plain order p (λ k. there.1 (sym same ∙ k)) in
+    let left = length-drop 8 p in
+    let some = there.0 in
+    record {
+      head = omega (arith, left, some);
+      kind = λ k. there.2 (sym same ∙ k);
+      size = omega (arith, long, left, some);
+    }
 
 module _ {R : Type 0} (seen : R → State) where
   -- a pipe's record was taken in
@@ -132,11 +152,15 @@ module _ {R : Type 0} (seen : R → State) where
       }
 
   -- what isn't taken in at what is known now wasn't at what was known before
+  learned_count : (order : Endianness) (known known' : Known) (file : PerfFile) → StillKnows known known' → SameCount order known' file → SameCount order known file
+  learned_count order known known' file learns count attrs k = count attrs (learns order attrs k)
+
   learned_not : (order : Endianness) (known known' : Known) (file : PerfFile) (kind : ℕ) (body : List ℕ) (e : Error) → StillKnows known known' → TakesNot order known' file kind body e → TakesNot order known file kind body e
   learned_not order known known' file kind body e learns (inl (is, differ)) = inl (is, λ attrs k. differ attrs (learns order attrs k))
-  learned_not order known known' file kind body e learns (inr (inl spoils)) = inr (inl spoils)
-  learned_not order known known' file kind body e learns (inr (inr (inl names))) = inr (inr (inl names))
-  learned_not order known known' file kind body e learns (inr (inr (inr (b, is, holds, answer, breaks)))) = inr (inr (inr (b, is, holds, answer, λ attrs k. breaks attrs (learns order attrs k))))
+  learned_not order known known' file kind body e learns (inr (count, inl spoils)) = inr (learned_count order known known' file learns count, inl spoils)
+  learned_not order known known' file kind body e learns (inr (count, inr (inl names))) = inr (learned_count order known known' file learns count, inr (inl names))
+  learned_not order known known' file kind body e learns (inr (count, inr (inr (b, is, holds, can, answer, breaks)))) =
+      inr (learned_count order known known' file learns count, inr (inr (b, is, holds, can, answer, λ attrs k. breaks attrs (learns order attrs k))))
 
   pub declined_record : (old new : PerfRecordIter R) (file file' : PerfFile) (head : PerfEventHeader) (e : Error) (known : Known) (body : List ℕ) → body ≡ old.body.items → bound_of seen old ≡ None → StillKnows old.known known
       → Declined old.endian known file head.type_ body e file' → IsAfter seen old new → DeclinedRecord seen old file head e new file'
@@ -146,5 +170,6 @@ module _ {R : Type 0} (seen : R → State) where
     metadata = declined.metadata;
     same = declined.same;
     unfailed = declined.unfailed;
+    memory = λ m. (learned_count old.endian old.known known file learns (declined.memory m).0, subst (HasContents old.endian head.type_) is (declined.memory m).1);
     why = λ other. subst (λ b. TakesNot old.endian old.known file head.type_ b e) is (learned_not old.endian old.known known file head.type_ body e learns (declined.why other));
   }

@@ -22,7 +22,7 @@ use Rattle.linux_perf_data.specs.declared.iter.Stage.TheVariants.{Running, Faile
 use Rattle.linux_perf_data.specs.declared.perf_file.PerfFile.{PerfFile}
 use Rattle.linux_perf_data.specs.Attribute.{Attribute, Event, HoldsAttribute}
 use Rattle.linux_perf_data.specs.Input.{bound_in, view_in}
-use Rattle.linux_perf_data.specs.Late.{IsMetadata, FileTook, SameFile, TakesNot, SameCount}
+use Rattle.linux_perf_data.specs.Late.{HasContents, IsMetadata, FileTook, Passed, SameFile, TakesNot, SameCount}
 use Rattle.linux_perf_data.specs.Names.{event_desc}
 use Rattle.linux_perf_data.specs.PerfFile.{descriptions_of, data_of}
 use Rattle.linux_perf_data.specs.Known.{Knows, event_found}
@@ -177,6 +177,7 @@ module _ {R : Type 0} (seen : R → State) where
     pub metadata : IsMetadata head.type_
     pub same : SameFile file file'
     pub unfailed : e ≢ error.Failed
+    pub memory : e ≡ error.Memory → SameCount old.endian old.known file × HasContents old.endian head.type_ old.body.items
     pub why : e ≢ error.Memory → TakesNot old.endian old.known file head.type_ old.body.items e
 
   abbrev pub TakesRecord : PerfRecordIter R → PerfFile → ℕ → ℕ → PerfEventHeader → Result Found Error → PerfRecordIter R → PerfFile → Type 0
@@ -235,25 +236,22 @@ module _ {R : Type 0} (seen : R → State) where
     pub untouched : file' ≡ file
 
   -- the record of metadata whose bytes came, and the `PerfFile` that was handed in isn't its pipe's: its attributes are
-  -- not as many as came, or it has an EVENT_DESC that can't be read
+  -- not as many as came; or they are, and it has an EVENT_DESC that can't be read
   pub record LateForeign (old : PerfRecordIter R) (file : PerfFile) (came : List ℕ) (e : Error) : Type 0 where
     pub pipe : bound_of old ≡ None
     pub is_record : IsRecord old.endian came
     pub metadata : IsMetadata (kind_of old.endian came)
     pub why : (IsInvalidInput e × ((attrs : List Attribute) → Knows old.endian old.known attrs → length (descriptions_of file) ≢ length attrs))
-        ⊎ ((kind_of old.endian came ≡ 64) × HoldsAttribute old.endian (drop 8 came) × ((bytes : List ℕ) × (data_of file event_desc ≡ Some bytes) × NoEventDesc (number_in old.endian) e bytes))
+        ⊎ (SameCount old.endian old.known file × (kind_of old.endian came ≡ 64) × HoldsAttribute old.endian (drop 8 came) × ((bytes : List ℕ) × (data_of file event_desc ≡ Some bytes) × NoEventDesc (number_in old.endian) e bytes))
 
-  -- why a record was refused: the layout has this fault here, or the source failed or paused, or the `PerfFile` is foreign
+  -- Why a record was refused: the layout has this fault here, and the `PerfFile` passed what is looked at before; or the source
+  -- failed or paused; or the `PerfFile` is foreign.
   abbrev pub Reason : PerfRecordIter R → PerfFile → List ℕ → Error → PerfRecordIter R → Type 0
   Reason old file came e new =
       IfSome (view old).bytes (λ bytes. (f : Fault) × ((attrs : List Attribute) → Knows old.endian old.known attrs
-      → ToCome old.endian bytes (bound_of old) old.offset old.round attrs [] (faulty f)) × Answers f e)
+      → ToCome old.endian bytes (bound_of old) old.offset old.round attrs [] (faulty f)) × Passed old.endian old.known file f × Answers f e)
       ⊎ (SourceOwes old.endian (bound_of old) (view old) came e (view new)
       ⊎ LateForeign old file came e)
-
-  -- memory ran out for the body of a record, or for what a pipe's record of metadata brings, which came whole
-  abbrev pub LacksMemory : PerfRecordIter R → List ℕ → Type 0
-  LacksMemory old came = WantsMemory old.endian came ⊎ ((bound_of old ≡ None) × IsRecord old.endian came × IsMetadata (kind_of old.endian came))
 
   -- a refusal was answered by an iterator that ran: markers were passed over, and of the record behind them these bytes came
   pub record Stops (old : PerfRecordIter R) (file : PerfFile) (e : Error) (new : PerfRecordIter R) : Type 0 where
@@ -262,7 +260,7 @@ module _ {R : Type 0} (seen : R → State) where
     pub place : new.offset ≡ old.offset + length markers
     pub gave : Gave (view old) (markers ++ came) (view new)
     pub held : length new.body.items ≤ length (drop 8 came) + 4096
-    pub memory : e ≡ error.Memory → LacksMemory old came
+    pub memory : e ≡ error.Memory → WantsMemory old.endian came
     pub reason : e ≢ error.Memory → Reason old file came e new
 
   -- a refusal was answered, and the `PerfFile` holds what it held

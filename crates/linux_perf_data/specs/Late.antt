@@ -13,7 +13,7 @@ use Rattle.linux_perf_data.specs.declared.known.Known.{Known}
 use Rattle.linux_perf_data.specs.declared.perf_file.PerfFile.{PerfFile}
 use Rattle.linux_perf_data.specs.Attribute.{Attribute, HoldsAttribute, Breach, Breaks}
 use Rattle.linux_perf_data.specs.Known.{Knows}
-use Rattle.linux_perf_data.specs.Layout.{Bound, CutsAttribute, Handed, attributes_of, brought}
+use Rattle.linux_perf_data.specs.Layout.{Bound, CutsAttribute, Fault, IsLate, unruly, Handed, attributes_of, brought}
 use Rattle.linux_perf_data.specs.Names.{Named, event_desc, feature_of, CanName}
 use Rattle.linux_perf_data.specs.PerfFile.{descriptions_of, features_of, order_of_file, data_of, attributes_of_file}
 use Rattle.linux_perf_data.specs.Rules.{error_of_breach}
@@ -55,25 +55,34 @@ module _ (order : Endianness) where
   NamesBy file kind body bytes = ((kind ≡ 64) × HoldsAttribute order body × (data_of file event_desc ≡ Some bytes))
       ⊎ ((kind ≡ 80) × (8 ≤ length body) × (feature_of order body ≡ event_desc) × (bytes ≡ drop 8 body))
 
+  -- its contents are whole
+  abbrev pub HasContents : ℕ → List ℕ → Type 0
+  HasContents kind body = ((kind ≡ 64) × HoldsAttribute order body) ⊎ ((kind ≡ 80) × (8 ≤ length body))
+
   -- its contents are refused: they end early, or an attribute's own size is below 64
   abbrev pub Spoils : ℕ → List ℕ → Error → Type 0
   Spoils kind body e =
       (IsShort e × (((kind ≡ 64) × CutsAttribute order body) ⊎ ((kind ≡ 80) × (length body < 8))))
       ⊎ (IsInvalidData e × (kind ≡ 64) × IsTooSmall (number_in order) body)
 
-  -- Why a record of metadata wasn't taken in: the `PerfFile` has another count of attributes; the contents are refused; the
-  -- EVENT_DESC that gives names can't be read; or the rule of attributes is broken.
-  abbrev pub TakesNot : Known → PerfFile → ℕ → List ℕ → Error → Type 0
-  TakesNot known file kind body e =
-      (IsInvalidInput e × ((attrs : List Attribute) → Knows order known attrs → length (descriptions_of file) ≢ length attrs))
-      ⊎ (Spoils kind body e
-      ⊎ (((bytes : List ℕ) × NamesBy file kind body bytes × NoEventDesc (number_in order) e bytes)
-      ⊎ ((b : Breach) × (kind ≡ 64) × HoldsAttribute order body × (e ≡ error_of_breach b)
-      × ((attrs : List Attribute) → Knows order known attrs → Breaks (attrs ++ attributes_of order None kind body) b))))
-
   -- the `PerfFile` has as many attributes as are known
   abbrev pub SameCount : Known → PerfFile → Type 0
   SameCount known file = (attrs : List Attribute) → Knows order known attrs → length (descriptions_of file) ≡ length attrs
+
+  -- Why a record of metadata wasn't taken in: the `PerfFile` has another count of attributes; or it has that, and the contents
+  -- are refused; or the EVENT_DESC that gives names can't be read; or it can, and the rule of attributes is broken.
+  abbrev pub TakesNot : Known → PerfFile → ℕ → List ℕ → Error → Type 0
+  TakesNot known file kind body e =
+      (IsInvalidInput e × ((attrs : List Attribute) → Knows order known attrs → length (descriptions_of file) ≢ length attrs))
+      ⊎ (SameCount known file × (Spoils kind body e
+      ⊎ (((bytes : List ℕ) × NamesBy file kind body bytes × NoEventDesc (number_in order) e bytes)
+      ⊎ ((b : Breach) × (kind ≡ 64) × HoldsAttribute order body × CanName order (data_of file event_desc) × (e ≡ error_of_breach b)
+      × ((attrs : List Attribute) → Knows order known attrs → Breaks (attrs ++ attributes_of order None kind body) b)))))
+
+  -- What was looked at before a fault of the layout was answered, where a whole record of metadata has it: the count of the
+  -- `PerfFile`'s attributes, which is that of the input; and, before the rule of attributes, its EVENT_DESC, which can be read.
+  abbrev pub Passed : Known → PerfFile → Fault → Type 0
+  Passed known file f = IsLate f → SameCount known file × ((b : Breach) → f ≡ unruly b → CanName order (data_of file event_desc))
 
   -- a pipe's record was taken in
   pub record TookIn (known : Known) (file : PerfFile) (kind : ℕ) (body : List ℕ) (known' : Known) (file' : PerfFile) : Type 0 where
@@ -88,7 +97,7 @@ module _ (order : Endianness) where
     pub same : SameFile file file'
     pub metadata : IsMetadata kind
     pub unfailed : e ≢ Failed
-    pub count : (¬ IsInvalidInput e) → SameCount known file
+    pub memory : e ≡ Memory → SameCount known file × HasContents kind body
     pub why : e ≢ Memory → TakesNot known file kind body e
 
   -- what taking in a pipe's record does

@@ -12,7 +12,7 @@ use Rattle.linux_perf_data.specs.declared.known.Known.{Known}
 use Rattle.linux_perf_data.specs.Attribute.{Attribute, HoldsAttribute, attribute_in, Breach, Breaks}
 use Rattle.linux_perf_data.specs.Known.{Knows}
 use Rattle.linux_perf_data.specs.Late.{SameFile, Spoils}
-use Rattle.linux_perf_data.specs.Names.{Named, Unnamed, event_desc, feature_of, name_for, names_for, names_in, texts_of}
+use Rattle.linux_perf_data.specs.Names.{CanName, Named, Unnamed, event_desc, feature_of, name_for, names_for, names_in, texts_of}
 use Rattle.linux_perf_data.specs.Rules.{error_of_breach}
 use Rattle.linux_perf_data.specs.PerfFile.{descriptions_of, features_of, order_of_file, data_of, attributes_of_file}
 use Rattle.linux_perf_data.specs.declared.perf_file.PerfFile.{PerfFile}
@@ -100,16 +100,16 @@ module _ (order : Endianness) where
     pub attributes : attributes_of_file new ≡ attributes_of_file old ++ attribute_in order body ∷ []
     pub named : Named order (data_of old event_desc) (descriptions_of new)
 
-  -- why it wasn't: its contents are refused, EVENT_DESC can't be read, or it breaks the rule
+  -- why it wasn't: its contents are refused, EVENT_DESC can't be read, or it can and the rule is broken
   abbrev pub NoAttribute : Known → PerfFile → List ℕ → Error → Type 0
   NoAttribute known old body e =
       Spoils order 64 body e
       ⊎ ((HoldsAttribute order body × ((bytes : List ℕ) × (data_of old event_desc ≡ Some bytes) × NoEventDesc (number_in order) e bytes))
-      ⊎ ((b : Breach) × HoldsAttribute order body × (e ≡ error_of_breach b) × ((attrs : List Attribute) → Knows order known attrs → Breaks (attrs ++ attribute_in order body ∷ []) b)))
+      ⊎ ((b : Breach) × HoldsAttribute order body × CanName order (data_of old event_desc) × (e ≡ error_of_breach b) × ((attrs : List Attribute) → Knows order known attrs → Breaks (attrs ++ attribute_in order body ∷ []) b)))
 
   abbrev pub TakesAttribute : {A : Type 0} → Known → PerfFile → List ℕ → Result A Error → Known → PerfFile → Type 0
   TakesAttribute known old body (Ok _) known' new = TookAttribute known old body known' new
-  TakesAttribute known old body (Err e) known' new = SameFile old new × (e ≢ Memory → NoAttribute known old body e)
+  TakesAttribute known old body (Err e) known' new = SameFile old new × (e ≡ Memory → HoldsAttribute order body) × (e ≢ Memory → NoAttribute known old body e)
 
   -- a feature was taken in
   pub record TookFeature (old : PerfFile) (body : List ℕ) (new : PerfFile) : Type 0 where
@@ -125,4 +125,4 @@ module _ (order : Endianness) where
 
   abbrev pub TakesFeature : {A : Type 0} → PerfFile → List ℕ → Result A Error → PerfFile → Type 0
   TakesFeature old body (Ok _) new = TookFeature old body new
-  TakesFeature old body (Err e) new = SameFile old new × (e ≢ Memory → NoFeature body e)
+  TakesFeature old body (Err e) new = SameFile old new × (e ≡ Memory → 8 ≤ length body) × (e ≢ Memory → NoFeature body e)

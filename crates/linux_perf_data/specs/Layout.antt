@@ -41,6 +41,20 @@ pub data Fault : Type 0 where
   bad_names : Endianness → List ℕ → Fault
   unruly : Breach → Fault
 
+-- a whole record of metadata has it
+abbrev pub IsLate : Fault → Type 0
+IsLate short_head = ⊥
+IsLate bad_size = ⊥
+IsLate too_far = ⊥
+IsLate cut_body = ⊥
+IsLate compressed = ⊥
+IsLate short_trace = ⊥
+IsLate trace_too_far = ⊥
+IsLate cut_trace = ⊥
+IsLate (bad_metadata why) = Unit {0}
+IsLate (bad_names order bytes) = Unit {0}
+IsLate (unruly b) = Unit {0}
+
 -- how a layout ends
 pub data End : Type 0 where
   whole : End

@@ -11,7 +11,7 @@ use Rattle.perfdata_parts.specs.Error.{IsShort, IsUnsupported, IsInvalidData, Is
 use Rattle.perfdata_parts.specs.EventDesc.{NoEventDesc}
 use Rattle.linux_perf_data.specs.Attribute.{Attribute}
 use Rattle.linux_perf_data.specs.Rules.{error_of_breach}
-use Rattle.linux_perf_data.specs.Layout.{Bound, Fault, short_head, bad_size, too_far, cut_body, compressed, short_trace, trace_too_far, cut_trace, bad_metadata, cut_metadata, small_attribute, bad_names, unruly, FaultAt, IsCompressed, IsTruncated, kind_of, misc_of, size_of}
+use Rattle.linux_perf_data.specs.Layout.{Bound, Fault, short_head, bad_size, too_far, cut_body, compressed, short_trace, trace_too_far, cut_trace, bad_metadata, cut_metadata, small_attribute, bad_names, unruly, IsLate, FaultAt, IsCompressed, IsTruncated, kind_of, misc_of, size_of}
 
 -- the answer to a fault of the layout
 abbrev pub Answers : Fault → Error → Type 0
@@ -185,7 +185,7 @@ pub record RefusedAt (order : Endianness) (old : State) (bound : Bound) (offset 
   pub unfailed : e ≢ Failed
   pub memory : e ≡ Memory → WantsMemory order came
   pub why : e ≢ Memory
-      → IfSome old.bytes (λ bytes. (f : Fault) × ((attrs : List Attribute) → FaultAt order bound offset attrs bytes f) × Answers f e) ⊎ SourceOwes order bound old came e new
+      → IfSome old.bytes (λ bytes. (f : Fault) × ((attrs : List Attribute) → FaultAt order bound offset attrs bytes f) × (¬ IsLate f) × Answers f e) ⊎ SourceOwes order bound old came e new
 
 -- The record at this offset is cut in a pipe: of it these bytes came, which are all or the source paused, and what is held is
 -- at most 4,096 longer than the part of its body that came.

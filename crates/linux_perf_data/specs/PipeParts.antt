@@ -52,11 +52,11 @@ module _ (order : Endianness) where
 
   abbrev pub ParsesAttribute : List ℕ → Result HeaderAttr Error → Type 0
   ParsesAttribute body (Ok header) = HoldsAttribute order body × (attribute_of header ≡ attribute_in order body)
-  ParsesAttribute body (Err e) = e ≢ Memory → Spoils order 64 body e
+  ParsesAttribute body (Err e) = (e ≡ Memory → HoldsAttribute order body) × (e ≢ Memory → Spoils order 64 body e)
 
   abbrev pub ParsesFeature : List ℕ → Result HeaderFeature Error → Type 0
   ParsesFeature body (Ok header) = IsHeaderFeature (number_in order) body header
-  ParsesFeature body (Err e) = e ≢ Memory → Spoils order 80 body e
+  ParsesFeature body (Err e) = (e ≡ Memory → 8 ≤ length body) × (e ≢ Memory → Spoils order 80 body e)
 
   -- what a record of this kind brought was put behind what was told before
   pub record Gathered (kind : ℕ) (body : List ℕ) (old new : Metadata) : Type 0 where

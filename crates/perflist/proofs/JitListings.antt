@@ -7,7 +7,7 @@ use Rattle.std.proofs.lemmas.List.{append-nil, length-take-le}
 use Rattle.std.proofs.lemmas.List.Folds.{concat-append}
 use Rattle.std.proofs.Math.Seq.{drop-append_seam}
 use Rattle.std.specs.Io.KnownBytes.{Appends}
-use Rattle.std.proofs.KnownBytes.{Appends-trans, Appends-nil}
+use Rattle.std.proofs.KnownBytes.{Appends-trans}
 use Rattle.perfdata_base.specs.Source.{State, prepend, Paused}
 use Rattle.perfdata_base.proofs.Gives.{gave_none, gave_more, failed_later, paused_later, prepend_more}
 use Rattle.perfdata_base.proofs.Cut.{none_or_paused}

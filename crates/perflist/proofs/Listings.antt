@@ -1,6 +1,6 @@
 -- What the records that were listed come to.
 use Rattle.std.proofs.Common.{◌≡◌, ℕ, ◌^◌, ◌<◌, ◌++◌, List, [], ◌∷◌, length, take, drop, refl, sym, ap, ◌∙◌, subst, Option, None, Some}
-use Rattle.std.specs.Prelude.{◌⊎◌, IfSome}
+use Rattle.std.specs.Prelude.{IfSome}
 use Rattle.std.proofs.lemmas.List.{flat_map_more, length-map}
 use Rattle.perfdata_base.specs.Source.{State, prepend}
 use Rattle.perfdata_base.specs.declared.raw.Endianness.{Endianness}
@@ -19,7 +19,7 @@ use Rattle.perfdata_base.proofs.Numbers.{in_reads_first}
 use Rattle.perfdata_parts.proofs.EventFronts.{told_or_refused}
 use Rattle.perflist.specs.Line.{handed_line}
 use Rattle.perfdata_base.proofs.Cut.{failed_after_stood, paused_after_stood}
-use Rattle.perfdata_base.specs.Source.{Place, Stood, Failed, Paused}
+use Rattle.perfdata_base.specs.Source.{Place, Failed, Paused}
 use Rattle.perfdata_parts.specs.declared.error.Error.{Error}
 use Rattle.std.specs.Prelude.{Result, Ok, Err}
 use Rattle.std.proofs.Common.{inl, inr}
@@ -186,8 +186,8 @@ module _ {R : Type 0} (seen : R → State) where
   not_foreign it file came e own foreign = elim foreign.why [
     | inl counts ↦ counts.1 (attributes_of_file file) own.knows (sym (length-map (descriptions_of file) attribute_by))
     | inr names ↦
-        let can : CanName it.endian (Some names.2.0) = subst (CanName it.endian) names.2.1 (own.names foreign.pipe) in
-        told_or_refused (number_in it.endian) (in_reads_first it.endian) e names.2.0 can.0 names.2.2 can.1
+        let can : CanName it.endian (Some names.3.0) = subst (CanName it.endian) names.3.1 (own.names foreign.pipe) in
+        told_or_refused (number_in it.endian) (in_reads_first it.endian) e names.3.0 can.0 names.3.2 can.1
   ]
 
 -- a file was refused

@@ -1,39 +1,34 @@
 -- What the records of a pipe that were listed come to.
-use Rattle.std.proofs.Common.{◌≡◌, ◌≢◌, ℕ, ◌+◌, ◌^◌, ◌<◌, ◌≤◌, ◌++◌, List, [], ◌∷◌, length, take, drop, refl, sym, ap, ◌∙◌, subst, Option, None, Some, Ok, Err, Result, inl, inr, arith, append_assoc, append-nil, length-append, nat_eq}
-use Rattle.std.specs.Prelude.{◌⊎◌, ◌↔◌, IfSome, IsSome}
+use Rattle.std.proofs.Common.{◌≡◌, ℕ, ◌≤◌, ◌++◌, List, [], ◌∷◌, length, refl, sym, ap, ◌∙◌, subst, Option, None, Some, inl, inr, arith, append_assoc, append-nil, nat_eq}
+use Rattle.std.specs.Prelude.{IfSome}
 use Rattle.std.specs.List.{concat}
 use Rattle.std.specs.Map.{update_all}
-use Rattle.std.specs.Io.KnownBytes.{Appends}
 use Rattle.std.proofs.KnownBytes.{Appends-nil}
-use Rattle.perfdata_base.specs.Source.{State, prepend, Gave, GaveNone, Failed, Paused}
-use Rattle.perfdata_base.specs.Features.{HasFeature}
-use Rattle.perfdata_base.specs.declared.raw.Endianness.{Endianness}
+use Rattle.perfdata_base.specs.Source.{State, prepend, Paused}
 use Rattle.perfdata_base.proofs.Cut.{none_or_paused}
 use Rattle.perfdata_base.proofs.Gives.{failed_later, paused_later}
 use Rattle.perfdata_parts.specs.declared.error.Error.{Error}
 use Rattle.linux_perf_data.specs.declared.iter.PerfRecordIter.{PerfRecordIter}
-use Rattle.linux_perf_data.specs.declared.iter.Stage.TheVariants.{Running, Ended}
 use Rattle.linux_perf_data.specs.declared.perf_file.PerfFile.{PerfFile}
 use Rattle.linux_perf_data.specs.Attribute.{Attribute, Rule}
 use Rattle.linux_perf_data.specs.Known.{Knows}
 use Rattle.linux_perf_data.specs.Late.{FileHolds, IsMetadata, BroughtFeature, brought_features}
-use Rattle.linux_perf_data.specs.Layout.{Bound, Handed, End, whole, faulty, Fault, ToCome, attributes_in, brought, handed, kind_of, size_of}
-use Rattle.linux_perf_data.specs.Names.{CanName, Named, event_desc}
+use Rattle.linux_perf_data.specs.Layout.{Handed, End, whole, faulty, Fault, ToCome, attributes_in, brought, handed, kind_of, size_of}
+use Rattle.linux_perf_data.specs.Names.{event_desc}
 use Rattle.linux_perf_data.specs.Iter.{view, bound_of, RecordsToCome}
-use Rattle.linux_perf_data.specs.OpenedPipe.{EndsThere, HoldsMetadata, KeepsHead, OpensPipe, RefusesPipe, unplaced}
+use Rattle.linux_perf_data.specs.OpenedPipe.{EndsThere, KeepsHead, OpensPipe, RefusesPipe, unplaced}
 use Rattle.linux_perf_data.specs.PerfFile.{attributes_of_file, data_of, descriptions_of}
 use Rattle.linux_perf_data.specs.Piece.{Answers}
-use Rattle.linux_perf_data.specs.PipeOpen.{IsPipeHeader, AreMetadata, EndsMetadata, data_told}
+use Rattle.linux_perf_data.specs.PipeOpen.{EndsMetadata}
 use Rattle.linux_perf_data.proofs.Heads.{kind_front, size_front}
 use Rattle.linux_perf_data.proofs.Layouts.{nothing_more}
 use Rattle.linux_perf_data.proofs.OneLayout.{some_layout}
 use Rattle.linux_perf_data.proofs.Takings.{can_name}
-use Rattle.perflist.specs.Listing.{AreFirst, ComeFirst, EndsFaulty, IsOwn, IsUnfailed, ListedAll, ListedInto, ListedTo, ListsRecords, SourceOwesSome, StopsListing, lines_of}
-use Rattle.perflist.specs.PipeListing.{BeginsPipe, HoldsAll, IsWholePipe, ListedPipe, OfPipe, ReadsPipe, StoppedPipe, StopsListingPipe}
-use Rattle.perflist.specs.declared.list.ListFault.{ListFault}
+use Rattle.perflist.specs.Listing.{AreFirst, ComeFirst, EndsFaulty, IsOwn, IsUnfailed, ListedAll, SourceOwesSome, StopsListing}
+use Rattle.perflist.specs.PipeListing.{BeginsPipe, HoldsAll, IsWholePipe, ListedPipe, OfPipe, StoppedPipe, StopsListingPipe}
 use Rattle.perflist.specs.declared.list.ListCause.{ListCause}
 use Rattle.perflist.specs.declared.list.ListCause.TheVariants.{Perf, Jit, Read, Write}
-use Rattle.perflist.proofs.Listings.{first_more, fault_more, if_some_each, owes_since}
+use Rattle.perflist.proofs.Listings.{if_some_each, owes_since}
 
 -- what is so of the bytes behind a front is so of all bytes
 behind_front : (o left : Option (List ℕ)) (front : List ℕ) (P Q : List ℕ → Type 0) → o ≡ prepend front left → ((rest : List ℕ) → left ≡ Some rest → P rest → Q (front ++ rest)) → IfSome left P → IfSome o Q

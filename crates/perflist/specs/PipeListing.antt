@@ -1,5 +1,5 @@
 -- What a listing of a pipe writes, and why it stops.
-use Rattle.std.specs.Prelude.{◌≡◌, ◌≢◌, ◌⊎◌, ◌↔◌, ℕ, ◌<◌, List, [], ◌∷◌, ◌++◌, length, nat_eq, IsSome, Option, None, Some, Result, Ok, Err, IfSome}
+use Rattle.std.specs.Prelude.{◌≡◌, ◌≢◌, ◌⊎◌, ◌↔◌, ℕ, ◌<◌, List, [], ◌∷◌, ◌++◌, length, nat_eq, IsSome, Option, None, Result, Ok, Err, IfSome}
 use Rattle.std.specs.List.{concat}
 use Rattle.std.specs.Map.{update_all}
 use Rattle.std.specs.Io.KnownBytes.{Appends}

@@ -1,4 +1,3 @@
-use Rattle.std.proofs.Common.{inl}
 use Rattle.perflist.proofs.Listings.{listed_file, refused_file, own_file}
 use Rattle.perflist.proofs.list.list_file.Goals as goal
 

@@ -2,9 +2,9 @@ use Rattle.std.proofs.Common.{arith, [], ◌∷◌, ◌++◌, length-append, Ok,
 use Rattle.std.specs.Io.KnownBytes.{Appends}
 use Rattle.std.proofs.KnownBytes.{Appends-trans, Appends-nil}
 use Rattle.linux_perf_data.specs.Iter.{Nexts, handed_of, bound_of}
-use Rattle.linux_perf_data.specs.Late.{FileHolds, FileTook}
+use Rattle.linux_perf_data.specs.Late.{FileHolds}
 use Rattle.linux_perf_data.proofs.Iters.{handing_none, handing_more, handing_end, handing_reason}
-use Rattle.linux_perf_data.proofs.Takings.{holds_none, holds_more}
+use Rattle.linux_perf_data.proofs.Takings.{holds_none}
 use Rattle.perflist.specs.Listing.{lines_of}
 use Rattle.perflist.proofs.Listings.{lines_more, first_of, wrote_front, own_after, not_foreign, holds_step}
 use Rattle.perflist.proofs.list.list_records.Goals as goal
