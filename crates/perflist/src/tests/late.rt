@@ -163,35 +163,52 @@ fn attributes_as_they_come(rt: HostRuntime) -> Result<(), Fail> {
     Ok(())
 }
 
+/// Nothing is taken into the `PerfFile` of a pipe with two attributes, whatever else is wrong with the late record.
 #[test]
 fn another_pipes_attributes(rt: HostRuntime) -> Result<(), Fail> {
-    let image = little(rt.alloc(), &LATE)?;
     let other = little(rt.alloc(), &TWO)?;
-    let reader = PerfFileReader::parse_pipe(rt.alloc(), image.bytes.as_slice())?;
-    let mut records = reader.record_iter;
-    let mut own = reader.perf_file;
-    let mut foreign = PerfFileReader::parse_pipe(rt.alloc(), other.bytes.as_slice())?.perf_file;
-    comes(&rt, &mut records, &mut foreign, Ok(true), 2);
-    comes(&rt, &mut records, &mut foreign, Err(End::Foreign), 2);
-    comes(&rt, &mut records, &mut own, Err(End::Failed), 1);
+    let breaks = behind_one(Part::Attribute(0x10004, 0, &[6]));
+    let cut = [
+        Part::Attribute(4, 0, &[]),
+        Part::Sample(1),
+        Part::Head(80, 0, 12),
+        Part::Filled(0, 4),
+    ];
+    for parts in [LATE.as_slice(), &breaks, &cut] {
+        let image = little(rt.alloc(), parts)?;
+        let reader = PerfFileReader::parse_pipe(rt.alloc(), image.bytes.as_slice())?;
+        let mut records = reader.record_iter;
+        let mut own = reader.perf_file;
+        let bytes = other.bytes.as_slice();
+        let mut foreign = PerfFileReader::parse_pipe(rt.alloc(), bytes)?.perf_file;
+        comes(&rt, &mut records, &mut foreign, Ok(true), 2);
+        comes(&rt, &mut records, &mut foreign, Err(End::Foreign), 2);
+        comes(&rt, &mut records, &mut own, Err(End::Failed), 1);
+    }
     Ok(())
 }
 
-/// A pipe of the other order names its attribute by an EVENT_DESC that can't be read in this one.
+/// A pipe of the other order names its attribute by an EVENT_DESC that can't be read in this one, whether or not the late
+/// attribute breaks the rule.
 #[test]
 fn another_orders_names(rt: HostRuntime) -> Result<(), Fail> {
     let events = described(rt.alloc(), Endianness::BigEndian, 64)?;
     let mut other = piped(rt.alloc(), Endianness::BigEndian, &[])?;
     other.described(4, 0, &[5])?;
     other.feature(12, &events.bytes)?;
-    let image = little(rt.alloc(), &LATE)?;
-    let mut records = PerfFileReader::parse_pipe(rt.alloc(), image.bytes.as_slice())?.record_iter;
-    let mut foreign = PerfFileReader::parse_pipe(rt.alloc(), other.bytes.as_slice())?.perf_file;
-    for wanted in [Ok(true), Err(End::Attribute), Err(End::Failed)] {
-        comes(&rt, &mut records, &mut foreign, wanted, 1);
+    let breaks = behind_one(Part::Attribute(0x10004, 0, &[6]));
+    for parts in [LATE.as_slice(), &breaks] {
+        let image = little(rt.alloc(), parts)?;
+        let bytes = image.bytes.as_slice();
+        let mut records = PerfFileReader::parse_pipe(rt.alloc(), bytes)?.record_iter;
+        let bytes = other.bytes.as_slice();
+        let mut foreign = PerfFileReader::parse_pipe(rt.alloc(), bytes)?.perf_file;
+        for wanted in [Ok(true), Err(End::Attribute), Err(End::Failed)] {
+            comes(&rt, &mut records, &mut foreign, wanted, 1);
+        }
+        let first = foreign.event_attributes().first();
+        assert_eq!(rt; first.and_then(|one| one.name()), Some("c"));
     }
-    let first = foreign.event_attributes().first();
-    assert_eq!(rt; first.and_then(|one| one.name()), Some("c"));
     Ok(())
 }
 
