@@ -29,10 +29,7 @@ impl<C: PlacedSource + Drop> PerfFileReader<C> {
         requires rule { Rule (attributes_by opening.attributes.items) }
         ensures { StartsOrNot C.seen source opening result }
     {
-        let known = match Known::new(alloc, &opening.attributes, opening.endian) {
-            Ok(known) => known,
-            Err(error) => return Err(error),
-        };
+        let known = Known::new(alloc, &opening.attributes, opening.endian)?;
         let input = Input::Section(opening.size);
         let record_iter = PerfRecordIter::at_first(
             alloc,
@@ -65,9 +62,10 @@ impl<C: PlacedSource + Drop> PerfFileReader<C> {
     /// section ends past 2^64 - 1.
     ///
     /// The attributes are those of the section EVENT_DESC; without it those of the event types section, where it isn't
-    /// empty; else those of the attribute section. They are refused as by `parse_event_desc_section`,
-    /// `parse_event_types_section` and `parse_attr_section`. An [`Error::IoError`] of kind `Unsupported` says that
-    /// they are told with simpleperf's meta info.
+    /// empty; else those of the attribute section, which in a file with simpleperf's meta info are named by the event types
+    /// that it tells. They are refused as by `parse_event_desc_section`, `parse_event_types_section`,
+    /// `parse_simpleperf_attr_section` and `parse_attr_section`, and the meta info as by `parse_meta_info_map`, or with
+    /// [`Error::NoEventTypesInSimpleperfMetaInfo`] where it tells no event types.
     ///
     /// [`Error::NoAttributes`] where there are none. Where the identifiers of several attributes' records don't stand at
     /// the same places, it is [`Error::NoIdentifierDespiteMultiEvent`] with the index of the first attribute without
@@ -98,10 +96,7 @@ impl<R: Source + Drop> PerfFileReader<R> {
         requires rule { Rule (attributes_by opening.attributes.items) }
         ensures { StartsPipe R.seen source opening result }
     {
-        let known = match Known::new(alloc, &opening.attributes, opening.endian) {
-            Ok(known) => known,
-            Err(error) => return Err(error),
-        };
+        let known = Known::new(alloc, &opening.attributes, opening.endian)?;
         let stage = match opening.head {
             Some(_) => Stage::Running,
             None => Stage::Ended,

@@ -174,10 +174,7 @@ fn take_feature(
 ) -> Result<(), Error>
     ensures { TakesFeature endian file.old body.now result file.new }
 {
-    let header = match parse_feature(alloc, endian, body) {
-        Ok(header) => header,
-        Err(error) => return Err(error),
-    };
+    let header = parse_feature(alloc, endian, body)?;
     if header.feature == Feature::EVENT_DESC {
         return file.put_event_desc(alloc, endian, header.bytes);
     }

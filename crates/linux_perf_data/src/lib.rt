@@ -1,4 +1,4 @@
-//! Reads Linux perf's and Android simpleperf's `perf.data` files, and jitdump files.
+//! Reads Linux perf's and Android simpleperf's `perf.data` files and pipes, and jitdump files.
 #![tactic(auto)]
 
 mod build_ids;

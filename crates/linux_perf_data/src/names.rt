@@ -105,18 +105,9 @@ pub(crate) fn copy_told(
 ) -> Result<Vec<Option<String>>, Error>
     ensures { CopiesTold endian bytes.now attributes.now ids.now result }
 {
-    let told = match read_event_desc(alloc, endian, bytes) {
-        Ok(told) => told,
-        Err(error) => return Err(error),
-    };
-    let mut names = match copy_names(alloc, &told, attributes) {
-        Ok(names) => names,
-        Err(error) => return Err(error),
-    };
-    let name = match copy_name(alloc, &told, ids) {
-        Ok(name) => name,
-        Err(error) => return Err(error),
-    };
+    let told = read_event_desc(alloc, endian, bytes)?;
+    let mut names = copy_names(alloc, &told, attributes)?;
+    let name = copy_name(alloc, &told, ids)?;
     match names.push(name) {
         Ok(()) => Ok(names),
         Err(_) => Err(Error::Memory),

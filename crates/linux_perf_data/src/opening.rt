@@ -108,10 +108,7 @@ fn read_attr_section<C: PlacedSource>(
 fn event_types_in(alloc: Global, bytes: &[u8]) -> Result<Vec<SimplePerfEventType>, Error>
     ensures { ReadsMeta bytes.now result }
 {
-    let map = match parse_meta_info_map(alloc, bytes) {
-        Ok(map) => map,
-        Err(error) => return Err(error),
-    };
+    let map = parse_meta_info_map(alloc, bytes)?;
     match get_event_types(alloc, &map) {
         Ok(Some(types)) => Ok(types),
         Ok(None) => Err(Error::NoEventTypesInSimpleperfMetaInfo),

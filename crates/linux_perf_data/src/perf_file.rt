@@ -47,7 +47,7 @@ impl PerfFile {
         self.attributes.as_slice()
     }
 
-    /// The features that the file declares.
+    /// The features that the file declares, or that came in the pipe so far, below 256.
     pub fn features(&self) -> FeatureSet
         ensures { result ≡ features_of self.now }
     {
@@ -61,7 +61,7 @@ impl PerfFile {
         self.endian
     }
 
-    /// The bytes of a feature's section, or none where the file doesn't have the feature.
+    /// The bytes of a feature's section, in a pipe those that came last; none where the feature isn't there.
     pub fn feature_section_data(&self, feature: Feature) -> Option<&[u8]>
         ensures { option_map (λ s. s.now) result ≡ data_of self.now feature.0 }
     {

@@ -140,10 +140,7 @@ impl Metadata {
     ) -> Result<(), Error>
         ensures { Gathers endian 64 body.now self.old result self.new }
     {
-        let header = match parse_attribute(alloc, endian, body) {
-            Ok(header) => header,
-            Err(error) => return Err(error),
-        };
+        let header = parse_attribute(alloc, endian, body)?;
         let attribute = AttributeDescription::new(header.attr, None, header.ids);
         match self.attributes.push(attribute) {
             Ok(()) => Ok(()),
