@@ -64,7 +64,11 @@ traced_refused order a b c head body now end e least kind took (inr (inr (enough
       gave = gave_more a b c body part.part took.gave part.gave;
       bound = omega (arith, came_long, bound);
       why = elim why [
-        | inl memory ↦ inl (memory, omega (arith, long, enough))
+        | inl memory ↦ inl (
+          memory,
+          omega (arith, long, enough),
+          inr (kind, omega (arith, long, enough), omega (arith, came_long, long), omega (arith, came_long, long, number, less)),
+        )
         | inr (is, source) ↦ inr (inr (inr (inr (inr (
           is,
           omega (arith, came_long, long),

@@ -1,7 +1,7 @@
 -- What the calls of a `PerfRecordIter` come to, one and several.
 use Rattle.std.proofs.Common.{◌≡◌, ◌≢◌, ◌==◌, ℕ, ◌+◌, ◌^◌, ◌<◌, ◌++◌, List, [], ◌∷◌, false, length, take, drop, refl, sym, ap, ◌∙◌, subst, arith, inl, inr, append_assoc, length-append, eq-eqb}
 use Rattle.std.specs.Prelude.{◌⊎◌, if◌then◌else◌, Option, None, Some, IfSome}
-use Rattle.std.proofs.lemmas.Bool.{ne_eqb}
+use Rattle.std.proofs.lemmas.Bool.{cases_eq, ne_eqb}
 use Rattle.std.proofs.lemmas.List.{append-nil, take-append-drop, length-take-le, length-drop}
 use Rattle.perfdata_base.specs.Source.{State, prepend, Gave, Paused}
 use Rattle.perfdata_base.proofs.Gives.{gave_none, gave_more, failed_later, paused_later}
@@ -10,6 +10,8 @@ use Rattle.perfdata_base.specs.declared.raw.Endianness.{Endianness}
 use Rattle.perfdata_base.specs.declared.event.PerfEventHeader.{PerfEventHeader}
 use Rattle.perfdata_parts.specs.declared.error.Error.{Error}
 use Rattle.perfdata_parts.specs.declared.error.Error.TheVariants as error
+use Rattle.linux_perf_data.specs.declared.input.Input.{Input}
+use Rattle.linux_perf_data.specs.declared.input.Input.TheVariants.{Section, Pipe}
 use Rattle.linux_perf_data.specs.declared.iter.PerfRecordIter.{PerfRecordIter}
 use Rattle.linux_perf_data.specs.declared.iter.Found.{Found}
 use Rattle.linux_perf_data.specs.declared.iter.Stage.TheVariants.{Running}
@@ -17,14 +19,14 @@ use Rattle.linux_perf_data.specs.declared.perf_file.PerfFile.{PerfFile}
 use Rattle.linux_perf_data.specs.declared.known.Known.{Known}
 use Rattle.linux_perf_data.specs.Attribute.{Attribute, Rule}
 use Rattle.linux_perf_data.specs.Known.{Knows}
-use Rattle.linux_perf_data.specs.Input.{bound_in, view_in}
+use Rattle.linux_perf_data.specs.Input.{KeepsNone, bound_in, view_in}
 use Rattle.linux_perf_data.specs.Late.{IsMetadata, FileTook, HasContents, Passed, SameFile, TakesNot}
 use Rattle.linux_perf_data.specs.PerfFile.{order_of_file, descriptions_of, features_of, data_of}
 use Rattle.linux_perf_data.specs.Layout.{Bound, Begins, IsEnd, IsTruncated, IsRecord, IsPiece, kind_of, misc_of, Handed, End, whole, faulty, Fault, IsLate, FaultAt, ToCome, handed_with, handed_at, attributes_of, brought}
-use Rattle.linux_perf_data.specs.Piece.{Answers, SourceOwes, WantsMemory}
+use Rattle.linux_perf_data.specs.Piece.{Answers, CameWithin, SourceOwes, WantsMemory}
 use Rattle.linux_perf_data.specs.Iter.{view, bound_of, MayBegin, SameInput, TookPiece, CutPiece, RefusedPiece, FindsRecord, found_with, RecordsToCome, IsAfter, TookRecord, DeclinedRecord, HandsOut, RanOut, AtEnd, LateForeign, Reason, Stops, Refuses, Handing}
 use Rattle.linux_perf_data.proofs.Brought.{brings_none, brought_one}
-use Rattle.linux_perf_data.proofs.Heads.{record_least}
+use Rattle.linux_perf_data.proofs.Heads.{record_least, extent_plain}
 use Rattle.linux_perf_data.proofs.Takes.{LateFault, Foreign, taken_piece, marker_piece, late_why, wants_memory}
 use Rattle.linux_perf_data.proofs.Layouts.{nothing_more, fault_next, to_come_more}
 
@@ -43,6 +45,18 @@ all_told a (Some rest) front P is more = subst (λ o. IfSome o P) (sym is) (more
 
 knows_rule : (order : Endianness) (k : Known) (attrs : List Attribute) → Knows order k attrs → Rule attrs
 knows_rule order k attrs knows = knows.rule
+
+-- a whole record came, and no more
+record_within : (order : Endianness) (p : List ℕ) → IsRecord order p → CameWithin order p
+record_within order p is = elim (cases_eq (kind_of order p) 71) [
+  | inl trace ↦ inr (inr (trace, is.trace trace, (let long = is.long in omega (arith, long))))
+  | inr other ↦ inr (inl (let long = is.long in let extent = extent_plain order p other in omega (arith, long, extent)))
+]
+
+-- a section keeps no head
+section_keeps_none : (i : Input) → bound_in i ≢ None → KeepsNone i
+section_keeps_none (Section size) file = _
+section_keeps_none (Pipe kept) file = absurd (file refl)
 
 -- a `PerfFile` that is the same holds the same
 pub same_later : (now old : PerfFile) → now ≡ old → SameFile old now
@@ -212,6 +226,7 @@ module _ {R : Type 0} (seen : R → State) where
         head_long = length-take-le 8 t.piece least;
         place = finds.place ∙ i.offset;
         gave = subst (λ p. Gave (view seen old) (i.markers ++ p) (view seen new)) (sym split) all;
+        unread = subst KeepsNone (sym after.input) t.unread;
         offset = (let o = t.offset in let a = after.offset in let l = ap length held in let at = finds.place in omega (arith, length-drop 8 t.piece, l, at, a, o, least));
         fits = (let f = t.fits in let a = after.offset in omega (arith, f, a));
       }
@@ -266,6 +281,8 @@ module _ {R : Type 0} (seen : R → State) where
         came = refused.came;
         place = offset ∙ r.offset ∙ i.offset;
         gave = subst (λ s. Gave (view seen old) (i.markers ++ refused.came) s) (sym same) (gave_more _ _ _ i.markers refused.came i.gave refused.gave);
+        unread = subst KeepsNone (sym stopped.input) r.unread;
+        within = subst (λ o. CameWithin o refused.came) i.same.order refused.within;
         held = (let few = refused.few in let b = ap (λ v. length v.items) stopped.body in omega (arith, few, b));
         memory = λ m. subst (λ o. WantsMemory o refused.came) i.same.order (refused.memory m);
         reason = λ m. reason old now new' file refused.came e i more (elim (refused.why m) [
@@ -315,6 +332,8 @@ module _ {R : Type 0} (seen : R → State) where
         came = t.piece;
         place = offset ∙ i.offset;
         gave = subst (λ s. Gave (view seen old) (i.markers ++ t.piece) s) (sym same) (gave_more _ _ _ i.markers t.piece i.gave t.gave);
+        unread = subst KeepsNone (sym (stopped.input ∙ d.after.input)) t.unread;
+        within = subst (λ o. CameWithin o t.piece) i.same.order (record_within now.endian t.piece t.is_record);
         held = omega (arith, held);
         memory = λ m.
             let contents : HasContents now.endian head.type_ piece.body.items = subst (λ o. HasContents o head.type_ piece.body.items) order (d.memory m).1 in
@@ -347,6 +366,7 @@ module _ {R : Type 0} (seen : R → State) where
         section = λ _. (refl, empty);
         held = omega (arith, few);
         truncated = λ none. absurd (file none);
+        unread = section_keeps_none new.input (λ none. file (sym i.same.bound ∙ ap bound_in (sym stopped.input) ∙ none));
       }
 
   -- all that was to come is told: markers and a truncated record
@@ -378,6 +398,7 @@ module _ {R : Type 0} (seen : R → State) where
         section = λ file. absurd (file pipe);
         held = omega (arith, few, body);
         truncated = λ _. subst (λ o. IsTruncated o new'.offset cut.came) i.same.order (subst (λ n. IsTruncated now.endian n cut.came) (sym (offset ∙ c.offset)) cut.truncated);
+        unread = subst KeepsNone (sym stopped.input) c.unread;
       }
 
   -- no record was handed out yet

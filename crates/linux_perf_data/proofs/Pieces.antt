@@ -1,6 +1,6 @@
 -- How a record's head and what belongs to it come to a record, or to the reason why there is none.
 use Rattle.std.proofs.Common.{◌≡◌, ◌≢◌, ℕ, ◌+◌, ◌-◌, ◌^◌, ◌<◌, ◌≤◌, ◌++◌, List, length, drop, sym, ap, ◌∙◌, subst, arith, inl, inr, length-append, append_assoc}
-use Rattle.std.proofs.lemmas.Bool.{cases_eq}
+use Rattle.std.proofs.lemmas.Bool.{cases_eq, cases_lt}
 use Rattle.std.specs.Prelude.{◌⊎◌, Option, None, Some, Ok, Err, IfSome}
 use Rattle.std.proofs.Math.Seq.{drop-append_seam}
 use Rattle.perfdata_base.specs.Source.{State, prepend, Gave, GaveNone}
@@ -16,7 +16,7 @@ use Rattle.perfdata_parts.specs.declared.error.ReadError.TheVariants.{PerfEventD
 use Rattle.perfdata_parts.specs.Error.{IsShort, IsUnsupported, IsIo}
 use Rattle.linux_perf_data.specs.Attribute.{Attribute}
 use Rattle.linux_perf_data.specs.Layout.{Bound, Fault, short_head, bad_size, too_far, cut_body, compressed, short_trace, trace_too_far, cut_trace, IsLate, FaultAt, IsCompressed, IsTruncated, IsRecord, HasHead, HasBody, HasTrace, kind_of, misc_of, size_of, trace_of, extent_of}
-use Rattle.linux_perf_data.specs.Piece.{Answers, TookBytes, TookHead, EndedIn, FailedIn, Checks, TookContent, EndedContent, CameContent, WhyNoContent, SourceOwes, RefusedAt, CutAt}
+use Rattle.linux_perf_data.specs.Piece.{Answers, TookBytes, TookHead, EndedIn, FailedIn, Checks, TookContent, EndedContent, CameContent, CutContent, WhyNoContent, CutBehindHead, CameWithin, SourceOwes, RefusedAt, CutAt}
 use Rattle.linux_perf_data.proofs.Heads.{kind_front, misc_front, size_front, extent_traced, extent_plain}
 
 -- what a head says, where these bytes follow it
@@ -87,6 +87,7 @@ head_short order a b bound offset held e file empty short ended =
       came = ended.part;
       gave = ended.gave;
       few = omega arith;
+      within = inl (omega (arith, less));
       unfailed = not_short_failed e short;
       memory = λ is. absurd (not_short_memory e short is);
       why = λ _. elim (none_or_paused a b ended.none) [
@@ -102,6 +103,7 @@ head_failed order a b bound offset held e empty (io, failed) =
       came = failed.part;
       gave = failed.gave;
       few = omega arith;
+      within = inl (omega (arith, less));
       unfailed = not_io_failed e io;
       memory = λ is. absurd (not_io_memory e io is);
       why = λ _. inr (inl (less, inl (io, failed.failed)));
@@ -113,6 +115,7 @@ size_refused order a b bound offset held head e empty t (inl (is, small)) = reco
   came = t.bytes;
   gave = t.took.gave;
   few = omega arith;
+  within = inl (let long = t.took.long in omega (arith, long));
   unfailed = λ f. cc;
   memory = λ m. absurd cc;
   why = λ _. inl (shown a.bytes b.bytes t.bytes (Owes order bound offset e) t.took.gave.bytes
@@ -122,6 +125,7 @@ size_refused order a b bound offset held head e empty t (inr (is, least, far)) =
   came = t.bytes;
   gave = t.took.gave;
   few = omega arith;
+  within = inl (let long = t.took.long in omega (arith, long));
   unfailed = λ f. cc;
   memory = λ m. absurd cc;
   why = λ _. inl (shown a.bytes b.bytes t.bytes (Owes order bound offset e) t.took.gave.bytes
@@ -180,12 +184,13 @@ body_short order a b c bound offset end held head e t x file is checks less gave
       came = t.bytes ++ x;
       gave = all;
       few = omega (arith, few, behind);
+      within = inr (inl (omega (arith, size, long, less)));
       unfailed = λ f. cc;
       memory = λ m. absurd cc;
       why = λ _. elim (none_or_paused b c none) [
         | inl end' ↦ inl (shown_whole a.bytes (t.bytes ++ x) (Owes order bound offset e) (all_came a c (t.bytes ++ x) all end')
             (cut_body, (λ _. (file, has_head order head offset end (t.bytes ++ x) x h checks, omega (arith, size, long, less, least))), (λ l. l), is))
-        | inr paused ↦ inr (inr (omega (arith, long), is, inr ((λ pipe. absurd (file pipe)), paused_later a b c t.bytes t.took.gave paused)))
+        | inr paused ↦ inr (inr ((omega (arith, long), inl (omega (arith, size, long, less))), is, inr ((λ pipe. absurd (file pipe)), paused_later a b c t.bytes t.took.gave paused)))
       ];
     }
 
@@ -202,13 +207,16 @@ pub pass_failed : (order : Endianness) (a b c : State) (bound : Bound) (offset h
 pass_failed order a b c bound offset held head e empty t (is, failed) =
     let h = headed order a b head t failed.part in
     let long = h.long in
+    let size = h.size in
+    let less = failed.less in
     record {
       came = t.bytes ++ failed.part;
       gave = gave_more a b c t.bytes failed.part t.took.gave failed.gave;
       few = omega arith;
+      within = inr (inl (omega (arith, size, long, less)));
       unfailed = λ f. cc;
       memory = λ m. absurd cc;
-      why = λ _. inr (inr (omega (arith, long), is, inl (failed_later a b c t.bytes t.took.gave failed.failed)));
+      why = λ _. inr (inr ((omega (arith, long), inl (omega (arith, size, long, less))), is, inl (failed_later a b c t.bytes t.took.gave failed.failed)));
     }
 
 -- the body of another record is cut
@@ -237,14 +245,50 @@ extent_is order a b head t x rest kind enough =
     let number = number_front order 8 x rest enough in
     ap (extent_of order) (append_assoc t.bytes x rest) ∙ whole ∙ ap (λ n. head.size + n) number
 
+-- a part of what belongs to a head, behind that
+cut_behind : (order : Endianness) (a b : State) (head : PerfEventHeader) (t : TookHead order a head b) (x : List ℕ) → CutContent order head x → CutBehindHead order (t.bytes ++ x)
+cut_behind order a b head t x (inl less) =
+    let h = headed order a b head t x in
+    let size = h.size in
+    let long = h.long in
+    (omega (arith, long), inl (omega (arith, size, long, less)))
+cut_behind order a b head t x (inr (kind, enough, there, less)) =
+    let h = headed order a b head t x in
+    let size = h.size in
+    let long = h.long in
+    let extent = extent_alone order a b head t x kind (omega (arith, there, enough)) in
+    (omega (arith, long), inr (h.kind ∙ kind, omega (arith, size, enough), omega (arith, size, long, there, enough), omega (arith, extent, long, less, enough)))
+
+cut_within : (order : Endianness) (a b : State) (head : PerfEventHeader) (t : TookHead order a head b) (x : List ℕ) → CutContent order head x → CameWithin order (t.bytes ++ x)
+cut_within order a b head t x (inl less) =
+    let h = headed order a b head t x in
+    let size = h.size in
+    let long = h.long in
+    inr (inl (omega (arith, size, long, less)))
+cut_within order a b head t x (inr (kind, enough, there, less)) =
+    let h = headed order a b head t x in
+    let size = h.size in
+    let long = h.long in
+    let extent = extent_alone order a b head t x kind (omega (arith, there, enough)) in
+    inr (inr (h.kind ∙ kind, omega (arith, size, enough), omega (arith, extent, long, less, enough)))
+
+-- all that the head's size counts came, and the size is above a head's own, or nothing came behind the head
+all_within : (order : Endianness) (a b : State) (head : PerfEventHeader) (t : TookHead order a head b) (x : List ℕ) → length x ≡ head.size - 8 → CameWithin order (t.bytes ++ x)
+all_within order a b head t x all =
+    let h = headed order a b head t x in
+    let size = h.size in
+    let long = h.long in
+    elim (cases_lt 8 head.size) [
+      | inl above ↦ inr (inl (omega (arith, size, long, all, above)))
+      | inr below ↦ inl (omega (arith, long, all, below))
+    ]
+
 -- Why what belongs to a head didn't come.
 content_why : (order : Endianness) (a b c : State) (bound : Bound) (offset end : ℕ) (head : PerfEventHeader) (e : Error) (t : TookHead order a head b) (came : List ℕ) → Checks offset head.size (Ok end)
     → Gave b came c → e ≢ Memory → WhyNoContent order b head end e c came → IfSome a.bytes (Owes order bound offset e) ⊎ SourceOwes order bound a (t.bytes ++ came) e c
-content_why order a b c bound offset end head e t came checks gave other (inl (is, some)) = absurd (other is)
+content_why order a b c bound offset end head e t came checks gave other (inl (is, some, cut)) = absurd (other is)
 content_why order a b c bound offset end head e t came checks gave other (inr (inl (is, less, failed))) =
-    let h = headed order a b head t came in
-    let long = h.long in
-    inr (inr (omega (arith, long), is, inl (failed_later a b c t.bytes t.took.gave failed)))
+    inr (inr (cut_behind order a b head t came (inl less), is, inl (failed_later a b c t.bytes t.took.gave failed)))
 content_why order a b c bound offset end head e t came checks gave other (inr (inr (inl (is, long', kind)))) =
     inl (shown a.bytes c.bytes (t.bytes ++ came) (Owes order bound offset e) (gave_more a b c t.bytes came t.took.gave gave).bytes
     (λ rest. let h = behind order a b head t came rest in let least = checks.0 in
@@ -270,15 +314,22 @@ content_why order a b c bound offset end head e t came checks gave other (inr (i
           let extent = extent_alone order a b head t came kind (omega (arith, there, enough)) in
           shown_whole a.bytes (t.bytes ++ came) (Owes order bound offset e) (all_came a c (t.bytes ++ came) all end')
           (cut_trace, (λ _. (has_trace order head offset end (t.bytes ++ came) came h checks (omega (arith, there, least)) kind enough, omega (arith, extent, ends, fits), omega (arith, extent, long, less, least))), (λ l. l), is))
-      | inr paused ↦ inr (inr (omega (arith, long), is, inr ((λ _. omega (arith, size, long, there, least)), paused_later a b c t.bytes t.took.gave paused)))
+      | inr paused ↦ inr (inr (cut_behind order a b head t came (inr (kind, enough, there, less)), is, inr ((λ _. omega (arith, size, long, there, least)), paused_later a b c t.bytes t.took.gave paused)))
     ]
 content_why order a b c bound offset end head e t came checks gave other (inr (inr (inr (inr (inr (is, there, kind, enough, fits, less, inr failed)))))) =
-    let h = headed order a b head t came in
-    let long = h.long in
-    inr (inr (omega (arith, long), is, inl (failed_later a b c t.bytes t.took.gave failed)))
+    inr (inr (cut_behind order a b head t came (inr (kind, enough, there, less)), is, inl (failed_later a b c t.bytes t.took.gave failed)))
+
+-- no more came than belongs to the head
+content_within : (order : Endianness) (a b c : State) (head : PerfEventHeader) (end : ℕ) (e : Error) (t : TookHead order a head b) (came : List ℕ) → WhyNoContent order b head end e c came → CameWithin order (t.bytes ++ came)
+content_within order a b c head end e t came (inl (is, some, cut)) = cut_within order a b head t came cut
+content_within order a b c head end e t came (inr (inl (is, less, source))) = cut_within order a b head t came (inl less)
+content_within order a b c head end e t came (inr (inr (inl (is, long, kind)))) = all_within order a b head t came long
+content_within order a b c head end e t came (inr (inr (inr (inl (is, long, kind, short))))) = all_within order a b head t came long
+content_within order a b c head end e t came (inr (inr (inr (inr (inl (is, long, kind, enough, far)))))) = all_within order a b head t came long
+content_within order a b c head end e t came (inr (inr (inr (inr (inr (is, there, kind, enough, fits, less, source)))))) = cut_within order a b head t came (inr (kind, enough, there, less))
 
 content_unfailed : (order : Endianness) (b c : State) (head : PerfEventHeader) (end : ℕ) (e : Error) (came : List ℕ) → WhyNoContent order b head end e c came → e ≡ Failed → ⊥
-content_unfailed order b c head end e came (inl (is, some)) f = cc
+content_unfailed order b c head end e came (inl (is, some, cut)) f = cc
 content_unfailed order b c head end e came (inr (inl (is, less, source))) f = cc
 content_unfailed order b c head end e came (inr (inr (inl (is, long, kind)))) f = not_unsupported_failed e is f
 content_unfailed order b c head end e came (inr (inr (inr (inl (is, long, kind, short))))) f = not_short_failed e is f
@@ -286,7 +337,7 @@ content_unfailed order b c head end e came (inr (inr (inr (inr (inl (is, long, k
 content_unfailed order b c head end e came (inr (inr (inr (inr (inr (is, there, kind, enough, fits, less, source)))))) f = cc
 
 content_memory : (order : Endianness) (b c : State) (head : PerfEventHeader) (end : ℕ) (e : Error) (came : List ℕ) → WhyNoContent order b head end e c came → e ≡ Memory → 8 < head.size
-content_memory order b c head end e came (inl (is, some)) m = some
+content_memory order b c head end e came (inl (is, some, cut)) m = some
 content_memory order b c head end e came (inr (inl (is, less, source))) m = absurd cc
 content_memory order b c head end e came (inr (inr (inl (is, long, kind)))) m = absurd (not_unsupported_memory e is m)
 content_memory order b c head end e came (inr (inr (inr (inl (is, long, kind, short))))) m = absurd (not_short_memory e is m)
@@ -303,6 +354,7 @@ content_refused order a b c bound offset end head e now other t checks n =
       came = t.bytes ++ n.came;
       gave = gave_more a b c t.bytes n.came t.took.gave n.gave;
       few = omega (arith, bound', ap length (behind_head t.bytes n.came t.took.long));
+      within = content_within order a b c head end e t n.came n.why;
       unfailed = content_unfailed order b c head end e n.came n.why;
       memory = λ m. let some = content_memory order b c head end e n.came n.why m in let size = h.size in let long = h.long in
           record { head = omega (arith, long); kind = λ k. other (sym h.kind ∙ k); size = omega (arith, size, some) };

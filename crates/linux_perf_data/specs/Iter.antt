@@ -21,13 +21,13 @@ use Rattle.linux_perf_data.specs.declared.known.Known.{Known}
 use Rattle.linux_perf_data.specs.declared.iter.Stage.TheVariants.{Running, Failed, Ended}
 use Rattle.linux_perf_data.specs.declared.perf_file.PerfFile.{PerfFile}
 use Rattle.linux_perf_data.specs.Attribute.{Attribute, Event, HoldsAttribute}
-use Rattle.linux_perf_data.specs.Input.{bound_in, view_in}
+use Rattle.linux_perf_data.specs.Input.{KeepsNone, bound_in, view_in}
 use Rattle.linux_perf_data.specs.Late.{HasContents, IsMetadata, FileTook, Passed, SameFile, TakesNot, SameCount}
 use Rattle.linux_perf_data.specs.Names.{event_desc}
 use Rattle.linux_perf_data.specs.PerfFile.{descriptions_of, data_of}
 use Rattle.linux_perf_data.specs.Known.{Knows, event_found}
 use Rattle.linux_perf_data.specs.Layout.{Bound, Begins, IsEnd, IsTruncated, IsRecord, kind_of, misc_of, Handed, End, whole, faulty, Fault, ToCome, handed_with, attributes_of, brought}
-use Rattle.linux_perf_data.specs.Piece.{RefusedAt, CutAt, Answers, SourceOwes, WantsMemory}
+use Rattle.linux_perf_data.specs.Piece.{RefusedAt, CameWithin, CutAt, Answers, SourceOwes, WantsMemory}
 
 -- a record with its place, as the layout has it
 abbrev pub handed_of : RecordPlace → PerfFileRecord → Handed
@@ -122,6 +122,7 @@ module _ {R : Type 0} (seen : R → State) where
     pub same : SameInput old new
     pub known : new.known ≡ old.known
     pub running : new.stage ≡ old.stage
+    pub unread : KeepsNone new.input
 
   -- a piece was refused, and the iterator's place stays
   pub record RefusedPiece (old : PerfRecordIter R) (e : Error) (new : PerfRecordIter R) : Type 0 where
@@ -130,6 +131,7 @@ module _ {R : Type 0} (seen : R → State) where
     pub round : new.round ≡ old.round
     pub same : SameInput old new
     pub known : new.known ≡ old.known
+    pub unread : KeepsNone new.input
 
   -- a piece is cut in a pipe, and the iterator's place stays
   pub record CutPiece (old new : PerfRecordIter R) : Type 0 where
@@ -139,6 +141,7 @@ module _ {R : Type 0} (seen : R → State) where
     pub round : new.round ≡ old.round
     pub same : SameInput old new
     pub known : new.known ≡ old.known
+    pub unread : KeepsNone new.input
 
   abbrev pub NextPiece : PerfRecordIter R → Result (Option PerfEventHeader) Error → PerfRecordIter R → Type 0
   NextPiece old (Ok (Some head)) new = TookPiece old head new
@@ -206,6 +209,8 @@ module _ {R : Type 0} (seen : R → State) where
     pub head_long : length head ≡ 8
     pub place : h.offset ≡ old.offset + length markers
     pub gave : Gave (view old) (markers ++ (head ++ h.body)) (view new)
+    -- nothing was read ahead: no head is kept, so what the iterator sees to come is what its source will give
+    pub unread : KeepsNone new.input
     pub offset : new.offset ≡ h.offset + 8 + length h.body
     pub fits : new.offset < 2 ^ 64
 
@@ -226,6 +231,7 @@ module _ {R : Type 0} (seen : R → State) where
     pub section : bound_of old ≢ None → (came ≡ []) × (new.body.items ≡ [])
     pub held : length new.body.items ≤ length (drop 8 came) + 4096
     pub truncated : bound_of old ≡ None → IsTruncated old.endian new.offset came
+    pub unread : KeepsNone new.input
 
   -- the end was answered
   pub record AtEnd (old : PerfRecordIter R) (file : PerfFile) (new : PerfRecordIter R) (file' : PerfFile) : Type 0 where
@@ -253,12 +259,15 @@ module _ {R : Type 0} (seen : R → State) where
       ⊎ (SourceOwes old.endian (bound_of old) (view old) came e (view new)
       ⊎ LateForeign old file came e)
 
-  -- a refusal was answered by an iterator that ran: markers were passed over, and of the record behind them these bytes came
+  -- a refusal was answered by an iterator that ran: markers were passed over, and of the record behind them these bytes came,
+  -- and none from behind it
   pub record Stops (old : PerfRecordIter R) (file : PerfFile) (e : Error) (new : PerfRecordIter R) : Type 0 where
     pub markers : List ℕ
     pub came : List ℕ
     pub place : new.offset ≡ old.offset + length markers
     pub gave : Gave (view old) (markers ++ came) (view new)
+    pub unread : KeepsNone new.input
+    pub within : CameWithin old.endian came
     pub held : length new.body.items ≤ length (drop 8 came) + 4096
     pub memory : e ≡ error.Memory → WantsMemory old.endian came
     pub reason : e ≢ error.Memory → Reason old file came e new

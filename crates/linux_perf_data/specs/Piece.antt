@@ -11,7 +11,7 @@ use Rattle.perfdata_parts.specs.Error.{IsShort, IsUnsupported, IsInvalidData, Is
 use Rattle.perfdata_parts.specs.EventDesc.{NoEventDesc}
 use Rattle.linux_perf_data.specs.Attribute.{Attribute}
 use Rattle.linux_perf_data.specs.Rules.{error_of_breach}
-use Rattle.linux_perf_data.specs.Layout.{Bound, Fault, short_head, bad_size, too_far, cut_body, compressed, short_trace, trace_too_far, cut_trace, bad_metadata, cut_metadata, small_attribute, bad_names, unruly, IsLate, FaultAt, IsCompressed, IsTruncated, kind_of, misc_of, size_of}
+use Rattle.linux_perf_data.specs.Layout.{Bound, Fault, short_head, bad_size, too_far, cut_body, compressed, short_trace, trace_too_far, cut_trace, bad_metadata, cut_metadata, small_attribute, bad_names, unruly, IsLate, FaultAt, IsCompressed, IsTruncated, kind_of, misc_of, size_of, extent_of}
 
 -- the answer to a fault of the layout
 abbrev pub Answers : Fault → Error → Type 0
@@ -137,11 +137,17 @@ pub record CameContent (old : State) (e : Error) (now : List ℕ) (new : State) 
   pub bound : length now ≤ length came + 4096
   pub why : Why came
 
+-- of what belongs to a head a part came: of what its size counts, or behind all of that of its auxiliary data
+abbrev pub CutContent : Endianness → PerfEventHeader → List ℕ → Type 0
+CutContent order head came =
+    (length came < head.size - 8)
+    ⊎ ((head.type_ ≡ 71) × (48 ≤ head.size) × (head.size - 8 ≤ length came) × (length came < head.size - 8 + number_in order 8 came))
+
 -- Why it was refused: the source failed in its body, it is compressed, its body is too short for auxiliary data, that ends
 -- too far, or is cut; or there was no memory for what isn't empty.
 abbrev pub WhyNoContent : Endianness → State → PerfEventHeader → ℕ → Error → State → List ℕ → Type 0
 WhyNoContent order old head end e new came =
-    ((e ≡ Memory) × (8 < head.size))
+    ((e ≡ Memory) × (8 < head.size) × CutContent order head came)
     ⊎ (((e ≡ Read PerfEventData) × (length came < head.size - 8) × SourceFailed old new)
     ⊎ ((IsUnsupported e × (length came ≡ head.size - 8) × IsCompressed head.type_)
     ⊎ ((IsShort e × (length came ≡ head.size - 8) × (head.type_ ≡ 71) × (head.size < 48))
@@ -162,13 +168,27 @@ ReadsContent order old head end (Ok (Some whole)) now new = TookContent order ol
 ReadsContent order old head end (Ok None) now new = EndedContent old head now new
 ReadsContent order old head end (Err e) now new = CameContent old e now new (WhyNoContent order old head end e new)
 
+-- a record is cut behind its head: in what its size counts, or behind all of that in its auxiliary data
+abbrev pub CutBehindHead : Endianness → List ℕ → Type 0
+CutBehindHead order came =
+    (8 ≤ length came)
+    × ((length came < size_of order came)
+    ⊎ ((kind_of order came ≡ 71) × (48 ≤ size_of order came) × (size_of order came ≤ length came) × (length came < extent_of order came)))
+
+-- no more came of a record than it has: its head, and what belongs to that
+abbrev pub CameWithin : Endianness → List ℕ → Type 0
+CameWithin order came =
+    (length came ≤ 8)
+    ⊎ ((length came ≤ size_of order came)
+    ⊎ ((kind_of order came ≡ 71) × (48 ≤ size_of order came) × (length came ≤ extent_of order came)))
+
 -- What the source owes where it failed or paused inside a record of which these bytes came: in the head its own fault, or
 -- short where it gave none; behind the head that the record's data could not be read. In a pipe a pause is the end, but
 -- behind all that the head counts, in auxiliary data.
 abbrev pub SourceOwes : Endianness → Bound → State → List ℕ → Error → State → Type 0
 SourceOwes order bound old came e new =
     ((length came < 8) × ((IsIo e × SourceFailed old new) ⊎ (IsShort e × (bound ≢ None) × Paused old new)))
-    ⊎ ((8 ≤ length came) × (e ≡ Read PerfEventData) × (SourceFailed old new ⊎ ((bound ≡ None → size_of order came ≤ length came) × Paused old new)))
+    ⊎ (CutBehindHead order came × (e ≡ Read PerfEventData) × (SourceFailed old new ⊎ ((bound ≡ None → size_of order came ≤ length came) × Paused old new)))
 
 -- memory may be wanted for the body of a record that has one and is no marker
 pub record WantsMemory (order : Endianness) (came : List ℕ) : Type 0 where
@@ -182,6 +202,7 @@ pub record RefusedAt (order : Endianness) (old : State) (bound : Bound) (offset 
   pub came : List ℕ
   pub gave : Gave old came new
   pub few : held ≤ length (drop 8 came) + 4096
+  pub within : CameWithin order came
   pub unfailed : e ≢ Failed
   pub memory : e ≡ Memory → WantsMemory order came
   pub why : e ≢ Memory

@@ -15,6 +15,7 @@ returns-in-Err-clause-piece g c =
       round = refl;
       same = record { order = refl; bound = c.read_head.ensures.kept.bound };
       known = refl;
+      unread = c.read_head.ensures.kept.none;
     }
 
 pub returns-in-Ok-None-clause-piece : goal.returns-in-Ok-None-clause-piece
@@ -25,7 +26,7 @@ returns-in-Ok-None-clause-piece g c =
     let b = view_in c.read_head.new.input (seen c.read_head.new.source) in
     let ended = head_none it.endian a b _ c.in-Ok-None.field-0-is c.in-Ok-None.ensures.head in
     let empty = ap length c.requires.empty in
-    piece_cut seen it _ c.short.result c.cut.result c.cut.ensures (record { order = refl; bound = c.read_head.ensures.kept.bound }) refl refl refl
+    piece_cut seen it _ c.short.result c.cut.result c.cut.ensures (record { order = refl; bound = c.read_head.ensures.kept.bound }) refl refl refl c.read_head.ensures.kept.none
     (λ pipe. head_cut it.endian a b it.offset _ empty ended)
     (λ file. head_short it.endian a b (bound_of seen it) it.offset _ c.short.result file empty c.short.ensures ended)
 
@@ -42,6 +43,7 @@ returns-in-Err-end_of-clause-piece g c =
       round = refl;
       same = record { order = refl; bound = c.read_head.ensures.kept.bound };
       known = refl;
+      unread = c.read_head.ensures.kept.none;
     }
 
 pub returns-in-Ok-false-clause-piece : goal.returns-in-Ok-false-clause-piece
@@ -56,7 +58,7 @@ returns-in-Ok-false-clause-piece g c =
     let t = head_some it.endian a b _ c.in-Ok-Some.head c.in-Ok-Some.field-0-is c.in-Ok-Some.ensures.head in
     let ended = ended_in input kept.none (seen c.read_head.new.source) (seen c.pass_body.new.source) _ (pass_false (seen c.read_head.new.source) (seen c.pass_body.new.source) _ _ c.in-Ok-false.field-0-test c.in-Ok-false.ensures.passes) in
     let empty = ap length c.requires.empty in
-    piece_cut seen it _ _ c.cut-in-Ok-false.result c.cut-in-Ok-false.ensures (record { order = refl; bound = kept.bound }) refl refl refl
+    piece_cut seen it _ _ c.cut-in-Ok-false.result c.cut-in-Ok-false.ensures (record { order = refl; bound = kept.bound }) refl refl refl kept.none
     (λ pipe. pass_cut it.endian a b d it.offset c.in-Ok.end _ c.in-Ok-Some.head empty t c.in-Ok.ensures ended)
     (λ file. pass_short it.endian a b d (bound_of seen it) it.offset c.in-Ok.end _ c.in-Ok-Some.head _ file empty refl t c.in-Ok.ensures ended)
 
@@ -78,6 +80,7 @@ returns-in-Err-pass_body-clause-piece g c =
       round = refl;
       same = record { order = refl; bound = kept.bound };
       known = refl;
+      unread = kept.none;
     }
 
 pub returns-then-head-eq-PERF_RECORD_FINISHED_ROUND-clause-piece : goal.returns-then-head-eq-PERF_RECORD_FINISHED_ROUND-clause-piece
@@ -107,6 +110,7 @@ returns-then-head-eq-PERF_RECORD_FINISHED_ROUND-clause-piece g c =
       same = record { order = refl; bound = kept.bound };
       known = refl;
       running = refl;
+      unread = kept.none;
     }
 
 pub returns-in-Ok-Some-read_content-clause-piece : goal.returns-in-Ok-Some-read_content-clause-piece
@@ -137,6 +141,7 @@ returns-in-Ok-Some-read_content-clause-piece g c =
       same = record { order = refl; bound = kept.bound };
       known = refl;
       running = refl;
+      unread = kept.none;
     }
 
 pub returns-in-Ok-None-read_content-clause-piece : goal.returns-in-Ok-None-read_content-clause-piece
@@ -152,7 +157,7 @@ returns-in-Ok-None-read_content-clause-piece g c =
     let now = c.read_content.new.body.items in
     let ended = ended_content_in input kept.none (seen c.read_head.new.source) (seen c.read_content.new.source) c.in-Ok-Some.head now
     (content_none it.endian (seen c.read_head.new.source) (seen c.read_content.new.source) c.in-Ok-Some.head c.in-Ok.end now _ c.in-Ok-None-read_content.field-0-is c.in-Ok-None-read_content.ensures.reads) in
-    piece_cut seen it _ _ c.cut-in-Ok-None-read_content.result c.cut-in-Ok-None-read_content.ensures (record { order = refl; bound = kept.bound }) refl refl refl
+    piece_cut seen it _ _ c.cut-in-Ok-None-read_content.result c.cut-in-Ok-None-read_content.ensures (record { order = refl; bound = kept.bound }) refl refl refl kept.none
     (λ pipe. content_cut it.endian a b d it.offset c.in-Ok.end c.in-Ok-Some.head now t c.in-Ok.ensures ended)
     (λ file. content_short it.endian a b d (bound_of seen it) it.offset c.in-Ok.end c.in-Ok-Some.head _ now file refl t c.in-Ok.ensures ended)
 
@@ -175,4 +180,5 @@ returns-in-Err-read_content-clause-piece g c =
       round = refl;
       same = record { order = refl; bound = kept.bound };
       known = refl;
+      unread = kept.none;
     }
