@@ -37,9 +37,9 @@ const KNOWN: usize = 136;
 /// An event's attribute, with its name and its ids where they are known.
 #[derive(Debug, Drop)]
 pub struct AttributeDescription {
-    pub(crate) attr: PerfEventAttr,
-    pub(crate) name: Option<String>,
-    pub(crate) event_ids: Vec<u64>,
+    pub attr: PerfEventAttr,
+    pub name: Option<String>,
+    pub event_ids: Vec<u64>,
 }
 
 // The attribute of a frame at the front of a source.
