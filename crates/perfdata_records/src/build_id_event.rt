@@ -181,6 +181,22 @@ mod tests {
     }
 
     #[test]
+    fn reads_zeros_of_a_size_below_36_as_empty(rt: HostRuntime) -> Result<(), Fail> {
+        // a head with type 67, misc 2 and size 10, and 28 zero bytes
+        let mut bytes = [0u8; 36];
+        bytes[..8].copy_from_slice(&[67, 0, 0, 0, 2, 0, 10, 0]);
+        let mut source = bytes.as_slice();
+        let entry = BuildIdEvent::read_from::<_, LittleEndian>(rt.alloc(), &mut source)?;
+        assert!(rt; source.is_empty());
+        assert_eq!(rt; entry._pid, 0);
+        assert_eq!(rt; entry.header.size, 10);
+        assert!(rt; entry.build_id.is_empty() && entry.file_path.is_empty());
+        let entry = BuildIdEvent::parse::<_, LittleEndian>(rt.alloc(), bytes.as_slice())?;
+        assert!(rt; entry.build_id.is_empty() && entry.file_path.is_empty());
+        Ok(())
+    }
+
+    #[test]
     fn reads_as_much_as_the_size_says(rt: HostRuntime) -> Result<(), Fail> {
         let path = b"/a\0/b\0";
         for (size, taken, text) in [
