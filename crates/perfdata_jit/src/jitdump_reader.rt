@@ -139,7 +139,7 @@ impl<R: Source> JitDumpReader<R> {
     pub fn next_record_offset(&self) -> u64
         ensures { result ≡ jit_offset self.now }
     {
-        self.offset
+        self.offset // the same while the record's head is kept
     }
 
     // The bytes of the next head, which is kept.
