@@ -4,7 +4,7 @@ use Rattle.std.specs.Prelude.{IfSome}
 use Rattle.std.specs.List.{concat}
 use Rattle.std.specs.Map.{update_all}
 use Rattle.std.proofs.KnownBytes.{Appends-nil}
-use Rattle.perfdata_base.specs.Source.{State, prepend, Paused}
+use Rattle.perfdata_base.specs.Source.{State, prepend, Gave, Paused}
 use Rattle.perfdata_base.proofs.Cut.{none_or_paused}
 use Rattle.perfdata_base.proofs.Gives.{failed_later, paused_later}
 use Rattle.perfdata_parts.specs.declared.error.Error.{Error}
@@ -14,18 +14,18 @@ use Rattle.linux_perf_data.specs.Attribute.{Attribute, Rule}
 use Rattle.linux_perf_data.specs.Known.{Knows}
 use Rattle.linux_perf_data.specs.Late.{FileHolds, IsMetadata, BroughtFeature, brought_features}
 use Rattle.linux_perf_data.specs.Layout.{Handed, End, whole, faulty, Fault, ToCome, attributes_in, brought, handed, kind_of, size_of}
-use Rattle.linux_perf_data.specs.Names.{event_desc}
+use Rattle.linux_perf_data.specs.Names.{CanName, TellsNames, event_desc}
 use Rattle.linux_perf_data.specs.Iter.{view, bound_of, RecordsToCome}
 use Rattle.linux_perf_data.specs.OpenedPipe.{EndsThere, KeepsHead, OpensPipe, RefusesPipe, unplaced}
 use Rattle.linux_perf_data.specs.PerfFile.{attributes_of_file, data_of, descriptions_of}
 use Rattle.linux_perf_data.specs.Piece.{Answers}
-use Rattle.linux_perf_data.specs.PipeOpen.{EndsMetadata}
+use Rattle.linux_perf_data.specs.PipeOpen.{CanOpen, EndsMetadata, data_told}
 use Rattle.linux_perf_data.proofs.Heads.{kind_front, size_front}
 use Rattle.linux_perf_data.proofs.Layouts.{nothing_more}
 use Rattle.linux_perf_data.proofs.OneLayout.{some_layout}
 use Rattle.linux_perf_data.proofs.Takings.{can_name}
 use Rattle.perflist.specs.Listing.{AreFirst, ComeFirst, EndsFaulty, IsOwn, IsUnfailed, ListedAll, SourceOwesSome, StopsListing}
-use Rattle.perflist.specs.PipeListing.{BeginsPipe, HoldsAll, IsWholePipe, ListedPipe, OfPipe, StoppedPipe, StopsListingPipe}
+use Rattle.perflist.specs.PipeListing.{Behind, BeginsPipe, HoldsAll, IsWholePipe, ListedPipe, OfPipe, OpensWith, StoppedPipe, StopsListingPipe}
 use Rattle.perflist.specs.declared.list.ListCause.{ListCause}
 use Rattle.perflist.specs.declared.list.ListCause.TheVariants.{Perf, Jit, Read, Write}
 use Rattle.perflist.proofs.Listings.{if_some_each, owes_since}
@@ -50,6 +50,16 @@ module _ {R : Type 0} (seen : R → State) (old : State) (file : PerfFile) (it :
 
   told_rule : Rule (attributes_in it.endian None o.pieces)
   told_rule = subst Rule o.holds.attributes rule
+
+  -- an attribute is there, and the last EVENT_DESC can be read
+  some_told : attributes_in it.endian None o.pieces ≡ [] → ⊥
+  some_told none = (let e : [] ≡ o.knows.first ∷ o.knows.more = sym none ∙ sym o.holds.attributes ∙ o.knows.are in absurd cc)
+
+  names_told : (bytes : List ℕ) → data_told it.endian o.pieces event_desc ≡ Some bytes → TellsNames it.endian bytes
+  names_told bytes told = subst (CanName it.endian) (o.holds.kept event_desc ∙ told) (can_name it.endian (data_of file event_desc) (descriptions_of file) o.holds.named)
+
+  can_open : CanOpen it.endian o.pieces
+  can_open = record { some = some_told; names = names_told; rule = told_rule }
 
   -- what an iterator is yet to hand out is what stands behind the opening
   abbrev Come : List ℕ → List Handed → End → Type 0
@@ -105,9 +115,23 @@ module _ {R : Type 0} (seen : R → State) (old : State) (file : PerfFile) (it :
               λ metadata. k.other (subst IsMetadata (ap (kind_of it.endian) same ∙ kind_front it.endian k.head more head_long) metadata),
             )
 
+    opens_there : OpensWith it.endian o.pieces old (Some k.head)
+    opens_there = record {
+      left = seen it.source;
+      took = record {
+        header = o.header;
+        last = k.head;
+        is = o.is;
+        are = o.are;
+        gave = subst (λ l. Gave old l (seen it.source)) (append_assoc o.header (concat o.pieces) k.head) k.taken;
+        ended = (refl, k.long, k.least, k.other);
+      };
+      opens = can_open;
+    }
+
     first_there : (records : List Handed) → AreFirst seen it records → IfSome old.bytes (λ bytes. OfPipe it.endian o.pieces bytes (λ C. ComeFirst C records))
     first_there records first = behind_front old.bytes (view seen it).bytes front (λ rest. ComeFirst (Told rest) records) (λ bytes. OfPipe it.endian o.pieces bytes (λ C. ComeFirst C records))
-        all_bytes (λ rest is comes. (rest, begins rest, comes))
+        all_bytes (λ rest is comes. (rest, begins rest, ends_there rest is, comes))
         (subst (λ C. IfSome (view seen it).bytes (λ rest. ComeFirst (C rest) records)) same_come (first (attributes_of_file file) o.knows))
 
     whole_there : (records : List Handed) → RecordsToCome seen it (attributes_of_file file) records whole → IfSome old.bytes (IsWholePipe it.endian o.pieces records)
@@ -118,10 +142,14 @@ module _ {R : Type 0} (seen : R → State) (old : State) (file : PerfFile) (it :
     fault_there : (records : List Handed) (e : Error) → EndsFaulty seen it records e → IfSome old.bytes (λ bytes. OfPipe it.endian o.pieces bytes (λ C. (f : Fault) × C records (faulty f) × Answers f e))
     fault_there records e ends = behind_front old.bytes (view seen it).bytes front (λ rest. (f : Fault) × Told rest records (faulty f) × Answers f e)
         (λ bytes. OfPipe it.endian o.pieces bytes (λ C. (f : Fault) × C records (faulty f) × Answers f e))
-        all_bytes (λ rest is comes. (rest, begins rest, comes))
+        all_bytes (λ rest is comes. (rest, begins rest, ends_there rest is, comes))
         (subst (λ C. IfSome (view seen it).bytes (λ rest. (f : Fault) × C rest records (faulty f) × Answers f e)) same_come
         (if_some_each (view seen it).bytes (λ rest. (f : Fault) × ((attrs : List Attribute) → Knows it.endian it.known attrs → ToCome it.endian rest (bound_of seen it) it.offset it.round attrs records (faulty f)) × Answers f e)
         (λ rest. (f : Fault) × Come rest records (faulty f) × Answers f e) (λ rest f. (f.0, f.1 (attributes_of_file file) o.knows, f.2)) ends))
+
+    first_behind : (records : List Handed) → AreFirst seen it records → IfSome old.bytes (λ bytes. Behind it.endian o.pieces bytes (λ C. ComeFirst C records))
+    first_behind records first = if_some_each old.bytes (λ bytes. OfPipe it.endian o.pieces bytes (λ C. ComeFirst C records)) (λ bytes. Behind it.endian o.pieces bytes (λ C. ComeFirst C records))
+        (λ bytes all. (all.0, all.1, all.3)) (first_there records first)
 
     pauses : (new : State) → Paused (view seen it) new → Paused old new
     pauses new p = let q = paused_later (unplaced old) (view seen it) new front k.gave p in record { rose = q.rose; unsteady = q.unsteady }
@@ -134,11 +162,14 @@ module _ {R : Type 0} (seen : R → State) (old : State) (file : PerfFile) (it :
     listed_behind new file' before after lines l = record {
       order = it.endian;
       pieces = o.pieces;
+      head = Some k.head;
+      opening = opens_there;
       records = l.records;
+      none = λ none. absurd cc;
       count = l.count;
       appends = l.appends;
       holds = holds_all l.records file' l.holds;
-      first = first_there l.records l.first;
+      first = first_behind l.records l.first;
       last = view seen new;
       are = elim (l.are k.runs) [
         | inl come ↦ inl (whole_there l.records (come (attributes_of_file file) o.knows))
@@ -153,19 +184,33 @@ module _ {R : Type 0} (seen : R → State) (old : State) (file : PerfFile) (it :
     all_came : old.bytes ≡ prepend (front ++ e.last) left
     all_came = e.taken.bytes
 
+    opens_none : OpensWith it.endian o.pieces old None
+    opens_none = record {
+      left = seen it.source;
+      took = record {
+        header = o.header;
+        last = e.last;
+        is = o.is;
+        are = o.are;
+        gave = subst (λ l. Gave old l (seen it.source)) (append_assoc o.header (concat o.pieces) e.last) e.taken;
+        ended = (e.short, e.none);
+      };
+      opens = can_open;
+    }
+
     none_first : (rest : List ℕ) → ComeFirst (Told rest) []
     none_first rest =
         let layout = some_layout it.endian rest None 0 (attributes_in it.endian None o.pieces) (omega arith) told_rule in
         (handed it.endian None 0 0 (attributes_in it.endian None o.pieces) layout.0, (layout.1.0, record { pieces = layout.0; layout = layout.1.1; are = refl }))
 
-    first_none : IfSome old.bytes (λ bytes. OfPipe it.endian o.pieces bytes (λ C. ComeFirst C []))
+    first_none : IfSome old.bytes (λ bytes. Behind it.endian o.pieces bytes (λ C. ComeFirst C []))
     first_none = if_any old.bytes left refl all_came
       where
-        if_any : (b l : Option (List ℕ)) → left ≡ l → b ≡ prepend (front ++ e.last) left → IfSome b (λ bytes. OfPipe it.endian o.pieces bytes (λ C. ComeFirst C []))
-        if_any b None none is = subst (λ x. IfSome x (λ bytes. OfPipe it.endian o.pieces bytes (λ C. ComeFirst C []))) (sym (is ∙ ap (prepend (front ++ e.last)) none)) tt
+        if_any : (b l : Option (List ℕ)) → left ≡ l → b ≡ prepend (front ++ e.last) left → IfSome b (λ bytes. Behind it.endian o.pieces bytes (λ C. ComeFirst C []))
+        if_any b None none is = subst (λ x. IfSome x (λ bytes. Behind it.endian o.pieces bytes (λ C. ComeFirst C []))) (sym (is ∙ ap (prepend (front ++ e.last)) none)) tt
         if_any b (Some more) some is =
             let cut : b ≡ Some (front ++ (e.last ++ more)) = is ∙ ap (prepend (front ++ e.last)) some ∙ ap Some (append_assoc front e.last more) in
-            subst (λ x. IfSome x (λ bytes. OfPipe it.endian o.pieces bytes (λ C. ComeFirst C []))) (sym cut) (e.last ++ more, begins (e.last ++ more), none_first (e.last ++ more))
+            subst (λ x. IfSome x (λ bytes. Behind it.endian o.pieces bytes (λ C. ComeFirst C []))) (sym cut) (e.last ++ more, begins (e.last ++ more), none_first (e.last ++ more))
 
     whole_none : left ≡ Some [] → IfSome old.bytes (IsWholePipe it.endian o.pieces [])
     whole_none is =
@@ -183,11 +228,14 @@ module _ {R : Type 0} (seen : R → State) (old : State) (file : PerfFile) (it :
         let none = l.over e.ended in record {
           order = it.endian;
           pieces = o.pieces;
+          head = None;
+          opening = opens_none;
           records = l.records;
+          none = λ same. none;
           count = l.count;
           appends = l.appends;
           holds = holds_all l.records file' l.holds;
-          first = subst (λ rs. IfSome old.bytes (λ bytes. OfPipe it.endian o.pieces bytes (λ C. ComeFirst C rs))) (sym none) first_none;
+          first = subst (λ rs. IfSome old.bytes (λ bytes. Behind it.endian o.pieces bytes (λ C. ComeFirst C rs))) (sym none) first_none;
           last = seen it.source;
           are = elim (none_or_paused old (seen it.source) e.none) [
             | inl is ↦ inl (subst (λ rs. IfSome old.bytes (IsWholePipe it.endian o.pieces rs)) (sym none) (whole_none is))
@@ -203,6 +251,8 @@ module _ {R : Type 0} (seen : R → State) (old : State) (file : PerfFile) (it :
     why = inr (record {
       order = it.endian;
       pieces = o.pieces;
+      head = k.head;
+      opening = opens_there k;
       left = view seen new;
       first = first_there k l.records l.first;
       why = λ other. elim (l.reason other) [ inl ends ↦ inl (fault_there k l.records e ends) | inr owes ↦ inr (owes_there k (view seen new) e owes) ];
@@ -211,6 +261,8 @@ module _ {R : Type 0} (seen : R → State) (old : State) (file : PerfFile) (it :
   stopped new before after lines (Write e) k l = record {
     order = it.endian;
     pieces = o.pieces;
+    head = k.head;
+    opening = opens_there k;
     records = l.records;
     next = l.next;
     count = l.count;

@@ -1,5 +1,5 @@
 -- What a listing of a pipe writes, and why it stops.
-use Rattle.std.specs.Prelude.{◌≡◌, ◌≢◌, ◌⊎◌, ◌↔◌, ℕ, ◌<◌, List, [], ◌∷◌, ◌++◌, length, nat_eq, IsSome, Option, None, Result, Ok, Err, IfSome}
+use Rattle.std.specs.Prelude.{◌≡◌, ◌≢◌, ◌⊎◌, ◌↔◌, ℕ, ◌<◌, List, [], ◌∷◌, ◌++◌, length, nat_eq, IsSome, Option, None, Some, Result, Ok, Err, IfSome}
 use Rattle.std.specs.List.{concat}
 use Rattle.std.specs.Map.{update_all}
 use Rattle.std.specs.Io.KnownBytes.{Appends}
@@ -15,7 +15,7 @@ use Rattle.linux_perf_data.specs.Names.{Named, event_desc}
 use Rattle.linux_perf_data.specs.OpenedPipe.{unplaced}
 use Rattle.linux_perf_data.specs.PerfFile.{descriptions_of, features_of, order_of_file, data_of, attributes_of_file}
 use Rattle.linux_perf_data.specs.Piece.{Answers}
-use Rattle.linux_perf_data.specs.PipeOpen.{IsPipeHeader, AreMetadata, EndsMetadata, Refused, StopsPipe, data_told}
+use Rattle.linux_perf_data.specs.PipeOpen.{IsPipeHeader, AreMetadata, CanOpen, EndsMetadata, Refused, StopsPipe, TookOpening, data_told}
 use Rattle.perflist.specs.Listing.{ComeFirst, WroteFront, SourceOwesSome, lines_of}
 use Rattle.perflist.specs.declared.list.ListFault.{ListFault}
 use Rattle.perflist.specs.declared.list.ListCause.{ListCause}
@@ -29,13 +29,24 @@ module _ (order : Endianness) (pieces : List (List ℕ)) where
     pub is : IsPipeHeader order header
     pub are : AreMetadata order pieces
 
-  -- the pipe of these bytes begins so, and its records are so
-  abbrev pub OfPipe : List ℕ → ((List Handed → End → Type 0) → Type 0) → Type 0
-  OfPipe bytes P = (rest : List ℕ) × BeginsPipe bytes rest × P (ToCome order rest None 0 0 (attributes_in order None pieces))
+  -- These records of metadata are all that a source opens with, and what they tell opens a pipe. Behind the pipe's header and them it
+  -- gave the head of a record of another type; or fewer bytes than a head has, and then none.
+  pub record OpensWith (old : State) (head : Option (List ℕ)) : Type 0 where
+    pub left : State
+    pub took : TookOpening order pieces head old left
+    pub opens : CanOpen order pieces
 
-  -- no record of metadata stands behind them, and the layout of what does is whole, with these records
+  -- the pipe of these bytes begins so, and what stands behind is so
+  abbrev pub Behind : List ℕ → ((List Handed → End → Type 0) → Type 0) → Type 0
+  Behind bytes P = (rest : List ℕ) × BeginsPipe bytes rest × P (ToCome order rest None 0 0 (attributes_in order None pieces))
+
+  -- no record of metadata stands behind them, and the pipe's records are so
+  abbrev pub OfPipe : List ℕ → ((List Handed → End → Type 0) → Type 0) → Type 0
+  OfPipe bytes P = (rest : List ℕ) × BeginsPipe bytes rest × EndsMetadata order rest × P (ToCome order rest None 0 0 (attributes_in order None pieces))
+
+  -- the layout of what stands behind them is whole, with these records
   abbrev pub IsWholePipe : List Handed → List ℕ → Type 0
-  IsWholePipe records bytes = (rest : List ℕ) × BeginsPipe bytes rest × EndsMetadata order rest × ToCome order rest None 0 0 (attributes_in order None pieces) records whole
+  IsWholePipe records bytes = OfPipe bytes (λ Come. Come records whole)
 
   -- A `PerfFile` holds exactly what came: the attributes of the opening and those of the records, in order, named by the EVENT_DESC that
   -- came last; and of each feature the data that came last.
@@ -47,15 +58,19 @@ module _ (order : Endianness) (pieces : List (List ℕ)) where
         ↔ (((n < 256) × IsSome (data_told order pieces n)) ⊎ ((n < 256) × BroughtFeature order None n records))
     pub named : Named order (data_of file event_desc) (descriptions_of file)
 
--- All records of a pipe were listed: its layout is whole, or the source paused. The `PerfFile` holds exactly what came.
+-- All records of a pipe were listed: its layout is whole, or the source paused. There are none where no head came behind its opening. The
+-- `PerfFile` holds exactly what came.
 pub record ListedPipe (old : State) (before after : Option (List ℕ)) (lines : ℕ) (file : PerfFile) : Type 0 where
   pub order : Endianness
   pub pieces : List (List ℕ)
+  pub head : Option (List ℕ)
+  pub opening : OpensWith order pieces old head
   pub records : List Handed
+  pub none : head ≡ None → records ≡ []
   pub count : lines ≡ length records
   pub appends : Appends before after (lines_of records)
   pub holds : HoldsAll order pieces records file
-  pub first : IfSome old.bytes (λ bytes. OfPipe order pieces bytes (λ Come. ComeFirst Come records))
+  pub first : IfSome old.bytes (λ bytes. Behind order pieces bytes (λ Come. ComeFirst Come records))
   pub last : State
   pub are : IfSome old.bytes (IsWholePipe order pieces records) ⊎ Paused old last
 
@@ -64,6 +79,8 @@ pub record ListedPipe (old : State) (before after : Option (List ℕ)) (lines : 
 pub record StoppedBehind (old : State) (records : List Handed) (e : Error) : Type 0 where
   pub order : Endianness
   pub pieces : List (List ℕ)
+  pub head : List ℕ
+  pub opening : OpensWith order pieces old (Some head)
   pub left : State
   pub first : IfSome old.bytes (λ bytes. OfPipe order pieces bytes (λ Come. ComeFirst Come records))
   pub why : e ≢ Memory → IfSome old.bytes (λ bytes. OfPipe order pieces bytes (λ Come. (f : Fault) × Come records (faulty f) × Answers f e))
@@ -80,6 +97,8 @@ pub record StoppedPipe (old : State) (before after : Option (List ℕ)) (lines :
 pub record WrotePipe (old : State) (before after : Option (List ℕ)) (lines : ℕ) : Type 0 where
   pub order : Endianness
   pub pieces : List (List ℕ)
+  pub head : List ℕ
+  pub opening : OpensWith order pieces old (Some head)
   pub records : List Handed
   pub next : Handed
   pub count : lines ≡ length records
