@@ -165,6 +165,23 @@ fn ends_of_pipes(rt: HostRuntime) -> Result<(), Fail> {
     Ok(())
 }
 
+#[test]
+fn an_opening_takes_all_of_its_metadata(rt: HostRuntime) -> Result<(), Fail> {
+    let two = [PLAIN, PLAIN, Part::Head(81, 0, 16), Part::Filled(0, 8)];
+    reads(&rt, "two attributes", &two, "", End::Unsupported)?;
+    let none = [Part::Head(81, 0, 16), Part::Filled(0, 8)];
+    reads(&rt, "no attribute", &none, "", End::NoAttributes)?;
+    let small = described(rt.alloc(), Endianness::LittleEndian, 56)?;
+    let later = described(rt.alloc(), Endianness::LittleEndian, 64)?;
+    let named = [
+        PLAIN,
+        Part::Feature(12, &small.bytes),
+        Part::Sample(3),
+        Part::Feature(12, &later.bytes),
+    ];
+    reads(&rt, "names that come later", &named, "", End::Sizes)
+}
+
 /// How a pipe's opening ends, whatever comes of its records.
 fn opening_of(rt: &impl AllocGlobal, bytes: &[u8]) -> End {
     match PerfFileReader::parse_pipe(rt.alloc(), bytes) {
