@@ -215,6 +215,41 @@ fn refuses_a_size_below_the_head(rt: HostRuntime) -> Result<(), Fail> {
 }
 
 #[test]
+fn waits_for_a_record_longer_than_any_file(rt: HostRuntime) -> Result<(), Fail> {
+    let alloc = rt.alloc();
+    let mut body = FILE[56..].to_vec(alloc)?;
+    body.extend_from_slice(&CLOSE)?;
+    for (size, pauses) in [(Some(40usize), 1usize), (None, 2)] {
+        let mut bytes = head_of_size(alloc, u32::MAX)?;
+        bytes.extend_from_slice(body.as_slice())?;
+        let mut steps = bytes_then(alloc, 102, Step::Pause)?;
+        for _ in 0..pauses {
+            steps.push(Step::Pause)?;
+        }
+        steps.push(Step::Grow(16))?;
+        let source = Script::new(bytes, 102, steps, Vec::new(alloc));
+        let mut reader = match size {
+            Some(size) => opened(alloc, source, size)?,
+            None => JitDumpReader::new(alloc, source)?,
+        };
+        for call in 0..3u32 {
+            assert_eq!(rt;
+                answer_of(reader.next_record()),
+                Answer::Nothing,
+                "call {call}"
+            );
+            assert_eq!(rt; reader.next_record_offset(), 40);
+            assert_eq!(rt; reader.next_record_timestamp()?, Some(9));
+        }
+        match reader.reader.consume_data(62)? {
+            Some(data) => assert!(rt; data == RawData::Single(body.as_slice())),
+            None => assert!(rt; false),
+        }
+    }
+    Ok(())
+}
+
+#[test]
 fn passes_over_records(rt: HostRuntime) -> Result<(), Fail> {
     let mut bytes = FILE.to_vec(rt.alloc())?;
     bytes.extend_from_slice(&CLOSE)?;
