@@ -54,6 +54,10 @@ mod tests {
                 "The file does not appear to be a jitdump file, due to unexpected magic bytes: 7f 45 4c 06",
             ),
             (
+                JitDumpError::InvalidMagicBytes([0x7f, 0x45, 0x4c, 0x46]),
+                "The file does not appear to be a jitdump file, due to unexpected magic bytes: 7f 45 4c 46",
+            ),
+            (
                 JitDumpError::UnrecognizedVersion(2),
                 "The jitdump file has an unrecognized version: 2",
             ),
