@@ -133,7 +133,15 @@ mod tests {
         record.type_ = 2;
         record.min_vaddr = 128;
         record.type_specific_msg = dex(&rt, &[1, 2, 3])?;
-        decodes(&rt, &RECORD, &record)
+        decodes(&rt, &RECORD, &record)?;
+        let mut bytes = Vec::from_slice(rt.alloc(), &RECORD)?;
+        bytes.extend_from_slice(&[0x32, 2, 8, 7])?;
+        record.type_specific_msg = Some(SimpleperfTypeSpecificInfo::ElfFile(
+            SimpleperfElfFileInfo {
+                file_offset_of_min_vaddr: 7,
+            },
+        ));
+        decodes(&rt, &bytes, &record)
     }
 
     #[test]
