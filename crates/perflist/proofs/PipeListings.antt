@@ -1,10 +1,12 @@
 -- What the records of a pipe that were listed come to.
-use Rattle.std.proofs.Common.{◌≡◌, ℕ, ◌≤◌, ◌++◌, List, [], ◌∷◌, length, refl, sym, ap, ◌∙◌, subst, Option, None, Some, inl, inr, arith, append_assoc, append-nil, nat_eq}
+use Rattle.std.proofs.Common.{◌≡◌, ℕ, ◌≤◌, ◌++◌, List, [], ◌∷◌, length, drop, refl, sym, ap, ◌∙◌, subst, Option, None, Some, inl, inr, arith, append_assoc, append-nil, nat_eq}
 use Rattle.std.specs.Prelude.{IfSome}
 use Rattle.std.specs.List.{concat}
 use Rattle.std.specs.Map.{update_all}
 use Rattle.std.proofs.KnownBytes.{Appends-nil}
+use Rattle.std.proofs.Math.Seq.{drop-append_seam}
 use Rattle.perfdata_base.specs.Source.{State, prepend, Gave, Paused}
+use Rattle.perfdata_base.specs.declared.raw.Endianness.{Endianness}
 use Rattle.perfdata_base.proofs.Cut.{none_or_paused}
 use Rattle.perfdata_base.proofs.Gives.{failed_later, paused_later}
 use Rattle.perfdata_parts.specs.declared.error.Error.{Error}
@@ -19,10 +21,11 @@ use Rattle.linux_perf_data.specs.Iter.{view, bound_of, RecordsToCome}
 use Rattle.linux_perf_data.specs.OpenedPipe.{EndsThere, KeepsHead, OpensPipe, RefusesPipe, unplaced}
 use Rattle.linux_perf_data.specs.PerfFile.{attributes_of_file, data_of, descriptions_of}
 use Rattle.linux_perf_data.specs.Piece.{Answers}
-use Rattle.linux_perf_data.specs.PipeOpen.{CanOpen, EndsMetadata, data_told}
+use Rattle.linux_perf_data.specs.PipeOpen.{AreMetadata, CanOpen, EndsMetadata, StopsPipe, data_told}
 use Rattle.linux_perf_data.proofs.Heads.{kind_front, size_front}
 use Rattle.linux_perf_data.proofs.Layouts.{nothing_more}
 use Rattle.linux_perf_data.proofs.OneLayout.{some_layout}
+use Rattle.linux_perf_data.proofs.OneOpening.{one_opening, opening_stands}
 use Rattle.linux_perf_data.proofs.Takings.{can_name}
 use Rattle.perflist.specs.Listing.{AreFirst, ComeFirst, EndsFaulty, IsOwn, IsUnfailed, ListedAll, SourceOwesSome, StopsListing}
 use Rattle.perflist.specs.PipeListing.{Behind, BeginsPipe, HoldsAll, IsWholePipe, ListedPipe, OfPipe, OpensWith, StoppedPipe, StopsListingPipe}
@@ -37,6 +40,44 @@ behind_front o left front P Q is each p = go left refl p
     go : (l : Option (List ℕ)) → left ≡ l → IfSome l P → IfSome o Q
     go None none p = subst (λ x. IfSome x Q) (sym (is ∙ ap (prepend front) none)) tt
     go (Some rest) some p = subst (λ x. IfSome x Q) (sym (is ∙ ap (prepend front) some)) (each rest some p)
+
+-- behind the head of another record no record of metadata stands
+ends_behind : (order : Endianness) (head more : List ℕ) → length head ≡ 8 → 8 ≤ size_of order head → ¬ IsMetadata (kind_of order head) → EndsMetadata order (head ++ more)
+ends_behind order head more long least other = λ there.
+    let head_long : 8 ≤ length head = omega (arith, long) in (
+      subst (λ n. 8 ≤ n) (sym (size_front order head more head_long)) least,
+      λ metadata. other (subst IsMetadata (kind_front order head more head_long) metadata),
+    )
+
+module _ (order : Endianness) (pieces : List (List ℕ)) (head : List ℕ) (old : State) (o : OpensWith order pieces old (Some head)) where
+  abbrev came : List ℕ
+  came = o.took.header ++ (concat pieces ++ o.took.last)
+
+  ends_with : (more : List ℕ) → EndsMetadata order (o.took.last ++ more)
+  ends_with more = subst (λ l. EndsMetadata order (l ++ more)) (sym o.took.ended.0) (ends_behind order head more o.took.ended.1 o.took.ended.2 o.took.ended.3)
+
+  came_more : (more : List ℕ) → came ++ more ≡ o.took.header ++ (concat pieces ++ (o.took.last ++ more))
+  came_more more = append_assoc o.took.header (concat pieces ++ o.took.last) more ∙ ap (λ l. o.took.header ++ l) (append_assoc (concat pieces) o.took.last more)
+
+  pub not_refused : IfSome old.bytes (λ bytes. (e : Error) → ¬ StopsPipe bytes e)
+  not_refused = go o.left.bytes refl
+    where
+      go : (l : Option (List ℕ)) → o.left.bytes ≡ l → IfSome old.bytes (λ bytes. (e : Error) → ¬ StopsPipe bytes e)
+      go None none = subst (λ x. IfSome x (λ bytes. (e : Error) → ¬ StopsPipe bytes e)) (sym (o.took.gave.bytes ∙ ap (prepend came) none)) tt
+      go (Some more) some = subst (λ x. IfSome x (λ bytes. (e : Error) → ¬ StopsPipe bytes e)) (sym (o.took.gave.bytes ∙ ap (prepend came) some))
+          (λ e stops. opening_stands order o.took.header pieces (o.took.last ++ more) e o.took.is o.took.are (ends_with more) o.opens (subst (λ l. StopsPipe l e) (came_more more) stops))
+
+  pub longest_run : (longest : List (List ℕ)) (behind : List ℕ) → AreMetadata order longest → EndsMetadata order behind → old.bytes ≡ Some (o.took.header ++ (concat longest ++ behind)) → pieces ≡ longest
+  longest_run longest behind are ends is = go o.left.bytes refl
+    where
+      go : (l : Option (List ℕ)) → o.left.bytes ≡ l → pieces ≡ longest
+      go None none = (let e : Some (o.took.header ++ (concat longest ++ behind)) ≡ None = sym is ∙ o.took.gave.bytes ∙ ap (prepend came) none in absurd cc)
+      go (Some more) some =
+          let e : Some (came ++ more) ≡ Some (o.took.header ++ (concat longest ++ behind)) = sym (ap (prepend came) some) ∙ sym o.took.gave.bytes ∙ is in
+          let same : came ++ more ≡ o.took.header ++ (concat longest ++ behind) = ap (λ s. elim s [ None ↦ [] | Some x ↦ x ]) e in
+          let cut : concat pieces ++ (o.took.last ++ more) ≡ concat longest ++ behind =
+          sym (drop-append_seam o.took.header (concat pieces ++ (o.took.last ++ more))) ∙ ap (drop (length o.took.header)) (sym (came_more more) ∙ same) ∙ drop-append_seam o.took.header (concat longest ++ behind) in
+          (one_opening order pieces longest (o.took.last ++ more) behind o.took.are are (ends_with more) ends cut).0
 
 module _ {R : Type 0} (seen : R → State) (old : State) (file : PerfFile) (it : PerfRecordIter R) (o : OpensPipe seen old file it) where
   abbrev front : List ℕ
@@ -107,13 +148,10 @@ module _ {R : Type 0} (seen : R → State) (old : State) (file : PerfFile) (it :
       where
         go : (s : Option (List ℕ)) → (seen it.source).bytes ≡ s → EndsMetadata it.endian rest
         go None none = (let e : Some rest ≡ None = sym is ∙ k.begins.bytes ∙ ap (prepend k.head) none in absurd cc)
-        go (Some more) some = λ long.
+        go (Some more) some =
             let e : Some rest ≡ Some (k.head ++ more) = sym is ∙ k.begins.bytes ∙ ap (prepend k.head) some in
             let same : rest ≡ k.head ++ more = ap (λ s. elim s [ None ↦ rest | Some x ↦ x ]) e in
-            let head_long : 8 ≤ length k.head = (let l = k.long in omega (arith, l)) in (
-              subst (λ n. 8 ≤ n) (sym (ap (size_of it.endian) same ∙ size_front it.endian k.head more head_long)) k.least,
-              λ metadata. k.other (subst IsMetadata (ap (kind_of it.endian) same ∙ kind_front it.endian k.head more head_long) metadata),
-            )
+            subst (EndsMetadata it.endian) (sym same) (ends_behind it.endian k.head more k.long k.least k.other)
 
     opens_there : OpensWith it.endian o.pieces old (Some k.head)
     opens_there = record {

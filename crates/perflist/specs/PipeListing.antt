@@ -58,6 +58,15 @@ module _ (order : Endianness) (pieces : List (List ℕ)) where
         ↔ (((n < 256) × IsSome (data_told order pieces n)) ⊎ ((n < 256) × BroughtFeature order None n records))
     pub named : Named order (data_of file event_desc) (descriptions_of file)
 
+-- Where a source opens so, before the head of another record, its bytes are refused as no pipe's.
+abbrev pub NotRefused : Type 0
+NotRefused = (order : Endianness) (pieces : List (List ℕ)) (head : List ℕ) (old : State) → OpensWith order pieces old (Some head) → IfSome old.bytes (λ bytes. (e : Error) → ¬ StopsPipe bytes e)
+
+-- And where no record of metadata follows some behind the header, those are the ones.
+abbrev pub LongestRun : Type 0
+LongestRun = (order : Endianness) (pieces longest : List (List ℕ)) (head behind : List ℕ) (old : State) (o : OpensWith order pieces old (Some head)) → AreMetadata order longest → EndsMetadata order behind
+    → old.bytes ≡ Some (o.took.header ++ (concat longest ++ behind)) → pieces ≡ longest
+
 -- All records of a pipe were listed: its layout is whole, or the source paused. There are none where no head came behind its opening. The
 -- `PerfFile` holds exactly what came.
 pub record ListedPipe (old : State) (before after : Option (List ℕ)) (lines : ℕ) (file : PerfFile) : Type 0 where
