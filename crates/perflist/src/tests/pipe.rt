@@ -1,7 +1,7 @@
 //! The cases of pipes: their lines, how their reading ends, and how far their source is read.
 use super::image::{Image, Part};
-use super::{End, FIRST, end_of, end_of_error, lines_of, lists};
-use crate::list::list_pipe;
+use super::{End, FIRST, Twenty, end_of, end_of_error, lines_of, lists};
+use crate::list::{ListCause, ListFault, list_pipe};
 use linux_perf_data::source::{Counted, Script, Source, Step};
 use linux_perf_data::{Endianness, Feature, PerfFileReader};
 use std::alloc::{AllocError, Global};
@@ -180,6 +180,26 @@ fn an_opening_takes_all_of_its_metadata(rt: HostRuntime) -> Result<(), Fail> {
         Part::Feature(12, &later.bytes),
     ];
     reads(&rt, "names that come later", &named, "", End::Sizes)
+}
+
+#[test]
+fn a_refused_write_counts_no_opening(rt: HostRuntime) -> Result<(), Fail> {
+    let image = little(rt.alloc(), &TWO)?;
+    let mut out = Twenty { taken: 0 };
+    match list_pipe(rt.alloc(), image.bytes.as_slice(), &mut out) {
+        Err(
+            ListFault {
+                lines,
+                cause: ListCause::Write(error),
+            },
+        ) => {
+            assert_eq!(rt; lines, 1);
+            assert_eq!(rt; error.kind(), ErrorKind::StorageFull);
+        }
+        _ => assert!(rt; false, "the writer's refusal is the cause"),
+    }
+    assert_eq!(rt; out.taken, 20);
+    Ok(())
 }
 
 /// How a pipe's opening ends, whatever comes of its records.
