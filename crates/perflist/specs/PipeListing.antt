@@ -58,7 +58,7 @@ module _ (order : Endianness) (pieces : List (List ℕ)) where
         ↔ (((n < 256) × IsSome (data_told order pieces n)) ⊎ ((n < 256) × BroughtFeature order None n records))
     pub named : Named order (data_of file event_desc) (descriptions_of file)
 
--- Where a source opens so, before the head of another record, its bytes are refused as no pipe's.
+-- Of the bytes of a source that opens so, before the head of another record, no refusal of an opening is true.
 abbrev pub NotRefused : Type 0
 NotRefused = (order : Endianness) (pieces : List (List ℕ)) (head : List ℕ) (old : State) → OpensWith order pieces old (Some head) → IfSome old.bytes (λ bytes. (e : Error) → ¬ StopsPipe bytes e)
 
