@@ -1,8 +1,10 @@
 -- What the calls of a `PerfRecordIter` come to, one and several.
 use Rattle.std.proofs.Common.{◌≡◌, ◌≢◌, ◌==◌, ℕ, ◌+◌, ◌^◌, ◌<◌, ◌++◌, List, [], ◌∷◌, false, length, take, drop, refl, sym, ap, ◌∙◌, subst, arith, inl, inr, append_assoc, length-append, eq-eqb}
 use Rattle.std.specs.Prelude.{◌⊎◌, if◌then◌else◌, Option, None, Some, IfSome}
+use Rattle.std.specs.List.{concat}
 use Rattle.std.proofs.lemmas.Bool.{cases_eq, ne_eqb}
 use Rattle.std.proofs.lemmas.List.{append-nil, take-append-drop, length-take-le, length-drop}
+use Rattle.std.proofs.lemmas.List.Folds.{concat-append}
 use Rattle.perfdata_base.specs.Source.{State, prepend, Gave, Paused}
 use Rattle.perfdata_base.proofs.Gives.{gave_none, gave_more, failed_later, paused_later}
 use Rattle.perfdata_base.proofs.Cut.{none_or_paused, all_came}
@@ -20,10 +22,10 @@ use Rattle.linux_perf_data.specs.declared.known.Known.{Known}
 use Rattle.linux_perf_data.specs.Attribute.{Attribute, Rule}
 use Rattle.linux_perf_data.specs.Known.{Knows}
 use Rattle.linux_perf_data.specs.Input.{KeepsNone, bound_in, view_in}
-use Rattle.linux_perf_data.specs.Late.{IsMetadata, FileTook, HasContents, Passed, SameFile, TakesNot}
+use Rattle.linux_perf_data.specs.Late.{IsMetadata, FileTook, HasContents, Passed, SameCount, SameFile, TakesNot}
 use Rattle.linux_perf_data.specs.PerfFile.{order_of_file, descriptions_of, features_of, data_of}
-use Rattle.linux_perf_data.specs.Layout.{Bound, Begins, IsEnd, IsTruncated, IsRecord, IsPiece, kind_of, misc_of, Handed, End, whole, faulty, Fault, IsLate, FaultAt, ToCome, handed_with, handed_at, attributes_of, brought}
-use Rattle.linux_perf_data.specs.Piece.{Answers, CameWithin, SourceOwes, WantsMemory}
+use Rattle.linux_perf_data.specs.Layout.{Bound, Begins, IsEnd, IsTruncated, IsRecord, Markers, AreMarkers, IsPiece, kind_of, misc_of, Handed, End, whole, faulty, Fault, IsLate, FaultAt, ToCome, handed_with, handed_at, attributes_of, brought}
+use Rattle.linux_perf_data.specs.Piece.{Answers, CameWithin, CutBehindHead, SourceOwes, WantsMemory}
 use Rattle.linux_perf_data.specs.Iter.{view, bound_of, MayBegin, SameInput, TookPiece, CutPiece, RefusedPiece, FindsRecord, found_with, RecordsToCome, IsAfter, TookRecord, DeclinedRecord, HandsOut, RanOut, AtEnd, LateForeign, Reason, Stops, Refuses, Handing}
 use Rattle.linux_perf_data.proofs.Brought.{brings_none, brought_one}
 use Rattle.linux_perf_data.proofs.Heads.{record_least, extent_plain}
@@ -52,6 +54,31 @@ record_within order p is = elim (cases_eq (kind_of order p) 71) [
   | inl trace ↦ inr (inr (trace, is.trace trace, (let long = is.long in omega (arith, long))))
   | inr other ↦ inr (inl (let long = is.long in let extent = extent_plain order p other in omega (arith, long, extent)))
 ]
+
+-- one marker more stands behind them
+markers_on : (order : Endianness) (bound : Bound) (offset : ℕ) (ps : List (List ℕ)) (p : List ℕ) → Markers order bound offset ps → Begins bound (offset + length (concat ps)) → IsRecord order p → kind_of order p ≡ 68 → Markers order bound offset (ps ++ p ∷ [])
+markers_on order bound offset [] p are begins is kind =
+    let z : offset + length (concat []) ≡ offset = omega arith in
+    (subst (Begins bound) z begins, is, kind, _)
+markers_on order bound offset (q ∷ qs) p are begins is kind =
+    let z : offset + length (q ++ concat qs) ≡ offset + length q + length (concat qs) = omega (arith, length-append q (concat qs)) in
+    (are.0, are.1, are.2, markers_on order bound (offset + length q) qs p are.3 (subst (Begins bound) z begins) is kind)
+
+pub markers_none : (order : Endianness) (bound : Bound) (offset : ℕ) → AreMarkers order bound offset []
+markers_none order bound offset = record { pieces = []; cut = refl; are = _ }
+
+markers_more : (order : Endianness) (bound : Bound) (offset : ℕ) (bytes p : List ℕ) → AreMarkers order bound offset bytes → Begins bound (offset + length bytes) → IsRecord order p → kind_of order p ≡ 68 → AreMarkers order bound offset (bytes ++ p)
+markers_more order bound offset bytes p m begins is kind = record {
+  pieces = m.pieces ++ p ∷ [];
+  cut = ap (λ l. l ++ p) m.cut ∙ sym (concat-append m.pieces (p ∷ []) ∙ ap (λ l. concat m.pieces ++ l) (append-nil p));
+  are = markers_on order bound offset m.pieces p m.are (subst (λ l. Begins bound (offset + length l)) m.cut begins) is kind;
+}
+
+-- no byte is left, or not
+none_left : (bytes : Option (List ℕ)) → (bytes ≡ Some []) ⊎ (bytes ≢ Some [])
+none_left None = inr (λ e. absurd cc)
+none_left (Some []) = inl refl
+none_left (Some (x ∷ xs)) = inr (λ e. absurd cc)
 
 -- a section keeps no head
 section_keeps_none : (i : Input) → bound_in i ≢ None → KeepsNone i
@@ -140,8 +167,13 @@ module _ {R : Type 0} (seen : R → State) where
     pub fits : now.offset < 2 ^ 64
     pub markers : List ℕ
     pub offset : now.offset ≡ old.offset + length markers
+    pub passed : AreMarkers old.endian (bound_of seen old) old.offset markers
     pub gave : Gave (view seen old) markers (view seen now)
     pub before : (rest : List ℕ) (attrs : List Attribute) (rs : List Handed) (e : End) → ToComeOf now rest attrs rs e → ToComeOf old (markers ++ rest) attrs rs e
+
+  -- a record may begin behind them
+  begun : (old now : PerfRecordIter R) → Idles old now → Begins (bound_of seen now) now.offset → Begins (bound_of seen old) now.offset
+  begun old now i more = subst (λ b. Begins b now.offset) i.same.bound more
 
   pub idles_on : (old now new : PerfRecordIter R) (head : PerfEventHeader) → Idles old now → TookPiece seen now head new → head.type_ ≡ 68 → Begins (bound_of seen now) now.offset → Idles old new
   idles_on old now new head i t is more = record {
@@ -153,6 +185,8 @@ module _ {R : Type 0} (seen : R → State) where
     fits = t.fits;
     markers = i.markers ++ t.piece;
     offset = (let a = i.offset in let b = t.offset in omega (arith, length-append i.markers t.piece));
+    passed = markers_more old.endian (bound_of seen old) old.offset i.markers t.piece i.passed (subst (Begins (bound_of seen old)) i.offset (begun old now i more)) (subst (λ o. IsRecord o t.piece) i.same.order t.is_record)
+        (sym (ap (λ o. kind_of o t.piece) i.same.order) ∙ t.kind ∙ is);
     gave = gave_more _ _ _ i.markers t.piece i.gave t.gave;
     before = λ rest attrs rs e come. subst (λ l. ToComeOf old l attrs rs e) (sym (append_assoc i.markers t.piece rest))
         (i.before (t.piece ++ rest) attrs rs e (marker_next now new head t is more rest attrs rs e come));
@@ -222,6 +256,8 @@ module _ {R : Type 0} (seen : R → State) where
         other = λ why. took.other (elim why [ inl file ↦ inl (λ none. file (sym same_piece.bound ∙ none)) | inr isnt ↦ inr (λ is. isnt (subst IsMetadata (sym finds.kind) is)) ]);
         held = refl;
         markers = i.markers;
+        passed = i.passed;
+        begins = subst (Begins (bound_of seen old)) (sym finds.place) (begun old now i more);
         head = take 8 t.piece;
         head_long = length-take-le 8 t.piece least;
         place = finds.place ∙ i.offset;
@@ -279,12 +315,14 @@ module _ {R : Type 0} (seen : R → State) where
       record {
         markers = i.markers;
         came = refused.came;
+        passed = i.passed;
         place = offset ∙ r.offset ∙ i.offset;
+        begins = subst (Begins (bound_of seen old)) (sym (offset ∙ r.offset)) (begun old now i more);
         gave = subst (λ s. Gave (view seen old) (i.markers ++ refused.came) s) (sym same) (gave_more _ _ _ i.markers refused.came i.gave refused.gave);
         unread = subst KeepsNone (sym stopped.input) r.unread;
         within = subst (λ o. CameWithin o refused.came) i.same.order refused.within;
         held = (let few = refused.few in let b = ap (λ v. length v.items) stopped.body in omega (arith, few, b));
-        memory = λ m. subst (λ o. WantsMemory o refused.came) i.same.order (refused.memory m);
+        memory = λ m. let wants = refused.memory m in (subst (λ o. WantsMemory o refused.came) i.same.order wants.0, inl (subst (λ o. CutBehindHead o refused.came) i.same.order wants.1));
         reason = λ m. reason old now new' file refused.came e i more (elim (refused.why m) [
           | inl fault ↦ inl fault
           | inr owes ↦ inr (subst (λ s. SourceOwes now.endian (bound_of seen now) (view seen now) refused.came e s) (sym same) owes)
@@ -329,15 +367,27 @@ module _ {R : Type 0} (seen : R → State) where
       let fits : now.offset + length t.piece < 2 ^ 64 = (let o = t.offset in let f = t.fits in omega (arith, o, f)) in
       record {
         markers = i.markers;
+        passed = i.passed;
         came = t.piece;
         place = offset ∙ i.offset;
+        begins = subst (Begins (bound_of seen old)) (sym offset) (begun old now i more);
         gave = subst (λ s. Gave (view seen old) (i.markers ++ t.piece) s) (sym same) (gave_more _ _ _ i.markers t.piece i.gave t.gave);
         unread = subst KeepsNone (sym (stopped.input ∙ d.after.input)) t.unread;
         within = subst (λ o. CameWithin o t.piece) i.same.order (record_within now.endian t.piece t.is_record);
         held = omega (arith, held);
         memory = λ m.
             let contents : HasContents now.endian head.type_ piece.body.items = subst (λ o. HasContents o head.type_ piece.body.items) order (d.memory m).1 in
-            subst (λ o. WantsMemory o t.piece) i.same.order (wants_memory now.endian head.type_ t.piece t.is_record t.kind (subst (HasContents now.endian head.type_) (t.held other) contents));
+            let held : HasContents now.endian head.type_ (drop 8 t.piece) = subst (HasContents now.endian head.type_) (t.held other) contents in
+            let count : SameCount old.endian old.known file = subst (λ o. SameCount o old.known file) (order ∙ i.same.order) (subst (λ k. SameCount piece.endian k file) (t.known ∙ i.known) (d.memory m).0) in
+            (
+              subst (λ o. WantsMemory o t.piece) i.same.order (wants_memory now.endian head.type_ t.piece t.is_record t.kind held),
+              inr (
+                sym i.same.bound ∙ pipe,
+                subst (λ o. IsRecord o t.piece) i.same.order t.is_record,
+                count,
+                subst (λ o. HasContents o (kind_of o t.piece) (drop 8 t.piece)) i.same.order (subst (λ k. HasContents now.endian k (drop 8 t.piece)) (sym t.kind) held),
+              ),
+            );
         reason = λ m. late_reason old now piece new' file head e i t more pipe d.metadata same
             (late_why now.endian old.known file now.offset t.piece e t.is_record fits
             (subst (λ k. TakesNot now.endian old.known file k (drop 8 t.piece) e) (sym t.kind)
@@ -360,12 +410,13 @@ module _ {R : Type 0} (seen : R → State) where
       record {
         none = inl (λ attrs k. at_end old now i done attrs k);
         markers = i.markers;
+        passed = i.passed;
         came = [];
         place = offset ∙ i.offset;
         gave = subst (λ l. Gave (view seen old) l (view seen new)) (sym (append-nil i.markers)) (subst (λ s. Gave (view seen old) i.markers s) (sym (view_stopped now new stopped)) i.gave);
         section = λ _. (refl, empty);
         held = omega (arith, few);
-        truncated = λ none. absurd (file none);
+        ends = subst (λ b. IsEnd old.endian b new.offset []) i.same.bound (subst (λ o. IsEnd old.endian (bound_of seen now) o []) (sym offset) (done.1 old.endian []));
         unread = section_keeps_none new.input (λ none. file (sym i.same.bound ∙ ap bound_in (sym stopped.input) ∙ none));
       }
 
@@ -387,17 +438,26 @@ module _ {R : Type 0} (seen : R → State) where
       let few = cut.few in
       let body = ap (λ v. length v.items) stopped.body in
       record {
-        none = elim (none_or_paused (view seen now) (view seen new) cut.none) [
+        none = elim (none_left (view seen new).bytes) [
           | inl end ↦ inl (λ attrs k. all_truncated old now cut.came i c.pipe cut.truncated (all_came (view seen old) (view seen new) (i.markers ++ cut.came) all end) attrs k)
-          | inr paused ↦ inr (pipe, subst (Paused (view seen old)) (sym same) (paused_later (view seen old) (view seen now) (view seen new) i.markers i.gave paused))
+          | inr some ↦ elim (none_or_paused (view seen now) (view seen new) cut.none) [
+            | inl end ↦ absurd (some end)
+            | inr paused ↦ inr (
+                pipe,
+                subst (Paused (view seen old)) (sym same) (paused_later (view seen old) (view seen now) (view seen new) i.markers i.gave paused),
+                subst (λ s. s.bytes ≢ Some []) (sym same) some,
+              )
+          ]
         ];
         markers = i.markers;
+        passed = i.passed;
         came = cut.came;
         place = offset ∙ c.offset ∙ i.offset;
         gave = subst (λ s. Gave (view seen old) (i.markers ++ cut.came) s) (sym same) all;
         section = λ file. absurd (file pipe);
         held = omega (arith, few, body);
-        truncated = λ _. subst (λ o. IsTruncated o new'.offset cut.came) i.same.order (subst (λ n. IsTruncated now.endian n cut.came) (sym (offset ∙ c.offset)) cut.truncated);
+        ends = subst (λ b. IsEnd old.endian b new'.offset cut.came) (sym pipe)
+            (subst (λ o. IsTruncated o new'.offset cut.came) i.same.order (subst (λ n. IsTruncated now.endian n cut.came) (sym (offset ∙ c.offset)) cut.truncated));
         unread = subst KeepsNone (sym stopped.input) c.unread;
       }
 

@@ -336,8 +336,8 @@ content_unfailed order b c head end e came (inr (inr (inr (inl (is, long, kind, 
 content_unfailed order b c head end e came (inr (inr (inr (inr (inl (is, long, kind, enough, far)))))) f = cc
 content_unfailed order b c head end e came (inr (inr (inr (inr (inr (is, there, kind, enough, fits, less, source)))))) f = cc
 
-content_memory : (order : Endianness) (b c : State) (head : PerfEventHeader) (end : ℕ) (e : Error) (came : List ℕ) → WhyNoContent order b head end e c came → e ≡ Memory → 8 < head.size
-content_memory order b c head end e came (inl (is, some, cut)) m = some
+content_memory : (order : Endianness) (b c : State) (head : PerfEventHeader) (end : ℕ) (e : Error) (came : List ℕ) → WhyNoContent order b head end e c came → e ≡ Memory → (8 < head.size) × CutContent order head came
+content_memory order b c head end e came (inl (is, some, cut)) m = (some, cut)
 content_memory order b c head end e came (inr (inl (is, less, source))) m = absurd cc
 content_memory order b c head end e came (inr (inr (inl (is, long, kind)))) m = absurd (not_unsupported_memory e is m)
 content_memory order b c head end e came (inr (inr (inr (inl (is, long, kind, short))))) m = absurd (not_short_memory e is m)
@@ -356,8 +356,12 @@ content_refused order a b c bound offset end head e now other t checks n =
       few = omega (arith, bound', ap length (behind_head t.bytes n.came t.took.long));
       within = content_within order a b c head end e t n.came n.why;
       unfailed = content_unfailed order b c head end e n.came n.why;
-      memory = λ m. let some = content_memory order b c head end e n.came n.why m in let size = h.size in let long = h.long in
-          record { head = omega (arith, long); kind = λ k. other (sym h.kind ∙ k); size = omega (arith, size, some) };
+      memory = λ m.
+          let wanted = content_memory order b c head end e n.came n.why m in
+          let some = wanted.0 in
+          let size = h.size in
+          let long = h.long in
+          (record { head = omega (arith, long); kind = λ k. other (sym h.kind ∙ k); size = omega (arith, size, some) }, cut_behind order a b head t n.came wanted.1);
       why = λ m. content_why order a b c bound offset end head e t n.came checks n.gave m n.why;
     }
 

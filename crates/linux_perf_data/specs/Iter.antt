@@ -26,8 +26,8 @@ use Rattle.linux_perf_data.specs.Late.{HasContents, IsMetadata, FileTook, Passed
 use Rattle.linux_perf_data.specs.Names.{event_desc}
 use Rattle.linux_perf_data.specs.PerfFile.{descriptions_of, data_of}
 use Rattle.linux_perf_data.specs.Known.{Knows, event_found}
-use Rattle.linux_perf_data.specs.Layout.{Bound, Begins, IsEnd, IsTruncated, IsRecord, kind_of, misc_of, Handed, End, whole, faulty, Fault, ToCome, handed_with, attributes_of, brought}
-use Rattle.linux_perf_data.specs.Piece.{RefusedAt, CameWithin, CutAt, Answers, SourceOwes, WantsMemory}
+use Rattle.linux_perf_data.specs.Layout.{Bound, Begins, IsEnd, IsRecord, AreMarkers, kind_of, misc_of, Handed, End, whole, faulty, Fault, ToCome, handed_with, attributes_of, brought}
+use Rattle.linux_perf_data.specs.Piece.{RefusedAt, CameWithin, CutAt, CutBehindHead, Answers, SourceOwes, WantsMemory}
 
 -- a record with its place, as the layout has it
 abbrev pub handed_of : RecordPlace → PerfFileRecord → Handed
@@ -205,9 +205,11 @@ module _ {R : Type 0} (seen : R → State) where
     -- the record is held and nothing else, and the source has given all up to its end and no byte more
     pub held : new.body.items ≡ h.body
     pub markers : List ℕ
+    pub passed : AreMarkers old.endian (bound_of old) old.offset markers
     pub head : List ℕ
     pub head_long : length head ≡ 8
     pub place : h.offset ≡ old.offset + length markers
+    pub begins : Begins (bound_of old) h.offset
     pub gave : Gave (view old) (markers ++ (head ++ h.body)) (view new)
     -- nothing was read ahead: no head is kept, so what the iterator sees to come is what its source will give
     pub unread : KeepsNone new.input
@@ -220,17 +222,20 @@ module _ {R : Type 0} (seen : R → State) where
     pub body : new.body ≡ old.body
     pub stage : new.stage ≡ old.stage
 
-  -- The end was answered by an iterator that ran: nothing is to come and the layout is whole, or, in a pipe, the source paused.
-  -- Markers were passed over, and in a pipe these bytes came of a truncated record behind them; in a file nothing is held.
+  -- The end was answered by an iterator that ran: nothing is to come and the layout is whole, or, in a pipe, the source paused,
+  -- and more is to come. Markers were passed over, and in a pipe these bytes came of a truncated record behind them; in a file
+  -- the section ended behind them, and nothing is held.
   pub record RanOut (old new : PerfRecordIter R) : Type 0 where
-    pub none : ((attrs : List Attribute) → Knows old.endian old.known attrs → RecordsToCome old attrs [] whole) ⊎ ((bound_of old ≡ None) × Paused (view old) (view new))
+    pub none : ((attrs : List Attribute) → Knows old.endian old.known attrs → RecordsToCome old attrs [] whole)
+        ⊎ ((bound_of old ≡ None) × Paused (view old) (view new) × ((view new).bytes ≢ Some []))
     pub markers : List ℕ
+    pub passed : AreMarkers old.endian (bound_of old) old.offset markers
     pub came : List ℕ
     pub place : new.offset ≡ old.offset + length markers
     pub gave : Gave (view old) (markers ++ came) (view new)
     pub section : bound_of old ≢ None → (came ≡ []) × (new.body.items ≡ [])
     pub held : length new.body.items ≤ length (drop 8 came) + 4096
-    pub truncated : bound_of old ≡ None → IsTruncated old.endian new.offset came
+    pub ends : IsEnd old.endian (bound_of old) new.offset came
     pub unread : KeepsNone new.input
 
   -- the end was answered
@@ -259,17 +264,25 @@ module _ {R : Type 0} (seen : R → State) where
       ⊎ (SourceOwes old.endian (bound_of old) (view old) came e (view new)
       ⊎ LateForeign old file came e)
 
-  -- a refusal was answered by an iterator that ran: markers were passed over, and of the record behind them these bytes came,
-  -- and none from behind it
+  -- Memory was wanted for a record of which these bytes came: for what belongs to its head, where not all of that came; or, in a
+  -- pipe, for what a whole record of metadata brings, where the `PerfFile` has as many attributes as came.
+  abbrev pub Wants : PerfRecordIter R → PerfFile → List ℕ → Type 0
+  Wants old file came = WantsMemory old.endian came × (CutBehindHead old.endian came
+      ⊎ ((bound_of old ≡ None) × IsRecord old.endian came × SameCount old.endian old.known file × HasContents old.endian (kind_of old.endian came) (drop 8 came)))
+
+  -- A refusal was answered by an iterator that ran: markers were passed over, and of the record behind them, which began where
+  -- one may, these bytes came, and none from behind it.
   pub record Stops (old : PerfRecordIter R) (file : PerfFile) (e : Error) (new : PerfRecordIter R) : Type 0 where
     pub markers : List ℕ
+    pub passed : AreMarkers old.endian (bound_of old) old.offset markers
     pub came : List ℕ
     pub place : new.offset ≡ old.offset + length markers
+    pub begins : Begins (bound_of old) new.offset
     pub gave : Gave (view old) (markers ++ came) (view new)
     pub unread : KeepsNone new.input
     pub within : CameWithin old.endian came
     pub held : length new.body.items ≤ length (drop 8 came) + 4096
-    pub memory : e ≡ error.Memory → WantsMemory old.endian came
+    pub memory : e ≡ error.Memory → Wants old file came
     pub reason : e ≢ error.Memory → Reason old file came e new
 
   -- a refusal was answered, and the `PerfFile` holds what it held

@@ -103,6 +103,17 @@ module _ (order : Endianness) where
     pub trace : kind_of p ≡ 71 → 48 ≤ size_of p
     pub long : length p ≡ extent_of p
 
+  -- these pieces are markers (type 68), each of which begins where a record may, the first at this offset
+  abbrev pub Markers : Bound → ℕ → List (List ℕ) → Type 0
+  Markers bound offset [] = Unit {0}
+  Markers bound offset (p ∷ ps) = Begins bound offset × IsRecord p × (kind_of p ≡ 68) × Markers bound (offset + length p) ps
+
+  -- the bytes from an offset on are markers, and nothing else
+  pub record AreMarkers (bound : Bound) (offset : ℕ) (bytes : List ℕ) : Type 0 where
+    pub pieces : List (List ℕ)
+    pub cut : bytes ≡ concat pieces
+    pub are : Markers bound offset pieces
+
   -- the attributes that a record of this kind brings: in a file none
   abbrev pub attributes_of : Bound → ℕ → List ℕ → List Attribute
   attributes_of None kind body = if kind == 64 then attribute_in order body ∷ [] else []

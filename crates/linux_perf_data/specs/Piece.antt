@@ -204,7 +204,7 @@ pub record RefusedAt (order : Endianness) (old : State) (bound : Bound) (offset 
   pub few : held ≤ length (drop 8 came) + 4096
   pub within : CameWithin order came
   pub unfailed : e ≢ Failed
-  pub memory : e ≡ Memory → WantsMemory order came
+  pub memory : e ≡ Memory → WantsMemory order came × CutBehindHead order came
   pub why : e ≢ Memory
       → IfSome old.bytes (λ bytes. (f : Fault) × ((attrs : List Attribute) → FaultAt order bound offset attrs bytes f) × (¬ IsLate f) × Answers f e) ⊎ SourceOwes order bound old came e new
 

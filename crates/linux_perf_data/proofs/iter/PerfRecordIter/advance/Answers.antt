@@ -1,8 +1,8 @@
 use Rattle.std.proofs.Common.{arith, refl, subst, [], ◌∙◌}
 use Rattle.perfdata_base.proofs.Gives.{gave_none}
-use Rattle.linux_perf_data.specs.Iter.{view, TookRecord, DeclinedRecord}
+use Rattle.linux_perf_data.specs.Iter.{view, bound_of, TookRecord, DeclinedRecord}
 use Rattle.linux_perf_data.proofs.Cuts.{some_piece, no_piece}
-use Rattle.linux_perf_data.proofs.Iters.{idles_on, hands_out, stops, late_stops, section_ends, pipe_ends, same_later}
+use Rattle.linux_perf_data.proofs.Iters.{markers_none, idles_on, hands_out, stops, late_stops, section_ends, pipe_ends, same_later}
 use Rattle.linux_perf_data.proofs.iter.PerfRecordIter.advance.Goals as goal
 
 pub pieces-init : goal.pieces-init
@@ -16,6 +16,7 @@ pieces-init g c = record {
     fits = omega arith;
     markers = [];
     offset = omega arith;
+    passed = markers_none c.args.self.now.endian (bound_of g.R.Source.seen c.args.self.now) c.args.self.now.offset;
     gave = gave_none (view g.R.Source.seen c.args.self.now);
     before = λ rest attrs rs e come. come;
   };
