@@ -347,14 +347,17 @@ module _ {R : Type 0} (seen : R → State) where
       )))
 
   late_reason : (old now piece new : PerfRecordIter R) (file : PerfFile) (head : PerfEventHeader) (e : Error) → Idles old now → (t : TookPiece seen now head piece) → Begins (bound_of seen now) now.offset → bound_of seen now ≡ None
-      → IsMetadata head.type_ → view seen new ≡ view seen piece → LateFault now.endian old.known file now.offset t.piece e ⊎ Foreign now.endian old.known file t.piece e → Reason seen old file t.piece e new
-  late_reason old now piece new file head e i t more pipe metadata same (inl fault) = late_fault old now piece new file head e i t more pipe same fault
-  late_reason old now piece new file head e i t more pipe metadata same (inr foreign) = inr (inr (record {
-    pipe = sym i.same.bound ∙ pipe;
-    is_record = subst (λ o. IsRecord o t.piece) i.same.order t.is_record;
-    metadata = subst IsMetadata (sym t.kind ∙ ap (λ o. kind_of o t.piece) i.same.order) metadata;
-    why = subst (λ o. Foreign o old.known file t.piece e) i.same.order foreign;
-  }))
+      → new.offset ≡ now.offset → IsMetadata head.type_ → view seen new ≡ view seen piece → LateFault now.endian old.known file now.offset t.piece e ⊎ Foreign now.endian old.known file t.piece e → Reason seen old file t.piece e new
+  late_reason old now piece new file head e i t more pipe stays metadata same (inl fault) = late_fault old now piece new file head e i t more pipe same fault
+  late_reason old now piece new file head e i t more pipe stays metadata same (inr foreign) = inr (inr (
+    record {
+      pipe = sym i.same.bound ∙ pipe;
+      is_record = subst (λ o. IsRecord o t.piece) i.same.order t.is_record;
+      metadata = subst IsMetadata (sym t.kind ∙ ap (λ o. kind_of o t.piece) i.same.order) metadata;
+      why = subst (λ o. Foreign o old.known file t.piece e) i.same.order foreign;
+    },
+    (let o = t.offset in let f = t.fits in omega (arith, o, f, stays)),
+  ))
 
   -- a record that came whole wasn't taken in
   pub late_stops : (old now piece new new' : PerfRecordIter R) (file file' : PerfFile) (head : PerfEventHeader) (e : Error) → Idles old now → TookPiece seen now head piece → head.type_ ≢ 68 → Begins (bound_of seen now) now.offset
@@ -388,7 +391,7 @@ module _ {R : Type 0} (seen : R → State) where
                 subst (λ o. HasContents o (kind_of o t.piece) (drop 8 t.piece)) i.same.order (subst (λ k. HasContents now.endian k (drop 8 t.piece)) (sym t.kind) held),
               ),
             );
-        reason = λ m. late_reason old now piece new' file head e i t more pipe d.metadata same
+        reason = λ m. late_reason old now piece new' file head e i t more pipe offset d.metadata same
             (late_why now.endian old.known file now.offset t.piece e t.is_record fits
             (subst (λ k. TakesNot now.endian old.known file k (drop 8 t.piece) e) (sym t.kind)
             (subst (λ b. TakesNot now.endian old.known file head.type_ b e) (t.held other)
@@ -528,6 +531,6 @@ module _ {R : Type 0} (seen : R → State) where
             owes_same now.endian old.endian (bound_of seen now) (bound_of seen old) (view seen old) (view seen new) s.came e before.same.order before.same.bound
                 (owes_later now.endian (bound_of seen now) (view seen old) (view seen now) (view seen new) before.front s.came e before.gave source),
           ))
-          | inr foreign ↦ inr (inr (s.came, foreign))
+          | inr foreign ↦ inr (inr (s.came, foreign.0))
         ]
       ]

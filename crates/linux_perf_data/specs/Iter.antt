@@ -256,13 +256,13 @@ module _ {R : Type 0} (seen : R → State) where
         ⊎ (SameCount old.endian old.known file × (kind_of old.endian came ≡ 64) × HoldsAttribute old.endian (drop 8 came) × ((bytes : List ℕ) × (data_of file event_desc ≡ Some bytes) × NoEventDesc (number_in old.endian) e bytes))
 
   -- Why a record was refused: the layout has this fault here, and the `PerfFile` passed what is looked at before; or the source
-  -- failed or paused; or the `PerfFile` is foreign.
+  -- failed or paused; or the `PerfFile` is foreign, and the record, which came whole, ends near enough.
   abbrev pub Reason : PerfRecordIter R → PerfFile → List ℕ → Error → PerfRecordIter R → Type 0
   Reason old file came e new =
       IfSome (view old).bytes (λ bytes. (f : Fault) × ((attrs : List Attribute) → Knows old.endian old.known attrs
       → ToCome old.endian bytes (bound_of old) old.offset old.round attrs [] (faulty f)) × Passed old.endian old.known file f × Answers f e)
       ⊎ (SourceOwes old.endian (bound_of old) (view old) came e (view new)
-      ⊎ LateForeign old file came e)
+      ⊎ (LateForeign old file came e × (new.offset + length came < 2 ^ 64)))
 
   -- Memory was wanted for a record of which these bytes came: for what belongs to its head, where not all of that came; or, in a
   -- pipe, for what a whole record of metadata brings, where the `PerfFile` has as many attributes as came.
