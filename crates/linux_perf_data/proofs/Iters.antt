@@ -381,8 +381,7 @@ module _ {R : Type 0} (seen : R → State) where
         memory = λ m.
             let contents : HasContents now.endian head.type_ piece.body.items = subst (λ o. HasContents o head.type_ piece.body.items) order (d.memory m).1 in
             let held : HasContents now.endian head.type_ (drop 8 t.piece) = subst (HasContents now.endian head.type_) (t.held other) contents in
-            let count : SameCount old.endian old.known file = subst (λ o. SameCount o old.known file) (order ∙ i.same.order) (subst (λ k. SameCount piece.endian k file) (t.known ∙ i.known) (d.memory m).0) in
-            (
+            let count : SameCount old.endian old.known file = subst (λ o. SameCount o old.known file) (order ∙ i.same.order) (subst (λ k. SameCount piece.endian k file) (t.known ∙ i.known) (d.memory m).0) in (
               subst (λ o. WantsMemory o t.piece) i.same.order (wants_memory now.endian head.type_ t.piece t.is_record t.kind held),
               inr (
                 sym i.same.bound ∙ pipe,
@@ -446,10 +445,10 @@ module _ {R : Type 0} (seen : R → State) where
           | inr some ↦ elim (none_or_paused (view seen now) (view seen new) cut.none) [
             | inl end ↦ absurd (some end)
             | inr paused ↦ inr (
-                pipe,
-                subst (Paused (view seen old)) (sym same) (paused_later (view seen old) (view seen now) (view seen new) i.markers i.gave paused),
-                subst (λ s. s.bytes ≢ Some []) (sym same) some,
-              )
+              pipe,
+              subst (Paused (view seen old)) (sym same) (paused_later (view seen old) (view seen now) (view seen new) i.markers i.gave paused),
+              subst (λ s. s.bytes ≢ Some []) (sym same) some,
+            )
           ]
         ];
         markers = i.markers;

@@ -1,6 +1,7 @@
 //! The cases of files and pipes: their lines, and how their reading ends.
 mod attributes;
 mod build_ids;
+mod constants;
 mod example;
 mod features;
 mod image;

@@ -89,6 +89,7 @@ fn entries_of_other_kinds(rt: HostRuntime) -> Result<(), Fail> {
     push(&mut content, endian, (0, 41), 1, b"/a/x\0")?;
     let found = ids(rt.alloc(), endian, content.as_slice())?;
     assert_eq!(rt; found.len(), 0, "no mode");
+    let mut content = Vec::new(rt.alloc());
     push(&mut content, endian, (1, 54), 1, b"[kernel.kallsyms]\0")?;
     let found = ids(rt.alloc(), endian, content.as_slice())?;
     has_one(
@@ -106,6 +107,10 @@ fn entries_of_other_kinds(rt: HostRuntime) -> Result<(), Fail> {
     let mut content = Vec::new(rt.alloc());
     push(&mut content, endian, (2, 10), 0, b"")?;
     let found = ids(rt.alloc(), endian, content.as_slice())?;
+    has_one(&rt, &found, CpuMode::User, b"", b"")?;
+    let mut zeros = [0; 36];
+    zeros[..8].copy_from_slice(&[67, 0, 0, 0, 2, 0, 10, 0]);
+    let found = ids(rt.alloc(), endian, &zeros)?;
     has_one(&rt, &found, CpuMode::User, b"", b"")
 }
 

@@ -4,7 +4,9 @@ use super::pipe::{TWO, described, little, piped, reads, shows};
 use super::simpleperf::{EVENT, recorded};
 use super::{End, end_of_error, ends, made, reads as reads_file};
 use linux_perf_data::source::Source;
-use linux_perf_data::{Endianness, PerfFile, PerfFileReader, PerfRecordIter};
+use linux_perf_data::{
+    Endianness, PerfFile, PerfFileReader, PerfFileRecord, PerfRecordIter, RecordPlace,
+};
 use std::io::Cursor;
 use std::process::Abort;
 use std::test::Fail;
@@ -163,6 +165,27 @@ fn attributes_as_they_come(rt: HostRuntime) -> Result<(), Fail> {
     Ok(())
 }
 
+/// Compares the first record of a pipe: a sample of attribute 0, of this time and with a body so long.
+fn is_first(
+    rt: &impl Abort,
+    came: Option<(RecordPlace, PerfFileRecord<'_>)>,
+    time: u64,
+    long: usize,
+) {
+    assert!(rt; came.is_some());
+    for (place, record) in came {
+        assert_eq!(rt;
+            (place.offset, place.round, place.timestamp),
+            (0, 0, Some(time))
+        );
+        let PerfFileRecord::EventRecord { attr_index, event } = record else {
+            rt.abort()
+        };
+        assert_eq!(rt; (attr_index, event.record_type.0, event.misc), (0, 9, 0));
+        assert_eq!(rt; event.body.len(), long);
+    }
+}
+
 /// Nothing is taken into the `PerfFile` of a pipe with two attributes, whatever else is wrong with the late record.
 #[test]
 fn another_pipes_attributes(rt: HostRuntime) -> Result<(), Fail> {
@@ -174,14 +197,18 @@ fn another_pipes_attributes(rt: HostRuntime) -> Result<(), Fail> {
         Part::Head(80, 0, 12),
         Part::Filled(0, 4),
     ];
-    for parts in [LATE.as_slice(), &breaks, &cut] {
+    for (parts, time, long) in [
+        (LATE.as_slice(), 7u64, 16usize),
+        (&breaks, 1, 8),
+        (&cut, 1, 8),
+    ] {
         let image = little(rt.alloc(), parts)?;
         let reader = PerfFileReader::parse_pipe(rt.alloc(), image.bytes.as_slice())?;
         let mut records = reader.record_iter;
         let mut own = reader.perf_file;
         let bytes = other.bytes.as_slice();
         let mut foreign = PerfFileReader::parse_pipe(rt.alloc(), bytes)?.perf_file;
-        comes(&rt, &mut records, &mut foreign, Ok(true), 2);
+        is_first(&rt, records.next_record(&mut foreign)?, time, long);
         comes(&rt, &mut records, &mut foreign, Err(End::Foreign), 2);
         comes(&rt, &mut records, &mut own, Err(End::Failed), 1);
     }

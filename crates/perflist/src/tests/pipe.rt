@@ -144,7 +144,8 @@ fn attributes_of_pipes_are_refused(rt: HostRuntime) -> Result<(), Fail> {
 
 #[test]
 fn ends_of_pipes(rt: HostRuntime) -> Result<(), Fail> {
-    let sample = [PLAIN, Part::Head(9, 0, 16), Part::Filled(0, 4)];
+    // the first 12 bytes of a sample of the time 20
+    let sample = [PLAIN, Part::Head(9, 0, 16), Part::Raw(&[20, 0, 0, 0])];
     let compressed = [PLAIN, Part::Head(81, 0, 16), Part::Filled(0, 4)];
     let marker = [PLAIN, Part::Head(68, 0, 16), Part::Filled(0, 4)];
     let small = [PLAIN, Part::Head(9, 0, 7)];
@@ -361,14 +362,19 @@ fn event_desc_names_attributes(rt: HostRuntime) -> Result<(), Fail> {
 
 #[test]
 fn symbol_tables_of_pipes(rt: HostRuntime) -> Result<(), Fail> {
-    for (feature, content) in [
-        (132, super::simpleperf::FILE2.as_slice()),
-        (128, super::simpleperf::FILE.as_slice()),
+    for (feature, content, address) in [
+        (132, super::simpleperf::FILE2.as_slice(), 128),
+        (128, super::simpleperf::FILE.as_slice(), 16),
     ] {
         let image = little(rt.alloc(), &[PLAIN, Part::Feature(feature, content)])?;
         let reader = PerfFileReader::parse_pipe(rt.alloc(), image.bytes.as_slice())?;
         let tables = reader.perf_file.simpleperf_symbol_tables(rt.alloc())?;
         assert!(rt; matches!(&tables, Some(records) if records.len() == 1));
+        for records in &tables {
+            for record in records {
+                assert_eq!(rt; (record.path.as_str(), record.min_vaddr), ("a", address));
+            }
+        }
     }
     Ok(())
 }
