@@ -184,7 +184,7 @@ header_stuck a b e placed stuck = elim stuck.why [
   | inr (near, inl failed) ↦ inr (inl (tt, failed))
   | inr (near, inr (from, there, far)) ↦ inl (place_shows a (λ p. StopsFile p (IoError e)) (λ p is.
       let same : from ≡ p = cc in
-      inr (inl (stuck.header, has_header a p stuck.header placed is stuck.begins, inr (subst (λ q. 2 ^ 64 ≤ q.at + stuck.header.header_size) same far, tt)))))
+      inr (inl (stuck.header, has_header a p stuck.header placed is stuck.begins, inr (near, subst (λ q. 2 ^ 64 ≤ q.at + stuck.header.header_size) same far, tt)))))
 ]
 
 -- there is no header
@@ -198,7 +198,7 @@ header_refused a b e placed refused = record {
 pub magic_refused : (a b : State) (h : PerfHeader) (e : Error) → IsPlaced a → TookHeader a h b → (e ≡ UnrecognizedMagicValue h.magic) × ((order : Endianness) → h.magic ≢ magic_of order) → RefusedFile a e b
 magic_refused a b h e placed took why = record {
   stood = took.stood;
-  why = λ _. inl (place_shows a (λ p. StopsFile p e) (λ p is. inr (inr (inl (h, has_header a p h placed is took.begins, why.1, why.0)))));
+  why = λ _. inl (place_shows a (λ p. StopsFile p e) (λ p is. inr (inr (inl (h, (has_header a p h placed is took.begins, took.near, why.1, why.0))))));
 }
 
 all_there : (a b : State) (p : Place) → Stood a b → a.place ≡ Some p → all_of b.place ≡ Some p.all
@@ -220,7 +220,7 @@ behind_header a b c order h opening placed took magic read = record {
       subst (λ o. IfSome o (λ all. HoldsSections order h all × ((n : ℕ) → data_in opening.sections n ≡ section_data order h all n))) there read.sections in
       record {
         header = h;
-        is = record { has = has_header a p h placed is took.begins; magic = magic ∙ ap magic_of (sym read.endian) };
+        is = record { has = has_header a p h placed is took.begins; passes = took.near; magic = magic ∙ ap magic_of (sym read.endian) };
         near = read.near;
         features = read.features;
         size = read.size;
@@ -238,7 +238,7 @@ behind_refused a b c order h e placed took magic refused = record {
   why = λ m. elim (refused.why m) [
     | inl shown ↦ inl (place_shows a (λ p. StopsFile p e) (λ p is.
         let stops : IfSome (Some p.all) (λ all. StopsBehind order h all e) = subst (λ o. IfSome o (λ all. StopsBehind order h all e)) (all_there a b p took.stood is) shown in
-        inr (inr (inr (order, (h, record { has = has_header a p h placed is took.begins; magic = magic }, stops))))))
+        inr (inr (inr (order, (h, record { has = has_header a p h placed is took.begins; passes = took.near; magic = magic }, stops))))))
     | inr owes ↦ inr (later_owes a b c e took.stood owes)
   ];
 }

@@ -103,18 +103,31 @@ pub record HasHeader (p : Place) (h : PerfHeader) : Type 0 where
   pub there : 104 ≤ length (drop p.at p.all)
   pub is : h ≡ header_of (take 104 (drop p.at p.all))
 
--- the header of a file whose numbers have this order
+-- the bytes of a header behind its first 104 can be passed over: they are fewer than 2^63
+abbrev pub CanPass : PerfHeader → Type 0
+CanPass h = h.header_size < 104 + 2 ^ 63
+
+-- They aren't passed over: they are 2^63 or more; or they lead past 2^64 - 1, as none do where all bytes are fewer than 2^63.
+abbrev pub NotPassed : Place → PerfHeader → Error → Type 0
+NotPassed p h e = ((104 + 2 ^ 63 ≤ h.header_size) × IsInvalidInput e) ⊎ (CanPass h × (2 ^ 64 ≤ p.at + h.header_size) × IsIo e)
+
+-- the header of a file whose numbers have this order, which can be passed over
 pub record IsHeader (p : Place) (order : Endianness) (h : PerfHeader) : Type 0 where
   pub has : HasHeader p h
+  pub passes : CanPass h
   pub magic : h.magic ≡ magic_of order
+
+-- a header that can be passed over, and whose magic is no file's, as this error says
+abbrev pub IsNoFile : Place → PerfHeader → Error → Type 0
+IsNoFile p h e = HasHeader p h × CanPass h × ((order : Endianness) → h.magic ≢ magic_of order) × (e ≡ UnrecognizedMagicValue h.magic)
 
 -- What an opening of a file meets first: the header isn't there whole; the bytes behind its first 104 can't be passed
 -- over; its magic is no file's; or what stands behind it.
 abbrev pub StopsFile : Place → Error → Type 0
 StopsFile p e =
     (IsShort e × (length (drop p.at p.all) < 104))
-    ⊎ (((h : PerfHeader) × HasHeader p h × (((104 + 2 ^ 63 ≤ h.header_size) × IsInvalidInput e) ⊎ ((2 ^ 64 ≤ p.at + h.header_size) × IsIo e)))
-    ⊎ (((h : PerfHeader) × HasHeader p h × ((order : Endianness) → h.magic ≢ magic_of order) × (e ≡ UnrecognizedMagicValue h.magic))
+    ⊎ (((h : PerfHeader) × HasHeader p h × NotPassed p h e)
+    ⊎ (((h : PerfHeader) × IsNoFile p h e)
     ⊎ ((order : Endianness) × ((h : PerfHeader) × IsHeader p order h × StopsBehind order h p.all e))))
 
 -- The file that begins at a place was opened: its header says what the opening holds, and the source stands at the first record.
