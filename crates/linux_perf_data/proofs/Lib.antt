@@ -37,3 +37,4 @@ pub mod PipeRecords
 pub mod NamesTold
 pub mod LateSteps
 pub mod OneOpening
+pub mod FileStands

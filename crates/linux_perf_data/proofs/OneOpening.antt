@@ -151,7 +151,7 @@ abbrev first_of : List ℕ → ℕ
 first_of [] = 0
 first_of (x ∷ xs) = x
 
-same_order : (a b : Endianness) → magic_of a ≡ magic_of b → a ≡ b
+pub same_order : (a b : Endianness) → magic_of a ≡ magic_of b → a ≡ b
 same_order LittleEndian LittleEndian e = refl
 same_order BigEndian BigEndian e = refl
 same_order LittleEndian BigEndian e = let same : 80 ≡ 50 = ap first_of e in absurd (omega (arith, same))

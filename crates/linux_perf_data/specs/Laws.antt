@@ -1,6 +1,8 @@
 -- What the laws of the layout say.
 use Rattle.std.specs.Prelude.{◌≡◌, ◌≢◌, ◌⊎◌, ℕ, ◌+◌, ◌^◌, ◌<◌, ◌≤◌, ◌==◌, List, ◌∷◌, ◌++◌, length, drop, map, count_by, All, AllPairs, Option}
 use Rattle.std.specs.List.{concat}
+use Rattle.perfdata_base.specs.Source.{Place}
+use Rattle.perfdata_base.specs.declared.header.PerfHeader.{PerfHeader}
 use Rattle.perfdata_base.specs.declared.raw.Endianness.{Endianness}
 use Rattle.linux_perf_data.specs.Attribute.{Attribute, Rule, Breach, Breaks}
 use Rattle.linux_perf_data.specs.Layout.{Bound, Begins, IsEnd, IsRecord, IsPiece, Fronts, Fault, FaultAt, End, Layout, Handed, handed, handed_at, brought, ToCome, attributes_of, attributes_in, kind_of, size_of}
@@ -11,7 +13,10 @@ use Rattle.perfdata_parts.specs.EventDesc.{NoEventDesc}
 use Rattle.perfdata_parts.specs.declared.error.Error.{Error}
 use Rattle.perfdata_parts.specs.declared.feature_sections.AttributeDescription.{AttributeDescription}
 use Rattle.linux_perf_data.specs.Names.{TellsNames, Named}
+use Rattle.linux_perf_data.specs.Open.{StopsFile}
+use Rattle.linux_perf_data.specs.Opened.{Describes}
 use Rattle.linux_perf_data.specs.PipeOpen.{IsPipeHeader, AreMetadata, EndsMetadata, CanOpen, StopsPipe}
+use Rattle.linux_perf_data.specs.declared.perf_file.PerfFile.{PerfFile}
 
 -- no bytes begin with two whole records: none is a proper front of another
 abbrev pub OneRecord : Type 0
@@ -110,3 +115,7 @@ OneOpening = (order : Endianness) (ps qs : List (List ℕ)) (behind later : List
 abbrev pub OpeningStands : Type 0
 OpeningStands = (order : Endianness) (header : List ℕ) (ps : List (List ℕ)) (behind : List ℕ) (e : Error) → IsPipeHeader order header → AreMetadata order ps → EndsMetadata order behind → CanOpen order ps →
     ¬ StopsPipe (header ++ (concat ps ++ behind)) e
+
+-- the file that its bytes describe, where they are fewer than 2^63, isn't refused
+abbrev pub FileStands : Type 0
+FileStands = (p : Place) (h : PerfHeader) (file : PerfFile) (e : Error) → length p.all < 2 ^ 63 → Describes p h file → ¬ StopsFile p e

@@ -2,7 +2,7 @@
 //! there is one.
 ghost use Rattle.linux_perf_data.specs.BuildIds.{OneListOfEntries, KeysEqualByTexts};
 ghost use Rattle.linux_perf_data.specs.Late.{HoldsNone, HoldsMore, NamesStay};
-ghost use Rattle.linux_perf_data.specs.Laws.{OneRecord, OneFault, NoFaultAtPiece, EndFaultOrPiece, RuleOrBreach, OneBreach, OneLayout, SomeLayout, OneToCome, OffsetsRise, PlaceOfPiece, RecordsBring, TracesHold, NoNamesAtRefusal, OneNaming, OneOpening, OpeningStands};
+ghost use Rattle.linux_perf_data.specs.Laws.{OneRecord, OneFault, NoFaultAtPiece, EndFaultOrPiece, RuleOrBreach, OneBreach, OneLayout, SomeLayout, OneToCome, OffsetsRise, PlaceOfPiece, RecordsBring, TracesHold, NoNamesAtRefusal, OneNaming, OneOpening, OpeningStands, FileStands};
 
 /// No bytes begin with two whole records.
 pub fn at_most_one_record()
@@ -71,6 +71,11 @@ pub fn traces_hold()
 pub fn one_opening()
     ensures one { OneOpening }
     ensures stands { OpeningStands }
+{}
+
+/// Where a file's bytes, fewer than 2^63, describe what an opening of it tells, no refusal of it is true.
+pub fn file_stands()
+    ensures { FileStands }
 {}
 
 /// The names of a pipe's attributes are determined by the attributes' ids and the bytes of EVENT_DESC, and where those are refused
