@@ -15,6 +15,7 @@ use Rattle.perfdata_base.specs.declared.header.PerfHeader.{PerfHeader}
 use Rattle.perfdata_base.proofs.Numbers.{in_reads_first}
 use Rattle.perfdata_parts.specs.AttributeDescription.{DescribedEvent, attr_in, ids_in, events_in}
 use Rattle.perfdata_parts.specs.Attributes.{IsFramed, IsNoFrame, IsDescribed}
+use Rattle.perfdata_parts.specs.Error.{IsShort, IsInvalidInput}
 use Rattle.perfdata_parts.specs.EventDesc.{DescribesByEventDesc, NoEventDesc}
 use Rattle.perfdata_parts.specs.EventIds.{numbers}
 use Rattle.perfdata_parts.specs.EventTypes.{name_at, IsEntry, IsNoEntry, IsIdsOf, IsNoIds, IsGiven, Given, DescribesByEntries, NoEntries}
@@ -23,12 +24,13 @@ use Rattle.perfdata_parts.specs.declared.feature_sections.AttributeDescription.{
 use Rattle.perfdata_parts.specs.declared.event_type.SimplePerfEventType.{SimplePerfEventType}
 use Rattle.perfdata_simpleperf.specs.SimpleperfEvents.{event_type_of}
 use Rattle.perfdata_parts.specs.declared.error.Error.{Error}
-use Rattle.perfdata_parts.specs.declared.error.Error.TheVariants.{Read, InconsistentAttributeSizes, StringUtf8, NoEventTypesInSimpleperfMetaInfo}
+use Rattle.perfdata_parts.specs.declared.error.Error.TheVariants.{Read, UnrecognizedMagicValue, InconsistentAttributeSizes, StringUtf8, NoEventTypesInSimpleperfMetaInfo}
 use Rattle.perfdata_parts.specs.declared.error.ReadError.TheVariants.{PerfEventAttr as OfAttr}
 use Rattle.perfdata_parts.proofs.EventFronts.{told_one, told_or_refused}
 use Rattle.linux_perf_data.specs.Attribute.{Attribute, Rule, Breaks}
 use Rattle.linux_perf_data.specs.AttributeSources.{NamesEvents, NamesNone, DescribesBySections, DescribesByAttrs, DescribesWith, StopsAtSections, StopsAtSection, StopsWith}
 use Rattle.linux_perf_data.specs.Described.{attribute_by, attributes_by}
+use Rattle.linux_perf_data.specs.Laws.{CutHeader, FarHeader, OtherMagic}
 use Rattle.linux_perf_data.specs.Open.{magic_of, EndsNear, table_place, HoldsSections, section_data, DescribesAttributes, StopsAtAttributes, StopsBehind, HasHeader, IsHeader, StopsFile}
 use Rattle.linux_perf_data.specs.Opened.{Describes}
 use Rattle.linux_perf_data.specs.PerfFile.{order_of_file, descriptions_of}
@@ -264,3 +266,43 @@ file_stands p h file e small d (inr (inr (inr (order, (other, is, stops))))) =
     let some = file.some in
     let long = file.attributes.ok.0 in
     behind_stands (order_of_file file) h p.all e (descriptions_of file) d.near d.holds (omega (arith, some, long)) d.rule d.attributes here
+
+-- ---- what is refused before what stands behind a header
+
+pub cut_header : CutHeader
+cut_header p few = (
+  (λ e stops. elim stops as (λ _. IsShort e) [
+    | inl short ↦ short.0
+    | inr (inl (h, has, why)) ↦ let there = has.there in absurd (omega (arith, few, there))
+    | inr (inr (inl (h, none))) ↦ let there = none.0.there in absurd (omega (arith, few, there))
+    | inr (inr (inr (order, (h, is, stops)))) ↦ let there = is.has.there in absurd (omega (arith, few, there))
+  ]),
+  λ h file d. let there = d.is.has.there in omega (arith, few, there),
+)
+
+same_size : (p : Place) (h i : PerfHeader) → HasHeader p h → HasHeader p i → h.header_size ≡ i.header_size
+same_size p h i x y = ap (λ x. x.header_size) (header_one p h i x y)
+
+pub far_header : FarHeader
+far_header p h has far = (
+  (λ e stops. elim stops as (λ _. IsInvalidInput e) [
+    | inl (short, few) ↦ let there = has.there in absurd (omega (arith, few, there))
+    | inr (inl (i, has', inl (far', invalid))) ↦ invalid
+    | inr (inl (i, has', inr (near, place, io))) ↦ let same = same_size p i h has' has in absurd (omega (arith, same, far, near))
+    | inr (inr (inl (i, none))) ↦ let same = same_size p i h none.0 has in let near = none.1 in absurd (omega (arith, same, far, near))
+    | inr (inr (inr (order, (i, is, stops)))) ↦ let same = same_size p i h is.has has in let near = is.passes in absurd (omega (arith, same, far, near))
+  ]),
+  λ i file d. let same = same_size p i h d.is.has has in let near = d.is.passes in omega (arith, same, far, near),
+)
+
+pub other_magic : OtherMagic
+other_magic p h small has near unknown = (
+  (λ e stops. elim stops as (λ _. e ≡ UnrecognizedMagicValue h.magic) [
+    | inl (short, few) ↦ let there = has.there in absurd (omega (arith, few, there))
+    | inr (inl (i, has', inl (far, invalid))) ↦ let same = same_size p i h has' has in absurd (omega (arith, same, far, near))
+    | inr (inl (i, has', inr (near', place, io))) ↦ let there = has'.there in absurd (omega (arith, near', place, there, small, length-drop p.at p.all))
+    | inr (inr (inl (i, none))) ↦ none.3 ∙ ap (λ x. UnrecognizedMagicValue x.magic) (header_one p i h none.0 has)
+    | inr (inr (inr (order, (i, is, stops)))) ↦ absurd (unknown order (ap (λ x. x.magic) (header_one p h i has is.has) ∙ is.magic))
+  ]),
+  λ i file d. unknown (order_of_file file) (ap (λ x. x.magic) (header_one p h i has d.is.has) ∙ d.is.magic),
+)

@@ -9,11 +9,13 @@ use Rattle.linux_perf_data.specs.Layout.{Bound, Begins, IsEnd, IsRecord, IsPiece
 use Rattle.perfdata_base.specs.Numbers.{number_in}
 use Rattle.perfdata_parts.specs.AttributeDescription.{name_in, ids_in}
 use Rattle.perfdata_records.specs.Auxtrace.{HoldsAuxtrace}
+use Rattle.perfdata_parts.specs.Error.{IsShort, IsInvalidInput}
 use Rattle.perfdata_parts.specs.EventDesc.{NoEventDesc}
 use Rattle.perfdata_parts.specs.declared.error.Error.{Error}
+use Rattle.perfdata_parts.specs.declared.error.Error.TheVariants.{UnrecognizedMagicValue}
 use Rattle.perfdata_parts.specs.declared.feature_sections.AttributeDescription.{AttributeDescription}
 use Rattle.linux_perf_data.specs.Names.{TellsNames, Named}
-use Rattle.linux_perf_data.specs.Open.{StopsFile}
+use Rattle.linux_perf_data.specs.Open.{magic_of, HasHeader, CanPass, StopsFile}
 use Rattle.linux_perf_data.specs.Opened.{Describes}
 use Rattle.linux_perf_data.specs.PipeOpen.{IsPipeHeader, AreMetadata, EndsMetadata, CanOpen, StopsPipe}
 use Rattle.linux_perf_data.specs.declared.perf_file.PerfFile.{PerfFile}
@@ -119,3 +121,19 @@ OpeningStands = (order : Endianness) (header : List ℕ) (ps : List (List ℕ)) 
 -- the file that its bytes describe, where they are fewer than 2^63, isn't refused
 abbrev pub FileStands : Type 0
 FileStands = (p : Place) (h : PerfHeader) (file : PerfFile) (e : Error) → length p.all < 2 ^ 63 → Describes p h file → ¬ StopsFile p e
+
+-- what every refusal of a file says, and that the file doesn't open
+abbrev pub RefusedAs : Place → (Error → Type 0) → Type 0
+RefusedAs p Says = ((e : Error) → StopsFile p e → Says e) × ((h : PerfHeader) (file : PerfFile) → ¬ Describes p h file)
+
+-- fewer than 104 bytes are no header
+abbrev pub CutHeader : Type 0
+CutHeader = (p : Place) → length (drop p.at p.all) < 104 → RefusedAs p IsShort
+
+-- a header that tells of 2^63 bytes or more behind its first 104 is refused for them, whatever its magic is and what stands behind it
+abbrev pub FarHeader : Type 0
+FarHeader = (p : Place) (h : PerfHeader) → HasHeader p h → 104 + 2 ^ 63 ≤ h.header_size → RefusedAs p IsInvalidInput
+
+-- one that can be passed over, of another magic, is refused for its magic, whatever stands behind it
+abbrev pub OtherMagic : Type 0
+OtherMagic = (p : Place) (h : PerfHeader) → length p.all < 2 ^ 63 → HasHeader p h → CanPass h → ((order : Endianness) → h.magic ≢ magic_of order) → RefusedAs p (λ e. e ≡ UnrecognizedMagicValue h.magic)

@@ -2,7 +2,7 @@
 //! there is one.
 ghost use Rattle.linux_perf_data.specs.BuildIds.{OneListOfEntries, KeysEqualByTexts};
 ghost use Rattle.linux_perf_data.specs.Late.{HoldsNone, HoldsMore, NamesStay};
-ghost use Rattle.linux_perf_data.specs.Laws.{OneRecord, OneFault, NoFaultAtPiece, EndFaultOrPiece, RuleOrBreach, OneBreach, OneLayout, SomeLayout, OneToCome, OffsetsRise, PlaceOfPiece, RecordsBring, TracesHold, NoNamesAtRefusal, OneNaming, OneOpening, OpeningStands, FileStands};
+ghost use Rattle.linux_perf_data.specs.Laws.{OneRecord, OneFault, NoFaultAtPiece, EndFaultOrPiece, RuleOrBreach, OneBreach, OneLayout, SomeLayout, OneToCome, OffsetsRise, PlaceOfPiece, RecordsBring, TracesHold, NoNamesAtRefusal, OneNaming, OneOpening, OpeningStands, FileStands, CutHeader, FarHeader, OtherMagic};
 
 /// No bytes begin with two whole records.
 pub fn at_most_one_record()
@@ -76,6 +76,14 @@ pub fn one_opening()
 /// Where a file's bytes, fewer than 2^63, describe what an opening of it tells, no refusal of it is true.
 pub fn file_stands()
     ensures { FileStands }
+{}
+
+/// A file's header is refused before what stands behind it: where fewer than 104 bytes are there, where 2^63 or more were
+/// to be passed over, and then where its magic is no file's.
+pub fn header_comes_first()
+    ensures cut { CutHeader }
+    ensures far { FarHeader }
+    ensures magic { OtherMagic }
 {}
 
 /// The names of a pipe's attributes are determined by the attributes' ids and the bytes of EVENT_DESC, and where those are refused
