@@ -197,15 +197,15 @@ fn reads(
 
 const FIRST: &str = "0 0 20 0 9 0 8\n24 1 10 0 9 0 8\n";
 
-/// The first file with a number written over, which doesn't open.
+/// The first file with numbers written over, which doesn't open.
 fn patched(
     rt: &(impl Abort + AllocGlobal),
     name: &str,
     endian: Endianness,
-    (at, number): (usize, u64),
+    patches: &[(usize, u64)],
     end: End,
 ) -> Result<(), Fail> {
-    let image = Image::patched(rt.alloc(), endian, at, number)?;
+    let image = Image::patched(rt.alloc(), endian, patches)?;
     shows(rt, name, &image.bytes, "", end)
 }
 
@@ -228,14 +228,35 @@ fn numbers_written_over(rt: HostRuntime) -> Result<(), Fail> {
     ] {
         for (name, patch, end) in [
             ("no attribute size", (16usize, 0u64), End::Attribute),
-            ("data far away", (40, u64::MAX), End::Feature),
             ("a feature without its entry", (72, 8), End::Short),
             ("no event types", (64, 1), End::NoAttributes),
             ("a sample as an attribute", (32, 128), of_sample),
             ("no attributes", (32, 63), End::NoAttributes),
         ] {
-            patched(&rt, name, endian, patch, end)?;
+            patched(&rt, name, endian, &[patch], end)?;
         }
+        let far = [(40, u64::MAX), (48, 1)];
+        patched(&rt, "data far away", endian, &far, End::Feature)?;
+    }
+    Ok(())
+}
+
+#[test]
+fn a_header_longer_than_its_numbers(rt: HostRuntime) -> Result<(), Fail> {
+    for endian in [Endianness::LittleEndian, Endianness::BigEndian] {
+        for size in [0, 112, 0x8000_0000_0000_0067] {
+            let image = Image::patched(rt.alloc(), endian, &[(8, size)])?;
+            shows(&rt, "passed over", &image.bytes, FIRST, End::Whole)?;
+        }
+        for size in [0x8000_0000_0000_0068, u64::MAX] {
+            let patch = (8, size);
+            patched(&rt, "too long", endian, &[patch], End::Foreign)?;
+            for other in [(40, u64::MAX), (32, 63)] {
+                patched(&rt, "and more", endian, &[patch, other], End::Foreign)?;
+            }
+        }
+        let magic = [(8, u64::MAX), (0, 0)];
+        patched(&rt, "of no magic", endian, &magic, End::Foreign)?;
     }
     Ok(())
 }

@@ -218,22 +218,28 @@ impl Image {
         Ok(image)
     }
 
-    /// The same bytes with some of them written over by a number.
-    pub fn patched(
-        alloc: Global,
-        endian: Endianness,
-        at: usize,
-        number: u64,
-    ) -> Result<Image, AllocError> {
-        let mut image = Image::first(alloc, endian)?;
-        let bytes = match endian {
+    /// Writes a number over the bytes at a place.
+    pub fn put(&mut self, at: usize, number: u64) {
+        let bytes = match self.endian {
             Endianness::LittleEndian => number.to_le_bytes(),
             Endianness::BigEndian => number.to_be_bytes(),
         };
         for (index, byte) in bytes.iter().enumerate() {
-            if let Some(slot) = image.bytes.get_mut(at.saturating_add(index)) {
+            if let Some(slot) = self.bytes.get_mut(at.saturating_add(index)) {
                 *slot = *byte;
             }
+        }
+    }
+
+    /// The first file with these numbers written over.
+    pub fn patched(
+        alloc: Global,
+        endian: Endianness,
+        patches: &[(usize, u64)],
+    ) -> Result<Image, AllocError> {
+        let mut image = Image::first(alloc, endian)?;
+        for (at, number) in patches {
+            image.put(*at, *number);
         }
         Ok(image)
     }
