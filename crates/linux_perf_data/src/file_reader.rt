@@ -59,7 +59,8 @@ impl<C: PlacedSource + Drop> PerfFileReader<C> {
     /// of 16 bytes for each feature, ascending, which says where the feature's section is. A refusal names the first
     /// thing in the file that stands in the way, or the source's own fault: an [`Error::IoError`] in the header, the
     /// table and the sections, and where the source can't go to a place, [`ReadError::FeatureSection`] where the data
-    /// section ends past 2^64 - 1.
+    /// section ends past 2^64 - 1. The bytes that the header's size counts beyond 104 are passed over before its magic is
+    /// looked at, and where they are 2^63 or more the [`Error::IoError`] is of kind `InvalidInput`.
     ///
     /// The attributes are those of the section EVENT_DESC; without it those of the event types section, where it isn't
     /// empty; else those of the attribute section, which in a file with simpleperf's meta info are named by the event types
