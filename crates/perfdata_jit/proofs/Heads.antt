@@ -60,6 +60,7 @@ module _ {R : Type 0} (seen : R → State) where
         asks = record {
           overflow = record { asked = λ less. absurd (omega (arith, all, long)); had = λ _. omega arith };
           quiet = λ _. refl;
+          still = λ _. refl;
         };
         long = long;
         kept = is;
@@ -77,14 +78,21 @@ module _ {R : Type 0} (seen : R → State) where
         sym (ap (head_in (jit_order old)) is ∙ head_front (jit_order old) bytes (held_in new.reader) (omega (arith, took.long))),
       )
 
+  -- what came while a head was kept is held behind the rest
+  held_more : (mid new : JitDumpReader R) → new.head ≡ mid.head → (k : Keeps seen mid.reader new.reader) → jit_held new ≡ jit_held mid ++ k.came
+  held_more mid new still k = ap (λ h. head_bytes h ++ held_in new.reader) still ∙ ap (λ l. head_bytes mid.head ++ l) k.holds ∙ sym (append_assoc (head_bytes mid.head) (held_in mid.reader) k.came)
+
   -- the body behind a head that is kept was asked for
-  behind_head : (old mid new : JitDumpReader R) (head : JitDumpRecordHeader) (c : CheckedHead seen old head mid) → AsksOnlyFor seen (head.total_size - 16) mid.reader new.reader → AsksForBoth (head.total_size - 16) (length (jit_held old)) (jit_overflow old) (jit_overflow new)
-  behind_head old mid new head c asks =
+  behind_head : (old mid new : JitDumpReader R) (head : JitDumpRecordHeader) (c : CheckedHead seen old head mid) → new.head ≡ mid.head → Keeps seen mid.reader new.reader → AsksOnlyFor seen (head.total_size - 16) mid.reader new.reader
+      → AsksForBoth (head.total_size - 16) (length (jit_held old)) (length (jit_held new)) (jit_overflow old) (jit_overflow new)
+  behind_head old mid new head c kept k asks =
       let s = c.took.stays in
       let all = ap length (held_some mid c.bytes c.took.kept) ∙ length-append c.bytes (held_in mid.reader) in
       let long = c.took.long in
       record {
         held_then = length (jit_held mid);
+        still = λ le. ap length (c.took.asks.still le);
+        most = omega (arith, ap length (held_more mid new kept k), length-append (jit_held mid) k.came);
         more = omega (arith, ap length s.holds, length-append (jit_held old) s.came);
         between = jit_overflow mid;
         head = c.took.asks.overflow;
@@ -95,9 +103,8 @@ module _ {R : Type 0} (seen : R → State) where
   keeps_behind : (old mid new : JitDumpReader R) (bytes : List ℕ) → TookHead seen old bytes mid → new.head ≡ mid.head → Keeps seen mid.reader new.reader → jit_offset new ≡ jit_offset mid → SameFile mid new → Stays seen old new
   keeps_behind old mid new bytes took still k offset file =
       let s = took.stays in
-      let kept : jit_held new ≡ jit_held mid ++ k.came = ap (λ h. head_bytes h ++ held_in new.reader) still ∙ ap (λ l. head_bytes mid.head ++ l) k.holds ∙ sym (append_assoc (head_bytes mid.head) (held_in mid.reader) k.came) in
       stays_by old new (s.came ++ k.came) (gave_more (jit_view seen old) (jit_view seen mid) (jit_view seen new) s.came k.came s.gave k.gave)
-      (kept ∙ ap (λ l. l ++ k.came) s.holds ∙ append_assoc (jit_held old) s.came k.came) (offset ∙ s.offset) (file_on old mid new s.file file) s.found (k.lost ∙ s.finds)
+      (held_more mid new still k ∙ ap (λ l. l ++ k.came) s.holds ∙ append_assoc (jit_held old) s.came k.came) (offset ∙ s.offset) (file_on old mid new s.file file) s.found (k.lost ∙ s.finds)
 
   pub holds_next : (old mid new : JitDumpReader R) (head : JitDumpRecordHeader) → CheckedHead seen old head mid → AskedWhole seen (head.total_size - 16) mid.reader new.reader → new.head ≡ mid.head → jit_offset new ≡ jit_offset mid → SameFile mid new → HoldsNext seen old head new
   holds_next old mid new head c asked still offset file =
@@ -121,7 +128,7 @@ module _ {R : Type 0} (seen : R → State) where
             let same = size ∙ size_front (jit_order old) (jit_held old) s.came head_held in
             asked.asks.quiet (omega (arith, held.there, same, all, more, took.long)) ∙ took.asks.quiet head_held;
         counts = counts_on (jit_view seen old) (jit_view seen mid) (jit_view seen new) took.counts asked.counts;
-        overflow = behind_head old mid new head c asked.asks;
+        overflow = behind_head old mid new head c still asked.keeps asked.asks;
       }
 
   -- with the head kept and fewer bytes behind it than the body has, nothing is whole
@@ -140,10 +147,10 @@ module _ {R : Type 0} (seen : R → State) where
         size,
       )
 
-  both_asked : (old mid new : JitDumpReader R) (head : JitDumpRecordHeader) (c : CheckedHead seen old head mid) → AsksOnlyFor seen (head.total_size - 16) mid.reader new.reader → IsCut (jit_order old) (jit_offset old) (jit_held new) × (size_in (jit_order old) (jit_held new) ≡ head.total_size) → AsksRecord (size_in (jit_order old) (jit_held new)) old new
-  both_asked old mid new head c asks cut = record {
+  both_asked : (old mid new : JitDumpReader R) (head : JitDumpRecordHeader) (c : CheckedHead seen old head mid) → new.head ≡ mid.head → Keeps seen mid.reader new.reader → AsksOnlyFor seen (head.total_size - 16) mid.reader new.reader → IsCut (jit_order old) (jit_offset old) (jit_held new) × (size_in (jit_order old) (jit_held new) ≡ head.total_size) → AsksRecord (size_in (jit_order old) (jit_held new)) old new
+  both_asked old mid new head c still k asks cut = record {
     head = λ few. absurd (omega (arith, cut.0.head));
-    both = λ _. subst (λ n. AsksForBoth (n - 16) (length (jit_held old)) (jit_overflow old) (jit_overflow new)) (sym cut.1) (behind_head old mid new head c asks);
+    both = λ _. subst (λ n. AsksForBoth (n - 16) (length (jit_held old)) (length (jit_held new)) (jit_overflow old) (jit_overflow new)) (sym cut.1) (behind_head old mid new head c still k asks);
   }
 
   pub waits_for_body : (old mid new : JitDumpReader R) (head : JitDumpRecordHeader) → CheckedHead seen old head mid → AskedShort seen (head.total_size - 16) mid.reader new.reader → new.head ≡ mid.head → jit_offset new ≡ jit_offset mid → SameFile mid new → Waits seen old new
@@ -153,7 +160,7 @@ module _ {R : Type 0} (seen : R → State) where
         stays = keeps_behind old mid new c.bytes c.took still asked.keeps offset file;
         nothing = inr cut.0;
         none = gave_none_later _ _ _ c.took.stays.came c.took.stays.gave asked.none;
-        asks = both_asked old mid new head c asked.asks cut;
+        asks = both_asked old mid new head c still asked.keeps asked.asks cut;
       }
 
   pub body_refused : (old mid new : JitDumpReader R) (head : JitDumpRecordHeader) (e : Error) → CheckedHead seen old head mid → AskRefused seen (head.total_size - 16) mid.reader e new.reader → new.head ≡ mid.head → jit_offset new ≡ jit_offset mid → SameFile mid new → Refuses seen old e new
@@ -166,5 +173,5 @@ module _ {R : Type 0} (seen : R → State) where
           | inl failed ↦ inl (failed_later _ _ _ c.took.stays.came c.took.stays.gave failed)
           | inr full ↦ inr (head.total_size - 16, inr (omega (arith, cut.1, c.least)), record { long = omega (arith, full.long, c.took.stays.file.size); kind = full.kind })
         ];
-        asks = both_asked old mid new head c asked.asks cut;
+        asks = both_asked old mid new head c still asked.keeps asked.asks cut;
       }))

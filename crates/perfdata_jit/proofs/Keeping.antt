@@ -52,12 +52,14 @@ module _ {R : Type 0} (seen : R → State) where
       let held = held_in mid in
       let k = asked.keeps in
       let still : view seen new ≡ view seen mid = ap seen left.source in
+      let cut : held ≡ part ++ held_in new = sym (take-append-drop n held) ∙ ap₂ (λ a b. a ++ b) (sym value) (sym left.held) in
       record {
         long = ap length value ∙ length-take-le n held asked.whole;
         flat = k.flat ∙ part_taken held part (held_in new) (view seen mid).bytes n value left.held ∙ ap (λ (s : State). prepend part (prepend (held_in new) s.bytes)) (sym still);
         came = k.came;
         gave = rw still k.gave;
-        holds = sym k.holds ∙ (sym (take-append-drop n held) ∙ ap₂ (λ a b. a ++ b) (sym value) (sym left.held));
+        holds = sym k.holds ∙ cut;
+        front = λ le. sym (asked.still le) ∙ cut;
         asks = record {
           asked = λ less. omega (arith, asked.asks.asked less, left.overflow);
           had = λ le. omega (arith, asked.asks.had le, left.overflow);

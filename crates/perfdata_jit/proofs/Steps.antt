@@ -75,8 +75,13 @@ module _ {R : Type 0} (seen : R → State) where
       let front : head_in (jit_order old) (h.bytes ++ part) ≡ head = head_front (jit_order old) h.bytes part (omega (arith, h.long)) ∙ sym h.is in
       let still : jit_view seen new ≡ jit_view seen mid = ap seen left.source in
       let behind : jit_held new ≡ held_in new.reader = ap (λ k. head_bytes k ++ held_in new.reader) none in
+      let bytes = h.bytes ++ part in
+      let cut : jit_held mid ≡ bytes ++ jit_held new =
+      held_some seen mid h.bytes h.kept ∙ ap (λ l. h.bytes ++ l) (sym (take-append-drop n held) ∙ ap₂ (λ a b. a ++ b) (sym body) (sym left.held))
+      ∙ sym (append_assoc h.bytes part (held_in new.reader)) ∙ ap (λ l. bytes ++ l) (sym behind) in
+      let all : length (jit_held mid) ≡ length bytes + length (jit_held new) = ap length cut ∙ length-append bytes (jit_held new) in
       record {
-        bytes = h.bytes ++ part;
+        bytes = bytes;
         is = record {
           one = one.1;
           endian = endian ∙ s.file.order;
@@ -95,15 +100,15 @@ module _ {R : Type 0} (seen : R → State) where
         offset = omega (arith, offset, s.offset, one.0);
         came = s.came;
         gave = rw still s.gave;
-        holds =
-            sym s.holds ∙ held_some seen mid h.bytes h.kept
-            ∙ ap (λ l. h.bytes ++ l) (sym (take-append-drop n held) ∙ ap₂ (λ a b. a ++ b) (sym body) (sym left.held))
-            ∙ sym (append_assoc h.bytes part (held_in new.reader)) ∙ ap (λ l. (h.bytes ++ part) ++ l) (sym behind);
+        holds = sym s.holds ∙ cut;
         quiet = λ is. left.source ∙ h.quiet is;
         counts = rw still h.counts;
         overflow =
-            let over : AsksForBoth n (length (jit_held old)) (jit_overflow old) (jit_overflow new) = subst (λ k. AsksForBoth n (length (jit_held old)) (jit_overflow old) k) (sym left.overflow) h.overflow in
-            subst (λ k. AsksForBoth (k - 16) (length (jit_held old)) (jit_overflow old) (jit_overflow new)) (sym one.0) over;
+            let over : AsksForBoth n (length (jit_held old)) (length (jit_held mid)) (jit_overflow old) (jit_overflow new) =
+            subst (λ k. AsksForBoth n (length (jit_held old)) (length (jit_held mid)) (jit_overflow old) k) (sym left.overflow) h.overflow in
+            let both : AsksForBoth n (length (jit_held old)) (length bytes + length (jit_held new)) (jit_overflow old) (jit_overflow new) =
+            subst (λ k. AsksForBoth n (length (jit_held old)) k (jit_overflow old) (jit_overflow new)) all over in
+            subst (λ k. AsksForBoth (k - 16) (length (jit_held old)) (length bytes + length (jit_held new)) (jit_overflow old) (jit_overflow new)) (sym one.0) both;
         file = record { header = header ∙ s.file.header; order = order ∙ s.file.order; size = left.size ∙ s.file.size };
         found = s.found;
         finds = left.lost ∙ s.finds;

@@ -70,10 +70,11 @@ module _ {R : Type 0} (seen : R → State) where
     pub had : n ≤ length (held_in old) → overflow_of new ≤ overflow_of old
     pub quiet : n ≤ length (held_in old) → source_of new ≡ source_of old
 
-  -- n bytes are held, and the source wasn't asked for more once they were, for it has counted nothing
+  -- n bytes are held, and the source wasn't asked for more once they were, for it has counted nothing; where they were held none came
   pub record AskedWhole (n : ℕ) (old new : BufferedReader R) : Type 0 where
     pub keeps : Keeps old new
     pub asks : AsksOnlyFor n old new
+    pub still : n ≤ length (held_in old) → held_in new ≡ held_in old
     pub whole : n ≤ length (held_in new)
     pub counts : SameCounts (view old) (view new)
 
@@ -105,13 +106,14 @@ module _ {R : Type 0} (seen : R → State) where
     pub size : size_of new ≡ size_of old
     pub lost : is_lost new ≡ is_lost old
 
-  -- the first n of the flat bytes were handed out as this part, and taken off
+  -- the first n of the flat bytes were handed out as this part, and taken off; where they were held none came
   pub record ConsumedPart (n : ℕ) (old : BufferedReader R) (part : List ℕ) (new : BufferedReader R) : Type 0 where
     pub long : length part ≡ n
     pub flat : flat_bytes old ≡ prepend part (flat_bytes new)
     pub came : List ℕ
     pub gave : Gave (view old) came (view new)
     pub holds : held_in old ++ came ≡ part ++ held_in new
+    pub front : n ≤ length (held_in old) → held_in old ≡ part ++ held_in new
     pub asks : AsksOnlyFor n old new
     pub counts : SameCounts (view old) (view new)
     pub size : size_of new ≡ size_of old

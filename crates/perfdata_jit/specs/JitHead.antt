@@ -47,7 +47,7 @@ module _ {R : Type 0} (seen : R → State) where
     pub fits : head.total_size - 16 ≤ length (held_in new.reader)
     pub quiet : IsHeld (jit_order old) (jit_offset old) (jit_held old) → jit_source new ≡ jit_source old
     pub counts : SameCounts (jit_view seen old) (jit_view seen new)
-    pub overflow : AsksForBoth (head.total_size - 16) (length (jit_held old)) (jit_overflow old) (jit_overflow new)
+    pub overflow : AsksForBoth (head.total_size - 16) (length (jit_held old)) (length (jit_held new)) (jit_overflow old) (jit_overflow new)
 
   abbrev pub AsksNext : JitDumpReader R → Result (Option JitDumpRecordHeader) Error → JitDumpReader R → Type 0
   AsksNext old (Ok (Some head)) new = HoldsNext old head new
