@@ -8,7 +8,7 @@ use Rattle.perfdata_base.specs.declared.raw.Endianness.{Endianness}
 use Rattle.perfdata_jit.proofs.Keeping.{flat_kept}
 use Rattle.perfdata_jit.specs.Answer.{head_in, size_in, IsCut}
 use Rattle.perfdata_jit.specs.BufferedReader.{SameCounts, Keeps, AsksOnlyFor, AskedWhole, AskedShort, AskRefused, held_in}
-use Rattle.perfdata_jit.specs.JitDumpReader.{head_bytes, jit_order, jit_offset, jit_held, jit_overflow, jit_lost, jit_view, jit_bytes, AsksForBoth, SameFile, AsksRecord, Stays, Waits, Refuses}
+use Rattle.perfdata_jit.specs.JitDumpReader.{head_bytes, jit_order, jit_offset, jit_held, jit_overflow, jit_size, jit_lost, jit_view, jit_bytes, AsksForBoth, SameFile, AsksRecord, Stays, Waits, Refuses}
 use Rattle.perfdata_jit.specs.JitHead.{TookHead, CheckedHead, HoldsNext}
 use Rattle.perfdata_jit.specs.declared.jitdump_reader.JitDumpReader.{JitDumpReader}
 use Rattle.perfdata_jit.specs.declared.record.JitDumpRecordHeader.{JitDumpRecordHeader}
@@ -58,7 +58,7 @@ module _ {R : Type 0} (seen : R → State) where
       record {
         stays = stays_by j j [] (gave_none (jit_view seen j)) (sym (append-nil (jit_held j))) refl (same_file j) found found;
         asks = record {
-          overflow = record { asked = λ less. absurd (omega (arith, all, long)); had = λ _. omega arith };
+          overflow = record { asked = λ less. absurd (omega (arith, all, long)); had = λ _. omega arith; fits = λ _. omega arith };
           quiet = λ _. refl;
           still = λ _. refl;
         };
@@ -84,7 +84,7 @@ module _ {R : Type 0} (seen : R → State) where
 
   -- the body behind a head that is kept was asked for
   behind_head : (old mid new : JitDumpReader R) (head : JitDumpRecordHeader) (c : CheckedHead seen old head mid) → new.head ≡ mid.head → Keeps seen mid.reader new.reader → AsksOnlyFor seen (head.total_size - 16) mid.reader new.reader
-      → AsksForBoth (head.total_size - 16) (length (jit_held old)) (length (jit_held new)) (jit_overflow old) (jit_overflow new)
+      → AsksForBoth (jit_size old) (head.total_size - 16) (length (jit_held old)) (length (jit_held new)) (jit_overflow old) (jit_overflow new)
   behind_head old mid new head c kept k asks =
       let s = c.took.stays in
       let all = ap length (held_some mid c.bytes c.took.kept) ∙ length-append c.bytes (held_in mid.reader) in
@@ -96,7 +96,11 @@ module _ {R : Type 0} (seen : R → State) where
         more = omega (arith, ap length s.holds, length-append (jit_held old) s.came);
         between = jit_overflow mid;
         head = c.took.asks.overflow;
-        behind = record { asked = λ less. asks.asked (omega (arith, all, long)); had = λ le. asks.had (omega (arith, all, long)) };
+        behind = record {
+          asked = λ less. asks.asked (omega (arith, all, long));
+          had = λ le. asks.had (omega (arith, all, long));
+          fits = λ le. asks.fits (omega (arith, le, s.file.size));
+        };
       }
 
   -- its bytes are held behind the head
@@ -150,7 +154,7 @@ module _ {R : Type 0} (seen : R → State) where
   both_asked : (old mid new : JitDumpReader R) (head : JitDumpRecordHeader) (c : CheckedHead seen old head mid) → new.head ≡ mid.head → Keeps seen mid.reader new.reader → AsksOnlyFor seen (head.total_size - 16) mid.reader new.reader → IsCut (jit_order old) (jit_offset old) (jit_held new) × (size_in (jit_order old) (jit_held new) ≡ head.total_size) → AsksRecord (size_in (jit_order old) (jit_held new)) old new
   both_asked old mid new head c still k asks cut = record {
     head = λ few. absurd (omega (arith, cut.0.head));
-    both = λ _. subst (λ n. AsksForBoth (n - 16) (length (jit_held old)) (length (jit_held new)) (jit_overflow old) (jit_overflow new)) (sym cut.1) (behind_head old mid new head c still k asks);
+    both = λ _. subst (λ n. AsksForBoth (jit_size old) (n - 16) (length (jit_held old)) (length (jit_held new)) (jit_overflow old) (jit_overflow new)) (sym cut.1) (behind_head old mid new head c still k asks);
   }
 
   pub waits_for_body : (old mid new : JitDumpReader R) (head : JitDumpRecordHeader) → CheckedHead seen old head mid → AskedShort seen (head.total_size - 16) mid.reader new.reader → new.head ≡ mid.head → jit_offset new ≡ jit_offset mid → SameFile mid new → Waits seen old new

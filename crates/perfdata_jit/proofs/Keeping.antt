@@ -63,6 +63,7 @@ module _ {R : Type 0} (seen : R → State) where
         asks = record {
           asked = λ less. omega (arith, asked.asks.asked less, left.overflow);
           had = λ le. omega (arith, asked.asks.had le, left.overflow);
+          fits = λ le. omega (arith, asked.asks.fits le, left.overflow);
           quiet = λ le. left.source ∙ asked.asks.quiet le;
         };
         counts = rw still asked.counts;

@@ -104,11 +104,11 @@ module _ {R : Type 0} (seen : R → State) where
         quiet = λ is. left.source ∙ h.quiet is;
         counts = rw still h.counts;
         overflow =
-            let over : AsksForBoth n (length (jit_held old)) (length (jit_held mid)) (jit_overflow old) (jit_overflow new) =
-            subst (λ k. AsksForBoth n (length (jit_held old)) (length (jit_held mid)) (jit_overflow old) k) (sym left.overflow) h.overflow in
-            let both : AsksForBoth n (length (jit_held old)) (length bytes + length (jit_held new)) (jit_overflow old) (jit_overflow new) =
-            subst (λ k. AsksForBoth n (length (jit_held old)) k (jit_overflow old) (jit_overflow new)) all over in
-            subst (λ k. AsksForBoth (k - 16) (length (jit_held old)) (length bytes + length (jit_held new)) (jit_overflow old) (jit_overflow new)) (sym one.0) both;
+            let over : AsksForBoth (jit_size old) n (length (jit_held old)) (length (jit_held mid)) (jit_overflow old) (jit_overflow new) =
+            subst (λ k. AsksForBoth (jit_size old) n (length (jit_held old)) (length (jit_held mid)) (jit_overflow old) k) (sym left.overflow) h.overflow in
+            let both : AsksForBoth (jit_size old) n (length (jit_held old)) (length bytes + length (jit_held new)) (jit_overflow old) (jit_overflow new) =
+            subst (λ k. AsksForBoth (jit_size old) n (length (jit_held old)) k (jit_overflow old) (jit_overflow new)) all over in
+            subst (λ k. AsksForBoth (jit_size old) (k - 16) (length (jit_held old)) (length bytes + length (jit_held new)) (jit_overflow old) (jit_overflow new)) (sym one.0) both;
         file = record { header = header ∙ s.file.header; order = order ∙ s.file.order; size = left.size ∙ s.file.size };
         found = s.found;
         finds = left.lost ∙ s.finds;
@@ -130,6 +130,7 @@ module _ {R : Type 0} (seen : R → State) where
         overflow = record {
           asked = λ less. omega (arith, c.took.asks.overflow.asked less, skipped.overflow);
           had = λ le. omega (arith, c.took.asks.overflow.had le, skipped.overflow);
+          fits = λ le. omega (arith, c.took.asks.overflow.fits le, skipped.overflow);
         };
         file = record { header = header ∙ s.file.header; order = order ∙ s.file.order; size = skipped.size ∙ s.file.size };
         found = s.found;

@@ -64,10 +64,11 @@ module _ {R : Type 0} (seen : R → State) where
     pub lost : is_lost new ≡ is_lost old
 
   -- Where fewer than n bytes were held the source was asked, and the overflow buffer is shorter than n. Otherwise the source
-  -- wasn't, and the overflow buffer is no longer than it was.
+  -- wasn't, and the overflow buffer is no longer than it was; nor is it where the fixed buffer has room for n bytes.
   pub record AsksOnlyFor (n : ℕ) (old new : BufferedReader R) : Type 0 where
     pub asked : length (held_in old) < n → overflow_of new < n
     pub had : n ≤ length (held_in old) → overflow_of new ≤ overflow_of old
+    pub fits : n ≤ size_of old → overflow_of new ≤ overflow_of old
     pub quiet : n ≤ length (held_in old) → source_of new ≡ source_of old
 
   -- n bytes are held, and the source wasn't asked for more once they were, for it has counted nothing; where they were held none came

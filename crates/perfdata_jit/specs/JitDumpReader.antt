@@ -53,21 +53,22 @@ abbrev pub jit_lost : {R : Type 0} → JitDumpReader R → Bool
 jit_lost j = is_lost j.reader
 
 -- Where fewer bytes were held than up to the end of a part, the source was asked for it, and the overflow buffer is shorter than the
--- part. Otherwise the overflow buffer is no longer than it was.
-pub record AsksFor (part end held before after : ℕ) : Type 0 where
+-- part. Otherwise the overflow buffer is no longer than it was; nor is it where the fixed buffer has room for the part.
+pub record AsksFor (size part end held before after : ℕ) : Type 0 where
   pub asked : held < end → after < part
   pub had : end ≤ held → after ≤ before
+  pub fits : part ≤ size → after ≤ before
 
 -- The source was asked for a head where it wasn't held, and then for the body behind it where that wasn't held then. Of all bytes that
 -- were held in the end none came with the head where the head was held.
-pub record AsksForBoth (body held all before after : ℕ) : Type 0 where
+pub record AsksForBoth (size body held all before after : ℕ) : Type 0 where
   pub held_then : ℕ
   pub still : 16 ≤ held → held_then ≡ held
   pub more : held ≤ held_then
   pub most : held_then ≤ all
   pub between : ℕ
-  pub head : AsksFor 16 16 held before between
-  pub behind : AsksFor body (16 + body) held_then between after
+  pub head : AsksFor size 16 16 held before between
+  pub behind : AsksFor size body (16 + body) held_then between after
 
 -- the file's header, its order and the fixed buffer stay
 pub record SameFile {R : Type 0} (old new : JitDumpReader R) : Type 0 where
@@ -77,14 +78,14 @@ pub record SameFile {R : Type 0} (old new : JitDumpReader R) : Type 0 where
 
 -- the source was asked for a head where it wasn't held, and for nothing else; where it was held no byte came
 pub record AsksHead {R : Type 0} (old new : JitDumpReader R) : Type 0 where
-  pub overflow : AsksFor 16 16 (length (jit_held old)) (jit_overflow old) (jit_overflow new)
+  pub overflow : AsksFor (jit_size old) 16 16 (length (jit_held old)) (jit_overflow old) (jit_overflow new)
   pub quiet : 16 ≤ length (jit_held old) → jit_source new ≡ jit_source old
   pub still : 16 ≤ length (jit_held old) → jit_held new ≡ jit_held old
 
 -- It was asked for a head where it wasn't held, and then, if the head is there, for the record's body where that wasn't.
 pub record AsksRecord {R : Type 0} (size : ℕ) (old new : JitDumpReader R) : Type 0 where
-  pub head : length (jit_held new) < 16 → AsksFor 16 16 (length (jit_held old)) (jit_overflow old) (jit_overflow new)
-  pub both : 16 ≤ length (jit_held new) → AsksForBoth (size - 16) (length (jit_held old)) (length (jit_held new)) (jit_overflow old) (jit_overflow new)
+  pub head : length (jit_held new) < 16 → AsksFor (jit_size old) 16 16 (length (jit_held old)) (jit_overflow old) (jit_overflow new)
+  pub both : 16 ≤ length (jit_held new) → AsksForBoth (jit_size old) (size - 16) (length (jit_held old)) (length (jit_held new)) (jit_overflow old) (jit_overflow new)
 
 -- a record that was held whole, where no seek has failed, is taken off, and the source isn't touched
 pub record PassesHeld {R : Type 0} (old : JitDumpReader R) (r : Result Bool Error) (new : JitDumpReader R) : Type 0 where
@@ -150,7 +151,7 @@ module _ {R : Type 0} (seen : R → State) where
     pub holds : jit_held old ++ came ≡ bytes ++ jit_held new
     pub quiet : IsHeld (jit_order old) (jit_offset old) (jit_held old) → jit_source new ≡ jit_source old
     pub counts : SameCounts (jit_view old) (jit_view new)
-    pub overflow : AsksForBoth (length bytes - 16) (length (jit_held old)) (length bytes + length (jit_held new)) (jit_overflow old) (jit_overflow new)
+    pub overflow : AsksForBoth (jit_size old) (length bytes - 16) (length (jit_held old)) (length bytes + length (jit_held new)) (jit_overflow old) (jit_overflow new)
     pub file : SameFile old new
     pub found : jit_lost old ≡ false
     pub finds : jit_lost new ≡ false
@@ -194,7 +195,7 @@ module _ {R : Type 0} (seen : R → State) where
     pub offset : jit_offset new ≡ jit_offset old + length bytes
     pub quiet : IsHeld (jit_order old) (jit_offset old) (jit_held old) → jit_source new ≡ jit_source old
     pub counts : SameCounts (jit_view old) (jit_view new)
-    pub overflow : AsksFor 16 16 (length (jit_held old)) (jit_overflow old) (jit_overflow new)
+    pub overflow : AsksFor (jit_size old) 16 16 (length (jit_held old)) (jit_overflow old) (jit_overflow new)
     pub file : SameFile old new
     pub found : jit_lost old ≡ false
     pub finds : jit_lost new ≡ false
@@ -205,7 +206,7 @@ module _ {R : Type 0} (seen : R → State) where
     pub offset : jit_offset new ≡ jit_offset old
     pub cut : IsCut (jit_order old) (jit_offset old) (jit_held new)
     pub counts : SameCounts (jit_view old) (jit_view new)
-    pub overflow : AsksFor 16 16 (length (jit_held old)) (jit_overflow old) (jit_overflow new)
+    pub overflow : AsksFor (jit_size old) 16 16 (length (jit_held old)) (jit_overflow old) (jit_overflow new)
     pub file : SameFile old new
     pub found : jit_lost old ≡ false
     pub finds : jit_lost new ≡ false
@@ -215,7 +216,7 @@ module _ {R : Type 0} (seen : R → State) where
     pub cut : IsCut (jit_order old) (jit_offset old) (jit_held new)
     pub offset : jit_offset new ≡ jit_offset old
     pub failed : Failed (jit_view old) (jit_view new)
-    pub overflow : AsksFor 16 16 (length (jit_held old)) (jit_overflow old) (jit_overflow new)
+    pub overflow : AsksFor (jit_size old) 16 16 (length (jit_held old)) (jit_overflow old) (jit_overflow new)
     pub file : SameFile old new
     pub found : jit_lost old ≡ false
     pub loses : jit_lost new ≡ true

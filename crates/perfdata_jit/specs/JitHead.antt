@@ -4,7 +4,7 @@ use Rattle.std.specs.declared.io.Error.{Error}
 use Rattle.perfdata_base.specs.Source.{State}
 use Rattle.perfdata_jit.specs.Answer.{head_in, IsHeld}
 use Rattle.perfdata_jit.specs.BufferedReader.{SameCounts, SaysLost, held_in}
-use Rattle.perfdata_jit.specs.JitDumpReader.{jit_held, jit_offset, jit_order, jit_overflow, jit_source, jit_lost, AsksForBoth, Stays, AsksHead, LacksHead, RefusesHead, RefusesSize, Waits, Refuses, jit_view}
+use Rattle.perfdata_jit.specs.JitDumpReader.{jit_held, jit_offset, jit_order, jit_overflow, jit_size, jit_source, jit_lost, AsksForBoth, Stays, AsksHead, LacksHead, RefusesHead, RefusesSize, Waits, Refuses, jit_view}
 use Rattle.perfdata_jit.specs.declared.record.JitDumpRecordHeader.{JitDumpRecordHeader}
 use Rattle.perfdata_jit.specs.declared.jitdump_reader.JitDumpReader.{JitDumpReader}
 
@@ -47,7 +47,7 @@ module _ {R : Type 0} (seen : R → State) where
     pub fits : head.total_size - 16 ≤ length (held_in new.reader)
     pub quiet : IsHeld (jit_order old) (jit_offset old) (jit_held old) → jit_source new ≡ jit_source old
     pub counts : SameCounts (jit_view seen old) (jit_view seen new)
-    pub overflow : AsksForBoth (head.total_size - 16) (length (jit_held old)) (length (jit_held new)) (jit_overflow old) (jit_overflow new)
+    pub overflow : AsksForBoth (jit_size old) (head.total_size - 16) (length (jit_held old)) (length (jit_held new)) (jit_overflow old) (jit_overflow new)
 
   abbrev pub AsksNext : JitDumpReader R → Result (Option JitDumpRecordHeader) Error → JitDumpReader R → Type 0
   AsksNext old (Ok (Some head)) new = HoldsNext old head new

@@ -74,6 +74,7 @@ impl Held {
     pub(crate) fn drop_front(&mut self)
         ensures bytes { held_bytes self.new ≡ held_bytes self.old }
         ensures overflow { overflow_len self.new ≤ length (held_bytes self.old) }
+        ensures shorter { overflow_len self.new ≤ overflow_len self.old }
         ensures passed { self.new.passed ≡ 0 }
         ensures size { held_size self.new ≡ held_size self.old }
     {
@@ -105,6 +106,7 @@ impl Held {
         requires { self.old.passed ≡ 0 }
         ensures bytes { held_bytes self.new ≡ held_bytes self.old }
         ensures overflow { overflow_len self.new ≤ length (held_bytes self.old) }
+        ensures fits { length (held_bytes self.old) < held_size self.old → overflow_len self.new ≤ overflow_len self.old }
         ensures room { OnOk result (ring_len self.new.ring < held_size self.new) }
         ensures full { OnErr result (held_size self.old ≤ length (held_bytes self.old)) }
         ensures passed { self.new.passed ≡ 0 }

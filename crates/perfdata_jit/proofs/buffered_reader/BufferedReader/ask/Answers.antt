@@ -19,6 +19,7 @@ returns-in-Ok-eq0 g c =
       asks = record {
         asked = λ _. omega (arith, read.overflow, room.overflow, held);
         had = λ le. absurd (omega (arith, c.if-count-len.false, c.len.ensures));
+        fits = λ le. omega (arith, at.fits le, read.overflow, room.fits (omega (arith, held, le, at.keeps.size)));
         quiet = λ le. absurd (omega (arith, c.if-count-len.false, c.len.ensures));
       };
       few = omega (arith, all, same, fill.long, none, held);
@@ -37,4 +38,5 @@ reads-preserved g c =
       counts = record { faults = read.counts.0 ∙ at.counts.faults; pauses = read.counts.1 (omega (arith, c.in-Ok-fill.field-0-test)) ∙ at.counts.pauses };
       passed = read.passed ∙ room.passed;
       overflow = omega (arith, read.overflow, room.overflow, held);
+      fits = λ le. omega (arith, at.fits le, read.overflow, room.fits (omega (arith, held, le, at.keeps.size)));
     }
