@@ -175,7 +175,7 @@ module _ {R : Type 0} (seen : R → State) where
         nothing = inr cut.0;
         why = elim asked.why [
           | inl failed ↦ inl (failed_later _ _ _ c.took.stays.came c.took.stays.gave failed)
-          | inr full ↦ inr (head.total_size - 16, inr (omega (arith, cut.1, c.least)), record { long = omega (arith, full.long, c.took.stays.file.size); kind = full.kind })
+          | inr full ↦ inr (head.total_size - 16, inr (omega (arith, cut.1, c.least), cut.0.head), record { long = omega (arith, full.long, c.took.stays.file.size); kind = full.kind })
         ];
         asks = both_asked old mid new head c still asked.keeps asked.asks cut;
       }))

@@ -70,6 +70,10 @@ pub record AsksForBoth (size body held all before after : ℕ) : Type 0 where
   pub head : AsksFor size 16 16 held before between
   pub behind : AsksFor size body (16 + body) held_then between after
 
+-- so many bytes has the part that is asked for next: a head where it isn't held, and otherwise the body behind it
+abbrev pub IsPart : Endianness → List ℕ → ℕ → Type 0
+IsPart order held part = ((part ≡ 16) × (length held < 16)) ⊎ ((part + 16 ≡ size_in order held) × (16 ≤ length held))
+
 -- the file's header, its order and the fixed buffer stay
 pub record SameFile {R : Type 0} (old new : JitDumpReader R) : Type 0 where
   pub header : jit_header new ≡ jit_header old
@@ -175,7 +179,7 @@ module _ {R : Type 0} (seen : R → State) where
   pub record RefusesPart (old : JitDumpReader R) (e : Error) (new : JitDumpReader R) : Type 0 where
     pub stays : Stays old new
     pub nothing : GivesNothing (jit_order old) (jit_offset old) (jit_held new)
-    pub why : Failed (jit_view old) (jit_view new) ⊎ ((part : ℕ) × ((part ≡ 16) ⊎ (part + 16 ≡ size_in (jit_order old) (jit_held new))) × IsFull (jit_size old) part e)
+    pub why : Failed (jit_view old) (jit_view new) ⊎ ((part : ℕ) × IsPart (jit_order old) (jit_held new) part × IsFull (jit_size old) part e)
     pub asks : AsksRecord (size_in (jit_order old) (jit_held new)) old new
 
   abbrev pub Refuses : JitDumpReader R → Error → JitDumpReader R → Type 0
