@@ -164,6 +164,7 @@ module _ {R : Type 0} (seen : R → State) where
         stays = keeps_behind old mid new c.bytes c.took still asked.keeps offset file;
         nothing = inr cut.0;
         none = gave_none_later _ _ _ c.took.stays.came c.took.stays.gave asked.none;
+        faults = asked.faults ∙ c.took.counts.faults;
         asks = both_asked old mid new head c still asked.keeps asked.asks cut;
       }
 
@@ -175,7 +176,8 @@ module _ {R : Type 0} (seen : R → State) where
         nothing = inr cut.0;
         why = elim asked.why [
           | inl failed ↦ inl (failed_later _ _ _ c.took.stays.came c.took.stays.gave failed)
-          | inr full ↦ inr (head.total_size - 16, inr (omega (arith, cut.1, c.least), cut.0.head), record { long = omega (arith, full.long, c.took.stays.file.size); kind = full.kind })
+          | inr full ↦ inr (head.total_size - 16, inr (omega (arith, cut.1, c.least), cut.0.head), record { long = omega (arith, full.0.long, c.took.stays.file.size); kind = full.0.kind }, counts_on _ _ _ c.took.counts full.1)
         ];
+        pauses = asked.pauses ∙ c.took.counts.pauses;
         asks = both_asked old mid new head c still asked.keeps asked.asks cut;
       }))

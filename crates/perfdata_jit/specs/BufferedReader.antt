@@ -79,19 +79,21 @@ module _ {R : Type 0} (seen : R → State) where
     pub whole : n ≤ length (held_in new)
     pub counts : SameCounts (view old) (view new)
 
-  -- fewer are held, and the source gave none
+  -- fewer are held, and the source gave none, and failed in no read
   pub record AskedShort (n : ℕ) (old new : BufferedReader R) : Type 0 where
     pub keeps : Keeps old new
     pub asks : AsksOnlyFor n old new
     pub few : length (held_in new) < n
     pub none : GaveNone (view old) (view new)
+    pub faults : (view new).faults ≡ (view old).faults
 
-  -- fewer are held, and the source failed, or there was no memory for a part that is longer than the fixed buffer
+  -- fewer are held, and the source failed, or there was no memory for a part that is longer than the fixed buffer; it gave none in no read
   pub record AskRefused (n : ℕ) (old : BufferedReader R) (e : Error) (new : BufferedReader R) : Type 0 where
     pub keeps : Keeps old new
     pub asks : AsksOnlyFor n old new
     pub few : length (held_in new) < n
-    pub why : Failed (view old) (view new) ⊎ IsFull (size_of old) n e
+    pub why : Failed (view old) (view new) ⊎ (IsFull (size_of old) n e × SameCounts (view old) (view new))
+    pub pauses : (view new).pauses ≡ (view old).pauses
 
   -- what an ask for n bytes does
   abbrev pub Asks : ℕ → BufferedReader R → Result Bool Error → BufferedReader R → Type 0
@@ -172,6 +174,7 @@ module _ {R : Type 0} (seen : R → State) where
   pub record SkipFailed (n : ℕ) (old new : BufferedReader R) : Type 0 where
     pub few : length (held_in old) < n
     pub failed : Failed (view old) (view new)
+    pub pauses : (view new).pauses ≡ (view old).pauses
     pub holds : held_in new ≡ held_in old
     pub overflow : overflow_of new ≡ overflow_of old
     pub size : size_of new ≡ size_of old

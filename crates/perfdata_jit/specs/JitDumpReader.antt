@@ -124,19 +124,21 @@ module _ {R : Type 0} (seen : R → State) where
     pub is : told ≡ pick (head_in (jit_order old) (jit_held new))
     pub counts : SameCounts (jit_view old) (jit_view new)
 
-  -- the next head isn't there yet: the source gave none
+  -- the next head isn't there yet: the source gave none, and failed in no read
   pub record LacksHead (old new : JitDumpReader R) : Type 0 where
     pub stays : Stays old new
     pub asks : AsksHead old new
     pub few : length (jit_held new) < 16
     pub none : GaveNone (jit_view old) (jit_view new)
+    pub faults : (jit_view new).faults ≡ (jit_view old).faults
 
-  -- the next head isn't there: the source failed, or there was no memory for a head longer than the fixed buffer
+  -- the next head isn't there: the source failed, or there was no memory for a head longer than the fixed buffer; it gave none in no read
   pub record RefusesHead (old : JitDumpReader R) (e : Error) (new : JitDumpReader R) : Type 0 where
     pub stays : Stays old new
     pub asks : AsksHead old new
     pub few : length (jit_held new) < 16
-    pub why : Failed (jit_view old) (jit_view new) ⊎ IsFull (jit_size old) 16 e
+    pub why : Failed (jit_view old) (jit_view new) ⊎ (IsFull (jit_size old) 16 e × SameCounts (jit_view old) (jit_view new))
+    pub pauses : (jit_view new).pauses ≡ (jit_view old).pauses
 
   -- what a call that tells of the next head does
   abbrev pub Heads : {A : Type 0} → (JitDumpRecordHeader → A) → JitDumpReader R → Result (Option A) Error → JitDumpReader R → Type 0
@@ -160,11 +162,12 @@ module _ {R : Type 0} (seen : R → State) where
     pub found : jit_lost old ≡ false
     pub finds : jit_lost new ≡ false
 
-  -- nothing is there whole, and the source gave none
+  -- nothing is there whole, and the source gave none, and failed in no read
   pub record Waits (old new : JitDumpReader R) : Type 0 where
     pub stays : Stays old new
     pub nothing : GivesNothing (jit_order old) (jit_offset old) (jit_held new)
     pub none : GaveNone (jit_view old) (jit_view new)
+    pub faults : (jit_view new).faults ≡ (jit_view old).faults
     pub asks : AsksRecord (size_in (jit_order old) (jit_held new)) old new
 
   -- the next head, which stays, is one that no record can have
@@ -175,11 +178,13 @@ module _ {R : Type 0} (seen : R → State) where
     pub kind : error_kind e ≡ InvalidData
     pub counts : SameCounts (jit_view old) (jit_view new)
 
-  -- nothing is there whole, and the source failed, or there was no memory for a head or a body that is longer than the fixed buffer
+  -- Nothing is there whole, and the source failed, or there was no memory for a head or a body that is longer than the fixed buffer. It gave
+  -- none in no read.
   pub record RefusesPart (old : JitDumpReader R) (e : Error) (new : JitDumpReader R) : Type 0 where
     pub stays : Stays old new
     pub nothing : GivesNothing (jit_order old) (jit_offset old) (jit_held new)
-    pub why : Failed (jit_view old) (jit_view new) ⊎ ((part : ℕ) × IsPart (jit_order old) (jit_held new) part × IsFull (jit_size old) part e)
+    pub why : Failed (jit_view old) (jit_view new) ⊎ ((part : ℕ) × IsPart (jit_order old) (jit_held new) part × IsFull (jit_size old) part e × SameCounts (jit_view old) (jit_view new))
+    pub pauses : (jit_view new).pauses ≡ (jit_view old).pauses
     pub asks : AsksRecord (size_in (jit_order old) (jit_held new)) old new
 
   abbrev pub Refuses : JitDumpReader R → Error → JitDumpReader R → Type 0
@@ -220,6 +225,7 @@ module _ {R : Type 0} (seen : R → State) where
     pub cut : IsCut (jit_order old) (jit_offset old) (jit_held new)
     pub offset : jit_offset new ≡ jit_offset old
     pub failed : Failed (jit_view old) (jit_view new)
+    pub pauses : (jit_view new).pauses ≡ (jit_view old).pauses
     pub overflow : AsksFor (jit_size old) 16 16 (length (jit_held old)) (jit_overflow old) (jit_overflow new)
     pub file : SameFile old new
     pub found : jit_lost old ≡ false

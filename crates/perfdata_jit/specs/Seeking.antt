@@ -16,8 +16,13 @@ pub record StoodStill (old new : State) : Type 0 where
   pub is : new.bytes ≡ old.bytes
   pub counts : SameCounts old new
 
+-- a seek failed, and where the source stands is open
+pub record FailedBySeek (old new : State) : Type 0 where
+  pub failed : Failed old new
+  pub pauses : new.pauses ≡ old.pauses
+
 -- what a passing over so many bytes does
 abbrev pub PassesBySeek : State → ℕ → Result Bool Error → State → Type 0
 PassesBySeek old count (Ok true) new = PassedBySeek old count new
 PassesBySeek old count (Ok false) new = StoodStill old new
-PassesBySeek old count (Err e) new = Failed old new
+PassesBySeek old count (Err e) new = FailedBySeek old new

@@ -24,6 +24,7 @@ returns-in-Ok-eq0 g c =
       };
       few = omega (arith, all, same, fill.long, none, held);
       none = gave_none_later _ _ _ at.keeps.came at.keeps.gave (fill.none none);
+      faults = read.counts.0 ∙ at.counts.faults;
     }
 
 pub reads-preserved : goal.reads-preserved
