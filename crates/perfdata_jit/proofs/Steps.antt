@@ -15,13 +15,14 @@ use Rattle.perfdata_jit.specs.BufferedReader.{TakesFront, SkippedPart, held_in, 
 use Rattle.perfdata_jit.specs.JitDumpReader.{head_bytes, jit_header, jit_order, jit_offset, jit_held, jit_overflow, jit_size, jit_lost, jit_view, jit_bytes, AsksForBoth, HandsOut, PassesOver, ReadsFront, Opened, Opens}
 use Rattle.perfdata_jit.specs.JitHead.{CheckedHead, HoldsNext, ChecksHead}
 use Rattle.perfdata_jit.specs.JitHeader.{IsJitHeader, IsNoJitHeader, magic_of}
+use Rattle.perfdata_jit.specs.ReadExact.{CountsFill}
 use Rattle.perfdata_jit.specs.declared.error.JitDumpError.{JitDumpError}
 use Rattle.perfdata_jit.specs.declared.error.JitDumpError.TheVariants.{NotEnoughBytesForHeader, InvalidHeaderSize, InvalidMagicBytes, UnrecognizedVersion, Io}
 use Rattle.perfdata_jit.specs.declared.header.JitDumpHeader.{JitDumpHeader}
 use Rattle.perfdata_jit.specs.declared.jitdump_reader.JitDumpReader.{JitDumpReader}
 use Rattle.perfdata_jit.specs.declared.record.JitDumpRecordHeader.{JitDumpRecordHeader}
 use Rattle.perfdata_jit.specs.declared.record.JitDumpRawRecord.{JitDumpRawRecord}
-use Rattle.std.specs.Prelude.{Err}
+use Rattle.std.specs.Prelude.{Ok, Err}
 
 -- a head and the body behind it are one record
 pub one_record : (order : Endianness) (offset size : ℕ) (head body : List ℕ) → length head ≡ 16 → size_in order head ≡ size → 16 ≤ size → offset + size < 2 ^ 64 → length body ≡ size - 16 → (length (head ++ body) ≡ size) × IsOneRecord order offset (head ++ body)
@@ -148,9 +149,9 @@ module _ {R : Type 0} (seen : R → State) where
   header_in order other front header is magic = subst (λ o. IsJitHeader o front header) (one_order other order (sym is.magic ∙ magic)) is
 
   -- what a buffer holds behind the header
-  pub opened : (source : R) (place : List ℕ) (n : ℕ) (j : JitDumpReader R) (left : State) → Filled (seen source) place n left → IsJitHeader (jit_order j) (take n place) (jit_header j) → j.head ≡ None → held_in j.reader ≡ slice_range place (jit_offset j) n → jit_view seen j ≡ left
+  pub opened : (source : R) (place : List ℕ) (n : ℕ) (j : JitDumpReader R) (left : State) → Filled (seen source) place n left → CountsFill {E = Error} (seen source) place (Ok n) left → IsJitHeader (jit_order j) (take n place) (jit_header j) → j.head ≡ None → held_in j.reader ≡ slice_range place (jit_offset j) n → jit_view seen j ≡ left
       → jit_offset j ≡ (jit_header j).total_size → jit_size j ≡ length place → jit_overflow j ≡ 0 → jit_lost j ≡ false → Opened seen source (length place) j
-  opened source place n j left fills header none held view_is offset size overflow finds =
+  opened source place n j left fills counts header none held view_is offset size overflow finds =
       let front = take n place in
       let long : length front ≡ n = length-take-le n place fills.within in
       let there : jit_offset j ≤ n = omega (arith, header.there, offset, long) in
@@ -160,7 +161,13 @@ module _ {R : Type 0} (seen : R → State) where
       let gave : Gave (seen source) front (jit_view seen j) = rw view_is fills.gave in
       record {
         front = front;
-        reads = record { gave = gave; within = omega (arith, long, fills.within); less = λ less. rw view_is (fills.less (omega (arith, long, less))) };
+        reads = record {
+          gave = gave;
+          within = omega (arith, long, fills.within);
+          less = λ less. rw view_is (fills.less (omega (arith, long, less)));
+          faults = rw view_is counts.0;
+          pauses = λ all. rw view_is (counts.1 (omega (arith, long, all)));
+        };
         header = header;
         flat =
             gave.bytes ∙ ap (λ l. prepend l (jit_view seen j).bytes) (sym (take-append-drop (jit_offset j) front))
@@ -182,7 +189,13 @@ module _ {R : Type 0} (seen : R → State) where
   not_opened source size front left (Io e) reads none = absurd none
 
   -- a filling of the buffer read a front
-  pub reads_front : (source : R) (place : List ℕ) (n : ℕ) (left : State) → Filled (seen source) place n left → ReadsFront seen source (length place) (take n place) left
-  reads_front source place n left fills =
+  pub reads_front : (source : R) (place : List ℕ) (n : ℕ) (left : State) → Filled (seen source) place n left → CountsFill {E = Error} (seen source) place (Ok n) left → ReadsFront seen source (length place) (take n place) left
+  reads_front source place n left fills counts =
       let long : length (take n place) ≡ n = length-take-le n place fills.within in
-      record { gave = fills.gave; within = omega (arith, long, fills.within); less = λ less. fills.less (omega (arith, long, less)) }
+      record {
+        gave = fills.gave;
+        within = omega (arith, long, fills.within);
+        less = λ less. fills.less (omega (arith, long, less));
+        faults = counts.0;
+        pauses = λ all. counts.1 (omega (arith, long, all));
+      }

@@ -237,11 +237,14 @@ module _ {R : Type 0} (seen : R → State) where
   SkipsRecord old (Ok false) new = LacksHead old new ⊎ StandsStill old new
   SkipsRecord old (Err e) new = (RefusesSize old e new ⊎ RefusesHead old e new) ⊎ (LosesPlace old new ⊎ SaysLost (jit_lost old) old e new)
 
-  -- A front of the source's bytes was read, shorter than the buffer only where the source gave none.
+  -- A front of the source's bytes was read, shorter than the buffer only where the source gave none. It failed in no read, and a whole
+  -- buffer came without an empty answer.
   pub record ReadsFront (source : R) (size : ℕ) (front : List ℕ) (left : State) : Type 0 where
     pub gave : Gave (seen source) front left
     pub within : length front ≤ size
     pub less : length front < size → GaveNone (seen source) left
+    pub faults : left.faults ≡ (seen source).faults
+    pub pauses : length front ≡ size → left.pauses ≡ (seen source).pauses
 
   -- the file was opened: its header is that of the source's first bytes, and the flat bytes are those behind it
   pub record Opened (source : R) (size : ℕ) (j : JitDumpReader R) : Type 0 where
@@ -255,8 +258,8 @@ module _ {R : Type 0} (seen : R → State) where
     pub overflow : jit_overflow j ≡ 0
     pub finds : jit_lost j ≡ false
 
-  -- what an opening with a buffer of this length does; where it refuses the source is let go
+  -- What an opening with a buffer of this length does. Where it refuses the source is let go; where a read failed it gave none before.
   abbrev pub Opens : R → ℕ → Result (JitDumpReader R) JitDumpError → Type 0
   Opens source size (Ok j) = Opened source size j
-  Opens source size (Err (Io e)) = (error_kind e ≡ OutOfMemory) ⊎ ((left : State) × Failed (seen source) left)
+  Opens source size (Err (Io e)) = (error_kind e ≡ OutOfMemory) ⊎ ((left : State) × Failed (seen source) left × (left.pauses ≡ (seen source).pauses))
   Opens source size (Err e) = (front : List ℕ) × ((left : State) × ReadsFront source size front left × IsNoJitHeader front e)

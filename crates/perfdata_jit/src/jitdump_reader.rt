@@ -4,7 +4,7 @@ ghost use Rattle.std.specs.Io.BufRead.{Rests};
 ghost use Rattle.perfdata_jit.specs.Answer.{IsHeld, head_in};
 ghost use Rattle.perfdata_jit.specs.JitDumpReader.{Heads, Nexts, Opens, PassesHeld, SkipsRecord, jit_header, jit_held, jit_lost, jit_offset, jit_order};
 ghost use Rattle.perfdata_jit.specs.JitHead.{TakesHead, ChecksHead, AsksNext};
-ghost use Rattle.perfdata_jit.specs.ReadExact.{FillsPlace};
+ghost use Rattle.perfdata_jit.specs.ReadExact.{CountsFill, FillsPlace};
 ghost use Rattle.perfdata_jit.specs.contracts.jitdump_reader.JitDumpReader.{the_row};
 
 use crate::buffered_reader::BufferedReader;
@@ -48,6 +48,7 @@ fn copy_of(bytes: &[u8; HEAD]) -> [u8; HEAD]
 // Fills the buffer, or as much of it as the source has bytes for.
 fn fill_buffer<R: Source>(source: &mut R, buffer: &mut Vec<u8>) -> io::Result<usize>
     ensures fills { FillsPlace (R.seen source.old) buffer.new.items result (R.seen source.new) }
+    ensures counts { CountsFill (R.seen source.old) buffer.new.items result (R.seen source.new) }
     ensures size { vec_len buffer.new ≡ vec_len buffer.old }
 {
     source.read_exact_or_until_eof(buffer.as_mut_slice())

@@ -1,5 +1,5 @@
 ghost use Rattle.std.specs.Prelude.{◌≡◌};
-ghost use Rattle.perfdata_jit.specs.ReadExact.{FillsPlace};
+ghost use Rattle.perfdata_jit.specs.ReadExact.{CountsFill, FillsPlace};
 
 use perfdata_base::source::Source;
 use std::io::Result;
@@ -12,6 +12,7 @@ pub trait ReadExactOrUntilEof: Source {
     /// how much that is isn't told.
     fn read_exact_or_until_eof(&mut self, place: &mut [u8]) -> Result<usize>
         ensures fills { FillsPlace (Self.seen self.old) place.new result (Self.seen self.new) }
+        ensures counts { CountsFill (Self.seen self.old) place.new result (Self.seen self.new) }
         ensures lent { Self.lent self.new ≡ Self.lent self.old };
 }
 
@@ -23,6 +24,7 @@ impl<R: Source> ReadExactOrUntilEof for R {
 
 fn fill_place<R: Source>(source: &mut R, place: &mut [u8]) -> Result<usize>
     ensures fills { FillsPlace (R.seen source.old) place.new result (R.seen source.new) }
+    ensures counts { CountsFill (R.seen source.old) place.new result (R.seen source.new) }
     ensures lent { R.lent source.new ≡ R.lent source.old }
 {
     let mut filled = 0;

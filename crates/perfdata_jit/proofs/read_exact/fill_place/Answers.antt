@@ -4,7 +4,7 @@ use Rattle.std.proofs.lemmas.Slice.{take-put_mid_below}
 use Rattle.perfdata_jit.proofs.read_exact.fill_place.Goals as goal
 
 pub reads-init : goal.reads-init
-reads-init g c = record { within = omega arith; gave = gave_none _; lent = refl }
+reads-init g c = record { within = omega arith; gave = gave_none _; counts = record { faults = refl; pauses = refl }; lent = refl }
 
 pub reads-preserved : goal.reads-preserved
 reads-preserved g c =
@@ -20,6 +20,7 @@ reads-preserved g c =
     record {
       within = omega (arith, read.within, long, same, length-take (length place - at) (drop at place), length-drop at place);
       gave = rw shown (gave_more _ _ _ _ _ before.gave read.gave);
+      counts = record { faults = c.in-Ok.ensures.counts.0 ∙ before.counts.faults; pauses = c.in-Ok.ensures.counts.1 (omega arith) ∙ before.counts.pauses };
       lent = c.in-Ok.ensures.lent ∙ before.lent;
     }
 
@@ -34,6 +35,13 @@ returns-in-Ok-eq0-clause-fills g c =
     let long = length-refilled at place c.read_front.new.place within c.read_front.auto.place in
     let front = take-put_mid_below at (length place - at) place c.read_front.new.place at (omega arith) within in
     record { within = omega (arith, long); gave = rw front (none_came _ _ _ _ _ _ c.in-Ok-eq0.field-0-test before.gave read.gave); less = λ _. gave_none_later _ _ _ _ before.gave (read.none c.in-Ok-eq0.field-0-test) }
+
+pub returns-in-Ok-eq0-clause-counts : goal.returns-in-Ok-eq0-clause-counts
+returns-in-Ok-eq0-clause-counts g c =
+    let before = c.reads.invariant in
+    let within : c.reads.filled ≤ length c.reads.place = before.within in
+    let long = length-refilled c.reads.filled c.reads.place c.read_front.new.place within c.read_front.auto.place in
+    (c.in-Ok-eq0.ensures.counts.0 ∙ before.counts.faults, λ all. absurd (omega (arith, long, all, c.reads-test.true)))
 
 pub returns-in-Err-clause-fills : goal.returns-in-Err-clause-fills
 returns-in-Err-clause-fills g c =

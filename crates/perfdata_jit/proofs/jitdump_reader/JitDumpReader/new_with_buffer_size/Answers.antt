@@ -13,7 +13,7 @@ returns-in-Err-parse g c =
     let size : length place ≡ c.args.buffer_size = search rules in
     let refused = rw c.deref.ensures.value at c.in-Err-parse.ensures.refused in
     subst (λ k. Opens seen c.args.source k (Err c.in-Err-parse.error)) size
-    (not_opened seen c.args.source (length place) (take came place) left c.in-Err-parse.error (reads_front seen c.args.source place came left c.in-Ok-fill_buffer.ensures.fills) refused)
+    (not_opened seen c.args.source (length place) (take came place) left c.in-Err-parse.error (reads_front seen c.args.source place came left c.in-Ok-fill_buffer.ensures.fills c.in-Ok-fill_buffer.ensures.counts) refused)
 
 pub returns : goal.returns
 returns g c =
@@ -28,4 +28,4 @@ returns g c =
     let len : vec_len c.fill_buffer.new.buffer ≡ length place = search rules in
     let j : JitDumpReader g.row.R.Denot = record { reader = c.new_with_partially_read_buffer.result; header = header; endian = c.in-Some.endian; head = None; offset = header.total_size } in
     subst (λ k. Opened seen c.args.source k j) size
-    (opened seen c.args.source place came j left c.in-Ok-fill_buffer.ensures.fills (header_in seen c.in-Some.endian begins.order (take came place) header begins.is c.in-Some.ensures.some) refl made.held (ap seen made.source) refl (made.size ∙ len) made.overflow made.found)
+    (opened seen c.args.source place came j left c.in-Ok-fill_buffer.ensures.fills c.in-Ok-fill_buffer.ensures.counts (header_in seen c.in-Some.endian begins.order (take came place) header begins.is c.in-Some.ensures.some) refl made.held (ap seen made.source) refl (made.size ∙ len) made.overflow made.found)
