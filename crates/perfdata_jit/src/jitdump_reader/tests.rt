@@ -103,6 +103,51 @@ fn loses_nothing_at_any_read(rt: HostRuntime) -> Result<(), Fail> {
 }
 
 #[test]
+fn loses_nothing_where_the_file_grows_by_a_byte(rt: HostRuntime) -> Result<(), Fail> {
+    let alloc = rt.alloc();
+    for at in 40..102usize {
+        for stops_again in [false, true] {
+            let mut steps = bytes_then(alloc, at, Step::Pause)?;
+            for _ in at..102 {
+                steps.push(Step::Grow(1))?;
+                steps.push(Step::Give(1))?;
+                if stops_again {
+                    steps.push(Step::Pause)?;
+                }
+            }
+            let source = Script::new(FILE.to_vec(alloc)?, at, steps, Vec::new(alloc));
+            let mut reader = opened(alloc, source, 40)?;
+            assert_eq!(rt; answer_of(reader.next_record()), Answer::Nothing, "at {at}");
+            if stops_again {
+                for _ in at..101 {
+                    assert_eq!(rt; answer_of(reader.next_record()), Answer::Nothing, "at {at}");
+                    assert_eq!(rt; reader.next_record_offset(), 40);
+                }
+            }
+            assert_eq!(rt; answer_of(reader.next_record()), LOAD, "at {at}");
+            assert_eq!(rt; reader.next_record_offset(), 102);
+        }
+    }
+    Ok(())
+}
+
+#[test]
+fn an_opening_answers_a_fault_at_once(rt: HostRuntime) -> Result<(), Fail> {
+    let alloc = rt.alloc();
+    for at in 0..40usize {
+        for kind in [ErrorKind::Interrupted, ErrorKind::TimedOut] {
+            let steps = bytes_then(alloc, at, Step::Fault(kind))?;
+            let source = Script::new(FILE.to_vec(alloc)?, 102, steps, Vec::new(alloc));
+            match JitDumpReader::new_with_buffer_size(alloc, source, 40) {
+                Err(JitDumpError::Io(error)) => assert_eq!(rt; error.kind(), kind, "at {at}"),
+                _ => assert!(rt; false, "at {at}"),
+            }
+        }
+    }
+    Ok(())
+}
+
+#[test]
 fn a_cut_file_waits(rt: HostRuntime) -> Result<(), Fail> {
     for cut in 0..102usize {
         match JitDumpReader::new_with_buffer_size(rt.alloc(), &FILE[..cut], 40) {
@@ -154,6 +199,32 @@ fn tells_of_the_next_record(rt: HostRuntime) -> Result<(), Fail> {
         },
         None => assert!(rt; false),
     }
+    Ok(())
+}
+
+#[test]
+fn a_record_comes_in_single_bytes(rt: HostRuntime) -> Result<(), Fail> {
+    let alloc = rt.alloc();
+    let steps = bytes_then(alloc, 102, Step::Pause)?;
+    let source = Script::new(FILE.to_vec(alloc)?, 102, steps, Vec::new(alloc));
+    let mut reader = opened(alloc, source, 40)?;
+    match reader.next_record()? {
+        Some(record) => {
+            assert_eq!(rt; record.start_offset, 40);
+            assert_eq!(rt; record.timestamp, 9);
+            assert_eq!(rt; record.record_type.0, 0);
+            assert_eq!(rt; record.record_size, 62);
+            match record.parse(alloc)? {
+                JitDumpRecord::CodeLoad(load) => {
+                    assert_eq!(rt; code_place(&load), Some(60));
+                    assert!(rt; load.code_bytes == RawData::Single(&[0x90, 0xc3]));
+                }
+                _ => assert!(rt; false),
+            }
+        }
+        None => assert!(rt; false),
+    }
+    assert_eq!(rt; reader.next_record_offset(), 102);
     Ok(())
 }
 
@@ -211,6 +282,21 @@ fn refuses_a_size_below_the_head(rt: HostRuntime) -> Result<(), Fail> {
     let mut reader = opened(rt.alloc(), Cursor::new(bytes), 40)?;
     assert_eq!(rt; answer_of(reader.next_record()), Answer::Nothing);
     assert!(rt; !reader.skip_next_record()?);
+    Ok(())
+}
+
+#[test]
+fn neither_gives_nor_passes_over_a_record_longer_than_its_file(
+    rt: HostRuntime,
+) -> Result<(), Fail> {
+    for size in [40usize, 4096] {
+        let mut bytes = head_of_size(rt.alloc(), u32::MAX)?;
+        bytes.extend_from_slice(&FILE[56..])?;
+        let mut reader = opened(rt.alloc(), Cursor::new(bytes), size)?;
+        assert_eq!(rt; answer_of(reader.next_record()), Answer::Nothing, "{size}");
+        assert!(rt; !reader.skip_next_record()?, "{size}");
+        assert_eq!(rt; reader.next_record_offset(), 40);
+    }
     Ok(())
 }
 
