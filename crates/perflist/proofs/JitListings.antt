@@ -155,13 +155,10 @@ module _ {R : Type 0} (seen : R → State) where
                 let full : IsFull (jit_size mid) count e = memory.2 in
                 let long = full.long in
                 let same = had.size in
-                inr (
-                  elim memory.1 [
-                    | inl head ↦ absurd (omega (arith, long, same, head, roomy))
-                    | inr body ↦ omega (arith, long, same, body, ap (λ o. size_in o (jit_held new)) stays.file.order)
-                  ],
-                  full.kind,
-                )
+                elim memory.1 [
+                  | inl head ↦ absurd (omega (arith, long, same, head.0, roomy))
+                  | inr body ↦ inr (body.1, omega (arith, long, same, body.0, ap (λ o. size_in o (jit_held new)) stays.file.order), full.kind)
+                ]
           ],
         ),
       )
@@ -200,7 +197,7 @@ module _ {R : Type 0} (seen : R → State) where
     stops_later : (offset : ℕ) (order : Endianness) (held : List ℕ) (e : Error) (last : State) → StopsReading (jit_view seen j) (jit_size j) order offset held e last → StopsReading (seen source) 4096 order offset held e last
     stops_later offset order held e last (inl invalid) = inl invalid
     stops_later offset order held e last (inr (nothing, inl failed)) = inr (nothing, inl (failed_later (seen source) (jit_view seen j) last o.front o.reads.gave failed))
-    stops_later offset order held e last (inr (nothing, inr memory)) = inr (nothing, inr (subst (λ n. (n + 16 < size_in order held) × (error_kind e ≡ OutOfMemory)) o.buffer memory))
+    stops_later offset order held e last (inr (nothing, inr memory)) = inr (nothing, inr (subst (λ n. (16 ≤ length held) × (n + 16 < size_in order held) × (error_kind e ≡ OutOfMemory)) o.buffer memory))
 
     stopped_jit : (new : JitDumpReader R) (before after : Option (List ℕ)) (lines : ℕ) (cause : ListCause) → StopsJitRecords seen j before after lines cause new → StopsJit seen source before after lines cause
     stopped_jit new before after lines (Read e) listed =

@@ -1,5 +1,5 @@
 -- What a listing of a jitdump file's records writes, and why it stops.
-use Rattle.std.specs.Prelude.{◌≡◌, ℕ, ◌+◌, ◌<◌, ◌⊎◌, false, List, [], ◌∷◌, ◌++◌, length, take, drop, Option, Some, Result, Ok, Err, IfSome}
+use Rattle.std.specs.Prelude.{◌≡◌, ℕ, ◌+◌, ◌<◌, ◌≤◌, ◌⊎◌, false, List, [], ◌∷◌, ◌++◌, length, take, drop, Option, Some, Result, Ok, Err, IfSome}
 use Rattle.std.specs.Option.{option_map}
 use Rattle.std.specs.List.{concat}
 use Rattle.std.specs.IoError.{error_kind}
@@ -46,12 +46,12 @@ module _ (order : Endianness) where
     pub short : count < length (piece_line (offset + length (concat pieces)) next)
     pub appends : Appends before after (piece_lines offset pieces ++ take count (piece_line (offset + length (concat pieces)) next))
 
--- The bytes that are held are no record's; or they give nothing whole, and the source failed, or there was no memory for a body that is
--- longer than the fixed buffer.
+-- The bytes that are held are no record's; or they give nothing whole, and the source failed, or a head is held, and there was no memory
+-- for a body that is longer than the fixed buffer.
 abbrev pub StopsReading : State → ℕ → Endianness → ℕ → List ℕ → Error → State → Type 0
 StopsReading first size order offset held e last =
     (IsInvalid order offset held × (error_kind e ≡ InvalidData))
-    ⊎ (GivesNothing order offset held × (Failed first last ⊎ ((size + 16 < size_in order held) × (error_kind e ≡ OutOfMemory))))
+    ⊎ (GivesNothing order offset held × (Failed first last ⊎ ((16 ≤ length held) × (size + 16 < size_in order held) × (error_kind e ≡ OutOfMemory))))
 
 -- A file has this header, where its bytes are told, and behind it first these records and then what is left.
 pub record HasFirst (bytes : Option (List ℕ)) (order : Endianness) (header : JitDumpHeader) (pieces : List (List ℕ)) (left : Option (List ℕ)) : Type 0 where
