@@ -1,3 +1,4 @@
+//! The map of build ids by the keys of their paths.
 ghost use Rattle.std.specs.Prelude.{◌≡◌};
 ghost use Rattle.perfdata_records.specs.BuildId.{build_id_in};
 ghost use Rattle.linux_perf_data.specs.BuildIds.{TakesEntry, KeepsEntry, TellsIds};
@@ -79,34 +80,4 @@ pub(crate) fn build_ids(
         }
     }
     Ok(ids)
-}
-
-#[cfg(test)]
-mod tests {
-    use byteorder::LittleEndian;
-    use perfdata_records::build_id_event::BuildIdEvent;
-    use std::test::Fail;
-
-    // An entry of 41 bytes, with a path of five.
-    fn entry(path: &[u8; 5]) -> [u8; 41] {
-        let mut bytes = [0; 41];
-        bytes[..8].copy_from_slice(&[67, 0, 0, 0, 2, 0, 41, 0]);
-        bytes[36..].copy_from_slice(path);
-        bytes
-    }
-
-    // A reader that is lent gives entry by entry, and no byte behind one is taken.
-    #[test]
-    fn entries_of_a_lent_reader(rt: HostRuntime) -> Result<(), Fail> {
-        let mut content = Vec::new(rt.alloc());
-        content.extend_from_slice(&entry(b"/a/x\0"))?;
-        content.extend_from_slice(&entry(b"/a/y\0"))?;
-        let mut left = content.as_slice();
-        for (path, behind) in [(b"/a/x", 41usize), (b"/a/y", 0)] {
-            let entry = BuildIdEvent::parse::<_, LittleEndian>(rt.alloc(), &mut left)?;
-            assert_eq!(rt; entry.file_path.as_slice(), path.as_slice());
-            assert_eq!(rt; left.len(), behind);
-        }
-        Ok(())
-    }
 }

@@ -1,3 +1,4 @@
+//! Opens a file or a pipe, as what it says of itself and an iterator over its records.
 ghost use Rattle.std.specs.Prelude.{◌≡◌, ◌<◌, IfOk, vec_len};
 ghost use Rattle.linux_perf_data.specs.Attribute.{Rule};
 ghost use Rattle.linux_perf_data.specs.Described.{attributes_by};
@@ -16,7 +17,9 @@ use std::alloc::Global;
 /// An opened file or pipe: what it says of itself, and an iterator over its records.
 #[derive(Drop)]
 pub struct PerfFileReader<R> {
+    /// What the file or pipe says of itself.
     pub perf_file: PerfFile,
+    /// Its records.
     pub record_iter: PerfRecordIter<R>,
 }
 

@@ -1,3 +1,4 @@
+//! Which attribute lists an identifier.
 ghost use Rattle.std.specs.Prelude.{◌≡◌, ◌++◌, ◌<◌, ℕ, length, map, IfOk, OnOk};
 ghost use Rattle.std.specs.List.Sorted.{IsPermutation};
 ghost use Rattle.linux_perf_data.specs.Described.{attributes_by};
@@ -148,63 +149,6 @@ impl IdTable {
                 Err(error) => return Err(error),
             }
         }
-        Ok(())
-    }
-}
-
-#[cfg(test)]
-mod tests {
-    use super::*;
-    use std::test::Fail;
-
-    // Of the pairs of one identifier the one with the greatest index stays.
-    #[test]
-    fn finds_the_last_index(rt: HostRuntime) -> Result<(), Fail> {
-        let mut pairs = Vec::new(rt.alloc());
-        push_ids(&mut pairs, &[70, 5, u64::MAX, 0], 0)?;
-        push_ids(&mut pairs, &[6, 5], 1)?;
-        push_ids(&mut pairs, &[5, 0], 2)?;
-        order(&mut pairs);
-        let table = IdTable {
-            pairs: last_of_each(rt.alloc(), &pairs)?,
-        };
-        for (id, index) in [
-            (0, Some(2)),
-            (1, None),
-            (5, Some(2)),
-            (6, Some(1)),
-            (70, Some(0)),
-            (71, None),
-            (u64::MAX, Some(0)),
-        ] {
-            assert_eq!(rt; table.find(id), index, "of {id}");
-        }
-        Ok(())
-    }
-
-    // An identifier that comes again gets the later index, wherever it stands.
-    #[test]
-    fn inserts(rt: HostRuntime) -> Result<(), Fail> {
-        let mut table = IdTable {
-            pairs: Vec::new(rt.alloc()),
-        };
-        table.insert_all(&[70, 5, u64::MAX, 0, 5], 0)?;
-        table.insert_all(&[], 1)?;
-        table.insert_all(&[6, 5], 2)?;
-        table.insert_all(&[5, 0, 71], 3)?;
-        for (id, index) in [
-            (0, Some(3)),
-            (1, None),
-            (5, Some(3)),
-            (6, Some(2)),
-            (70, Some(0)),
-            (71, Some(3)),
-            (72, None),
-            (u64::MAX, Some(0)),
-        ] {
-            assert_eq!(rt; table.find(id), index, "of {id}");
-        }
-        assert_eq!(rt; table.pairs.len(), 6);
         Ok(())
     }
 }

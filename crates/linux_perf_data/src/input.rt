@@ -1,3 +1,4 @@
+//! Where records stand: in a section of a size, or in a pipe, whose opening kept a head.
 ghost use Rattle.std.specs.Prelude.{◌≡◌, length};
 ghost use Rattle.linux_perf_data.specs.Input.{CutAnswers, TookKept, view_in};
 ghost use Rattle.linux_perf_data.specs.Piece.{TakesHead};

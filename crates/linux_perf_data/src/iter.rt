@@ -1,3 +1,4 @@
+//! The record loop.
 ghost use Rattle.std.specs.Prelude.{◌≡◌, ◌≤◌, []};
 ghost use Rattle.perfdata_base.specs.Raw.{bytes_of};
 
@@ -303,6 +304,3 @@ impl<R: Source> PerfRecordIter<R> {
         }
     }
 }
-
-#[cfg(test)]
-mod tests;

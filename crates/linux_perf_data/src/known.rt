@@ -1,3 +1,4 @@
+//! What an iterator keeps of the attributes: which of them a record belongs to, and where its numbers stand.
 ghost use Rattle.std.specs.Prelude.{◌≡◌, ◌<◌, length, vec_len};
 ghost use Rattle.linux_perf_data.specs.Attribute.{Rule};
 ghost use Rattle.linux_perf_data.specs.Described.{attributes_by, ListsPlaces};
@@ -182,6 +183,3 @@ impl Known {
         self.places.len()
     }
 }
-
-#[cfg(test)]
-mod tests;

@@ -1,4 +1,32 @@
 //! Reads Linux perf's and Android simpleperf's `perf.data` files and pipes, and jitdump files.
+//!
+//! A reader is what the input says of itself, and an iterator over its records, each with its place and, where it is of the
+//! kernel, the event that it belongs to:
+//!
+//! ```
+//! use linux_perf_data::source::Counted;
+//! use linux_perf_data::{PerfFileReader, PerfFileRecord};
+//! use std::fs::File;
+//! use std::io::BufReader;
+//!
+//! fn main(rt: HostRuntime) -> anyhow::Result<()> {
+//!     let file = BufReader::new(rt.alloc(), File::open(&rt, "perf.data")?)?;
+//!     let reader = PerfFileReader::parse_file(rt.alloc(), Counted::new(file))?;
+//!     let mut perf_file = reader.perf_file;
+//!     let mut records = reader.record_iter;
+//!     for _ in 0..u64::MAX {
+//!         let Some((place, record)) = records.next_record(&mut perf_file)? else {
+//!             break;
+//!         };
+//!         if let PerfFileRecord::EventRecord { event, attr_index, .. } = record {
+//!             println!(rt; "{}: type {}, event {attr_index}", place.offset, event.record_type.0)?;
+//!         }
+//!     }
+//!     Ok(())
+//! }
+//! ```
+//!
+//! `PerfFileReader::parse_pipe` opens a pipe, and [`jitdump`] has the reader of jitdumps.
 #![tactic(auto)]
 
 mod build_ids;

@@ -1,3 +1,4 @@
+//! The names that the section EVENT_DESC gives attributes.
 ghost use Rattle.std.specs.Prelude.{◌≡◌, vec_len, length};
 ghost use Rattle.std.specs.Option.{option_map};
 ghost use Rattle.linux_perf_data.specs.AttributeSources.{ReadsDesc};

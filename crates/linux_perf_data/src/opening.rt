@@ -1,3 +1,4 @@
+//! The opening of a file: header, sections, attributes, and a seek to the data.
 ghost use Rattle.std.specs.Prelude.{◌≡◌};
 ghost use Rattle.std.specs.Option.{option_map};
 ghost use Rattle.linux_perf_data.specs.AttributeSources.{told_by, ReadsAttributes, ReadsTypes, ReadsMeta, ReadsNamed, ReadsAttrs};

@@ -1,3 +1,4 @@
+//! What a file or pipe says of itself, by accessors over the bytes of its sections.
 ghost use Rattle.std.specs.Prelude.{◌≡◌, ◌<◌, ◌↔◌, false, IsTrue, length, vec_len};
 ghost use Rattle.std.specs.Option.{option_map};
 ghost use Rattle.perfdata_base.specs.Features.{HasFeature};

@@ -1,3 +1,4 @@
+//! The parts of a record at a source: head, body, auxiliary data.
 ghost use Rattle.std.specs.Prelude.{◌≡◌, ◌≤◌, []};
 ghost use Rattle.perfdata_base.specs.Event.{head_of};
 ghost use Rattle.perfdata_base.specs.Numbers.{number_in};

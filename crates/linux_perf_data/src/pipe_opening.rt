@@ -1,3 +1,4 @@
+//! The opening of a pipe: its header, and its records of metadata up to the head that ends them.
 ghost use Rattle.std.specs.Prelude.{◌≡◌, ◌≤◌, []};
 ghost use Rattle.linux_perf_data.specs.Late.{IsMetadata};
 ghost use Rattle.linux_perf_data.specs.PipeOpen.{ReadsPipe};

@@ -1,3 +1,4 @@
+//! The rule of attributes: where identifiers stand at other places, each needs IDENTIFIER.
 ghost use Rattle.std.specs.Prelude.{◌≡◌, if◌then◌else◌, None, Some};
 ghost use Rattle.std.specs.Option.{option_or};
 ghost use Rattle.perfdata_base.specs.Place.{is_set};

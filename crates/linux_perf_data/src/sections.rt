@@ -1,3 +1,4 @@
+//! The table behind the data section, and the bytes of each feature.
 ghost use Rattle.std.specs.Prelude.{◌≡◌};
 ghost use Rattle.perfdata_base.specs.Features.{features_of};
 ghost use Rattle.perfdata_base.specs.Numbers.{number_in};

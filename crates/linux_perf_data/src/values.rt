@@ -1,3 +1,4 @@
+//! What the bytes of a section tell, without a source.
 ghost use Rattle.std.specs.Prelude.{◌≡◌, ◌≤◌, length, take, drop};
 ghost use Rattle.perfdata_base.specs.Numbers.{number_in};
 ghost use Rattle.linux_perf_data.specs.Values.{TellsText, TellsTexts, TellsNumber, TellsCpus, TellsTimes, TellsCompression, TellsClock, TellsUnits, TellsTextBefore};

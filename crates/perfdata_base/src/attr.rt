@@ -1,3 +1,4 @@
+//! An event's attribute, in every size that it had.
 ghost use Rattle.std.specs.Prelude.{⊤, ◌≡◌, ◌+◌, ◌≤◌, [], ◌∷◌, codes, length, take};
 ghost use Rattle.std.specs.Int.{w32, cast_signed};
 ghost use Rattle.std.specs.IoError.{error_kind};
@@ -86,27 +87,47 @@ impl Flags for AttrFlags {
 /// What an event's attribute says (`perf_event_attr` in Linux's `perf_event.h`).
 #[derive(Clone, Copy, Debug)]
 pub struct PerfEventAttr {
+    /// The kind of event: 0 hardware, 1 software, 2 tracepoint, 3 cache, 4 raw, 5 breakpoint, or a monitoring unit.
     pub type_: u32,
     /// How many bytes the attribute takes.
     pub size: u32,
+    /// Which event of its kind.
     pub config: u64,
+    /// Events a sample, or with the flag FREQ samples a second.
     pub period_or_freq: u64,
+    /// What a sample holds.
     pub sample_format: SampleFormat,
+    /// What a reading of the counter holds, bit by bit.
     pub read_format: u64,
+    /// What is recorded beside samples, and how.
     pub flags: AttrFlags,
+    /// Samples, or with the flag WATERMARK bytes, before the recorder is woken.
     pub wakeup: u32,
+    /// The kind of breakpoint: 1 read, 2 write, 3 both, 4 execute.
     pub bp_type: u32,
+    /// A second number of the event; of a breakpoint its address.
     pub config1: u64,
+    /// A third number of the event; of a breakpoint its length in bytes.
     pub config2: u64,
+    /// Which branches a branch stack holds, bit by bit.
     pub branch_sample_type: u64,
+    /// Which of the user's registers a sample holds, bit by bit.
     pub sample_regs_user: u64,
+    /// How many bytes of the user's stack a sample holds.
     pub sample_stack_user: u32,
+    /// The clock of times, with the flag USE_CLOCKID.
     pub clockid: i32,
+    /// Which registers at the interrupt a sample holds, bit by bit.
     pub sample_regs_intr: u64,
+    /// Bytes of auxiliary data before the recorder is woken.
     pub aux_watermark: u32,
+    /// How many frames a call chain has at most.
     pub sample_max_stack: u16,
+    /// How many bytes of auxiliary data a sample holds.
     pub aux_sample_size: u32,
+    /// What a signal of the event carries.
     pub sig_data: u64,
+    /// A fourth number of the event.
     pub config3: u64,
 }
 
@@ -256,136 +277,5 @@ impl PerfEventAttr {
         ensures { (left : State) × ParsesAttr T.number_of (R.seen r) result left }
     {
         PerfEventAttr::parse_from::<R, T>(&mut r)
-    }
-}
-
-#[cfg(test)]
-mod tests {
-    use super::*;
-    use byteorder::{BigEndian, LittleEndian};
-    use std::result::Result;
-    use std::test::Fail;
-
-    // Bytes each of which is its index, but for the clock's, which are 255, and the little-endian own size.
-    fn attribute(own: u8) -> [u8; 150] {
-        let mut bytes = [0u8; 150];
-        for (index, byte) in bytes.iter_mut().enumerate() {
-            *byte = index as u8;
-        }
-        bytes[4] = own;
-        for at in [5usize, 6, 7] {
-            bytes[at] = 0;
-        }
-        for at in [92usize, 93, 94, 95] {
-            bytes[at] = 255;
-        }
-        bytes
-    }
-
-    #[test]
-    fn reads_each_field(rt: HostRuntime) -> Result<(), Fail> {
-        let bytes = attribute(144);
-        let mut source = &bytes[..];
-        let (attr, own) = PerfEventAttr::parse_from::<_, LittleEndian>(&mut source)?;
-        assert_eq!(rt; own, 144);
-        assert_eq!(rt; source, [144, 145, 146, 147, 148, 149].as_slice());
-        assert_eq!(rt; attr.type_, 0x0302_0100);
-        assert_eq!(rt; attr.size, 144);
-        assert_eq!(rt; attr.config, 0x0f0e_0d0c_0b0a_0908);
-        assert_eq!(rt; attr.period_or_freq, 0x1716_1514_1312_1110);
-        assert_eq!(rt; attr.sample_format, SampleFormat(0x1f1e_1d1c_1b1a_1918));
-        assert_eq!(rt; attr.read_format, 0x2726_2524_2322_2120);
-        assert_eq!(rt; attr.flags, AttrFlags(0x2f2e_2d2c_2b2a_2928));
-        assert_eq!(rt; attr.wakeup, 0x3332_3130);
-        assert_eq!(rt; attr.bp_type, 0x3736_3534);
-        assert_eq!(rt; attr.config1, 0x3f3e_3d3c_3b3a_3938);
-        assert_eq!(rt; attr.config2, 0x4746_4544_4342_4140);
-        assert_eq!(rt; attr.branch_sample_type, 0x4f4e_4d4c_4b4a_4948);
-        assert_eq!(rt; attr.sample_regs_user, 0x5756_5554_5352_5150);
-        assert_eq!(rt; attr.sample_stack_user, 0x5b5a_5958);
-        assert_eq!(rt; attr.clockid, -1);
-        assert_eq!(rt; attr.sample_regs_intr, 0x6766_6564_6362_6160);
-        assert_eq!(rt; attr.aux_watermark, 0x6b6a_6968);
-        assert_eq!(rt; attr.sample_max_stack, 0x6d6c);
-        assert_eq!(rt; attr.aux_sample_size, 0x7372_7170);
-        assert_eq!(rt; attr.sig_data, 0x7f7e_7d7c_7b7a_7978);
-        assert_eq!(rt; attr.config3, 0x8786_8584_8382_8180);
-        Ok(())
-    }
-
-    #[test]
-    fn reads_big_endian(rt: HostRuntime) -> Result<(), Fail> {
-        let mut bytes = attribute(0);
-        bytes[7] = 64;
-        let (attr, own) = PerfEventAttr::parse::<_, BigEndian>(&bytes[..])?;
-        assert_eq!(rt; own, 64);
-        assert_eq!(rt; attr.type_, 0x0001_0203);
-        assert_eq!(rt; attr.config, 0x0809_0a0b_0c0d_0e0f);
-        assert_eq!(rt; attr.bp_type, 0x3435_3637);
-        Ok(())
-    }
-
-    #[test]
-    fn takes_zero_beyond_its_own_size(rt: HostRuntime) -> Result<(), Fail> {
-        // own size in the bytes, own size told, config2, branch_sample_type
-        for (size, told, config2, branch) in [
-            (0u8, 64u64, 0u64, 0u64),
-            (64, 64, 0, 0),
-            (71, 71, 0, 0),
-            (72, 72, 0x4746_4544_4342_4140, 0),
-            (79, 79, 0x4746_4544_4342_4140, 0),
-            (80, 80, 0x4746_4544_4342_4140, 0x4f4e_4d4c_4b4a_4948),
-        ] {
-            let bytes = attribute(size);
-            let mut source = &bytes[..];
-            let (attr, own) = PerfEventAttr::parse_from::<_, LittleEndian>(&mut source)?;
-            assert_eq!(rt; own, told);
-            assert_eq!(rt; attr.size as u64, told);
-            assert_eq!(rt; source.len() as u64, 150 - told);
-            assert_eq!(rt; attr.config1, 0x3f3e_3d3c_3b3a_3938);
-            assert_eq!(rt; attr.config2, config2);
-            assert_eq!(rt; attr.branch_sample_type, branch);
-            assert_eq!(rt; attr.clockid, 0);
-        }
-        Ok(())
-    }
-
-    #[test]
-    fn refuses_small_sizes_and_missing_bytes(rt: HostRuntime) {
-        for (size, count, kind) in [
-            (1u8, 150usize, ErrorKind::InvalidData),
-            (63, 150, ErrorKind::InvalidData),
-            (63, 8, ErrorKind::InvalidData),
-            (64, 7, ErrorKind::UnexpectedEof),
-            (64, 63, ErrorKind::UnexpectedEof),
-            (0, 63, ErrorKind::UnexpectedEof),
-            (144, 143, ErrorKind::UnexpectedEof),
-        ] {
-            let bytes = attribute(size);
-            assert!(rt; count <= bytes.len());
-            let got = PerfEventAttr::parse::<_, LittleEndian>(&bytes[..count]);
-            assert!(rt; matches!(&got, Err(error) if error.kind() == kind));
-        }
-    }
-
-    #[test]
-    fn keeps_all_bits(rt: HostRuntime) {
-        let format = SampleFormat::from_bits_retain(0x8001_0204);
-        assert_eq!(rt; format.bits(), 0x8001_0204);
-        assert!(rt; format.contains(SampleFormat::TIME));
-        assert!(rt; format.contains(SampleFormat::STREAM_ID));
-        assert!(rt; format.contains(SampleFormat::IDENTIFIER));
-        for flag in [
-            SampleFormat::IP,
-            SampleFormat::TID,
-            SampleFormat::ADDR,
-            SampleFormat::ID,
-            SampleFormat::CPU,
-        ] {
-            assert!(rt; !format.contains(flag));
-        }
-        let flags = AttrFlags::from_bits_retain(0x8004_0000);
-        assert_eq!(rt; flags.bits(), 0x8004_0000);
-        assert!(rt; flags.contains(AttrFlags::SAMPLE_ID_ALL));
     }
 }

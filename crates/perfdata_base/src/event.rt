@@ -1,3 +1,4 @@
+//! A record's head, its type, and a record of the kernel.
 ghost use Rattle.std.specs.Prelude.{◌≡◌, ◌<◌, ◌≤◌, ◌%◌, ◌↔◌, IsTrue};
 ghost use Rattle.perfdata_base.specs.Source.{State};
 ghost use Rattle.perfdata_base.specs.Event.{ParsesHead};
@@ -11,7 +12,9 @@ use std::io::Result;
 /// A record's head (`perf_event_header` in Linux's `perf_event.h`).
 #[derive(Clone, Copy, Debug)]
 pub struct PerfEventHeader {
+    /// The record's type.
     pub type_: u32,
+    /// Bits of the record, among them the processor's mode.
     pub misc: u16,
     /// How many bytes the record has, its head counted.
     pub size: u16,
@@ -74,11 +77,17 @@ const FIRST_USER_TYPE: u32 = 64;
 /// Where the processor was when a record was written.
 #[derive(Clone, Copy, Debug, PartialEq, Eq)]
 pub enum CpuMode {
+    /// The mode isn't told.
     Unknown,
+    /// The kernel.
     Kernel,
+    /// A program.
     User,
+    /// A hypervisor.
     Hypervisor,
+    /// The kernel of a guest.
     GuestKernel,
+    /// A program of a guest.
     GuestUser,
 }
 
@@ -102,75 +111,12 @@ impl CpuMode {
 /// A record of the kernel, whose body is lent.
 #[derive(Clone, Copy, Debug)]
 pub struct RawEventRecord<'a> {
+    /// The record's type, below 64.
     pub record_type: RecordType,
+    /// Bits of the record, among them the processor's mode.
     pub misc: u16,
     /// All bytes behind the head.
     pub body: RawData<'a>,
+    /// Where its event's attribute puts time and identifier.
     pub parse_info: RecordParseInfo,
-}
-
-#[cfg(test)]
-mod tests {
-    use super::*;
-    use byteorder::{BigEndian, LittleEndian};
-    use std::io::ErrorKind;
-    use std::result::Result;
-    use std::test::Fail;
-
-    const HEAD: [u8; 10] = [9, 0, 0, 1, 2, 3, 0x10, 0x20, 0xaa, 0xbb];
-
-    #[test]
-    fn reads_a_head(rt: HostRuntime) -> Result<(), Fail> {
-        let mut source = &HEAD[..];
-        let little = PerfEventHeader::parse_from::<_, LittleEndian>(&mut source)?;
-        assert_eq!(rt; little.type_, 0x0100_0009);
-        assert_eq!(rt; little.misc, 0x0302);
-        assert_eq!(rt; little.size, 0x2010);
-        assert_eq!(rt; source, [0xaa, 0xbb].as_slice());
-        let big = PerfEventHeader::parse::<_, BigEndian>(&HEAD[..])?;
-        assert_eq!(rt; big.type_, 0x0900_0001);
-        assert_eq!(rt; big.misc, 0x0203);
-        assert_eq!(rt; big.size, 0x1020);
-        Ok(())
-    }
-
-    #[test]
-    fn is_short_below_eight_bytes(rt: HostRuntime) {
-        let got = PerfEventHeader::parse::<_, LittleEndian>(&HEAD[..7]);
-        assert!(rt; matches!(&got, Err(error) if error.kind() == ErrorKind::UnexpectedEof));
-    }
-
-    #[test]
-    fn user_types_begin_at_64(rt: HostRuntime) {
-        for (number, user) in [
-            (0, false),
-            (9, false),
-            (63, false),
-            (64, true),
-            (u32::MAX, true),
-        ] {
-            let record_type = RecordType(number);
-            assert_eq!(rt; record_type.is_user_type(), user, "at {number}");
-            assert_eq!(rt; record_type.is_builtin_type(), !user, "at {number}");
-        }
-        assert_eq!(rt; RecordType::SAMPLE, RecordType(9));
-    }
-
-    #[test]
-    fn modes_are_the_lowest_three_bits(rt: HostRuntime) {
-        for (misc, mode) in [
-            (0, CpuMode::Unknown),
-            (1, CpuMode::Kernel),
-            (2, CpuMode::User),
-            (3, CpuMode::Hypervisor),
-            (4, CpuMode::GuestKernel),
-            (5, CpuMode::GuestUser),
-            (6, CpuMode::Unknown),
-            (7, CpuMode::Unknown),
-            (8, CpuMode::Unknown),
-            (0x8002, CpuMode::User),
-        ] {
-            assert_eq!(rt; CpuMode::from_misc(misc), mode, "at {misc}");
-        }
-    }
 }

@@ -1,3 +1,4 @@
+//! The features that a file can have, and the set of those that it has.
 ghost use Rattle.std.specs.Prelude.{◌≡◌, ◌↔◌, IsTrue, [], Contains, Some, length};
 ghost use Rattle.std.specs.Iterator.{YieldsFirstBy, item_count};
 ghost use Rattle.std.specs.Option.{option_map};
@@ -5,76 +6,112 @@ ghost use Rattle.perfdata_base.specs.Features.{HasFeature, PutsFeature, feature_
 
 use std::fmt;
 
+/// The formats of tracepoints, as ftrace tells them.
 pub const HEADER_TRACING_DATA: u32 = 1;
 
+/// The build ids of mapped objects.
 pub const HEADER_BUILD_ID: u32 = 2;
 
+/// The machine's name.
 pub const HEADER_HOSTNAME: u32 = 3;
 
+/// The kernel's release.
 pub const HEADER_OSRELEASE: u32 = 4;
 
+/// The version of the tool that recorded.
 pub const HEADER_VERSION: u32 = 5;
 
+/// The processor's architecture.
 pub const HEADER_ARCH: u32 = 6;
 
+/// How many processors the machine has, available and online.
 pub const HEADER_NRCPUS: u32 = 7;
 
+/// The processor's description.
 pub const HEADER_CPUDESC: u32 = 8;
 
+/// The processor's id.
 pub const HEADER_CPUID: u32 = 9;
 
+/// The memory of the machine, in kB.
 pub const HEADER_TOTAL_MEM: u32 = 10;
 
+/// The words of the command that recorded.
 pub const HEADER_CMDLINE: u32 = 11;
 
+/// The attributes with their names and ids.
 pub const HEADER_EVENT_DESC: u32 = 12;
 
+/// Which processors are cores of one package, and threads of one core.
 pub const HEADER_CPU_TOPOLOGY: u32 = 13;
 
+/// The nodes of memory, and their processors.
 pub const HEADER_NUMA_TOPOLOGY: u32 = 14;
 
+/// Samples have branch stacks; the section is empty.
 pub const HEADER_BRANCH_STACK: u32 = 15;
 
+/// The names of the performance monitoring units by their numbers.
 pub const HEADER_PMU_MAPPINGS: u32 = 16;
 
+/// Which events are groups.
 pub const HEADER_GROUP_DESC: u32 = 17;
 
+/// Where the records of auxiliary data stand.
 pub const HEADER_AUXTRACE: u32 = 18;
 
+/// Written by `perf stat`.
 pub const HEADER_STAT: u32 = 19;
 
+/// The caches of the processors.
 pub const HEADER_CACHE: u32 = 20;
 
+/// The times of the first and of the last sample.
 pub const HEADER_SAMPLE_TIME: u32 = 21;
 
+/// The blocks of memory of each node (`MEM_TOPOLOGY` in perf).
 pub const HEADER_SAMPLE_TOPOLOGY: u32 = 22;
 
+/// The frequency of the clock of the records' times.
 pub const HEADER_CLOCKID: u32 = 23;
 
+/// The recording is a directory, of this version.
 pub const HEADER_DIR_FORMAT: u32 = 24;
 
+/// The BPF programs that were loaded.
 pub const HEADER_BPF_PROG_INFO: u32 = 25;
 
+/// The types of the BPF programs.
 pub const HEADER_BPF_BTF: u32 = 26;
 
+/// How records were compressed.
 pub const HEADER_COMPRESSED: u32 = 27;
 
+/// What the processor's monitoring unit can do.
 pub const HEADER_CPU_PMU_CAPS: u32 = 28;
 
+/// The clock of the records' times, and the time of day at one of its moments.
 pub const HEADER_CLOCK_DATA: u32 = 29;
 
+/// Which processors are of which kind.
 pub const HEADER_HYBRID_TOPOLOGY: u32 = 30;
 
+/// What the monitoring unit of each kind of processor can do.
 pub const HEADER_HYBRID_CPU_PMU_CAPS: u32 = 31;
 
+/// The symbols of files, as older simpleperf writes them.
 pub const HEADER_SIMPLEPERF_FILE: u32 = 128;
 
+/// Pairs of texts of simpleperf.
 pub const HEADER_SIMPLEPERF_META_INFO: u32 = 129;
 
+/// What debugging of simpleperf's unwinding needs.
 pub const HEADER_SIMPLEPERF_DEBUG_UNWIND: u32 = 130;
 
+/// Files that debugging of simpleperf's unwinding needs.
 pub const HEADER_SIMPLEPERF_DEBUG_UNWIND_FILE: u32 = 131;
 
+/// The symbols of files, as protobuf messages of simpleperf.
 pub const HEADER_SIMPLEPERF_FILE2: u32 = 132;
 
 /// A kind of data that a perf.data file can hold in a section of its own, by its number (`perf_header` features of Linux's
@@ -83,76 +120,112 @@ pub const HEADER_SIMPLEPERF_FILE2: u32 = 132;
 pub struct Feature(pub u32);
 
 impl Feature {
+    /// The formats of tracepoints, as ftrace tells them.
     pub const TRACING_DATA: Feature = Feature(HEADER_TRACING_DATA);
 
+    /// The build ids of mapped objects.
     pub const BUILD_ID: Feature = Feature(HEADER_BUILD_ID);
 
+    /// The machine's name.
     pub const HOSTNAME: Feature = Feature(HEADER_HOSTNAME);
 
+    /// The kernel's release.
     pub const OSRELEASE: Feature = Feature(HEADER_OSRELEASE);
 
+    /// The version of the tool that recorded.
     pub const VERSION: Feature = Feature(HEADER_VERSION);
 
+    /// The processor's architecture.
     pub const ARCH: Feature = Feature(HEADER_ARCH);
 
+    /// How many processors the machine has, available and online.
     pub const NRCPUS: Feature = Feature(HEADER_NRCPUS);
 
+    /// The processor's description.
     pub const CPUDESC: Feature = Feature(HEADER_CPUDESC);
 
+    /// The processor's id.
     pub const CPUID: Feature = Feature(HEADER_CPUID);
 
+    /// The memory of the machine, in kB.
     pub const TOTAL_MEM: Feature = Feature(HEADER_TOTAL_MEM);
 
+    /// The words of the command that recorded.
     pub const CMDLINE: Feature = Feature(HEADER_CMDLINE);
 
+    /// The attributes with their names and ids.
     pub const EVENT_DESC: Feature = Feature(HEADER_EVENT_DESC);
 
+    /// Which processors are cores of one package, and threads of one core.
     pub const CPU_TOPOLOGY: Feature = Feature(HEADER_CPU_TOPOLOGY);
 
+    /// The nodes of memory, and their processors.
     pub const NUMA_TOPOLOGY: Feature = Feature(HEADER_NUMA_TOPOLOGY);
 
+    /// Samples have branch stacks; the section is empty.
     pub const BRANCH_STACK: Feature = Feature(HEADER_BRANCH_STACK);
 
+    /// The names of the performance monitoring units by their numbers.
     pub const PMU_MAPPINGS: Feature = Feature(HEADER_PMU_MAPPINGS);
 
+    /// Which events are groups.
     pub const GROUP_DESC: Feature = Feature(HEADER_GROUP_DESC);
 
+    /// Where the records of auxiliary data stand.
     pub const AUXTRACE: Feature = Feature(HEADER_AUXTRACE);
 
+    /// Written by `perf stat`.
     pub const STAT: Feature = Feature(HEADER_STAT);
 
+    /// The caches of the processors.
     pub const CACHE: Feature = Feature(HEADER_CACHE);
 
+    /// The times of the first and of the last sample.
     pub const SAMPLE_TIME: Feature = Feature(HEADER_SAMPLE_TIME);
 
+    /// The blocks of memory of each node (`MEM_TOPOLOGY` in perf).
     pub const SAMPLE_TOPOLOGY: Feature = Feature(HEADER_SAMPLE_TOPOLOGY);
 
+    /// The frequency of the clock of the records' times.
     pub const CLOCKID: Feature = Feature(HEADER_CLOCKID);
 
+    /// The recording is a directory, of this version.
     pub const DIR_FORMAT: Feature = Feature(HEADER_DIR_FORMAT);
 
+    /// The BPF programs that were loaded.
     pub const BPF_PROG_INFO: Feature = Feature(HEADER_BPF_PROG_INFO);
 
+    /// The types of the BPF programs.
     pub const BPF_BTF: Feature = Feature(HEADER_BPF_BTF);
 
+    /// How records were compressed.
     pub const COMPRESSED: Feature = Feature(HEADER_COMPRESSED);
 
+    /// What the processor's monitoring unit can do.
     pub const CPU_PMU_CAPS: Feature = Feature(HEADER_CPU_PMU_CAPS);
 
+    /// The clock of the records' times, and the time of day at one of its moments.
     pub const CLOCK_DATA: Feature = Feature(HEADER_CLOCK_DATA);
 
+    /// Which processors are of which kind.
     pub const HYBRID_TOPOLOGY: Feature = Feature(HEADER_HYBRID_TOPOLOGY);
 
+    /// What the monitoring unit of each kind of processor can do.
     pub const HYBRID_CPU_PMU_CAPS: Feature = Feature(HEADER_HYBRID_CPU_PMU_CAPS);
 
+    /// The symbols of files, as older simpleperf writes them.
     pub const SIMPLEPERF_FILE: Feature = Feature(HEADER_SIMPLEPERF_FILE);
 
+    /// Pairs of texts of simpleperf.
     pub const SIMPLEPERF_META_INFO: Feature = Feature(HEADER_SIMPLEPERF_META_INFO);
 
+    /// What debugging of simpleperf's unwinding needs.
     pub const SIMPLEPERF_DEBUG_UNWIND: Feature = Feature(HEADER_SIMPLEPERF_DEBUG_UNWIND);
 
+    /// Files that debugging of simpleperf's unwinding needs.
     pub const SIMPLEPERF_DEBUG_UNWIND_FILE: Feature = Feature(HEADER_SIMPLEPERF_DEBUG_UNWIND_FILE);
 
+    /// The symbols of files, as protobuf messages of simpleperf.
     pub const SIMPLEPERF_FILE2: Feature = Feature(HEADER_SIMPLEPERF_FILE2);
 }
 
@@ -312,96 +385,5 @@ impl Iterator for FeatureSetIter {
             }
         }
         None
-    }
-}
-
-#[cfg(test)]
-mod tests {
-    use super::*;
-    use std::test::Fail;
-
-    const NAMES: [(u32, &str); 38] = [
-        (0, "Unknown Feature 0"),
-        (1, "TRACING_DATA"),
-        (2, "BUILD_ID"),
-        (3, "HOSTNAME"),
-        (4, "OSRELEASE"),
-        (5, "VERSION"),
-        (6, "ARCH"),
-        (7, "NRCPUS"),
-        (8, "CPUDESC"),
-        (9, "CPUID"),
-        (10, "TOTAL_MEM"),
-        (11, "CMDLINE"),
-        (12, "EVENT_DESC"),
-        (13, "CPU_TOPOLOGY"),
-        (14, "NUMA_TOPOLOGY"),
-        (15, "BRANCH_STACK"),
-        (16, "PMU_MAPPINGS"),
-        (17, "GROUP_DESC"),
-        (18, "AUXTRACE"),
-        (19, "STAT"),
-        (20, "CACHE"),
-        (21, "SAMPLE_TIME"),
-        (22, "SAMPLE_TOPOLOGY"),
-        (23, "CLOCKID"),
-        (24, "DIR_FORMAT"),
-        (25, "BPF_PROG_INFO"),
-        (26, "BPF_BTF"),
-        (27, "COMPRESSED"),
-        (28, "CPU_PMU_CAPS"),
-        (29, "CLOCK_DATA"),
-        (30, "HYBRID_TOPOLOGY"),
-        (31, "HYBRID_CPU_PMU_CAPS"),
-        (128, "SIMPLEPERF_FILE"),
-        (129, "SIMPLEPERF_META_INFO"),
-        (130, "SIMPLEPERF_DEBUG_UNWIND"),
-        (131, "SIMPLEPERF_DEBUG_UNWIND_FILE"),
-        (132, "SIMPLEPERF_FILE2"),
-        (300, "Unknown Feature 300"),
-    ];
-
-    #[test]
-    fn shows_names(rt: HostRuntime) -> Result<(), Fail> {
-        for (number, name) in NAMES {
-            let feature = Feature(number);
-            assert_eq!(rt; format!(in rt.alloc(); "{feature}")?.as_str(), name);
-            assert_eq!(rt; format!(in rt.alloc(); "{feature:?}")?.as_str(), name);
-        }
-        Ok(())
-    }
-
-    #[test]
-    fn goes_over_members(rt: HostRuntime) -> Result<(), Fail> {
-        let set = FeatureSet([8, 0, 1, 0]);
-        assert_eq!(rt; set.len(), 2);
-        assert!(rt; !set.is_empty());
-        let mut members = set.iter();
-        assert_eq!(rt; members.next(), Some(Feature::HOSTNAME));
-        assert_eq!(rt; members.next(), Some(Feature::SIMPLEPERF_FILE));
-        assert_eq!(rt; members.next(), None);
-        assert_eq!(rt; members.next(), None);
-        assert_eq!(rt;
-            format!(in rt.alloc(); "{set:?}")?.as_str(),
-            "{HOSTNAME, SIMPLEPERF_FILE}"
-        );
-        assert!(rt; set.has_feature(Feature::HOSTNAME));
-        assert!(rt; !set.has_feature(Feature::OSRELEASE));
-        assert!(rt; !set.has_feature(Feature(300)));
-        let ends = FeatureSet([1, 0, 0, 1 << 63]);
-        assert!(rt; ends.iter().eq([Feature(0), Feature(255)]));
-        assert!(rt; !ends.has_feature(Feature(256)));
-        Ok(())
-    }
-
-    #[test]
-    fn is_empty_without_a_bit(rt: HostRuntime) -> Result<(), Fail> {
-        let none = FeatureSet([0; 4]);
-        assert!(rt; none.is_empty());
-        assert_eq!(rt; none.len(), 0);
-        assert_eq!(rt; none.iter().next(), None);
-        assert_eq!(rt; format!(in rt.alloc(); "{none:?}")?.as_str(), "{}");
-        assert!(rt; !FeatureSet([0, 0, 0, 1]).is_empty());
-        Ok(())
     }
 }

@@ -1,3 +1,4 @@
+//! Where a record's time and identifier stand, and the numbers there.
 ghost use Rattle.std.specs.Prelude.{◌≡◌, ℕ, ◌+◌, ◌*◌, ◌^◌, ◌==◌, ◌≤◌, filter, length, position};
 ghost use Rattle.std.specs.Int.RustNames.{bit_and};
 ghost use Rattle.perfdata_base.specs.Place.{from_start, from_end, sample_words, trailing_words, identifier_word, id_places_of, places_of};
@@ -25,8 +26,11 @@ pub struct RecordIdParseInfo {
 /// Where the identifier and the time of a record stand, and the order of its numbers.
 #[derive(Clone, Copy, Debug)]
 pub struct RecordParseInfo {
+    /// The order of the numbers.
     pub endian: Endianness,
+    /// What a sample holds.
     pub sample_format: SampleFormat,
+    /// Where an identifier stands.
     pub id_parse_info: RecordIdParseInfo,
     /// In a sample, from the body's start.
     pub sample_time_from_start: Option<u64>,
@@ -286,126 +290,4 @@ pub fn get_record_timestamp<T: FileOrder>(
         parse_info.sample_time_from_start,
         parse_info.other_time_from_end,
     )
-}
-
-#[cfg(test)]
-mod tests {
-    use super::*;
-    use byteorder::{BigEndian, LittleEndian};
-
-    fn attr(sample_format: u64, flags: u64) -> PerfEventAttr {
-        PerfEventAttr {
-            type_: 0,
-            size: 64,
-            config: 0,
-            period_or_freq: 0,
-            sample_format: SampleFormat(sample_format),
-            read_format: 0,
-            flags: AttrFlags(flags),
-            wakeup: 0,
-            bp_type: 0,
-            config1: 0,
-            config2: 0,
-            branch_sample_type: 0,
-            sample_regs_user: 0,
-            sample_stack_user: 0,
-            clockid: 0,
-            sample_regs_intr: 0,
-            aux_watermark: 0,
-            sample_max_stack: 0,
-            aux_sample_size: 0,
-            sig_data: 0,
-            config3: 0,
-        }
-    }
-
-    fn places(sample_format: u64, flags: u64) -> RecordParseInfo {
-        RecordParseInfo::new(&attr(sample_format, flags), Endianness::LittleEndian)
-    }
-
-    // Formats and flags, with the places of the identifier and of the time, each in a sample from the start and in
-    // another record from the end.
-    #[test]
-    fn places_follow_the_format(rt: HostRuntime) {
-        for (format, flags, id, time) in [
-            (4, 0, (None, None), (Some(0), None)),
-            (0x10006, 0x40000, (Some(0), Some(8)), (Some(16), Some(16))),
-            (0x46, 0x40000, (Some(16), Some(8)), (Some(8), Some(16))),
-            (0x46, 0, (Some(16), None), (Some(8), None)),
-            (0x102cf, 0x40000, (Some(0), Some(8)), (Some(24), Some(40))),
-            (0x10044, 0x40000, (Some(0), Some(8)), (Some(8), Some(24))),
-            (0x2c8, 0x40000, (Some(8), Some(24)), (None, None)),
-            (0, 0x40000, (None, None), (None, None)),
-        ] {
-            let found = places(format, flags);
-            assert_eq!(rt;
-                found.id_parse_info.sample_id_from_start,
-                id.0,
-                "at {format}"
-            );
-            assert_eq!(rt; found.id_parse_info.other_id_from_end, id.1, "at {format}");
-            assert_eq!(rt; found.sample_time_from_start, time.0, "at {format}");
-            assert_eq!(rt; found.other_time_from_end, time.1, "at {format}");
-        }
-    }
-
-    // The words TID, TIME and IDENTIFIER (or in a sample IDENTIFIER, TID and TIME) in three words of eight bytes.
-    #[test]
-    fn numbers_stand_at_their_places(rt: HostRuntime) {
-        let mut body = [0u8; 24];
-        body[0] = 7;
-        body[8] = 33;
-        body[16] = 9;
-        let info = places(0x10006, 0x40000);
-        for (kind, len, time, id) in [
-            (3, 24, Some(33), Some(9)),
-            (3, 15, None, Some(33 << 8)),
-            (3, 7, None, None),
-            (9, 24, Some(9), Some(7)),
-            (9, 23, None, Some(7)),
-            (64, 24, None, None),
-        ] {
-            let record_type = RecordType(kind);
-            let body = &body[..len];
-            assert_eq!(rt; info.time_of(record_type, body), time, "at {kind}, {len}");
-            let split = RawData::Split(&body[..5], &body[5..]);
-            for raw in [RawData::Single(body), split] {
-                let found = get_record_timestamp::<LittleEndian>(record_type, raw, &info);
-                assert_eq!(rt; found, time, "at {kind}, {len}");
-                let found = get_record_id::<LittleEndian>(record_type, raw, &info.id_parse_info);
-                assert_eq!(rt; found, id, "at {kind}, {len}");
-                let found = get_record_identifier::<LittleEndian>(record_type, raw, true);
-                assert_eq!(rt; found, id, "at {kind}, {len}");
-            }
-            let found = info
-                .id_parse_info
-                .identifier_of(Endianness::LittleEndian, record_type, body);
-            assert_eq!(rt; found, id, "at {kind}, {len}");
-        }
-    }
-
-    #[test]
-    fn the_order_is_the_type_parameter(rt: HostRuntime) {
-        let body = [0, 0, 0, 0, 0, 0, 1, 2];
-        let raw = RawData::Single(&body);
-        let info = places(4, 0x40000);
-        let sample = RecordType::SAMPLE;
-        assert_eq!(rt;
-            get_record_timestamp::<BigEndian>(sample, raw, &info),
-            Some(258)
-        );
-        assert_eq!(rt;
-            get_record_timestamp::<BigEndian>(RecordType(1), raw, &info),
-            Some(258)
-        );
-        assert_eq!(rt;
-            get_record_identifier::<BigEndian>(sample, raw, false),
-            Some(258)
-        );
-        assert_eq!(rt;
-            get_record_identifier::<BigEndian>(RecordType(1), raw, false),
-            None
-        );
-        assert_eq!(rt; info.time_of(sample, &body), Some(0x0201_0000_0000_0000));
-    }
 }

@@ -1,3 +1,4 @@
+//! Bytes in one piece or two, and the order of numbers.
 ghost use Rattle.std.specs.Prelude.{◌≡◌, ◌+◌, ◌<◌, ◌≤◌, ◌++◌, ◌==◌, ◌⊎◌, ℕ, List, length, take, drop, slice_index, slice_range, refl, IfErr, IfNone, IfOk, IfSome, IsOkAnd, OnErr, OnOk};
 ghost use Rattle.std.specs.Cow.{cow_slice_items, IsBorrowedSlice, IsOwnedSlice};
 ghost use Rattle.std.specs.Int.{w32, cast_signed};
@@ -22,7 +23,9 @@ use std::ops::Range;
 /// The order of a number's bytes.
 #[derive(Clone, Copy, Debug, PartialEq, Eq)]
 pub enum Endianness {
+    /// The lowest byte comes first.
     LittleEndian,
+    /// The highest byte comes first.
     BigEndian,
 }
 
@@ -90,7 +93,9 @@ impl FileOrder for BigEndian {
 /// Bytes that lie in one piece or in two, as a buffer that wraps holds them. Calls see one list of bytes.
 #[derive(Clone, Copy, Debug)]
 pub enum RawData<'a> {
+    /// All bytes in one piece.
     Single(&'a [u8]),
+    /// Those of the first piece, and then those of the second.
     Split(&'a [u8], &'a [u8]),
 }
 
@@ -393,134 +398,4 @@ impl PartialEq for RawData<'_> {
 
 impl Eq for RawData<'_> {
     ghost laws = { on_texts_equal bytes_of };
-}
-
-#[cfg(test)]
-mod tests {
-    use super::*;
-    use std::io::ErrorKind;
-    use std::test::Fail;
-
-    const FIVE: [u8; 5] = [1, 2, 3, 4, 5];
-
-    fn split(bytes: &[u8], at: usize) -> RawData<'_>
-        requires { at ≤ length bytes.now }
-    {
-        RawData::Split(&bytes[..at], &bytes[at..])
-    }
-
-    fn is_short<T: Drop>(answer: io::Result<T>) -> bool {
-        match answer {
-            Ok(_) => false,
-            Err(error) => error.kind() == ErrorKind::UnexpectedEof,
-        }
-    }
-
-    #[test]
-    fn one_value_wherever_it_is_split(rt: HostRuntime) -> Result<(), Fail> {
-        let whole = RawData::from(&FIVE[..]);
-        for at in 0..6usize {
-            let data = split(&FIVE, at);
-            assert!(rt; data == whole, "split at {at}");
-            assert!(rt; data != RawData::Single(&FIVE[..4]), "split at {at}");
-            assert!(rt; data != split(&[1, 2, 3, 4, 6], 2), "split at {at}");
-            assert_eq!(rt; data.len(), 5);
-            assert!(rt; !data.is_empty());
-            let slice = data.as_slice(rt.alloc())?;
-            assert_eq!(rt;
-                slice.as_slice(),
-                [1, 2, 3, 4, 5].as_slice(),
-                "split at {at}"
-            );
-        }
-        assert!(rt; RawData::Split(&[], &[]).is_empty());
-        Ok(())
-    }
-
-    #[test]
-    fn parts_wherever_it_is_split(rt: HostRuntime) -> Result<(), Fail> {
-        for at in 0..6usize {
-            let mut data = split(&FIVE, at);
-            assert!(rt;
-                data.get(1..4) == Some(RawData::Single(&[2, 3, 4])),
-                "split at {at}"
-            );
-            assert!(rt;
-                data.get(5..5) == Some(RawData::Single(&[])),
-                "split at {at}"
-            );
-            assert!(rt;
-                data.get(3..2).is_none() && data.get(0..6).is_none(),
-                "split at {at}"
-            );
-            assert!(rt; is_short(data.split_off_prefix(6)));
-            assert!(rt;
-                data.split_off_prefix(2)? == RawData::Single(&[1, 2]),
-                "split at {at}"
-            );
-            data.skip(1)?;
-            assert!(rt; is_short(data.skip(3)));
-            let mut place = [0; 2];
-            data.read_exact(&mut place)?;
-            assert_eq!(rt; place, [4, 5], "split at {at}");
-            assert!(rt; is_short(data.read_exact(&mut place)));
-            assert!(rt; data.is_empty());
-        }
-        Ok(())
-    }
-
-    #[test]
-    fn numbers_wherever_they_are_split(rt: HostRuntime) -> Result<(), Fail> {
-        let bytes = [7, 1, 2, 0xfe, 0xff, 0xff, 0xff, 1, 2, 3, 4, 5, 6, 7, 8];
-        for at in 0..16usize {
-            let mut data = split(&bytes, at);
-            assert_eq!(rt; data.read_u8()?, 7, "split at {at}");
-            assert_eq!(rt; data.read_u16::<LittleEndian>()?, 0x0201, "split at {at}");
-            assert_eq!(rt; data.read_i32::<LittleEndian>()?, -2, "split at {at}");
-            assert_eq!(rt;
-                data.read_u64::<BigEndian>()?,
-                0x0102_0304_0506_0708,
-                "split at {at}"
-            );
-            assert!(rt; is_short(data.read_u8()));
-        }
-        Ok(())
-    }
-
-    #[test]
-    fn a_short_read_leaves_the_bytes(rt: HostRuntime) -> Result<(), Fail> {
-        let mut data = RawData::Split(&[1, 2, 3], &[4, 5]);
-        assert_eq!(rt; data.read_u32::<LittleEndian>()?, 0x0403_0201);
-        assert!(rt; is_short(data.read_u32::<LittleEndian>()));
-        assert!(rt; is_short(data.read_u16::<BigEndian>()));
-        assert!(rt; is_short(data.read_i32::<BigEndian>()));
-        assert!(rt; is_short(data.read_u64::<BigEndian>()));
-        assert!(rt; data == RawData::Single(&[5]));
-        Ok(())
-    }
-
-    #[test]
-    fn strings_end_at_nul(rt: HostRuntime) {
-        let mut data = RawData::Split(&[97], &[0, 98]);
-        assert!(rt; data.read_string() == Some(RawData::Single(b"a")));
-        assert!(rt; data == RawData::Single(b"b"));
-        assert!(rt; data.read_string().is_none());
-        assert!(rt; data == RawData::Single(b"b"));
-    }
-
-    #[test]
-    fn numbers_in_either_order(rt: HostRuntime) {
-        let bytes = [1, 2, 3, 4, 5, 6, 7, 8];
-        let (little, big) = (Endianness::LittleEndian, Endianness::BigEndian);
-        assert_eq!(rt;
-            (little.read_u16(&bytes), big.read_u16(&bytes)),
-            (0x0201, 0x0102)
-        );
-        assert_eq!(rt;
-            (little.read_u32(&bytes), big.read_u32(&bytes)),
-            (0x0403_0201, 0x0102_0304)
-        );
-        assert_eq!(rt; little.read_u64(&bytes), 0x0807_0605_0403_0201);
-        assert_eq!(rt; big.read_u64(&bytes), 0x0102_0304_0506_0708);
-    }
 }

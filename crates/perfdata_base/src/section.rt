@@ -1,3 +1,4 @@
+//! An entry that tells where a section stands.
 ghost use Rattle.std.specs.Prelude.{◌≡◌, ◌≤◌, length};
 ghost use Rattle.perfdata_base.specs.Source.{State};
 ghost use Rattle.perfdata_base.specs.Section.{section_of, ParsesSection};
@@ -11,6 +12,7 @@ use std::io::Result;
 pub struct PerfFileSection {
     /// From the file's first byte.
     pub offset: u64,
+    /// How many bytes it has.
     pub size: u64,
 }
 
@@ -46,35 +48,5 @@ impl PerfFileSection {
         ensures { (left : State) × ParsesSection T.number_of (R.seen r) result left }
     {
         PerfFileSection::parse_from::<R, T>(&mut r)
-    }
-}
-
-#[cfg(test)]
-mod tests {
-    use super::*;
-    use byteorder::{BigEndian, LittleEndian};
-    use std::io::ErrorKind;
-    use std::result::Result;
-    use std::test::Fail;
-
-    const ENTRY: [u8; 18] = [1, 2, 3, 4, 5, 6, 7, 8, 9, 0, 0, 0, 0, 0, 0, 0, 0xaa, 0xbb];
-
-    #[test]
-    fn reads_an_entry(rt: HostRuntime) -> Result<(), Fail> {
-        let mut source = &ENTRY[..];
-        let little = PerfFileSection::parse_from::<_, LittleEndian>(&mut source)?;
-        assert_eq!(rt; little.offset, 0x0807_0605_0403_0201);
-        assert_eq!(rt; little.size, 9);
-        assert_eq!(rt; source, [0xaa, 0xbb].as_slice());
-        let big = PerfFileSection::parse::<_, BigEndian>(&ENTRY[..])?;
-        assert_eq!(rt; big.offset, 0x0102_0304_0506_0708);
-        assert_eq!(rt; big.size, 0x0900_0000_0000_0000);
-        Ok(())
-    }
-
-    #[test]
-    fn is_short_below_sixteen_bytes(rt: HostRuntime) {
-        let got = PerfFileSection::parse::<_, LittleEndian>(&ENTRY[..15]);
-        assert!(rt; matches!(&got, Err(error) if error.kind() == ErrorKind::UnexpectedEof));
     }
 }

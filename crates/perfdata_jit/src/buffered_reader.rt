@@ -1,3 +1,4 @@
+//! Parts of a source's bytes, lent from two buffers.
 ghost use Rattle.std.specs.Prelude.{◌≡◌, ◌<◌, ◌≤◌, IfErr, OnOk, length, take, slice_range, true, false, vec_len};
 ghost use Rattle.std.specs.Borrow.{sem};
 ghost use Rattle.std.specs.Io.BufRead.{Rests};
@@ -182,64 +183,5 @@ impl<R: PlacedSource> BufferedReader<R> {
                 Err(error)
             }
         }
-    }
-}
-
-#[cfg(test)]
-mod tests {
-    use super::*;
-    use crate::read_exact::ReadExactOrUntilEof;
-    use std::io::Cursor;
-    use std::result::Result;
-    use std::test::Fail;
-
-    const BYTES: &[u8] = b"123456789";
-
-    #[test]
-    fn a_part_runs_over_the_end(rt: HostRuntime) -> Result<(), Fail> {
-        let mut source = Cursor::new(BYTES);
-        let mut buffer = Vec::new(rt.alloc());
-        buffer.resize(6, 0)?;
-        assert_eq!(rt; source.read_exact_or_until_eof(&mut buffer[..2])?, 2);
-        let mut reader = BufferedReader::new_with_partially_read_buffer(
-            rt.alloc(),
-            source,
-            buffer,
-            1,
-            2,
-        );
-        for (count, part) in [
-            (3, Some("234")),
-            (4, Some("5678")),
-            (2, None),
-            (1, Some("9")),
-        ] {
-            match (reader.consume_data(count)?, part) {
-                (Some(data), Some(text)) => {
-                    assert!(rt; data == RawData::Single(text.as_bytes()), "{count}");
-                }
-                (None, None) => {}
-                _ => assert!(rt; false, "{count}"),
-            }
-        }
-        Ok(())
-    }
-
-    #[test]
-    fn passes_over_bytes(rt: HostRuntime) -> Result<(), Fail> {
-        let mut buffer = Vec::new(rt.alloc());
-        buffer.resize(4, 0)?;
-        let source = Cursor::new(BYTES);
-        let mut reader = BufferedReader::new_with_partially_read_buffer(
-            rt.alloc(),
-            source,
-            buffer,
-            0,
-            0,
-        );
-        for (count, passed) in [(7, true), (3, false), (2, true), (1, false)] {
-            assert_eq!(rt; reader.skip_bytes(count)?, passed, "{count}");
-        }
-        Ok(())
     }
 }

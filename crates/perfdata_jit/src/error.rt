@@ -1,3 +1,4 @@
+//! Why a jitdump could not be opened.
 ghost use Rattle.std.specs.Prelude.{◌≡◌};
 ghost use Rattle.perfdata_jit.specs.declared.error.JitDumpError.TheVariants.{Io as OfIo};
 
@@ -7,6 +8,7 @@ use thiserror::Error;
 /// Why a jitdump file could not be opened.
 #[derive(Debug, Drop, Error)]
 pub enum JitDumpError {
+    /// The file, or the buffer, ends before the header does.
     #[error("The file does not contain enough bytes to parse the jitdump header.")]
     NotEnoughBytesForHeader,
     /// The header says that it has so many bytes, fewer than it needs.
@@ -28,48 +30,5 @@ impl From<io::Error> for JitDumpError {
 
     fn from(fault: io::Error) -> JitDumpError {
         JitDumpError::Io(fault)
-    }
-}
-
-#[cfg(test)]
-mod tests {
-    use super::*;
-    use std::io::ErrorKind;
-    use std::test::Fail;
-
-    #[test]
-    fn shows_why(rt: HostRuntime) -> Result<(), Fail> {
-        let short = io::Error::from(ErrorKind::UnexpectedEof);
-        let cases = [
-            (
-                JitDumpError::NotEnoughBytesForHeader,
-                "The file does not contain enough bytes to parse the jitdump header.",
-            ),
-            (
-                JitDumpError::InvalidHeaderSize(39),
-                "Invalid jitdump header size: 39",
-            ),
-            (
-                JitDumpError::InvalidMagicBytes([0x7f, 0x45, 0x4c, 6]),
-                "The file does not appear to be a jitdump file, due to unexpected magic bytes: 7f 45 4c 06",
-            ),
-            (
-                JitDumpError::InvalidMagicBytes([0x7f, 0x45, 0x4c, 0x46]),
-                "The file does not appear to be a jitdump file, due to unexpected magic bytes: 7f 45 4c 46",
-            ),
-            (
-                JitDumpError::UnrecognizedVersion(2),
-                "The jitdump file has an unrecognized version: 2",
-            ),
-            (
-                JitDumpError::from(short),
-                "Failed to read from the jitdump file: unexpected end of file",
-            ),
-        ];
-        for (error, text) in cases {
-            let shown = format!(in rt.alloc(); "{error}")?;
-            assert_eq!(rt; shown.as_str(), text);
-        }
-        Ok(())
     }
 }

@@ -1,3 +1,4 @@
+//! The header of a jitdump.
 ghost use Rattle.std.specs.Prelude.{◌≡◌, ◌+◌, ◌≤◌, ◌<◌, ◌⊎◌, IfOk, IfErr, IfSome, IfNone, length};
 ghost use Rattle.std.specs.IoError.{error_kind};
 ghost use Rattle.std.specs.declared.io.ErrorKind.TheVariants.{UnexpectedEof};
@@ -34,6 +35,7 @@ pub struct JitDumpHeader {
     pub pid: u32,
     /// When the file was made.
     pub timestamp: u64,
+    /// Bit 0: times are those of the time stamp counter.
     pub flags: u64,
 }
 
@@ -136,92 +138,5 @@ impl JitDumpHeader {
             Ok(()) => Ok(header),
             Err(error) => Err(error),
         }
-    }
-}
-
-#[cfg(test)]
-mod tests {
-    use super::*;
-    use std::io::ErrorKind;
-    use std::result::Result;
-    use std::test::Fail;
-
-    // Of version 1 and 40 bytes, for the machine 62, by the process 7 at 5.
-    const LITTLE: [u8; 40] = [
-        0x44, 0x54, 0x69, 0x4a, 1, 0, 0, 0, 40, 0, 0, 0, 62, 0, 0, 0, 0, 0, 0, 0, 7, 0, 0, 0, 5, 0,
-        0, 0, 0, 0, 0, 0, 0, 0, 0, 0, 0, 0, 0, 0,
-    ];
-
-    // Of version 1 and 40 bytes, with other numbers all different.
-    const BIG: [u8; 40] = [
-        0x4a, 0x69, 0x54, 0x44, 0, 0, 0, 1, 0, 0, 0, 40, 0, 0, 0, 2, 0, 0, 0, 3, 0, 0, 0, 4, 0, 0,
-        0, 0, 0, 0, 0, 5, 0, 0, 0, 0, 0, 0, 0, 6,
-    ];
-
-    // The first bytes, so many, with a byte changed.
-    fn parse(at: usize, byte: u8, count: usize) -> Result<JitDumpHeader, JitDumpError>
-        requires { (at < 40) × (count ≤ 40) }
-    {
-        let mut bytes = LITTLE;
-        bytes[at] = byte;
-        JitDumpHeader::parse(RawData::Single(&bytes[..count]))
-    }
-
-    #[test]
-    fn reads_each_field_wherever_it_is_split(rt: HostRuntime) -> Result<(), Fail> {
-        for at in 0..41usize {
-            let (front, back) = LITTLE.split_at(at);
-            let header = JitDumpHeader::parse(RawData::Split(front, back))?;
-            assert_eq!(rt; header.magic, [0x44, 0x54, 0x69, 0x4a]);
-            assert_eq!(rt; (header.version, header.total_size), (1, 40));
-            assert_eq!(rt; (header.elf_machine_arch, header.pid), (62, 7));
-            assert_eq!(rt; (header.timestamp, header.flags), (5, 0));
-        }
-        let header = JitDumpHeader::parse(RawData::Single(&BIG))?;
-        assert_eq!(rt; (header.version, header.total_size), (1, 40));
-        assert_eq!(rt; (header.elf_machine_arch, header.pid), (2, 4));
-        assert_eq!(rt; (header.timestamp, header.flags), (5, 6));
-        Ok(())
-    }
-
-    #[test]
-    fn refuses_by_the_first_reason(rt: HostRuntime) {
-        for (at, byte, count) in [
-            (4usize, 1u8, 3usize),
-            (4, 1, 4),
-            (4, 1, 39),
-            (8, 39, 39),
-            (8, 41, 40),
-        ] {
-            let got = parse(at, byte, count);
-            assert!(rt;
-                matches!(got, Err(JitDumpError::NotEnoughBytesForHeader)),
-                "{byte} at {at}, cut to {count}"
-            );
-        }
-        for size in [0u8, 3, 39] {
-            let got = parse(8, size, 40);
-            assert!(rt;
-                matches!(got, Err(JitDumpError::InvalidHeaderSize(told)) if told == size as u32)
-            );
-        }
-        assert!(rt; matches!(parse(4, 9, 40), Ok(header) if header.version == 9));
-        let elf = [0x7f, 0x45, 0x4c, 0x46];
-        let got = JitDumpHeader::parse(RawData::Single(&elf));
-        assert!(rt; matches!(got, Err(JitDumpError::InvalidMagicBytes(magic)) if magic == elf));
-    }
-
-    #[test]
-    fn takes_small_headers_behind_the_magic(rt: HostRuntime) -> Result<(), Fail> {
-        let mut bytes = LITTLE;
-        bytes[8] = 39;
-        let magic = [0x44, 0x54, 0x69, 0x4a];
-        let behind = RawData::Single(&bytes[4..]);
-        let header = JitDumpHeader::parse_after_magic::<LittleEndian>(magic, behind)?;
-        assert_eq!(rt; (header.total_size, header.timestamp), (39, 5));
-        let cut = RawData::Single(&bytes[4..39]);
-        let got = JitDumpHeader::parse_after_magic::<LittleEndian>(magic, cut);
-        assert!(rt; matches!(got, Err(error) if error.kind() == ErrorKind::UnexpectedEof));
-        Ok(())
     }
 }

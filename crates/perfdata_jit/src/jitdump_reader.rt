@@ -1,3 +1,4 @@
+//! Reads the records of a jitdump, also while it grows.
 ghost use Rattle.std.specs.Prelude.{◌≡◌, false, length, vec_len};
 ghost use Rattle.std.specs.Borrow.{sem};
 ghost use Rattle.std.specs.Io.BufRead.{Rests};
@@ -296,6 +297,3 @@ impl<R: PlacedSource> JitDumpReader<R> {
         }
     }
 }
-
-#[cfg(test)]
-mod tests;

@@ -1,3 +1,4 @@
+//! Fills a place as far as a source has bytes.
 ghost use Rattle.std.specs.Prelude.{◌≡◌};
 ghost use Rattle.perfdata_jit.specs.ReadExact.{CountsFill, FillsPlace};
 

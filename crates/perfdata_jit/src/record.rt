@@ -1,3 +1,4 @@
+//! A record of a jitdump, raw and parsed.
 ghost use Rattle.std.specs.Prelude.{◌≡◌, ◌≤◌, IfOk, IfErr, length};
 ghost use Rattle.perfdata_base.specs.Numbers.{number_in};
 ghost use Rattle.perfdata_base.specs.Raw.{bytes_of, IsShort};
@@ -93,11 +94,15 @@ impl JitDumpRecordHeader {
 /// A record in the form that its type has.
 #[derive(Debug, Drop)]
 pub enum JitDumpRecord<'a> {
+    /// Code that was made, with its name.
     CodeLoad(JitCodeLoadRecord<'a>),
+    /// Code that was moved.
     CodeMove(JitCodeMoveRecord),
+    /// The lines of source of code.
     CodeDebugInfo(JitCodeDebugInfoRecord<'a>),
     /// The runtime has written all that it will write.
     CodeClose,
+    /// How code is unwound.
     CodeUnwindingInfo(JitCodeUnwindingInfoRecord<'a>),
     /// A record of any other type.
     Other(JitDumpRawRecord<'a>),
@@ -155,97 +160,5 @@ impl<'a> JitDumpRawRecord<'a> {
                 body: self.body,
             })),
         }
-    }
-}
-
-#[cfg(test)]
-mod tests {
-    use super::*;
-    use std::io::ErrorKind;
-    use std::result::Result;
-    use std::test::Fail;
-
-    // A head of type 0 and size 62 at 9, little-endian and big-endian.
-    const LITTLE: [u8; 16] = [0, 0, 0, 0, 62, 0, 0, 0, 9, 0, 0, 0, 0, 0, 0, 0];
-
-    const BIG: [u8; 16] = [0, 0, 0, 0, 0, 0, 0, 62, 0, 0, 0, 0, 0, 0, 0, 9];
-
-    // A load record's body of 46 bytes: process and thread 7, addresses 0x1000, index 0, `foo` and two bytes of code.
-    const BODY: [u8; 46] = [
-        7, 0, 0, 0, 7, 0, 0, 0, 0, 0x10, 0, 0, 0, 0, 0, 0, 0, 0x10, 0, 0, 0, 0, 0, 0, 2, 0, 0, 0,
-        0, 0, 0, 0, 0, 0, 0, 0, 0, 0, 0, 0, b'f', b'o', b'o', 0, 0x90, 0xc3,
-    ];
-
-    fn record_of(kind: u32, body: RawData<'_>) -> JitDumpRawRecord<'_> {
-        JitDumpRawRecord {
-            endian: Endianness::LittleEndian,
-            record_type: JitDumpRecordType(kind),
-            timestamp: 9,
-            start_offset: 40,
-            record_size: 62,
-            body,
-        }
-    }
-
-    // Whether this is what the body says, with the code 60 bytes behind the start of the head.
-    fn is_foo(parsed: &JitDumpRecord<'_>) -> bool {
-        let JitDumpRecord::CodeLoad(load) = parsed else {
-            return false;
-        };
-        (load.pid, load.tid, load.code_index) == (7, 7, 0)
-            && (load.vma, load.code_addr) == (0x1000, 0x1000)
-            && load.code_bytes == RawData::Single(&[0x90, 0xc3])
-            && load.function_name == RawData::Single(b"foo")
-            && load.code_bytes_offset_from_record_header_start() == 60
-    }
-
-    #[test]
-    fn reads_heads(rt: HostRuntime) -> Result<(), Fail> {
-        for (order, bytes) in [
-            (Endianness::LittleEndian, &LITTLE),
-            (Endianness::BigEndian, &BIG),
-        ] {
-            let head = JitDumpRecordHeader::parse(order, RawData::Single(bytes.as_slice()))?;
-            assert_eq!(rt; head.record_type, JitDumpRecordType::JIT_CODE_LOAD);
-            assert_eq!(rt; (head.total_size, head.timestamp), (62, 9));
-        }
-        let cut = JitDumpRecordHeader::parse_impl::<LittleEndian>(RawData::Single(&LITTLE[..15]));
-        assert!(rt; matches!(cut, Err(error) if error.kind() == ErrorKind::UnexpectedEof));
-        Ok(())
-    }
-
-    #[test]
-    fn types_have_their_numbers(rt: HostRuntime) {
-        for (number, kind) in [
-            (0, JitDumpRecordType::JIT_CODE_LOAD),
-            (1, JitDumpRecordType::JIT_CODE_MOVE),
-            (2, JitDumpRecordType::JIT_CODE_DEBUG_INFO),
-            (3, JitDumpRecordType::JIT_CODE_CLOSE),
-            (4, JitDumpRecordType::JIT_CODE_UNWINDING_INFO),
-        ] {
-            assert_eq!(rt; JitDumpRecordType(number), kind);
-            assert!(rt; kind < JitDumpRecordType(5));
-        }
-    }
-
-    #[test]
-    fn parses_by_type(rt: HostRuntime) -> Result<(), Fail> {
-        for at in 0..47usize {
-            let (front, back) = BODY.split_at(at);
-            let parsed = record_of(0, RawData::Split(front, back)).parse(rt.alloc())?;
-            assert!(rt; is_foo(&parsed), "split at {at}");
-        }
-        let body = RawData::Single(&BODY);
-        let info = record_of(2, body).parse(rt.alloc());
-        assert!(rt; matches!(info, Err(error) if error.kind() == ErrorKind::UnexpectedEof));
-        let moved = record_of(1, body).parse(rt.alloc());
-        assert!(rt; matches!(moved, Err(error) if error.kind() == ErrorKind::UnexpectedEof));
-        let unwinding = record_of(4, body).parse(rt.alloc());
-        assert!(rt; matches!(unwinding, Err(error) if error.kind() == ErrorKind::UnexpectedEof));
-        let closing = record_of(3, body).parse(rt.alloc())?;
-        assert!(rt; matches!(closing, JitDumpRecord::CodeClose));
-        let other = record_of(5, body).parse(rt.alloc())?;
-        assert!(rt; matches!(&other, JitDumpRecord::Other(raw) if raw.body.len() == 46));
-        Ok(())
     }
 }

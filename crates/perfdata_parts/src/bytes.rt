@@ -1,3 +1,4 @@
+//! Bytes of a promised length.
 ghost use Rattle.std.specs.Prelude.{◌≡◌};
 ghost use Rattle.perfdata_parts.specs.Part.{ReadsBytes, TellsFault, error_of};
 

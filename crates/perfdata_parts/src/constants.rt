@@ -1,3 +1,5 @@
+//! Numbers of record types and of simpleperf.
+
 /// An event's attribute, and the ids of its records.
 pub const PERF_RECORD_HEADER_ATTR: u32 = 64;
 

@@ -1,3 +1,4 @@
+//! The faults of a protobuf message.
 ghost use Rattle.std.specs.Prelude.{◌≡◌};
 ghost use Rattle.perfdata_parts.specs.declared.decode_error.DecodeError.TheVariants.{Memory as OfMemory};
 
@@ -46,29 +47,5 @@ impl<T: Drop> From<AllocFailed<T>> for DecodeError {
 
     fn from(_error: AllocFailed<T>) -> DecodeError {
         DecodeError::Memory
-    }
-}
-
-#[cfg(test)]
-mod tests {
-    use super::*;
-    use std::test::Fail;
-
-    #[test]
-    fn shows_its_name(rt: HostRuntime) -> Result<(), Fail> {
-        for (error, name) in [
-            (DecodeError::Truncated, "Truncated"),
-            (DecodeError::Varint, "Varint"),
-            (DecodeError::Key, "Key"),
-            (DecodeError::WireType, "WireType"),
-            (DecodeError::Group, "Group"),
-            (DecodeError::Depth, "Depth"),
-            (DecodeError::Utf8, "Utf8"),
-            (DecodeError::Memory, "Memory"),
-        ] {
-            let shown = format!(in rt.alloc(); "{error}")?;
-            assert_eq!(rt; shown.as_str(), name);
-        }
-        Ok(())
     }
 }

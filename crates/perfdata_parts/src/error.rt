@@ -1,10 +1,11 @@
+//! The errors of an opening and of a reading.
 ghost use Rattle.std.specs.Prelude.{◌≡◌};
 ghost use Rattle.perfdata_parts.specs.Error.{IsShort, IsUnsupported};
 ghost use Rattle.perfdata_parts.specs.declared.error.Error.TheVariants.{Memory as OfMemory, Read as OfRead, IoError as OfIo, StringUtf8 as OfUtf8};
 
 use crate::decode_error::DecodeError;
 use perfdata_base::source;
-use std::alloc::AllocError;
+use std::alloc::{AllocError, AllocFailed};
 use std::io;
 use std::io::ErrorKind;
 use std::str::Utf8Error;
@@ -13,24 +14,34 @@ use thiserror::Error;
 /// Which part of a file could not be read.
 #[derive(Clone, Copy, Debug, PartialEq, Eq, Error)]
 pub enum ReadError {
+    /// The header of a file: never answered, a header that is cut is `IoError`.
     #[error("Could not read PerfHeader")]
     PerfHeader,
+    /// The data section ends past 2^64 - 1, so no section can stand behind it.
     #[error("Could not read FeatureSection")]
     FeatureSection,
+    /// The section of build ids: never answered, entries end where one is cut.
     #[error("Could not read BuildIdSection")]
     BuildIdSection,
+    /// The length of a string: never answered, see `NotEnoughSpaceForStringLen`.
     #[error("Could not read StringLen")]
     StringLen,
+    /// A string: never answered, see `StringLengthTooLong`.
     #[error("Could not read String")]
     String,
+    /// The number of processors: never answered, a section that is cut is `IoError`.
     #[error("Could not read NrCpus")]
     NrCpus,
+    /// The attribute section: never answered, see `PerfEventAttr`.
     #[error("Could not read AttrsSection")]
     AttrsSection,
+    /// An attribute, or its ids, ended early or can't lie where the file says.
     #[error("Could not read PerfEventAttr")]
     PerfEventAttr,
+    /// A record's head: never answered, a head that is cut is `IoError`.
     #[error("Could not read PerfEventHeader")]
     PerfEventHeader,
+    /// A record's body or auxiliary data ended early, the source failed there, or they end past 2^64 - 1.
     #[error("Could not read PerfEvent data")]
     PerfEventData,
 }
@@ -47,8 +58,10 @@ pub enum Error {
     /// The first eight bytes are those of no perf.data file.
     #[error("Did not recognize magic value {0:?}")]
     UnrecognizedMagicValue([u8; 8]),
+    /// Never answered: sizes are numbers of 64 bits here.
     #[error("Section size did not fit into usize")]
     SectionSizeTooBig,
+    /// No attribute came, or its section has no room for one.
     #[error("The file declares no perf event attributes, so samples cannot be parsed")]
     NoAttributes,
     /// An attribute's own size, in bytes, is above the size of an entry of the attribute section.
@@ -60,26 +73,37 @@ pub enum Error {
     /// The index of the first attribute that differs from the first in SAMPLE_ID_ALL.
     #[error("The file contains multiple events but attr {0} does not agree with attr zero about SAMPLE_ID_ALL")]
     InconsistentSampleIdAllWithMultiEvent(usize),
+    /// A section of a string has fewer than four bytes.
     #[error("The section wasn't big enough to contain the u32 string length")]
     NotEnoughSpaceForStringLen,
+    /// A section of strings has fewer than four bytes.
     #[error("The section wasn't big enough to contain the u32 string list length")]
     NotEnoughSpaceForStringListLen,
+    /// A section of a fixed size is shorter than it.
     #[error("The feature section wasn't big enough")]
     FeatureSectionTooSmall,
+    /// Simpleperf's meta info has no event types, or not of the form name, type, config.
     #[error("No event types found in the simpleperf meta info section")]
     NoEventTypesInSimpleperfMetaInfo,
+    /// A message of the section SIMPLEPERF_FILE2 has this fault.
     #[error("Protobuf parsing error in Simpleperf file feature: {0}")]
     ProtobufParsingSimpleperfFileSection(DecodeError),
+    /// A record of the section SIMPLEPERF_FILE ends early or isn't one.
     #[error("Parsing error in Simpleperf file v1 feature: {0}")]
     ParsingSimpleperfFileV1Section(io::Error),
+    /// A string is to be longer than its section.
     #[error("The indicated string length wouldn't fit in the indicated section size")]
     StringLengthTooLong,
+    /// Never answered: a count of four bytes fits.
     #[error("The indicated string list length wouldn't fit into usize")]
     StringListLengthBiggerThanUsize,
+    /// Never answered: a length of four bytes fits.
     #[error("The indicated string length wouldn't fit into usize")]
     StringLengthBiggerThanUsize,
+    /// A text isn't UTF-8.
     #[error("The string was not valid utf-8")]
     StringUtf8,
+    /// A record's size is below the eight bytes of its head.
     #[error("The specified size in the perf event header was smaller than the header itself")]
     InvalidPerfEventSize,
     /// An earlier call refused, and nothing is read any more.
@@ -122,6 +146,15 @@ impl From<AllocError> for Error {
     }
 }
 
+// What a collection refuses with where memory runs out: so that a caller's `vec.push(x)?` converts.
+impl<T: Drop> From<AllocFailed<T>> for Error {
+    ghost from_gives = { λ _ error. error ≡ OfMemory };
+
+    fn from(_failed: AllocFailed<T>) -> Error {
+        Error::from(AllocError)
+    }
+}
+
 /// The error of bytes that ended early where no part is to be named.
 pub fn short() -> Error
     ensures { IsShort result }
@@ -134,151 +167,4 @@ pub fn unsupported() -> Error
     ensures { IsUnsupported result }
 {
     Error::IoError(io::Error::from(ErrorKind::Unsupported))
-}
-
-#[cfg(test)]
-mod tests {
-    use super::*;
-    use std::process::Abort;
-    use std::test::Fail;
-
-    fn shows(rt: &(impl Abort + AllocGlobal), error: &Error, text: &str) -> Result<(), Fail> {
-        let shown = format!(in rt.alloc(); "{error}")?;
-        assert_eq!(rt; shown.as_str(), text);
-        Ok(())
-    }
-
-    #[test]
-    fn shows_each_part(rt: HostRuntime) -> Result<(), Fail> {
-        for (part, name) in [
-            (ReadError::PerfHeader, "PerfHeader"),
-            (ReadError::FeatureSection, "FeatureSection"),
-            (ReadError::BuildIdSection, "BuildIdSection"),
-            (ReadError::StringLen, "StringLen"),
-            (ReadError::String, "String"),
-            (ReadError::NrCpus, "NrCpus"),
-            (ReadError::AttrsSection, "AttrsSection"),
-            (ReadError::PerfEventAttr, "PerfEventAttr"),
-            (ReadError::PerfEventHeader, "PerfEventHeader"),
-            (ReadError::PerfEventData, "PerfEvent data"),
-        ] {
-            let text = format!(in rt.alloc(); "Read error: Could not read {name}")?;
-            shows(&rt, &Error::Read(part), text.as_str())?;
-        }
-        Ok(())
-    }
-
-    #[test]
-    fn shows_what_errors_hold(rt: HostRuntime) -> Result<(), Fail> {
-        let short = short();
-        shows(&rt, &short, "I/O error: unexpected end of file")?;
-        let magic = Error::UnrecognizedMagicValue([0, 1, 2, 3, 4, 5, 6, 255]);
-        shows(
-            &rt,
-            &magic,
-            "Did not recognize magic value [0, 1, 2, 3, 4, 5, 6, 255]",
-        )?;
-        let sizes = Error::InconsistentAttributeSizes(64, 56);
-        shows(
-            &rt,
-            &sizes,
-            "Inconsistent attribute sizes: The self-reported size in the attribute was 64 bytes, which is larger than the the attribute size specified in the file header (56 bytes)",
-        )?;
-        let identifier = Error::NoIdentifierDespiteMultiEvent(1);
-        shows(
-            &rt,
-            &identifier,
-            "The file contains multiple events but attr 1 does not specify IDENTIFIER",
-        )?;
-        let flag = Error::InconsistentSampleIdAllWithMultiEvent(2);
-        shows(
-            &rt,
-            &flag,
-            "The file contains multiple events but attr 2 does not agree with attr zero about SAMPLE_ID_ALL",
-        )?;
-        let message = Error::ProtobufParsingSimpleperfFileSection(DecodeError::WireType);
-        shows(
-            &rt,
-            &message,
-            "Protobuf parsing error in Simpleperf file feature: WireType",
-        )?;
-        let old = Error::ParsingSimpleperfFileV1Section(io::Error::from(ErrorKind::UnexpectedEof));
-        shows(
-            &rt,
-            &old,
-            "Parsing error in Simpleperf file v1 feature: unexpected end of file",
-        )
-    }
-
-    #[test]
-    fn shows_plain_errors(rt: HostRuntime) -> Result<(), Fail> {
-        shows(
-            &rt,
-            &Error::SectionSizeTooBig,
-            "Section size did not fit into usize",
-        )?;
-        shows(
-            &rt,
-            &Error::NoAttributes,
-            "The file declares no perf event attributes, so samples cannot be parsed",
-        )?;
-        shows(
-            &rt,
-            &Error::NotEnoughSpaceForStringLen,
-            "The section wasn't big enough to contain the u32 string length",
-        )?;
-        shows(
-            &rt,
-            &Error::NotEnoughSpaceForStringListLen,
-            "The section wasn't big enough to contain the u32 string list length",
-        )?;
-        shows(
-            &rt,
-            &Error::FeatureSectionTooSmall,
-            "The feature section wasn't big enough",
-        )?;
-        shows(
-            &rt,
-            &Error::NoEventTypesInSimpleperfMetaInfo,
-            "No event types found in the simpleperf meta info section",
-        )?;
-        shows(
-            &rt,
-            &Error::StringLengthTooLong,
-            "The indicated string length wouldn't fit in the indicated section size",
-        )?;
-        shows(
-            &rt,
-            &Error::StringListLengthBiggerThanUsize,
-            "The indicated string list length wouldn't fit into usize",
-        )?;
-        shows(
-            &rt,
-            &Error::StringLengthBiggerThanUsize,
-            "The indicated string length wouldn't fit into usize",
-        )?;
-        shows(&rt, &Error::StringUtf8, "The string was not valid utf-8")?;
-        shows(
-            &rt,
-            &Error::InvalidPerfEventSize,
-            "The specified size in the perf event header was smaller than the header itself",
-        )?;
-        shows(&rt, &Error::Failed, "The iterator has failed")?;
-        shows(&rt, &Error::Memory, "Out of memory")
-    }
-
-    #[test]
-    fn comes_from_other_errors(rt: HostRuntime) {
-        let part = Error::from(ReadError::NrCpus);
-        assert!(rt; matches!(part, Error::Read(ReadError::NrCpus)));
-        let fault = Error::from(io::Error::from(ErrorKind::OutOfMemory));
-        assert!(rt; matches!(fault, Error::IoError(_)));
-        if let Err(invalid) = std::str::from_utf8(b"\xff") {
-            assert!(rt; matches!(Error::from(invalid), Error::StringUtf8));
-        }
-        assert!(rt; matches!(Error::from(AllocError), Error::Memory));
-        assert!(rt;
-            matches!(unsupported(), Error::IoError(error) if error.kind() == ErrorKind::Unsupported)
-        );
-    }
 }

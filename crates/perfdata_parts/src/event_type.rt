@@ -1,10 +1,14 @@
+//! An event type of simpleperf.
 ghost use Rattle.std.specs.Prelude.{◌≡◌};
 
 /// An event of a recording by simpleperf, as the recording's meta info tells it.
 #[derive(Drop)]
 pub struct SimplePerfEventType {
+    /// The event's name.
     pub name: String,
+    /// The kind of event, as in an attribute.
     pub type_: u64,
+    /// Which event of its kind, as in an attribute.
     pub config: u64,
 }
 
@@ -20,20 +24,5 @@ impl SimplePerfEventType {
             type_,
             config,
         }
-    }
-}
-
-#[cfg(test)]
-mod tests {
-    use super::*;
-    use std::test::Fail;
-
-    #[test]
-    fn holds_what_it_is_made_of(rt: HostRuntime) -> Result<(), Fail> {
-        let name = String::from_str(rt.alloc(), "cpu-clock")?;
-        let event = SimplePerfEventType::new(name, 1, 2);
-        assert_eq!(rt; event.name.as_str(), "cpu-clock");
-        assert_eq!(rt; (event.type_, event.config), (1, 2));
-        Ok(())
     }
 }

@@ -1,3 +1,4 @@
+//! The sections that tell attributes, and those of texts and numbers.
 ghost use Rattle.std.specs.Prelude.{◌≡◌, string_bytes};
 ghost use Rattle.std.specs.Option.{option_map};
 ghost use Rattle.perfdata_base.specs.Source.{State};
@@ -37,8 +38,11 @@ const KNOWN: usize = 136;
 /// An event's attribute, with its name and its ids where they are known.
 #[derive(Debug, Drop)]
 pub struct AttributeDescription {
+    /// What is recorded, and how.
     pub attr: PerfEventAttr,
+    /// The event's name, where the recording tells it.
     pub name: Option<String>,
+    /// The identifiers of its records.
     pub event_ids: Vec<u64>,
 }
 
@@ -283,200 +287,5 @@ impl AttributeDescription {
             attr_size,
             types,
         )
-    }
-}
-
-#[cfg(test)]
-mod tests {
-    use super::*;
-    use byteorder::{BigEndian, LittleEndian};
-    use perfdata_base::source::Counted;
-    use std::io::{Cursor, ErrorKind, Read, Seek};
-    use std::process::Abort;
-    use std::test::Fail;
-
-    // Eight other bytes, then two attributes whose size is told as 64 and as 0, every 72 bytes. The second frame's end
-    // isn't there.
-    fn two_frames() -> [u8; 144] {
-        let mut bytes = [0; 144];
-        bytes[12] = 64;
-        bytes[8 + 8] = 5;
-        bytes[80 + 8] = 6;
-        bytes
-    }
-
-    #[test]
-    fn reads_frames(rt: HostRuntime) -> Result<(), Fail> {
-        let bytes = two_frames();
-        let section = PerfFileSection {
-            offset: 8,
-            size: 145,
-        };
-        let mut cursor = Cursor::new(&bytes[..]);
-        let all = AttributeDescription::parse_attr_section::<_, LittleEndian>(
-            rt.alloc(),
-            &mut cursor,
-            &section,
-            72,
-        )?;
-        assert_eq!(rt; all.len(), 2);
-        for (description, config) in all.iter().zip([5, 6]) {
-            let attr = description.attributes();
-            assert_eq!(rt; attr.size, 64);
-            assert_eq!(rt; attr.config, config);
-            assert_eq!(rt; description.name(), None);
-            assert!(rt; description.ids().is_empty());
-        }
-        let empty = PerfFileSection {
-            offset: u64::MAX,
-            size: 0,
-        };
-        let none = AttributeDescription::parse_attr_section::<_, BigEndian>(
-            rt.alloc(),
-            &mut cursor,
-            &empty,
-            72,
-        )?;
-        assert!(rt; none.is_empty());
-        Ok(())
-    }
-
-    // Of a field that isn't told nothing is read, whatever stands behind the attribute's own size.
-    #[test]
-    fn reads_as_many_fields_as_the_size_tells(rt: HostRuntime) -> Result<(), Fail> {
-        const SEVENS: u64 = 0x0707_0707_0707_0707;
-        let section = PerfFileSection {
-            offset: 0,
-            size: 136,
-        };
-        for (told, own, config2, config3) in [
-            (0, 64, 0, 0),
-            (72, 72, SEVENS, 0),
-            (136, 136, SEVENS, SEVENS),
-        ] {
-            let mut bytes = [7; 136];
-            bytes[4..8].copy_from_slice(&[told, 0, 0, 0]);
-            let all = AttributeDescription::parse_attr_section::<_, LittleEndian>(
-                rt.alloc(),
-                Cursor::new(&bytes[..]),
-                &section,
-                136,
-            )?;
-            assert_eq!(rt; all.len(), 1);
-            for description in &all {
-                let attr = description.attributes();
-                assert_eq!(rt; attr.size, own);
-                assert_eq!(rt; attr.config1, SEVENS);
-                assert_eq!(rt; attr.config2, config2);
-                assert_eq!(rt; attr.branch_sample_type, config3);
-                assert_eq!(rt; attr.config3, config3);
-            }
-        }
-        Ok(())
-    }
-
-    fn refusal<C: PlacedSource + Drop>(
-        rt: &(impl Abort + AllocGlobal),
-        source: C,
-        offset: u64,
-        size: u64,
-        attr_size: u64,
-    ) -> Error {
-        let section = PerfFileSection { offset, size };
-        match AttributeDescription::parse_attr_section::<C, LittleEndian>(
-            rt.alloc(),
-            source,
-            &section,
-            attr_size,
-        ) {
-            Ok(_) => Error::Failed,
-            Err(error) => error,
-        }
-    }
-
-    #[test]
-    fn refuses_frames(rt: HostRuntime) {
-        let mut bytes = two_frames();
-        let whole = Cursor::new(&bytes[..]);
-        assert!(rt;
-            matches!(
-                refusal(&rt, whole, 8, 56, 56),
-                Error::InconsistentAttributeSizes(64, 56)
-            )
-        );
-        for (held, offset, size, attr_size) in [
-            (144, 8, 64, 0),
-            (144, u64::MAX, 1, 64),
-            (143, 8, 144, 72),
-            (15, 8, 72, 72),
-            (144, 200, 64, 64),
-        ] {
-            let cut = Cursor::new(&bytes[..held]);
-            assert!(rt;
-                matches!(
-                    refusal(&rt, cut, offset, size, attr_size),
-                    Error::Read(ReadError::PerfEventAttr)
-                )
-            );
-        }
-        bytes[12] = 63;
-        let small = Cursor::new(&bytes[..]);
-        assert!(rt;
-            matches!(
-                refusal(&rt, small, 8, 64, 64),
-                Error::Read(ReadError::PerfEventAttr)
-            )
-        );
-    }
-
-    // Fails at each read, and at each seek or at none.
-    #[derive(Drop)]
-    struct Broken {
-        seeks: bool,
-    }
-
-    impl Read for Broken {
-        fn read(&mut self, _place: &mut [u8]) -> std::io::Result<usize> {
-            Err(std::io::Error::from(ErrorKind::Other))
-        }
-    }
-
-    impl Seek for Broken {
-        fn seek(&mut self, _to: SeekFrom) -> std::io::Result<u64> {
-            if self.seeks {
-                Ok(0)
-            } else {
-                Err(std::io::Error::from(ErrorKind::BrokenPipe))
-            }
-        }
-    }
-
-    #[test]
-    fn tells_read_faults_from_seek_faults(rt: HostRuntime) {
-        let unread = Counted::new(Broken { seeks: true });
-        assert!(rt;
-            matches!(
-                refusal(&rt, unread, 0, 64, 64),
-                Error::Read(ReadError::PerfEventAttr)
-            )
-        );
-        let unsought = Counted::new(Broken { seeks: false });
-        assert!(rt;
-            matches!(refusal(&rt, unsought, 0, 64, 64), Error::IoError(error) if error.kind() == ErrorKind::BrokenPipe)
-        );
-    }
-
-    #[test]
-    fn tells_a_name(rt: HostRuntime) -> Result<(), Fail> {
-        let bytes = two_frames();
-        let (attr, _) = PerfEventAttr::parse::<_, LittleEndian>(&bytes[8..])?;
-        let description = AttributeDescription {
-            attr,
-            name: Some(String::from_str(rt.alloc(), "cycles")?),
-            event_ids: Vec::from_array(rt.alloc(), [7, 8])?,
-        };
-        assert_eq!(rt; description.name(), Some("cycles"));
-        assert_eq!(rt; description.ids(), [7, 8].as_slice());
-        Ok(())
     }
 }

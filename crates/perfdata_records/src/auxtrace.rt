@@ -1,3 +1,4 @@
+//! A record of auxiliary data.
 ghost use Rattle.std.specs.Prelude.{◌↔◌, IsOk, IfOk, IfErr};
 ghost use Rattle.std.specs.IoError.{error_kind};
 ghost use Rattle.std.specs.declared.io.ErrorKind.TheVariants.{InvalidData};
@@ -67,77 +68,3 @@ impl<'a> Auxtrace<'a> {
 pub fn auxiliary_bodies_hold()
     ensures { AuxiliaryBodiesHold }
 {}
-
-#[cfg(test)]
-mod tests {
-    use super::*;
-    use byteorder::{BigEndian, LittleEndian};
-    use std::result::Result;
-    use std::test::Fail;
-
-    // A trace of one byte of data, and a byte behind it.
-    const BODY: [u8; 42] = [
-        1, 0, 0, 0, 0, 0, 0, 0, 0, 0, 0, 0, 0, 0, 0, 0, 0xf9, 0xcd, 0x2a, 0x49, 0x28, 4, 0, 0, 8,
-        0, 0, 0, 0x7a, 0x24, 0, 0, 8, 0, 0, 0, 0, 0, 0, 0, 0, 7,
-    ];
-
-    #[test]
-    fn parses_wherever_it_is_split(rt: HostRuntime) -> Result<(), Fail> {
-        let body = &BODY[..41];
-        let whole = Auxtrace::parse::<LittleEndian>(RawData::Single(body))?;
-        assert_eq!(rt; whole.size, 1);
-        assert_eq!(rt; whole.offset, 0);
-        assert_eq!(rt; whole.reference, 0x428_492a_cdf9);
-        assert_eq!(rt; whole.index, 8);
-        assert_eq!(rt; whole.tid, 0x247a);
-        assert_eq!(rt; whole.cpu, 8);
-        assert!(rt; whole.aux_data == RawData::Single(&[0]));
-        for at in 0..42usize {
-            let (front, back) = body.split_at(at);
-            let trace = Auxtrace::parse::<LittleEndian>(RawData::Split(front, back))?;
-            assert!(rt; trace == whole, "split at {at}");
-        }
-        Ok(())
-    }
-
-    #[test]
-    fn parses_big_endian(rt: HostRuntime) -> Result<(), Fail> {
-        let mut body = [0; 42];
-        for (at, value) in [
-            (7usize, 2),
-            (15, 3),
-            (23, 4),
-            (27, 5),
-            (31, 6),
-            (35, 7),
-            (39, 8),
-        ] {
-            body[at] = value;
-        }
-        body[41] = 9;
-        let trace = Auxtrace::parse::<BigEndian>(RawData::Single(&body))?;
-        assert_eq!(rt; (trace.size, trace.offset, trace.reference), (2, 3, 4));
-        assert_eq!(rt; (trace.index, trace.tid, trace.cpu), (5, 6, 7));
-        assert!(rt; trace.aux_data == RawData::Single(&[0, 9]));
-        Ok(())
-    }
-
-    #[test]
-    fn refuses_other_lengths(rt: HostRuntime) {
-        for (count, kind) in [
-            (0usize, ErrorKind::UnexpectedEof),
-            (39, ErrorKind::UnexpectedEof),
-            (40, ErrorKind::InvalidData),
-            (42, ErrorKind::InvalidData),
-        ] {
-            for at in 0..count + 1 {
-                let (front, back) = BODY[..count].split_at(at);
-                let got = Auxtrace::parse::<LittleEndian>(RawData::Split(front, back));
-                assert!(rt;
-                    matches!(&got, Err(error) if error.kind() == kind),
-                    "{count} split at {at}"
-                );
-            }
-        }
-    }
-}

@@ -1,3 +1,4 @@
+//! An entry of the section BUILD_ID.
 ghost use Rattle.std.specs.Prelude.{◌≡◌, length};
 ghost use Rattle.perfdata_base.specs.Source.{State};
 ghost use Rattle.perfdata_records.specs.BuildId.{IsTrimmed, IsIdIn, ReadsEntry, ParsesEntry};
@@ -14,6 +15,7 @@ use std::io;
 /// An entry of the section BUILD_ID (perf's `build_id_event`): the build id of the object at a path.
 #[derive(Debug, Drop)]
 pub struct BuildIdEvent {
+    /// The entry's head: its size, and by its misc bits how long the build id is.
     pub header: PerfEventHeader,
     /// The process, which is -1 mostly.
     pub _pid: i32,
@@ -120,126 +122,5 @@ impl BuildIdEvent {
             Ok(entry) => Ok(entry),
             Err(fault) => Err(as_io(fault)),
         }
-    }
-}
-
-#[cfg(test)]
-mod tests {
-    use super::*;
-    use byteorder::{BigEndian, LittleEndian};
-    use std::io::ErrorKind;
-    use std::test::Fail;
-
-    // The front of an entry of this misc and size, with these bytes for the build id.
-    fn front(misc: u16, size: u16, id: [u8; 24]) -> [u8; 36] {
-        let mut bytes = [0xffu8; 36];
-        bytes[..4].copy_from_slice(&67u32.to_le_bytes());
-        bytes[4..6].copy_from_slice(&misc.to_le_bytes());
-        bytes[6..8].copy_from_slice(&size.to_le_bytes());
-        bytes[12..].copy_from_slice(&id);
-        bytes
-    }
-
-    // Zeros, but for the bytes from one place on and one further byte.
-    fn id_bytes(first: &[u8], place: usize, byte: u8) -> [u8; 24] {
-        let mut bytes = [0u8; 24];
-        for (slot, byte) in bytes.iter_mut().zip(first) {
-            *slot = *byte;
-        }
-        if let Some(slot) = bytes.get_mut(place) {
-            *slot = byte;
-        }
-        bytes
-    }
-
-    #[test]
-    fn tells_the_length_of_a_build_id(rt: HostRuntime) -> Result<(), Fail> {
-        for (misc, place, byte, length) in [
-            (2u16, 5usize, 0u8, 8usize),
-            (2, 7, 1, 8),
-            (2, 8, 1, 12),
-            (2, 19, 1, 20),
-            (2, 20, 9, 8),
-            (0x4002, 20, 3, 8),
-            (0x8000, 20, 200, 20),
-            (0x8002, 20, 20, 20),
-            (0x8002, 20, 3, 3),
-            (0x8002, 20, 0, 0),
-        ] {
-            let id = id_bytes(&[1, 2, 3, 4, 5], place, byte);
-            let bytes = front(misc, 36, id);
-            let entry = BuildIdEvent::parse::<_, LittleEndian>(rt.alloc(), bytes.as_slice())?;
-            let wanted = id.get(..length).unwrap_or(&[]);
-            assert_eq!(rt; entry.build_id.as_slice(), wanted, "{misc} {place} {byte}");
-            assert_eq!(rt; entry._pid, -1);
-            assert_eq!(rt; entry.header.misc, misc);
-        }
-        let bytes = front(2, 10, [0; 24]);
-        let entry = BuildIdEvent::parse::<_, LittleEndian>(rt.alloc(), bytes.as_slice())?;
-        assert!(rt; entry.build_id.is_empty() && entry.file_path.is_empty());
-        Ok(())
-    }
-
-    #[test]
-    fn reads_zeros_of_a_size_below_36_as_empty(rt: HostRuntime) -> Result<(), Fail> {
-        // a head with type 67, misc 2 and size 10, and 28 zero bytes
-        let mut bytes = [0u8; 36];
-        bytes[..8].copy_from_slice(&[67, 0, 0, 0, 2, 0, 10, 0]);
-        let mut source = bytes.as_slice();
-        let entry = BuildIdEvent::read_from::<_, LittleEndian>(rt.alloc(), &mut source)?;
-        assert!(rt; source.is_empty());
-        assert_eq!(rt; entry._pid, 0);
-        assert_eq!(rt; entry.header.size, 10);
-        assert!(rt; entry.build_id.is_empty() && entry.file_path.is_empty());
-        let entry = BuildIdEvent::parse::<_, LittleEndian>(rt.alloc(), bytes.as_slice())?;
-        assert!(rt; entry.build_id.is_empty() && entry.file_path.is_empty());
-        Ok(())
-    }
-
-    #[test]
-    fn reads_as_much_as_the_size_says(rt: HostRuntime) -> Result<(), Fail> {
-        let path = b"/a\0/b\0";
-        for (size, taken, text) in [
-            (10u16, 36usize, b"" as &[u8]),
-            (36, 36, b""),
-            (38, 38, b"/a"),
-            (41, 41, b"/a"),
-            (42, 42, b"/a"),
-        ] {
-            let mut bytes = front(2, size, [1; 24]).to_vec(rt.alloc())?;
-            bytes.extend_from_slice(path)?;
-            let mut source = bytes.as_slice();
-            let entry = BuildIdEvent::read_from::<_, LittleEndian>(rt.alloc(), &mut source)?;
-            assert_eq!(rt; entry.file_path.as_slice(), text, "of size {size}");
-            assert_eq!(rt;
-                source.len(),
-                bytes.len().saturating_sub(taken),
-                "of size {size}"
-            );
-            assert_eq!(rt; entry.header.size, size);
-            assert_eq!(rt; entry.header.type_, 67);
-        }
-        Ok(())
-    }
-
-    #[test]
-    fn is_short_where_bytes_are_missing(rt: HostRuntime) -> Result<(), Fail> {
-        let mut bytes = front(2, 0, [1; 24]);
-        // size 38, big-endian
-        bytes[7] = 38;
-        let mut bytes = bytes.to_vec(rt.alloc())?;
-        bytes.extend_from_slice(b"/a")?;
-        for held in [0usize, 7, 35, 36, 37] {
-            let part = bytes.get(..held).unwrap_or(&[]);
-            let entry = BuildIdEvent::parse::<_, BigEndian>(rt.alloc(), part);
-            assert!(rt;
-                matches!(&entry, Err(error) if error.kind() == ErrorKind::UnexpectedEof),
-                "with {held}"
-            );
-        }
-        let entry = BuildIdEvent::parse::<_, BigEndian>(rt.alloc(), bytes.as_slice())?;
-        assert_eq!(rt; entry.file_path.as_slice(), b"/a".as_slice());
-        assert_eq!(rt; entry.header.misc, 0x200);
-        Ok(())
     }
 }

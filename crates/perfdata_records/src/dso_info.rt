@@ -1,3 +1,5 @@
+//! What is told of a mapped object.
+
 /// The path of a mapped object and its build id, as the section BUILD_ID of a perf.data file has them.
 #[derive(Debug, PartialEq, Eq, Hash, Drop)]
 pub struct DsoInfo {

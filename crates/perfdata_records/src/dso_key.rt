@@ -1,3 +1,4 @@
+//! What a mapped object goes by.
 ghost use Rattle.std.specs.Prelude.{◌≡◌, ◌++◌, IfOk, string_bytes};
 ghost use Rattle.perfdata_records.specs.DsoKey.{name_of, lossy, file_name_of, is_unmapped, Detects, FindsOwn, FindsModule};
 
@@ -10,16 +11,24 @@ use std::alloc::{AllocError, Global};
 /// mappings of the kernel have `[kernel.kallsyms]_text`, and its build id `[kernel.kallsyms]` or `/boot/vmlinux`.
 #[derive(Debug, PartialEq, Eq, Hash, Drop)]
 pub enum DsoKey {
+    /// The kernel.
     Kernel,
+    /// A guest's kernel.
     GuestKernel,
+    /// What the kernel maps into programs, of 32 bits.
     Vdso32,
+    /// The same, of the x32 programs.
     VdsoX32,
+    /// The same, of 64 bits.
     Vdso64,
+    /// The page of old system calls.
     Vsyscall,
+    /// A module of the kernel.
     KernelModule {
         /// The module's name in brackets, as `[snd-seq-device]`.
         name: String,
     },
+    /// A file that a program maps.
     User {
         /// The name of the file, with U+FFFD for what isn't UTF-8.
         file_name: String,
@@ -162,135 +171,5 @@ impl DsoKey {
             DsoKey::KernelModule { name } => name.as_str(),
             DsoKey::User { file_name, .. } => file_name.as_str(),
         }
-    }
-}
-
-#[cfg(test)]
-mod tests {
-    use super::*;
-    use std::hash::{DefaultHasher, Hash, Hasher};
-    use std::test::Fail;
-
-    const MODES: [CpuMode; 6] = [
-        CpuMode::Kernel,
-        CpuMode::GuestKernel,
-        CpuMode::User,
-        CpuMode::GuestUser,
-        CpuMode::Hypervisor,
-        CpuMode::Unknown,
-    ];
-
-    // A path, the letter of its key in each of the modes, the name of its module and that of its file.
-    type Row = (&'static [u8], [u8; 6], &'static str, &'static str);
-
-    const ROWS: [Row; 26] = [
-        (b"//anon", *b"------", "", ""),
-        (b"[stack]", *b"------", "", ""),
-        (b"[heap]", *b"------", "", ""),
-        (b"[vvar]", *b"------", "", ""),
-        (b"[kernel.kallsyms]", *b"KGKKKK", "", ""),
-        (b"[kernel.kallsyms]_text", *b"KGKKKK", "", ""),
-        (b"[guest.kernel.kallsyms", *b"GGGGGG", "", ""),
-        (b"[guest.kernel.kallsyms.7]", *b"GGGGGG", "", ""),
-        (b"[vdso32]", *b"333333", "", ""),
-        (b"[vdsox32]", *b"XXXXXX", "", ""),
-        (b"[vdso]", *b"666666", "", ""),
-        (b"[vsyscall]", *b"SSSSSS", "", ""),
-        (b"[snd]", *b"MMUU--", "[snd]", "[snd]"),
-        (
-            b"[vdso]\xff",
-            *b"MMUU--",
-            "[vdso]\u{fffd}",
-            "[vdso]\u{fffd}",
-        ),
-        (
-            b"/lib/modules/5.13.0-35-generic/kernel/sound/core/snd-seq-device.ko",
-            *b"MMUU--",
-            "[snd-seq-device]",
-            "snd-seq-device.ko",
-        ),
-        (b"/m/\xff.ko", *b"MMUU--", "[\u{fffd}]", "\u{fffd}.ko"),
-        (b"a.ko", *b"MMUU--", "[a]", "a.ko"),
-        (b".ko", *b"MMUU--", "[]", ".ko"),
-        (b"/full/path/to/vmlinux", *b"KGUU--", "", "vmlinux"),
-        (b"/a/x", *b"KGUU--", "", "x"),
-        (b"x", *b"KGUU--", "", "x"),
-        (b"ko", *b"KGUU--", "", "ko"),
-        (b"/a.ko/", *b"KGUU--", "", ""),
-        (b"/x/[vdso]", *b"KGUU--", "", "[vdso]"),
-        (b"//anon2", *b"KGUU--", "", "anon2"),
-        (b"", *b"KGUU--", "", ""),
-    ];
-
-    // The letter of a key.
-    fn letter(key: &Option<DsoKey>) -> u8 {
-        match key {
-            None => b'-',
-            Some(DsoKey::Kernel) => b'K',
-            Some(DsoKey::GuestKernel) => b'G',
-            Some(DsoKey::Vdso32) => b'3',
-            Some(DsoKey::VdsoX32) => b'X',
-            Some(DsoKey::Vdso64) => b'6',
-            Some(DsoKey::Vsyscall) => b'S',
-            Some(DsoKey::KernelModule { .. }) => b'M',
-            Some(DsoKey::User { .. }) => b'U',
-        }
-    }
-
-    // The name that a key of this letter has.
-    fn name(letter: u8, module: &'static str, file: &'static str) -> &'static str {
-        match letter {
-            b'K' => "[kernel.kallsyms]",
-            b'G' => "[guest.kernel.kallsyms]",
-            b'3' => "[vdso32]",
-            b'X' => "[vdsox32]",
-            b'6' => "[vdso]",
-            b'S' => "[vsyscall]",
-            b'M' => module,
-            _ => file,
-        }
-    }
-
-    #[test]
-    fn detects_each_path_in_each_mode(rt: HostRuntime) -> Result<(), Fail> {
-        for (path, letters, module, file) in ROWS {
-            for (mode, wanted) in MODES.iter().zip(letters) {
-                let key = DsoKey::detect(rt.alloc(), path, *mode)?;
-                assert_eq!(rt; letter(&key), wanted, "{path:?} in {mode:?}");
-                if let Some(key) = key {
-                    let shown = name(wanted, module, file);
-                    assert_eq!(rt; key.name(), shown, "{path:?} in {mode:?}");
-                    if let DsoKey::User { full_path, .. } = &key {
-                        assert_eq!(rt; full_path.as_slice(), path);
-                    }
-                }
-            }
-        }
-        Ok(())
-    }
-
-    fn hash(key: &DsoKey) -> u64 {
-        let mut state = DefaultHasher::new();
-        key.hash(&mut state);
-        state.finish()
-    }
-
-    #[test]
-    fn equal_keys_hash_equally(rt: HostRuntime) -> Result<(), Fail> {
-        for (path, mode, other, equal) in [
-            (b"/a/x", CpuMode::User, b"/a/x", true),
-            (b"/a/x", CpuMode::User, b"/b/x", false),
-            (b"/a/x", CpuMode::Kernel, b"/b/y", true),
-            (b"a.ko", CpuMode::Kernel, b"b.ko", false),
-        ] {
-            let key = DsoKey::detect(rt.alloc(), path, mode)?;
-            let other = DsoKey::detect(rt.alloc(), other, mode)?;
-            if let (Some(key), Some(other)) = (&key, &other) {
-                assert_eq!(rt; *key == *other, equal, "{path:?}");
-                assert_eq!(rt; hash(key) == hash(other), equal, "{path:?}");
-            }
-            assert!(rt; key.is_some() && other.is_some());
-        }
-        Ok(())
     }
 }

@@ -1,3 +1,4 @@
+//! A record as it is handed out, and the types of those that tools write.
 ghost use Rattle.std.specs.Prelude.{◌≡◌, ◌≤◌, IsSome, IfSome, ◌↔◌};
 
 pub use crate::user_record::{HeaderAttr, HeaderFeature, UserRecord};
@@ -15,114 +16,142 @@ pub struct UserRecordType {
 
 /// The types that perf and simpleperf write.
 impl UserRecordType {
+    /// An attribute (type 64).
     pub const PERF_HEADER_ATTR: UserRecordType = UserRecordType {
         record_type: RecordType(PERF_RECORD_HEADER_ATTR),
     };
 
+    /// The name of an event, in old pipes (65).
     pub const PERF_HEADER_EVENT_TYPE: UserRecordType = UserRecordType {
         record_type: RecordType(PERF_RECORD_HEADER_EVENT_TYPE),
     };
 
+    /// The formats of tracepoints, behind it (66).
     pub const PERF_HEADER_TRACING_DATA: UserRecordType = UserRecordType {
         record_type: RecordType(PERF_RECORD_HEADER_TRACING_DATA),
     };
 
+    /// A build id (67).
     pub const PERF_HEADER_BUILD_ID: UserRecordType = UserRecordType {
         record_type: RecordType(PERF_RECORD_HEADER_BUILD_ID),
     };
 
+    /// The marker behind a round; never handed out (68).
     pub const PERF_FINISHED_ROUND: UserRecordType = UserRecordType {
         record_type: RecordType(PERF_RECORD_FINISHED_ROUND),
     };
 
+    /// Which identifier is which event (69).
     pub const PERF_ID_INDEX: UserRecordType = UserRecordType {
         record_type: RecordType(PERF_RECORD_ID_INDEX),
     };
 
+    /// What the auxiliary data are (70).
     pub const PERF_AUXTRACE_INFO: UserRecordType = UserRecordType {
         record_type: RecordType(PERF_RECORD_AUXTRACE_INFO),
     };
 
+    /// Auxiliary data, behind it (71).
     pub const PERF_AUXTRACE: UserRecordType = UserRecordType {
         record_type: RecordType(PERF_RECORD_AUXTRACE),
     };
 
+    /// A fault in auxiliary data (72).
     pub const PERF_AUXTRACE_ERROR: UserRecordType = UserRecordType {
         record_type: RecordType(PERF_RECORD_AUXTRACE_ERROR),
     };
 
+    /// The threads that were recorded (73).
     pub const PERF_THREAD_MAP: UserRecordType = UserRecordType {
         record_type: RecordType(PERF_RECORD_THREAD_MAP),
     };
 
+    /// The processors that were recorded (74).
     pub const PERF_CPU_MAP: UserRecordType = UserRecordType {
         record_type: RecordType(PERF_RECORD_CPU_MAP),
     };
 
+    /// How `perf stat` counted (75).
     pub const PERF_STAT_CONFIG: UserRecordType = UserRecordType {
         record_type: RecordType(PERF_RECORD_STAT_CONFIG),
     };
 
+    /// A count (76).
     pub const PERF_STAT: UserRecordType = UserRecordType {
         record_type: RecordType(PERF_RECORD_STAT),
     };
 
+    /// A round of counts (77).
     pub const PERF_STAT_ROUND: UserRecordType = UserRecordType {
         record_type: RecordType(PERF_RECORD_STAT_ROUND),
     };
 
+    /// A further word on an event, as its unit or name (78).
     pub const PERF_EVENT_UPDATE: UserRecordType = UserRecordType {
         record_type: RecordType(PERF_RECORD_EVENT_UPDATE),
     };
 
+    /// How times convert to those of the time stamp counter (79).
     pub const PERF_TIME_CONV: UserRecordType = UserRecordType {
         record_type: RecordType(PERF_RECORD_TIME_CONV),
     };
 
+    /// A feature (80).
     pub const PERF_HEADER_FEATURE: UserRecordType = UserRecordType {
         record_type: RecordType(PERF_RECORD_HEADER_FEATURE),
     };
 
+    /// Compressed records (81).
     pub const PERF_COMPRESSED: UserRecordType = UserRecordType {
         record_type: RecordType(PERF_RECORD_COMPRESSED),
     };
 
+    /// Compressed records, filled up to eight bytes (83).
     pub const PERF_COMPRESSED2: UserRecordType = UserRecordType {
         record_type: RecordType(PERF_RECORD_COMPRESSED2),
     };
 
+    /// The kernel's symbols.
     pub const SIMPLEPERF_KERNEL_SYMBOL: UserRecordType = UserRecordType {
         record_type: RecordType(SIMPLE_PERF_RECORD_KERNEL_SYMBOL),
     };
 
+    /// A mapped file.
     pub const SIMPLEPERF_DSO: UserRecordType = UserRecordType {
         record_type: RecordType(SIMPLE_PERF_RECORD_DSO),
     };
 
+    /// A symbol of a mapped file.
     pub const SIMPLEPERF_SYMBOL: UserRecordType = UserRecordType {
         record_type: RecordType(SIMPLE_PERF_RECORD_SYMBOL),
     };
 
+    /// A piece of a record that is longer than 65,535 bytes.
     pub const SIMPLEPERF_SPLIT: UserRecordType = UserRecordType {
         record_type: RecordType(SIMPLE_PERF_RECORD_SPLIT),
     };
 
+    /// The end of such pieces.
     pub const SIMPLEPERF_SPLIT_END: UserRecordType = UserRecordType {
         record_type: RecordType(SIMPLE_PERF_RECORD_SPLIT_END),
     };
 
+    /// Which identifier is which event.
     pub const SIMPLEPERF_EVENT_ID: UserRecordType = UserRecordType {
         record_type: RecordType(SIMPLE_PERF_RECORD_EVENT_ID),
     };
 
+    /// A call chain that was unwound.
     pub const SIMPLEPERF_CALLCHAIN: UserRecordType = UserRecordType {
         record_type: RecordType(SIMPLE_PERF_RECORD_CALLCHAIN),
     };
 
+    /// How an unwinding went.
     pub const SIMPLEPERF_UNWINDING_RESULT: UserRecordType = UserRecordType {
         record_type: RecordType(SIMPLE_PERF_RECORD_UNWINDING_RESULT),
     };
 
+    /// The formats of tracepoints.
     pub const SIMPLEPERF_TRACING_DATA: UserRecordType = UserRecordType {
         record_type: RecordType(SIMPLE_PERF_RECORD_TRACING_DATA),
     };
@@ -210,8 +239,11 @@ impl fmt::Debug for UserRecordType {
 /// A record that a tool wrote, as perf or simpleperf, whose body is lent.
 #[derive(Clone, Copy, Debug)]
 pub struct RawUserRecord<'a> {
+    /// The record's type, 64 or above.
     pub record_type: UserRecordType,
+    /// The order of its numbers.
     pub endian: Endianness,
+    /// Bits of the record.
     pub misc: u16,
     /// All bytes behind the head, auxiliary data included.
     pub body: RawData<'a>,
@@ -227,225 +259,4 @@ pub enum PerfFileRecord<'a> {
     },
     /// Written by a tool.
     UserRecord(RawUserRecord<'a>),
-}
-
-#[cfg(test)]
-mod tests {
-    use super::*;
-    use std::test::Fail;
-
-    #[test]
-    fn tells_user_types(rt: HostRuntime) {
-        for (number, is_user) in [
-            (0, false),
-            (9, false),
-            (63, false),
-            (64, true),
-            (u32::MAX, true),
-        ] {
-            let user = UserRecordType::try_from(RecordType(number));
-            assert_eq!(rt; user.is_some(), is_user, "at {number}");
-            if let Some(user) = user {
-                assert_eq!(rt; user.record_type(), RecordType(number));
-                assert_eq!(rt; RecordType::from(user), RecordType(number));
-            }
-        }
-    }
-
-    #[test]
-    fn names_the_constants(rt: HostRuntime) -> Result<(), Fail> {
-        for (user, constant, number, text) in [
-            (
-                UserRecordType::PERF_HEADER_ATTR,
-                PERF_RECORD_HEADER_ATTR,
-                64,
-                "\"PERF_HEADER_ATTR\"",
-            ),
-            (
-                UserRecordType::PERF_HEADER_EVENT_TYPE,
-                PERF_RECORD_HEADER_EVENT_TYPE,
-                65,
-                "\"PERF_HEADER_EVENT_TYPE\"",
-            ),
-            (
-                UserRecordType::PERF_HEADER_TRACING_DATA,
-                PERF_RECORD_HEADER_TRACING_DATA,
-                66,
-                "\"PERF_HEADER_TRACING_DATA\"",
-            ),
-            (
-                UserRecordType::PERF_HEADER_BUILD_ID,
-                PERF_RECORD_HEADER_BUILD_ID,
-                67,
-                "\"PERF_HEADER_BUILD_ID\"",
-            ),
-            (
-                UserRecordType::PERF_FINISHED_ROUND,
-                PERF_RECORD_FINISHED_ROUND,
-                68,
-                "\"PERF_FINISHED_ROUND\"",
-            ),
-            (
-                UserRecordType::PERF_ID_INDEX,
-                PERF_RECORD_ID_INDEX,
-                69,
-                "\"PERF_ID_INDEX\"",
-            ),
-            (
-                UserRecordType::PERF_AUXTRACE_INFO,
-                PERF_RECORD_AUXTRACE_INFO,
-                70,
-                "\"PERF_AUXTRACE_INFO\"",
-            ),
-            (
-                UserRecordType::PERF_AUXTRACE,
-                PERF_RECORD_AUXTRACE,
-                71,
-                "\"PERF_AUXTRACE\"",
-            ),
-            (
-                UserRecordType::PERF_AUXTRACE_ERROR,
-                PERF_RECORD_AUXTRACE_ERROR,
-                72,
-                "\"PERF_AUXTRACE_ERROR\"",
-            ),
-            (
-                UserRecordType::PERF_THREAD_MAP,
-                PERF_RECORD_THREAD_MAP,
-                73,
-                "\"PERF_THREAD_MAP\"",
-            ),
-            (
-                UserRecordType::PERF_CPU_MAP,
-                PERF_RECORD_CPU_MAP,
-                74,
-                "\"PERF_CPU_MAP\"",
-            ),
-            (
-                UserRecordType::PERF_STAT_CONFIG,
-                PERF_RECORD_STAT_CONFIG,
-                75,
-                "\"PERF_STAT_CONFIG\"",
-            ),
-            (
-                UserRecordType::PERF_STAT,
-                PERF_RECORD_STAT,
-                76,
-                "\"PERF_STAT\"",
-            ),
-            (
-                UserRecordType::PERF_STAT_ROUND,
-                PERF_RECORD_STAT_ROUND,
-                77,
-                "\"PERF_STAT_ROUND\"",
-            ),
-            (
-                UserRecordType::PERF_EVENT_UPDATE,
-                PERF_RECORD_EVENT_UPDATE,
-                78,
-                "\"PERF_EVENT_UPDATE\"",
-            ),
-            (
-                UserRecordType::PERF_TIME_CONV,
-                PERF_RECORD_TIME_CONV,
-                79,
-                "\"PERF_TIME_CONV\"",
-            ),
-            (
-                UserRecordType::PERF_HEADER_FEATURE,
-                PERF_RECORD_HEADER_FEATURE,
-                80,
-                "\"PERF_HEADER_FEATURE\"",
-            ),
-            (
-                UserRecordType::PERF_COMPRESSED,
-                PERF_RECORD_COMPRESSED,
-                81,
-                "\"PERF_COMPRESSED\"",
-            ),
-            (
-                UserRecordType::PERF_COMPRESSED2,
-                PERF_RECORD_COMPRESSED2,
-                83,
-                "\"PERF_COMPRESSED2\"",
-            ),
-            (
-                UserRecordType::SIMPLEPERF_KERNEL_SYMBOL,
-                SIMPLE_PERF_RECORD_KERNEL_SYMBOL,
-                32769,
-                "\"SIMPLEPERF_KERNEL_SYMBOL\"",
-            ),
-            (
-                UserRecordType::SIMPLEPERF_DSO,
-                SIMPLE_PERF_RECORD_DSO,
-                32770,
-                "\"SIMPLEPERF_DSO\"",
-            ),
-            (
-                UserRecordType::SIMPLEPERF_SYMBOL,
-                SIMPLE_PERF_RECORD_SYMBOL,
-                32771,
-                "\"SIMPLEPERF_SYMBOL\"",
-            ),
-            (
-                UserRecordType::SIMPLEPERF_SPLIT,
-                SIMPLE_PERF_RECORD_SPLIT,
-                32772,
-                "\"SIMPLEPERF_SPLIT\"",
-            ),
-            (
-                UserRecordType::SIMPLEPERF_SPLIT_END,
-                SIMPLE_PERF_RECORD_SPLIT_END,
-                32773,
-                "\"SIMPLEPERF_SPLIT_END\"",
-            ),
-            (
-                UserRecordType::SIMPLEPERF_EVENT_ID,
-                SIMPLE_PERF_RECORD_EVENT_ID,
-                32774,
-                "\"SIMPLEPERF_EVENT_ID\"",
-            ),
-            (
-                UserRecordType::SIMPLEPERF_CALLCHAIN,
-                SIMPLE_PERF_RECORD_CALLCHAIN,
-                32775,
-                "\"SIMPLEPERF_CALLCHAIN\"",
-            ),
-            (
-                UserRecordType::SIMPLEPERF_UNWINDING_RESULT,
-                SIMPLE_PERF_RECORD_UNWINDING_RESULT,
-                32776,
-                "\"SIMPLEPERF_UNWINDING_RESULT\"",
-            ),
-            (
-                UserRecordType::SIMPLEPERF_TRACING_DATA,
-                SIMPLE_PERF_RECORD_TRACING_DATA,
-                32777,
-                "\"SIMPLEPERF_TRACING_DATA\"",
-            ),
-        ] {
-            assert_eq!(rt; user.record_type(), RecordType(number));
-            assert_eq!(rt; constant, number);
-            let shown = format!(in rt.alloc(); "{user:?}")?;
-            assert_eq!(rt; shown.as_str(), text);
-        }
-        Ok(())
-    }
-
-    #[test]
-    fn shows_other_types_by_number(rt: HostRuntime) -> Result<(), Fail> {
-        for (number, text) in [
-            (82, "Unknown UserRecordType 82"),
-            (84, "Unknown UserRecordType 84"),
-            (32768, "Unknown UserRecordType 32768"),
-            (32778, "Unknown UserRecordType 32778"),
-            (u32::MAX, "Unknown UserRecordType 4294967295"),
-        ] {
-            if let Some(user) = UserRecordType::try_from(RecordType(number)) {
-                let shown = format!(in rt.alloc(); "{user:?}")?;
-                assert_eq!(rt; shown.as_str(), text);
-            }
-        }
-        Ok(())
-    }
 }

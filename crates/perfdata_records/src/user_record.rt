@@ -1,3 +1,4 @@
+//! Records that tools write, parsed.
 ghost use Rattle.std.specs.Prelude.{◌≡◌, ◌/◌, ◌%◌, IfOk, IfErr, length};
 ghost use Rattle.perfdata_base.specs.Numbers.{number_in};
 ghost use Rattle.perfdata_base.specs.Raw.{bytes_of};
@@ -22,6 +23,7 @@ use std::io::{Error, ErrorKind, Result};
 /// An event's attribute that came as a record (`PERF_RECORD_HEADER_ATTR` of Linux's perf).
 #[derive(Debug, Drop)]
 pub struct HeaderAttr {
+    /// The attribute.
     pub attr: PerfEventAttr,
     /// The ids by which the event's records are told.
     pub ids: Vec<u64>,
@@ -30,6 +32,7 @@ pub struct HeaderAttr {
 /// A feature's data that came as a record (`PERF_RECORD_HEADER_FEATURE` of Linux's perf).
 #[derive(Debug, Drop)]
 pub struct HeaderFeature {
+    /// Which feature.
     pub feature: Feature,
     /// The feature's data, in the form that it would have in a file's section.
     pub bytes: Vec<u8>,
@@ -38,9 +41,13 @@ pub struct HeaderFeature {
 /// A record that a tool wrote, in the form that its type has.
 #[derive(Debug, Drop)]
 pub enum UserRecord<'a> {
+    /// The threads that were recorded.
     ThreadMap(ThreadMap<'a>),
+    /// An attribute.
     HeaderAttr(HeaderAttr),
+    /// A feature.
     HeaderFeature(HeaderFeature),
+    /// Auxiliary data.
     Auxtrace(Auxtrace<'a>),
     /// A record of any other type.
     Raw(RawUserRecord<'a>),
@@ -166,185 +173,5 @@ impl<'a> RawUserRecord<'a> {
                 body: self.body,
             })),
         }
-    }
-}
-
-#[cfg(test)]
-mod tests {
-    use super::*;
-    use crate::record::UserRecordType;
-    use byteorder::ByteOrder;
-    use std::process::Abort;
-    use std::result::Result;
-    use std::test::Fail;
-
-    const FEATURE: [u8; 9] = [3, 0, 0, 0, 1, 0, 0, 0, 0x61];
-
-    const TRACE: [u8; 41] = [
-        1, 0, 0, 0, 0, 0, 0, 0, 0, 0, 0, 0, 0, 0, 0, 0, 0xf9, 0xcd, 0x2a, 0x49, 0x28, 4, 0, 0, 8,
-        0, 0, 0, 0x7a, 0x24, 0, 0, 8, 0, 0, 0, 0, 0, 0, 0, 0,
-    ];
-
-    // One thread without a name.
-    const THREAD: [u8; 32] = [
-        1, 0, 0, 0, 0, 0, 0, 0, 0x6c, 0x47, 8, 0, 0, 0, 0, 0, 0, 0, 0, 0, 0, 0, 0, 0, 0, 0, 0, 0,
-        0, 0, 0, 0,
-    ];
-
-    // An attribute of 64 bytes whose samples have their time, and the ids 5 and 6.
-    fn attribute() -> [u8; 80] {
-        let mut bytes = [0; 80];
-        bytes[4] = 64;
-        bytes[24] = 4;
-        bytes[64] = 5;
-        bytes[72] = 6;
-        bytes
-    }
-
-    #[test]
-    fn parses_an_attribute_wherever_it_is_split(rt: HostRuntime) -> Result<(), Fail> {
-        let bytes = attribute();
-        for (held, ids) in [(64usize, &[][..]), (72, &[5]), (80, &[5, 6])] {
-            for at in 0..held + 1 {
-                let (front, back) = bytes[..held].split_at(at);
-                let body = RawData::Split(front, back);
-                let header = HeaderAttr::parse::<LittleEndian>(rt.alloc(), body)?;
-                assert_eq!(rt; header.attr.size, 64, "split at {at}");
-                assert_eq!(rt; header.attr.sample_format.0, 4, "split at {at}");
-                assert_eq!(rt; header.ids.as_slice(), ids, "split at {at}");
-            }
-        }
-        Ok(())
-    }
-
-    #[test]
-    fn refuses_an_attribute(rt: HostRuntime) {
-        let mut bytes = attribute();
-        for (size, held, kind) in [
-            (64, 0usize, ErrorKind::UnexpectedEof),
-            (64, 7, ErrorKind::UnexpectedEof),
-            (64, 63, ErrorKind::UnexpectedEof),
-            (64, 65, ErrorKind::UnexpectedEof),
-            (64, 71, ErrorKind::UnexpectedEof),
-            (63, 72, ErrorKind::InvalidData),
-            (63, 8, ErrorKind::InvalidData),
-        ] {
-            bytes[4] = size;
-            for at in 0..held + 1 {
-                let (front, back) = bytes[..held].split_at(at);
-                let body = RawData::Split(front, back);
-                let got = HeaderAttr::parse::<LittleEndian>(rt.alloc(), body);
-                assert!(rt;
-                    matches!(&got, Err(error) if error.kind() == kind),
-                    "{held} split at {at}"
-                );
-            }
-        }
-    }
-
-    #[test]
-    fn parses_a_feature_wherever_it_is_split(rt: HostRuntime) -> Result<(), Fail> {
-        for at in 0..10usize {
-            let (front, back) = FEATURE.split_at(at);
-            let body = RawData::Split(front, back);
-            let header = HeaderFeature::parse::<LittleEndian>(rt.alloc(), body)?;
-            assert_eq!(rt; header.feature, Feature(3), "split at {at}");
-            assert_eq!(rt; header.bytes.as_slice(), [0x61].as_slice(), "split at {at}");
-        }
-        let mut swapped = [0; 8];
-        BigEndian::write_u64(&mut swapped, 0x1_0000_0003);
-        let header = HeaderFeature::parse::<BigEndian>(rt.alloc(), RawData::Single(&swapped))?;
-        assert_eq!(rt; header.feature, Feature(3));
-        assert!(rt; header.bytes.is_empty());
-        let cut = HeaderFeature::parse::<LittleEndian>(rt.alloc(), RawData::Single(&FEATURE[..7]));
-        assert!(rt; matches!(&cut, Err(error) if error.kind() == ErrorKind::UnexpectedEof));
-        Ok(())
-    }
-
-    fn parse<'a>(
-        rt: &(impl Abort + AllocGlobal),
-        record_type: UserRecordType,
-        endian: Endianness,
-        body: RawData<'a>,
-    ) -> std::io::Result<UserRecord<'a>> {
-        let raw = RawUserRecord {
-            record_type,
-            endian,
-            misc: 7,
-            body,
-        };
-        raw.parse(rt.alloc())
-    }
-
-    #[test]
-    fn parses_by_type_wherever_it_is_split(rt: HostRuntime) -> Result<(), Fail> {
-        let little = Endianness::LittleEndian;
-        for at in 0..82usize {
-            let attribute = attribute();
-            let (front, back) = attribute.split_at(at.min(80));
-            let body = RawData::Split(front, back);
-            let got = parse(&rt, UserRecordType::PERF_HEADER_ATTR, little, body)?;
-            assert!(rt;
-                matches!(&got, UserRecord::HeaderAttr(header) if header.ids.as_slice() == [5, 6].as_slice())
-            );
-            let (front, back) = TRACE.split_at(at.min(41));
-            let body = RawData::Split(front, back);
-            let got = parse(&rt, UserRecordType::PERF_AUXTRACE, little, body)?;
-            assert!(rt;
-                matches!(&got, UserRecord::Auxtrace(trace) if trace.reference == 0x428_492a_cdf9)
-            );
-            let (front, back) = THREAD.split_at(at.min(32));
-            let body = RawData::Split(front, back);
-            let got = parse(&rt, UserRecordType::PERF_THREAD_MAP, little, body)?;
-            assert!(rt; matches!(&got, UserRecord::ThreadMap(map) if map.len() == 1));
-            let (front, back) = FEATURE.split_at(at.min(9));
-            let body = RawData::Split(front, back);
-            let got = parse(&rt, UserRecordType::PERF_HEADER_FEATURE, little, body)?;
-            assert!(rt;
-                matches!(&got, UserRecord::HeaderFeature(header) if header.feature == Feature(3))
-            );
-        }
-        Ok(())
-    }
-
-    #[test]
-    fn leaves_other_types(rt: HostRuntime) -> Result<(), Fail> {
-        let body = RawData::Single(&TRACE);
-        for kind in [
-            UserRecordType::PERF_TIME_CONV,
-            UserRecordType::SIMPLEPERF_DSO,
-        ] {
-            let got = parse(&rt, kind, Endianness::BigEndian, body)?;
-            assert!(rt;
-                matches!(&got, UserRecord::Raw(raw) if raw.record_type == kind && raw.misc == 7 && raw.body == body && raw.endian == Endianness::BigEndian)
-            );
-        }
-        Ok(())
-    }
-
-    #[test]
-    fn parses_in_the_order_of_the_file(rt: HostRuntime) -> Result<(), Fail> {
-        let mut body = [0; 32];
-        body[7] = 1;
-        body[15] = 9;
-        let body = RawData::Single(&body);
-        let got = parse(
-            &rt,
-            UserRecordType::PERF_THREAD_MAP,
-            Endianness::BigEndian,
-            body,
-        )?;
-        if let UserRecord::ThreadMap(map) = got {
-            let first = map.iter().next();
-            assert!(rt; matches!(first, Some(entry) if entry.tid == 9));
-        }
-        let other = parse(
-            &rt,
-            UserRecordType::PERF_THREAD_MAP,
-            Endianness::LittleEndian,
-            body,
-        );
-        assert!(rt; matches!(&other, Err(error) if error.kind() == ErrorKind::UnexpectedEof));
-        Ok(())
     }
 }

@@ -1,9 +1,11 @@
 //! The cases of files and pipes: their lines, and how their reading ends.
 mod attributes;
 mod build_ids;
+mod code_size;
 mod constants;
 mod example;
 mod features;
+mod hostile;
 mod image;
 mod jit;
 mod late;

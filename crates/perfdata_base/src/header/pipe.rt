@@ -1,3 +1,4 @@
+//! The header of a pipe.
 ghost use Rattle.std.specs.Prelude.{◌≡◌, length};
 ghost use Rattle.perfdata_base.specs.Source.{State};
 ghost use Rattle.perfdata_base.specs.PipeHeader.{pipe_header_of, ParsesPipeHeader, ParsesPipeFront};
@@ -9,6 +10,7 @@ use std::io::Result;
 /// The header of a pipe of perf.data (`perf_pipe_file_header`).
 #[derive(Clone, Copy, Debug)]
 pub struct PerfPipeHeader {
+    /// `PERFILE2` in the order of the pipe.
     pub magic: [u8; 8],
     /// How many bytes the header takes, where that is more than 16.
     pub size: u64,
@@ -76,39 +78,5 @@ impl PerfPipeHeader {
         ensures { (left : State) × ParsesPipeHeader (R.seen r) result left }
     {
         PerfPipeHeader::parse_from(&mut r)
-    }
-}
-
-#[cfg(test)]
-mod tests {
-    use super::*;
-    use std::io::ErrorKind;
-    use std::test::Fail;
-
-    #[test]
-    fn reads_pipe_headers(rt: HostRuntime) -> std::result::Result<(), Fail> {
-        let little = *b"PERFILE2\x14\0\0\0\0\0\0\0abcdef";
-        let big = *b"2ELIFREP\0\0\0\0\0\0\0\x10abcdef";
-        let small = *b"PERFILE2\x08\0\0\0\0\0\0\0abcdef";
-        let far = *b"PERFILE2\xff\xff\xff\xff\xff\xff\xff\xffabcdef";
-        for (bytes, size, left) in [
-            (little, 20u64, 2usize),
-            (big, 16, 6),
-            (small, 8, 6),
-            (far, u64::MAX, 0),
-        ] {
-            let mut front = bytes.as_slice();
-            let (_, whole) = PerfPipeHeader::parse_front(&mut front)?;
-            assert_eq!(rt; whole, left > 0);
-            assert_eq!(rt; front.len(), left);
-            let mut source = bytes.as_slice();
-            let header = PerfPipeHeader::parse_from(&mut source)?;
-            assert_eq!(rt; header.size, size);
-            assert_eq!(rt; header.magic[0], bytes[0]);
-            assert_eq!(rt; source.len(), left);
-        }
-        let cut = PerfPipeHeader::parse(b"PERFILE2\x10\0\0\0\0\0\0".as_slice());
-        assert!(rt; matches!(&cut, Err(error) if error.kind() == ErrorKind::UnexpectedEof));
-        Ok(())
     }
 }

@@ -1,3 +1,4 @@
+//! A cache of identifiers in front of a look-up.
 ghost use Rattle.std.specs.Prelude.{◌≡◌, ◌≢◌, ℕ, ◌%◌, None, Some};
 
 /// How many pairs are kept at most.
@@ -62,35 +63,5 @@ impl IdCache {
         ensures { (id : ℕ) → cached self.new id ≡ None }
     {
         self.slots = [None; SLOTS as usize];
-    }
-}
-
-#[cfg(test)]
-mod tests {
-    use super::*;
-
-    // Of two identifiers of one slot the later stays, and an empty slot answers for none.
-    #[test]
-    fn keeps_the_last_of_a_slot(rt: HostRuntime) {
-        let mut cache = IdCache::new();
-        assert_eq!(rt; cache.get(0), None);
-        cache.put(1, 0);
-        assert_eq!(rt; cache.get(1), Some(0));
-        cache.put(65, 1);
-        cache.put(u64::MAX, 3);
-        for (id, index) in [
-            (0, None),
-            (1, None),
-            (65, Some(1)),
-            (129, None),
-            (63, None),
-            (u64::MAX, Some(3)),
-        ] {
-            assert_eq!(rt; cache.get(id), index, "of {id}");
-        }
-        cache.clear();
-        for id in [0, 65, u64::MAX] {
-            assert_eq!(rt; cache.get(id), None, "of {id}");
-        }
     }
 }

@@ -1,3 +1,4 @@
+//! A source for tests.
 ghost use Rattle.std.specs.Prelude.{◌≡◌, ◌≤◌, vec_len, refl};
 ghost use Rattle.std.proofs.lemmas.Bool.{false≢true};
 
@@ -130,54 +131,4 @@ impl PlacedSource for Script {
     }
 
     ghost placed = { λ _. refl };
-}
-
-#[cfg(test)]
-mod tests {
-    use super::*;
-    use std::result::Result;
-    use std::test::Fail;
-
-    #[test]
-    fn follows_its_steps(rt: HostRuntime) -> Result<(), Fail> {
-        let mut steps = Vec::new(rt.alloc());
-        let fault = Step::Fault(ErrorKind::TimedOut);
-        for step in [
-            Step::Give(1),
-            Step::Pause,
-            fault,
-            Step::Grow(3),
-            Step::Give(9),
-        ] {
-            steps.push(step)?;
-        }
-        let mut seek_faults = Vec::new(rt.alloc());
-        seek_faults.push(1)?;
-        let bytes = b"0123456789".to_vec(rt.alloc())?;
-        let mut source = Script::new(bytes, 4, steps, seek_faults);
-        let mut place = [0u8; 5];
-        for (came, byte) in [
-            (Some(1), b'0'),
-            (Some(0), 0),
-            (None, 0),
-            (Some(5), b'1'),
-            (Some(1), b'6'),
-        ] {
-            assert_eq!(rt; source.read_front(&mut place).ok(), came);
-            if came > Some(0) {
-                assert_eq!(rt; place[0], byte);
-            }
-        }
-        assert_eq!(rt; (source.faults, source.pauses), (1, 1));
-        for (to, at) in [
-            (SeekFrom::End(0), Some(7)),
-            (SeekFrom::Start(0), None),
-            (SeekFrom::Start(2), Some(2)),
-        ] {
-            assert_eq!(rt; source.seek_to(to).ok(), at);
-        }
-        assert_eq!(rt; source.read_front(&mut place)?, 5);
-        assert_eq!(rt; &place[..], b"23456".as_slice());
-        Ok(())
-    }
 }

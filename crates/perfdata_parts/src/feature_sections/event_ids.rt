@@ -1,3 +1,4 @@
+//! Identifiers, of eight bytes each.
 ghost use Rattle.std.specs.Prelude.{◌≡◌};
 ghost use Rattle.perfdata_parts.specs.EventIds.{ReadsIds};
 

@@ -1,3 +1,4 @@
+//! Sections of numbers: processors, times, compression, clocks.
 ghost use Rattle.std.specs.Prelude.{◌≡◌};
 ghost use Rattle.std.specs.IoError.{error_kind};
 ghost use Rattle.std.specs.declared.io.ErrorKind.TheVariants.{InvalidData};
@@ -12,7 +13,9 @@ use std::io::{Error, ErrorKind, Result};
 /// How many processors the machine has (section NRCPUS of Linux's perf).
 #[derive(Clone, Copy, Debug)]
 pub struct NrCpus {
+    /// How many there are.
     pub nr_cpus_available: u32,
+    /// How many ran.
     pub nr_cpus_online: u32,
 }
 
@@ -46,7 +49,9 @@ impl NrCpus {
 /// The times of the first and of the last sample (section SAMPLE_TIME).
 #[derive(Clone, Copy, Debug)]
 pub struct SampleTimeRange {
+    /// In nanoseconds of the recording's clock.
     pub first_sample_time: u64,
+    /// In nanoseconds of the recording's clock.
     pub last_sample_time: u64,
 }
 
@@ -80,10 +85,13 @@ impl SampleTimeRange {
 /// How records were compressed (section COMPRESSED).
 #[derive(Clone, Copy, Debug)]
 pub struct CompressionInfo {
+    /// The version of what follows.
     pub version: u32,
     /// The way of compression: 1 is Zstd.
     pub type_: u32,
+    /// The level of compression.
     pub level: u32,
+    /// The bytes before to those behind, as a whole number.
     pub ratio: u32,
     /// How many bytes of the recorder's buffer were mapped.
     pub mmap_len: u32,
@@ -178,66 +186,5 @@ impl ClockData {
         ensures { (left : State) × ParsesClock T.number_of (R.seen reader) result left }
     {
         ClockData::parse_from::<R, T>(&mut reader)
-    }
-}
-
-#[cfg(test)]
-mod tests {
-    use super::*;
-    use byteorder::{BigEndian, LittleEndian};
-    use std::result::Result;
-    use std::test::Fail;
-
-    const COUNTING: [u8; 25] = [
-        1, 0, 0, 0, 2, 0, 0, 0, 3, 0, 0, 0, 4, 0, 0, 0, 5, 0, 0, 0, 6, 0, 0, 0, 7,
-    ];
-
-    #[test]
-    fn reads_numbers(rt: HostRuntime) -> Result<(), Fail> {
-        let cpus = NrCpus::parse::<_, LittleEndian>(&COUNTING[..])?;
-        assert_eq!(rt; cpus.nr_cpus_available, 1);
-        assert_eq!(rt; cpus.nr_cpus_online, 2);
-        let cpus = NrCpus::parse::<_, BigEndian>(&COUNTING[..])?;
-        assert_eq!(rt; cpus.nr_cpus_online, 0x0200_0000);
-        let times = SampleTimeRange::parse::<_, LittleEndian>(&COUNTING[..])?;
-        assert_eq!(rt; times.first_sample_time, 0x2_0000_0001);
-        assert_eq!(rt; times.last_sample_time, 0x4_0000_0003);
-        let compression = CompressionInfo::parse::<_, LittleEndian>(&COUNTING[..])?;
-        assert_eq!(rt; compression.version, 1);
-        assert_eq!(rt; compression.type_, 2);
-        assert_eq!(rt; compression.level, 3);
-        assert_eq!(rt; compression.ratio, 4);
-        assert_eq!(rt; compression.mmap_len, 5);
-        let mut source = &COUNTING[..];
-        let clock = ClockData::parse_from::<_, LittleEndian>(&mut source)?;
-        assert_eq!(rt; clock.clockid, 2);
-        assert_eq!(rt; clock.wall_clock_ns, 0x4_0000_0003);
-        assert_eq!(rt; clock.clockid_time_ns, 0x6_0000_0005);
-        assert_eq!(rt; source, [7].as_slice());
-        Ok(())
-    }
-
-    #[test]
-    fn is_short_where_bytes_are_missing(rt: HostRuntime) {
-        let short = |error: &Error| error.kind() == ErrorKind::UnexpectedEof;
-        let cpus = NrCpus::parse::<_, LittleEndian>(&COUNTING[..7]);
-        assert!(rt; matches!(&cpus, Err(error) if short(error)));
-        let times = SampleTimeRange::parse::<_, LittleEndian>(&COUNTING[..15]);
-        assert!(rt; matches!(&times, Err(error) if short(error)));
-        let compression = CompressionInfo::parse::<_, LittleEndian>(&COUNTING[..19]);
-        assert!(rt; matches!(&compression, Err(error) if short(error)));
-        for held in [3usize, 4, 23] {
-            assert!(rt; held < COUNTING.len());
-            let clock = ClockData::parse::<_, LittleEndian>(&COUNTING[..held]);
-            assert!(rt; matches!(&clock, Err(error) if short(error)), "with {held}");
-        }
-    }
-
-    #[test]
-    fn refuses_another_version_of_clock_data(rt: HostRuntime) {
-        let mut source: &[u8] = &[2, 0, 0, 0, 9];
-        let clock = ClockData::parse_from::<_, LittleEndian>(&mut source);
-        assert!(rt; matches!(&clock, Err(error) if error.kind() == ErrorKind::InvalidData));
-        assert_eq!(rt; source, [9].as_slice(), "the rest isn't read");
     }
 }

@@ -1,3 +1,4 @@
+//! The section PMU_MAPPINGS.
 ghost use Rattle.std.specs.Prelude.{◌≡◌, string_bytes};
 ghost use Rattle.std.specs.Option.{option_map};
 ghost use Rattle.perfdata_base.specs.Source.{State};
@@ -113,48 +114,6 @@ impl PmuMappings {
         match PmuMappings::read_from::<R, T>(alloc, &mut reader) {
             Ok(names) => Ok(names),
             Err(fault) => Err(as_io(fault)),
-        }
-    }
-}
-
-#[cfg(test)]
-mod tests {
-    use super::*;
-    use byteorder::LittleEndian;
-    use std::io::ErrorKind;
-    use std::test::Fail;
-
-    // A count and the units 7 `b`, 1 with a name that isn't UTF-8, 2 `a`, 7 `c`.
-    fn units(count: u8) -> [u8; 40] {
-        [
-            count, 0, 0, 0, 7, 0, 0, 0, 1, 0, 0, 0, b'b', 1, 0, 0, 0, 1, 0, 0, 0, 0xff, 2, 0, 0, 0,
-            1, 0, 0, 0, b'a', 7, 0, 0, 0, 1, 0, 0, 0, b'c',
-        ]
-    }
-
-    #[test]
-    fn keeps_the_last_names_ascending(rt: HostRuntime) -> Result<(), Fail> {
-        let all = PmuMappings::parse::<_, LittleEndian>(rt.alloc(), &units(4)[..])?;
-        let mut names = all.0.iter();
-        for expected in [(2, "a"), (7, "c")] {
-            assert!(rt;
-                matches!(names.next(), Some((number, name)) if (*number, name.as_str()) == expected)
-            );
-        }
-        assert!(rt; names.next().is_none());
-        Ok(())
-    }
-
-    #[test]
-    fn is_short_where_units_are_missing(rt: HostRuntime) {
-        for (count, held) in [(5, 40usize), (4, 39), (4, 35), (4, 3)] {
-            let bytes = units(count);
-            assert!(rt; held <= bytes.len());
-            let all = PmuMappings::parse::<_, LittleEndian>(rt.alloc(), &bytes[..held]);
-            assert!(rt;
-                matches!(&all, Err(error) if error.kind() == ErrorKind::UnexpectedEof),
-                "{count} in {held}"
-            );
         }
     }
 }

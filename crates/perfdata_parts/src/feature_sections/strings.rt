@@ -1,3 +1,4 @@
+//! Texts and lists of texts.
 ghost use Rattle.std.specs.Prelude.{◌≡◌, string_bytes};
 ghost use Rattle.std.specs.Option.{option_map};
 ghost use Rattle.perfdata_base.specs.Source.{State};
@@ -72,50 +73,5 @@ impl HeaderString {
             Ok(text) => Ok(text),
             Err(fault) => Err(as_io(fault)),
         }
-    }
-}
-
-#[cfg(test)]
-mod tests {
-    use super::*;
-    use byteorder::{BigEndian, LittleEndian};
-    use std::io::ErrorKind;
-    use std::test::Fail;
-
-    #[test]
-    fn reads_texts(rt: HostRuntime) -> Result<(), Fail> {
-        let mut source: &[u8] = &[5, 0, 0, 0, b'a', b'b', 0, b'c', b'd', 7];
-        let text = HeaderString::read_from::<_, LittleEndian>(rt.alloc(), &mut source)?;
-        assert_eq!(rt; text.as_deref(), Some("ab"));
-        assert_eq!(rt; source, [7].as_slice(), "all of the string is taken");
-        let bytes: &[u8] = &[0, 0, 0, 2, b'a', b'b'];
-        let text = HeaderString::parse::<_, BigEndian>(rt.alloc(), bytes)?;
-        assert_eq!(rt; text.as_deref(), Some("ab"));
-        let text = HeaderString::parse::<_, BigEndian>(rt.alloc(), &[0u8; 4][..])?;
-        assert_eq!(rt; text.as_deref(), Some(""));
-        let bytes: &[u8] = &[0, 0, 0, 1, 0xff];
-        let text = HeaderString::parse::<_, BigEndian>(rt.alloc(), bytes)?;
-        assert_eq!(rt; text.as_deref(), None);
-        Ok(())
-    }
-
-    #[test]
-    fn is_short_where_bytes_are_missing(rt: HostRuntime) {
-        let bytes: &[u8] = &[6, 0, 0, 0, b'a', b'b', 0, b'c', b'd'];
-        for held in [0usize, 3, 4, 9] {
-            assert!(rt; held <= bytes.len());
-            let text = HeaderString::parse::<_, LittleEndian>(rt.alloc(), &bytes[..held]);
-            assert!(rt;
-                matches!(&text, Err(error) if error.kind() == ErrorKind::UnexpectedEof),
-                "with {held}"
-            );
-        }
-    }
-
-    #[test]
-    fn cuts_at_the_first_nul(rt: HostRuntime) {
-        assert_eq!(rt; before_nul(b"ab\0c\0"), b"ab".as_slice());
-        assert_eq!(rt; before_nul(b"ab"), b"ab".as_slice());
-        assert_eq!(rt; before_nul(b"\0"), b"".as_slice());
     }
 }

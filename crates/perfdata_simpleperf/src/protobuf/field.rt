@@ -1,3 +1,4 @@
+//! A field of a message, by the table of the messages that are read.
 ghost use Rattle.std.specs.Prelude.{◌≡◌, IfOk, IfErr};
 ghost use Rattle.perfdata_simpleperf.specs.Protobuf.Fields.{FieldAt, FieldFault, part, shape, is_permitted};
 
@@ -26,7 +27,9 @@ pub(crate) enum Shape {
 
 #[derive(Clone, Copy, Debug, PartialEq, Eq)]
 pub(crate) struct Field<'a> {
+    /// Which field.
     pub number: u32,
+    /// What stands behind its key.
     pub value: Value<'a>,
 }
 

@@ -1,3 +1,4 @@
+//! Unknown groups, which are passed over.
 ghost use Rattle.std.specs.Prelude.{◌<◌, length, IfOk, IfErr};
 ghost use Rattle.perfdata_simpleperf.specs.Protobuf.Groups.{Token, TokenFault, GroupAt, GroupFault};
 

@@ -1,3 +1,4 @@
+//! Laws over the definitions of messages.
 ghost use Rattle.std.specs.Prelude.{◌≡◌, ℕ, List};
 ghost use Rattle.perfdata_simpleperf.specs.Protobuf.Wire.{NumberAt, NumberFault};
 ghost use Rattle.perfdata_simpleperf.specs.Protobuf.Fields.{Part};

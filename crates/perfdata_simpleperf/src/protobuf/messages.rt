@@ -1,3 +1,4 @@
+//! Messages from their fields.
 ghost use Rattle.std.specs.Prelude.{◌≡◌, ◌⊎◌, ◌∷◌, [], ◌++◌, List, ℕ, ◌%◌, IfOk, IfErr, OnOk, string_bytes, IsUtf8, IsTrue, map};
 ghost use Rattle.perfdata_simpleperf.specs.Protobuf.Fields.{part, shape};
 ghost use Rattle.perfdata_simpleperf.specs.Protobuf.Wire.{contents_bytes};

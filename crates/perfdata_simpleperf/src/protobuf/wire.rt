@@ -1,3 +1,4 @@
+//! Numbers and keys as protobuf spells them.
 ghost use Rattle.std.specs.Prelude.{◌≤◌, ◌<◌, ◌*◌, ◌-◌, ◌^◌, IfOk, IfErr};
 ghost use Rattle.perfdata_simpleperf.specs.Protobuf.Wire.{VarintAt, VarintFault, NumberAt, NumberFault, KeyAt, KeyFault, FixedAt, FixedFault, seen, ValueAt, ValueFault, IsPlain};
 
@@ -16,7 +17,9 @@ pub(crate) enum Wire {
 
 #[derive(Clone, Copy, Debug, PartialEq, Eq)]
 pub(crate) struct Key {
+    /// Which field.
     pub number: u32,
+    /// How its value is spelled.
     pub wire: Wire,
 }
 

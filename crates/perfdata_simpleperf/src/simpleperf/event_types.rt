@@ -1,3 +1,4 @@
+//! The event types in simpleperf's meta info.
 ghost use Rattle.std.specs.Prelude.{IfOk, Some};
 ghost use Rattle.perfdata_simpleperf.specs.MetaInfo.{text_at};
 ghost use Rattle.perfdata_simpleperf.specs.SimpleperfEvents.{parts, event_type_info, GivesEvent, GivesEventTypes, IsFirstThree};
@@ -73,59 +74,5 @@ pub fn get_event_types(
     match meta_info_map.get(EVENT_TYPE_INFO) {
         Some(text) => events_of(alloc, text),
         None => Ok(None),
-    }
-}
-
-#[cfg(test)]
-mod tests {
-    use super::*;
-    use std::test::Fail;
-
-    #[test]
-    fn tells_the_events_of_the_lines(rt: HostRuntime) -> Result<(), Fail> {
-        for (text, expected) in [
-            (
-                "cpu-clock,1,0\nsched:sched_switch,2,45",
-                [("cpu-clock", 1, 0), ("sched:sched_switch", 2, 45)].as_slice(),
-            ),
-            ("a,0,+2", &[("a", 0, 2)]),
-            (",+18446744073709551615,007,x,", &[("", u64::MAX, 7)]),
-        ] {
-            let mut map = HashMap::new(rt.alloc());
-            map.insert("event_type_info", text)?;
-            map.insert("Event_type_info", "")?;
-            let found = get_event_types(rt.alloc(), &map)?;
-            assert!(rt; matches!(&found, Some(events) if events.len() == expected.len()));
-            for events in &found {
-                for (event, (name, type_, config)) in events.iter().zip(expected) {
-                    assert_eq!(rt; event.name.as_str(), *name);
-                    assert_eq!(rt; (event.type_, event.config), (*type_, *config));
-                }
-            }
-        }
-        Ok(())
-    }
-
-    #[test]
-    fn tells_none_where_a_line_lacks_a_part(rt: HostRuntime) -> Result<(), Fail> {
-        for text in [
-            "cpu-clock,1,0\nsched:sched_switch,2,45\n",
-            "cpu-clock,1\nsched:sched_switch,2,45",
-            "a,0,-2",
-            "a,0,",
-            "a,0,18446744073709551616",
-            "a,0,+",
-            "a,0,++2",
-            "a, 0,2",
-            "",
-        ] {
-            let mut map = HashMap::new(rt.alloc());
-            map.insert("event_type_info", text)?;
-            assert!(rt; get_event_types(rt.alloc(), &map)?.is_none(), "{text}");
-        }
-        let mut map = HashMap::new(rt.alloc());
-        map.insert("Event_type_info", "a,0,2")?;
-        assert!(rt; get_event_types(rt.alloc(), &map)?.is_none());
-        Ok(())
     }
 }

@@ -1,3 +1,4 @@
+//! The section SIMPLEPERF_FILE2: messages behind their lengths.
 ghost use Rattle.std.specs.Prelude.{◌≡◌, ◌⊎◌, List, IfOk, IfErr, IsErrAnd, MatchResult, map};
 ghost use Rattle.perfdata_simpleperf.specs.File2.{IsFile2Of, File2Fault, TellsFile2, TellsMessage};
 ghost use Rattle.perfdata_simpleperf.specs.FileRecord.{FileValue, record_value};
@@ -68,59 +69,4 @@ pub fn parse_file2_section(
     ensures first { (f : PieceFault DecodeError) → File2Fault endian bytes.now f → IsErrAnd result (λ e. (e ≡ Memory) ⊎ TellsFile2 f e) }
 {
     read_messages(alloc, bytes, endian)
-}
-
-#[cfg(test)]
-mod tests {
-    use super::*;
-    use std::io::ErrorKind;
-    use std::test::Fail;
-
-    // A length and a message of 20 bytes.
-    fn section(length: [u8; 4]) -> [u8; 24] {
-        let [a, b, c, d] = length;
-        [
-            a, b, c, d, 0x0a, 1, b'a', 0x10, 2, 0x18, 0x80, 1, 0x40, 5, 0x2a, 4, 0x0a, 2, 1, 2,
-            0x2a, 2, 8, 3,
-        ]
-    }
-
-    #[test]
-    fn reads_each_message(rt: HostRuntime) -> Result<(), Fail> {
-        for (length, endian) in [
-            ([20, 0, 0, 0], Endianness::LittleEndian),
-            ([0, 0, 0, 20], Endianness::BigEndian),
-        ] {
-            let one = section(length);
-            let mut bytes = Vec::from_slice(rt.alloc(), &one)?;
-            for count in 1..3usize {
-                let records = parse_file2_section(rt.alloc(), &bytes, endian)?;
-                assert_eq!(rt; records.len(), count);
-                for record in &records {
-                    assert_eq!(rt; record.path.as_str(), "a");
-                    assert_eq!(rt; record.min_vaddr, 128);
-                }
-                bytes.extend_from_slice(&one)?;
-            }
-        }
-        Ok(())
-    }
-
-    #[test]
-    fn refuses_what_is_cut(rt: HostRuntime) {
-        let endian = Endianness::LittleEndian;
-        let cut = parse_file2_section(rt.alloc(), &[20, 0, 0], endian);
-        assert!(rt; matches!(&cut, Err(Error::IoError(e)) if e.kind() == ErrorKind::UnexpectedEof));
-        let long = parse_file2_section(rt.alloc(), &section([21, 0, 0, 0]), endian);
-        assert!(rt; matches!(&long, Err(Error::FeatureSectionTooSmall)));
-        let bad = parse_file2_section(rt.alloc(), &[1, 0, 0, 0, 0x80], endian);
-        assert!(rt;
-            matches!(
-                &bad,
-                Err(Error::ProtobufParsingSimpleperfFileSection(DecodeError::Truncated))
-            )
-        );
-        let none = parse_file2_section(rt.alloc(), &[], endian);
-        assert!(rt; matches!(&none, Ok(records) if records.is_empty()));
-    }
 }

@@ -1,3 +1,4 @@
+//! The section SIMPLEPERF_FILE: older records behind their lengths.
 ghost use Rattle.std.specs.Prelude.{◌≡◌, ◌⊎◌, List, IfOk, IfErr, IsErrAnd, MatchResult, map};
 ghost use Rattle.std.specs.IoError.{error_kind};
 ghost use Rattle.std.specs.declared.io.ErrorKind.{ErrorKind};
@@ -89,60 +90,4 @@ pub fn parse_file_section(
     ensures first { (f : PieceFault ErrorKind) → FileSectionFault endian bytes.now f → IsErrAnd result (λ e. (e ≡ Memory) ⊎ TellsFileSection f e) }
 {
     read_records(alloc, bytes, endian)
-}
-
-#[cfg(test)]
-mod tests {
-    use super::*;
-    use std::test::Fail;
-
-    // A length, and 18 bytes: path `a`, type 2, address 16, no symbols.
-    fn section(length: u8) -> [u8; 22] {
-        [
-            length, 0, 0, 0, b'a', 0, 2, 0, 0, 0, 16, 0, 0, 0, 0, 0, 0, 0, 0, 0, 0, 0,
-        ]
-    }
-
-    #[test]
-    fn reads_each_record(rt: HostRuntime) -> Result<(), Fail> {
-        let one = section(18);
-        let mut bytes = Vec::new(rt.alloc());
-        for count in 0..3usize {
-            let records = parse_file_section(rt.alloc(), &bytes, Endianness::LittleEndian)?;
-            assert_eq!(rt; records.len(), count);
-            for record in &records {
-                assert_eq!(rt; (record.path.as_str(), record.type_), ("a", 2));
-                assert_eq!(rt; (record.min_vaddr, record.symbol.len()), (16, 0));
-            }
-            bytes.extend_from_slice(&one)?;
-        }
-        let big = [
-            0, 0, 0, 18, b'a', 0, 0, 0, 0, 4, 0, 0, 0, 0, 0, 0, 0, 16, 0, 0, 0, 0,
-        ];
-        let records = parse_file_section(rt.alloc(), &big, Endianness::BigEndian)?;
-        assert_eq!(rt; records.len(), 1);
-        for record in &records {
-            assert_eq!(rt; (record.type_, record.min_vaddr), (4, 16));
-        }
-        Ok(())
-    }
-
-    #[test]
-    fn refuses_what_is_cut(rt: HostRuntime) {
-        let endian = Endianness::LittleEndian;
-        let cut = parse_file_section(rt.alloc(), &[18, 0, 0], endian);
-        assert!(rt; matches!(&cut, Err(Error::IoError(e)) if e.kind() == ErrorKind::UnexpectedEof));
-        let long = parse_file_section(rt.alloc(), &section(19), endian);
-        assert!(rt; matches!(&long, Err(Error::FeatureSectionTooSmall)));
-        let cases: [(&[u8], ErrorKind); 2] = [
-            (&[6, 0, 0, 0, b'a', 0, 2, 0, 0, 0], ErrorKind::UnexpectedEof),
-            (&[6, 0, 0, 0, b'a', 0, 6, 0, 0, 0], ErrorKind::InvalidData),
-        ];
-        for (bytes, kind) in cases {
-            let bad = parse_file_section(rt.alloc(), bytes, endian);
-            assert!(rt;
-                matches!(&bad, Err(Error::ParsingSimpleperfFileV1Section(e)) if e.kind() == kind)
-            );
-        }
-    }
 }

@@ -1,3 +1,4 @@
+//! Simpleperf's meta info: texts in pairs.
 ghost use Rattle.std.specs.Prelude.{◌≡◌, ◌∷◌};
 ghost use Rattle.std.specs.Iterator.{YieldsFirstBy, item_count};
 ghost use Rattle.perfdata_simpleperf.specs.MetaInfo.{pieces, PutsPair, ParsesMetaInfo};
@@ -72,37 +73,4 @@ pub fn parse_meta_info_map(alloc: Global, bytes: &[u8]) -> Result<HashMap<&str, 
         }
     }
     Ok(map)
-}
-
-#[cfg(test)]
-mod tests {
-    use super::*;
-    use std::test::Fail;
-
-    #[test]
-    fn pairs_the_pieces_between_nuls(rt: HostRuntime) -> Result<(), Fail> {
-        for (bytes, len, key, value) in [
-            (b"a\0b\0c".as_slice(), 1usize, "a", "b"),
-            (b"a\0b\0c\0", 2, "c", ""),
-            (b"a\0b\0\xff", 1, "a", "b"),
-            (b"a\0b\0\0d\0a\0e\0", 2, "a", "e"),
-            (b"a\0b\0\0d\0a\0e\0", 2, "", "d"),
-            (b"a\0", 1, "a", ""),
-        ] {
-            let map = parse_meta_info_map(rt.alloc(), bytes)?;
-            assert_eq!(rt; (map.len(), map.get(key).copied()), (len, Some(value)));
-        }
-        for bytes in [b"".as_slice(), b"a"] {
-            assert!(rt; parse_meta_info_map(rt.alloc(), bytes)?.is_empty());
-        }
-        Ok(())
-    }
-
-    #[test]
-    fn refuses_other_texts(rt: HostRuntime) {
-        for bytes in [b"\xff\0b\0c".as_slice(), b"a\0\xff\0c", b"a\0b\0c\0\xff"] {
-            let map = parse_meta_info_map(rt.alloc(), bytes);
-            assert!(rt; matches!(map, Err(Error::StringUtf8)));
-        }
-    }
 }

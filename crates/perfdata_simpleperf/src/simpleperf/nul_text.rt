@@ -1,3 +1,4 @@
+//! Texts that a NUL ends.
 ghost use Rattle.std.specs.Prelude.{ℕ, List, IfOk, IfErr, MatchOption};
 ghost use Rattle.std.specs.IoError.{error_kind};
 ghost use Rattle.perfdata_base.specs.Raw.{HasNoNul};
@@ -50,26 +51,5 @@ impl<'a> SliceReadStringExt<'a> for &'a [u8] {
         let (text, rest) = split_text(*self)?;
         *self = rest;
         Ok(text)
-    }
-}
-
-#[cfg(test)]
-mod tests {
-    use super::*;
-    use std::test::Fail;
-
-    #[test]
-    fn takes_texts_off_the_front(rt: HostRuntime) -> std::result::Result<(), Fail> {
-        let mut bytes: &[u8] = b"ab\0\0c\xff\0d";
-        assert_eq!(rt; bytes.read_nul_terminated_str()?, "ab");
-        assert_eq!(rt; bytes.read_nul_terminated_str()?, "");
-        let got = bytes.read_nul_terminated_str();
-        assert!(rt; matches!(&got, Err(error) if error.kind() == ErrorKind::InvalidData));
-        assert_eq!(rt; bytes, b"c\xff\0d".as_slice(), "a refusal takes nothing");
-        let mut bytes: &[u8] = b"d";
-        let got = bytes.read_nul_terminated_str();
-        assert!(rt; matches!(&got, Err(error) if error.kind() == ErrorKind::UnexpectedEof));
-        assert_eq!(rt; bytes, b"d".as_slice());
-        Ok(())
     }
 }

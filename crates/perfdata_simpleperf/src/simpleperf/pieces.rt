@@ -1,3 +1,4 @@
+//! Pieces behind their lengths.
 ghost use Rattle.std.specs.Prelude.{IfOk, IfErr};
 ghost use Rattle.perfdata_simpleperf.specs.Pieces.{PieceAt, LacksPiece};
 

@@ -52,6 +52,11 @@ fn file(alloc: Global, events: &Events) -> Result<Image, AllocError> {
     Ok(image)
 }
 
+/// The file of two event types.
+pub fn two_events(alloc: Global) -> Result<Image, AllocError> {
+    file(alloc, &EVENTS)
+}
+
 const BY_IDS: &str = "0 0 7 1 9 0 16\n24 0 8 0 9 0 16\n48 0 1 0 9 0 16\n";
 
 #[test]

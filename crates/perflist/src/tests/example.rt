@@ -1,5 +1,4 @@
-//! The library examples of the README, and what they count.
-use linux_perf_data::jitdump::{JitDumpError, JitDumpReader, JitDumpRecord};
+//! What the library examples of README count, of a pipe too.
 use linux_perf_data::source::{Counted, Source};
 use linux_perf_data::{Error, PerfFileReader, PerfFileRecord};
 use std::alloc::Global;
@@ -30,20 +29,7 @@ fn samples_of_pipe<R: Read + Drop>(alloc: Global, pipe: BufReader<R>) -> Result<
     samples(PerfFileReader::parse_pipe(alloc, Counted::new(pipe))?)
 }
 
-fn code_size<R: Read + Drop>(alloc: Global, file: R) -> Result<u64, JitDumpError> {
-    let mut reader = JitDumpReader::new(alloc, Counted::new(file))?;
-    let mut size = 0u64;
-    for _ in 0..u64::MAX {
-        let Some(record) = reader.next_record()? else {
-            break;
-        };
-        if let JitDumpRecord::CodeLoad(load) = record.parse(alloc)? {
-            size = size.saturating_add(load.code_bytes.len() as u64);
-        }
-    }
-    Ok(size)
-}
-
+use crate::tests::code_size::code_size;
 use crate::tests::image::Image;
 use crate::tests::jit::FILE;
 use crate::tests::late::LATE;

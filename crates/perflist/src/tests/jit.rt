@@ -2,9 +2,10 @@
 use crate::jit::list_jit;
 use crate::list::{ListCause, ListFault};
 use crate::tests::Twenty;
-use linux_perf_data::source::{Counted, Script, Step};
+use linux_perf_data::source::{Counted, Script, Source, Step};
 use std::alloc::{AllocError, Global};
 use std::io::{Cursor, ErrorKind};
+use std::process::Abort;
 use std::test::Fail;
 
 /// A header of 40 bytes, a load record of 62 at 9, and a closing one of 16 at 11.
@@ -69,32 +70,36 @@ fn end_of(listed: Result<u64, ListFault>) -> (End, u64) {
     }
 }
 
+// How the listing of a jitdump file ends, how many lines it tells, and the lines.
+fn listed<R: Source + Drop>(alloc: Global, source: R) -> (End, u64, Vec<u8>) {
+    let mut out: Vec<u8> = Vec::new(alloc);
+    let (end, lines) = end_of(list_jit(alloc, source, &mut out));
+    (end, lines, out)
+}
+
+/// Lists a jitdump file from a source, and compares the end, the number of lines and the lines with what is wanted.
+fn lists<R: Source + Drop>(
+    rt: &(impl Abort + AllocGlobal),
+    source: R,
+    end: End,
+    lines: u64,
+    wanted: &[u8],
+) {
+    let (came, told, out) = listed(rt.alloc(), source);
+    assert_eq!(rt; (came, told, out.as_slice()), (end, lines, wanted));
+}
+
 #[test]
 fn lists_a_jitdump_file(rt: HostRuntime) -> Result<(), Fail> {
-    let mut out: Vec<u8> = Vec::new(rt.alloc());
-    assert_eq!(rt;
-        end_of(list_jit(rt.alloc(), &FILE[..], &mut out)),
-        (End::Whole, 2)
-    );
-    assert_eq!(rt; out.as_slice(), LINES);
-    let mut again: Vec<u8> = Vec::new(rt.alloc());
-    let file = Counted::new(Cursor::new(&FILE[..]));
-    assert_eq!(rt;
-        end_of(list_jit(rt.alloc(), file, &mut again)),
-        (End::Whole, 2)
-    );
-    assert_eq!(rt; again.as_slice(), LINES);
+    lists(&rt, FILE.as_slice(), End::Whole, 2, LINES);
+    let file = Counted::new(Cursor::new(FILE.as_slice()));
+    lists(&rt, file, End::Whole, 2, LINES);
     Ok(())
 }
 
 #[test]
 fn lists_what_node_wrote(rt: HostRuntime) -> Result<(), Fail> {
-    let mut out: Vec<u8> = Vec::new(rt.alloc());
-    assert_eq!(rt;
-        end_of(list_jit(rt.alloc(), &NODE[..], &mut out)),
-        (End::Whole, 3)
-    );
-    assert_eq!(rt; out.as_slice(), NODE_LINES);
+    lists(&rt, NODE.as_slice(), End::Whole, 3, NODE_LINES);
     Ok(())
 }
 
@@ -111,18 +116,14 @@ fn lists_what_is_whole(rt: HostRuntime) -> Result<(), Fail> {
         (118, End::Whole, 2, LINES),
     ];
     for (shown, end, lines, wanted) in cases {
-        assert!(rt; shown <= FILE.len());
-        let mut out: Vec<u8> = Vec::new(rt.alloc());
-        let listed = list_jit(rt.alloc(), &FILE[..shown], &mut out);
-        assert_eq!(rt; end_of(listed), (end, lines), "{shown}");
-        assert_eq!(rt; out.as_slice(), wanted, "{shown}");
+        let front = FILE.get(..shown);
+        assert!(rt; front.is_some());
+        lists(&rt, front.unwrap_or(&[]), end, lines, wanted);
     }
     let mut bytes = FILE;
     bytes[106] = 15;
-    let mut out: Vec<u8> = Vec::new(rt.alloc());
-    let listed = list_jit(rt.alloc(), &bytes[..], &mut out);
-    assert_eq!(rt; end_of(listed), (End::Read(ErrorKind::InvalidData), 1));
-    assert_eq!(rt; out.as_slice(), FIRST);
+    let bytes = bytes.as_slice();
+    lists(&rt, bytes, End::Read(ErrorKind::InvalidData), 1, FIRST);
     Ok(())
 }
 
@@ -144,19 +145,21 @@ fn tells_lines_before_a_fault(rt: HostRuntime) -> Result<(), Fail> {
         (&[Step::Give(110), Step::Pause, fault], failed, FIRST),
     ];
     for (steps, end, wanted) in cases {
-        let mut out: Vec<u8> = Vec::new(rt.alloc());
-        let listed = list_jit(rt.alloc(), scripted(rt.alloc(), steps)?, &mut out);
         let lines = if wanted.is_empty() { 0 } else { 1 };
-        assert_eq!(rt; end_of(listed), (end, lines));
-        assert_eq!(rt; out.as_slice(), wanted);
+        lists(&rt, scripted(rt.alloc(), steps)?, end, lines, wanted);
     }
     Ok(())
 }
 
+// How the listing of the file ends where the writer takes 20 bytes, how many lines it tells, and how many bytes were taken.
+fn refused(alloc: Global) -> ((End, u64), usize) {
+    let mut out = Twenty { taken: 0 };
+    let listed = list_jit(alloc, FILE.as_slice(), &mut out);
+    (end_of(listed), out.taken)
+}
+
 #[test]
 fn tells_lines_before_a_refused_write(rt: HostRuntime) {
-    let mut out = Twenty { taken: 0 };
-    let listed = list_jit(rt.alloc(), &FILE[..], &mut out);
-    assert_eq!(rt; end_of(listed), (End::Write(ErrorKind::StorageFull), 1));
-    assert_eq!(rt; out.taken, 20);
+    let refusal = End::Write(ErrorKind::StorageFull);
+    assert_eq!(rt; refused(rt.alloc()), ((refusal, 1), 20));
 }

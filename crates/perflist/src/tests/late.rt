@@ -1,12 +1,13 @@
 //! The cases of attributes and features that come late in a pipe.
 use super::image::Part;
-use super::pipe::{TWO, described, little, piped, reads, shows};
+use super::pipe::{TWO, described, first_name, little, opened, piped, reads, shows};
 use super::simpleperf::{EVENT, recorded};
 use super::{End, end_of_error, ends, made, reads as reads_file};
 use linux_perf_data::source::Source;
 use linux_perf_data::{
-    Endianness, PerfFile, PerfFileReader, PerfFileRecord, PerfRecordIter, RecordPlace,
+    Endianness, Error, PerfFile, PerfFileReader, PerfFileRecord, PerfRecordIter, RecordPlace,
 };
+use std::alloc::Global;
 use std::io::Cursor;
 use std::process::Abort;
 use std::test::Fail;
@@ -123,66 +124,93 @@ fn a_cut_late_record_is_the_end(rt: HostRuntime) -> Result<(), Fail> {
     for length in 121..200usize {
         let cut = image.bytes.get(..length).unwrap_or(&[]);
         shows(&rt, "cut", cut, LATE_FRONT, End::Whole)?;
-        let PerfFileReader {
-            perf_file: mut file,
-            record_iter: mut records,
-        } = PerfFileReader::parse_pipe(rt.alloc(), cut)?;
-        comes(&rt, &mut records, &mut file, Ok(true), 1);
-        comes(&rt, &mut records, &mut file, Ok(false), 1);
+        come(
+            &rt,
+            opened(rt.alloc(), cut)?,
+            &[(Ok(true), 1), (Ok(false), 1)],
+        );
     }
     Ok(())
 }
 
-/// Asks for a record, and compares whether one came, or why it was refused, and how many attributes there are then.
-fn comes<R: Source>(
-    rt: &impl Abort,
-    records: &mut PerfRecordIter<R>,
-    file: &mut PerfFile,
-    wanted: Result<bool, End>,
-    attributes: usize,
-) {
+/// Whether a record came, or why it was refused, and how many attributes there are then.
+type Answer = (Result<bool, End>, usize);
+
+/// Asks for a record.
+fn asked<R: Source>(records: &mut PerfRecordIter<R>, file: &mut PerfFile) -> Answer {
     let came = match records.next_record(file) {
         Ok(record) => Ok(record.is_some()),
         Err(error) => Err(end_of_error(&error)),
     };
-    assert_eq!(rt; came, wanted);
-    assert_eq!(rt; file.event_attributes().len(), attributes);
+    (came, file.event_attributes().len())
+}
+
+/// Asks for one record after another, and compares the answers.
+fn answers<R: Source>(
+    rt: &impl Abort,
+    records: &mut PerfRecordIter<R>,
+    file: &mut PerfFile,
+    wanted: &[Answer],
+) {
+    for answer in wanted {
+        assert_eq!(rt; asked(records, file), *answer);
+    }
+}
+
+/// Compares the first answers of a reader, and returns what the input then says of itself.
+fn come<R: Source + Drop>(
+    rt: &impl Abort,
+    reader: PerfFileReader<R>,
+    wanted: &[Answer],
+) -> PerfFile {
+    let PerfFileReader {
+        perf_file: mut file,
+        record_iter: mut records,
+    } = reader;
+    answers(rt, &mut records, &mut file, wanted);
+    file
 }
 
 #[test]
 fn attributes_as_they_come(rt: HostRuntime) -> Result<(), Fail> {
     let image = little(rt.alloc(), &LATE)?;
-    let PerfFileReader {
-        perf_file: mut file,
-        record_iter: mut records,
-    } = PerfFileReader::parse_pipe(rt.alloc(), image.bytes.as_slice())?;
-    assert_eq!(rt; file.event_attributes().len(), 1);
-    for (record, attributes) in [(true, 1usize), (true, 2), (true, 2), (false, 2)] {
-        comes(&rt, &mut records, &mut file, Ok(record), attributes);
-    }
+    let reader = opened(rt.alloc(), image.bytes.as_slice())?;
+    assert_eq!(rt; reader.perf_file.event_attributes().len(), 1);
+    let wanted: [Answer; 4] = [(Ok(true), 1), (Ok(true), 2), (Ok(true), 2), (Ok(false), 2)];
+    let file = come(&rt, reader, &wanted);
     let second = file.event_attributes().get(1);
     assert_eq!(rt; second.map(|one| one.ids()), Some([6].as_slice()));
     Ok(())
 }
 
-/// Compares the first record of a pipe: a sample of attribute 0, of this time and with a body so long.
-fn is_first(
-    rt: &impl Abort,
-    came: Option<(RecordPlace, PerfFileRecord<'_>)>,
-    time: u64,
-    long: usize,
-) {
-    assert!(rt; came.is_some());
-    for (place, record) in came {
-        assert_eq!(rt;
-            (place.offset, place.round, place.timestamp),
-            (0, 0, Some(time))
-        );
-        let PerfFileRecord::EventRecord { attr_index, event } = record else {
-            rt.abort()
-        };
-        assert_eq!(rt; (attr_index, event.record_type.0, event.misc), (0, 9, 0));
-        assert_eq!(rt; event.body.len(), long);
+/// What is told of a record: its offset, round and time, the attribute of an event's, its type and misc, and how long its
+/// body is.
+type Told = ((u64, u64, Option<u64>), Option<usize>, (u32, u16, usize));
+
+fn told_of(place: RecordPlace, record: &PerfFileRecord<'_>) -> Told {
+    let place = (place.offset, place.round, place.timestamp);
+    match record {
+        PerfFileRecord::EventRecord { attr_index, event } => (
+            place,
+            Some(*attr_index),
+            (event.record_type.0, event.misc, event.body.len()),
+        ),
+        PerfFileRecord::UserRecord(user) => (
+            place,
+            None,
+            (user.record_type.record_type().0, user.misc, user.body.len()),
+        ),
+    }
+}
+
+/// Asks for a record, and tells of it.
+fn next_told<R: Source>(
+    records: &mut PerfRecordIter<R>,
+    file: &mut PerfFile,
+) -> Result<Option<Told>, Error> {
+    match records.next_record(file)? {
+        Some((place, record)) => Ok(Some(told_of(place, &record))),
+        None => Ok(None),
     }
 }
 
@@ -203,15 +231,29 @@ fn another_pipes_attributes(rt: HostRuntime) -> Result<(), Fail> {
         (&cut, 1, 8),
     ] {
         let image = little(rt.alloc(), parts)?;
-        let reader = PerfFileReader::parse_pipe(rt.alloc(), image.bytes.as_slice())?;
-        let mut records = reader.record_iter;
-        let mut own = reader.perf_file;
-        let bytes = other.bytes.as_slice();
-        let mut foreign = PerfFileReader::parse_pipe(rt.alloc(), bytes)?.perf_file;
-        is_first(&rt, records.next_record(&mut foreign)?, time, long);
-        comes(&rt, &mut records, &mut foreign, Err(End::Foreign), 2);
-        comes(&rt, &mut records, &mut own, Err(End::Failed), 1);
+        let reader = opened(rt.alloc(), image.bytes.as_slice())?;
+        let first = ((0, 0, Some(time)), Some(0), (9, 0, long));
+        is_foreign(&rt, reader, &other.bytes, first)?;
     }
+    Ok(())
+}
+
+/// Compares what is told of the first record, a sample of attribute 0, where the `PerfFile` is of another pipe, and how that
+/// one and its own are then refused.
+fn is_foreign(
+    rt: &(impl Abort + AllocGlobal),
+    reader: PerfFileReader<&[u8]>,
+    other: &[u8],
+    first: Told,
+) -> Result<(), Fail> {
+    let mut records = reader.record_iter;
+    let mut own = reader.perf_file;
+    let mut foreign = opened(rt.alloc(), other)?.perf_file;
+    assert_eq!(rt; next_told(&mut records, &mut foreign)?, Some(first));
+    let refused: [Answer; 1] = [(Err(End::Foreign), 2)];
+    answers(rt, &mut records, &mut foreign, &refused);
+    let failed: [Answer; 1] = [(Err(End::Failed), 1)];
+    answers(rt, &mut records, &mut own, &failed);
     Ok(())
 }
 
@@ -226,50 +268,71 @@ fn another_orders_names(rt: HostRuntime) -> Result<(), Fail> {
     let breaks = behind_one(Part::Attribute(0x10004, 0, &[6]));
     for parts in [LATE.as_slice(), &breaks] {
         let image = little(rt.alloc(), parts)?;
-        let bytes = image.bytes.as_slice();
-        let mut records = PerfFileReader::parse_pipe(rt.alloc(), bytes)?.record_iter;
-        let bytes = other.bytes.as_slice();
-        let mut foreign = PerfFileReader::parse_pipe(rt.alloc(), bytes)?.perf_file;
-        for wanted in [Ok(true), Err(End::Attribute), Err(End::Failed)] {
-            comes(&rt, &mut records, &mut foreign, wanted, 1);
-        }
-        let first = foreign.event_attributes().first();
-        assert_eq!(rt; first.and_then(|one| one.name()), Some("c"));
+        keeps_name(&rt, &image.bytes, &other.bytes)?;
     }
     Ok(())
+}
+
+/// Compares the answers where a pipe's records are read into the `PerfFile` of the other order, and the name that is kept.
+fn keeps_name(rt: &(impl Abort + AllocGlobal), bytes: &[u8], other: &[u8]) -> Result<(), Fail> {
+    let reader = PerfFileReader {
+        perf_file: opened(rt.alloc(), other)?.perf_file,
+        record_iter: opened(rt.alloc(), bytes)?.record_iter,
+    };
+    let wanted: [Answer; 3] = [
+        (Ok(true), 1),
+        (Err(End::Attribute), 1),
+        (Err(End::Failed), 1),
+    ];
+    let foreign = come(rt, reader, &wanted);
+    assert_eq!(rt; first_name(&foreign), Some("c"));
+    Ok(())
+}
+
+/// What a file says of itself whose attribute is named by simpleperf's meta info.
+fn named(alloc: Global) -> Result<PerfFile, Fail> {
+    let image = recorded(alloc, 80, EVENT)?;
+    Ok(opened_file(alloc, &image.bytes)?.perf_file)
+}
+
+/// Whether an attribute has a name.
+fn has_name(file: &PerfFile) -> bool {
+    file.event_attributes()
+        .iter()
+        .any(|one| one.name().is_some())
 }
 
 /// A file named its attribute by simpleperf's meta info, and no EVENT_DESC names it anew.
 #[test]
 fn names_are_given_anew(rt: HostRuntime) -> Result<(), Fail> {
-    let other = recorded(rt.alloc(), 80, EVENT)?;
-    let source = Cursor::new(other.bytes.as_slice());
-    let mut file = PerfFileReader::parse_file(rt.alloc(), source)?.perf_file;
+    let mut file = named(rt.alloc())?;
     let image = little(rt.alloc(), &LATE)?;
-    let mut records = PerfFileReader::parse_pipe(rt.alloc(), image.bytes.as_slice())?.record_iter;
-    comes(&rt, &mut records, &mut file, Ok(true), 1);
-    let first = file.event_attributes().first();
-    assert_eq!(rt; first.and_then(|one| one.name()), Some("cpu-clock"));
-    comes(&rt, &mut records, &mut file, Ok(true), 2);
-    let named = file
-        .event_attributes()
-        .iter()
-        .any(|one| one.name().is_some());
-    assert!(rt; !named);
+    let mut records = opened(rt.alloc(), image.bytes.as_slice())?.record_iter;
+    answers(&rt, &mut records, &mut file, &[(Ok(true), 1)]);
+    assert_eq!(rt; first_name(&file), Some("cpu-clock"));
+    answers(&rt, &mut records, &mut file, &[(Ok(true), 2)]);
+    assert!(rt; !has_name(&file));
     Ok(())
 }
 
 #[test]
 fn a_broken_rule_stays(rt: HostRuntime) -> Result<(), Fail> {
     let image = little(rt.alloc(), &behind_one(Part::Attribute(0x10004, 0, &[6])))?;
-    let PerfFileReader {
-        perf_file: mut file,
-        record_iter: mut records,
-    } = PerfFileReader::parse_pipe(rt.alloc(), image.bytes.as_slice())?;
-    for wanted in [Ok(true), Err(End::Lacks(0)), Err(End::Failed)] {
-        comes(&rt, &mut records, &mut file, wanted, 1);
-    }
+    let reader = opened(rt.alloc(), image.bytes.as_slice())?;
+    let wanted: [Answer; 3] = [
+        (Ok(true), 1),
+        (Err(End::Lacks(0)), 1),
+        (Err(End::Failed), 1),
+    ];
+    come(&rt, reader, &wanted);
     Ok(())
+}
+
+/// Whether there are no features, how many there are, and whether this is the host's name.
+fn has_host(file: &PerfFile, name: Option<&str>) -> Result<(bool, usize, bool), Error> {
+    let has = file.hostname()? == name;
+    let features = file.features();
+    Ok((features.is_empty(), features.len(), has))
 }
 
 #[test]
@@ -281,13 +344,11 @@ fn late_features(rt: HostRuntime) -> Result<(), Fail> {
     let PerfFileReader {
         perf_file: mut file,
         record_iter: mut records,
-    } = PerfFileReader::parse_pipe(rt.alloc(), image.bytes.as_slice())?;
-    comes(&rt, &mut records, &mut file, Ok(true), 1);
-    assert_eq!(rt; file.hostname()?, None);
-    assert!(rt; file.features().is_empty());
-    comes(&rt, &mut records, &mut file, Ok(true), 1);
-    assert_eq!(rt; file.hostname()?, Some("a"));
-    assert_eq!(rt; file.features().len(), 1);
+    } = opened(rt.alloc(), image.bytes.as_slice())?;
+    answers(&rt, &mut records, &mut file, &[(Ok(true), 1)]);
+    assert_eq!(rt; has_host(&file, None)?, (true, 0, true));
+    answers(&rt, &mut records, &mut file, &[(Ok(true), 1)]);
+    assert_eq!(rt; has_host(&file, Some("a"))?, (false, 1, true));
     Ok(())
 }
 
@@ -298,20 +359,27 @@ fn names_of(
     wanted: [Option<&str>; 2],
 ) -> Result<(), Fail> {
     let image = little(rt.alloc(), parts)?;
-    let PerfFileReader {
-        perf_file: mut file,
-        record_iter: mut records,
-    } = PerfFileReader::parse_pipe(rt.alloc(), image.bytes.as_slice())?;
-    for _ in 0..parts.len() {
-        if records.next_record(&mut file)?.is_none() {
+    let file = at_end(opened(rt.alloc(), image.bytes.as_slice())?, parts.len())?;
+    assert!(rt; are_named(&file, wanted));
+    Ok(())
+}
+
+/// What a pipe of at most so many records says of itself at its end.
+fn at_end<R: Source + Drop>(reader: PerfFileReader<R>, records: usize) -> Result<PerfFile, Error> {
+    let mut file = reader.perf_file;
+    let mut iter = reader.record_iter;
+    for _ in 0..records {
+        if iter.next_record(&mut file)?.is_none() {
             break;
         }
     }
-    for (attribute, name) in file.event_attributes().iter().zip(wanted) {
-        assert_eq!(rt; attribute.name(), name);
-    }
-    assert_eq!(rt; file.event_attributes().len(), 2);
-    Ok(())
+    Ok(file)
+}
+
+/// Whether there are two attributes, of these names.
+fn are_named(file: &PerfFile, names: [Option<&str>; 2]) -> bool {
+    let attributes = file.event_attributes();
+    attributes.len() == 2 && attributes[0].name() == names[0] && attributes[1].name() == names[1]
 }
 
 #[test]
@@ -339,15 +407,21 @@ fn a_file_takes_nothing_in(rt: HostRuntime) -> Result<(), Fail> {
     let wanted = "0 0 1 0 9 0 8\n16 0 - - 64 0 64\n";
     reads_file(&rt, "a file", (88, 4, 0), &parts, wanted, End::Whole)?;
     let image = made(rt.alloc(), (88, 4, 0), &parts)?;
-    let PerfFileReader {
-        perf_file: mut file,
-        record_iter: mut records,
-    } = PerfFileReader::parse_file(rt.alloc(), Cursor::new(image.bytes.as_slice()))?;
-    for record in [true, true, false] {
-        comes(&rt, &mut records, &mut file, Ok(record), 1);
-    }
+    let reader = opened_file(rt.alloc(), &image.bytes)?;
+    let wanted: [Answer; 3] = [(Ok(true), 1), (Ok(true), 1), (Ok(false), 1)];
+    come(&rt, reader, &wanted);
+    a_record_without_contents(&rt)
+}
+
+/// The reader of a file.
+fn opened_file(alloc: Global, bytes: &[u8]) -> Result<PerfFileReader<Cursor<&[u8]>>, Fail> {
+    Ok(PerfFileReader::parse_file(alloc, Cursor::new(bytes))?)
+}
+
+/// In a file even that is a record.
+fn a_record_without_contents(rt: &(impl Abort + AllocGlobal)) -> Result<(), Fail> {
     let cut = [Part::Sample(1), Part::Head(80, 0, 8)];
     let wanted = "0 0 1 0 9 0 8\n16 0 - - 80 0 0\n";
-    reads_file(&rt, "no contents", (24, 4, 0), &cut, wanted, End::Whole)?;
-    ends(&rt, (24, 4, 0), &cut, &[End::Other, End::Other, End::Whole])
+    reads_file(rt, "no contents", (24, 4, 0), &cut, wanted, End::Whole)?;
+    ends(rt, (24, 4, 0), &cut, &[End::Other, End::Other, End::Whole])
 }

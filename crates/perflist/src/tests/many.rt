@@ -1,9 +1,10 @@
 //! Many small inputs, each read by the program and by the plain one.
 use super::image::Image;
+use super::pipe::{listed, opened};
 use super::slow::events::Event;
 use super::slow::pipe::{Pipe, pipe_of};
 use super::{End, end_of, slow};
-use crate::list::{list_file, list_pipe};
+use crate::list::list_file;
 use linux_perf_data::{AttributeDescription, Endianness, Feature, PerfFile, PerfFileReader};
 use std::alloc::{AllocError, Global};
 use std::io::Cursor;
@@ -91,16 +92,27 @@ fn described(alloc: Global, dice: &mut Dice, endian: Endianness) -> Result<Image
     image.word(count)?;
     image.word(dice.pick(&[64, 64, 64, 64, 72, 63]))?;
     for _ in 0..count {
-        image.attribute(4, 0)?;
         let ids = ids(alloc, dice)?;
-        image.word(u32::try_from(ids.len()).unwrap_or(0))?;
-        image.word(2)?;
-        image.raw(&[dice.pick(b"abc\0\xff"), 0])?;
-        for id in &ids {
-            image.long(*id)?;
-        }
+        describe(&mut image, &ids, dice.pick(b"abc\0\xff"))?;
     }
     Ok(image)
+}
+
+/// Describes an event of these identifiers and a name of this one byte.
+fn describe(image: &mut Image, ids: &[u64], letter: u8) -> Result<(), AllocError> {
+    image.attribute(4, 0)?;
+    image.word(u32::try_from(ids.len()).unwrap_or(0))?;
+    image.word(2)?;
+    image.raw(&[letter, 0])?;
+    longs(image, ids)
+}
+
+/// These numbers.
+fn longs(image: &mut Image, numbers: &[u64]) -> Result<(), AllocError> {
+    for number in numbers {
+        image.long(*number)?;
+    }
+    Ok(())
 }
 
 /// Something that is no ordinary record.
@@ -176,11 +188,18 @@ fn made(alloc: Global, dice: &mut Dice) -> Result<Image, AllocError> {
 
 /// An attribute is the one that the plain program found.
 fn same_event(rt: &impl Abort, attribute: &AttributeDescription, event: &Event) {
-    assert_eq!(rt; attribute.attributes().sample_format.0, event.format);
-    assert_eq!(rt; attribute.attributes().flags.0, event.flags);
-    assert_eq!(rt; attribute.ids(), event.ids.as_slice());
+    let name = event.name.as_ref().map(|name| name.as_slice());
+    assert_eq!(rt;
+        event_in(attribute),
+        (event.format, event.flags, event.ids.as_slice(), name)
+    );
+}
+
+/// The sample type and the flags of an attribute, its identifiers, and the bytes of its name.
+fn event_in(attribute: &AttributeDescription) -> (u64, u64, &[u64], Option<&[u8]>) {
+    let found = attribute.attributes();
     let name = attribute.name().map(|name| name.as_bytes());
-    assert_eq!(rt; name, event.name.as_ref().map(|name| name.as_slice()));
+    (found.sample_format.0, found.flags.0, attribute.ids(), name)
 }
 
 /// What a pipe says of itself is what the plain program found.
@@ -190,52 +209,72 @@ fn same_file(
     pipe: &Pipe<'_>,
 ) -> Result<(), Fail> {
     let events = pipe.events(rt.alloc())?;
-    assert_eq!(rt; file.event_attributes().len(), events.len());
-    for (attribute, event) in file.event_attributes().iter().zip(events.iter()) {
-        same_event(rt, attribute, event);
-    }
+    same_events(rt, file.event_attributes(), &events);
     for number in [3u32, 12, 255, 256] {
         let data = pipe.data(rt.alloc(), number as u64)?;
-        assert_eq!(rt; file.feature_section_data(Feature(number)), data);
-        let has = file.features().has_feature(Feature(number));
-        assert_eq!(rt; has, data.is_some() && number < 256);
+        let has = data.is_some() && number < 256;
+        assert_eq!(rt; feature_in(file, Feature(number)), (data, has));
     }
     Ok(())
 }
 
+/// The attributes are those that the plain program found.
+fn same_events(rt: &impl Abort, attributes: &[AttributeDescription], events: &[Event]) {
+    assert_eq!(rt; attributes.len(), events.len());
+    for (attribute, event) in attributes.iter().zip(events.iter()) {
+        same_event(rt, attribute, event);
+    }
+}
+
+/// The data of a feature, and whether it is in the set.
+fn feature_in(file: &PerfFile, feature: Feature) -> (Option<&[u8]>, bool) {
+    let has = file.features().has_feature(feature);
+    (file.feature_section_data(feature), has)
+}
+
 /// Reads a pipe to its end, and compares what it then says of itself.
 fn reads_on(rt: &(impl Abort + AllocGlobal), bytes: &[u8], pipe: &Pipe<'_>) -> Result<(), Fail> {
-    let PerfFileReader {
-        perf_file: mut file,
-        record_iter: mut records,
-    } = PerfFileReader::parse_pipe(rt.alloc(), bytes)?;
-    for _ in 0..bytes.len() {
-        match records.next_record(&mut file) {
+    let file = at_end(opened(rt.alloc(), bytes)?, bytes.len());
+    same_file(rt, &file, pipe)
+}
+
+/// What a pipe of at most so many records says of itself at its end, or where it is refused.
+fn at_end(reader: PerfFileReader<&[u8]>, records: usize) -> PerfFile {
+    let mut file = reader.perf_file;
+    let mut iter = reader.record_iter;
+    for _ in 0..records {
+        match iter.next_record(&mut file) {
             Ok(Some(_)) => {}
             _ => break,
         }
     }
-    same_file(rt, &file, pipe)
+    file
 }
 
 /// Compares both programs on a pipe, and says whether it opens.
 fn agree(rt: &(impl Abort + AllocGlobal), bytes: &[u8]) -> Result<bool, Fail> {
-    let mut out: Vec<u8> = Vec::new(rt.alloc());
-    let listed = list_pipe(rt.alloc(), bytes, &mut out);
     match pipe_of(rt.alloc(), bytes)? {
         Ok(pipe) => {
-            assert_eq!(rt; end_of(&listed), pipe.end, "{bytes:?}");
             let lines = pipe.lines(rt.alloc())?;
-            assert_eq!(rt; out.as_slice(), lines.as_bytes(), "{bytes:?}");
+            comes_to(rt, bytes, lines.as_str(), pipe.end);
             reads_on(rt, bytes, &pipe)?;
             Ok(true)
         }
         Err(end) => {
-            assert_eq!(rt; end_of(&listed), end, "{bytes:?}");
-            assert!(rt; out.is_empty());
+            comes_to(rt, bytes, "", end);
             Ok(false)
         }
     }
+}
+
+/// Compares the end and the lines of a pipe with what the plain program found.
+fn comes_to(rt: &(impl Abort + AllocGlobal), bytes: &[u8], lines: &str, end: End) {
+    let (came, _, out) = listed(rt.alloc(), bytes);
+    assert_eq!(rt;
+        (came, out.as_slice()),
+        (end, lines.as_bytes()),
+        "{bytes:?}"
+    );
 }
 
 #[test]
@@ -286,15 +325,20 @@ fn both_programs_list_files(rt: HostRuntime) -> Result<(), Fail> {
     let mut whole = 0u64;
     for _ in 0..1000u32 {
         let image = file(rt.alloc(), &mut dice)?;
-        let mut out: Vec<u8> = Vec::new(rt.alloc());
-        let listed = list_file(rt.alloc(), Cursor::new(image.bytes.as_slice()), &mut out);
         let (lines, end) = slow::lines_of(rt.alloc(), &image.bytes)?;
-        assert_eq!(rt; end_of(&listed), end);
-        assert_eq!(rt; out.as_slice(), lines.as_bytes());
+        let (came, out) = listed_file(rt.alloc(), &image.bytes);
+        assert_eq!(rt; (came, out.as_slice()), (end, lines.as_bytes()));
         if end == End::Whole {
             whole = whole.saturating_add(1);
         }
     }
     assert!(rt; whole > 400, "{whole}");
     Ok(())
+}
+
+/// How the listing of a file ends, and its lines.
+fn listed_file(alloc: Global, bytes: &[u8]) -> (End, Vec<u8>) {
+    let mut out: Vec<u8> = Vec::new(alloc);
+    let listed = list_file(alloc, Cursor::new(bytes), &mut out);
+    (end_of(&listed), out)
 }

@@ -3,7 +3,7 @@ use super::image::{Image, Part};
 use super::{End, FIRST, Twenty, end_of, end_of_error, lines_of, lists};
 use crate::list::{ListCause, ListFault, list_pipe};
 use linux_perf_data::source::{Counted, Script, Source, Step};
-use linux_perf_data::{Endianness, Feature, PerfFileReader};
+use linux_perf_data::{Endianness, Feature, PerfFile, PerfFileReader, SimpleperfFileRecord};
 use std::alloc::{AllocError, Global};
 use std::io::{BufReader, Cursor, ErrorKind};
 use std::process::Abort;
@@ -38,7 +38,19 @@ fn steps_of(alloc: Global, step: Step, count: usize) -> Result<Vec<Step>, AllocE
     Ok(steps)
 }
 
-/// Lists a pipe from a source, and compares the lines, their number and the end with what is wanted.
+/// How the listing of a pipe ends, how many lines it tells, and the lines.
+pub fn listed<R: Source + Drop>(alloc: Global, source: R) -> (End, u64, Vec<u8>) {
+    let mut out: Vec<u8> = Vec::new(alloc);
+    let listed = list_pipe(alloc, source, &mut out);
+    (end_of(&listed), lines_of(&listed), out)
+}
+
+/// How many lines a text has.
+fn count_of(text: &str) -> u64 {
+    text.lines().count() as u64
+}
+
+/// Lists a pipe from a source, and compares the end, the number of lines and the lines with what is wanted.
 fn pipes<R: Source + Drop>(
     rt: &(impl Abort + AllocGlobal),
     name: &str,
@@ -47,15 +59,29 @@ fn pipes<R: Source + Drop>(
     wanted: &str,
     end: End,
 ) {
-    let mut out: Vec<u8> = Vec::new(rt.alloc());
-    let listed = list_pipe(rt.alloc(), source, &mut out);
-    assert_eq!(rt; end_of(&listed), end, "{name}, {way}");
+    let (came, told, out) = listed(rt.alloc(), source);
+    let lines = count_of(wanted);
     assert_eq!(rt;
-        lines_of(&listed),
-        wanted.lines().count() as u64,
+        (came, told, out.as_slice()),
+        (end, lines, wanted.as_bytes()),
         "{name}, {way}"
     );
-    assert_eq!(rt; out.as_slice(), wanted.as_bytes(), "{name}, {way}");
+}
+
+/// A source that owns these bytes.
+fn owned(alloc: Global, bytes: &[u8]) -> Result<Cursor<Vec<u8>>, AllocError> {
+    Ok(Cursor::new(Vec::from_slice(alloc, bytes)?))
+}
+
+/// A source of these bytes that holds some of them, and counts them.
+fn counted(alloc: Global, bytes: &[u8]) -> Result<Counted<BufReader<&[u8]>>, Fail> {
+    Ok(Counted::new(BufReader::new(alloc, bytes)?))
+}
+
+/// A source of these bytes that gives them one by one.
+fn one_by_one(alloc: Global, bytes: &[u8]) -> Result<Script, AllocError> {
+    let steps = steps_of(alloc, Step::Give(1), bytes.len())?;
+    scripted(alloc, bytes, steps)
 }
 
 /// Lists a pipe in four ways.
@@ -67,12 +93,16 @@ pub fn shows(
     end: End,
 ) -> Result<(), Fail> {
     pipes(rt, name, "lent", bytes, wanted, end);
-    let copy = Vec::from_slice(rt.alloc(), bytes)?;
-    pipes(rt, name, "owned", Cursor::new(copy), wanted, end);
-    let buffered = BufReader::new(rt.alloc(), bytes)?;
-    pipes(rt, name, "counted", Counted::new(buffered), wanted, end);
-    let steps = steps_of(rt.alloc(), Step::Give(1), bytes.len())?;
-    let source = scripted(rt.alloc(), bytes, steps)?;
+    pipes(rt, name, "owned", owned(rt.alloc(), bytes)?, wanted, end);
+    pipes(
+        rt,
+        name,
+        "counted",
+        counted(rt.alloc(), bytes)?,
+        wanted,
+        end,
+    );
+    let source = one_by_one(rt.alloc(), bytes)?;
     pipes(rt, name, "one byte a read", source, wanted, end);
     Ok(())
 }
@@ -108,14 +138,25 @@ const TRACED_LINES: &str = "0 0 - - 71 0 41\n49 0 20 0 9 0 8\n";
 
 const TRACE_LINE: &str = "0 0 - - 71 0 41\n";
 
+/// What a pipe of this order and these parts comes to, and how many bytes it has.
+fn reads_in(
+    rt: &(impl Abort + AllocGlobal),
+    name: &str,
+    endian: Endianness,
+    parts: &[Part<'_>],
+    wanted: &str,
+) -> Result<usize, Fail> {
+    let image = piped(rt.alloc(), endian, parts)?;
+    shows(rt, name, &image.bytes, wanted, End::Whole)?;
+    Ok(image.bytes.len())
+}
+
 #[test]
 fn lines_of_pipes(rt: HostRuntime) -> Result<(), Fail> {
     for endian in [Endianness::LittleEndian, Endianness::BigEndian] {
-        let image = piped(rt.alloc(), endian, &TWO)?;
-        shows(&rt, "two attributes", &image.bytes, TWO_LINES, End::Whole)?;
-        let image = piped(rt.alloc(), endian, &TRACED)?;
-        assert_eq!(rt; image.bytes.len(), 153);
-        shows(&rt, "a trace", &image.bytes, TRACED_LINES, End::Whole)?;
+        let _ = reads_in(&rt, "two attributes", endian, &TWO, TWO_LINES)?;
+        let long = reads_in(&rt, "a trace", endian, &TRACED, TRACED_LINES)?;
+        assert_eq!(rt; long, 153);
     }
     reads(
         &rt,
@@ -174,32 +215,50 @@ fn an_opening_takes_all_of_its_metadata(rt: HostRuntime) -> Result<(), Fail> {
     reads(&rt, "no attribute", &none, "", End::NoAttributes)?;
     let small = described(rt.alloc(), Endianness::LittleEndian, 56)?;
     let later = described(rt.alloc(), Endianness::LittleEndian, 64)?;
+    named_twice(&rt, &small.bytes, &later.bytes)
+}
+
+/// Names that come later don't stand for those of the opening.
+fn named_twice<'a>(
+    rt: &(impl Abort + AllocGlobal),
+    first: &'a [u8],
+    later: &'a [u8],
+) -> Result<(), Fail> {
     let named = [
         PLAIN,
-        Part::Feature(12, &small.bytes),
+        Part::Feature(12, first),
         Part::Sample(3),
-        Part::Feature(12, &later.bytes),
+        Part::Feature(12, later),
     ];
-    reads(&rt, "names that come later", &named, "", End::Sizes)
+    reads(rt, "names that come later", &named, "", End::Sizes)
+}
+
+/// How many lines were told before the writer refused one, and of which kind its error is, where it did.
+fn refusal_of(listed: &Result<u64, ListFault>) -> Option<(u64, ErrorKind)> {
+    let Err(
+        ListFault {
+            lines,
+            cause: ListCause::Write(error),
+        },
+    ) = listed
+    else {
+        return None;
+    };
+    Some((*lines, error.kind()))
+}
+
+/// How the writer of 20 bytes refuses the listing of a pipe, and how many bytes it took.
+fn refused(alloc: Global, bytes: &[u8]) -> (Option<(u64, ErrorKind)>, usize) {
+    let mut out = Twenty { taken: 0 };
+    let listed = list_pipe(alloc, bytes, &mut out);
+    (refusal_of(&listed), out.taken)
 }
 
 #[test]
 fn a_refused_write_counts_no_opening(rt: HostRuntime) -> Result<(), Fail> {
     let image = little(rt.alloc(), &TWO)?;
-    let mut out = Twenty { taken: 0 };
-    match list_pipe(rt.alloc(), image.bytes.as_slice(), &mut out) {
-        Err(
-            ListFault {
-                lines,
-                cause: ListCause::Write(error),
-            },
-        ) => {
-            assert_eq!(rt; lines, 1);
-            assert_eq!(rt; error.kind(), ErrorKind::StorageFull);
-        }
-        _ => assert!(rt; false, "the writer's refusal is the cause"),
-    }
-    assert_eq!(rt; out.taken, 20);
+    let came = refused(rt.alloc(), &image.bytes);
+    assert_eq!(rt; came, (Some((1, ErrorKind::StorageFull)), 20));
     Ok(())
 }
 
@@ -214,34 +273,63 @@ fn opening_of(rt: &impl AllocGlobal, bytes: &[u8]) -> End {
 #[test]
 fn every_cut_of_a_pipe(rt: HostRuntime) -> Result<(), Fail> {
     let image = little(rt.alloc(), &TRACED)?;
-    for (index, _) in image.bytes.iter().enumerate() {
-        let cut = image.bytes.get(..index).unwrap_or(&[]);
-        let name = format!(in rt.alloc(); "cut to {index}")?;
-        let (opening, lines, end) = match index {
-            0..=15 => (End::Short, "", End::Short),
-            16..=23 => (End::NoAttributes, "", End::NoAttributes),
-            24..=87 => (End::Short, "", End::Short),
-            88..=135 => (End::Whole, "", End::Whole),
-            136 => (End::Whole, "", End::Data),
-            _ => (End::Whole, TRACE_LINE, End::Whole),
-        };
-        assert_eq!(rt; opening_of(&rt, cut), opening, "{name}");
-        shows(&rt, &name, cut, lines, end)?;
+    for index in 0..image.bytes.len() {
+        is_cut(&rt, &image.bytes, index)?;
     }
     Ok(())
+}
+
+/// How the opening of the traced pipe's first bytes ends, their lines, and how those end.
+fn of_cut(length: usize) -> (End, &'static str, End) {
+    match length {
+        0..=15 => (End::Short, "", End::Short),
+        16..=23 => (End::NoAttributes, "", End::NoAttributes),
+        24..=87 => (End::Short, "", End::Short),
+        88..=135 => (End::Whole, "", End::Whole),
+        136 => (End::Whole, "", End::Data),
+        _ => (End::Whole, TRACE_LINE, End::Whole),
+    }
+}
+
+/// What so many of the traced pipe's bytes come to.
+fn is_cut(rt: &(impl Abort + AllocGlobal), bytes: &[u8], length: usize) -> Result<(), Fail> {
+    let cut = bytes.get(..length).unwrap_or(&[]);
+    let name = format!(in rt.alloc(); "cut to {length}")?;
+    let (opening, lines, end) = of_cut(length);
+    assert_eq!(rt; opening_of(rt, cut), opening, "{name}");
+    shows(rt, &name, cut, lines, end)
+}
+
+/// The reader of a pipe.
+pub fn opened<R: Source + Drop>(alloc: Global, source: R) -> Result<PerfFileReader<R>, Fail> {
+    Ok(PerfFileReader::parse_pipe(alloc, source)?)
+}
+
+/// What a pipe of these parts says of itself in its opening.
+fn told(alloc: Global, parts: &[Part<'_>]) -> Result<PerfFile, Fail> {
+    let image = little(alloc, parts)?;
+    Ok(opened(alloc, image.bytes.as_slice())?.perf_file)
+}
+
+/// Whether a pipe's reader has so many records more.
+fn has_records<R: Source + Drop>(reader: PerfFileReader<R>, count: usize) -> Result<bool, Fail> {
+    let PerfFileReader {
+        mut perf_file,
+        mut record_iter,
+    } = reader;
+    for _ in 0..count {
+        if record_iter.next_record(&mut perf_file)?.is_none() {
+            return Ok(false);
+        }
+    }
+    Ok(true)
 }
 
 /// How many of a pipe's bytes are left once it is opened and so many records are asked for.
 fn left_after(rt: &(impl Abort + AllocGlobal), bytes: &[u8], calls: usize) -> Result<usize, Fail> {
     let mut rest = bytes;
-    let PerfFileReader {
-        mut perf_file,
-        mut record_iter,
-    } = PerfFileReader::parse_pipe(rt.alloc(), &mut rest)?;
-    for _ in 0..calls {
-        assert!(rt; record_iter.next_record(&mut perf_file)?.is_some());
-    }
-    drop(record_iter);
+    let came = has_records(opened(rt.alloc(), &mut rest)?, calls)?;
+    assert!(rt; came);
     Ok(rest.len())
 }
 
@@ -256,41 +344,56 @@ fn nothing_is_read_ahead(rt: HostRuntime) -> Result<(), Fail> {
 
 #[test]
 fn a_longer_header(rt: HostRuntime) -> Result<(), Fail> {
-    let mut image = little(rt.alloc(), &[])?;
-    for (slot, byte) in image.bytes.iter_mut().skip(8).zip([20u8]) {
-        *slot = byte;
+    let early = [Part::Filled(7, 2)];
+    let whole = [Part::Filled(7, 4), PLAIN, Part::Sample(3)];
+    for (name, parts, wanted, end) in [
+        ("it ends early", early.as_slice(), "", End::NoAttributes),
+        ("four bytes more", &whole, LINE, End::Whole),
+    ] {
+        let image = behind_twenty(rt.alloc(), parts)?;
+        shows(&rt, name, &image.bytes, wanted, end)?;
     }
-    image.filled(7, 2)?;
-    shows(&rt, "it ends early", &image.bytes, "", End::NoAttributes)?;
-    image.filled(7, 2)?;
-    image.part(PLAIN)?;
-    image.sample(3)?;
-    let line = "0 0 3 0 9 0 8\n";
-    shows(&rt, "four bytes more", &image.bytes, line, End::Whole)?;
-    let zeros = [0u8; 16];
-    shows(&rt, "zeros", &zeros, "", End::ZeroMagic)
+    shows(&rt, "zeros", &[0u8; 16], "", End::ZeroMagic)
+}
+
+/// A pipe of these parts whose header has 20 bytes by its own words.
+fn behind_twenty(alloc: Global, parts: &[Part<'_>]) -> Result<Image, AllocError> {
+    let mut image = little(alloc, parts)?;
+    image.put(8, 20);
+    Ok(image)
 }
 
 const LINE: &str = "0 0 3 0 9 0 8\n";
 
+/// A feature that no set has, and its data.
+const FEATURE_300: [Part<'_>; 3] = [PLAIN, Part::Feature(300, b"a"), Part::Sample(3)];
+
+/// A host name, and another that is told by a number of 64 bits.
+const TWO_NAMES: [Part<'_>; 3] = [
+    Part::Feature(3, &[1, 0, 0, 0, b'a']),
+    PLAIN,
+    Part::Feature((1 << 32) + 3, &[1, 0, 0, 0, b'b']),
+];
+
+/// Whether a pipe of these parts has no features in its set, and feature 300 has this data.
+fn has_300(alloc: Global, parts: &[Part<'_>], data: &[u8]) -> Result<(bool, bool), Fail> {
+    let file = told(alloc, parts)?;
+    let has = file.feature_section_data(Feature(300)) == Some(data);
+    Ok((file.features().is_empty(), has))
+}
+
+/// How many features a pipe of these parts has, and whether this is its host's name.
+fn has_host(alloc: Global, parts: &[Part<'_>], name: &str) -> Result<(usize, bool), Fail> {
+    let file = told(alloc, parts)?;
+    let has = file.hostname()? == Some(name);
+    Ok((file.features().len(), has))
+}
+
 #[test]
 fn features_of_pipes(rt: HostRuntime) -> Result<(), Fail> {
-    let parts = [PLAIN, Part::Feature(300, b"a"), Part::Sample(3)];
-    reads(&rt, "feature 300", &parts, LINE, End::Whole)?;
-    let image = little(rt.alloc(), &parts)?;
-    let reader = PerfFileReader::parse_pipe(rt.alloc(), image.bytes.as_slice())?;
-    assert!(rt; reader.perf_file.features().is_empty());
-    let data = reader.perf_file.feature_section_data(Feature(300));
-    assert_eq!(rt; data, Some(b"a".as_slice()));
-    let parts = [
-        Part::Feature(3, &[1, 0, 0, 0, b'a']),
-        PLAIN,
-        Part::Feature((1 << 32) + 3, &[1, 0, 0, 0, b'b']),
-    ];
-    let image = little(rt.alloc(), &parts)?;
-    let reader = PerfFileReader::parse_pipe(rt.alloc(), image.bytes.as_slice())?;
-    assert_eq!(rt; reader.perf_file.features().len(), 1);
-    assert_eq!(rt; reader.perf_file.hostname()?, Some("b"));
+    reads(&rt, "feature 300", &FEATURE_300, LINE, End::Whole)?;
+    assert_eq!(rt; has_300(rt.alloc(), &FEATURE_300, b"a")?, (true, true));
+    assert_eq!(rt; has_host(rt.alloc(), &TWO_NAMES, "b")?, (1, true));
     let cut = [PLAIN, Part::Head(80, 0, 12), Part::Filled(0, 4)];
     reads(&rt, "a cut number", &cut, "", End::Short)
 }
@@ -329,13 +432,46 @@ fn the_first_description_names(rt: HostRuntime) -> Result<(), Fail> {
         (b"", None),
     ] {
         let events = lettered(rt.alloc(), Endianness::LittleEndian, 64, letters)?;
-        let mut image = little(rt.alloc(), &[])?;
-        image.feature(12, &events.bytes)?;
-        image.described(4, 0, &[5])?;
-        let reader = PerfFileReader::parse_pipe(rt.alloc(), image.bytes.as_slice())?;
-        let first = reader.perf_file.event_attributes().first();
-        assert_eq!(rt; first.and_then(|one| one.name()), name, "{letters:?}");
+        let parts = [
+            Part::Feature(12, &events.bytes),
+            Part::Attribute(4, 0, &[5]),
+        ];
+        let file = told(rt.alloc(), &parts)?;
+        assert_eq!(rt; first_name(&file), name, "{letters:?}");
     }
+    Ok(())
+}
+
+/// The name of the first attribute.
+pub fn first_name(file: &PerfFile) -> Option<&str> {
+    file.event_attributes().first()?.name()
+}
+
+/// The name of a pipe's one attribute, where there is just one, and it has these identifiers.
+fn only_name<'a>(file: &'a PerfFile, ids: &[u64]) -> Option<Option<&'a str>> {
+    let attributes = file.event_attributes();
+    if attributes.len() == 1 && attributes[0].ids() == ids {
+        Some(attributes[0].name())
+    } else {
+        None
+    }
+}
+
+/// The name that EVENT_DESC gives an attribute with these identifiers, and the pipe's line.
+fn is_named(
+    rt: &(impl Abort + AllocGlobal),
+    events: &[u8],
+    ids: &'static [u64],
+    name: Option<&str>,
+) -> Result<(), Fail> {
+    let parts = [
+        Part::Attribute(4, 0, ids),
+        Part::Feature(12, events),
+        Part::Sample(3),
+    ];
+    reads(rt, "EVENT_DESC", &parts, LINE, End::Whole)?;
+    let file = told(rt.alloc(), &parts)?;
+    assert_eq!(rt; only_name(&file, ids), Some(name));
     Ok(())
 }
 
@@ -343,18 +479,8 @@ fn the_first_description_names(rt: HostRuntime) -> Result<(), Fail> {
 fn event_desc_names_attributes(rt: HostRuntime) -> Result<(), Fail> {
     let events = described(rt.alloc(), Endianness::LittleEndian, 64)?;
     assert_eq!(rt; events.bytes.len(), 90);
-    for (id, name) in [(5u64, Some("c")), (6, None)] {
-        let mut image = little(rt.alloc(), &[])?;
-        image.described(4, 0, &[id])?;
-        image.feature(12, &events.bytes)?;
-        image.sample(3)?;
-        shows(&rt, "EVENT_DESC", &image.bytes, LINE, End::Whole)?;
-        let reader = PerfFileReader::parse_pipe(rt.alloc(), image.bytes.as_slice())?;
-        let attributes = reader.perf_file.event_attributes();
-        assert_eq!(rt; attributes.len(), 1);
-        assert_eq!(rt; attributes[0].name(), name);
-        assert_eq!(rt; attributes[0].ids(), [id].as_slice());
-    }
+    is_named(&rt, &events.bytes, &[5], Some("c"))?;
+    is_named(&rt, &events.bytes, &[6], None)?;
     let small = described(rt.alloc(), Endianness::LittleEndian, 56)?;
     let parts = [PLAIN, Part::Feature(12, &small.bytes)];
     reads(&rt, "a small frame", &parts, "", End::Sizes)
@@ -366,17 +492,20 @@ fn symbol_tables_of_pipes(rt: HostRuntime) -> Result<(), Fail> {
         (132, super::simpleperf::FILE2.as_slice(), 128),
         (128, super::simpleperf::FILE.as_slice(), 16),
     ] {
-        let image = little(rt.alloc(), &[PLAIN, Part::Feature(feature, content)])?;
-        let reader = PerfFileReader::parse_pipe(rt.alloc(), image.bytes.as_slice())?;
-        let tables = reader.perf_file.simpleperf_symbol_tables(rt.alloc())?;
-        assert!(rt; matches!(&tables, Some(records) if records.len() == 1));
-        for records in &tables {
-            for record in records {
-                assert_eq!(rt; (record.path.as_str(), record.min_vaddr), ("a", address));
-            }
-        }
+        let file = told(rt.alloc(), &[PLAIN, Part::Feature(feature, content)])?;
+        let tables = file.simpleperf_symbol_tables(rt.alloc())?;
+        assert!(rt; are_one(&tables, "a", address), "{feature}");
     }
     Ok(())
+}
+
+/// Whether there is just one symbol table, of this path and this least address.
+fn are_one(tables: &Option<Vec<SimpleperfFileRecord>>, path: &str, address: u64) -> bool {
+    let Some(records) = tables else {
+        return false;
+    };
+    records.len() == 1
+        && records.iter().all(|record| record.path.as_str() == path && record.min_vaddr == address)
 }
 
 #[test]
@@ -408,20 +537,26 @@ fn body_of(rt: &(impl Abort + AllocGlobal), size: u16) -> Result<(), Fail> {
 #[test]
 fn interrupted_reads(rt: HostRuntime) -> Result<(), Fail> {
     let file = Image::first(rt.alloc(), Endianness::LittleEndian)?;
-    let steps = steps_of(rt.alloc(), Step::Give(1), file.bytes.len())?;
-    let source = scripted(rt.alloc(), &file.bytes, steps)?;
+    let source = one_by_one(rt.alloc(), &file.bytes)?;
     lists(&rt, "a file", "one byte a read", source, FIRST, End::Whole);
-    let pipe = little(rt.alloc(), &TRACED)?;
-    let cases = [
-        (16usize, FIRST, TRACED_LINES, End::Whole),
-        (17, "", "", End::Interrupted),
-    ];
-    for (times, lines, pipe_lines, end) in cases {
-        // the header and the attribute have 168 bytes, and those of the pipe 88
+    for (times, lines, end) in [(16usize, FIRST, End::Whole), (17, "", End::Interrupted)] {
+        // the header and the attribute have 168 bytes
         let source = interrupted(rt.alloc(), &file.bytes, 168, times)?;
         lists(&rt, "a file", "interrupted", source, lines, end);
+    }
+    interrupted_pipes(&rt)
+}
+
+/// The same of pipes.
+fn interrupted_pipes(rt: &(impl Abort + AllocGlobal)) -> Result<(), Fail> {
+    let pipe = little(rt.alloc(), &TRACED)?;
+    for (times, lines, end) in [
+        (16usize, TRACED_LINES, End::Whole),
+        (17, "", End::Interrupted),
+    ] {
+        // the header and the attribute have 88 bytes
         let source = interrupted(rt.alloc(), &pipe.bytes, 88, times)?;
-        pipes(&rt, "a pipe", "interrupted", source, pipe_lines, end);
+        pipes(rt, "a pipe", "interrupted", source, lines, end);
     }
     Ok(())
 }
@@ -451,16 +586,21 @@ fn failing(alloc: Global, bytes: &[u8], given: usize) -> Result<Script, AllocErr
 #[test]
 fn a_fault_is_no_end(rt: HostRuntime) -> Result<(), Fail> {
     let image = little(rt.alloc(), &TRACED)?;
-    for (given, _) in image.bytes.iter().enumerate() {
+    for given in 0..image.bytes.len() {
         let source = failing(rt.alloc(), &image.bytes, given)?;
-        let (lines, end) = match given {
-            // in the header and the attribute's record, and in a head
-            0..=95 => ("", End::Other),
-            96..=136 => ("", End::Data),
-            137..=144 => (TRACE_LINE, End::Other),
-            _ => (TRACE_LINE, End::Data),
-        };
+        let (lines, end) = of_fault(given);
         pipes(&rt, "a pipe", "failing", source, lines, end);
     }
     Ok(())
+}
+
+/// The lines of the traced pipe where its source fails behind so many bytes, and how they end.
+fn of_fault(given: usize) -> (&'static str, End) {
+    match given {
+        // in the header and the attribute's record, and in a head
+        0..=95 => ("", End::Other),
+        96..=136 => ("", End::Data),
+        137..=144 => (TRACE_LINE, End::Other),
+        _ => (TRACE_LINE, End::Data),
+    }
 }

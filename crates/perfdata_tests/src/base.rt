@@ -1,0 +1,11 @@
+mod attr;
+mod event;
+mod features;
+mod header;
+mod id_cache;
+mod pipe;
+mod place;
+mod raw;
+mod scripted;
+mod section;
+mod source;

@@ -1,0 +1,114 @@
+use perfdata_base::header::PerfHeader;
+use std::io::{Cursor, Error, ErrorKind};
+use std::test::Fail;
+
+// Bytes each of which is its index, but for this first byte and these of the header's size.
+fn header(first: u8, size: [u8; 8]) -> [u8; 120] {
+    let mut bytes = [0u8; 120];
+    for (index, byte) in bytes.iter_mut().enumerate() {
+        *byte = index as u8;
+    }
+    bytes[0] = first;
+    bytes[8..16].copy_from_slice(&size);
+    bytes
+}
+
+// The header, and where the cursor stands behind it.
+fn parsed(bytes: &[u8]) -> Result<(PerfHeader, u64), Error> {
+    let mut cursor = Cursor::new(bytes);
+    match PerfHeader::parse_from(&mut cursor) {
+        Ok(header) => Ok((header, cursor.position())),
+        Err(error) => Err(error),
+    }
+}
+
+fn numbers(header: &PerfHeader) -> [u64; 12] {
+    [
+        header.header_size,
+        header.attr_size,
+        header.attr_section.offset,
+        header.attr_section.size,
+        header.data_section.offset,
+        header.data_section.size,
+        header.event_types_section.offset,
+        header.event_types_section.size,
+        header.features.0[0],
+        header.features.0[1],
+        header.features.0[2],
+        header.features.0[3],
+    ]
+}
+
+#[test]
+fn reads_each_field(rt: HostRuntime) -> Result<(), Fail> {
+    let bytes = header(b'P', [112, 0, 0, 0, 0, 0, 0, 0]);
+    let (header, at) = parsed(&bytes)?;
+    assert_eq!(rt; at, 112, "bytes behind the known ones are passed over");
+    assert_eq!(rt; header.magic, [b'P', 1, 2, 3, 4, 5, 6, 7]);
+    assert_eq!(rt;
+        numbers(&header),
+        [
+            112,
+            0x1716_1514_1312_1110,
+            0x1f1e_1d1c_1b1a_1918,
+            0x2726_2524_2322_2120,
+            0x2f2e_2d2c_2b2a_2928,
+            0x3736_3534_3332_3130,
+            0x3f3e_3d3c_3b3a_3938,
+            0x4746_4544_4342_4140,
+            0x4f4e_4d4c_4b4a_4948,
+            0x5756_5554_5352_5150,
+            0x5f5e_5d5c_5b5a_5958,
+            0x6766_6564_6362_6160
+        ]
+    );
+    Ok(())
+}
+
+fn last_features(bytes: &[u8]) -> Result<u64, Error> {
+    match PerfHeader::parse(Cursor::new(bytes)) {
+        Ok(header) => Ok(header.features.0[3]),
+        Err(error) => Err(error),
+    }
+}
+
+#[test]
+fn reads_big_endian(rt: HostRuntime) -> Result<(), Fail> {
+    let bytes = header(b'2', [0, 0, 0, 0, 0, 0, 0, 64]);
+    let (header, at) = parsed(&bytes)?;
+    assert_eq!(rt; at, 104, "a smaller size changes nothing");
+    assert_eq!(rt;
+        (
+            header.header_size,
+            header.attr_size,
+            header.attr_section.offset
+        ),
+        (64, 0x1011_1213_1415_1617, 0x1819_1a1b_1c1d_1e1f)
+    );
+    assert_eq!(rt; last_features(&bytes)?, 0x6061_6263_6465_6667);
+    Ok(())
+}
+
+// Why no header stands in so many bytes of a header whose size is this.
+fn refusal(size: [u8; 8], count: usize) -> Option<ErrorKind> {
+    let bytes = header(b'P', size);
+    match PerfHeader::parse(Cursor::new(&bytes[..count.min(120)])) {
+        Ok(_) => None,
+        Err(error) => Some(error.kind()),
+    }
+}
+
+#[test]
+fn refuses_missing_bytes_and_far_ends(rt: HostRuntime) {
+    let far = [255u8; 8];
+    let first_far = [104, 0, 0, 0, 0, 0, 0, 128];
+    let last_near = [103, 0, 0, 0, 0, 0, 0, 128];
+    for (size, count, kind) in [
+        (far, 103usize, Some(ErrorKind::UnexpectedEof)),
+        (far, 104, Some(ErrorKind::InvalidInput)),
+        (first_far, 104, Some(ErrorKind::InvalidInput)),
+        (last_near, 120, None),
+    ] {
+        assert_eq!(rt; refusal(size, count), kind, "{size:?} in {count}");
+    }
+}

@@ -1,0 +1,49 @@
+use crate::base::source::reads;
+use perfdata_base::source::{PlacedSource, Script, Step};
+use std::alloc::Global;
+use std::io::{ErrorKind, SeekFrom};
+use std::test::Fail;
+
+// Ten bytes of which four are shown, whose second seek fails.
+fn ten(alloc: Global) -> Result<Script, Fail> {
+    let steps = [
+        Step::Give(1),
+        Step::Pause,
+        Step::Fault(ErrorKind::TimedOut),
+        Step::Grow(3),
+        Step::Give(9),
+    ];
+    let steps = Vec::from_array(alloc, steps)?;
+    let seek_faults = Vec::from_array(alloc, [1])?;
+    let bytes = b"0123456789".to_vec(alloc)?;
+    Ok(Script::new(bytes, 4, steps, seek_faults))
+}
+
+// One read into a place of five bytes: how many came, and the place.
+fn five(source: &mut Script) -> (Option<usize>, [u8; 5]) {
+    let mut place = [0u8; 5];
+    (reads(source, &mut place), place)
+}
+
+#[test]
+fn follows_its_steps(rt: HostRuntime) -> Result<(), Fail> {
+    let mut source = ten(rt.alloc())?;
+    for read in [
+        (Some(1), *b"0\0\0\0\0"),
+        (Some(0), [0; 5]),
+        (None, [0; 5]),
+        (Some(5), *b"12345"),
+        (Some(1), *b"6\0\0\0\0"),
+    ] {
+        assert_eq!(rt; five(&mut source), read);
+    }
+    for (to, at) in [
+        (SeekFrom::End(0), Some(7)),
+        (SeekFrom::Start(0), None),
+        (SeekFrom::Start(2), Some(2)),
+    ] {
+        assert_eq!(rt; source.seek_to(to).ok(), at, "{to:?}");
+    }
+    assert_eq!(rt; five(&mut source), (Some(5), *b"23456"));
+    Ok(())
+}

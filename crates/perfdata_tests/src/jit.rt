@@ -1,0 +1,7 @@
+//! The tests of jitdump files.
+mod buffered_reader;
+mod error;
+mod header;
+mod jitdump_reader;
+mod record;
+mod records;

@@ -1,0 +1,108 @@
+use byteorder::LittleEndian;
+use perfdata_base::raw::RawData;
+use perfdata_jit::{JitDumpError, JitDumpHeader};
+use std::io::ErrorKind;
+
+// Of version 1 and 40 bytes, for the machine 62, by the process 7 at 5.
+const LITTLE: [u8; 40] = [
+    0x44, 0x54, 0x69, 0x4a, 1, 0, 0, 0, 40, 0, 0, 0, 62, 0, 0, 0, 0, 0, 0, 0, 7, 0, 0, 0, 5, 0, 0,
+    0, 0, 0, 0, 0, 0, 0, 0, 0, 0, 0, 0, 0,
+];
+
+// Of version 1 and 40 bytes, with other numbers all different.
+const BIG: [u8; 40] = [
+    0x4a, 0x69, 0x54, 0x44, 0, 0, 0, 1, 0, 0, 0, 40, 0, 0, 0, 2, 0, 0, 0, 3, 0, 0, 0, 4, 0, 0, 0,
+    0, 0, 0, 0, 5, 0, 0, 0, 0, 0, 0, 0, 6,
+];
+
+// The magic, the version and the size, the machine and the process, the time and the flags.
+type Told = ([u8; 4], (u32, u32), (u32, u32), (u64, u64));
+
+fn told_of(header: &JitDumpHeader) -> Told {
+    (
+        header.magic,
+        (header.version, header.total_size),
+        (header.elf_machine_arch, header.pid),
+        (header.timestamp, header.flags),
+    )
+}
+
+#[derive(Clone, Copy, Debug, PartialEq, Eq)]
+enum Refusal {
+    NotEnoughBytes,
+    Size(u32),
+    Magic([u8; 4]),
+    Other,
+}
+
+fn parse(bytes: RawData<'_>) -> Result<Told, Refusal> {
+    match JitDumpHeader::parse(bytes) {
+        Ok(header) => Ok(told_of(&header)),
+        Err(JitDumpError::NotEnoughBytesForHeader) => Err(Refusal::NotEnoughBytes),
+        Err(JitDumpError::InvalidHeaderSize(size)) => Err(Refusal::Size(size)),
+        Err(JitDumpError::InvalidMagicBytes(magic)) => Err(Refusal::Magic(magic)),
+        Err(_) => Err(Refusal::Other),
+    }
+}
+
+// The first bytes, so many, with a byte changed.
+fn changed(at: usize, byte: u8, count: usize) -> Result<Told, Refusal> {
+    let mut bytes = LITTLE;
+    if let Some(slot) = bytes.get_mut(at) {
+        *slot = byte;
+    }
+    match bytes.get(..count) {
+        Some(front) => parse(RawData::Single(front)),
+        None => Err(Refusal::Other),
+    }
+}
+
+// The size and the time of the header behind its magic.
+fn behind_magic(behind: &[u8]) -> Result<(u32, u64), ErrorKind> {
+    let magic = [0x44, 0x54, 0x69, 0x4a];
+    match JitDumpHeader::parse_after_magic::<LittleEndian>(magic, RawData::Single(behind)) {
+        Ok(header) => Ok((header.total_size, header.timestamp)),
+        Err(error) => Err(error.kind()),
+    }
+}
+
+#[test]
+fn reads_each_field_wherever_it_is_split(rt: HostRuntime) {
+    let wanted = ([0x44, 0x54, 0x69, 0x4a], (1, 40), (62, 7), (5, 0));
+    for at in 0..41usize {
+        let (front, back) = LITTLE.split_at(at);
+        let got = parse(RawData::Split(front, back));
+        assert_eq!(rt; got, Ok(wanted), "split at {at}");
+    }
+    let wanted = ([0x4a, 0x69, 0x54, 0x44], (1, 40), (2, 4), (5, 6));
+    assert_eq!(rt; parse(RawData::Single(&BIG)), Ok(wanted));
+}
+
+#[test]
+fn refuses_by_the_first_reason(rt: HostRuntime) {
+    for (at, byte, count, refusal) in [
+        (4usize, 1u8, 3usize, Refusal::NotEnoughBytes),
+        (4, 1, 4, Refusal::NotEnoughBytes),
+        (4, 1, 39, Refusal::NotEnoughBytes),
+        (8, 39, 39, Refusal::NotEnoughBytes),
+        (8, 41, 40, Refusal::NotEnoughBytes),
+        (8, 0, 40, Refusal::Size(0)),
+        (8, 3, 40, Refusal::Size(3)),
+        (8, 39, 40, Refusal::Size(39)),
+    ] {
+        let got = changed(at, byte, count);
+        assert_eq!(rt; got, Err(refusal), "{byte} at {at}, cut to {count}");
+    }
+    let wanted = ([0x44, 0x54, 0x69, 0x4a], (9, 40), (62, 7), (5, 0));
+    assert_eq!(rt; changed(4, 9, 40), Ok(wanted));
+    let elf = [0x7f, 0x45, 0x4c, 0x46];
+    assert_eq!(rt; parse(RawData::Single(&elf)), Err(Refusal::Magic(elf)));
+}
+
+#[test]
+fn takes_small_headers_behind_the_magic(rt: HostRuntime) {
+    let mut bytes = LITTLE;
+    bytes[8] = 39;
+    assert_eq!(rt; behind_magic(&bytes[4..]), Ok((39, 5)));
+    assert_eq!(rt; behind_magic(&bytes[4..39]), Err(ErrorKind::UnexpectedEof));
+}

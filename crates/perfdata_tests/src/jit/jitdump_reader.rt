@@ -1,0 +1,502 @@
+use perfdata_base::raw::RawData;
+use perfdata_base::source::{Script, Source, Step};
+use perfdata_jit::{
+    BufferedReader, JitCodeLoadRecord, JitDumpError, JitDumpRawRecord, JitDumpReader, JitDumpRecord,
+};
+use std::alloc::Global;
+use std::io::{Cursor, ErrorKind, Result as IoResult};
+use std::test::Fail;
+
+// A header of 40 bytes, and a load record of 62 at 9.
+const FILE: [u8; 102] = [
+    0x44, 0x54, 0x69, 0x4a, 1, 0, 0, 0, 40, 0, 0, 0, 62, 0, 0, 0, 0, 0, 0, 0, 7, 0, 0, 0, 5, 0, 0,
+    0, 0, 0, 0, 0, 0, 0, 0, 0, 0, 0, 0, 0, 0, 0, 0, 0, 62, 0, 0, 0, 9, 0, 0, 0, 0, 0, 0, 0, 7, 0,
+    0, 0, 7, 0, 0, 0, 0, 0x10, 0, 0, 0, 0, 0, 0, 0, 0x10, 0, 0, 0, 0, 0, 0, 2, 0, 0, 0, 0, 0, 0, 0,
+    0, 0, 0, 0, 0, 0, 0, 0, b'f', b'o', b'o', 0, 0x90, 0xc3,
+];
+
+// A closing record at 11.
+const CLOSE: [u8; 16] = [3, 0, 0, 0, 16, 0, 0, 0, 11, 0, 0, 0, 0, 0, 0, 0];
+
+// What a call for the next record answers: the record's place, time, type and size, or none, or a refusal.
+#[derive(Clone, Copy, Debug, PartialEq, Eq)]
+enum Answer {
+    Record(u64, u64, u32, u32),
+    Nothing,
+    Refused(ErrorKind),
+}
+
+const LOAD: Answer = Answer::Record(40, 9, 0, 62);
+
+fn answer_of(next: IoResult<Option<JitDumpRawRecord<'_>>>) -> Answer {
+    match next {
+        Ok(Some(r)) => Answer::Record(r.start_offset, r.timestamp, r.record_type.0, r.record_size),
+        Ok(None) => Answer::Nothing,
+        Err(error) => Answer::Refused(error.kind()),
+    }
+}
+
+// The answer of a call for the next record, and where the next record begins then.
+fn next<R: Source>(reader: &mut JitDumpReader<R>) -> (Answer, u64) {
+    let answer = answer_of(reader.next_record());
+    (answer, reader.next_record_offset())
+}
+
+fn timestamp<R: Source>(reader: &mut JitDumpReader<R>) -> Result<Option<u64>, ErrorKind> {
+    match reader.next_record_timestamp() {
+        Ok(timestamp) => Ok(timestamp),
+        Err(error) => Err(error.kind()),
+    }
+}
+
+// The type and the size of the next record.
+fn type_and_size<R: Source>(reader: &mut JitDumpReader<R>) -> Option<(u32, u32)> {
+    let kind = match reader.next_record_type() {
+        Ok(Some(kind)) => kind.0,
+        _ => return None,
+    };
+    match reader.next_record_header() {
+        Ok(Some(head)) => Some((kind, head.total_size)),
+        _ => None,
+    }
+}
+
+// Appends so many of a step.
+fn push_steps(steps: &mut Vec<Step>, count: usize, step: Step) -> Result<(), Fail> {
+    for _ in 0..count {
+        steps.push(step)?;
+    }
+    Ok(())
+}
+
+// So many reads of a byte each, and then this step.
+fn bytes_then(alloc: Global, count: usize, step: Step) -> Result<Vec<Step>, Fail> {
+    let mut steps = Vec::new(alloc);
+    push_steps(&mut steps, count, Step::Give(1))?;
+    steps.push(step)?;
+    Ok(steps)
+}
+
+// The file behind these steps, of which so many bytes are shown.
+fn script(alloc: Global, shown: usize, steps: Vec<Step>) -> Result<Script, Fail> {
+    let bytes = FILE.to_vec(alloc)?;
+    Ok(Script::new(bytes, shown, steps, Vec::new(alloc)))
+}
+
+// A head of this size behind the header, and then these bytes.
+fn head_of_size(alloc: Global, size: u32, behind: &[u8]) -> Result<Vec<u8>, Fail> {
+    let mut bytes = FILE.to_vec(alloc)?;
+    bytes.truncate(44);
+    bytes.extend_from_slice(&size.to_le_bytes())?;
+    bytes.extend_from_slice(&9u64.to_le_bytes())?;
+    bytes.extend_from_slice(behind)?;
+    Ok(bytes)
+}
+
+fn opened<R: Source + Drop>(
+    alloc: Global,
+    source: R,
+    size: usize,
+) -> Result<JitDumpReader<R>, Fail> {
+    Ok(JitDumpReader::new_with_buffer_size(alloc, source, size)?)
+}
+
+// A reader of the file, whose reads come to this step behind so many single bytes, and which grows then.
+fn stopping(
+    alloc: Global,
+    at: usize,
+    step: Step,
+    shown: usize,
+) -> Result<JitDumpReader<Script>, Fail> {
+    let mut steps = bytes_then(alloc, at, step)?;
+    steps.push(Step::Grow(200))?;
+    let source = script(alloc, shown, steps)?;
+    opened(alloc, source, 40)
+}
+
+#[test]
+fn loses_nothing_at_any_read(rt: HostRuntime) -> Result<(), Fail> {
+    for at in 40..102usize {
+        for (step, shown, first) in [
+            (Step::Pause, 102, Answer::Nothing),
+            (
+                Step::Fault(ErrorKind::TimedOut),
+                102,
+                Answer::Refused(ErrorKind::TimedOut),
+            ),
+            (
+                Step::Fault(ErrorKind::Interrupted),
+                102,
+                Answer::Refused(ErrorKind::Interrupted),
+            ),
+            (Step::Pause, at, Answer::Nothing),
+        ] {
+            let mut reader = stopping(rt.alloc(), at, step, shown)?;
+            for wanted in [(first, 40), (LOAD, 102)] {
+                assert_eq!(rt; next(&mut reader), wanted, "at {at}");
+            }
+        }
+    }
+    Ok(())
+}
+
+// A reader of the file, of which so many bytes are shown and which grows by a byte at a time.
+fn growing(alloc: Global, at: usize, stops_again: bool) -> Result<JitDumpReader<Script>, Fail> {
+    let mut steps = bytes_then(alloc, at, Step::Pause)?;
+    for _ in at..102 {
+        steps.push(Step::Grow(1))?;
+        steps.push(Step::Give(1))?;
+        if stops_again {
+            steps.push(Step::Pause)?;
+        }
+    }
+    let source = script(alloc, at, steps)?;
+    opened(alloc, source, 40)
+}
+
+#[test]
+fn loses_nothing_where_the_file_grows_by_a_byte(rt: HostRuntime) -> Result<(), Fail> {
+    for at in 40..102usize {
+        for (stops_again, waits) in [(false, 1), (true, 102 - at)] {
+            let mut reader = growing(rt.alloc(), at, stops_again)?;
+            for _ in 0..waits {
+                assert_eq!(rt; next(&mut reader), (Answer::Nothing, 40), "at {at}");
+            }
+            assert_eq!(rt; next(&mut reader), (LOAD, 102), "at {at}");
+        }
+    }
+    Ok(())
+}
+
+// The fault that an opening answers, where this comes behind so many bytes.
+fn fault_of_opening(alloc: Global, at: usize, kind: ErrorKind) -> Result<Option<ErrorKind>, Fail> {
+    let steps = bytes_then(alloc, at, Step::Fault(kind))?;
+    let source = script(alloc, 102, steps)?;
+    match JitDumpReader::new_with_buffer_size(alloc, source, 40) {
+        Err(JitDumpError::Io(error)) => Ok(Some(error.kind())),
+        _ => Ok(None),
+    }
+}
+
+#[test]
+fn an_opening_answers_a_fault_at_once(rt: HostRuntime) -> Result<(), Fail> {
+    for at in 0..40usize {
+        for kind in [ErrorKind::Interrupted, ErrorKind::TimedOut] {
+            let fault = fault_of_opening(rt.alloc(), at, kind)?;
+            assert_eq!(rt; fault, Some(kind), "at {at}");
+        }
+    }
+    Ok(())
+}
+
+// The first answer of bytes, or whether they are too few for a header.
+fn first_answer(alloc: Global, bytes: &[u8]) -> Result<(Answer, u64), bool> {
+    match JitDumpReader::new_with_buffer_size(alloc, bytes, 40) {
+        Ok(mut reader) => Ok(next(&mut reader)),
+        Err(JitDumpError::NotEnoughBytesForHeader) => Err(true),
+        Err(_) => Err(false),
+    }
+}
+
+#[test]
+fn a_cut_file_waits(rt: HostRuntime) {
+    for cut in 0..102usize {
+        let wanted = if cut < 40 {
+            Err(true)
+        } else {
+            Ok((Answer::Nothing, 40))
+        };
+        assert_eq!(rt; first_answer(rt.alloc(), &FILE[..cut]), wanted, "at {cut}");
+    }
+}
+
+// Where the code of a function with a short name begins in its record, and whether the code is the two bytes of the file.
+fn code_of(load: &JitCodeLoadRecord<'_>) -> Option<(usize, bool)> {
+    let is_code = load.code_bytes == RawData::Single(&[0x90, 0xc3]);
+    if load.function_name.len() < 100 {
+        Some((load.code_bytes_offset_from_record_header_start(), is_code))
+    } else {
+        None
+    }
+}
+
+fn code_in(alloc: Global, record: &JitDumpRawRecord<'_>) -> Option<(usize, bool)> {
+    match record.parse(alloc) {
+        Ok(JitDumpRecord::CodeLoad(load)) => code_of(&load),
+        _ => None,
+    }
+}
+
+// The code of the next record.
+fn next_code<R: Source>(
+    alloc: Global,
+    reader: &mut JitDumpReader<R>,
+) -> (Answer, Option<(usize, bool)>) {
+    match reader.next_record() {
+        Ok(Some(record)) => {
+            let code = code_in(alloc, &record);
+            (answer_of(Ok(Some(record))), code)
+        }
+        other => (answer_of(other), None),
+    }
+}
+
+#[test]
+fn tells_of_the_next_record(rt: HostRuntime) -> Result<(), Fail> {
+    let mut reader = JitDumpReader::new(rt.alloc(), &FILE[..])?;
+    assert_eq!(rt; reader.header().pid, 7);
+    assert_eq!(rt; timestamp(&mut reader), Ok(Some(9)));
+    assert_eq!(rt; type_and_size(&mut reader), Some((0, 62)));
+    assert_eq!(rt;
+        next_code(rt.alloc(), &mut reader),
+        (LOAD, Some((60, true)))
+    );
+    Ok(())
+}
+
+// A reader of the whole file, which comes in single bytes.
+fn single_bytes(alloc: Global) -> Result<JitDumpReader<Script>, Fail> {
+    let steps = bytes_then(alloc, 102, Step::Pause)?;
+    let source = script(alloc, 102, steps)?;
+    opened(alloc, source, 40)
+}
+
+#[test]
+fn a_record_comes_in_single_bytes(rt: HostRuntime) -> Result<(), Fail> {
+    let mut reader = single_bytes(rt.alloc())?;
+    assert_eq!(rt;
+        next_code(rt.alloc(), &mut reader),
+        (LOAD, Some((60, true)))
+    );
+    assert_eq!(rt; reader.next_record_offset(), 102);
+    Ok(())
+}
+
+// Whether the body of the next record is the file's, and the lengths of its pieces.
+fn next_pieces<R: Source>(reader: &mut JitDumpReader<R>) -> Option<(bool, usize, usize)> {
+    match reader.next_record() {
+        Ok(Some(record)) => {
+            let is_body = record.body == RawData::Single(&FILE[56..]);
+            match record.body {
+                RawData::Split(first, second) => Some((is_body, first.len(), second.len())),
+                RawData::Single(_) => None,
+            }
+        }
+        _ => None,
+    }
+}
+
+#[test]
+fn a_body_may_lie_in_two_pieces(rt: HostRuntime) -> Result<(), Fail> {
+    let mut reader = opened(rt.alloc(), &FILE[..], 64)?;
+    assert_eq!(rt; next_pieces(&mut reader), Some((true, 8, 38)));
+    Ok(())
+}
+
+// The file with a header of 48 bytes.
+fn longer_header(alloc: Global) -> Result<Vec<u8>, Fail> {
+    let mut bytes = FILE.to_vec(alloc)?;
+    bytes.truncate(40);
+    if let Some(size) = bytes.get_mut(8) {
+        *size = 48;
+    }
+    bytes.extend_from_slice(&[0xee; 8])?;
+    bytes.extend_from_slice(&FILE[40..])?;
+    Ok(bytes)
+}
+
+#[test]
+fn records_begin_behind_the_whole_header(rt: HostRuntime) -> Result<(), Fail> {
+    let bytes = longer_header(rt.alloc())?;
+    let mut reader = opened(rt.alloc(), bytes.as_slice(), 64)?;
+    assert_eq!(rt; reader.next_record_offset(), 48);
+    let wanted = (Answer::Record(48, 9, 0, 62), 110);
+    assert_eq!(rt; next(&mut reader), wanted);
+    Ok(())
+}
+
+// The two first answers where a head tells this size, and the type and the size that are told then.
+fn answers_of_size(
+    alloc: Global,
+    size: u32,
+) -> Result<([(Answer, u64); 2], Option<(u32, u32)>), Fail> {
+    let bytes = head_of_size(alloc, size, &[])?;
+    let mut reader = opened(alloc, bytes.as_slice(), 40)?;
+    let answers = [next(&mut reader), next(&mut reader)];
+    Ok((answers, type_and_size(&mut reader)))
+}
+
+// The first answer where the head tells the greatest size, whether the record is passed over, and where the next begins.
+fn answer_of_greatest(
+    alloc: Global,
+    behind: &[u8],
+    size: usize,
+) -> Result<(Answer, bool, u64), Fail> {
+    let bytes = head_of_size(alloc, u32::MAX, behind)?;
+    let mut reader = opened(alloc, Cursor::new(bytes), size)?;
+    let (answer, _) = next(&mut reader);
+    let passed = reader.skip_next_record()?;
+    Ok((answer, passed, reader.next_record_offset()))
+}
+
+#[test]
+fn refuses_a_size_below_the_head(rt: HostRuntime) -> Result<(), Fail> {
+    for size in 0..16u32 {
+        let invalid = (Answer::Refused(ErrorKind::InvalidData), 40);
+        let got = answers_of_size(rt.alloc(), size)?;
+        assert_eq!(rt; got, ([invalid, invalid], Some((0, size))));
+    }
+    let got = answer_of_greatest(rt.alloc(), &[], 40)?;
+    assert_eq!(rt; got, (Answer::Nothing, false, 40));
+    Ok(())
+}
+
+#[test]
+fn neither_gives_nor_passes_over_a_record_longer_than_its_file(
+    rt: HostRuntime,
+) -> Result<(), Fail> {
+    for size in [40usize, 4096] {
+        let got = answer_of_greatest(rt.alloc(), &FILE[56..], size)?;
+        assert_eq!(rt; got, (Answer::Nothing, false, 40), "{size}");
+    }
+    Ok(())
+}
+
+// A source of a head of the greatest size, a body of 46 bytes, and a closing record, which comes behind so many pauses.
+fn greatest(alloc: Global, pauses: usize) -> Result<Script, Fail> {
+    let mut bytes = head_of_size(alloc, u32::MAX, &FILE[56..])?;
+    bytes.extend_from_slice(&CLOSE)?;
+    let mut steps = bytes_then(alloc, 102, Step::Pause)?;
+    push_steps(&mut steps, pauses, Step::Pause)?;
+    steps.push(Step::Grow(16))?;
+    Ok(Script::new(bytes, 102, steps, Vec::new(alloc)))
+}
+
+// A reader of that source, with a buffer of this size or of the usual one.
+fn waiting(
+    alloc: Global,
+    size: Option<usize>,
+    pauses: usize,
+) -> Result<JitDumpReader<Script>, Fail> {
+    let source = greatest(alloc, pauses)?;
+    match size {
+        Some(size) => opened(alloc, source, size),
+        None => Ok(JitDumpReader::new(alloc, source)?),
+    }
+}
+
+// The same bytes by the reader of buffers, which asks in vain for the record's three times and gives the 62 that came.
+fn parts_of_greatest(alloc: Global, size: usize) -> Result<([Option<usize>; 5], bool), Fail> {
+    let mut buffer = Vec::new(alloc);
+    buffer.resize(size.max(1), 0)?;
+    let source = greatest(alloc, 1)?;
+    let mut reader = BufferedReader::new_with_partially_read_buffer(alloc, source, buffer, 0, 0);
+    let mut lengths = [None; 5];
+    let body = u32::MAX as usize - 16;
+    for (slot, count) in lengths.iter_mut().zip([40, 16, body, body, body]) {
+        *slot = reader.consume_data(count)?.map(|data| data.len());
+    }
+    let is_body = match reader.consume_data(62)? {
+        Some(data) => data == RawData::Split(&FILE[56..], &CLOSE),
+        None => false,
+    };
+    Ok((lengths, is_body))
+}
+
+#[test]
+fn waits_for_a_record_longer_than_any_file(rt: HostRuntime) -> Result<(), Fail> {
+    for (size, pauses) in [(Some(40usize), 1usize), (None, 2)] {
+        let mut reader = waiting(rt.alloc(), size, pauses)?;
+        for call in 0..3u32 {
+            assert_eq!(rt; next(&mut reader), (Answer::Nothing, 40), "call {call}");
+            assert_eq!(rt; timestamp(&mut reader), Ok(Some(9)));
+        }
+    }
+    for size in [40usize, 4096] {
+        let got = parts_of_greatest(rt.alloc(), size)?;
+        assert_eq!(rt; got, ([Some(40), Some(16), None, None, None], true));
+    }
+    Ok(())
+}
+
+// A reader of the file and a closing record behind it.
+fn closed(alloc: Global) -> Result<JitDumpReader<Cursor<Vec<u8>>>, Fail> {
+    let mut bytes = FILE.to_vec(alloc)?;
+    bytes.extend_from_slice(&CLOSE)?;
+    opened(alloc, Cursor::new(bytes), 4096)
+}
+
+#[test]
+fn passes_over_records(rt: HostRuntime) -> Result<(), Fail> {
+    let mut reader = closed(rt.alloc())?;
+    assert!(rt; reader.skip_next_record()?);
+    let wanted = (Answer::Record(102, 11, 3, 16), 118);
+    assert_eq!(rt; next(&mut reader), wanted);
+    assert!(rt; !reader.skip_next_record()?);
+    assert_eq!(rt; next(&mut reader), (Answer::Nothing, 118));
+    Ok(())
+}
+
+// A header and a record of 100 bytes, of which so many bytes are shown.
+fn long_record(
+    alloc: Global,
+    shown: usize,
+    steps: &[Step],
+    seek_faults: &[u64],
+) -> Result<JitDumpReader<Script>, Fail> {
+    let mut bytes = head_of_size(alloc, 100, &[])?;
+    bytes.resize(140, 0xee)?;
+    let steps = Vec::from_slice(alloc, steps)?;
+    let seek_faults = Vec::from_slice(alloc, seek_faults)?;
+    opened(alloc, Script::new(bytes, shown, steps, seek_faults), 40)
+}
+
+// Whether the next record was passed over, and where the next one begins then.
+fn skipped(reader: &mut JitDumpReader<Script>) -> (Result<bool, ErrorKind>, u64) {
+    let passed = match reader.skip_next_record() {
+        Ok(passed) => Ok(passed),
+        Err(error) => Err(error.kind()),
+    };
+    (passed, reader.next_record_offset())
+}
+
+#[test]
+fn passes_over_what_is_shown_alone(rt: HostRuntime) -> Result<(), Fail> {
+    let steps = [Step::Give(40), Step::Give(20), Step::Grow(80)];
+    let mut reader = long_record(rt.alloc(), 60, &steps, &[])?;
+    assert_eq!(rt; skipped(&mut reader), (Ok(false), 40));
+    let wanted = (Answer::Record(40, 9, 0, 100), 140);
+    assert_eq!(rt; next(&mut reader), wanted);
+    for failing in 0..3u64 {
+        let mut reader = long_record(rt.alloc(), 140, &[], &[failing])?;
+        let other = ErrorKind::Other;
+        assert_eq!(rt; skipped(&mut reader), (Err(other), 40), "{failing}");
+        assert_eq!(rt; timestamp(&mut reader), Err(other));
+        assert_eq!(rt; next(&mut reader), (Answer::Refused(other), 40));
+    }
+    let mut reader = long_record(rt.alloc(), 140, &[], &[3])?;
+    assert_eq!(rt; skipped(&mut reader), (Ok(true), 140));
+    Ok(())
+}
+
+// A reader of a file of ten records that comes in single bytes.
+fn ten_records(alloc: Global) -> Result<JitDumpReader<Script>, Fail> {
+    let mut bytes = FILE.to_vec(alloc)?;
+    for _ in 0..9 {
+        bytes.extend_from_slice(&FILE[40..])?;
+    }
+    let steps = bytes_then(alloc, 660, Step::Pause)?;
+    opened(alloc, Script::new(bytes, 660, steps, Vec::new(alloc)), 64)
+}
+
+#[test]
+fn ten_records_go_round_the_ring(rt: HostRuntime) -> Result<(), Fail> {
+    let mut reader = ten_records(rt.alloc())?;
+    for number in 0..10u64 {
+        let place = 40 + 62 * number;
+        let wanted = (Answer::Record(place, 9, 0, 62), place + 62);
+        assert_eq!(rt; next(&mut reader), wanted);
+    }
+    assert_eq!(rt; next(&mut reader), (Answer::Nothing, 660));
+    Ok(())
+}

@@ -1,0 +1,143 @@
+use byteorder::LittleEndian;
+use perfdata_base::raw::{Endianness, RawData};
+use perfdata_jit::{
+    JitCodeLoadRecord, JitDumpRawRecord, JitDumpRecord, JitDumpRecordHeader, JitDumpRecordType,
+};
+use std::alloc::Global;
+use std::io::ErrorKind;
+
+// A head of type 0 and size 62 at 9, little-endian and big-endian.
+const LITTLE: [u8; 16] = [0, 0, 0, 0, 62, 0, 0, 0, 9, 0, 0, 0, 0, 0, 0, 0];
+
+const BIG: [u8; 16] = [0, 0, 0, 0, 0, 0, 0, 62, 0, 0, 0, 0, 0, 0, 0, 9];
+
+// A load record's body of 46 bytes: process and thread 7, addresses 0x1000, index 0, `foo` and two bytes of code.
+const BODY: [u8; 46] = [
+    7, 0, 0, 0, 7, 0, 0, 0, 0, 0x10, 0, 0, 0, 0, 0, 0, 0, 0x10, 0, 0, 0, 0, 0, 0, 2, 0, 0, 0, 0, 0,
+    0, 0, 0, 0, 0, 0, 0, 0, 0, 0, b'f', b'o', b'o', 0, 0x90, 0xc3,
+];
+
+// The type, the size and the time of a head.
+type Head = (JitDumpRecordType, u32, u64);
+
+fn head_of(head: &JitDumpRecordHeader) -> Head {
+    (head.record_type, head.total_size, head.timestamp)
+}
+
+fn parse_head(order: Endianness, bytes: &[u8]) -> Option<Head> {
+    match JitDumpRecordHeader::parse(order, RawData::Single(bytes)) {
+        Ok(head) => Some(head_of(&head)),
+        Err(_) => None,
+    }
+}
+
+fn little_head(bytes: &[u8]) -> Result<Head, ErrorKind> {
+    match JitDumpRecordHeader::parse_impl::<LittleEndian>(RawData::Single(bytes)) {
+        Ok(head) => Ok(head_of(&head)),
+        Err(error) => Err(error.kind()),
+    }
+}
+
+// Whether this is what the body says, with the code 60 bytes behind the start of the head.
+fn is_foo(load: &JitCodeLoadRecord<'_>) -> bool {
+    let numbers = (
+        load.pid,
+        load.tid,
+        load.code_index,
+        load.vma,
+        load.code_addr,
+    );
+    if load.function_name.len() != 3 {
+        return false;
+    }
+    let offset = load.code_bytes_offset_from_record_header_start();
+    let name = load.function_name == RawData::Single(b"foo");
+    let code = load.code_bytes == RawData::Single(&[0x90, 0xc3]);
+    (numbers, name, code, offset) == ((7, 7, 0, 0x1000, 0x1000), true, true, 60)
+}
+
+// What a record is parsed to.
+#[derive(Clone, Copy, Debug, PartialEq, Eq)]
+enum Parsed {
+    // Whether it is what the body says.
+    Load(bool),
+    Move,
+    DebugInfo,
+    Close,
+    Unwinding,
+    // The body's length.
+    Other(usize),
+}
+
+fn parsed_as(parsed: &JitDumpRecord<'_>) -> Parsed {
+    match parsed {
+        JitDumpRecord::CodeLoad(load) => Parsed::Load(is_foo(load)),
+        JitDumpRecord::CodeMove(_) => Parsed::Move,
+        JitDumpRecord::CodeDebugInfo(_) => Parsed::DebugInfo,
+        JitDumpRecord::CodeClose => Parsed::Close,
+        JitDumpRecord::CodeUnwindingInfo(_) => Parsed::Unwinding,
+        JitDumpRecord::Other(raw) => Parsed::Other(raw.body.len()),
+    }
+}
+
+fn parse(alloc: Global, kind: u32, body: RawData<'_>) -> Result<Parsed, ErrorKind> {
+    let record = JitDumpRawRecord {
+        endian: Endianness::LittleEndian,
+        record_type: JitDumpRecordType(kind),
+        timestamp: 9,
+        start_offset: 40,
+        record_size: 62,
+        body,
+    };
+    match record.parse(alloc) {
+        Ok(parsed) => Ok(parsed_as(&parsed)),
+        Err(error) => Err(error.kind()),
+    }
+}
+
+#[test]
+fn reads_heads(rt: HostRuntime) {
+    for (order, bytes) in [
+        (Endianness::LittleEndian, &LITTLE),
+        (Endianness::BigEndian, &BIG),
+    ] {
+        let wanted = (JitDumpRecordType::JIT_CODE_LOAD, 62, 9);
+        assert_eq!(rt; parse_head(order, bytes), Some(wanted));
+    }
+    assert_eq!(rt; little_head(&LITTLE[..15]), Err(ErrorKind::UnexpectedEof));
+}
+
+#[test]
+fn types_have_their_numbers(rt: HostRuntime) {
+    for (number, kind) in [
+        (0, JitDumpRecordType::JIT_CODE_LOAD),
+        (1, JitDumpRecordType::JIT_CODE_MOVE),
+        (2, JitDumpRecordType::JIT_CODE_DEBUG_INFO),
+        (3, JitDumpRecordType::JIT_CODE_CLOSE),
+        (4, JitDumpRecordType::JIT_CODE_UNWINDING_INFO),
+    ] {
+        assert_eq!(rt;
+            (JitDumpRecordType(number), kind < JitDumpRecordType(5)),
+            (kind, true)
+        );
+    }
+}
+
+#[test]
+fn parses_by_type(rt: HostRuntime) {
+    for at in 0..47usize {
+        let (front, back) = BODY.split_at(at);
+        let got = parse(rt.alloc(), 0, RawData::Split(front, back));
+        assert_eq!(rt; got, Ok(Parsed::Load(true)), "split at {at}");
+    }
+    for (kind, wanted) in [
+        (2, Err(ErrorKind::UnexpectedEof)),
+        (1, Err(ErrorKind::UnexpectedEof)),
+        (4, Err(ErrorKind::UnexpectedEof)),
+        (3, Ok(Parsed::Close)),
+        (5, Ok(Parsed::Other(46))),
+    ] {
+        let got = parse(rt.alloc(), kind, RawData::Single(&BODY));
+        assert_eq!(rt; got, wanted, "of type {kind}");
+    }
+}

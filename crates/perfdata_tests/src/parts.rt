@@ -1,0 +1,11 @@
+mod decode_error;
+mod error;
+mod event_desc;
+mod event_type;
+mod event_types;
+mod feature_sections;
+mod numbers;
+mod pmu;
+mod refused;
+mod simpleperf_attrs;
+mod strings;

@@ -1,0 +1,26 @@
+use perfdata_parts::decode_error::DecodeError;
+use std::alloc::Global;
+use std::test::Fail;
+
+fn shown(alloc: Global, error: DecodeError) -> Result<String, Fail> {
+    let text = format!(in alloc; "{error}")?;
+    Ok(text)
+}
+
+#[test]
+fn shows_its_name(rt: HostRuntime) -> Result<(), Fail> {
+    for (error, name) in [
+        (DecodeError::Truncated, "Truncated"),
+        (DecodeError::Varint, "Varint"),
+        (DecodeError::Key, "Key"),
+        (DecodeError::WireType, "WireType"),
+        (DecodeError::Group, "Group"),
+        (DecodeError::Depth, "Depth"),
+        (DecodeError::Utf8, "Utf8"),
+        (DecodeError::Memory, "Memory"),
+    ] {
+        let shown = shown(rt.alloc(), error)?;
+        assert_eq!(rt; shown.as_str(), name);
+    }
+    Ok(())
+}

@@ -1,0 +1,13 @@
+use perfdata_parts::event_type::SimplePerfEventType;
+use std::test::Fail;
+
+#[test]
+fn holds_what_it_is_made_of(rt: HostRuntime) -> Result<(), Fail> {
+    let name = String::from_str(rt.alloc(), "cpu-clock")?;
+    let event = SimplePerfEventType::new(name, 1, 2);
+    assert_eq!(rt;
+        (event.name.as_str(), event.type_, event.config),
+        ("cpu-clock", 1, 2)
+    );
+    Ok(())
+}

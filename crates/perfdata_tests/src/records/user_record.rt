@@ -1,0 +1,251 @@
+use byteorder::{BigEndian, ByteOrder, LittleEndian};
+use perfdata_base::features::Feature;
+use perfdata_base::raw::{Endianness, RawData};
+use perfdata_records::record::{
+    HeaderAttr, HeaderFeature, RawUserRecord, UserRecord, UserRecordType,
+};
+use std::alloc::Global;
+use std::io::ErrorKind;
+
+const FEATURE: [u8; 9] = [3, 0, 0, 0, 1, 0, 0, 0, 0x61];
+
+const TRACE: [u8; 41] = [
+    1, 0, 0, 0, 0, 0, 0, 0, 0, 0, 0, 0, 0, 0, 0, 0, 0xf9, 0xcd, 0x2a, 0x49, 0x28, 4, 0, 0, 8, 0, 0,
+    0, 0x7a, 0x24, 0, 0, 8, 0, 0, 0, 0, 0, 0, 0, 0,
+];
+
+// One thread without a name.
+const THREAD: [u8; 32] = [
+    1, 0, 0, 0, 0, 0, 0, 0, 0x6c, 0x47, 8, 0, 0, 0, 0, 0, 0, 0, 0, 0, 0, 0, 0, 0, 0, 0, 0, 0, 0, 0,
+    0, 0,
+];
+
+// An attribute of 64 bytes whose samples have their time, and the ids 5 and 6.
+fn attribute() -> [u8; 80] {
+    let mut bytes = [0; 80];
+    bytes[4] = 64;
+    bytes[24] = 4;
+    bytes[64] = 5;
+    bytes[72] = 6;
+    bytes
+}
+
+// The size, the format and the ids of the attribute in two pieces.
+fn attribute_of(
+    alloc: Global,
+    front: &[u8],
+    back: &[u8],
+) -> Result<(u32, u64, Vec<u64>), ErrorKind> {
+    match HeaderAttr::parse::<LittleEndian>(alloc, RawData::Split(front, back)) {
+        Ok(header) => Ok((header.attr.size, header.attr.sample_format.0, header.ids)),
+        Err(error) => Err(error.kind()),
+    }
+}
+
+// Whether it is of 64 bytes and format 4, and has these ids.
+fn has_ids(alloc: Global, front: &[u8], back: &[u8], ids: &[u64]) -> bool {
+    let got = attribute_of(alloc, front, back);
+    matches!(&got, Ok((size, format, told)) if (*size, *format, told.as_slice()) == (64, 4, ids))
+}
+
+fn feature_of(header: HeaderFeature) -> (u32, Vec<u8>) {
+    (header.feature.0, header.bytes)
+}
+
+// The number and the data of a feature.
+fn little(alloc: Global, body: RawData<'_>) -> Result<(u32, Vec<u8>), ErrorKind> {
+    match HeaderFeature::parse::<LittleEndian>(alloc, body) {
+        Ok(header) => Ok(feature_of(header)),
+        Err(error) => Err(error.kind()),
+    }
+}
+
+fn big(alloc: Global, body: RawData<'_>) -> Result<(u32, Vec<u8>), ErrorKind> {
+    match HeaderFeature::parse::<BigEndian>(alloc, body) {
+        Ok(header) => Ok(feature_of(header)),
+        Err(error) => Err(error.kind()),
+    }
+}
+
+#[test]
+fn parses_an_attribute_wherever_it_is_split(rt: HostRuntime) {
+    let bytes = attribute();
+    for (held, ids) in [(64usize, &[][..]), (72, &[5]), (80, &[5, 6])] {
+        for at in 0..held + 1 {
+            let (front, back) = bytes[..held].split_at(at);
+            assert!(rt; has_ids(rt.alloc(), front, back, ids), "split at {at}");
+        }
+    }
+}
+
+#[test]
+fn refuses_an_attribute(rt: HostRuntime) {
+    let mut bytes = attribute();
+    for (size, held, kind) in [
+        (64, 0usize, ErrorKind::UnexpectedEof),
+        (64, 7, ErrorKind::UnexpectedEof),
+        (64, 63, ErrorKind::UnexpectedEof),
+        (64, 65, ErrorKind::UnexpectedEof),
+        (64, 71, ErrorKind::UnexpectedEof),
+        (63, 72, ErrorKind::InvalidData),
+        (63, 8, ErrorKind::InvalidData),
+    ] {
+        bytes[4] = size;
+        for at in 0..held + 1 {
+            let (front, back) = bytes[..held].split_at(at);
+            let got = attribute_of(rt.alloc(), front, back).err();
+            assert_eq!(rt; got, Some(kind), "{held} split at {at}");
+        }
+    }
+}
+
+// Whether the feature in two pieces is of number 3, and its data is the byte 0x61.
+fn is_three(alloc: Global, front: &[u8], back: &[u8]) -> bool {
+    let got = little(alloc, RawData::Split(front, back));
+    matches!(&got, Ok((number, bytes)) if (*number, bytes.as_slice()) == (3, [0x61].as_slice()))
+}
+
+#[test]
+fn parses_a_feature_wherever_it_is_split(rt: HostRuntime) {
+    for at in 0..10usize {
+        let (front, back) = FEATURE.split_at(at);
+        assert!(rt; is_three(rt.alloc(), front, back), "split at {at}");
+    }
+    let mut swapped = [0; 8];
+    BigEndian::write_u64(&mut swapped, 0x1_0000_0003);
+    let got = big(rt.alloc(), RawData::Single(&swapped));
+    assert!(rt; matches!(&got, Ok((3, bytes)) if bytes.is_empty()));
+    let cut = little(rt.alloc(), RawData::Single(&FEATURE[..7])).err();
+    assert_eq!(rt; cut, Some(ErrorKind::UnexpectedEof));
+}
+
+fn parse<'a>(
+    alloc: Global,
+    record_type: UserRecordType,
+    endian: Endianness,
+    body: RawData<'a>,
+) -> Result<UserRecord<'a>, ErrorKind> {
+    let raw = RawUserRecord {
+        record_type,
+        endian,
+        misc: 7,
+        body,
+    };
+    match raw.parse(alloc) {
+        Ok(parsed) => Ok(parsed),
+        Err(error) => Err(error.kind()),
+    }
+}
+
+// What is told of a record.
+#[derive(Clone, Copy, Debug, PartialEq, Eq)]
+enum Told {
+    // Whether the ids are 5 and 6.
+    Ids(bool),
+    Reference(u64),
+    Threads(usize),
+    Feature(Feature),
+    Raw,
+}
+
+fn told_of(parsed: &UserRecord<'_>) -> Told {
+    match parsed {
+        UserRecord::HeaderAttr(header) => Told::Ids(header.ids.as_slice() == [5, 6].as_slice()),
+        UserRecord::Auxtrace(trace) => Told::Reference(trace.reference),
+        UserRecord::ThreadMap(map) => Told::Threads(map.len()),
+        UserRecord::HeaderFeature(header) => Told::Feature(header.feature),
+        UserRecord::Raw(_) => Told::Raw,
+    }
+}
+
+// What is told of a little-endian record whose body is split at a place, at most its end.
+fn split(alloc: Global, record_type: UserRecordType, body: &[u8], at: usize) -> Option<Told> {
+    let (front, back) = body.split_at(at.min(body.len()));
+    let body = RawData::Split(front, back);
+    match parse(alloc, record_type, Endianness::LittleEndian, body) {
+        Ok(parsed) => Some(told_of(&parsed)),
+        Err(_) => None,
+    }
+}
+
+#[test]
+fn parses_by_type_wherever_it_is_split(rt: HostRuntime) {
+    let attribute = attribute();
+    for (kind, body, told) in [
+        (
+            UserRecordType::PERF_HEADER_ATTR,
+            attribute.as_slice(),
+            Told::Ids(true),
+        ),
+        (
+            UserRecordType::PERF_AUXTRACE,
+            &TRACE,
+            Told::Reference(0x428_492a_cdf9),
+        ),
+        (UserRecordType::PERF_THREAD_MAP, &THREAD, Told::Threads(1)),
+        (
+            UserRecordType::PERF_HEADER_FEATURE,
+            &FEATURE,
+            Told::Feature(Feature(3)),
+        ),
+    ] {
+        for at in 0..82usize {
+            assert_eq!(rt;
+                split(rt.alloc(), kind, body, at),
+                Some(told),
+                "split at {at}"
+            );
+        }
+    }
+}
+
+// Whether a record of this type stays as it is.
+fn stays(alloc: Global, kind: UserRecordType, body: RawData<'_>) -> bool {
+    match parse(alloc, kind, Endianness::BigEndian, body) {
+        Ok(UserRecord::Raw(raw)) => {
+            (raw.record_type, raw.misc, raw.endian) == (kind, 7, Endianness::BigEndian)
+                && raw.body == body
+        }
+        _ => false,
+    }
+}
+
+#[test]
+fn leaves_other_types(rt: HostRuntime) {
+    let body = RawData::Single(&TRACE);
+    for kind in [
+        UserRecordType::PERF_TIME_CONV,
+        UserRecordType::SIMPLEPERF_DSO,
+    ] {
+        assert!(rt; stays(rt.alloc(), kind, body), "{kind:?}");
+    }
+}
+
+// The number of the first thread of a map, in an order.
+fn first_thread(
+    alloc: Global,
+    endian: Endianness,
+    body: RawData<'_>,
+) -> Result<Option<u64>, ErrorKind> {
+    match parse(alloc, UserRecordType::PERF_THREAD_MAP, endian, body)? {
+        UserRecord::ThreadMap(map) => match map.iter().next() {
+            Some(entry) => Ok(Some(entry.tid)),
+            None => Ok(None),
+        },
+        _ => Ok(None),
+    }
+}
+
+#[test]
+fn parses_in_the_order_of_the_file(rt: HostRuntime) {
+    let mut body = [0; 32];
+    body[7] = 1;
+    body[15] = 9;
+    for (endian, told) in [
+        (Endianness::BigEndian, Ok(Some(9))),
+        (Endianness::LittleEndian, Err(ErrorKind::UnexpectedEof)),
+    ] {
+        let got = first_thread(rt.alloc(), endian, RawData::Single(&body));
+        assert_eq!(rt; got, told);
+    }
+}

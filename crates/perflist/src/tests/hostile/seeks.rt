@@ -1,0 +1,60 @@
+//! Each seek of an opening failing in turn.
+use super::super::attributes::two_events;
+use super::super::features::with_section;
+use super::super::image::Image;
+use super::super::simpleperf::{EVENT, recorded};
+use super::{Answer, Refusal, first, of_file};
+use linux_perf_data::source::{PlacedSource, Script};
+use linux_perf_data::{Endianness, Feature};
+use std::alloc::{AllocError, Global};
+use std::io::{ErrorKind, SeekFrom};
+use std::test::Fail;
+
+/// What the opening of a file comes to where the seek of this number fails, and whether that seek is still to come.
+fn opening_of(alloc: Global, bytes: &[u8], seek: u64) -> Result<(Vec<Answer>, bool), AllocError> {
+    let copy = Vec::from_slice(alloc, bytes)?;
+    let faults = Vec::from_slice(alloc, &[seek])?;
+    let mut source = Script::new(copy, bytes.len(), Vec::new(alloc), faults);
+    let answers = of_file(alloc, &mut source, 0)?;
+    let to_come = source.seek_to(SeekFrom::Current(0)).is_err();
+    Ok((answers, to_come))
+}
+
+/// How many seeks in turn refuse an opening by their fault, and whether it opens in the run behind them, which makes no
+/// other seek.
+fn refusing_seeks(alloc: Global, bytes: &[u8]) -> Result<(u64, bool), AllocError> {
+    let other = Answer::Refused(Refusal::Io(ErrorKind::Other));
+    for seek in 0..64u64 {
+        let (answers, to_come) = opening_of(alloc, bytes, seek)?;
+        if to_come {
+            return Ok((seek, answers.as_slice() == [Answer::Opened].as_slice()));
+        }
+        if answers.as_slice() != [other].as_slice() {
+            return Ok((seek, false));
+        }
+    }
+    Ok((64, false))
+}
+
+/// The first file with a host's name.
+fn named(alloc: Global) -> Result<Image, AllocError> {
+    let text = [5, 0, 0, 0, b'a', b'b', 0, b'c', b'd'];
+    with_section(alloc, Endianness::LittleEndian, Feature::HOSTNAME, &text)
+}
+
+#[test]
+fn each_seek_of_an_opening_fails(rt: HostRuntime) -> Result<(), Fail> {
+    // how many places behind its header an opening goes to at least: entries and bytes of features, attributes, entries
+    // of ids and ids, and the data
+    for (image, length, places) in [
+        (first(rt.alloc())?, 208usize, 2u64),
+        (named(rt.alloc())?, 233, 4),
+        (two_events(rt.alloc())?, 352, 4),
+        (recorded(rt.alloc(), 80, EVENT)?, 254, 5),
+    ] {
+        assert_eq!(rt; image.bytes.len(), length);
+        let (seeks, opens) = refusing_seeks(rt.alloc(), &image.bytes)?;
+        assert_eq!(rt; (opens, places <= seeks), (true, true), "{length}: {seeks}");
+    }
+    Ok(())
+}

@@ -1,0 +1,159 @@
+//! Writers that take so many bytes and then fail, or take none.
+use super::super::jit::FILE;
+use super::{first, traced};
+use crate::jit::list_jit;
+use crate::list::{ListCause, ListFault, list_file, list_pipe};
+use crate::output::{LineBuffer, write_line};
+use std::alloc::{AllocError, Global};
+use std::io::{Cursor, Error, ErrorKind, Write};
+use std::test::Fail;
+
+/// Takes so many bytes, and then fails or takes none. It counts how often it is flushed.
+#[derive(Drop)]
+struct Front {
+    taken: Vec<u8>,
+    room: usize,
+    fault: Option<ErrorKind>,
+    flushes: u64,
+}
+
+impl Write for Front {
+    fn write(&mut self, bytes: &[u8]) -> std::io::Result<usize> {
+        let left = self.room.saturating_sub(self.taken.len());
+        let count = bytes.len().min(left);
+        if count == 0 {
+            return match self.fault {
+                Some(kind) => Err(Error::from(kind)),
+                None => Ok(0),
+            };
+        }
+        self.taken.extend_from_slice(&bytes[..count])?;
+        Ok(count)
+    }
+
+    fn flush(&mut self) -> std::io::Result<()> {
+        self.flushes = self.flushes.saturating_add(1);
+        Ok(())
+    }
+}
+
+/// How a listing ends.
+#[derive(Clone, Copy, Debug, PartialEq, Eq)]
+enum End {
+    Whole,
+    Write(ErrorKind),
+    Perf,
+    Jit,
+    Read(ErrorKind),
+}
+
+/// How it ends, and the lines that it tells.
+fn end_of(listed: Result<u64, ListFault>) -> (End, u64) {
+    match listed {
+        Ok(lines) => (End::Whole, lines),
+        Err(fault) => {
+            let end = match fault.cause {
+                ListCause::Write(error) => End::Write(error.kind()),
+                ListCause::Read(error) => End::Read(error.kind()),
+                ListCause::Perf(_) => End::Perf,
+                ListCause::Jit(_) => End::Jit,
+            };
+            (end, fault.lines)
+        }
+    }
+}
+
+/// What is listed.
+#[derive(Clone, Copy, Debug)]
+enum Input {
+    File,
+    Pipe,
+    Jit,
+}
+
+fn list(alloc: Global, input: Input, bytes: &[u8], out: &mut Front) -> (End, u64) {
+    match input {
+        Input::File => end_of(list_file(alloc, Cursor::new(bytes), out)),
+        Input::Pipe => end_of(list_pipe(alloc, bytes, out)),
+        Input::Jit => end_of(list_jit(alloc, bytes, out)),
+    }
+}
+
+fn bytes_of(alloc: Global, input: Input) -> Result<Vec<u8>, AllocError> {
+    match input {
+        Input::File => Ok(first(alloc)?.bytes),
+        Input::Pipe => Ok(traced(alloc, 0)?.bytes),
+        Input::Jit => Vec::from_slice(alloc, &FILE),
+    }
+}
+
+/// How a listing ends into a writer with this room, and what the writer took.
+fn listed(
+    alloc: Global,
+    input: Input,
+    bytes: &[u8],
+    (room, fault): (usize, Option<ErrorKind>),
+) -> ((End, u64), Vec<u8>) {
+    let mut out = Front {
+        taken: Vec::new(alloc),
+        room,
+        fault,
+        flushes: 0,
+    };
+    let end = list(alloc, input, bytes, &mut out);
+    (end, out.taken)
+}
+
+/// How many lines end in a text.
+fn lines_in(text: &[u8]) -> u64 {
+    text.iter().filter(|byte| **byte == b'\n').count() as u64
+}
+
+#[test]
+fn a_writer_takes_each_front(rt: HostRuntime) -> Result<(), Fail> {
+    let full = ErrorKind::StorageFull;
+    for (input, text) in [
+        (Input::File, b"0 0 20 0 9 0 8\n24 1 10 0 9 0 8\n".as_slice()),
+        (Input::Pipe, b"0 0 - - 71 0 41\n49 0 20 0 9 0 8\n"),
+        (Input::Jit, b"40 9 0 62\n102 11 3 16\n"),
+    ] {
+        let bytes = bytes_of(rt.alloc(), input)?;
+        for (fault, kind) in [(Some(full), full), (None, ErrorKind::WriteZero)] {
+            for room in 0..text.len().saturating_add(1) {
+                let front = text.get(..room).unwrap_or(text);
+                let whole = room == text.len();
+                let end = if whole { End::Whole } else { End::Write(kind) };
+                let came = listed(rt.alloc(), input, &bytes, (room, fault));
+                assert_eq!(rt;
+                    (came.0, came.1.as_slice()),
+                    ((end, lines_in(front)), front),
+                    "{input:?} {room}"
+                );
+            }
+        }
+    }
+    Ok(())
+}
+
+/// Whether the flush of a line buffer succeeds, how often the writer behind it is flushed then, and how many bytes it took.
+fn flushed(alloc: Global, room: usize) -> Result<(bool, u64, usize), Fail> {
+    let mut behind = Front {
+        taken: Vec::new(alloc),
+        room,
+        fault: Some(ErrorKind::StorageFull),
+        flushes: 0,
+    };
+    let mut out = LineBuffer::new(alloc, &mut behind)?;
+    write_line(&mut out, b"abc\n")?;
+    let done = out.flush().is_ok();
+    drop(out);
+    Ok((done, behind.flushes, behind.taken.len()))
+}
+
+#[test]
+fn a_line_buffer_flushes_what_stands_behind_it(rt: HostRuntime) -> Result<(), Fail> {
+    for (room, wanted) in [(4usize, (true, 1u64, 4usize)), (3, (false, 0, 3))] {
+        assert_eq!(rt; flushed(rt.alloc(), room)?, wanted);
+    }
+    Ok(())
+}
