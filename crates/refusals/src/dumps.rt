@@ -1,10 +1,11 @@
 //! The records of a jitdump file, asked for one by one and one byte a read.
 
+use crate::words::kind_name;
 use linux_perf_data::jitdump::{JitDumpError, JitDumpReader};
 use linux_perf_data::raw::RawData;
 use linux_perf_data::source::{Counted, Source};
 use std::fs::File;
-use std::io::{self, ErrorKind, Read};
+use std::io::{self, Read};
 
 /// How often the next record is asked for: more often than any input has records.
 const CALLS: usize = 12;
@@ -26,14 +27,6 @@ impl Read for OneByte {
 enum Came {
     Record(u64, u32, u32, usize, usize),
     Word(&'static str),
-}
-
-/// The kind of a fault in one word.
-pub fn kind_name(error: &io::Error) -> &'static str {
-    match error.kind() {
-        ErrorKind::OutOfMemory => "OutOfMemory",
-        _ => "another",
-    }
 }
 
 /// The lengths of the pieces.

@@ -6,6 +6,7 @@ mod accessors;
 mod dumps;
 mod parsers;
 mod readings;
+mod words;
 
 use accessors::ask_accessors;
 use dumps::follow;

@@ -1,62 +1,74 @@
-//! Parsers that take memory, each called twice over bytes that stand here.
+//! Parsers that take memory, each called twice over bytes that stand here. What it reads is compared with what they spell.
 
-use linux_perf_data::event::CpuMode;
-use linux_perf_data::protobuf::DecodeError;
-use linux_perf_data::raw::RawData;
-use linux_perf_data::{DsoKey, SimpleperfFileRecord};
+mod records;
+mod sections;
+mod symbols;
+
 use std::alloc::Global;
 use std::io;
 
-/// A module of the kernel.
-const MODULE: &[u8] = b"/lib/modules/5.13.0-35-generic/kernel/sound/core/snd-seq-device.ko";
+/// Whether a parser reads what its bytes spell, or its refusal in one word.
+type Answer = Result<bool, &'static str>;
 
-/// A file's record of simpleperf, with the offsets 1, 2 and 3 of a DEX file.
-const DEX: [u8; 20] = [
-    0x0a, 0x01, 0x61, 0x10, 0x02, 0x18, 0x80, 0x01, 0x40, 0x05, 0x2a, 0x04, 0x0a, 0x02, 0x01, 0x02,
-    0x2a, 0x02, 0x08, 0x03,
+/// The names of the parsers, in the order in which they are called.
+const NAMES: [&str; 18] = [
+    "detect",
+    "as_slice",
+    "attribute",
+    "feature",
+    "user_record",
+    "build_id",
+    "debug_info",
+    "string",
+    "units",
+    "attributes",
+    "event_desc",
+    "event_types",
+    "named_types",
+    "decode",
+    "decode_v1",
+    "file_section",
+    "file2_section",
+    "meta_info",
 ];
 
-/// How long the name is that a module's path gives.
-fn detect(alloc: Global) -> Result<usize, &'static str> {
-    match DsoKey::detect(alloc, MODULE, CpuMode::Kernel) {
-        Ok(Some(key)) => Ok(key.name().len()),
-        Ok(None) => Err("none"),
-        Err(_) => Err("AllocError"),
-    }
-}
-
-/// How many bytes two pieces have in one.
-fn joined(alloc: Global) -> Result<usize, &'static str> {
-    match RawData::Split(MODULE, b"ab").as_slice(alloc) {
-        Ok(bytes) => Ok(bytes.len()),
-        Err(_) => Err("AllocError"),
-    }
-}
-
-/// How long the path of the file's record is.
-fn decoded(alloc: Global) -> Result<usize, &'static str> {
-    match SimpleperfFileRecord::decode(alloc, &DEX) {
-        Ok(record) => Ok(record.path.len()),
-        Err(DecodeError::Memory) => Err("Memory"),
-        Err(_) => Err("another"),
-    }
-}
-
-/// Calls a parser.
-fn ask(alloc: Global, name: &str) -> Result<usize, &'static str> {
+/// Calls a parser of records.
+fn ask(alloc: Global, name: &str) -> Answer {
     match name {
-        "detect" => detect(alloc),
-        "as_slice" => joined(alloc),
-        _ => decoded(alloc),
+        "detect" => records::detect(alloc),
+        "as_slice" => records::joined(alloc),
+        "attribute" => records::attribute(alloc),
+        "feature" => records::feature(alloc),
+        "user_record" => records::user_record(alloc),
+        "build_id" => records::build_id(alloc),
+        "debug_info" => records::debug_info(alloc),
+        _ => ask_sections(alloc, name),
+    }
+}
+
+/// Calls a parser of sections.
+fn ask_sections(alloc: Global, name: &str) -> Answer {
+    match name {
+        "string" => sections::string(alloc),
+        "units" => sections::units(alloc),
+        "attributes" => sections::attributes(alloc),
+        "event_desc" => sections::event_desc(alloc),
+        "event_types" => sections::event_types(alloc),
+        "named_types" => sections::named_types(alloc),
+        "decode" => symbols::decode(alloc),
+        "decode_v1" => symbols::decode_v1(alloc),
+        "file_section" => symbols::file_section(alloc),
+        "file2_section" => symbols::file2_section(alloc),
+        _ => symbols::meta_info(alloc),
     }
 }
 
 /// Calls each parser twice.
 pub fn ask_parsers(rt: &HostRuntime) -> io::Result<()> {
-    for name in ["detect", "as_slice", "decode"] {
+    for name in NAMES {
         for _ in 0..2 {
             match ask(rt.alloc(), name) {
-                Ok(long) => println!(rt; "{name} {long}")?,
+                Ok(right) => println!(rt; "{name} {right}")?,
                 Err(word) => println!(rt; "{name} {word}")?,
             }
         }

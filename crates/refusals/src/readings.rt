@@ -1,7 +1,8 @@
 //! The records of a file or of a pipe, asked for one by one.
 
+use crate::words::name_of;
 use linux_perf_data::source::{Counted, Source};
-use linux_perf_data::{Error, PerfFile, PerfFileReader, PerfFileRecord, PerfRecordIter};
+use linux_perf_data::{PerfFile, PerfFileReader, PerfFileRecord, PerfRecordIter};
 use std::fs::File;
 use std::io;
 
@@ -12,15 +13,6 @@ const CALLS: usize = 6;
 enum Came {
     Record(u64, u32, usize),
     Word(&'static str),
-}
-
-/// A refusal in one word.
-pub fn name_of(error: &Error) -> &'static str {
-    match error {
-        Error::Memory => "Memory",
-        Error::Failed => "Failed",
-        _ => "another",
-    }
 }
 
 /// What a record's line tells.
