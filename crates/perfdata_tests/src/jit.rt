@@ -2,6 +2,6 @@
 mod buffered_reader;
 mod error;
 mod header;
-mod jitdump_reader;
+pub(crate) mod jitdump_reader;
 mod record;
 mod records;

@@ -1,18 +1,11 @@
 //! Jitdump files whose source fails, pauses or grows at each place in turn.
+use crate::jit::jitdump_reader::FILE;
 use perfdata_base::raw::RawData;
 use perfdata_base::source::{Script, Step};
 use perfdata_jit::{JitDumpError, JitDumpRawRecord, JitDumpReader};
 use std::alloc::{AllocError, Global};
 use std::io::{Cursor, ErrorKind, Result as IoResult};
 use std::test::Fail;
-
-// A header of 40 bytes, and a load record of 62 at 9.
-const FILE: [u8; 102] = [
-    0x44, 0x54, 0x69, 0x4a, 1, 0, 0, 0, 40, 0, 0, 0, 62, 0, 0, 0, 0, 0, 0, 0, 7, 0, 0, 0, 5, 0, 0,
-    0, 0, 0, 0, 0, 0, 0, 0, 0, 0, 0, 0, 0, 0, 0, 0, 0, 62, 0, 0, 0, 9, 0, 0, 0, 0, 0, 0, 0, 7, 0,
-    0, 0, 7, 0, 0, 0, 0, 0x10, 0, 0, 0, 0, 0, 0, 0, 0x10, 0, 0, 0, 0, 0, 0, 2, 0, 0, 0, 0, 0, 0, 0,
-    0, 0, 0, 0, 0, 0, 0, 0, b'f', b'o', b'o', 0, 0x90, 0xc3,
-];
 
 /// What a call answers.
 #[derive(Clone, Copy, Debug, PartialEq, Eq)]

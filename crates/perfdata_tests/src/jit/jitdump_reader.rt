@@ -8,7 +8,7 @@ use std::io::{Cursor, ErrorKind, Result as IoResult};
 use std::test::Fail;
 
 // A header of 40 bytes, and a load record of 62 at 9.
-const FILE: [u8; 102] = [
+pub(crate) const FILE: [u8; 102] = [
     0x44, 0x54, 0x69, 0x4a, 1, 0, 0, 0, 40, 0, 0, 0, 62, 0, 0, 0, 0, 0, 0, 0, 7, 0, 0, 0, 5, 0, 0,
     0, 0, 0, 0, 0, 0, 0, 0, 0, 0, 0, 0, 0, 0, 0, 0, 0, 62, 0, 0, 0, 9, 0, 0, 0, 0, 0, 0, 0, 7, 0,
     0, 0, 7, 0, 0, 0, 0, 0x10, 0, 0, 0, 0, 0, 0, 0, 0x10, 0, 0, 0, 0, 0, 0, 2, 0, 0, 0, 0, 0, 0, 0,

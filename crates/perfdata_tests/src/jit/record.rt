@@ -1,3 +1,4 @@
+use crate::jit::records::LOAD;
 use byteorder::LittleEndian;
 use perfdata_base::raw::{Endianness, RawData};
 use perfdata_jit::{
@@ -10,12 +11,6 @@ use std::io::ErrorKind;
 const LITTLE: [u8; 16] = [0, 0, 0, 0, 62, 0, 0, 0, 9, 0, 0, 0, 0, 0, 0, 0];
 
 const BIG: [u8; 16] = [0, 0, 0, 0, 0, 0, 0, 62, 0, 0, 0, 0, 0, 0, 0, 9];
-
-// A load record's body of 46 bytes: process and thread 7, addresses 0x1000, index 0, `foo` and two bytes of code.
-const BODY: [u8; 46] = [
-    7, 0, 0, 0, 7, 0, 0, 0, 0, 0x10, 0, 0, 0, 0, 0, 0, 0, 0x10, 0, 0, 0, 0, 0, 0, 2, 0, 0, 0, 0, 0,
-    0, 0, 0, 0, 0, 0, 0, 0, 0, 0, b'f', b'o', b'o', 0, 0x90, 0xc3,
-];
 
 // The type, the size and the time of a head.
 type Head = (JitDumpRecordType, u32, u64);
@@ -126,7 +121,7 @@ fn types_have_their_numbers(rt: HostRuntime) {
 #[test]
 fn parses_by_type(rt: HostRuntime) {
     for at in 0..47usize {
-        let (front, back) = BODY.split_at(at);
+        let (front, back) = LOAD.split_at(at);
         let got = parse(rt.alloc(), 0, RawData::Split(front, back));
         assert_eq!(rt; got, Ok(Parsed::Load(true)), "split at {at}");
     }
@@ -137,7 +132,7 @@ fn parses_by_type(rt: HostRuntime) {
         (3, Ok(Parsed::Close)),
         (5, Ok(Parsed::Other(46))),
     ] {
-        let got = parse(rt.alloc(), kind, RawData::Single(&BODY));
+        let got = parse(rt.alloc(), kind, RawData::Single(&LOAD));
         assert_eq!(rt; got, wanted, "of type {kind}");
     }
 }

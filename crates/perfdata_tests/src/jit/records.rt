@@ -9,7 +9,7 @@ use std::io::ErrorKind;
 use std::test::Fail;
 
 // A load record's body of 46 bytes: process and thread 7, addresses 0x1000, index 0, `foo` and two bytes of code.
-const LOAD: [u8; 46] = [
+pub(crate) const LOAD: [u8; 46] = [
     7, 0, 0, 0, 7, 0, 0, 0, 0, 0x10, 0, 0, 0, 0, 0, 0, 0, 0x10, 0, 0, 0, 0, 0, 0, 2, 0, 0, 0, 0, 0,
     0, 0, 0, 0, 0, 0, 0, 0, 0, 0, b'f', b'o', b'o', 0, 0x90, 0xc3,
 ];
