@@ -18,7 +18,7 @@ use std::alloc::Global;
 /// Where a record stands, and when it was written.
 #[derive(Clone, Copy, Debug, PartialEq, Eq)]
 pub struct RecordPlace {
-    /// None for a record of a tool, and where the attribute's records have no time.
+    /// In nanoseconds of the clock that the recording names. None for a record of a tool, and where the attribute's records have no time.
     pub timestamp: Option<u64>,
     /// In bytes from the first record.
     pub offset: u64,

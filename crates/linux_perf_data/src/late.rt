@@ -1,4 +1,4 @@
-// Metadata that came late: in a pipe's records behind its opening.
+//! Metadata that came late: in a pipe's records behind its opening.
 ghost use Rattle.std.specs.Prelude.{◌≡◌, ◌≢◌, ◌<◌, None, length, vec_len};
 ghost use Rattle.perfdata_parts.specs.AttributeDescription.{name_in};
 ghost use Rattle.perfdata_parts.specs.Error.{IsInvalidInput};

@@ -18,13 +18,21 @@ pub struct SampleFormat(pub u64);
 
 bitflag_items! {
     impl SampleFormat: u64 {
+        /// The address of the instruction.
         const IP = 1 << 0;
+        /// The process and the thread.
         const TID = 1 << 1;
+        /// The time.
         const TIME = 1 << 2;
+        /// The address in memory.
         const ADDR = 1 << 3;
+        /// The event's identifier.
         const ID = 1 << 6;
+        /// The processor.
         const CPU = 1 << 7;
+        /// The identifier of the event itself, also where another task inherited it.
         const STREAM_ID = 1 << 9;
+        /// The event's identifier, at the same place whatever else is there.
         const IDENTIFIER = 1 << 16;
     }
 }

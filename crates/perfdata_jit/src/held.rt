@@ -1,4 +1,4 @@
-// The bytes that came and are not taken: those of the overflow buffer, and then those of the ring.
+//! The bytes that came and are not taken: those of the overflow buffer, and then those of the ring.
 ghost use Rattle.std.specs.Prelude.{◌≡◌, ℕ, ◌+◌, ◌-◌, ◌^◌, ◌<◌, ◌≤◌, List, [], ◌++◌, length, take, drop, slice_range, OnErr, OnOk, vec_len};
 ghost use Rattle.std.specs.Borrow.{sem};
 ghost use Rattle.std.specs.Io.BufRead.{Rests};

@@ -46,6 +46,7 @@ impl JitDumpRecordType {
 /// The head that each record begins with.
 #[derive(Clone, Debug, Drop)]
 pub struct JitDumpRecordHeader {
+    /// What the record tells.
     pub record_type: JitDumpRecordType,
     /// How many bytes the record has, its head counted.
     pub total_size: u32,
@@ -113,6 +114,7 @@ pub enum JitDumpRecord<'a> {
 pub struct JitDumpRawRecord<'a> {
     /// The order of its numbers.
     pub endian: Endianness,
+    /// What the record tells.
     pub record_type: JitDumpRecordType,
     /// When it was written.
     pub timestamp: u64,

@@ -1,4 +1,4 @@
-// A fixed buffer used as a ring: bytes held may run over its end to its front.
+//! A fixed buffer used as a ring: bytes held may run over its end to its front.
 ghost use Rattle.std.specs.Prelude.{◌≡◌, ℕ, ◌+◌, ◌-◌, ◌^◌, ◌<◌, ◌≤◌, List, [], ◌++◌, length, take, drop, slice_range, IfOk, vec_len};
 ghost use Rattle.perfdata_base.specs.Source.{Reads, CountsRead};
 ghost use Rattle.perfdata_jit.specs.Filling.{Fills};

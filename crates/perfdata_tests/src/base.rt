@@ -1,3 +1,4 @@
+//! The tests of sources, bytes, heads, attributes, headers and places.
 mod attr;
 mod event;
 mod features;

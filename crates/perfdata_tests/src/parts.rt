@@ -1,3 +1,4 @@
+//! The tests of sections and of errors.
 mod decode_error;
 mod error;
 mod event_desc;

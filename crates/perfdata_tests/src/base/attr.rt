@@ -1,3 +1,4 @@
+//! Attributes of each size: their fields, in both orders, and which sizes are refused.
 use bitflags::Flags;
 use byteorder::{BigEndian, LittleEndian};
 use perfdata_base::attr::{AttrFlags, PerfEventAttr, SampleFormat};

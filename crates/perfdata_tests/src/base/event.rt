@@ -1,3 +1,4 @@
+//! Heads of records, types of users' records, and modes of processors.
 use byteorder::{BigEndian, LittleEndian};
 use perfdata_base::event::{CpuMode, PerfEventHeader, RecordType};
 use std::io::{Error, ErrorKind};

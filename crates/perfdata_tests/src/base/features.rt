@@ -1,3 +1,4 @@
+//! Features: their names, and the members of a set.
 use perfdata_base::features::{Feature, FeatureSet};
 use std::alloc::Global;
 use std::test::Fail;

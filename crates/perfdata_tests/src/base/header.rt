@@ -1,3 +1,4 @@
+//! Headers of files: their fields, in both orders, and what is refused.
 use perfdata_base::header::PerfHeader;
 use std::io::{Cursor, Error, ErrorKind};
 use std::test::Fail;

@@ -1,3 +1,4 @@
+//! The cache of identifiers, where two share a slot.
 use perfdata_base::place::IdCache;
 
 // Of two identifiers of one slot the later stays, and an empty slot answers for none.

@@ -1,3 +1,4 @@
+//! Headers of pipes, whole, with bytes behind them, and cut.
 use perfdata_base::header::PerfPipeHeader;
 use std::io::{Error, ErrorKind};
 use std::test::Fail;

@@ -1,3 +1,4 @@
+//! Where times and identifiers stand by a format, and the words that are read there.
 use byteorder::{BigEndian, LittleEndian};
 use perfdata_base::attr::{AttrFlags, PerfEventAttr, SampleFormat};
 use perfdata_base::event::RecordType;

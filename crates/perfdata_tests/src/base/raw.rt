@@ -1,3 +1,4 @@
+//! Bytes in one piece and in two: each call answers the same wherever they are split.
 use byteorder::{BigEndian, LittleEndian};
 use perfdata_base::raw::{Endianness, RawData};
 use std::alloc::{AllocError, Global};

@@ -1,3 +1,4 @@
+//! The source that follows a script.
 use crate::base::source::reads;
 use perfdata_base::source::{PlacedSource, Script, Step};
 use std::alloc::Global;

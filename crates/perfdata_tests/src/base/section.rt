@@ -1,3 +1,4 @@
+//! Entries of sections, in both orders, and cut.
 use byteorder::{BigEndian, LittleEndian};
 use perfdata_base::section::PerfFileSection;
 use std::io::{Error, ErrorKind};

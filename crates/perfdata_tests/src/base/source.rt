@@ -1,3 +1,4 @@
+//! Sources of each kind: what comes, what is passed over, where seeks go, and which faults are repeated and counted.
 ghost use Rattle.std.specs.Prelude.{◌≡◌, ◌<◌, ℕ, length, Some, IfNone, IfSome};
 ghost use Rattle.perfdata_base.specs.Source.{Rose};
 

@@ -1,3 +1,4 @@
+//! Entries of build ids, taken one by one off a reader that is lent.
 use byteorder::LittleEndian;
 use linux_perf_data::build_id_event::BuildIdEvent;
 use std::alloc::{AllocError, Global};

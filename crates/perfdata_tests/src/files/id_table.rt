@@ -1,3 +1,4 @@
+//! Which attribute samples belong to, by the lists of identifiers.
 use super::stream::{indices_of, pipe, pipe_answers, push_identified, push_sample};
 use std::alloc::{AllocError, Global};
 use std::test::Fail;

@@ -1,3 +1,4 @@
+//! The records of a file and of a pipe, with their places, and what is refused.
 use super::stream::{Answer, file, file_answers, pipe, pipe_answers, push_attribute};
 use linux_perf_data::RecordPlace;
 use linux_perf_data::source::{Counted, Script, Step};

@@ -1,3 +1,4 @@
+//! What is known of attributes as more of them come in a pipe.
 use super::stream::{
     Answer, IDENTIFIER, described, indices_of, pipe, pipe_answers, push_attribute, push_identified,
     push_sample,

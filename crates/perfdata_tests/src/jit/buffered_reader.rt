@@ -1,3 +1,4 @@
+//! The buffered reader: parts that run over the buffer's end, and bytes that are passed over.
 use perfdata_base::raw::RawData;
 use perfdata_base::source::Source;
 use perfdata_jit::{BufferedReader, ReadExactOrUntilEof};

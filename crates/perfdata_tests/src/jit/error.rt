@@ -1,3 +1,4 @@
+//! The texts of errors.
 use perfdata_jit::JitDumpError;
 use std::alloc::{AllocError, Global};
 use std::io::{Error, ErrorKind};

@@ -1,3 +1,4 @@
+//! Headers of jitdump files, wherever they are split, and the first reason why there is none.
 use byteorder::LittleEndian;
 use perfdata_base::raw::RawData;
 use perfdata_jit::{JitDumpError, JitDumpHeader};

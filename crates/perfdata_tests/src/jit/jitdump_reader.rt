@@ -1,3 +1,4 @@
+//! The reader, over sources that show their bytes bit by bit, pause, fail and grow.
 use perfdata_base::raw::RawData;
 use perfdata_base::source::{Script, Source, Step};
 use perfdata_jit::{

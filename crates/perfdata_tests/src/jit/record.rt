@@ -1,3 +1,4 @@
+//! Heads of records, the numbers of types, and each record in the form that its type has.
 use crate::jit::records::LOAD;
 use byteorder::LittleEndian;
 use perfdata_base::raw::{Endianness, RawData};

@@ -1,3 +1,4 @@
+//! The bodies of records: their fields, what is refused, and the entry of an address.
 use byteorder::{ByteOrder, LittleEndian};
 use perfdata_base::raw::{Endianness, RawData};
 use perfdata_jit::{

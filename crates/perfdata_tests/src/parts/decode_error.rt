@@ -1,3 +1,4 @@
+//! The texts of the errors of protobuf messages.
 use perfdata_parts::decode_error::DecodeError;
 use std::alloc::Global;
 use std::test::Fail;

@@ -1,3 +1,4 @@
+//! The texts of errors, and what they are made of.
 use perfdata_parts::decode_error::DecodeError;
 use perfdata_parts::error::{Error, ReadError, short, unsupported};
 use std::alloc::{AllocError, AllocFailed, Global};

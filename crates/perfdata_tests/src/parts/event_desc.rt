@@ -1,3 +1,4 @@
+//! The section EVENT_DESC: its events, in both orders, and what is refused.
 use crate::parts::refused::Refused;
 use byteorder::{BigEndian, LittleEndian};
 use perfdata_parts::error::Error;

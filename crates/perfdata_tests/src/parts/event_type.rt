@@ -1,3 +1,4 @@
+//! Event types hold what they are made of.
 use perfdata_parts::event_type::SimplePerfEventType;
 use std::test::Fail;
 

@@ -1,3 +1,4 @@
+//! The section of event types: its entries with their ids, and what is refused.
 use crate::parts::refused::Refused;
 use byteorder::LittleEndian;
 use perfdata_base::section::PerfFileSection;

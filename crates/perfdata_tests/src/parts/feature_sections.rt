@@ -1,3 +1,4 @@
+//! The attribute section: its frames, and what is refused.
 use crate::parts::refused::Refused;
 use byteorder::{BigEndian, LittleEndian};
 use perfdata_base::attr::PerfEventAttr;

@@ -1,3 +1,4 @@
+//! Sections of numbers: processors, times, compression and clocks.
 use byteorder::{BigEndian, LittleEndian};
 use perfdata_parts::feature_sections::{ClockData, CompressionInfo, NrCpus, SampleTimeRange};
 use std::io::{Error, ErrorKind};

@@ -1,3 +1,4 @@
+//! PMU mappings: the names that are kept, and units that are missing.
 use byteorder::LittleEndian;
 use perfdata_parts::feature_sections::PmuMappings;
 use std::alloc::Global;

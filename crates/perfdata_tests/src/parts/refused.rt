@@ -1,3 +1,4 @@
+//! How a section of attributes was refused, in a form that can be compared.
 use perfdata_parts::error::{Error, ReadError};
 use perfdata_parts::feature_sections::AttributeDescription;
 use std::io::ErrorKind;

@@ -1,3 +1,4 @@
+//! The attribute section of simpleperf, with names by event types.
 use crate::parts::event_types::two_entries;
 use crate::parts::refused::Refused;
 use byteorder::LittleEndian;

@@ -1,3 +1,4 @@
+//! Strings of sections, up to their first NUL, and cut.
 use byteorder::{BigEndian, LittleEndian};
 use perfdata_parts::feature_sections::{HeaderString, before_nul};
 use std::alloc::Global;

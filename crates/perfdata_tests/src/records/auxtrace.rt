@@ -1,3 +1,4 @@
+//! Auxiliary traces, wherever they are split, in both orders, and what is refused.
 use byteorder::{BigEndian, LittleEndian};
 use perfdata_base::raw::RawData;
 use perfdata_records::auxtrace::Auxtrace;

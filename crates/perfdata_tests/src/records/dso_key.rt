@@ -1,3 +1,4 @@
+//! Keys of mapped objects: each kind of path in each mode, and which keys are equal.
 use perfdata_base::event::CpuMode;
 use perfdata_records::dso_key::DsoKey;
 use std::alloc::{AllocError, Global};

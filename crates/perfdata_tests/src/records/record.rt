@@ -1,3 +1,4 @@
+//! Types of users' records: their constants, numbers and texts.
 use perfdata_base::event::RecordType;
 use perfdata_parts::constants::*;
 use perfdata_records::record::UserRecordType;

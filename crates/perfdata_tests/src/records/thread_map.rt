@@ -1,3 +1,4 @@
+//! Thread maps, wherever they are split, in both orders, and what is refused.
 use byteorder::{BigEndian, ByteOrder, LittleEndian};
 use perfdata_base::raw::RawData;
 use perfdata_records::thread_map::ThreadMap;

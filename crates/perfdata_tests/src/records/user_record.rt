@@ -1,3 +1,4 @@
+//! Users' records in the form that their type has, wherever they are split, and what is refused.
 use byteorder::{BigEndian, ByteOrder, LittleEndian};
 use perfdata_base::features::Feature;
 use perfdata_base::raw::{Endianness, RawData};

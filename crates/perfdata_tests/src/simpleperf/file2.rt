@@ -1,3 +1,4 @@
+//! Sections of protobuf messages, and what is cut in them.
 use perfdata_base::raw::Endianness;
 use perfdata_parts::decode_error::DecodeError;
 use perfdata_parts::error::Error;

@@ -1,3 +1,4 @@
+//! Protobuf messages: their fields, the value that counts, and each fault.
 use perfdata_parts::decode_error::DecodeError;
 use perfdata_simpleperf::simpleperf::{
     SimpleperfDexFileInfo, SimpleperfElfFileInfo, SimpleperfFileRecord, SimpleperfKernelModuleInfo,

@@ -1,3 +1,4 @@
+//! Sections of the older file records, and what is cut in them.
 use perfdata_base::raw::Endianness;
 use perfdata_parts::error::Error;
 use perfdata_simpleperf::simpleperf::{SimpleperfFileRecord, parse_file_section};

@@ -1,3 +1,4 @@
+//! The older file records: each type, in both orders, and what is refused.
 use byteorder::{BigEndian, LittleEndian};
 use perfdata_simpleperf::simpleperf::{
     SimpleperfFileRecord, SimpleperfSymbol, SimpleperfTypeSpecificInfo,

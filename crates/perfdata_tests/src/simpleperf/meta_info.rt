@@ -1,3 +1,4 @@
+//! Meta info: the pairs of its pieces, and texts that aren't UTF-8.
 use perfdata_parts::error::Error;
 use perfdata_simpleperf::simpleperf::parse_meta_info_map;
 use std::alloc::Global;

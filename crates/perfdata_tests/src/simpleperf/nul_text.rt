@@ -1,3 +1,4 @@
+//! Texts up to a NUL, taken off the front.
 use perfdata_simpleperf::simpleperf::SliceReadStringExt;
 use std::io::ErrorKind;
 
