@@ -6,6 +6,7 @@ use perfdata_base::header::{PerfHeader, PerfPipeHeader};
 use perfdata_base::section::PerfFileSection;
 use perfdata_base::source::{Counted, Source};
 use perfdata_parts::error::{Error, ReadError};
+use perfdata_parts::event_type::SimplePerfEventType;
 use perfdata_parts::feature_sections::AttributeDescription;
 use std::alloc::Global;
 use std::io::{Cursor, Read, Seek, SeekFrom};
@@ -170,27 +171,54 @@ fn event(offset: u64) -> [u8; 88] {
     bytes
 }
 
-/// How many attributes are read, or whether the refusal is of an attribute.
-fn events_of(alloc: Global, noting: &mut Noting<'_>) -> Result<usize, bool> {
-    let section = PerfFileSection {
-        offset: 0,
-        size: 80,
-    };
-    match AttributeDescription::parse_event_types_section::<Counted<&mut Noting<'_>>, LittleEndian>(
-        alloc,
-        Counted::new(noting),
-        &section,
-        64,
-    ) {
-        Ok(events) => Ok(events.len()),
+/// The section of that attribute and of the place of its ids.
+const SECTION: PerfFileSection = PerfFileSection {
+    offset: 0,
+    size: 80,
+};
+
+/// How many attributes have a name and how many have none, or whether the refusal is of an attribute.
+fn told(read: Result<Vec<AttributeDescription>, Error>) -> Result<(usize, usize), bool> {
+    match read {
+        Ok(events) => {
+            let named = events.iter().filter(|event| event.name().is_some()).count();
+            Ok((named, events.len().saturating_sub(named)))
+        }
         Err(Error::Read(ReadError::PerfEventAttr)) => Err(true),
         Err(_) => Err(false),
     }
 }
 
-/// What the event comes to, and what its reader noted: the farthest place, the bytes that it gave, and whether it was asked
-/// once the entry was read.
-fn noted(alloc: Global, offset: u64) -> (Result<usize, bool>, (u64, usize, bool)) {
+/// What comes of the section of event types, whose frames have 64 bytes.
+fn events_of(alloc: Global, noting: &mut Noting<'_>) -> Result<(usize, usize), bool> {
+    told(AttributeDescription::parse_event_types_section::<Counted<&mut Noting<'_>>, LittleEndian>(
+        alloc,
+        Counted::new(noting),
+        &SECTION,
+        64,
+    ))
+}
+
+/// What comes of simpleperf's attribute section, whose frames count the 16 bytes that tell the place of the ids, too.
+fn simpleperf_of(
+    alloc: Global,
+    noting: &mut Noting<'_>,
+    types: &[SimplePerfEventType],
+) -> Result<(usize, usize), bool> {
+    let mut source = Counted::new(noting);
+    told(AttributeDescription::parse_simpleperf_attr_section_from::<
+        Counted<&mut Noting<'_>>,
+        LittleEndian,
+    >(alloc, &mut source, &SECTION, 80, types))
+}
+
+/// What the event comes to in the section of event types, or in simpleperf's where event types name it, and what its reader
+/// noted: the farthest place, the bytes that it gave, and whether it was asked once the entry was read.
+fn noted(
+    alloc: Global,
+    offset: u64,
+    types: Option<&[SimplePerfEventType]>,
+) -> (Result<(usize, usize), bool>, (u64, usize, bool)) {
     let bytes = event(offset);
     let mut noting = Noting {
         inner: Cursor::new(bytes.as_slice()),
@@ -198,17 +226,35 @@ fn noted(alloc: Global, offset: u64) -> (Result<usize, bool>, (u64, usize, bool)
         given: 0,
         later: 0,
     };
-    let came = events_of(alloc, &mut noting);
+    let came = match types {
+        Some(types) => simpleperf_of(alloc, &mut noting, types),
+        None => events_of(alloc, &mut noting),
+    };
     (came, (noting.farthest, noting.given, noting.later > 0))
 }
 
 #[test]
 fn ids_past_every_place_are_refused_untouched(rt: HostRuntime) {
     for (offset, wanted) in [
-        (80, (Ok(1usize), (80u64, 88usize, true))),
+        (80, (Ok((0usize, 1usize)), (80u64, 88usize, true))),
         (u64::MAX, (Err(true), (64, 80, false))),
         (u64::MAX - 7, (Err(true), (64, 80, false))),
     ] {
-        assert_eq!(rt; noted(rt.alloc(), offset), wanted, "{offset}");
+        assert_eq!(rt; noted(rt.alloc(), offset, None), wanted, "{offset}");
     }
+}
+
+#[test]
+fn ids_of_named_events_past_every_place_are_refused_untouched(rt: HostRuntime) -> Result<(), Fail> {
+    let name = String::from_str(rt.alloc(), "cycles")?;
+    let types = [SimplePerfEventType::new(name, 0, 0)];
+    for (offset, wanted) in [
+        (80, (Ok((1usize, 0usize)), (80u64, 88usize, true))),
+        (u64::MAX, (Err(true), (64, 80, false))),
+        (u64::MAX - 7, (Err(true), (64, 80, false))),
+    ] {
+        let came = noted(rt.alloc(), offset, Some(&types));
+        assert_eq!(rt; came, wanted, "{offset}");
+    }
+    Ok(())
 }

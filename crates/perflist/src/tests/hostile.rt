@@ -6,6 +6,7 @@ mod seeks;
 mod writers;
 
 use super::image::{Image, Part};
+use linux_perf_data::raw::RawData;
 use linux_perf_data::source::{PlacedSource, Script, Source, Step};
 use linux_perf_data::{Endianness, Error, PerfFileReader, PerfFileRecord, ReadError, RecordPlace};
 use std::alloc::{AllocError, Global};
@@ -65,34 +66,83 @@ fn refusal_of(error: &Error) -> Refusal {
     }
 }
 
+/// What a record's body is, byte for byte.
+#[derive(Clone, Copy, Debug, PartialEq, Eq)]
+enum Body {
+    /// The eight bytes of this little-endian number.
+    Long(u64),
+    /// Those of `TRACED`.
+    Traced,
+    /// Something else.
+    Other,
+}
+
+/// The body of the pipe's record of auxiliary data: that they are one byte, then their offset, their reference, their
+/// index, thread, processor and a word of 0; and the byte itself.
+const TRACED: [u8; 41] = [
+    1, 0, 0, 0, 0, 0, 0, 0, 0, 0, 0, 0, 0, 0, 0, 0, 0xf9, 0xcd, 0x2a, 0x49, 0x28, 4, 0, 0, 8, 0, 0,
+    0, 0x7a, 0x24, 0, 0, 8, 0, 0, 0, 0, 0, 0, 0, 7,
+];
+
+fn body_of(body: RawData<'_>) -> Body {
+    match body {
+        RawData::Single(bytes) => {
+            if bytes == TRACED.as_slice() {
+                return Body::Traced;
+            }
+            match <[u8; 8]>::try_from(bytes) {
+                Ok(number) => Body::Long(u64::from_le_bytes(number)),
+                Err(_) => Body::Other,
+            }
+        }
+        RawData::Split(_, _) => Body::Other,
+    }
+}
+
+/// A record, whole.
+#[derive(Clone, Copy, Debug, PartialEq, Eq)]
+struct Handed {
+    place: RecordPlace,
+    /// None for a record of a tool.
+    attr_index: Option<usize>,
+    record_type: u32,
+    misc: u16,
+    body: Body,
+}
+
 /// What a call answers.
 #[derive(Clone, Copy, Debug, PartialEq, Eq)]
 enum Answer {
     Opened,
-    /// A record's place, its type and the length of its body.
-    Record(RecordPlace, u32, usize),
+    Record(Handed),
     Nothing,
     Refused(Refusal),
 }
 
 const DATA: Refusal = Refusal::Read(ReadError::PerfEventData);
 
+fn handed_of(place: RecordPlace, record: PerfFileRecord<'_>) -> Handed {
+    match record {
+        PerfFileRecord::EventRecord { attr_index, event } => Handed {
+            place,
+            attr_index: Some(attr_index),
+            record_type: event.record_type.0,
+            misc: event.misc,
+            body: body_of(event.body),
+        },
+        PerfFileRecord::UserRecord(user) => Handed {
+            place,
+            attr_index: None,
+            record_type: user.record_type.record_type().0,
+            misc: user.misc,
+            body: body_of(user.body),
+        },
+    }
+}
+
 fn answer_of(next: Result<Option<(RecordPlace, PerfFileRecord<'_>)>, Error>) -> Answer {
     match next {
-        Ok(
-            Some(
-                (
-                    place,
-                    PerfFileRecord::EventRecord {
-                        attr_index: _,
-                        event,
-                    },
-                ),
-            ),
-        ) => { Answer::Record(place, event.record_type.0, event.body.len()) }
-        Ok(Some((place, PerfFileRecord::UserRecord(user)))) => {
-            Answer::Record(place, user.record_type.record_type().0, user.body.len())
-        }
+        Ok(Some((place, record))) => Answer::Record(handed_of(place, record)),
         Ok(None) => Answer::Nothing,
         Err(error) => Answer::Refused(refusal_of(&error)),
     }
@@ -220,46 +270,54 @@ fn stopped_pipe(
 
 /// The records of the first file.
 const FILE_RECORDS: [Answer; 2] = [
-    Answer::Record(
-        RecordPlace {
+    Answer::Record(Handed {
+        place: RecordPlace {
             timestamp: Some(20),
             offset: 0,
             round: 0,
         },
-        9,
-        8,
-    ),
-    Answer::Record(
-        RecordPlace {
+        attr_index: Some(0),
+        record_type: 9,
+        misc: 2,
+        body: Body::Long(20),
+    }),
+    Answer::Record(Handed {
+        place: RecordPlace {
             timestamp: Some(10),
             offset: 24,
             round: 1,
         },
-        9,
-        8,
-    ),
+        attr_index: Some(0),
+        record_type: 9,
+        misc: 0,
+        body: Body::Long(10),
+    }),
 ];
 
 /// Those of the pipe with auxiliary data.
 const PIPE_RECORDS: [Answer; 2] = [
-    Answer::Record(
-        RecordPlace {
+    Answer::Record(Handed {
+        place: RecordPlace {
             timestamp: None,
             offset: 0,
             round: 0,
         },
-        71,
-        41,
-    ),
-    Answer::Record(
-        RecordPlace {
+        attr_index: None,
+        record_type: 71,
+        misc: 0,
+        body: Body::Traced,
+    }),
+    Answer::Record(Handed {
+        place: RecordPlace {
             timestamp: Some(20),
             offset: 49,
             round: 0,
         },
-        9,
-        8,
-    ),
+        attr_index: Some(0),
+        record_type: 9,
+        misc: 2,
+        body: Body::Long(20),
+    }),
 ];
 
 /// What the first file comes to where it stops behind so many bytes, and heads and the header stop by this kind.
@@ -295,16 +353,19 @@ fn traced(alloc: Global, more: u8) -> Result<Image, AllocError> {
     image.filled(0xee, more as usize)?;
     for part in [
         Part::Attribute(4, 0, &[]),
-        Part::Trace(1, &[0]),
-        Part::Sample(20),
+        Part::Trace(1, &[7]),
+        Part::Head(9, 2, 16),
+        Part::Long(20),
     ] {
         image.part(part)?;
     }
     Ok(image)
 }
 
+/// The first file, whose first sample has misc 2: a head of type 9, misc 2 and size 16.
 fn first(alloc: Global) -> Result<Image, AllocError> {
-    Image::first(alloc, Endianness::LittleEndian)
+    let head = 0x10_0002_0000_0009;
+    Image::patched(alloc, Endianness::LittleEndian, &[(168, head)])
 }
 
 /// Each call comes to what is promised, and none behind the stop reads.

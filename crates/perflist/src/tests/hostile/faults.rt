@@ -22,10 +22,15 @@ fn a_fault_at_each_read_of_a_file(rt: HostRuntime) -> Result<(), Fail> {
     Ok(())
 }
 
-/// Two samples with a marker of 16 bytes between them.
+/// Two samples with a marker of 16 bytes between them; the first has misc 2.
 fn with_marker(alloc: Global) -> Result<Image, AllocError> {
     let mut image = Image::little(alloc, 48, 4, 0)?;
-    for part in [Part::Sample(20), Part::Marker(16), Part::Sample(10)] {
+    for part in [
+        Part::Head(9, 2, 16),
+        Part::Long(20),
+        Part::Marker(16),
+        Part::Sample(10),
+    ] {
         image.part(part)?;
     }
     Ok(image)

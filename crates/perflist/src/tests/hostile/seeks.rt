@@ -44,17 +44,24 @@ fn named(alloc: Global) -> Result<Image, AllocError> {
 
 #[test]
 fn each_seek_of_an_opening_fails(rt: HostRuntime) -> Result<(), Fail> {
-    // how many places behind its header an opening goes to at least: entries and bytes of features, attributes, entries
-    // of ids and ids, and the data
-    for (image, length, places) in [
-        (first(rt.alloc())?, 208usize, 2u64),
+    // A seek each: past a header's bytes behind 104 (none of 104 bytes), to the table of features, to each feature's
+    // bytes, to each attribute and, where its ids have a place, to the entry that tells it and to the ids; to the data.
+    let longer = Image::patched(rt.alloc(), Endianness::LittleEndian, &[(8, 112)])?;
+    for (image, length, wanted) in [
+        // the table, one attribute without ids, the data
+        (first(rt.alloc())?, 208usize, 3u64),
+        // the 8 bytes more of its header, and the same
+        (longer, 208, 4),
+        // the table, the host's name, one attribute without ids, the data
         (named(rt.alloc())?, 233, 4),
-        (two_events(rt.alloc())?, 352, 4),
-        (recorded(rt.alloc(), 80, EVENT)?, 254, 5),
+        // the table, two event types with an entry and ids each, the data
+        (two_events(rt.alloc())?, 352, 8),
+        // the table, the meta info, one attribute with an entry and ids, the data
+        (recorded(rt.alloc(), 80, EVENT)?, 254, 6),
     ] {
         assert_eq!(rt; image.bytes.len(), length);
-        let (seeks, opens) = refusing_seeks(rt.alloc(), &image.bytes)?;
-        assert_eq!(rt; (opens, places <= seeks), (true, true), "{length}: {seeks}");
+        let came = refusing_seeks(rt.alloc(), &image.bytes)?;
+        assert_eq!(rt; came, (wanted, true), "{length}");
     }
     Ok(())
 }

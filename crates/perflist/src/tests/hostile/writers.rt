@@ -113,8 +113,8 @@ fn lines_in(text: &[u8]) -> u64 {
 fn a_writer_takes_each_front(rt: HostRuntime) -> Result<(), Fail> {
     let full = ErrorKind::StorageFull;
     for (input, text) in [
-        (Input::File, b"0 0 20 0 9 0 8\n24 1 10 0 9 0 8\n".as_slice()),
-        (Input::Pipe, b"0 0 - - 71 0 41\n49 0 20 0 9 0 8\n"),
+        (Input::File, b"0 0 20 0 9 2 8\n24 1 10 0 9 0 8\n".as_slice()),
+        (Input::Pipe, b"0 0 - - 71 0 41\n49 0 20 0 9 2 8\n"),
         (Input::Jit, b"40 9 0 62\n102 11 3 16\n"),
     ] {
         let bytes = bytes_of(rt.alloc(), input)?;
