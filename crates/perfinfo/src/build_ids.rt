@@ -5,7 +5,7 @@ use linux_perf_data::simpleperf_dso_type::{
     DSO_DEX_FILE, DSO_ELF_FILE, DSO_KERNEL, DSO_KERNEL_MODULE, DSO_SYMBOL_MAP_FILE,
 };
 use linux_perf_data::{DsoInfo, DsoKey, Error, PerfFile};
-use std::alloc::{AllocError, Global};
+use std::alloc::Global;
 use std::collections::HashMap;
 use std::io::Write;
 
@@ -50,7 +50,7 @@ fn by_path(
 ) -> Result<Option<Vec<Mapped<'_>>>, Error> {
     let mut objects = Vec::with_capacity(alloc, ids.len())?;
     for object in ids.iter() {
-        objects.push(object).map_err(AllocError::from)?;
+        objects.push(object)?;
     }
     objects.sort_by(|a: &Mapped<'_>, b: &Mapped<'_>| a.1.path.cmp(&b.1.path))?;
     Ok(Some(objects))

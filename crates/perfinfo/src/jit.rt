@@ -1,4 +1,6 @@
 //! A jitdump file: its header, its records by type, and the code in it.
+ghost use Rattle.std.specs.Prelude.{◌↔◌, IsOk, IsNone};
+
 use crate::escape::Escaped;
 use crate::fault::Fault;
 use crate::machine::order_name;
@@ -116,7 +118,9 @@ impl<R: Source + Drop> Dump<R> {
     }
 
     /// Whether the records came to their end.
-    pub fn end(self) -> Result<(), Fault> {
+    pub fn end(self) -> Result<(), Fault>
+        ensures { IsOk result ↔ IsNone self.fault }
+    {
         let behind = self.tally.end;
         match self.fault {
             Some(cause) => Err(Fault::JitRecord { behind, cause }),

@@ -3,7 +3,7 @@ use crate::escape::Escaped;
 use crate::names::clock_name;
 use crate::page::Page;
 use linux_perf_data::{Endianness, Error, PerfFile};
-use std::alloc::{AllocError, Global};
+use std::alloc::Global;
 use std::collections::HashMap;
 use std::fmt;
 use std::io::Write;
@@ -145,7 +145,7 @@ fn by_key<'a>(
 ) -> Result<Option<Vec<Pair<'a>>>, Error> {
     let mut pairs = Vec::with_capacity(alloc, map.len())?;
     for (key, value) in map.iter() {
-        pairs.push((*key, *value)).map_err(AllocError::from)?;
+        pairs.push((*key, *value))?;
     }
     pairs.sort()?;
     Ok(Some(pairs))

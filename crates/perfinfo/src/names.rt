@@ -40,8 +40,9 @@ pub const READ_FORMAT: &str = "TOTAL_TIME_ENABLED TOTAL_TIME_RUNNING ID GROUP LO
 /// Shows a number and the names of the bits that it has, from the lowest on.
 #[derive(Clone, Copy)]
 pub struct Bits {
+    /// The number.
     pub bits: u64,
-    /// With a space between.
+    /// The names of its bits, with a space between.
     pub names: &'static str,
 }
 

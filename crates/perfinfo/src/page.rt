@@ -1,4 +1,6 @@
 //! What is printed: a name and a value a line, and lists that stand further in.
+ghost use Rattle.std.specs.Prelude.{◌≡◌, IsNone, OnOk};
+
 use crate::escape::Escaped;
 use crate::fault::Fault;
 use linux_perf_data::Error;
@@ -79,6 +81,8 @@ impl<W: Write> Page<W> {
     pub fn finish(self) -> Result<(), Fault>
     where
         W: Drop,
+        ensures lines { OnOk result (IsNone self.refused) }
+        ensures sections { OnOk result (self.unread ≡ 0) }
     {
         let Page {
             mut out,

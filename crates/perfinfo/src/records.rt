@@ -1,5 +1,6 @@
 //! The records: how many there are of each event and of each type.
-ghost use Rattle.std.specs.Prelude.{◌≡◌, ◌≢◌, ◌+◌, ◌-◌, ◌^◌, ◌<◌, ◌≤◌, ◌↔◌, IsOk, IsNone, IfSome};
+ghost use Rattle.std.specs.Prelude.{◌≡◌, ◌≢◌, ◌+◌, ◌-◌, ◌^◌, ◌<◌, ◌↔◌, IsOk, IsNone, IfSome, IfNone};
+ghost use Rattle.perfinfo.specs.Times.{IsEarliest, IsLatest};
 
 use crate::fault::Fault;
 use crate::names::record_name;
@@ -22,7 +23,9 @@ const HEAD: u64 = 8;
 /// What is counted of an event's records.
 #[derive(Clone, Copy)]
 pub struct Count {
+    /// Of any type.
     pub records: u64,
+    /// Those of the type of samples.
     pub samples: u64,
     /// The earliest time of a sample.
     pub first: Option<u64>,
@@ -44,8 +47,10 @@ impl Count {
         ensures records { self.old.records < 2 ^ 64 - 1 → self.new.records ≡ self.old.records + 1 }
         ensures sample { step.kind ≡ 9 → self.old.samples < 2 ^ 64 - 1 → self.new.samples ≡ self.old.samples + 1 }
         ensures other { step.kind ≢ 9 → (self.new ≡ record self.old { records = self.new.records }) }
-        ensures first { step.kind ≡ 9 → IfSome step.time (λ t. IfSome self.new.first (λ f. f ≤ t)) }
-        ensures last { step.kind ≡ 9 → IfSome step.time (λ t. IfSome self.new.last (λ l. t ≤ l)) }
+        ensures first { step.kind ≡ 9 → IfSome step.time (λ time. IsEarliest self.old.first time self.new.first) }
+        ensures last { step.kind ≡ 9 → IfSome step.time (λ time. IsLatest self.old.last time self.new.last) }
+        ensures same_first { IfNone step.time (self.new.first ≡ self.old.first) }
+        ensures same_last { IfNone step.time (self.new.last ≡ self.old.last) }
     {
         self.records = self.records.saturating_add(1);
         if step.kind == SAMPLE {
@@ -122,14 +127,14 @@ impl Tally {
     }
 }
 
-/// How many bytes of auxiliary data stand behind a tool's record.
-fn auxiliary_of(alloc: Global, user: &RawUserRecord<'_>) -> u64 {
+/// How many bytes of auxiliary data stand behind a tool's record, or why a record of such data is refused.
+fn auxiliary_of(alloc: Global, user: &RawUserRecord<'_>) -> Result<u64, Error> {
     if user.record_type != UserRecordType::PERF_AUXTRACE {
-        return 0;
+        return Ok(0);
     }
-    match user.parse(alloc) {
-        Ok(UserRecord::Auxtrace(auxtrace)) => auxtrace.aux_data.len() as u64,
-        _ => 0,
+    match user.parse(alloc)? {
+        UserRecord::Auxtrace(auxtrace) => Ok(auxtrace.aux_data.len() as u64),
+        _ => Ok(0),
     }
 }
 
@@ -157,7 +162,7 @@ fn next<R: Source>(
                 kind,
                 None,
                 user.body.len() as u64,
-                auxiliary_of(alloc, &user),
+                auxiliary_of(alloc, &user)?,
             )
         }
     };
@@ -174,7 +179,9 @@ fn next<R: Source>(
 /// A file or a pipe that was read as far as it goes.
 #[derive(Drop)]
 pub struct Recording {
+    /// What it tells beside its records.
     pub file: PerfFile,
+    /// What was counted of the records up to the first that was refused.
     pub tally: Tally,
     fault: Option<Error>,
 }

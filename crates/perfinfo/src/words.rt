@@ -1,5 +1,5 @@
 //! The words behind the program's name.
-ghost use Rattle.std.specs.Prelude.{◌≡◌, ◌↔◌, codes, Some};
+ghost use Rattle.std.specs.Prelude.{◌≡◌, ◌↔◌, codes, Some, IsNone, IfSome, IfNone};
 
 use crate::fault::Fault;
 use std::env;
@@ -65,7 +65,17 @@ fn asked_by(mut words: Args) -> Asked {
     if words.next().is_some() {
         return Asked::Other;
     }
-    match (Verb::of(word.as_str()), path) {
+    asked_of(word.as_str(), path)
+}
+
+/// What a word asks for, with the path behind it or with none.
+fn asked_of(word: &str, path: Option<String>) -> Asked
+    ensures file { IfSome path (λ name. (result ≡ Asked.File name) ↔ (word.now ≡ codes "file")) }
+    ensures jit { IfSome path (λ name. (result ≡ Asked.Jit name) ↔ (word.now ≡ codes "jit")) }
+    ensures pipe { IfNone path ((result ≡ Asked.Pipe) ↔ (word.now ≡ codes "pipe")) }
+    ensures alone { result ≡ Asked.Pipe → IsNone path }
+{
+    match (Verb::of(word), path) {
         (Some(Verb::File), Some(path)) => Asked::File(path),
         (Some(Verb::Pipe), None) => Asked::Pipe,
         (Some(Verb::Jit), Some(path)) => Asked::Jit(path),
