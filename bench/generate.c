@@ -1,11 +1,18 @@
 // Writes the files that `run` times, of about as many bytes as asked: `generate KIND PATH SIZE`. The same bytes come out at each
 // run. KIND is
 //   one          a perf.data file with one attribute whose records have TIME, and records of mixed kinds and sizes
+//   small        the same with samples of 32 bytes
 //   events       one with eight attributes and their identifiers, laid out as perf record does: ids, attributes, records, EVENT_DESC
 //   pipe         the records of `one` as a stream
 //   pipe-events  the records of `events` as a stream
 //   late         a stream that begins with one attribute and in which SIZE more come, a sample behind each
 //   late-named   the same with an EVENT_DESC behind the first attribute
+//   described    the same with an EVENT_DESC of a tenth as many descriptions, at most 779, that name them
+//   opening      those attributes and that EVENT_DESC before the first sample
+//   ids-up, ids-down            a stream in which SIZE identifiers come late, ascending or descending, 8,000 a record
+//   single-up, single-down      one a record
+//   attributes   a file with SIZE attributes in its attribute section, and one sample
+//   types        a file with SIZE event types and an identifier of each, and one sample
 //   jit          a jitdump of loads, moves and debug info
 #include "bytes.h"
 #include <stdio.h>
@@ -94,6 +101,15 @@ static size_t put_event_record(unsigned char *at, uint64_t number, uint64_t *sta
 
 typedef size_t (*Put)(unsigned char *, uint64_t, uint64_t *);
 
+// A sample of 32 bytes.
+static size_t put_small(unsigned char *at, uint64_t number, uint64_t *state) {
+    put_head(at, SAMPLE, 2, 32);
+    put(at + 8, next(state) * 2654435761u, 8);
+    put(at + 16, 0x700000007, 8);
+    put(at + 24, clock_of(number, state), 8);
+    return 32;
+}
+
 static uint64_t write_records(Put put_one, uint64_t wanted) {
     uint64_t state = 1, size = 0;
     for (uint64_t number = 0; size < wanted; number++) {
@@ -116,15 +132,19 @@ static void write_header(uint64_t attr_size, uint64_t attrs, uint64_t attrs_size
 static const uint64_t ONE_TYPE = IP | TID | TIME;
 static const uint64_t EVENT_TYPE = IDENTIFIER | IP | TID | TIME | CPU | PERIOD;
 
-static void write_one(uint64_t wanted) {
+static void write_plain(Put put_one, uint64_t wanted) {
     unsigned char attribute[ATTRIBUTE];
     put_attribute(attribute, sizeof attribute, ONE_TYPE, SAMPLE_ID_ALL);
     write_header(ATTRIBUTE, HEADER, ATTRIBUTE, HEADER + ATTRIBUTE, 0, 0);
     write_bytes(attribute, sizeof attribute);
-    uint64_t size = write_records(put_record, wanted);
+    uint64_t size = write_records(put_one, wanted);
     rewind(out);
     write_header(ATTRIBUTE, HEADER, ATTRIBUTE, HEADER + ATTRIBUTE, size, 0);
 }
+
+static void write_one(uint64_t wanted) { write_plain(put_record, wanted); }
+
+static void write_small(uint64_t wanted) { write_plain(put_small, wanted); }
 
 // An EVENT_DESC section: each attribute with its name and its identifiers.
 static void write_descriptions(void) {
@@ -211,22 +231,110 @@ static void write_pipe_events(uint64_t wanted) {
     write_records(put_event_record, wanted);
 }
 
+// A sample of an identifier, at a time of its own.
+static void write_sample(uint64_t id, uint64_t time) {
+    unsigned char sample[24];
+    put_head(sample, SAMPLE, 2, sizeof sample);
+    put(sample + 8, id, 8);
+    put(sample + 16, time, 8);
+    write_bytes(sample, sizeof sample);
+}
+
 static void write_attributes(uint64_t count, int is_named) {
     write_pipe_header();
     for (uint64_t id = 1; id <= count + 1; id++) {
-        unsigned char sample[24];
         write_attribute(ATTRIBUTE, IDENTIFIER | TIME, 0, &id, 1);
         if (is_named && id == 1) write_description_record();
-        put_head(sample, SAMPLE, 2, sizeof sample);
-        put(sample + 8, 1 + id / 2, 8);
-        put(sample + 16, 1000 * id, 8);
-        write_bytes(sample, sizeof sample);
+        write_sample(1 + id / 2, 1000 * id);
     }
 }
 
 static void write_late(uint64_t count) { write_attributes(count, 0); }
 
 static void write_late_named(uint64_t count) { write_attributes(count, 1); }
+
+// A record that tells an EVENT_DESC of so many events, whose first identifiers are 1, 2 and so on.
+static void write_short_descriptions(uint64_t count) {
+    enum { DESCRIPTION = ATTRIBUTE + 4 + 4 + 4 + 8 };
+    unsigned char head[8], attribute[ATTRIBUTE];
+    if (count > 779) count = 779;
+    put_head(head, FEATURE, 0, 8 + 8 + 8 + DESCRIPTION * count);
+    write_bytes(head, sizeof head);
+    write_number(EVENT_DESC, 8);
+    write_number(count, 4);
+    write_number(ATTRIBUTE, 4);
+    put_attribute(attribute, sizeof attribute, IDENTIFIER | TIME, 0);
+    for (uint64_t id = 1; id <= count; id++) {
+        write_bytes(attribute, sizeof attribute);
+        write_number(1, 4);
+        write_number(4, 4);
+        write_bytes("abc", 4);
+        write_number(id, 8);
+    }
+}
+
+static void write_described(uint64_t count) {
+    write_pipe_header();
+    for (uint64_t id = 1; id <= count; id++) {
+        write_attribute(ATTRIBUTE, IDENTIFIER | TIME, 0, &id, 1);
+        if (id > 1) continue;
+        write_short_descriptions(count / 10);
+        write_sample(1, 1000);
+    }
+    write_sample(count, 2000);
+}
+
+static void write_opening(uint64_t count) {
+    write_pipe_header();
+    for (uint64_t id = 1; id <= count; id++) write_attribute(ATTRIBUTE, IDENTIFIER | TIME, 0, &id, 1);
+    write_short_descriptions(count / 10);
+    write_sample(count, 2000);
+}
+
+// Late attributes with so many identifiers each, which rise or fall from record to record and within each.
+static void write_ids(uint64_t count, uint64_t each, int is_falling) {
+    static uint64_t ids[8000];
+    uint64_t first = 1;
+    write_pipe_header();
+    write_attribute(ATTRIBUTE, IDENTIFIER | TIME, 0, &first, 1);
+    write_sample(1, 1000);
+    for (uint64_t from = 0; from < count; from += each) {
+        uint64_t some = count - from < each ? count - from : each;
+        for (uint64_t i = 0; i < some; i++) ids[i] = is_falling ? 2 + count - from - i : 2 + from + i;
+        write_attribute(ATTRIBUTE, IDENTIFIER | TIME, 0, ids, some);
+    }
+    write_sample(2, 2000);
+}
+
+static void write_ids_up(uint64_t count) { write_ids(count, 8000, 0); }
+
+static void write_ids_down(uint64_t count) { write_ids(count, 8000, 1); }
+
+static void write_single_up(uint64_t count) { write_ids(count, 1, 0); }
+
+static void write_single_down(uint64_t count) { write_ids(count, 1, 1); }
+
+// A file with so many attributes, in the attribute section, or in that of the event types with an identifier each.
+static void write_section(uint64_t count, int has_ids) {
+    unsigned char attribute[ATTRIBUTE];
+    uint64_t entry = ATTRIBUTE + (has_ids ? 16 : 0), ids = HEADER + entry * count, records = ids + (has_ids ? 8 * count : 0);
+    uint64_t fields[] = {HEADER, ATTRIBUTE, HEADER, has_ids ? 0 : entry * count, records, 24, HEADER, has_ids ? entry * count : 0, 0, 0, 0, 0};
+    write_bytes("PERFILE2", 8);
+    for (size_t i = 0; i < sizeof fields / sizeof *fields; i++) write_number(fields[i], 8);
+    put_attribute(attribute, sizeof attribute, IDENTIFIER | TIME, 0);
+    for (uint64_t index = 0; index < count; index++) {
+        write_bytes(attribute, sizeof attribute);
+        if (!has_ids) continue;
+        write_number(ids + 8 * index, 8);
+        write_number(8, 8);
+    }
+    for (uint64_t index = 0; has_ids && index < count; index++) write_number(1 + index, 8);
+    write_sample(1, 1000);
+}
+
+static void write_attribute_section(uint64_t count) { write_section(count, 0); }
+
+static void write_types(uint64_t count) { write_section(count, 1); }
 
 // ---- jitdump
 
@@ -294,7 +402,10 @@ static void write_jit(uint64_t wanted) {
 
 int main(int argc, char **argv) {
     static const struct { const char *name; void (*write)(uint64_t); } kinds[] = {
-        {"one", write_one}, {"events", write_events}, {"pipe", write_pipe}, {"pipe-events", write_pipe_events}, {"late", write_late}, {"late-named", write_late_named}, {"jit", write_jit},
+        {"one", write_one}, {"small", write_small}, {"events", write_events}, {"pipe", write_pipe}, {"pipe-events", write_pipe_events},
+        {"late", write_late}, {"late-named", write_late_named}, {"described", write_described}, {"opening", write_opening},
+        {"ids-up", write_ids_up}, {"ids-down", write_ids_down}, {"single-up", write_single_up}, {"single-down", write_single_down},
+        {"attributes", write_attribute_section}, {"types", write_types}, {"jit", write_jit},
     };
     if (argc != 4) return 1;
     out = fopen(argv[2], "wb");

@@ -2,11 +2,13 @@
 // numbers. It reads each record's head and body, and prints the record's line. Attributes come from EVENT_DESC or are the one of
 // the attribute section, or come as records in a stream; the identifiers stand in an array in ascending order.
 #include "bytes.h"
-#include <stdio.h>
-#include <stdlib.h>
-#include <string.h>
+#include "stream.h"
+#include <fcntl.h>
 
-enum { ATTR = 64, FEATURE = 80, SAMPLE = 9, FINISHED_ROUND = 68, FIRST_OF_TOOLS = 64, BUFFER = 65536, EVENT_DESC = 12 };
+enum { ATTR = 64, FEATURE = 80, SAMPLE = 9, FINISHED_ROUND = 68, FIRST_OF_TOOLS = 64, EVENT_DESC = 12, LINE = 160 };
+
+static Input in;
+static Output out;
 
 typedef struct { uint64_t id, index; } Pair;
 
@@ -19,16 +21,16 @@ static long time_in_sample, id_in_sample, time_from_end, id_from_end;
 static int is_set(uint64_t bits, int bit) { return bits >> bit & 1; }
 
 static void fail(void) {
-    fflush(stdout);
+    flush(&out);
     exit(2);
 }
 
-static void read_exactly(FILE *in, void *place, size_t count) {
-    if (fread(place, 1, count, in) != count) fail();
+static void read_exactly(void *place, size_t count) {
+    if (take(&in, place, count) != count) fail();
 }
 
-static void go_to(FILE *in, uint64_t place) {
-    if (fseek(in, (long)place, SEEK_SET)) fail();
+static void seek(uint64_t place) {
+    if (go_to(&in, place)) fail();
 }
 
 static void take_places(uint64_t type, uint64_t flags) {
@@ -74,43 +76,43 @@ static void take_attribute(const unsigned char *attribute) {
     if (count_attributes++ == 0) take_places(get(attribute + 24, 8), get(attribute + 40, 8));
 }
 
-static uint64_t read_number(FILE *in, int count) {
+static uint64_t read_number(int count) {
     unsigned char bytes[8];
-    read_exactly(in, bytes, (size_t)count);
+    read_exactly(bytes, (size_t)count);
     return get(bytes, count);
 }
 
-static void read_descriptions(FILE *in) {
-    uint64_t events = read_number(in, 4), size = read_number(in, 4);
+static void read_descriptions(void) {
+    uint64_t events = read_number(4), size = read_number(4);
     for (uint64_t event = 0; event < events; event++) {
         unsigned char attribute[4096];
         if (size < 64 || size > sizeof attribute) fail();
-        read_exactly(in, attribute, size);
-        uint64_t ids = read_number(in, 4), name = read_number(in, 4);
-        if (fseek(in, (long)name, SEEK_CUR)) fail();
+        read_exactly(attribute, size);
+        uint64_t ids = read_number(4), name = read_number(4);
+        while (name-- > 0) read_number(1);
         take_attribute(attribute);
-        for (uint64_t i = 0; i < ids; i++) put_id(read_number(in, 8), event);
+        for (uint64_t i = 0; i < ids; i++) put_id(read_number(8), event);
     }
 }
 
 // Reads what stands before the records, and says how many bytes of records there are.
-static uint64_t open_file(FILE *in) {
+static uint64_t open_file(void) {
     unsigned char header[104], attribute[64];
-    read_exactly(in, header, sizeof header);
+    read_exactly(header, sizeof header);
     if (memcmp(header, "PERFILE2", 8)) fail();
     uint64_t records = get(header + 40, 8), size = get(header + 48, 8), features = get(header + 72, 8);
     if (is_set(features, EVENT_DESC)) {
         uint64_t before = features & ((1 << EVENT_DESC) - 1), entry = 0;
         for (; before; before &= before - 1) entry++;
-        go_to(in, records + size + 16 * entry);
-        go_to(in, read_number(in, 8));
-        read_descriptions(in);
+        seek(records + size + 16 * entry);
+        seek(read_number(8));
+        read_descriptions();
     } else {
-        go_to(in, get(header + 24, 8));
-        read_exactly(in, attribute, sizeof attribute);
+        seek(get(header + 24, 8));
+        read_exactly(attribute, sizeof attribute);
         take_attribute(attribute);
     }
-    go_to(in, records);
+    seek(records);
     return size;
 }
 
@@ -125,15 +127,15 @@ static void take_record(const unsigned char *body, size_t length) {
 }
 
 // Takes the records that a stream begins with, and leaves the head of the first other one.
-static int open_pipe(FILE *in, unsigned char *head, unsigned char *body) {
-    read_exactly(in, head, 8);
+static int open_pipe(unsigned char *head, unsigned char *body) {
+    read_exactly(head, 8);
     if (memcmp(head, "PERFILE2", 8)) fail();
-    read_exactly(in, head, 8);
-    while (fread(head, 1, 8, in) == 8) {
+    read_exactly(head, 8);
+    while (take(&in, head, 8) == 8) {
         uint64_t kind = get(head, 4), length = get(head + 6, 2);
         if (length < 8) fail();
         if (kind != ATTR && kind != FEATURE) return 1;
-        read_exactly(in, body, length - 8);
+        read_exactly(body, length - 8);
         if (kind == ATTR) take_record(body, length - 8);
     }
     return 0;
@@ -149,37 +151,34 @@ static void print_line(uint64_t offset, uint64_t round, const unsigned char *hea
         if (time_from_end >= 0) time = (long)length - time_from_end;
         if (id_from_end >= 0) id = (long)length - id_from_end;
     }
-    char line[160], *end = put_number(put_number(line, offset, ' '), round, ' ');
+    char *end = put_number(put_number(room_for(&out, LINE), offset, ' '), round, ' ');
     if (time >= 0 && time + 8 <= (long)length) end = put_number(end, get(body + time, 8), ' ');
     else *end++ = '-', *end++ = ' ';
     if (kind >= FIRST_OF_TOOLS) *end++ = '-', *end++ = ' ';
     else end = put_number(end, id >= 0 && id + 8 <= (long)length ? index_of(get(body + id, 8)) : 0, ' ');
     end = put_number(put_number(put_number(end, kind, ' '), misc, ' '), length, '\n');
-    if (fwrite(line, 1, (size_t)(end - line), stdout) != (size_t)(end - line)) fail();
+    filled_up_to(&out, end);
 }
 
 int main(int argc, char **argv) {
     int is_pipe = argc == 2 && !strcmp(argv[1], "pipe");
     if (!is_pipe && (argc != 3 || strcmp(argv[1], "file"))) return 1;
-    FILE *in = is_pipe ? stdin : fopen(argv[2], "rb");
-    if (!in) return 2;
-    static char in_buffer[BUFFER], out_buffer[BUFFER];
+    in.file = is_pipe ? 0 : open(argv[2], O_RDONLY);
+    if (in.file < 0) return 2;
     static unsigned char head[8], body[65536];
-    setvbuf(in, in_buffer, _IOFBF, BUFFER);
-    setvbuf(stdout, out_buffer, _IOFBF, BUFFER);
     uint64_t size = UINT64_MAX, offset = 0, round = 0;
     int is_held = 0;
-    if (!is_pipe) size = open_file(in);
-    else if (!(is_held = open_pipe(in, head, body))) return 0;
+    if (!is_pipe) size = open_file();
+    else if (!(is_held = open_pipe(head, body))) return 0;
     while (offset < size) {
-        if (!is_held && fread(head, 1, 8, in) != 8) {
+        if (!is_held && take(&in, head, 8) != 8) {
             if (is_pipe) break;
             fail();
         }
         is_held = 0;
         uint64_t kind = get(head, 4), length = get(head + 6, 2);
         if (length < 8) fail();
-        if (fread(body, 1, length - 8, in) != length - 8) {
+        if (take(&in, body, length - 8) != length - 8) {
             if (is_pipe) break;
             fail();
         }
@@ -191,5 +190,6 @@ int main(int argc, char **argv) {
         }
         offset += length;
     }
-    return fflush(stdout) ? 2 : 0;
+    flush(&out);
+    return 0;
 }
