@@ -12,16 +12,16 @@ use linux_perf_data::source::Source;
 use std::alloc::Global;
 use std::io::Write;
 
-/// The line of a record.
-fn line_for(raw: &JitDumpRawRecord<'_>) -> Line
-    ensures { text_of result ≡ raw_line raw.now }
+/// Makes a line that of a record.
+fn put_line(line: &mut Line, raw: &JitDumpRawRecord<'_>)
+    ensures { text_of line.new ≡ raw_line raw.now }
 {
-    Line::of_jit_record(
+    line.set_jit_record(
         raw.start_offset,
         raw.timestamp,
         raw.record_type.0,
         raw.record_size as u64,
-    )
+    );
 }
 
 /// Writes a line for each record that is to come, up to the first that isn't there yet, and says how many.
@@ -33,10 +33,11 @@ fn list_jit_records<R: Source, W: Write>(
     ensures { ListsJitRecords R.seen reader.old (W.contents out.old) result (W.contents out.new) reader.new }
 {
     let mut lines = 0u64;
+    let mut line = Line::new();
     'records: loop {
         match reader.next_record() {
             Ok(Some(raw)) => {
-                let line = line_for(&raw);
+                put_line(&mut line, &raw);
                 match write_line(out, line.as_bytes()) {
                     Ok(()) => lines += 1,
                     Err(error) => {

@@ -123,23 +123,31 @@ fn put_text(buf: &mut [u8], end: usize, text: &[u8]) -> usize
 impl Line {
     ghost use Rattle.perflist.specs.Text.{text_of};
 
-    /// The line of a record.
-    pub fn of_record(fields: Fields) -> Line
-        ensures { text_of result ≡ line_of fields.offset fields.round fields.time fields.attr fields.kind fields.misc fields.body_length }
+    /// No line yet. Its array serves for one line after another.
+    pub fn new() -> Line
+        ensures { text_of result ≡ [] }
     {
-        let mut bytes = [0; CAPACITY];
-        let start = put_record(&mut bytes, fields);
-        Line { bytes, start }
+        Line {
+            bytes: [0; CAPACITY],
+            start: CAPACITY,
+        }
     }
 
-    /// The line of a record of a jitdump file: its offset in the file, its time, its type and its size in bytes, its head
-    /// included.
-    pub fn of_jit_record(offset: u64, time: u64, kind: u32, size: u64) -> Line
-        ensures { text_of result ≡ jit_line_of offset time kind size }
+    /// Makes it the line of a record.
+    #[inline]
+    pub fn set_record(&mut self, fields: Fields)
+        ensures { text_of self.new ≡ line_of fields.offset fields.round fields.time fields.attr fields.kind fields.misc fields.body_length }
     {
-        let mut bytes = [0; CAPACITY];
-        let start = put_jit_record(&mut bytes, offset, time, kind, size);
-        Line { bytes, start }
+        self.start = put_record(&mut self.bytes, fields);
+    }
+
+    /// Makes it the line of a record of a jitdump file: its offset in the file, its time, its type and its size in bytes, its
+    /// head included.
+    #[inline]
+    pub fn set_jit_record(&mut self, offset: u64, time: u64, kind: u32, size: u64)
+        ensures { text_of self.new ≡ jit_line_of offset time kind size }
+    {
+        self.start = put_jit_record(&mut self.bytes, offset, time, kind, size);
     }
 
     /// The line that tells of a fault after so many records.
@@ -178,6 +186,12 @@ mod tests {
         line.as_bytes() == text
     }
 
+    fn is_jit(line: &mut Line, numbers: (u64, u64, u32, u64), text: &[u8]) -> bool {
+        let (offset, time, kind, size) = numbers;
+        line.set_jit_record(offset, time, kind, size);
+        holds(line, text)
+    }
+
     #[test]
     fn writes_lines(rt: HostRuntime) -> Result<(), Fail> {
         let sample = Fields {
@@ -212,8 +226,11 @@ mod tests {
                 b"18446744073709551615 18446744073709551615 18446744073709551615 18446744073709551615 4294967295 65535 18446744073709551615\n",
             ),
         ];
+        let mut line = Line::new();
+        assert!(rt; holds(&line, b""));
         for (fields, text) in cases {
-            assert!(rt; holds(&Line::of_record(fields), text));
+            line.set_record(fields);
+            assert!(rt; holds(&line, text));
         }
         Ok(())
     }
@@ -221,13 +238,15 @@ mod tests {
     #[test]
     fn writes_jit_lines(rt: HostRuntime) -> Result<(), Fail> {
         let most = u64::MAX;
-        assert!(rt; holds(&Line::of_jit_record(40, 0, 3, 16), b"40 0 3 16\n"));
+        let mut line = Line::new();
         assert!(rt;
-            holds(
-                &Line::of_jit_record(most, 1_000, u32::MAX, most),
+            is_jit(
+                &mut line,
+                (most, 1_000, u32::MAX, most),
                 b"18446744073709551615 1000 4294967295 18446744073709551615\n"
             )
         );
+        assert!(rt; is_jit(&mut line, (40, 0, 3, 16), b"40 0 3 16\n"));
         Ok(())
     }
 

@@ -67,11 +67,11 @@ fn fields_of(place: RecordPlace, found: &PerfFileRecord<'_>) -> Fields
     }
 }
 
-/// The line of a record.
-fn line_for(place: RecordPlace, found: &PerfFileRecord<'_>) -> Line
-    ensures { text_of result ≡ handed_line (handed_of place found.now) }
+/// Makes a line that of a record.
+fn put_line(line: &mut Line, place: RecordPlace, found: &PerfFileRecord<'_>)
+    ensures { text_of line.new ≡ handed_line (handed_of place found.now) }
 {
-    Line::of_record(fields_of(place, found))
+    line.set_record(fields_of(place, found));
 }
 
 /// Writes a line for each record that is to come, and says how many.
@@ -85,10 +85,11 @@ fn list_records<R: Source, W: Write>(
     ensures { ListsRecords R.seen iter.old file.old (W.contents out.old) result (W.contents out.new) iter.new file.new }
 {
     let mut lines = 0u64;
+    let mut line = Line::new();
     'records: loop {
         match iter.next_record(file) {
             Ok(Some((place, record))) => {
-                let line = line_for(place, &record);
+                put_line(&mut line, place, &record);
                 match write_line(out, line.as_bytes()) {
                     Ok(()) => lines += 1,
                     Err(error) => {

@@ -5,6 +5,7 @@ ghost use Rattle.std.specs.Io.KnownBytes.{Appends, Keeps, WriteAppends};
 ghost use Rattle.perflist.specs.Output.{Writes, Finishes, newlines};
 
 use crate::line::Line;
+use memchr::memchr_iter;
 use std::alloc::{AllocError, Global};
 use std::io;
 use std::io::{ErrorKind, Write};
@@ -75,7 +76,7 @@ pub struct LineBuffer<W> {
 fn count_newlines(bytes: &[u8]) -> u64
     ensures { result ≡ newlines bytes.now }
 {
-    bytes.iter().filter(|byte| **byte == b'\n').count() as u64
+    memchr_iter(b'\n', bytes).count() as u64
 }
 
 /// Takes the first bytes away.

@@ -20,7 +20,7 @@ records-preserved g c =
     let step = subst (λ r. Nexts g.R.Source.seen mid r rested) (c.in-Ok-Some.is ∙ ap Ok c.in-Ok-Some.field-0-is) c.next_record.follows.holds-at-none in
     let pieces = before.listed.0 in
     let had = before.listed.3 in
-    let text = c.as_bytes.ensures ∙ c.line_for-line.ensures ∙ line_more g.R.Source.seen old mid rested pieces c.in-Ok-Some.raw had step in
+    let text = c.as_bytes.ensures ∙ c.put_line.ensures ∙ line_more g.R.Source.seen old mid rested pieces c.in-Ok-Some.raw had step in
     record {
       few = (let a = step.offset in let b = step.is.one.least in let f = before.few in omega arith);
       listed = (
@@ -40,7 +40,7 @@ returns-in-Err-write_line g c =
     let step = subst (λ r. Nexts g.R.Source.seen mid r rested) (c.in-Ok-Some.is ∙ ap Ok c.in-Ok-Some.field-0-is) c.next_record.follows.holds-at-none in
     let pieces = before.listed.0 in
     let had = before.listed.3 in
-    let text = c.as_bytes.ensures ∙ c.line_for-line.ensures ∙ line_more g.R.Source.seen old mid rested pieces c.in-Ok-Some.raw had step in
+    let text = c.as_bytes.ensures ∙ c.put_line.ensures ∙ line_more g.R.Source.seen old mid rested pieces c.in-Ok-Some.raw had step in
     record {
       pieces = pieces;
       next = step.bytes;

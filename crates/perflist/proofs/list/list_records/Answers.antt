@@ -24,7 +24,7 @@ records-preserved g c =
     let nexts = subst (λ r. Nexts g.R.Source.seen g.R.Source.lent c.records.iter c.records.file r rested c.next_record.new.perf_file) (c.in-Ok-Some.is ∙ ap Ok c.in-Ok-Some.field-0-is) c.next_record.follows.holds-at-none in
     let step = nexts.0 in
     let h = handed_of c.in-Ok-Some.place c.in-Ok-Some.record in
-    let text = c.as_bytes.ensures ∙ c.line_for-line.ensures in
+    let text = c.as_bytes.ensures ∙ c.put_line.ensures in
     record {
       fits = step.fits;
       few = (let a = step.offset in let b = step.place in let f = before.few in omega arith);
@@ -46,7 +46,7 @@ returns-in-Err-write_line g c =
     let nexts = subst (λ r. Nexts g.R.Source.seen g.R.Source.lent c.records.iter c.records.file r rested c.next_record.new.perf_file) (c.in-Ok-Some.is ∙ ap Ok c.in-Ok-Some.field-0-is) c.next_record.follows.holds-at-none in
     let step = nexts.0 in
     let h = handed_of c.in-Ok-Some.place c.in-Ok-Some.record in
-    let text = c.as_bytes.ensures ∙ c.line_for-line.ensures in
+    let text = c.as_bytes.ensures ∙ c.put_line.ensures in
     record {
       ran = elim before.listed.5 [ inl runs ↦ runs.1 | inr over ↦ (let r = step.ran in let o = over.0 in absurd cc) ];
       records = before.listed.0;
