@@ -19,9 +19,9 @@ returns-clause-parses g c =
       is = (
         long,
         ap (λ n. told n c.read_u32-2.result level ratio last) c.read_u32.ensures
-        ∙ ap (λ n. told (number bytes) n level ratio last) (c.read_u32-2.ensures ∙ ap number (back 4))
-        ∙ ap (λ n. told (number bytes) (at 4) n ratio last) (c.read_u32-3.ensures ∙ ap number (back 8))
-        ∙ ap (λ n. told (number bytes) (at 4) (at 8) n last) (c.read_u32-4.ensures ∙ ap number (back 12))
-        ∙ ap (told (number bytes) (at 4) (at 8) (at 12)) (c.read_u32-5.ensures ∙ ap number (back 16)),
+            ∙ ap (λ n. told (number bytes) n level ratio last) (c.read_u32-2.ensures ∙ ap number (back 4))
+            ∙ ap (λ n. told (number bytes) (at 4) n ratio last) (c.read_u32-3.ensures ∙ ap number (back 8))
+            ∙ ap (λ n. told (number bytes) (at 4) (at 8) n last) (c.read_u32-4.ensures ∙ ap number (back 12))
+            ∙ ap (told (number bytes) (at 4) (at 8) (at 12)) (c.read_u32-5.ensures ∙ ap number (back 16)),
       );
     }
