@@ -1,11 +1,9 @@
 -- What a file shows is determined, and a file that opens is never refused.
-use Rattle.std.proofs.Common.{◌≡◌, ◌≢◌, ℕ, zero, suc, ◌+◌, ◌-◌, ◌*◌, ◌/◌, ◌^◌, ◌<◌, ◌≤◌, List, [], ◌∷◌, ◌++◌, length, take, drop, map, refl, sym, ap, ◌∙◌, subst, inl, inr, arith, length-drop, Option, None, Some}
-use Rattle.std.specs.Prelude.{◌⊎◌, All}
+use Rattle.std.proofs.Common.{◌≡◌, ℕ, zero, suc, ◌+◌, ◌-◌, ◌*◌, ◌<◌, List, [], ◌∷◌, ◌++◌, length, drop, map, refl, sym, ap, ◌∙◌, subst, inl, inr, arith, Option, None, Some}
+use Rattle.std.specs.Prelude.{All}
 use Rattle.std.proofs.lemmas.List.Elements.{All-head, All-tail}
 use Rattle.perfdata_base.specs.Source.{Place}
 use Rattle.perfdata_base.specs.Numbers.{number_in}
-use Rattle.perfdata_base.specs.Attr.{own_size, attr_of}
-use Rattle.perfdata_base.specs.Section.{section_of}
 use Rattle.perfdata_base.specs.Features.{features_of}
 use Rattle.perfdata_base.specs.declared.attr.PerfEventAttr.{PerfEventAttr}
 use Rattle.perfdata_base.specs.declared.section.PerfFileSection.{PerfFileSection}
@@ -16,9 +14,8 @@ use Rattle.perfdata_base.proofs.Numbers.{in_reads_first}
 use Rattle.perfdata_parts.specs.AttributeDescription.{DescribedEvent, attr_in, ids_in, events_in}
 use Rattle.perfdata_parts.specs.Attributes.{IsFramed, IsNoFrame, IsDescribed}
 use Rattle.perfdata_parts.specs.Error.{IsShort, IsInvalidInput}
-use Rattle.perfdata_parts.specs.EventDesc.{DescribesByEventDesc, NoEventDesc}
-use Rattle.perfdata_parts.specs.EventIds.{numbers}
-use Rattle.perfdata_parts.specs.EventTypes.{name_at, IsEntry, IsNoEntry, IsIdsOf, IsNoIds, IsGiven, Given, DescribesByEntries, NoEntries}
+use Rattle.perfdata_parts.specs.EventDesc.{DescribesByEventDesc}
+use Rattle.perfdata_parts.specs.EventTypes.{name_at, IsEntry, IsNoEntry, IsIdsOf, IsNoIds, Given, DescribesByEntries, NoEntries}
 use Rattle.perfdata_parts.specs.Run.{Run}
 use Rattle.perfdata_parts.specs.declared.feature_sections.AttributeDescription.{AttributeDescription}
 use Rattle.perfdata_parts.specs.declared.event_type.SimplePerfEventType.{SimplePerfEventType}
@@ -27,23 +24,23 @@ use Rattle.perfdata_parts.specs.declared.error.Error.{Error}
 use Rattle.perfdata_parts.specs.declared.error.Error.TheVariants.{Read, UnrecognizedMagicValue, InconsistentAttributeSizes, StringUtf8, NoEventTypesInSimpleperfMetaInfo}
 use Rattle.perfdata_parts.specs.declared.error.ReadError.TheVariants.{PerfEventAttr as OfAttr}
 use Rattle.perfdata_parts.proofs.EventFronts.{told_one, told_or_refused}
-use Rattle.linux_perf_data.specs.Attribute.{Attribute, Rule, Breaks}
+use Rattle.linux_perf_data.specs.Attribute.{Attribute, Rule}
 use Rattle.linux_perf_data.specs.AttributeSources.{NamesEvents, NamesNone, DescribesBySections, DescribesByAttrs, DescribesWith, StopsAtSections, StopsAtSection, StopsWith}
 use Rattle.linux_perf_data.specs.Described.{attribute_by, attributes_by}
 use Rattle.linux_perf_data.specs.Laws.{CutHeader, FarHeader, OtherMagic}
-use Rattle.linux_perf_data.specs.Open.{magic_of, EndsNear, table_place, HoldsSections, section_data, DescribesAttributes, StopsAtAttributes, StopsBehind, HasHeader, IsHeader, StopsFile}
+use Rattle.linux_perf_data.specs.Open.{EndsNear, table_place, HoldsSections, section_data, DescribesAttributes, StopsAtAttributes, StopsBehind, HasHeader, StopsFile}
 use Rattle.linux_perf_data.specs.Opened.{Describes}
 use Rattle.linux_perf_data.specs.PerfFile.{order_of_file, descriptions_of}
-use Rattle.linux_perf_data.specs.Sections.{Entry as TableEntry, HoldsSection, LacksSection, LacksSections, table_of}
+use Rattle.linux_perf_data.specs.Sections.{Entry as TableEntry, HoldsSection, LacksSection, LacksSections}
 use Rattle.linux_perf_data.specs.declared.perf_file.PerfFile.{PerfFile}
 use Rattle.linux_perf_data.proofs.OneOpening.{same_order}
 use Rattle.linux_perf_data.proofs.Rules.{rule_unbroken}
 
 -- an entry of a section of attributes
-abbrev Told : {E : Type 0} → (List ℕ → E → Type 0) → Type 0
+abbrev pub Told : {E : Type 0} → (List ℕ → E → Type 0) → Type 0
 Told {E} IsOne = E
 
-abbrev Entry : Type 0
+abbrev pub Entry : Type 0
 Entry = Told (IsEntry (number_in LittleEndian) 0)
 
 -- ---- things one behind another
@@ -59,7 +56,7 @@ module _ {D : Type 0} (IsOne : List ℕ → D → Type 0) (step : ℕ) (all : Li
       let here : at + step + n * step ≡ at + suc n * step = omega arith in
       (there.0, subst (λ k. IsOne (drop k all) there.0) here there.1)
 
-  run_alike : {B : Type 0} (f : D → B) → ((xs : List ℕ) (d e : D) → IsOne xs d → IsOne xs e → f d ≡ f e) → (at : ℕ) (ds es : List D) → length ds ≡ length es → Run IsOne step all at ds → Run IsOne step all at es → map f ds ≡ map f es
+  pub run_alike : {B : Type 0} (f : D → B) → ((xs : List ℕ) (d e : D) → IsOne xs d → IsOne xs e → f d ≡ f e) → (at : ℕ) (ds es : List D) → length ds ≡ length es → Run IsOne step all at ds → Run IsOne step all at es → map f ds ≡ map f es
   run_alike f same at [] [] long x y = refl
   run_alike f same at [] (e ∷ es) long x y = absurd (omega (arith, long))
   run_alike f same at (d ∷ ds) [] long x y = absurd (omega (arith, long))
@@ -135,7 +132,7 @@ module _ (number : ℕ → List ℕ → ℕ) where
     given_stands e names i (b ∷ bs) next after (d ∷ ds) (is, more) none = given_stands e names (i + 1) bs next after ds more none
 
     module _ (size : ℕ) (section : PerfFileSection) where
-      entries_one : (names others : ℕ → Option (List ℕ)) (ds es : List AttributeDescription) → (x : DescribesByEntries number size names section all ds) → (y : DescribesByEntries number size others section all es) → x.entries ≡ y.entries
+      pub entries_one : (names others : ℕ → Option (List ℕ)) (ds es : List AttributeDescription) → (x : DescribesByEntries number size names section all ds) → (y : DescribesByEntries number size others section all es) → x.entries ≡ y.entries
       entries_one names others ds es x y = run_one (IsEntry number size) (size + 16) all (entry_one size) section.offset x.entries y.entries (x.run.count ∙ sym y.run.count) x.run.each y.run.each
 
       entries_alike : (names others : ℕ → Option (List ℕ)) (ds es : List AttributeDescription) → DescribesByEntries number size names section all ds → DescribesByEntries number size others section all es → attributes_by ds ≡ attributes_by es
@@ -244,22 +241,19 @@ module _ (order : Endianness) (h : PerfHeader) (all : List ℕ) where
 
 -- ---- the file
 
-header_one : (p : Place) (h i : PerfHeader) → HasHeader p h → HasHeader p i → h ≡ i
+pub header_one : (p : Place) (h i : PerfHeader) → HasHeader p h → HasHeader p i → h ≡ i
 header_one p h i x y = x.is ∙ sym y.is
 
 -- a file that opens is never refused
-pub file_stands : (p : Place) (h : PerfHeader) (file : PerfFile) (e : Error) → length p.all < 2 ^ 63 → Describes p h file → StopsFile p e → ⊥
-file_stands p h file e small d (inl (short, few)) = let there = d.is.has.there in omega (arith, few, there)
-file_stands p h file e small d (inr (inl (other, has, inl (far, invalid)))) =
+pub file_stands : (p : Place) (h : PerfHeader) (file : PerfFile) (e : Error) → Describes p h file → StopsFile p e → ⊥
+file_stands p h file e d (inl (short, few)) = let there = d.is.has.there in omega (arith, few, there)
+file_stands p h file e d (inr (inl (other, has, (far, invalid)))) =
     let same = ap (λ x. x.header_size) (header_one p other h has d.is.has) in
     let passes = d.is.passes in
     omega (arith, same, far, passes)
-file_stands p h file e small d (inr (inl (other, has, inr (near, far, io)))) =
-    let there = has.there in
-    omega (arith, near, far, there, small, length-drop p.at p.all)
-file_stands p h file e small d (inr (inr (inl (other, (has, near, unknown, is))))) =
+file_stands p h file e d (inr (inr (inl (other, (has, near, unknown, is))))) =
     unknown (order_of_file file) (ap (λ x. x.magic) (header_one p other h has d.is.has) ∙ d.is.magic)
-file_stands p h file e small d (inr (inr (inr (order, (other, is, stops))))) =
+file_stands p h file e d (inr (inr (inr (order, (other, is, stops))))) =
     let same = header_one p other h is.has d.is.has in
     let orders : order ≡ order_of_file file = same_order order (order_of_file file) (sym is.magic ∙ ap (λ x. x.magic) same ∙ d.is.magic) in
     let here : StopsBehind (order_of_file file) h p.all e = subst (λ x. StopsBehind (order_of_file file) x p.all e) same (subst (λ o. StopsBehind o other p.all e) orders stops) in
@@ -287,8 +281,7 @@ pub far_header : FarHeader
 far_header p h has far = (
   (λ e stops. elim stops as (λ _. IsInvalidInput e) [
     | inl (short, few) ↦ let there = has.there in absurd (omega (arith, few, there))
-    | inr (inl (i, has', inl (far', invalid))) ↦ invalid
-    | inr (inl (i, has', inr (near, place, io))) ↦ let same = same_size p i h has' has in absurd (omega (arith, same, far, near))
+    | inr (inl (i, has', (far', invalid))) ↦ invalid
     | inr (inr (inl (i, none))) ↦ let same = same_size p i h none.0 has in let near = none.1 in absurd (omega (arith, same, far, near))
     | inr (inr (inr (order, (i, is, stops)))) ↦ let same = same_size p i h is.has has in let near = is.passes in absurd (omega (arith, same, far, near))
   ]),
@@ -296,11 +289,10 @@ far_header p h has far = (
 )
 
 pub other_magic : OtherMagic
-other_magic p h small has near unknown = (
+other_magic p h has near unknown = (
   (λ e stops. elim stops as (λ _. e ≡ UnrecognizedMagicValue h.magic) [
     | inl (short, few) ↦ let there = has.there in absurd (omega (arith, few, there))
-    | inr (inl (i, has', inl (far, invalid))) ↦ let same = same_size p i h has' has in absurd (omega (arith, same, far, near))
-    | inr (inl (i, has', inr (near', place, io))) ↦ let there = has'.there in absurd (omega (arith, near', place, there, small, length-drop p.at p.all))
+    | inr (inl (i, has', (far, invalid))) ↦ let same = same_size p i h has' has in absurd (omega (arith, same, far, near))
     | inr (inr (inl (i, none))) ↦ none.3 ∙ ap (λ x. UnrecognizedMagicValue x.magic) (header_one p i h none.0 has)
     | inr (inr (inr (order, (i, is, stops)))) ↦ absurd (unknown order (ap (λ x. x.magic) (header_one p h i has is.has) ∙ is.magic))
   ]),

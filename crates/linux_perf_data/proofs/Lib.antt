@@ -22,6 +22,7 @@ pub mod Views
 pub mod LastIds
 pub mod EntryRuns
 pub mod OneCut
+pub mod OneFile
 pub mod Ids
 pub mod Inserts
 pub mod OneMore

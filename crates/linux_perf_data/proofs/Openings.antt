@@ -1,5 +1,5 @@
 -- How what a header says and what its section holds come to an opening, or to the reason why there is none.
-use Rattle.std.proofs.Common.{◌≡◌, ◌≢◌, ℕ, ◌+◌, ◌^◌, ◌<◌, ◌≤◌, ◌++◌, List, [], ◌∷◌, length, take, drop, refl, sym, ap, ◌∙◌, subst, arith, inl, inr, length-append, Option, None, Some}
+use Rattle.std.proofs.Common.{◌≡◌, ◌≢◌, ℕ, ◌<◌, ◌≤◌, ◌++◌, List, [], ◌∷◌, length, take, drop, refl, sym, ap, ◌∙◌, subst, arith, inl, inr, length-append, Option, None, Some}
 use Rattle.std.specs.Prelude.{◌⊎◌, Result, Ok, Err, IfSome, Vec}
 use Rattle.std.specs.declared.io.Error.{Error as IoErrorValue}
 use Rattle.std.specs.declared.alloc.Global.{Global}
@@ -180,11 +180,8 @@ header_short a b e placed cut = elim cut.why [
 -- the bytes behind the first 104 weren't passed over
 header_stuck : (a b : State) (e : IoErrorValue) → IsPlaced a → NotPassed a e b → IfSome a.place (λ p. StopsFile p (IoError e)) ⊎ SourceOwesOpening a (IoError e) b
 header_stuck a b e placed stuck = elim stuck.why [
-  | inl (far, kind) ↦ inl (place_shows a (λ p. StopsFile p (IoError e)) (λ p is. inr (inl (stuck.header, has_header a p stuck.header placed is stuck.begins, inl (far, kind)))))
-  | inr (near, inl failed) ↦ inr (inl (tt, failed))
-  | inr (near, inr (from, there, far)) ↦ inl (place_shows a (λ p. StopsFile p (IoError e)) (λ p is.
-      let same : from ≡ p = cc in
-      inr (inl (stuck.header, has_header a p stuck.header placed is stuck.begins, inr (near, subst (λ q. 2 ^ 64 ≤ q.at + stuck.header.header_size) same far, tt)))))
+  | inl (far, kind, stands) ↦ inl (place_shows a (λ p. StopsFile p (IoError e)) (λ p is. inr (inl (stuck.header, has_header a p stuck.header placed is stuck.begins, (far, kind)))))
+  | inr (near, failed) ↦ inr (inl (tt, failed))
 ]
 
 -- there is no header

@@ -27,6 +27,7 @@ use Rattle.linux_perf_data.specs.Names.{event_desc}
 use Rattle.linux_perf_data.specs.PerfFile.{descriptions_of, data_of}
 use Rattle.linux_perf_data.specs.Known.{Knows, event_found}
 use Rattle.linux_perf_data.specs.Layout.{Bound, Begins, IsEnd, IsRecord, AreMarkers, kind_of, misc_of, Handed, End, whole, faulty, Fault, ToCome, handed_with, attributes_of, brought}
+use Rattle.linux_perf_data.specs.Pauses.{PausesNext}
 use Rattle.linux_perf_data.specs.Piece.{RefusedAt, CameWithin, CutAt, CutBehindHead, Answers, SourceOwes, WantsMemory}
 
 -- a record with its place, as the layout has it
@@ -305,9 +306,10 @@ module _ {R : Type 0} (seen : R → State) where
   Hands old file (Ok None) new file' = AtEnd old file new file'
   Hands old file (Err e) new file' = Refuses old file e new file'
 
-  -- what a call answers, and what the iterator is once the record is no more lent; it keeps the source that it was lent
+  -- what a call answers, and what the iterator is once the record is no more lent; it keeps the source that it was lent, and read
+  -- on after no empty answer
   abbrev pub Nexts : (R → ℕ) → PerfRecordIter R → PerfFile → Result (Option (RecordPlace × PerfFileRecord)) Error → PerfRecordIter R → PerfFile → Type 0
-  Nexts lent old file r new file' = Hands old file r new file' × (lent new.source ≡ lent old.source)
+  Nexts lent old file r new file' = Hands old file r new file' × (lent new.source ≡ lent old.source) × PausesNext (seen old.source) r (seen new.source)
 
   -- from the first iterator to the second these records were handed out
   pub record Handing (old : PerfRecordIter R) (records : List Handed) (now : PerfRecordIter R) : Type 0 where

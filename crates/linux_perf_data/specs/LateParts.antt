@@ -1,5 +1,5 @@
 -- What the steps do by which a late record of metadata is taken in.
-use Rattle.std.specs.Prelude.{◌≡◌, ◌≢◌, ◌⊎◌, ℕ, ◌+◌, ◌<◌, ◌≤◌, List, [], ◌∷◌, ◌++◌, length, drop, cond, nat_eq, Option, None, Some, Result, Ok, Err, Vec, String, vec_len, vec_capacity}
+use Rattle.std.specs.Prelude.{◌≡◌, ◌≢◌, ◌⊎◌, ℕ, ◌+◌, ◌<◌, ◌≤◌, List, [], ◌∷◌, ◌++◌, length, drop, cond, nat_eq, max, false, ◌*◌, Option, None, Some, Result, Ok, Err, Vec, String, vec_len, vec_capacity}
 use Rattle.std.specs.declared.alloc.Global.{Global}
 use Rattle.perfdata_base.specs.Features.{PutsFeature}
 use Rattle.perfdata_base.specs.Numbers.{number_in}
@@ -35,8 +35,9 @@ WantsMemory old e new = SameFile old new × (e ≡ Memory)
 abbrev pub HasRoom : PerfFile → Type 0
 HasRoom file = vec_len file.attributes < vec_capacity file.attributes
 
+-- where there is room nothing is done, and else there is room for at most four more than twice as many
 abbrev pub MakesRoom : {A : Type 0} → PerfFile → Result A Error → PerfFile → Type 0
-MakesRoom old (Ok _) new = SameFile old new × HasRoom new
+MakesRoom old (Ok _) new = SameFile old new × HasRoom new × (HasRoom old → new ≡ old) × (vec_capacity new.attributes ≤ max (vec_capacity old.attributes) (2 * vec_len old.attributes + 4))
 MakesRoom old (Err e) new = WantsMemory old e new
 
 -- no attribute has a name any more
@@ -44,6 +45,7 @@ pub record Unnames (old new : PerfFile) : Type 0 where
   pub sections : SameSections old new
   pub attributes : attributes_of_file new ≡ attributes_of_file old
   pub none : Unnamed (descriptions_of new)
+  pub named : new.named ≡ false
   pub room : vec_capacity new.attributes ≡ vec_capacity old.attributes
 
 -- there is a name for each attribute and one more, or there are none

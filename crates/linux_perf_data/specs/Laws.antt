@@ -7,7 +7,7 @@ use Rattle.perfdata_base.specs.declared.raw.Endianness.{Endianness}
 use Rattle.linux_perf_data.specs.Attribute.{Attribute, Rule, Breach, Breaks}
 use Rattle.linux_perf_data.specs.Layout.{Bound, Begins, IsEnd, IsRecord, IsPiece, Fronts, Fault, FaultAt, End, Layout, Handed, handed, handed_at, brought, ToCome, attributes_of, attributes_in, kind_of, size_of}
 use Rattle.perfdata_base.specs.Numbers.{number_in}
-use Rattle.perfdata_parts.specs.AttributeDescription.{name_in, ids_in}
+use Rattle.perfdata_parts.specs.AttributeDescription.{name_in, ids_in, events_in}
 use Rattle.perfdata_records.specs.Auxtrace.{HoldsAuxtrace}
 use Rattle.perfdata_parts.specs.Error.{IsShort, IsInvalidInput}
 use Rattle.perfdata_parts.specs.EventDesc.{NoEventDesc}
@@ -17,6 +17,7 @@ use Rattle.perfdata_parts.specs.declared.feature_sections.AttributeDescription.{
 use Rattle.linux_perf_data.specs.Names.{TellsNames, Named}
 use Rattle.linux_perf_data.specs.Open.{magic_of, HasHeader, CanPass, StopsFile}
 use Rattle.linux_perf_data.specs.Opened.{Describes}
+use Rattle.linux_perf_data.specs.PerfFile.{descriptions_of, features_of, order_of_file, data_of}
 use Rattle.linux_perf_data.specs.PipeOpen.{IsPipeHeader, AreMetadata, EndsMetadata, CanOpen, StopsPipe}
 use Rattle.linux_perf_data.specs.declared.perf_file.PerfFile.{PerfFile}
 
@@ -118,9 +119,21 @@ abbrev pub OpeningStands : Type 0
 OpeningStands = (order : Endianness) (header : List ℕ) (ps : List (List ℕ)) (behind : List ℕ) (e : Error) → IsPipeHeader order header → AreMetadata order ps → EndsMetadata order behind → CanOpen order ps →
     ¬ StopsPipe (header ++ (concat ps ++ behind)) e
 
--- the file that its bytes describe, where they are fewer than 2^63, isn't refused
+-- the file that its bytes describe isn't refused
 abbrev pub FileStands : Type 0
-FileStands = (p : Place) (h : PerfHeader) (file : PerfFile) (e : Error) → length p.all < 2 ^ 63 → Describes p h file → ¬ StopsFile p e
+FileStands = (p : Place) (h : PerfHeader) (file : PerfFile) (e : Error) → Describes p h file → ¬ StopsFile p e
+
+-- two descriptions of a file tell the same
+pub record ToldAlike (h i : PerfHeader) (f g : PerfFile) : Type 0 where
+  pub header : h ≡ i
+  pub order : order_of_file f ≡ order_of_file g
+  pub features : features_of f ≡ features_of g
+  pub contents : (n : ℕ) → data_of f n ≡ data_of g n
+  pub events : events_in (descriptions_of f) ≡ events_in (descriptions_of g)
+
+-- what the bytes of a file describe is determined: its header, its order, its features and their data, its attributes with their names and ids
+abbrev pub OneFile : Type 0
+OneFile = (p : Place) (h i : PerfHeader) (f g : PerfFile) → Describes p h f → Describes p i g → ToldAlike h i f g
 
 -- what every refusal of a file says, and that the file doesn't open
 abbrev pub RefusedAs : Place → (Error → Type 0) → Type 0
@@ -136,4 +149,4 @@ FarHeader = (p : Place) (h : PerfHeader) → HasHeader p h → 104 + 2 ^ 63 ≤ 
 
 -- one that can be passed over, of another magic, is refused for its magic, whatever stands behind it
 abbrev pub OtherMagic : Type 0
-OtherMagic = (p : Place) (h : PerfHeader) → length p.all < 2 ^ 63 → HasHeader p h → CanPass h → ((order : Endianness) → h.magic ≢ magic_of order) → RefusedAs p (λ e. e ≡ UnrecognizedMagicValue h.magic)
+OtherMagic = (p : Place) (h : PerfHeader) → HasHeader p h → CanPass h → ((order : Endianness) → h.magic ≢ magic_of order) → RefusedAs p (λ e. e ≡ UnrecognizedMagicValue h.magic)

@@ -10,6 +10,7 @@ pub mod Indices
 pub mod Rules
 pub mod AttributeSources
 pub mod Pairs
+pub mod Pauses
 pub mod Iter
 pub mod PerfFile
 pub mod Sections

@@ -5,7 +5,7 @@ use Rattle.perfdata_base.specs.Header.{header_of}
 use Rattle.perfdata_base.specs.declared.raw.Endianness.{Endianness}
 use Rattle.perfdata_base.specs.declared.raw.Endianness.TheVariants.{LittleEndian, BigEndian}
 use Rattle.perfdata_base.specs.declared.header.PerfHeader.{PerfHeader}
-use Rattle.perfdata_parts.specs.Error.{IsShort, IsInvalidInput, IsIo}
+use Rattle.perfdata_parts.specs.Error.{IsShort, IsInvalidInput}
 use Rattle.perfdata_parts.specs.Attributes.{OwesAttributes}
 use Rattle.perfdata_parts.specs.declared.feature_sections.AttributeDescription.{AttributeDescription}
 use Rattle.perfdata_parts.specs.declared.error.Error.{Error}
@@ -107,9 +107,9 @@ pub record HasHeader (p : Place) (h : PerfHeader) : Type 0 where
 abbrev pub CanPass : PerfHeader → Type 0
 CanPass h = h.header_size < 104 + 2 ^ 63
 
--- They aren't passed over: they are 2^63 or more; or they lead past 2^64 - 1, as none do where all bytes are fewer than 2^63.
-abbrev pub NotPassed : Place → PerfHeader → Error → Type 0
-NotPassed p h e = ((104 + 2 ^ 63 ≤ h.header_size) × IsInvalidInput e) ⊎ (CanPass h × (2 ^ 64 ≤ p.at + h.header_size) × IsIo e)
+-- they aren't passed over: they are 2^63 or more
+abbrev pub NotPassed : PerfHeader → Error → Type 0
+NotPassed h e = (104 + 2 ^ 63 ≤ h.header_size) × IsInvalidInput e
 
 -- the header of a file whose numbers have this order, which can be passed over
 pub record IsHeader (p : Place) (order : Endianness) (h : PerfHeader) : Type 0 where
@@ -126,7 +126,7 @@ IsNoFile p h e = HasHeader p h × CanPass h × ((order : Endianness) → h.magic
 abbrev pub StopsFile : Place → Error → Type 0
 StopsFile p e =
     (IsShort e × (length (drop p.at p.all) < 104))
-    ⊎ (((h : PerfHeader) × HasHeader p h × NotPassed p h e)
+    ⊎ (((h : PerfHeader) × HasHeader p h × NotPassed h e)
     ⊎ (((h : PerfHeader) × IsNoFile p h e)
     ⊎ ((order : Endianness) × ((h : PerfHeader) × IsHeader p order h × StopsBehind order h p.all e))))
 

@@ -1,5 +1,5 @@
 //! Opens a file or a pipe, as what it says of itself and an iterator over its records.
-ghost use Rattle.std.specs.Prelude.{◌≡◌, ◌<◌, IfOk, vec_len};
+ghost use Rattle.std.specs.Prelude.{◌≡◌, ◌+◌, ◌<◌, ◌≤◌, IfOk, vec_len};
 ghost use Rattle.linux_perf_data.specs.Attribute.{Rule};
 ghost use Rattle.linux_perf_data.specs.Described.{attributes_by};
 
@@ -77,6 +77,7 @@ impl<C: PlacedSource + Drop> PerfFileReader<C> {
     /// one about SAMPLE_ID_ALL, whichever stands first. [`Error::Memory`] where memory runs out.
     pub fn parse_file(alloc: Global, source: C) -> Result<PerfFileReader<C>, Error>
         ensures parses { ParsesFile C.seen (C.seen source) result }
+        ensures pauses { IfOk result (λ r. (C.seen r.record_iter.source).pauses ≡ (C.seen source).pauses) }
         ensures lent { IfOk result (λ r. C.lent r.record_iter.source ≡ C.lent source) }
     {
         let mut source = source;
@@ -144,6 +145,7 @@ impl<R: Source + Drop> PerfFileReader<R> {
     /// memory runs out.
     pub fn parse_pipe(alloc: Global, source: R) -> Result<PerfFileReader<R>, Error>
         ensures parses { ParsesPipe R.seen (R.seen source) result }
+        ensures pauses { IfOk result (λ r. (R.seen r.record_iter.source).pauses ≤ (R.seen source).pauses + 1) }
         ensures lent { IfOk result (λ r. R.lent r.record_iter.source ≡ R.lent source) }
     {
         let mut source = source;

@@ -1,6 +1,7 @@
 //! Where records stand: in a section of a size, or in a pipe, whose opening kept a head.
 ghost use Rattle.std.specs.Prelude.{◌≡◌, length};
 ghost use Rattle.linux_perf_data.specs.Input.{CutAnswers, TookKept, view_in};
+ghost use Rattle.linux_perf_data.specs.Pauses.{PausesNext};
 ghost use Rattle.linux_perf_data.specs.Piece.{TakesHead};
 
 use perfdata_base::event::PerfEventHeader;
@@ -30,6 +31,7 @@ fn whole_head(bytes: [u8; HEAD_BYTES]) -> [u8; HEAD_BYTES]
 // The source's next eight bytes. None where it has fewer.
 pub(crate) fn read_eight<R: Source>(source: &mut R) -> Result<Option<[u8; HEAD_BYTES]>, Error>
     ensures takes { TakesHead (R.seen source.old) result (R.seen source.new) }
+    ensures pauses { PausesNext (R.seen source.old) result (R.seen source.new) }
     ensures lent { R.lent source.new ≡ R.lent source.old }
 {
     let mut bytes = [0u8; HEAD_BYTES];
@@ -51,6 +53,7 @@ pub(crate) fn take_head<R: Source>(
 ) -> Result<Option<[u8; HEAD_BYTES]>, Error>
     ensures kept { TookKept input.old input.new }
     ensures takes { TakesHead (view_in input.old (R.seen source.old)) result (view_in input.new (R.seen source.new)) }
+    ensures pauses { PausesNext (R.seen source.old) result (R.seen source.new) }
     ensures lent { R.lent source.new ≡ R.lent source.old }
 {
     match *input {

@@ -1,6 +1,7 @@
 //! The record loop.
 ghost use Rattle.std.specs.Prelude.{◌≡◌, ◌≤◌, []};
 ghost use Rattle.perfdata_base.specs.Raw.{bytes_of};
+ghost use Rattle.linux_perf_data.specs.Pauses.{PausesNext};
 
 use crate::input::{Input, cut};
 use crate::known::{FoundEvent, Known};
@@ -171,6 +172,7 @@ impl<R: Source> PerfRecordIter<R> {
     fn next_piece(&mut self) -> Result<Option<PerfEventHeader>, Error>
         requires empty { self.old.body.items ≡ [] }
         ensures piece { NextPiece R.seen self.old result self.new }
+        ensures pauses { PausesNext (R.seen self.old.source) result (R.seen self.new.source) }
         ensures lent { R.lent self.new.source ≡ R.lent self.old.source }
     {
         let head = match read_head(&mut self.source, &mut self.input, self.endian) {
@@ -211,6 +213,7 @@ impl<R: Source> PerfRecordIter<R> {
         head: PerfEventHeader,
     ) -> Result<Found, Error>
         ensures takes { TakesRecord R.seen self.old file.old offset round head result self.new file.new }
+        ensures pauses { R.seen self.new.source ≡ R.seen self.old.source }
         ensures lent { R.lent self.new.source ≡ R.lent self.old.source }
     {
         let body = self.body.as_slice();
@@ -230,6 +233,7 @@ impl<R: Source> PerfRecordIter<R> {
     // Goes to the next record, whose body is then held.
     fn advance(&mut self, file: &mut PerfFile) -> Result<Option<Found>, Error>
         ensures advances { Advances R.seen self.old file.old result self.new file.new }
+        ensures pauses { PausesNext (R.seen self.old.source) result (R.seen self.new.source) }
         ensures lent { R.lent self.new.source ≡ R.lent self.old.source }
     {
         match self.stage {

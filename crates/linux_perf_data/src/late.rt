@@ -27,7 +27,11 @@ impl PerfFile {
     fn make_room(&mut self) -> Result<(), Error>
         ensures { MakesRoom self.old result self.new }
     {
-        match self.attributes.try_reserve(1) {
+        let count = self.attributes.len();
+        if count < self.attributes.capacity() {
+            return Ok(());
+        }
+        match self.attributes.try_reserve_exact(count + 4) {
             Ok(()) => Ok(()),
             Err(_) => Err(Error::Memory),
         }

@@ -2,7 +2,7 @@
 //! there is one.
 ghost use Rattle.linux_perf_data.specs.BuildIds.{OneListOfEntries, KeysEqualByTexts};
 ghost use Rattle.linux_perf_data.specs.Late.{HoldsNone, HoldsMore, NamesStay};
-ghost use Rattle.linux_perf_data.specs.Laws.{OneRecord, OneFault, NoFaultAtPiece, EndFaultOrPiece, RuleOrBreach, OneBreach, OneLayout, SomeLayout, OneToCome, OffsetsRise, PlaceOfPiece, RecordsBring, TracesHold, NoNamesAtRefusal, OneNaming, OneOpening, OpeningStands, FileStands, CutHeader, FarHeader, OtherMagic};
+ghost use Rattle.linux_perf_data.specs.Laws.{OneRecord, OneFault, NoFaultAtPiece, EndFaultOrPiece, RuleOrBreach, OneBreach, OneLayout, SomeLayout, OneToCome, OffsetsRise, PlaceOfPiece, RecordsBring, TracesHold, NoNamesAtRefusal, OneNaming, OneOpening, OpeningStands, FileStands, OneFile, CutHeader, FarHeader, OtherMagic};
 
 /// No bytes begin with two whole records.
 pub fn at_most_one_record()
@@ -73,9 +73,15 @@ pub fn one_opening()
     ensures stands { OpeningStands }
 {}
 
-/// Where a file's bytes, fewer than 2^63, describe what an opening of it tells, no refusal of it is true.
+/// Where a file's bytes describe what an opening of it tells, no refusal of it is true.
 pub fn file_stands()
     ensures { FileStands }
+{}
+
+/// What a file's bytes describe is determined: its header, the order of its numbers, its features and their data, and its attributes with
+/// their names and ids.
+pub fn one_file()
+    ensures { OneFile }
 {}
 
 /// A file's header is refused before what stands behind it: where fewer than 104 bytes are there, where 2^63 or more were

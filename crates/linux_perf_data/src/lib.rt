@@ -29,6 +29,7 @@
 //! `PerfFileReader::parse_pipe` opens a pipe, and [`jitdump`] has the reader of jitdumps.
 #![tactic(auto)]
 
+pub mod attr;
 mod build_ids;
 pub mod file_reader;
 mod id_table;
@@ -51,7 +52,7 @@ pub use file_reader::{PerfFileReader, PerfRecordIter, RecordPlace};
 pub use perf_file::PerfFile;
 pub use perfdata_base::features::{Feature, FeatureSet, FeatureSetIter};
 pub use perfdata_base::raw::Endianness;
-pub use perfdata_base::{attr, event, features, header, place, raw, section, source};
+pub use perfdata_base::{event, features, header, place, raw, section, source};
 pub use perfdata_parts::error::{Error, ReadError};
 pub use perfdata_parts::feature_sections::{
     AttributeDescription, CompressionInfo, NrCpus, SampleTimeRange,

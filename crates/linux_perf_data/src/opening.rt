@@ -1,4 +1,5 @@
 //! The opening of a file: header, sections, attributes, and a seek to the data.
+ghost use Rattle.perfdata_base.specs.Source.{PausesOnce};
 ghost use Rattle.std.specs.Prelude.{◌≡◌};
 ghost use Rattle.std.specs.Option.{option_map};
 ghost use Rattle.linux_perf_data.specs.AttributeSources.{told_by, ReadsAttributes, ReadsTypes, ReadsMeta, ReadsNamed, ReadsAttrs};
@@ -66,6 +67,7 @@ fn read_event_types<C: PlacedSource>(
     attr_size: u64,
 ) -> Result<Vec<AttributeDescription>, Error>
     ensures reads { ReadsTypes endian attr_size section.now (C.seen source.old) result (C.seen source.new) }
+    ensures pauses { PausesOnce (C.seen source.old) result (C.seen source.new) }
     ensures lent { C.lent source.new ≡ C.lent source.old }
 {
     match endian {
@@ -91,6 +93,7 @@ fn read_attr_section<C: PlacedSource>(
     attr_size: u64,
 ) -> Result<Vec<AttributeDescription>, Error>
     ensures reads { ReadsAttrs endian attr_size section.now (C.seen source.old) result (C.seen source.new) }
+    ensures pauses { PausesOnce (C.seen source.old) result (C.seen source.new) }
     ensures lent { C.lent source.new ≡ C.lent source.old }
 {
     match endian {
@@ -126,6 +129,7 @@ fn read_named<C: PlacedSource>(
     types: &[SimplePerfEventType],
 ) -> Result<Vec<AttributeDescription>, Error>
     ensures reads { ReadsNamed endian header.now.attr_size header.now.attr_section types.now (C.seen source.old) result (C.seen source.new) }
+    ensures pauses { PausesOnce (C.seen source.old) result (C.seen source.new) }
     ensures lent { C.lent source.new ≡ C.lent source.old }
 {
     let section = &header.attr_section;
@@ -154,6 +158,7 @@ fn read_attributes<C: PlacedSource>(
     meta_info: Option<&[u8]>,
 ) -> Result<Vec<AttributeDescription>, Error>
     ensures reads { ReadsAttributes endian header.now (told_by (option_map (λ s. s.now) event_desc.entry) (option_map (λ s. s.now) meta_info.entry)) (C.seen source.old) result (C.seen source.new) }
+    ensures pauses { PausesOnce (C.seen source.old) result (C.seen source.new) }
     ensures lent { C.lent source.new ≡ C.lent source.old }
 {
     match event_desc {
@@ -184,6 +189,7 @@ fn open_behind<C: PlacedSource>(
     header: &PerfHeader,
 ) -> Result<Opening, Error>
     ensures reads { ReadsBehind endian header.now (C.seen source.old) result (C.seen source.new) }
+    ensures pauses { PausesOnce (C.seen source.old) result (C.seen source.new) }
     ensures lent { C.lent source.new ≡ C.lent source.old }
 {
     let data = header.data_section;
@@ -224,6 +230,7 @@ fn open_behind<C: PlacedSource>(
 // What a file says of itself. Leaves the source at the first record.
 pub(crate) fn open<C: PlacedSource>(alloc: Global, source: &mut C) -> Result<Opening, Error>
     ensures reads { ReadsFile (C.seen source.old) result (C.seen source.new) }
+    ensures pauses { PausesOnce (C.seen source.old) result (C.seen source.new) }
     ensures lent { C.lent source.new ≡ C.lent source.old }
 {
     let header = match PerfHeader::parse_from::<C>(source) {

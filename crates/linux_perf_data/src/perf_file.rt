@@ -8,6 +8,7 @@ ghost use Rattle.linux_perf_data.specs.Simpleperf.{TellsSymbolTables};
 ghost use Rattle.linux_perf_data.specs.Values.{TellsOf, TellsText, TellsTexts, TellsNumber, TellsCpus, TellsTimes, TellsCompression, TellsClock, TellsUnits};
 ghost use Rattle.linux_perf_data.specs.BuildIds.{TellsBuildIds};
 
+use crate::opening::section_of;
 use crate::{build_ids, values};
 use indexmap::IndexMap;
 use perfdata_base::features::{Feature, FeatureSet};
@@ -66,10 +67,7 @@ impl PerfFile {
     pub fn feature_section_data(&self, feature: Feature) -> Option<&[u8]>
         ensures { option_map (λ s. s.now) result ≡ data_of self.now feature.0 }
     {
-        match self.sections.get(&feature) {
-            Some(bytes) => Some(bytes.as_slice()),
-            None => None,
-        }
+        section_of(&self.sections, feature)
     }
 
     /// Whether the file was written by `perf stat`.

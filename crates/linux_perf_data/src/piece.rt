@@ -2,11 +2,14 @@
 ghost use Rattle.std.specs.Prelude.{◌≡◌, ◌≤◌, []};
 ghost use Rattle.perfdata_base.specs.Event.{head_of};
 ghost use Rattle.perfdata_base.specs.Numbers.{number_in};
+ghost use Rattle.perfdata_base.specs.Source.{PausesOnce};
 ghost use Rattle.linux_perf_data.specs.Input.{TookKept, view_in};
+ghost use Rattle.linux_perf_data.specs.Pauses.{PausesNext, PausesWhole};
 ghost use Rattle.linux_perf_data.specs.Piece.{Checks, PassesBody, ReadsBody, ReadsContent, ReadsHead, ReadsTrace, TestsCompressed};
 
 use crate::input::{HEAD_BYTES, Input, take_head};
 use perfdata_base::event::PerfEventHeader;
+use perfdata_base::order::{read_u16, read_u32, read_u64};
 use perfdata_base::raw::Endianness;
 use perfdata_base::source::{AppendFault, Source, append, pass_over};
 use perfdata_parts::constants::{
@@ -25,9 +28,9 @@ pub(crate) fn head_in(endian: Endianness, bytes: &[u8; HEAD_BYTES]) -> PerfEvent
     ensures { result ≡ head_of (number_in endian) bytes.now }
 {
     PerfEventHeader {
-        type_: endian.read_u32(bytes),
-        misc: endian.read_u16(&bytes[4..]),
-        size: endian.read_u16(&bytes[6..]),
+        type_: read_u32(endian, bytes),
+        misc: read_u16(endian, &bytes[4..]),
+        size: read_u16(endian, &bytes[6..]),
     }
 }
 
@@ -39,6 +42,7 @@ pub(crate) fn read_head<R: Source>(
 ) -> Result<Option<PerfEventHeader>, Error>
     ensures kept { TookKept input.old input.new }
     ensures head { ReadsHead endian (view_in input.old (R.seen source.old)) result (view_in input.new (R.seen source.new)) }
+    ensures pauses { PausesNext (R.seen source.old) result (R.seen source.new) }
     ensures lent { R.lent source.new ≡ R.lent source.old }
 {
     match take_head(source, input) {
@@ -64,6 +68,7 @@ pub(crate) fn end_of(offset: u64, size: u16) -> Result<u64, Error>
 // Passes over so many bytes, and keeps none. False where the source has fewer.
 pub(crate) fn pass_body<R: Source>(source: &mut R, count: u64) -> Result<bool, Error>
     ensures passes { PassesBody (R.seen source.old) count result (R.seen source.new) }
+    ensures pauses { PausesWhole (R.seen source.old) result (R.seen source.new) }
     ensures lent { R.lent source.new ≡ R.lent source.old }
 {
     match pass_over(source, count) {
@@ -80,6 +85,7 @@ pub(crate) fn pass_body<R: Source>(source: &mut R, count: u64) -> Result<bool, E
 // Appends so many bytes to what the body holds. False where the source has fewer.
 fn read_body<R: Source>(source: &mut R, body: &mut Vec<u8>, count: usize) -> Result<bool, Error>
     ensures reads { ReadsBody (R.seen source.old) body.old.items count result body.new.items (R.seen source.new) }
+    ensures pauses { PausesWhole (R.seen source.old) result (R.seen source.new) }
     ensures lent { R.lent source.new ≡ R.lent source.old }
 {
     match append(source, body, count) {
@@ -108,12 +114,13 @@ fn read_trace<R: Source>(
     end: u64,
 ) -> Result<u64, Error>
     ensures reads { ReadsTrace endian (R.seen source.old) body.old.items end result body.new.items (R.seen source.new) }
+    ensures pauses { PausesOnce (R.seen source.old) result (R.seen source.new) }
     ensures lent { R.lent source.new ≡ R.lent source.old }
 {
     if body.len() < LEAST_TRACE {
         return Err(short());
     }
-    let count = endian.read_u64(body.as_slice());
+    let count = read_u64(endian, body.as_slice());
     let whole = match end.checked_add(count) {
         Some(whole) => whole,
         None => return Err(Error::Read(ReadError::PerfEventData)),
@@ -137,6 +144,7 @@ pub(crate) fn read_content<R: Source>(
     requires size { 8 ≤ head.size }
     requires empty { body.old.items ≡ [] }
     ensures reads { ReadsContent endian (R.seen source.old) head end result body.new.items (R.seen source.new) }
+    ensures pauses { PausesNext (R.seen source.old) result (R.seen source.new) }
     ensures lent { R.lent source.new ≡ R.lent source.old }
 {
     match read_body(source, body, (head.size - HEAD) as usize) {

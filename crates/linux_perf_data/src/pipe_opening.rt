@@ -1,6 +1,8 @@
 //! The opening of a pipe: its header, and its records of metadata up to the head that ends them.
 ghost use Rattle.std.specs.Prelude.{◌≡◌, ◌≤◌, []};
 ghost use Rattle.linux_perf_data.specs.Late.{IsMetadata};
+ghost use Rattle.perfdata_base.specs.Source.{PausesOnce};
+ghost use Rattle.linux_perf_data.specs.Pauses.{PausesTaken, PausesMetadata, PausesOpening};
 ghost use Rattle.linux_perf_data.specs.PipeOpen.{ReadsPipe};
 ghost use Rattle.linux_perf_data.specs.PipeParts.{Finishes, Gathers, OpensBehind, ParsesAttribute, ParsesFeature, ReadsMetadata, TakesBody, TakesNext, TakesRecord, Tells, TellsRefusal, TestsMetadata};
 
@@ -58,6 +60,7 @@ pub(crate) fn is_metadata(record_type: u32) -> bool
 // Reads so many bytes in place of those that the body held.
 fn take_body<R: Source>(source: &mut R, body: &mut Vec<u8>, count: usize) -> Result<(), Error>
     ensures takes { TakesBody (R.seen source.old) count result body.new.items (R.seen source.new) }
+    ensures pauses { PausesOnce (R.seen source.old) result (R.seen source.new) }
     ensures lent { R.lent source.new ≡ R.lent source.old }
 {
     body.clear();
@@ -201,6 +204,7 @@ fn take_record<R: Source>(
     requires size { 8 ≤ head.size }
     requires metadata { IsMetadata head.type_ }
     ensures takes { TakesRecord endian offset head (R.seen source.old) metadata.old result (R.seen source.new) metadata.new }
+    ensures pauses { PausesOnce (R.seen source.old) result (R.seen source.new) }
     ensures lent { R.lent source.new ≡ R.lent source.old }
 {
     let end = match end_of(offset, head.size) {
@@ -227,6 +231,7 @@ fn take_next<R: Source>(
     metadata: &mut Metadata,
 ) -> Result<Next, Error>
     ensures takes { TakesNext endian offset (R.seen source.old) metadata.old result (R.seen source.new) metadata.new }
+    ensures pauses { PausesTaken (R.seen source.old) result (R.seen source.new) }
     ensures lent { R.lent source.new ≡ R.lent source.old }
 {
     let bytes = match read_eight(source) {
@@ -254,6 +259,7 @@ fn read_metadata<R: Source>(
     endian: Endianness,
 ) -> Result<(Metadata, Option<[u8; 8]>), Error>
     ensures reads { ReadsMetadata endian (R.seen source.old) result (R.seen source.new) }
+    ensures pauses { PausesMetadata (R.seen source.old) result (R.seen source.new) }
     ensures lent { R.lent source.new ≡ R.lent source.old }
 {
     let mut metadata = Metadata::new(alloc);
@@ -311,6 +317,7 @@ fn open_behind<R: Source>(
     endian: Endianness,
 ) -> Result<PipeOpening, Error>
     ensures opens { OpensBehind endian (R.seen source.old) result (R.seen source.new) }
+    ensures pauses { PausesOpening (R.seen source.old) result (R.seen source.new) }
     ensures lent { R.lent source.new ≡ R.lent source.old }
 {
     match read_metadata(alloc, source, endian) {
@@ -322,6 +329,7 @@ fn open_behind<R: Source>(
 // What a pipe says of itself. Takes its header, its metadata and the head that ends them, and no byte more.
 pub(crate) fn open_pipe<R: Source>(alloc: Global, source: &mut R) -> Result<PipeOpening, Error>
     ensures reads { ReadsPipe (R.seen source.old) result (R.seen source.new) }
+    ensures pauses { PausesOpening (R.seen source.old) result (R.seen source.new) }
     ensures lent { R.lent source.new ≡ R.lent source.old }
 {
     let (header, whole) = match PerfPipeHeader::parse_front(source) {

@@ -1,4 +1,5 @@
 //! The table behind the data section, and the bytes of each feature.
+ghost use Rattle.perfdata_base.specs.Source.{PausesOnce};
 ghost use Rattle.std.specs.Prelude.{◌≡◌};
 ghost use Rattle.perfdata_base.specs.Features.{features_of};
 ghost use Rattle.perfdata_base.specs.Numbers.{number_in};
@@ -20,6 +21,7 @@ use std::io::SeekFrom;
 // Goes to a place from the source's first byte.
 pub(crate) fn go_to<C: PlacedSource>(source: &mut C, place: u64) -> Result<(), Error>
     ensures goes { GoesTo (C.seen source.old) place result (C.seen source.new) }
+    ensures pauses { PausesOnce (C.seen source.old) result (C.seen source.new) }
     ensures lent { C.lent source.new ≡ C.lent source.old }
 {
     match source.seek_to(SeekFrom::Start(place)) {
@@ -31,6 +33,7 @@ pub(crate) fn go_to<C: PlacedSource>(source: &mut C, place: u64) -> Result<(), E
 // The entry at the front of a source.
 fn read_entry<C: PlacedSource>(source: &mut C, endian: Endianness) -> io::Result<PerfFileSection>
     ensures parses { ParsesSection (number_in endian) (C.seen source.old) result (C.seen source.new) }
+    ensures pauses { PausesOnce (C.seen source.old) result (C.seen source.new) }
     ensures lent { C.lent source.new ≡ C.lent source.old }
 {
     match endian {
@@ -47,6 +50,7 @@ fn read_table<C: PlacedSource>(
     features: &FeatureSet,
 ) -> Result<Vec<(Feature, PerfFileSection)>, Error>
     ensures reads { ReadsTable endian (features_of features.now) (C.seen source.old) result (C.seen source.new) }
+    ensures pauses { PausesOnce (C.seen source.old) result (C.seen source.new) }
     ensures lent { C.lent source.new ≡ C.lent source.old }
 {
     let mut table = Vec::new(alloc);
@@ -70,6 +74,7 @@ fn read_section<C: PlacedSource>(
     section: PerfFileSection,
 ) -> Result<Vec<u8>, Error>
     ensures reads { ReadsSection section (C.seen source.old) result (C.seen source.new) }
+    ensures pauses { PausesOnce (C.seen source.old) result (C.seen source.new) }
     ensures lent { C.lent source.new ≡ C.lent source.old }
 {
     match go_to(source, section.offset) {
@@ -89,6 +94,7 @@ fn read_data<C: PlacedSource>(
     table: &[(Feature, PerfFileSection)],
 ) -> Result<IndexMap<Feature, Vec<u8>>, Error>
     ensures reads { ReadsData (entries_of table.now) (C.seen source.old) result (C.seen source.new) }
+    ensures pauses { PausesOnce (C.seen source.old) result (C.seen source.new) }
     ensures lent { C.lent source.new ≡ C.lent source.old }
 {
     let mut sections = IndexMap::new(alloc);
@@ -115,6 +121,7 @@ pub(crate) fn read_sections<C: PlacedSource>(
     place: u64,
 ) -> Result<IndexMap<Feature, Vec<u8>>, Error>
     ensures reads { ReadsSections endian place (features_of features.now) (C.seen source.old) result (C.seen source.new) }
+    ensures pauses { PausesOnce (C.seen source.old) result (C.seen source.new) }
     ensures lent { C.lent source.new ≡ C.lent source.old }
 {
     match go_to(source, place) {

@@ -3,7 +3,8 @@ ghost use Rattle.std.specs.Prelude.{◌≡◌, ◌≤◌, length, take, drop};
 ghost use Rattle.perfdata_base.specs.Numbers.{number_in};
 ghost use Rattle.linux_perf_data.specs.Values.{TellsText, TellsTexts, TellsNumber, TellsCpus, TellsTimes, TellsCompression, TellsClock, TellsUnits, TellsTextBefore};
 
-use byteorder::{BigEndian, ByteOrder, LittleEndian};
+use byteorder::{BigEndian, LittleEndian};
+use perfdata_base::order::{read_u32, read_u64};
 use perfdata_base::raw::Endianness;
 use perfdata_parts::bytes::as_error;
 use perfdata_parts::error::Error;
@@ -11,28 +12,6 @@ use perfdata_parts::feature_sections::{
     ClockData, CompressionInfo, NrCpus, PmuMappings, SampleTimeRange, before_nul,
 };
 use std::alloc::Global;
-
-// The number of four bytes at the front.
-fn read_u32(endian: Endianness, bytes: &[u8]) -> u32
-    requires { 4 ≤ length bytes.now }
-    ensures { result ≡ number_in endian 4 bytes.now }
-{
-    match endian {
-        Endianness::LittleEndian => LittleEndian::read_u32(bytes),
-        Endianness::BigEndian => BigEndian::read_u32(bytes),
-    }
-}
-
-// The number of eight bytes at the front.
-fn read_u64(endian: Endianness, bytes: &[u8]) -> u64
-    requires { 8 ≤ length bytes.now }
-    ensures { result ≡ number_in endian 8 bytes.now }
-{
-    match endian {
-        Endianness::LittleEndian => LittleEndian::read_u64(bytes),
-        Endianness::BigEndian => BigEndian::read_u64(bytes),
-    }
-}
 
 // The text of the string at the front, and what stands behind that.
 fn split_text(endian: Endianness, bytes: &[u8]) -> Result<(&str, &[u8]), Error>

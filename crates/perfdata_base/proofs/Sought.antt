@@ -1,11 +1,11 @@
 -- What a read and a seek of a cursor come to.
 use Rattle.std.proofs.Common.{◌≡◌, ℕ, ◌+◌, ◌<◌, ◌≤◌, ◌++◌, List, length, take, drop, refl, sym, ap, ◌∙◌, subst, inr, arith, pos, negsuc}
-use Rattle.std.specs.Prelude.{Result, Ok, Err, IfOk, Some}
+use Rattle.std.specs.Prelude.{Result, Ok, Err, IfOk, Some, true}
 use Rattle.std.specs.Io.Cursor.{IsSeekResult, IsSeekFromEnd}
 use Rattle.std.specs.declared.io.SeekFrom.{SeekFrom}
 use Rattle.std.specs.declared.io.SeekFrom.TheVariants.{Start, End, Current}
 use Rattle.std.proofs.lemmas.List.{length-take-le, take-append-drop, drop-drop}
-use Rattle.perfdata_base.specs.Source.{told_from, CameInto, Stood, GoesTo, GoesNowhere, Seeks}
+use Rattle.perfdata_base.specs.Source.{told_from, CameInto, Stood, Shown, GoesTo, GoesNowhere, Seeks}
 
 stood : (all : List ℕ) (at to : ℕ) → Stood (told_from all at) (told_from all to)
 stood all at to = record {
@@ -17,19 +17,22 @@ stood all at to = record {
 }
 
 module _ (E : Type 0) (all : List ℕ) (at : ℕ) where
-  goes : (n : ℕ) (to : SeekFrom) → IsSeekResult {E = E} to at (Ok n) → IsSeekFromEnd {E = E} to (length all) (Ok n) → GoesTo to (record { all = all; at = at }) n
+  abbrev whole : Shown true (record { all = all; at = at })
+  whole = record { long = length all; within = omega arith; whole = λ _. refl }
+
+  goes : (n : ℕ) (to : SeekFrom) → IsSeekResult {E = E} to at (Ok n) → IsSeekFromEnd {E = E} to (length all) (Ok n) → GoesTo true to (record { all = all; at = at }) n
   goes n (Start m) target end = cc
   goes n (Current (pos m)) target end = target.1
   goes n (Current (negsuc m)) target end = omega (arith, target.0, target.1)
-  goes n (End (pos m)) target end = (length all, omega arith, end.1)
-  goes n (End (negsuc m)) target end = (length all, omega arith, omega (arith, end.0, end.1))
+  goes n (End (pos m)) target end = (whole, end.1)
+  goes n (End (negsuc m)) target end = (whole, omega (arith, end.0, end.1))
 
-  nowhere : (e : E) (to : SeekFrom) → IsSeekResult {E = E} to at (Err e) → IsSeekFromEnd {E = E} to (length all) (Err e) → GoesNowhere to (record { all = all; at = at })
+  nowhere : (e : E) (to : SeekFrom) → IsSeekResult {E = E} to at (Err e) → IsSeekFromEnd {E = E} to (length all) (Err e) → GoesNowhere true to (record { all = all; at = at })
   nowhere e (Start m) target end = cc
   nowhere e (Current (pos m)) target end = omega (arith, target)
   nowhere e (Current (negsuc m)) target end = omega (arith, target)
-  nowhere e (End (pos m)) target end = (length all, omega arith, omega (arith, end))
-  nowhere e (End (negsuc m)) target end = (length all, omega arith, omega (arith, end))
+  nowhere e (End (pos m)) target end = (whole, omega (arith, end))
+  nowhere e (End (negsuc m)) target end = (whole, omega (arith, end))
 
 pub seeks_cursor : {E : Type 0} (all : List ℕ) (at at' : ℕ) (to : SeekFrom) (r : Result ℕ E) → IfOk r (λ n. at' ≡ n) → IsSeekResult to at r → IsSeekFromEnd to (length all) r → Seeks (told_from all at) to r (told_from all at')
 seeks_cursor {E} all at at' to (Ok n) is target end = record {
@@ -37,7 +40,7 @@ seeks_cursor {E} all at at' to (Ok n) is target end = record {
   place = ap (λ k. Some (record { all = all; at = k })) is;
   target = λ p same.
       let there : record { all = all; at = at } ≡ p = cc in
-      subst (λ q. GoesTo to q n) there (goes E all at n to target end);
+      subst (λ q. GoesTo true to q n) there (goes E all at n to target end);
 }
 seeks_cursor {E} all at at' to (Err e) is target end = (stood all at at', inr (record { from = record { all = all; at = at }; is = refl; nowhere = nowhere E all at e to target end }))
 

@@ -1,10 +1,10 @@
 -- The header of a perf.data file as its bytes describe it (`perf_file_header`).
-use Rattle.std.specs.Prelude.{◌≡◌, ℕ, ◌+◌, ◌-◌, ◌^◌, ◌<◌, ◌≤◌, ◌==◌, ◌⊎◌, List, [], ◌∷◌, length, take, drop, slice_index, max, if◌then◌else◌, Option, Some, pos, Result, Ok, Err}
+use Rattle.std.specs.Prelude.{◌≡◌, ℕ, ◌+◌, ◌-◌, ◌^◌, ◌<◌, ◌≤◌, ◌==◌, ◌⊎◌, List, [], ◌∷◌, length, take, drop, slice_index, max, if◌then◌else◌, Option, pos, Result, Ok, Err}
 use Rattle.std.specs.IoError.{error_kind}
 use Rattle.std.specs.declared.io.Error.{Error}
 use Rattle.std.specs.declared.io.ErrorKind.TheVariants.{InvalidInput}
 use Rattle.std.specs.declared.io.SeekFrom.TheVariants.{Current}
-use Rattle.perfdata_base.specs.Source.{State, Place, prepend, moved, Stood, Failed, CutShort, SoughtNowhere}
+use Rattle.perfdata_base.specs.Source.{State, prepend, moved, Gave, IsSmall, Stood, Failed, CutShort, SoughtNowhere}
 use Rattle.perfdata_base.specs.Numbers.{number_in}
 use Rattle.perfdata_base.specs.Section.{section_of}
 use Rattle.perfdata_base.specs.declared.raw.Endianness.{Endianness}
@@ -45,14 +45,14 @@ pub record TookHeader (old : State) (h : PerfHeader) (new : State) : Type 0 wher
   pub stood : Stood old new
   pub place : new.place ≡ moved (max 104 h.header_size) old.place
 
--- The bytes of a header behind its first 104 weren't passed over: they are 2^63 or more, or the source failed, or
--- there is no such place.
+-- The bytes of a header behind its first 104 weren't passed over: they are 2^63 or more, and the source stands behind those
+-- 104; or the source failed.
 pub record NotPassed (old : State) (e : Error) (new : State) : Type 0 where
   pub header : PerfHeader
   pub begins : Begins old header
   pub more : 104 < header.header_size
-  pub why : ((104 + 2 ^ 63 ≤ header.header_size) × (error_kind e ≡ InvalidInput))
-      ⊎ ((header.header_size < 104 + 2 ^ 63) × (Failed old new ⊎ ((from : Place) × (old.place ≡ Some from) × (2 ^ 64 ≤ from.at + header.header_size))))
+  pub why : ((104 + 2 ^ 63 ≤ header.header_size) × (error_kind e ≡ InvalidInput) × Gave old begins.bytes new)
+      ⊎ ((header.header_size < 104 + 2 ^ 63) × Failed old new)
 
 -- there was none: fewer than 104 bytes came, or those behind them weren't passed over
 pub record RefusedHeader (old : State) (e : Error) (new : State) : Type 0 where
@@ -73,7 +73,8 @@ pub record PassedExtra (old : State) (size : ℕ) (new : State) : Type 0 where
 pub record RefusedExtra (old : State) (size : ℕ) (e : Error) (new : State) : Type 0 where
   pub more : 104 < size
   pub stood : Stood old new
-  pub why : ((104 + 2 ^ 63 ≤ size) × (error_kind e ≡ InvalidInput)) ⊎ ((size < 104 + 2 ^ 63) × (Failed old new ⊎ SoughtNowhere old (Current (pos (size - 104)))))
+  pub why : ((104 + 2 ^ 63 ≤ size) × (error_kind e ≡ InvalidInput) × (new ≡ old))
+      ⊎ ((size < 104 + 2 ^ 63) × (Failed old new ⊎ (IsSmall old × SoughtNowhere old (Current (pos (size - 104))))))
 
 -- what a passing over the bytes of a header behind its first 104 does
 abbrev pub PassesExtra : {A : Type 0} → State → ℕ → Result A Error → State → Type 0

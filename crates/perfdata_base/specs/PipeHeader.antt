@@ -1,5 +1,5 @@
 -- The header of a pipe of perf.data as its bytes describe it (`perf_pipe_file_header`).
-use Rattle.std.specs.Prelude.{◌≡◌, ℕ, ◌-◌, ◌<◌, ◌≤◌, ◌⊎◌, Bool, true, false, List, ◌++◌, length, take, drop, Result, Ok, Err}
+use Rattle.std.specs.Prelude.{◌≡◌, ℕ, ◌-◌, ◌<◌, ◌≤◌, ◌+◌, ◌⊎◌, IsTrue, Bool, true, false, List, ◌++◌, length, take, drop, Result, Ok, Err}
 use Rattle.std.specs.declared.io.Error.{Error}
 use Rattle.perfdata_base.specs.Source.{State, Gave, GaveNone, Failed, CutShort}
 use Rattle.perfdata_base.specs.Numbers.{number_in}
@@ -53,3 +53,8 @@ pub record TookPipeFront (old : State) (h : PerfPipeHeader) (whole : Bool) (new 
 abbrev pub ParsesPipeFront : State → Result (PerfPipeHeader × Bool) Error → State → Type 0
 ParsesPipeFront old (Ok r) new = TookPipeFront old r.0 r.1 new
 ParsesPipeFront old (Err e) new = CutShort old 16 e new ⊎ FailedBehind old new
+
+-- where all of it came no empty answer did, and else one at most
+abbrev pub PausesFront : State → Result (PerfPipeHeader × Bool) Error → State → Type 0
+PausesFront old (Ok r) new = (IsTrue r.1 → new.pauses ≡ old.pauses) × (new.pauses ≤ old.pauses + 1)
+PausesFront old (Err e) new = new.pauses ≤ old.pauses + 1

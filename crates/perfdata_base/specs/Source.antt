@@ -112,10 +112,22 @@ Reads old place (Err e) new = Gave old [] new × Failed old new
 abbrev pub StaysHighest : ℕ → ℕ → Type 0
 StaysHighest old new = old ≡ 2 ^ 64 - 1 → new ≡ 2 ^ 64 - 1
 
--- what one read does to the counts: a fault leaves the empty answers', an answer the faults', and bytes leave both
+-- what one read does to the counts: a fault leaves the empty answers', an answer the faults', and bytes leave both; each rises by
+-- one at most
 abbrev pub CountsRead : {E : Type 0} → State → Result ℕ E → State → Type 0
-CountsRead old (Ok n) new = (new.faults ≡ old.faults) × (0 < n → new.pauses ≡ old.pauses) × StaysHighest old.pauses new.pauses
-CountsRead old (Err e) new = (new.pauses ≡ old.pauses) × StaysHighest old.faults new.faults
+CountsRead old (Ok n) new = (new.faults ≡ old.faults) × (0 < n → new.pauses ≡ old.pauses) × (new.pauses ≤ old.pauses + 1) × StaysHighest old.pauses new.pauses
+CountsRead old (Err e) new = (new.pauses ≡ old.pauses) × (new.faults ≤ old.faults + 1) × StaysHighest old.faults new.faults
+
+-- No call reads on after an empty answer. One that asks for up to this many met none where as many came, one at most where
+-- fewer did, and none where it failed.
+abbrev pub PausesFor : {E : Type 0} → ℕ → State → Result ℕ E → State → Type 0
+PausesFor count old (Ok n) new = (n ≡ count → new.pauses ≡ old.pauses) × (new.pauses ≤ old.pauses + 1)
+PausesFor count old (Err e) new = new.pauses ≡ old.pauses
+
+-- One whose bytes are promised met none where it has its answer, and one at most where it refuses.
+abbrev pub PausesOnce : {A E : Type 0} → State → Result A E → State → Type 0
+PausesOnce old (Ok _) new = new.pauses ≡ old.pauses
+PausesOnce old (Err e) new = new.pauses ≤ old.pauses + 1
 
 -- what a seek does to the counts: one that goes leaves both, one that is refused that of empty answers
 abbrev pub CountsSeek : {E : Type 0} → State → Result ℕ E → State → Type 0
@@ -197,33 +209,39 @@ pub record Stood (old new : State) : Type 0 where
   pub pauses : old.pauses ≤ new.pauses
   pub steady : IsTrue old.steady → Stays old new
 
--- where a seek goes; the end is shown at some length, no more than that of all bytes
-abbrev pub GoesTo : SeekFrom → Place → ℕ → Type 0
-GoesTo (Start n) p at = at ≡ n
-GoesTo (Current (pos n)) p at = at ≡ p.at + n
-GoesTo (Current (negsuc n)) p at = at + (n + 1) ≡ p.at
-GoesTo (End (pos n)) p at = (shown : ℕ) × (shown ≤ length p.all) × (at ≡ shown + n)
-GoesTo (End (negsuc n)) p at = (shown : ℕ) × (shown ≤ length p.all) × (at + (n + 1) ≡ shown)
+-- a length that a source shows at a moment: that of a front of all bytes, and of all of them where the source is steady
+pub record Shown (steady : Bool) (p : Place) : Type 0 where
+  pub long : ℕ
+  pub within : long ≤ length p.all
+  pub whole : IsTrue steady → long ≡ length p.all
+
+-- where a seek goes; from the end by the length that is shown
+abbrev pub GoesTo : Bool → SeekFrom → Place → ℕ → Type 0
+GoesTo steady (Start n) p at = at ≡ n
+GoesTo steady (Current (pos n)) p at = at ≡ p.at + n
+GoesTo steady (Current (negsuc n)) p at = at + (n + 1) ≡ p.at
+GoesTo steady (End (pos n)) p at = (shown : Shown steady p) × (at ≡ shown.long + n)
+GoesTo steady (End (negsuc n)) p at = (shown : Shown steady p) × (at + (n + 1) ≡ shown.long)
 
 -- there is no such place from 0 to 2^64 - 1
-abbrev pub GoesNowhere : SeekFrom → Place → Type 0
-GoesNowhere (Start n) p = 2 ^ 64 ≤ n
-GoesNowhere (Current (pos n)) p = 2 ^ 64 ≤ p.at + n
-GoesNowhere (Current (negsuc n)) p = p.at < n + 1
-GoesNowhere (End (pos n)) p = (shown : ℕ) × (shown ≤ length p.all) × (2 ^ 64 ≤ shown + n)
-GoesNowhere (End (negsuc n)) p = (shown : ℕ) × (shown ≤ length p.all) × (shown < n + 1)
+abbrev pub GoesNowhere : Bool → SeekFrom → Place → Type 0
+GoesNowhere steady (Start n) p = 2 ^ 64 ≤ n
+GoesNowhere steady (Current (pos n)) p = 2 ^ 64 ≤ p.at + n
+GoesNowhere steady (Current (negsuc n)) p = p.at < n + 1
+GoesNowhere steady (End (pos n)) p = (shown : Shown steady p) × (2 ^ 64 ≤ shown.long + n)
+GoesNowhere steady (End (negsuc n)) p = (shown : Shown steady p) × (shown.long < n + 1)
 
 -- the source went to this place
 pub record Sought (old : State) (to : SeekFrom) (at : ℕ) (new : State) : Type 0 where
   pub stood : Stood old new
   pub place : new.place ≡ put_at at old.place
-  pub target : (p : Place) → old.place ≡ Some p → GoesTo to p at
+  pub target : (p : Place) → old.place ≡ Some p → GoesTo old.steady to p at
 
 -- there is no such place
 pub record SoughtNowhere (old : State) (to : SeekFrom) : Type 0 where
   pub from : Place
   pub is : old.place ≡ Some from
-  pub nowhere : GoesNowhere to from
+  pub nowhere : GoesNowhere old.steady to from
 
 -- what a seek does: it goes to its place; or there is no such place, or it failed, and then the place is open
 abbrev pub Seeks : {E : Type 0} → State → SeekFrom → Result ℕ E → State → Type 0

@@ -3,7 +3,7 @@ ghost use Rattle.std.specs.Prelude.{⊤, ◌≡◌, ◌+◌, ◌≤◌, [], ◌�
 ghost use Rattle.std.specs.Int.{w32, cast_signed};
 ghost use Rattle.std.specs.IoError.{error_kind};
 ghost use Rattle.std.specs.declared.io.ErrorKind.TheVariants.{InvalidData};
-ghost use Rattle.perfdata_base.specs.Source.{State};
+ghost use Rattle.perfdata_base.specs.Source.{State, PausesOnce};
 ghost use Rattle.perfdata_base.specs.Attr.{field, attr_with, ParsesAttr, ReadsOwn, ReadsRest};
 
 use crate::raw::FileOrder;
@@ -231,6 +231,7 @@ fn bad_size() -> Error
 pub fn read_own<R: Source, T: FileOrder>(source: &mut R, head: &mut [u8]) -> Result<u32>
     requires { length head.old ≡ 8 }
     ensures reads { ReadsOwn T.number_of (R.seen source.old) head.new result (R.seen source.new) }
+    ensures pauses { PausesOnce (R.seen source.old) result (R.seen source.new) }
     ensures lent { R.lent source.new ≡ R.lent source.old }
 {
     read_all(source, head)?;
@@ -256,6 +257,7 @@ pub fn read_rest<R: Source, T: FileOrder>(
     requires long { length bytes.old ≡ 136 }
     requires least { 64 ≤ own }
     ensures reads { ReadsRest T.number_of (R.seen source.old) (take 8 bytes.old) own result (R.seen source.new) }
+    ensures pauses { PausesOnce (R.seen source.old) result (R.seen source.new) }
     ensures lent { R.lent source.new ≡ R.lent source.old }
 {
     let known = (own as usize).min(KNOWN);
@@ -272,6 +274,7 @@ impl PerfEventAttr {
     /// `InvalidData` error where the own size is 1 to 63.
     pub fn parse_from<R: Source, T: FileOrder>(source: &mut R) -> Result<(PerfEventAttr, u64)>
         ensures parses { ParsesAttr T.number_of (R.seen source.old) result (R.seen source.new) }
+        ensures pauses { PausesOnce (R.seen source.old) result (R.seen source.new) }
         ensures lent { R.lent source.new ≡ R.lent source.old }
     {
         let mut bytes = [0u8; KNOWN];

@@ -1,6 +1,6 @@
 //! A record's head, its type, and a record of the kernel.
 ghost use Rattle.std.specs.Prelude.{◌≡◌, ◌<◌, ◌≤◌, ◌%◌, ◌↔◌, IsTrue};
-ghost use Rattle.perfdata_base.specs.Source.{State};
+ghost use Rattle.perfdata_base.specs.Source.{State, PausesOnce};
 ghost use Rattle.perfdata_base.specs.Event.{ParsesHead};
 ghost use Rattle.perfdata_base.specs.RecordType.{cpu_mode_of};
 
@@ -29,6 +29,7 @@ impl PerfEventHeader {
     /// An `UnexpectedEof` error where fewer than 8 bytes come.
     pub fn parse_from<R: Source, T: FileOrder>(source: &mut R) -> Result<PerfEventHeader>
         ensures parses { ParsesHead T.number_of (R.seen source.old) result (R.seen source.new) }
+        ensures pauses { PausesOnce (R.seen source.old) result (R.seen source.new) }
         ensures lent { R.lent source.new ≡ R.lent source.old }
     {
         let mut bytes = [0u8; PerfEventHeader::STRUCT_SIZE];

@@ -2,7 +2,7 @@
 ghost use Rattle.std.specs.Prelude.{◌≡◌, length};
 ghost use Rattle.std.specs.IoError.{error_kind};
 ghost use Rattle.std.specs.declared.io.ErrorKind.TheVariants.{InvalidInput};
-ghost use Rattle.perfdata_base.specs.Source.{State};
+ghost use Rattle.perfdata_base.specs.Source.{State, PausesOnce};
 ghost use Rattle.perfdata_base.specs.Header.{header_with, header_of, ParsesHeader, PassesExtra};
 
 use crate::features::FeatureSet;
@@ -81,6 +81,7 @@ fn too_large() -> Error
 // Passes over the bytes of a header that lie behind those with a meaning.
 fn pass_extra<C: PlacedSource>(source: &mut C, header_size: u64) -> Result<()>
     ensures passes { PassesExtra (C.seen source.old) header_size result (C.seen source.new) }
+    ensures pauses { PausesOnce (C.seen source.old) result (C.seen source.new) }
     ensures lent { C.lent source.new ≡ C.lent source.old }
 {
     if header_size <= KNOWN as u64 {
@@ -103,6 +104,7 @@ impl PerfHeader {
     /// bytes come, and an `InvalidInput` error where 2^63 bytes or more were to be passed over.
     pub fn parse_from<C: PlacedSource>(source: &mut C) -> Result<PerfHeader>
         ensures parses { ParsesHeader (C.seen source.old) result (C.seen source.new) }
+        ensures pauses { PausesOnce (C.seen source.old) result (C.seen source.new) }
         ensures lent { C.lent source.new ≡ C.lent source.old }
     {
         let mut bytes = [0u8; KNOWN];

@@ -5,6 +5,7 @@ pub mod attr;
 pub mod event;
 pub mod features;
 pub mod header;
+pub mod order;
 pub mod place;
 pub mod raw;
 pub mod section;

@@ -7,6 +7,7 @@ ghost use Rattle.perfdata_base.specs.Raw.{bytes_of};
 
 use crate::attr::{AttrFlags, PerfEventAttr, SampleFormat};
 use crate::event::RecordType;
+use crate::order::read_u64;
 use crate::raw::{Endianness, FileOrder, RawData};
 use bitflags::Flags;
 
@@ -224,7 +225,7 @@ fn number_in_slice(
     ensures { result ≡ number_at endian from_start from_end record_type.0 body.now }
 {
     match place_within(record_type, body.len(), from_start, from_end) {
-        Some(at) => Some(endian.read_u64(&body[at..])),
+        Some(at) => Some(read_u64(endian, &body[at..])),
         None => None,
     }
 }

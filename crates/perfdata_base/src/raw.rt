@@ -29,41 +29,6 @@ pub enum Endianness {
     BigEndian,
 }
 
-impl Endianness {
-    /// The number of the first two bytes, in this order.
-    pub fn read_u16(self, bytes: &[u8]) -> u16
-        requires { 2 ≤ length bytes.now }
-        ensures { result ≡ number_in self 2 bytes.now }
-    {
-        match self {
-            Endianness::LittleEndian => LittleEndian::read_u16(bytes),
-            Endianness::BigEndian => BigEndian::read_u16(bytes),
-        }
-    }
-
-    /// The number of the first four bytes, in this order.
-    pub fn read_u32(self, bytes: &[u8]) -> u32
-        requires { 4 ≤ length bytes.now }
-        ensures { result ≡ number_in self 4 bytes.now }
-    {
-        match self {
-            Endianness::LittleEndian => LittleEndian::read_u32(bytes),
-            Endianness::BigEndian => BigEndian::read_u32(bytes),
-        }
-    }
-
-    /// The number of the first eight bytes, in this order.
-    pub fn read_u64(self, bytes: &[u8]) -> u64
-        requires { 8 ≤ length bytes.now }
-        ensures { result ≡ number_in self 8 bytes.now }
-    {
-        match self {
-            Endianness::LittleEndian => LittleEndian::read_u64(bytes),
-            Endianness::BigEndian => BigEndian::read_u64(bytes),
-        }
-    }
-}
-
 /// The order of the bytes of a file's numbers, known at compile time.
 pub trait FileOrder: ByteOrder {
     ghost ENDIAN: { Endianness };

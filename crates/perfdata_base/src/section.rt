@@ -1,6 +1,6 @@
 //! An entry that tells where a section stands.
 ghost use Rattle.std.specs.Prelude.{◌≡◌, ◌≤◌, length};
-ghost use Rattle.perfdata_base.specs.Source.{State};
+ghost use Rattle.perfdata_base.specs.Source.{State, PausesOnce};
 ghost use Rattle.perfdata_base.specs.Section.{section_of, ParsesSection};
 
 use crate::raw::FileOrder;
@@ -36,6 +36,7 @@ impl PerfFileSection {
     /// An `UnexpectedEof` error where fewer than 16 bytes come.
     pub fn parse_from<R: Source, T: FileOrder>(source: &mut R) -> Result<PerfFileSection>
         ensures parses { ParsesSection T.number_of (R.seen source.old) result (R.seen source.new) }
+        ensures pauses { PausesOnce (R.seen source.old) result (R.seen source.new) }
         ensures lent { R.lent source.new ≡ R.lent source.old }
     {
         let mut bytes = [0u8; 16];

@@ -5,7 +5,7 @@ ghost use Rattle.std.proofs.lemmas.Bool.{false≢true};
 ghost use Rattle.std.specs.Io.Cursor.{cursor_inner, cursor_position};
 ghost use Rattle.std.specs.IoError.{error_kind};
 ghost use Rattle.std.specs.declared.io.ErrorKind.TheVariants.{Interrupted, UnexpectedEof};
-ghost use Rattle.perfdata_base.specs.Source.{State, told, told_from, untold, counted, CanCount, CountsRead, CountsSeek, IsPlaced, IsSmall, IsWithinReach, Seeks, Reads, Fills, PassesOver, Appends, ReadsAll, SkipsAll};
+ghost use Rattle.perfdata_base.specs.Source.{State, told, told_from, untold, counted, CanCount, CountsRead, CountsSeek, PausesFor, PausesOnce, IsPlaced, IsSmall, IsWithinReach, Seeks, Reads, Fills, PassesOver, Appends, ReadsAll, SkipsAll};
 ghost use Rattle.perfdata_base.specs.declared.source.AppendFault.TheVariants.{Memory, Source as FromSource};
 ghost use Rattle.perfdata_base.specs.Raw.{bytes_of};
 
@@ -259,6 +259,7 @@ fn is_interrupted(error: &Error) -> bool
 /// answered as it came; a part of the place may be filled then.
 pub fn fill<S: Source>(source: &mut S, place: &mut [u8]) -> Result<usize>
     ensures fills { Fills (S.seen source.old) place.new result (S.seen source.new) }
+    ensures pauses { PausesFor (length place.new) (S.seen source.old) result (S.seen source.new) }
     ensures lent { S.lent source.new ≡ S.lent source.old }
 {
     let mut filled = 0;
@@ -289,6 +290,7 @@ const SCRATCH: usize = 512;
 /// Needs no memory. Faults are those of [`fill`]; some of the bytes may have been passed over then.
 pub fn pass_over<S: Source>(source: &mut S, count: u64) -> Result<u64>
     ensures passes { PassesOver (S.seen source.old) count result (S.seen source.new) }
+    ensures pauses { PausesFor count (S.seen source.old) result (S.seen source.new) }
     ensures lent { S.lent source.new ≡ S.lent source.old }
 {
     let mut scratch = [0u8; SCRATCH];
@@ -348,6 +350,7 @@ fn append_piece<S: Source>(
 ) -> std::result::Result<usize, AppendFault>
     requires { count ≤ 4096 }
     ensures appends { 0 < count → Appends (S.seen source.old) buffer.old.items count result buffer.new.items (S.seen source.new) }
+    ensures pauses { PausesFor count (S.seen source.old) result (S.seen source.new) }
     ensures lent { S.lent source.new ≡ S.lent source.old }
 {
     let held = buffer.len();
@@ -369,6 +372,7 @@ pub fn append<S: Source>(
     count: usize,
 ) -> std::result::Result<usize, AppendFault>
     ensures appends { Appends (S.seen source.old) buffer.old.items count result buffer.new.items (S.seen source.new) }
+    ensures pauses { PausesFor count (S.seen source.old) result (S.seen source.new) }
     ensures lent { S.lent source.new ≡ S.lent source.old }
 {
     let mut appended = 0;
@@ -396,6 +400,7 @@ pub fn short() -> Error
 /// of [`fill`].
 pub fn read_all<S: Source>(source: &mut S, place: &mut [u8]) -> Result<()>
     ensures reads { ReadsAll (S.seen source.old) place.new result (S.seen source.new) }
+    ensures pauses { PausesOnce (S.seen source.old) result (S.seen source.new) }
     ensures lent { S.lent source.new ≡ S.lent source.old }
 {
     let came = fill(source, place)?;
@@ -411,6 +416,7 @@ pub fn read_all<S: Source>(source: &mut S, place: &mut [u8]) -> Result<()>
 /// of [`fill`].
 pub fn skip_all<S: Source>(source: &mut S, count: u64) -> Result<()>
     ensures skips { SkipsAll (S.seen source.old) count result (S.seen source.new) }
+    ensures pauses { PausesOnce (S.seen source.old) result (S.seen source.new) }
     ensures lent { S.lent source.new ≡ S.lent source.old }
 {
     let came = pass_over(source, count)?;

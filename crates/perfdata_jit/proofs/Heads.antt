@@ -164,6 +164,7 @@ module _ {R : Type 0} (seen : R → State) where
         stays = keeps_behind old mid new c.bytes c.took still asked.keeps offset file;
         nothing = inr cut.0;
         none = gave_none_later _ _ _ c.took.stays.came c.took.stays.gave asked.none;
+        once = let once = asked.once in let before = c.took.counts.pauses in omega (arith, once, before);
         faults = asked.faults ∙ c.took.counts.faults;
         asks = both_asked old mid new head c still asked.keeps asked.asks cut;
       }

@@ -64,6 +64,7 @@ module _ {R : Type 0} (seen : R → State) where
           asked = λ less. omega (arith, asked.asks.asked less, left.overflow);
           had = λ le. omega (arith, asked.asks.had le, left.overflow);
           fits = λ le. omega (arith, asked.asks.fits le, left.overflow);
+          spared = λ le. left.room ∙ asked.asks.spared le;
           quiet = λ le. left.source ∙ asked.asks.quiet le;
         };
         counts = rw still asked.counts;

@@ -8,6 +8,7 @@ use Rattle.perfdata_base.specs.Raw.{bytes_of}
 use Rattle.perfdata_base.specs.Source.{State, prepend, Gave, Filled}
 use Rattle.perfdata_base.specs.declared.raw.Endianness.{Endianness}
 use Rattle.perfdata_base.specs.declared.raw.Endianness.TheVariants.{LittleEndian, BigEndian}
+use Rattle.perfdata_jit.proofs.Seeks.{same_behind}
 use Rattle.perfdata_jit.proofs.Heads.{size_front, head_front, head_there, held_some, counts_on, flat_is}
 use Rattle.perfdata_jit.proofs.Ranges.{part_taken, prepend-nil}
 use Rattle.perfdata_jit.specs.Answer.{head_in, size_in, IsHeld, IsOneRecord}
@@ -128,6 +129,7 @@ module _ {R : Type 0} (seen : R → State) where
         offset = omega (arith, offset, s.offset, one.0);
         quiet = λ held. let there = held_behind old mid head c held in skipped.quiet there.0 ∙ c.took.asks.quiet there.1;
         counts = counts_on seen (jit_view seen old) (jit_view seen mid) (jit_view seen new) c.took.counts skipped.counts;
+        same = same_behind (jit_view seen old) (jit_view seen mid) (jit_view seen new) s.came s.gave skipped.same;
         overflow = record {
           asked = λ less. omega (arith, c.took.asks.overflow.asked less, skipped.overflow);
           had = λ le. omega (arith, c.took.asks.overflow.had le, skipped.overflow);
@@ -167,6 +169,7 @@ module _ {R : Type 0} (seen : R → State) where
           less = λ less. rw view_is (fills.less (omega (arith, long, less)));
           faults = rw view_is counts.0;
           pauses = λ all. rw view_is (counts.1 (omega (arith, long, all)));
+          once = rw view_is counts.2;
         };
         header = header;
         flat =
@@ -198,4 +201,5 @@ module _ {R : Type 0} (seen : R → State) where
         less = λ less. fills.less (omega (arith, long, less));
         faults = counts.0;
         pauses = λ all. counts.1 (omega (arith, long, all));
+        once = counts.2;
       }

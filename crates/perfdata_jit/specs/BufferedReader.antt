@@ -1,12 +1,12 @@
 -- What a `BufferedReader` holds and is to give, and what its calls do.
-use Rattle.std.specs.Prelude.{◌≡◌, ℕ, ◌<◌, ◌≤◌, ◌⊎◌, Bool, true, false, List, ◌++◌, length, drop, Option, None, Some, Result, Ok, Err}
+use Rattle.std.specs.Prelude.{◌≡◌, ℕ, ◌+◌, ◌<◌, ◌≤◌, ◌⊎◌, IsTrue, Bool, true, false, List, ◌++◌, length, drop, IfSome, Option, None, Some, Result, Ok, Err}
 use Rattle.std.specs.IoError.{error_kind}
 use Rattle.std.specs.declared.io.Error.{Error}
 use Rattle.std.specs.declared.io.ErrorKind.TheVariants.{Other, OutOfMemory}
 use Rattle.perfdata_base.specs.Raw.{bytes_of}
 use Rattle.perfdata_base.specs.declared.raw.RawData.{RawData}
-use Rattle.perfdata_base.specs.Source.{State, prepend, Gave, GaveNone, Failed}
-use Rattle.perfdata_jit.specs.Held.{held_bytes, overflow_len, held_size}
+use Rattle.perfdata_base.specs.Source.{State, all_of, prepend, Gave, GaveNone, Failed}
+use Rattle.perfdata_jit.specs.Held.{held_bytes, overflow_len, overflow_room, held_size}
 use Rattle.perfdata_jit.specs.declared.buffered_reader.BufferedReader.{BufferedReader}
 
 -- the source
@@ -21,6 +21,10 @@ held_in r = held_bytes r.held
 abbrev pub overflow_of : {R : Type 0} → BufferedReader R → ℕ
 overflow_of r = overflow_len r.held
 
+-- for how many bytes the overflow buffer has memory
+abbrev pub room_of : {R : Type 0} → BufferedReader R → ℕ
+room_of r = overflow_room r.held
+
 -- the length of the fixed buffer
 abbrev pub size_of : {R : Type 0} → BufferedReader R → ℕ
 size_of r = held_size r.held
@@ -33,6 +37,11 @@ is_lost r = r.lost
 pub record SameCounts (old new : State) : Type 0 where
   pub faults : new.faults ≡ old.faults
   pub pauses : new.pauses ≡ old.pauses
+
+-- a source that was sought in has the same bytes in all, and a steady one stays so
+pub record SameSource (old new : State) : Type 0 where
+  pub all : all_of new.place ≡ all_of old.place
+  pub steady : IsTrue old.steady → IsTrue new.steady
 
 -- there was no memory for a part of n bytes, which is longer than the fixed buffer
 pub record IsFull (size n : ℕ) (e : Error) : Type 0 where
@@ -64,11 +73,13 @@ module _ {R : Type 0} (seen : R → State) where
     pub lost : is_lost new ≡ is_lost old
 
   -- Where fewer than n bytes were held the source was asked, and the overflow buffer is shorter than n. Otherwise the source
-  -- wasn't, and the overflow buffer is no longer than it was; nor is it where the fixed buffer has room for n bytes.
+  -- wasn't, and the overflow buffer is no longer than it was; nor is it where the fixed buffer has room for n bytes, and then it
+  -- gets no memory.
   pub record AsksOnlyFor (n : ℕ) (old new : BufferedReader R) : Type 0 where
     pub asked : length (held_in old) < n → overflow_of new < n
     pub had : n ≤ length (held_in old) → overflow_of new ≤ overflow_of old
     pub fits : n ≤ size_of old → overflow_of new ≤ overflow_of old
+    pub spared : n ≤ size_of old → room_of new ≡ room_of old
     pub quiet : n ≤ length (held_in old) → source_of new ≡ source_of old
 
   -- n bytes are held, and the source wasn't asked for more once they were, for it has counted nothing; where they were held none came
@@ -79,12 +90,13 @@ module _ {R : Type 0} (seen : R → State) where
     pub whole : n ≤ length (held_in new)
     pub counts : SameCounts (view old) (view new)
 
-  -- fewer are held, and the source gave none, and failed in no read
+  -- fewer are held, and the source gave none once, and failed in no read
   pub record AskedShort (n : ℕ) (old new : BufferedReader R) : Type 0 where
     pub keeps : Keeps old new
     pub asks : AsksOnlyFor n old new
     pub few : length (held_in new) < n
     pub none : GaveNone (view old) (view new)
+    pub once : (view new).pauses ≤ (view old).pauses + 1
     pub faults : (view new).faults ≡ (view old).faults
 
   -- fewer are held, and the source failed, or there was no memory for a part that is longer than the fixed buffer; it gave none in no read
@@ -106,6 +118,7 @@ module _ {R : Type 0} (seen : R → State) where
     pub held : held_in new ≡ drop n (held_in old)
     pub source : source_of new ≡ source_of old
     pub overflow : overflow_of new ≡ overflow_of old
+    pub room : room_of new ≡ room_of old
     pub size : size_of new ≡ size_of old
     pub lost : is_lost new ≡ is_lost old
 
@@ -156,17 +169,20 @@ module _ {R : Type 0} (seen : R → State) where
     pub overflow : overflow_of new ≤ overflow_of old
     pub size : size_of new ≡ size_of old
     pub counts : SameCounts (view old) (view new)
+    pub same : SameSource (view old) (view new)
     pub found : is_lost old ≡ false
     pub finds : is_lost new ≡ false
 
-  -- they aren't held, and nothing was taken
+  -- they aren't held, and nothing was taken; a steady source has fewer to come
   pub record SkippedNone (n : ℕ) (old new : BufferedReader R) : Type 0 where
     pub few : length (held_in old) < n
+    pub lacks : IsTrue (view old).steady → IfSome (view old).bytes (λ xs. length (held_in old) + length xs < n)
     pub holds : held_in new ≡ held_in old
     pub flat : flat_bytes old ≡ flat_bytes new
     pub overflow : overflow_of new ≡ overflow_of old
     pub size : size_of new ≡ size_of old
     pub counts : SameCounts (view old) (view new)
+    pub same : SameSource (view old) (view new)
     pub found : is_lost old ≡ false
     pub finds : is_lost new ≡ false
 
@@ -175,6 +191,7 @@ module _ {R : Type 0} (seen : R → State) where
     pub few : length (held_in old) < n
     pub failed : Failed (view old) (view new)
     pub pauses : (view new).pauses ≡ (view old).pauses
+    pub same : SameSource (view old) (view new)
     pub holds : held_in new ≡ held_in old
     pub overflow : overflow_of new ≡ overflow_of old
     pub size : size_of new ≡ size_of old

@@ -1,5 +1,5 @@
 -- What is held in the overflow buffer and the ring.
-use Rattle.std.specs.Prelude.{◌≡◌, ℕ, ◌<◌, ◌≤◌, List, ◌++◌, take, drop, slice_range, vec_len}
+use Rattle.std.specs.Prelude.{◌≡◌, ℕ, ◌<◌, ◌≤◌, List, ◌++◌, take, drop, slice_range, vec_len, vec_capacity}
 use Rattle.perfdata_jit.specs.Ring.{ring_bytes, ring_size}
 use Rattle.perfdata_jit.specs.declared.held.Held.{Held}
 use Rattle.perfdata_jit.specs.declared.held.Span.{Span}
@@ -12,6 +12,10 @@ held_bytes h = drop h.passed h.overflow.items ++ ring_bytes h.ring
 abbrev pub overflow_len : Held → ℕ
 overflow_len h = vec_len h.overflow
 
+-- for how many bytes it has memory
+abbrev pub overflow_room : Held → ℕ
+overflow_room h = vec_capacity h.overflow
+
 -- the length of the fixed buffer
 abbrev pub held_size : Held → ℕ
 held_size h = ring_size h.ring
@@ -20,6 +24,7 @@ held_size h = ring_size h.ring
 pub record TakesOff (n : ℕ) (old new : Held) : Type 0 where
   pub bytes : held_bytes new ≡ drop n (held_bytes old)
   pub overflow : overflow_len new ≡ overflow_len old
+  pub room : overflow_room new ≡ overflow_room old
   pub size : held_size new ≡ held_size old
 
 -- the span lies within the buffers, and at most two of its pieces have bytes

@@ -6,7 +6,7 @@ use Rattle.std.specs.declared.io.ErrorKind.TheVariants.{InvalidData, OutOfMemory
 use Rattle.perfdata_base.specs.Source.{State, prepend, Gave, GaveNone, Failed}
 use Rattle.perfdata_base.specs.declared.raw.Endianness.{Endianness}
 use Rattle.perfdata_jit.specs.Answer.{head_in, size_in, IsInvalid, IsCut, GivesNothing, IsHeld, IsOneRecord, IsRecordOf}
-use Rattle.perfdata_jit.specs.BufferedReader.{SameCounts, SaysLost, IsFull, held_in, flat_bytes, overflow_of, size_of, source_of, is_lost}
+use Rattle.perfdata_jit.specs.BufferedReader.{SameCounts, SameSource, SaysLost, IsFull, held_in, flat_bytes, overflow_of, size_of, source_of, is_lost}
 use Rattle.perfdata_jit.specs.JitHeader.{IsJitHeader, IsNoJitHeader}
 use Rattle.perfdata_jit.specs.declared.error.JitDumpError.{JitDumpError}
 use Rattle.perfdata_jit.specs.declared.error.JitDumpError.TheVariants.{Io}
@@ -124,12 +124,13 @@ module _ {R : Type 0} (seen : R → State) where
     pub is : told ≡ pick (head_in (jit_order old) (jit_held new))
     pub counts : SameCounts (jit_view old) (jit_view new)
 
-  -- the next head isn't there yet: the source gave none, and failed in no read
+  -- the next head isn't there yet: the source gave none once, and failed in no read
   pub record LacksHead (old new : JitDumpReader R) : Type 0 where
     pub stays : Stays old new
     pub asks : AsksHead old new
     pub few : length (jit_held new) < 16
     pub none : GaveNone (jit_view old) (jit_view new)
+    pub once : (jit_view new).pauses ≤ (jit_view old).pauses + 1
     pub faults : (jit_view new).faults ≡ (jit_view old).faults
 
   -- the next head isn't there: the source failed, or there was no memory for a head longer than the fixed buffer; it gave none in no read
@@ -162,11 +163,12 @@ module _ {R : Type 0} (seen : R → State) where
     pub found : jit_lost old ≡ false
     pub finds : jit_lost new ≡ false
 
-  -- nothing is there whole, and the source gave none, and failed in no read
+  -- nothing is there whole, and the source gave none once, and failed in no read
   pub record Waits (old new : JitDumpReader R) : Type 0 where
     pub stays : Stays old new
     pub nothing : GivesNothing (jit_order old) (jit_offset old) (jit_held new)
     pub none : GaveNone (jit_view old) (jit_view new)
+    pub once : (jit_view new).pauses ≤ (jit_view old).pauses + 1
     pub faults : (jit_view new).faults ≡ (jit_view old).faults
     pub asks : AsksRecord (size_in (jit_order old) (jit_held new)) old new
 
@@ -204,6 +206,7 @@ module _ {R : Type 0} (seen : R → State) where
     pub offset : jit_offset new ≡ jit_offset old + length bytes
     pub quiet : IsHeld (jit_order old) (jit_offset old) (jit_held old) → jit_source new ≡ jit_source old
     pub counts : SameCounts (jit_view old) (jit_view new)
+    pub same : SameSource (jit_view old) (jit_view new)
     pub overflow : AsksFor (jit_size old) 16 16 (length (jit_held old)) (jit_overflow old) (jit_overflow new)
     pub file : SameFile old new
     pub found : jit_lost old ≡ false
@@ -215,6 +218,7 @@ module _ {R : Type 0} (seen : R → State) where
     pub offset : jit_offset new ≡ jit_offset old
     pub cut : IsCut (jit_order old) (jit_offset old) (jit_held new)
     pub counts : SameCounts (jit_view old) (jit_view new)
+    pub same : SameSource (jit_view old) (jit_view new)
     pub overflow : AsksFor (jit_size old) 16 16 (length (jit_held old)) (jit_overflow old) (jit_overflow new)
     pub file : SameFile old new
     pub found : jit_lost old ≡ false
@@ -226,6 +230,7 @@ module _ {R : Type 0} (seen : R → State) where
     pub offset : jit_offset new ≡ jit_offset old
     pub failed : Failed (jit_view old) (jit_view new)
     pub pauses : (jit_view new).pauses ≡ (jit_view old).pauses
+    pub same : SameSource (jit_view old) (jit_view new)
     pub overflow : AsksFor (jit_size old) 16 16 (length (jit_held old)) (jit_overflow old) (jit_overflow new)
     pub file : SameFile old new
     pub found : jit_lost old ≡ false
@@ -238,13 +243,14 @@ module _ {R : Type 0} (seen : R → State) where
   SkipsRecord old (Err e) new = (RefusesSize old e new ⊎ RefusesHead old e new) ⊎ (LosesPlace old new ⊎ SaysLost (jit_lost old) old e new)
 
   -- A front of the source's bytes was read, shorter than the buffer only where the source gave none. It failed in no read, and a whole
-  -- buffer came without an empty answer.
+  -- buffer came without an empty answer, a shorter front with one at most.
   pub record ReadsFront (source : R) (size : ℕ) (front : List ℕ) (left : State) : Type 0 where
     pub gave : Gave (seen source) front left
     pub within : length front ≤ size
     pub less : length front < size → GaveNone (seen source) left
     pub faults : left.faults ≡ (seen source).faults
     pub pauses : length front ≡ size → left.pauses ≡ (seen source).pauses
+    pub once : left.pauses ≤ (seen source).pauses + 1
 
   -- the file was opened: its header is that of the source's first bytes, and the flat bytes are those behind it
   pub record Opened (source : R) (size : ℕ) (j : JitDumpReader R) : Type 0 where

@@ -35,7 +35,7 @@ pub(crate) struct Span {
 
 impl Held {
     ghost use Rattle.perfdata_jit.specs.contracts.held.Held.{the_row};
-    ghost use Rattle.perfdata_jit.specs.Held.{TakesOff, LiesIn, bytes_at, held_bytes, overflow_len, held_size};
+    ghost use Rattle.perfdata_jit.specs.Held.{TakesOff, LiesIn, bytes_at, held_bytes, overflow_len, overflow_room, held_size};
     ghost use Rattle.perfdata_jit.specs.Ring.{ring_bytes, ring_len, ring_size};
 
     pub(crate) fn new(ring: Ring, overflow: Vec<u8>) -> Held
@@ -64,6 +64,7 @@ impl Held {
         ensures counts { CountsRead (R.seen source.old) result (R.seen source.new) }
         ensures lent { R.lent source.new ≡ R.lent source.old }
         ensures overflow { overflow_len self.new ≡ overflow_len self.old }
+        ensures room { overflow_room self.new ≡ overflow_room self.old }
         ensures passed { self.new.passed ≡ self.old.passed }
         ensures size { held_size self.new ≡ held_size self.old }
     {
@@ -75,13 +76,16 @@ impl Held {
         ensures bytes { held_bytes self.new ≡ held_bytes self.old }
         ensures overflow { overflow_len self.new ≤ length (held_bytes self.old) }
         ensures shorter { overflow_len self.new ≤ overflow_len self.old }
+        ensures room { overflow_room self.new ≡ overflow_room self.old }
         ensures passed { self.new.passed ≡ 0 }
         ensures size { held_size self.new ≡ held_size self.old }
     {
         let len = self.overflow.len();
-        self.overflow.copy_within(self.passed..len, 0);
-        self.overflow.truncate(len - self.passed);
-        self.passed = 0;
+        if self.passed > 0 {
+            self.overflow.copy_within(self.passed..len, 0);
+            self.overflow.truncate(len - self.passed);
+            self.passed = 0;
+        }
     }
 
     // Moves the ring's bytes to the overflow buffer's end. The ring begins again at its front.
@@ -109,6 +113,8 @@ impl Held {
         ensures fits { length (held_bytes self.old) < held_size self.old → overflow_len self.new ≤ overflow_len self.old }
         ensures room { OnOk result (ring_len self.new.ring < held_size self.new) }
         ensures full { OnErr result (held_size self.old ≤ length (held_bytes self.old)) }
+        ensures still { ring_len self.old.ring < held_size self.old → self.new ≡ self.old }
+        ensures spared { length (held_bytes self.old) < held_size self.old → overflow_room self.new ≡ overflow_room self.old }
         ensures passed { self.new.passed ≡ 0 }
         ensures size { held_size self.new ≡ held_size self.old }
     {

@@ -13,6 +13,7 @@ use crate::error::JitDumpError;
 use crate::header::{JitDumpHeader, order_of_magic};
 use crate::read_exact::ReadExactOrUntilEof;
 use crate::record::{JitDumpRawRecord, JitDumpRecordHeader, JitDumpRecordType};
+use perfdata_base::order::{read_u32, read_u64};
 use perfdata_base::raw::{Endianness, RawData};
 use perfdata_base::source::{PlacedSource, Source};
 use std::alloc::Global;
@@ -60,9 +61,9 @@ fn head_of(endian: Endianness, bytes: &[u8; HEAD]) -> JitDumpRecordHeader
     ensures { result ≡ head_in endian bytes.now }
 {
     JitDumpRecordHeader {
-        record_type: JitDumpRecordType(endian.read_u32(bytes)),
-        total_size: endian.read_u32(&bytes[4..]),
-        timestamp: endian.read_u64(&bytes[8..]),
+        record_type: JitDumpRecordType(read_u32(endian, bytes)),
+        total_size: read_u32(endian, &bytes[4..]),
+        timestamp: read_u64(endian, &bytes[8..]),
     }
 }
 

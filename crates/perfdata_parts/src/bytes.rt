@@ -1,5 +1,6 @@
 //! Bytes of a promised length.
 ghost use Rattle.std.specs.Prelude.{◌≡◌};
+ghost use Rattle.perfdata_base.specs.Source.{PausesOnce};
 ghost use Rattle.perfdata_parts.specs.Part.{ReadsBytes, TellsFault, error_of};
 
 use crate::error::Error as FileError;
@@ -17,6 +18,7 @@ pub fn read_bytes<R: Source>(
     count: usize,
 ) -> Result<Vec<u8>, AppendFault>
     ensures reads { ReadsBytes (R.seen source.old) count result (R.seen source.new) }
+    ensures pauses { PausesOnce (R.seen source.old) result (R.seen source.new) }
     ensures lent { R.lent source.new ≡ R.lent source.old }
 {
     let mut bytes = Vec::new(alloc);

@@ -1,7 +1,7 @@
 //! The sections that tell attributes, and those of texts and numbers.
 ghost use Rattle.std.specs.Prelude.{◌≡◌, string_bytes};
 ghost use Rattle.std.specs.Option.{option_map};
-ghost use Rattle.perfdata_base.specs.Source.{State};
+ghost use Rattle.perfdata_base.specs.Source.{State, PausesOnce};
 ghost use Rattle.perfdata_parts.specs.AttributeDescription.{attr_in, name_in, ids_in};
 ghost use Rattle.perfdata_parts.specs.Attributes.{ReadsFrame, ReadsFrameAt, ReadsAttrSection};
 ghost use Rattle.perfdata_parts.specs.EventDesc.{ReadsEventDesc};
@@ -52,6 +52,7 @@ fn read_frame<R: Source, T: FileOrder>(
     attr_size: u64,
 ) -> Result<PerfEventAttr, Error>
     ensures reads { ReadsFrame T.number_of attr_size (R.seen source.old) result (R.seen source.new) }
+    ensures pauses { PausesOnce (R.seen source.old) result (R.seen source.new) }
     ensures lent { R.lent source.new ≡ R.lent source.old }
 {
     let mut bytes = [0u8; KNOWN];
@@ -75,6 +76,7 @@ fn read_frame_at<C: PlacedSource, T: FileOrder>(
     attr_size: u64,
 ) -> Result<PerfEventAttr, Error>
     ensures reads { ReadsFrameAt T.number_of attr_size (C.seen source.old) at result (C.seen source.new) }
+    ensures pauses { PausesOnce (C.seen source.old) result (C.seen source.new) }
     ensures lent { C.lent source.new ≡ C.lent source.old }
 {
     match source.seek_to(SeekFrom::Start(at)) {
@@ -145,6 +147,7 @@ impl AttributeDescription {
         attr_size: u64,
     ) -> Result<Vec<AttributeDescription>, Error>
         ensures reads { ReadsAttrSection T.number_of attr_size section.now (C.seen c.old) result (C.seen c.new) }
+        ensures pauses { PausesOnce (C.seen c.old) result (C.seen c.new) }
         ensures lent { C.lent c.new ≡ C.lent c.old }
     {
         if attr_size == 0 {
@@ -199,6 +202,7 @@ impl AttributeDescription {
         cursor: &mut C,
     ) -> Result<Vec<AttributeDescription>, Error>
         ensures reads { ReadsEventDesc T.number_of (C.seen cursor.old) result (C.seen cursor.new) }
+        ensures pauses { PausesOnce (C.seen cursor.old) result (C.seen cursor.new) }
         ensures lent { C.lent cursor.new ≡ C.lent cursor.old }
     {
         read_event_desc::<C, T>(alloc, cursor)
@@ -229,6 +233,7 @@ impl AttributeDescription {
         attr_size: u64,
     ) -> Result<Vec<AttributeDescription>, Error>
         ensures reads { ReadsEventTypes T.number_of attr_size section.now (C.seen cursor.old) result (C.seen cursor.new) }
+        ensures pauses { PausesOnce (C.seen cursor.old) result (C.seen cursor.new) }
         ensures lent { C.lent cursor.new ≡ C.lent cursor.old }
     {
         read_described::<C, T>(alloc, cursor, section, attr_size, &[])
@@ -265,6 +270,7 @@ impl AttributeDescription {
         types: &[SimplePerfEventType],
     ) -> Result<Vec<AttributeDescription>, Error>
         ensures reads { ReadsSimpleperfAttrs T.number_of attr_size section.now types.now (C.seen cursor.old) result (C.seen cursor.new) }
+        ensures pauses { PausesOnce (C.seen cursor.old) result (C.seen cursor.new) }
         ensures lent { C.lent cursor.new ≡ C.lent cursor.old }
     {
         read_simpleperf_attrs::<C, T>(alloc, cursor, section, attr_size, types)

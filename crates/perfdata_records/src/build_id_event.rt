@@ -1,6 +1,6 @@
 //! An entry of the section BUILD_ID.
 ghost use Rattle.std.specs.Prelude.{◌≡◌, length};
-ghost use Rattle.perfdata_base.specs.Source.{State};
+ghost use Rattle.perfdata_base.specs.Source.{State, PausesOnce};
 ghost use Rattle.perfdata_records.specs.BuildId.{IsTrimmed, IsIdIn, ReadsEntry, ParsesEntry};
 ghost use Rattle.perfdata_parts.specs.Strings.{before_nul};
 
@@ -81,6 +81,7 @@ impl BuildIdEvent {
         source: &mut R,
     ) -> Result<BuildIdEvent, AppendFault>
         ensures reads { ReadsEntry T.number_of (R.seen source.old) result (R.seen source.new) }
+        ensures pauses { PausesOnce (R.seen source.old) result (R.seen source.new) }
         ensures lent { R.lent source.new ≡ R.lent source.old }
     {
         let mut bytes = [0u8; BYTES_BEFORE_PATH];

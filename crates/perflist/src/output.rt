@@ -1,5 +1,5 @@
 //! Writing to a writer that may refuse: lines, a buffer that counts them, and the program's last word.
-ghost use Rattle.std.specs.Prelude.{◌≡◌, ◌+◌, ◌-◌, ◌^◌, ◌<◌, ◌≤◌, ◌++◌, [], length, take, drop, vec_len, vec_capacity, IfOk, OnOk, OnErr, IfErr};
+ghost use Rattle.std.specs.Prelude.{◌≡◌, ◌≢◌, ◌+◌, ◌-◌, ◌^◌, ◌<◌, ◌≤◌, ◌++◌, [], length, take, drop, vec_len, vec_capacity, IfOk, OnOk, OnErr, IfErr};
 ghost use Rattle.std.specs.Io.{WritesAtMost};
 ghost use Rattle.std.specs.Io.KnownBytes.{Appends, Keeps, WriteAppends};
 ghost use Rattle.perflist.specs.Output.{Writes, Finishes, newlines};
@@ -134,6 +134,7 @@ impl<W: Write> LineBuffer<W> {
     fn hand_on(&mut self) -> io::Result<()>
         ensures passes { Passes W.contents self.old [] self.new }
         ensures empty { OnOk result (held self.new ≡ []) }
+        ensures left { OnErr result (held self.new ≢ []) }
         ensures capacity { vec_capacity self.new.held ≡ vec_capacity self.old.held }
     {
         let (taken, written) = write_front(&mut self.inner, self.held.as_slice());
@@ -149,6 +150,7 @@ impl<W: Write> LineBuffer<W> {
     fn write_over(&mut self, bytes: &[u8]) -> io::Result<usize>
         ensures bound { WritesAtMost result bytes.now }
         ensures takes { Takes W.contents self.old bytes.now result self.new }
+        ensures left { OnErr result (held self.new ≢ []) }
         ensures progress { IfOk result (λ n. 0 < length bytes.now → 0 < n) }
     {
         match self.hand_on() {
@@ -171,6 +173,7 @@ impl<W: Write> Write for LineBuffer<W> {
         ensures bound { WritesAtMost result bytes.now }
         ensures bytes { WriteAppends (all_contents W.contents self.old) (all_contents W.contents self.new) result bytes.now }
         ensures takes { Takes W.contents self.old bytes.now result self.new }
+        ensures left { OnErr result (held self.new ≢ []) }
         ensures progress { IfOk result (λ n. 0 < length bytes.now → 0 < n) }
         ensures fits { length bytes.now ≤ room self.old → result ≡ Ok (length bytes.now) }
     {

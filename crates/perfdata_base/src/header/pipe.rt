@@ -1,8 +1,9 @@
 //! The header of a pipe.
-ghost use Rattle.std.specs.Prelude.{◌≡◌, length};
+ghost use Rattle.std.specs.Prelude.{◌≡◌, ◌+◌, ◌≤◌, length};
 ghost use Rattle.perfdata_base.specs.Source.{State};
-ghost use Rattle.perfdata_base.specs.PipeHeader.{pipe_header_of, ParsesPipeHeader, ParsesPipeFront};
+ghost use Rattle.perfdata_base.specs.PipeHeader.{pipe_header_of, ParsesPipeHeader, ParsesPipeFront, PausesFront};
 
+use crate::order::read_u64;
 use crate::raw::Endianness;
 use crate::source::{Source, pass_over, read_all};
 use std::io::Result;
@@ -33,7 +34,7 @@ fn parse_header(bytes: &[u8]) -> PerfPipeHeader
     };
     PerfPipeHeader {
         magic,
-        size: order.read_u64(&bytes[8..]),
+        size: read_u64(order, &bytes[8..]),
     }
 }
 
@@ -45,6 +46,7 @@ impl PerfPipeHeader {
     /// source's own where it fails.
     pub fn parse_front<R: Source>(source: &mut R) -> Result<(PerfPipeHeader, bool)>
         ensures parses { ParsesPipeFront (R.seen source.old) result (R.seen source.new) }
+        ensures pauses { PausesFront (R.seen source.old) result (R.seen source.new) }
         ensures lent { R.lent source.new ≡ R.lent source.old }
     {
         let mut bytes = [0u8; KNOWN];
@@ -65,6 +67,7 @@ impl PerfPipeHeader {
     /// As by `parse_front`; it is no fault where some of the bytes behind the first 16 are missing.
     pub fn parse_from<R: Source>(source: &mut R) -> Result<PerfPipeHeader>
         ensures parses { ParsesPipeHeader (R.seen source.old) result (R.seen source.new) }
+        ensures pauses { (R.seen source.new).pauses ≤ (R.seen source.old).pauses + 1 }
         ensures lent { R.lent source.new ≡ R.lent source.old }
     {
         match PerfPipeHeader::parse_front(source) {

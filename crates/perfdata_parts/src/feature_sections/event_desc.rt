@@ -1,5 +1,6 @@
 //! The section EVENT_DESC: attributes with names and ids.
 ghost use Rattle.std.specs.Prelude.{◌≡◌};
+ghost use Rattle.perfdata_base.specs.Source.{PausesOnce};
 ghost use Rattle.perfdata_parts.specs.EventDesc.{ReadsTail, PassesFrame, ReadsEvent, ReadsEvents, ReadsEventDesc};
 
 use crate::bytes::as_error;
@@ -23,6 +24,7 @@ pub(crate) struct Tail {
 // What stands behind a frame, from the front of a source: a count of four bytes, the name, and so many ids.
 fn read_tail<R: Source, T: FileOrder>(alloc: Global, source: &mut R) -> Result<Tail, AppendFault>
     ensures reads { ReadsTail T.number_of (R.seen source.old) result (R.seen source.new) }
+    ensures pauses { PausesOnce (R.seen source.old) result (R.seen source.new) }
     ensures lent { R.lent source.new ≡ R.lent source.old }
 {
     let mut count = [0u8; 4];
@@ -47,6 +49,7 @@ fn pass_frame<C: PlacedSource, T: FileOrder>(
     attr_size: u32,
 ) -> Result<PerfEventAttr, Error>
     ensures passes { PassesFrame T.number_of attr_size (C.seen source.old) result (C.seen source.new) }
+    ensures pauses { PausesOnce (C.seen source.old) result (C.seen source.new) }
     ensures lent { C.lent source.new ≡ C.lent source.old }
 {
     let attr = match read_frame::<C, T>(source, attr_size as u64) {
@@ -70,6 +73,7 @@ fn read_event<C: PlacedSource, T: FileOrder>(
     attr_size: u32,
 ) -> Result<AttributeDescription, Error>
     ensures reads { ReadsEvent T.number_of attr_size (C.seen source.old) result (C.seen source.new) }
+    ensures pauses { PausesOnce (C.seen source.old) result (C.seen source.new) }
     ensures lent { C.lent source.new ≡ C.lent source.old }
 {
     let attr = match pass_frame::<C, T>(source, attr_size) {
@@ -94,6 +98,7 @@ fn read_events<C: PlacedSource, T: FileOrder>(
     count: u32,
 ) -> Result<Vec<AttributeDescription>, Error>
     ensures reads { ReadsEvents T.number_of attr_size count (C.seen source.old) result (C.seen source.new) }
+    ensures pauses { PausesOnce (C.seen source.old) result (C.seen source.new) }
     ensures lent { C.lent source.new ≡ C.lent source.old }
 {
     let mut all = Vec::new(alloc);
@@ -116,6 +121,7 @@ pub(crate) fn read_event_desc<C: PlacedSource, T: FileOrder>(
     source: &mut C,
 ) -> Result<Vec<AttributeDescription>, Error>
     ensures reads { ReadsEventDesc T.number_of (C.seen source.old) result (C.seen source.new) }
+    ensures pauses { PausesOnce (C.seen source.old) result (C.seen source.new) }
     ensures lent { C.lent source.new ≡ C.lent source.old }
 {
     let mut head = [0u8; 8];

@@ -1,5 +1,6 @@
 //! Identifiers, of eight bytes each.
 ghost use Rattle.std.specs.Prelude.{◌≡◌};
+ghost use Rattle.perfdata_base.specs.Source.{PausesOnce};
 ghost use Rattle.perfdata_parts.specs.EventIds.{ReadsIds};
 
 use perfdata_base::raw::FileOrder;
@@ -13,6 +14,7 @@ pub(crate) fn read_ids<R: Source, T: FileOrder>(
     count: u64,
 ) -> Result<Vec<u64>, AppendFault>
     ensures reads { ReadsIds T.number_of count (R.seen source.old) result (R.seen source.new) }
+    ensures pauses { PausesOnce (R.seen source.old) result (R.seen source.new) }
     ensures lent { R.lent source.new ≡ R.lent source.old }
 {
     let mut ids = Vec::new(alloc);

@@ -1,5 +1,6 @@
 //! The section of event types: attributes, and where their ids stand.
 ghost use Rattle.std.specs.Prelude.{◌≡◌, ◌+◌, ◌^◌, ◌<◌};
+ghost use Rattle.perfdata_base.specs.Source.{PausesOnce};
 ghost use Rattle.perfdata_parts.specs.EventTypes.{name_at, TellsName, ReadsSectionAt, ReadsEntryAt, ReadsEntries, ReadsIdsOf, ReadsGivenOf, ReadsDescribed};
 
 use crate::bytes::as_error;
@@ -30,6 +31,7 @@ fn read_section_at<C: PlacedSource, T: FileOrder>(
     at: u64,
 ) -> Result<PerfFileSection, Error>
     ensures reads { ReadsSectionAt T.number_of (C.seen source.old) at result (C.seen source.new) }
+    ensures pauses { PausesOnce (C.seen source.old) result (C.seen source.new) }
     ensures lent { C.lent source.new ≡ C.lent source.old }
 {
     match source.seek_to(SeekFrom::Start(at)) {
@@ -50,6 +52,7 @@ fn read_entry_at<C: PlacedSource, T: FileOrder>(
 ) -> Result<Entry, Error>
     requires { at + attr_size < 2 ^ 64 }
     ensures reads { ReadsEntryAt T.number_of attr_size (C.seen source.old) at result (C.seen source.new) }
+    ensures pauses { PausesOnce (C.seen source.old) result (C.seen source.new) }
     ensures lent { C.lent source.new ≡ C.lent source.old }
 {
     let attr = match read_frame_at::<C, T>(source, at, attr_size) {
@@ -72,6 +75,7 @@ fn read_entries<C: PlacedSource, T: FileOrder>(
     requires near { section.now.offset + section.now.size < 2 ^ 64 }
     requires step { attr_size + 16 < 2 ^ 64 }
     ensures reads { ReadsEntries T.number_of attr_size (C.seen source.old) section.now result (C.seen source.new) }
+    ensures pauses { PausesOnce (C.seen source.old) result (C.seen source.new) }
     ensures lent { C.lent source.new ≡ C.lent source.old }
 {
     let end = section.offset + section.size;
@@ -99,6 +103,7 @@ fn read_ids_of<C: PlacedSource, T: FileOrder>(
     section: &PerfFileSection,
 ) -> Result<Vec<u64>, Error>
     ensures reads { ReadsIdsOf T.number_of (C.seen source.old) section.now result (C.seen source.new) }
+    ensures pauses { PausesOnce (C.seen source.old) result (C.seen source.new) }
     ensures lent { C.lent source.new ≡ C.lent source.old }
 {
     if section.offset > u64::MAX - section.size {
@@ -135,6 +140,7 @@ fn read_given<C: PlacedSource, T: FileOrder>(
     types: &[SimplePerfEventType],
 ) -> Result<Vec<AttributeDescription>, Error>
     ensures reads { ReadsGivenOf T.number_of (name_at types.now) (C.seen source.old) entries.now result (C.seen source.new) }
+    ensures pauses { PausesOnce (C.seen source.old) result (C.seen source.new) }
     ensures lent { C.lent source.new ≡ C.lent source.old }
 {
     let mut all = Vec::new(alloc);
@@ -170,6 +176,7 @@ pub(crate) fn read_described<C: PlacedSource, T: FileOrder>(
     types: &[SimplePerfEventType],
 ) -> Result<Vec<AttributeDescription>, Error>
     ensures reads { ReadsDescribed T.number_of attr_size (name_at types.now) section.now (C.seen source.old) result (C.seen source.new) }
+    ensures pauses { PausesOnce (C.seen source.old) result (C.seen source.new) }
     ensures lent { C.lent source.new ≡ C.lent source.old }
 {
     if attr_size > u64::MAX - IDS_SECTION || section.offset > u64::MAX - section.size {

@@ -2,7 +2,7 @@
 ghost use Rattle.std.specs.Prelude.{◌≡◌};
 ghost use Rattle.std.specs.IoError.{error_kind};
 ghost use Rattle.std.specs.declared.io.ErrorKind.TheVariants.{InvalidData};
-ghost use Rattle.perfdata_base.specs.Source.{State};
+ghost use Rattle.perfdata_base.specs.Source.{State, PausesOnce};
 ghost use Rattle.perfdata_parts.specs.Part.{ParsesPart};
 ghost use Rattle.perfdata_parts.specs.NumberSections.{nr_cpus_of, sample_times_of, compression_of, ParsesClock};
 
@@ -28,6 +28,7 @@ impl NrCpus {
     /// An `UnexpectedEof` error where fewer than 8 bytes come.
     pub fn parse_from<R: Source, T: FileOrder>(source: &mut R) -> Result<NrCpus>
         ensures parses { ParsesPart 8 (nr_cpus_of T.number_of) (R.seen source.old) result (R.seen source.new) }
+        ensures pauses { PausesOnce (R.seen source.old) result (R.seen source.new) }
         ensures lent { R.lent source.new ≡ R.lent source.old }
     {
         let mut bytes = [0u8; NrCpus::STRUCT_SIZE];
@@ -64,6 +65,7 @@ impl SampleTimeRange {
     /// An `UnexpectedEof` error where fewer than 16 bytes come.
     pub fn parse_from<R: Source, T: FileOrder>(source: &mut R) -> Result<SampleTimeRange>
         ensures parses { ParsesPart 16 (sample_times_of T.number_of) (R.seen source.old) result (R.seen source.new) }
+        ensures pauses { PausesOnce (R.seen source.old) result (R.seen source.new) }
         ensures lent { R.lent source.new ≡ R.lent source.old }
     {
         let mut bytes = [0u8; SampleTimeRange::STRUCT_SIZE];
@@ -110,6 +112,7 @@ impl CompressionInfo {
     /// An `UnexpectedEof` error where fewer than 20 bytes come.
     pub fn parse_from<R: Source, T: FileOrder>(source: &mut R) -> Result<CompressionInfo>
         ensures parses { ParsesPart 20 (compression_of T.number_of) (R.seen source.old) result (R.seen source.new) }
+        ensures pauses { PausesOnce (R.seen source.old) result (R.seen source.new) }
         ensures lent { R.lent source.new ≡ R.lent source.old }
     {
         let mut bytes = [0u8; CompressionInfo::STRUCT_SIZE];
@@ -159,6 +162,7 @@ impl ClockData {
     /// than 24 bytes come.
     pub fn parse_from<R: Source, T: FileOrder>(source: &mut R) -> Result<ClockData>
         ensures parses { ParsesClock T.number_of (R.seen source.old) result (R.seen source.new) }
+        ensures pauses { PausesOnce (R.seen source.old) result (R.seen source.new) }
         ensures lent { R.lent source.new ≡ R.lent source.old }
     {
         let mut version = [0u8; 4];

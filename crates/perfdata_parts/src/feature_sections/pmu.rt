@@ -1,7 +1,7 @@
 //! The section PMU_MAPPINGS.
 ghost use Rattle.std.specs.Prelude.{◌≡◌, string_bytes};
 ghost use Rattle.std.specs.Option.{option_map};
-ghost use Rattle.perfdata_base.specs.Source.{State};
+ghost use Rattle.perfdata_base.specs.Source.{State, PausesOnce};
 ghost use Rattle.perfdata_parts.specs.Pmu.{KeepsUnit, ReadsUnit, ReadsUnits, ReadsPmus, ParsesPmus};
 
 use crate::bytes::as_io;
@@ -22,6 +22,7 @@ fn read_unit<R: Source, T: FileOrder>(
     source: &mut R,
 ) -> Result<(u32, Option<String>), AppendFault>
     ensures reads { ReadsUnit T.number_of (R.seen source.old) result (R.seen source.new) }
+    ensures pauses { PausesOnce (R.seen source.old) result (R.seen source.new) }
     ensures lent { R.lent source.new ≡ R.lent source.old }
 {
     let mut number = [0u8; 4];
@@ -59,6 +60,7 @@ fn read_units<R: Source, T: FileOrder>(
     count: u32,
 ) -> Result<IndexMap<u32, String>, AppendFault>
     ensures reads { ReadsUnits T.number_of count (R.seen source.old) result (R.seen source.new) }
+    ensures pauses { PausesOnce (R.seen source.old) result (R.seen source.new) }
     ensures lent { R.lent source.new ≡ R.lent source.old }
 {
     let mut names = IndexMap::new(alloc);
@@ -85,6 +87,7 @@ impl PmuMappings {
         source: &mut R,
     ) -> Result<PmuMappings, AppendFault>
         ensures reads { ReadsPmus T.number_of (R.seen source.old) result (R.seen source.new) }
+        ensures pauses { PausesOnce (R.seen source.old) result (R.seen source.new) }
         ensures lent { R.lent source.new ≡ R.lent source.old }
     {
         let mut count = [0u8; 4];

@@ -1,5 +1,6 @@
 //! The attribute section of a file by simpleperf.
 ghost use Rattle.std.specs.Prelude.{◌≡◌};
+ghost use Rattle.perfdata_base.specs.Source.{PausesOnce};
 ghost use Rattle.perfdata_parts.specs.SimpleperfAttrs.{ReadsSimpleperfAttrs};
 
 use crate::error::{Error, ReadError};
@@ -20,6 +21,7 @@ pub(crate) fn read_simpleperf_attrs<C: PlacedSource, T: FileOrder>(
     types: &[SimplePerfEventType],
 ) -> Result<Vec<AttributeDescription>, Error>
     ensures reads { ReadsSimpleperfAttrs T.number_of attr_size section.now types.now (C.seen source.old) result (C.seen source.new) }
+    ensures pauses { PausesOnce (C.seen source.old) result (C.seen source.new) }
     ensures lent { C.lent source.new ≡ C.lent source.old }
 {
     match attr_size.checked_sub(PerfFileSection::STRUCT_SIZE) {

@@ -1,7 +1,7 @@
 //! Texts and lists of texts.
 ghost use Rattle.std.specs.Prelude.{◌≡◌, string_bytes};
 ghost use Rattle.std.specs.Option.{option_map};
-ghost use Rattle.perfdata_base.specs.Source.{State};
+ghost use Rattle.perfdata_base.specs.Source.{State, PausesOnce};
 ghost use Rattle.perfdata_parts.specs.Strings.{before_nul, utf8_text, ReadsString, ParsesString};
 
 use crate::bytes::{as_io, read_bytes};
@@ -47,6 +47,7 @@ impl HeaderString {
         source: &mut R,
     ) -> Result<Option<String>, AppendFault>
         ensures reads { ReadsString T.number_of (R.seen source.old) result (R.seen source.new) }
+        ensures pauses { PausesOnce (R.seen source.old) result (R.seen source.new) }
         ensures lent { R.lent source.new ≡ R.lent source.old }
     {
         let mut length = [0u8; 4];

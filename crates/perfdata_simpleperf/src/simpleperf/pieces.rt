@@ -2,6 +2,7 @@
 ghost use Rattle.std.specs.Prelude.{IfOk, IfErr};
 ghost use Rattle.perfdata_simpleperf.specs.Pieces.{PieceAt, LacksPiece};
 
+use perfdata_base::order::read_u32;
 use perfdata_base::raw::Endianness;
 use perfdata_parts::error::{Error, short};
 
@@ -13,7 +14,7 @@ pub(crate) fn piece_at(endian: Endianness, bytes: &[u8]) -> Result<(&[u8], &[u8]
     if bytes.len() < 4 {
         return Err(short());
     }
-    let size = endian.read_u32(bytes) as usize;
+    let size = read_u32(endian, bytes) as usize;
     let (_, rest) = bytes.split_at(4);
     if rest.len() < size {
         return Err(Error::FeatureSectionTooSmall);

@@ -1,5 +1,6 @@
 //! Bytes in one piece and in two: each call answers the same wherever they are split.
 use byteorder::{BigEndian, LittleEndian};
+use perfdata_base::order::{read_u16, read_u32, read_u64};
 use perfdata_base::raw::{Endianness, RawData};
 use std::alloc::{AllocError, Global};
 use std::io;
@@ -166,9 +167,9 @@ fn strings_end_at_nul(rt: HostRuntime) {
 fn in_order(order: Endianness) -> (u16, u32, u64) {
     let bytes = [1, 2, 3, 4, 5, 6, 7, 8];
     (
-        order.read_u16(&bytes),
-        order.read_u32(&bytes),
-        order.read_u64(&bytes),
+        read_u16(order, &bytes),
+        read_u32(order, &bytes),
+        read_u64(order, &bytes),
     )
 }
 

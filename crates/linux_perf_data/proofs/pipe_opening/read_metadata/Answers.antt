@@ -3,12 +3,13 @@ use Rattle.linux_perf_data.proofs.PipeRuns.{so_none, so_more, so_ended, so_refus
 use Rattle.linux_perf_data.proofs.pipe_opening.read_metadata.Goals as goal
 
 pub records-init : goal.records-init
-records-init g c = record { so = so_none c.args.endian (g.R.Source.seen c.args.source.now) c.new-metadata.result (c.new-metadata.ensures c.args.endian); lent = refl }
+records-init g c = record { so = so_none c.args.endian (g.R.Source.seen c.args.source.now) c.new-metadata.result (c.new-metadata.ensures c.args.endian); pauses = refl; lent = refl }
 
 pub records-preserved : goal.records-preserved
 records-preserved g c =
     let took = rw c.in-Ok-Taken.field-0-is at c.in-Ok-Taken.ensures.takes in record {
       so = so_more c.args.endian (g.R.Source.seen c.args.source.now) (g.R.Source.seen c.records.source) (g.R.Source.seen c.take_next.new.source) c.records.metadata c.take_next.new.metadata c.records.offset c.in-Ok-Taken.end c.records.invariant.so took;
+      pauses = (rw c.in-Ok-Taken.field-0-is at c.in-Ok-Taken.ensures.pauses) ∙ c.records.invariant.pauses;
       lent = c.take_next.ensures.lent ∙ c.records.invariant.lent;
     }
 

@@ -23,5 +23,6 @@ sections-preserved g c =
     let entry = get_or table i default in record {
       so = data_more _ _ _ c.sections.sections c.insert.new.self table i entry.0 entry.1 c.in-Ok.bytes c.sections.invariant.so (take_more table i default c.sections-test.true) c.in-Ok.ensures.reads
           (data_put c.sections.sections c.insert.new.self entry.0 c.in-Ok.bytes c.in-Ok-insert.ensures.updates.0);
+      pauses = search rules;
       lent = search rules;
     }

@@ -8,6 +8,7 @@ entries-init g c = record {
   can = tt;
   ends = tt;
   so = table_none c.args.endian (features_of c.args.features.now) _ _ c.new-table.result.items c.new-table.ensures.items (ap members_left c.into_iter-feature-iterator.ensures.into_iter_gives ∙ c.iter-feature-items.ensures);
+  pauses = search rules;
   lent = search rules;
 }
 
@@ -20,6 +21,7 @@ entries-preserved g c = record {
   can = tt;
   ends = tt;
   so = table_more c.args.endian (features_of c.args.features.now) _ (members_left c.next.new.self) _ _ _ c.entries.table.items c.push.new.self.items c.in-Some.feature c.in-Ok.entry c.entries.invariant.so c.in-Some.ensures.steps c.in-Ok.ensures.parses c.in-Ok-push.ensures.items;
+  pauses = search rules;
   lent = search rules;
 }
 

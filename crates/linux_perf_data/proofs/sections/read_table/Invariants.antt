@@ -9,5 +9,6 @@ invariant-entries g l = record {
   can : (goal.iterator-entries g).can_next l.feature-iterator;
   ends : (goal.iterator-entries g).is_finite l.feature-iterator;
   so : SoFar l.endian (features_of l.features) (g.C.Source.seen l.initial.source) (entries_of l.table.items) (members_left l.feature-iterator) (g.C.Source.seen l.source);
+  pauses : (g.C.Source.seen l.source).pauses ≡ (g.C.Source.seen l.initial.source).pauses;
   lent : g.C.Source.lent l.source ≡ g.C.Source.lent l.initial.source;
 }

@@ -5,7 +5,7 @@ use Rattle.std.proofs.lemmas.Slice.{take-put_mid_below}
 use Rattle.perfdata_base.proofs.source.fill.Goals as goal
 
 pub loop-filled-init : goal.loop-filled-init
-loop-filled-init g c = record { within = omega arith; tries = omega arith; gave = gave_none _; lent = refl }
+loop-filled-init g c = record { within = omega arith; tries = omega arith; gave = gave_none _; pauses = refl; lent = refl }
 
 pub loop-filled-preserved-in-Ok : goal.loop-filled-preserved-in-Ok
 loop-filled-preserved-in-Ok g c =
@@ -21,6 +21,7 @@ loop-filled-preserved-in-Ok g c =
       within = omega (arith, read.within, long, same, length-take (length c.loop-filled.place - c.loop-filled.filled) (drop c.loop-filled.filled c.loop-filled.place), length-drop c.loop-filled.filled c.loop-filled.place);
       tries = omega arith;
       gave = rw shown (gave_more _ _ _ _ _ before.gave read.gave);
+      pauses = c.in-Ok.ensures.counts.1 (omega arith) ∙ before.pauses;
       lent = c.in-Ok.ensures.lent ∙ before.lent;
     }
 

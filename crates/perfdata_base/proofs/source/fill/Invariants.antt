@@ -7,6 +7,7 @@ invariant-loop-filled g l = record {
   within : l.filled ≤ length l.place;
   tries : l.repeats ≤ 16;
   gave : Gave (g.S.Source.seen l.initial.source) (take l.filled l.place) (g.S.Source.seen l.source);
+  pauses : (g.S.Source.seen l.source).pauses ≡ (g.S.Source.seen l.initial.source).pauses;
   lent : g.S.Source.lent l.source ≡ g.S.Source.lent l.initial.source;
 }
 

@@ -27,4 +27,4 @@ loop-passed-preserved g c =
     let before = c.loop-passed.invariant in
     let long = asked c.loop-passed.scratch c.fill.new.place c.min-wanted.result c.fill.auto.place (search rules) in
     let fits : c.in_ok-came.came ≤ length c.fill.new.place = c.in_ok-came.ensures.fills.within in
-    (omega arith, passed_more _ _ _ before.1.0 c.fill.new.place c.loop-passed.passed c.in_ok-came.came before.1.1 before.1.2 c.in_ok-came.ensures.fills, c.in_ok-came.ensures.lent ∙ before.2)
+    (omega arith, passed_more _ _ _ before.1.0 c.fill.new.place c.loop-passed.passed c.in_ok-came.came before.1.1 before.1.2 c.in_ok-came.ensures.fills, c.in_ok-came.ensures.pauses.0 (omega arith) ∙ before.2, c.in_ok-came.ensures.lent ∙ before.3)

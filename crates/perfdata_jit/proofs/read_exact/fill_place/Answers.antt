@@ -41,7 +41,7 @@ returns-in-Ok-eq0-clause-counts g c =
     let before = c.reads.invariant in
     let within : c.reads.filled ≤ length c.reads.place = before.within in
     let long = length-refilled c.reads.filled c.reads.place c.read_front.new.place within c.read_front.auto.place in
-    (c.in-Ok-eq0.ensures.counts.0 ∙ before.counts.faults, λ all. absurd (omega (arith, long, all, c.reads-test.true)))
+    (c.in-Ok-eq0.ensures.counts.0 ∙ before.counts.faults, λ all. absurd (omega (arith, long, all, c.reads-test.true)), let once = c.in-Ok-eq0.ensures.counts.2 in let before = before.counts.pauses in omega (arith, once, before))
 
 pub returns-in-Err-clause-fills : goal.returns-in-Err-clause-fills
 returns-in-Err-clause-fills g c =

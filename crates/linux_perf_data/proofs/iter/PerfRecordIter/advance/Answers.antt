@@ -20,6 +20,7 @@ pieces-init g c = record {
     gave = gave_none (view g.R.Source.seen c.args.self.now);
     before = λ rest attrs rs e come. come;
   };
+  pauses = refl;
   lent = refl;
   file = refl;
 }
@@ -31,6 +32,7 @@ pieces-preserved g c =
     let t = some_piece seen c.pieces.self c.next_piece.new.self _ c.in-Ok-Some.head c.in-Ok-Some.field-0-is c.in-Ok-Some.ensures.piece in
     record {
       idles = idles_on seen _ c.pieces.self c.next_piece.new.self c.in-Ok-Some.head i.idles t c.if-head-ne-PERF_RECORD_FINISHED_ROUND.false c.pieces-test.ensures;
+      pauses = (rw c.in-Ok-Some.field-0-is at c.in-Ok-Some.ensures.pauses) ∙ i.pauses;
       lent = c.in-Ok-Some.ensures.lent ∙ i.lent;
       file = i.file;
     }

@@ -20,10 +20,12 @@ returns-in-Ok-eq0 g c =
         asked = λ _. omega (arith, read.overflow, room.overflow, held);
         had = λ le. absurd (omega (arith, c.if-count-len.false, c.len.ensures));
         fits = λ le. omega (arith, at.fits le, read.overflow, room.fits (omega (arith, held, le, at.keeps.size)));
+        spared = λ le. read.room ∙ room.spared (omega (arith, held, le, at.keeps.size)) ∙ at.spared le;
         quiet = λ le. absurd (omega (arith, c.if-count-len.false, c.len.ensures));
       };
       few = omega (arith, all, same, fill.long, none, held);
       none = gave_none_later _ _ _ at.keeps.came at.keeps.gave (fill.none none);
+      once = let once = read.counts.2 in let before = at.counts.pauses in omega (arith, once, before);
       faults = read.counts.0 ∙ at.counts.faults;
     }
 
@@ -40,4 +42,5 @@ reads-preserved g c =
       passed = read.passed ∙ room.passed;
       overflow = omega (arith, read.overflow, room.overflow, held);
       fits = λ le. omega (arith, at.fits le, read.overflow, room.fits (omega (arith, held, le, at.keeps.size)));
+      spared = λ le. read.room ∙ room.spared (omega (arith, held, le, at.keeps.size)) ∙ at.spared le;
     }

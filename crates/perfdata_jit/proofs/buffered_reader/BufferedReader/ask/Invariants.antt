@@ -1,5 +1,5 @@
 use Rattle.std.proofs.Common.{◌≡◌, ◌-◌, ◌<◌, ◌≤◌, length}
-use Rattle.perfdata_jit.specs.BufferedReader.{Keeps, SameCounts, view, held_in, overflow_of, size_of}
+use Rattle.perfdata_jit.specs.BufferedReader.{Keeps, SameCounts, view, held_in, overflow_of, room_of, size_of}
 use Rattle.perfdata_jit.proofs.buffered_reader.BufferedReader.ask.Given as goal
 
 abbrev pub decreases-reads : goal.decreases-reads
@@ -12,4 +12,5 @@ invariant-reads g l = record {
   passed : l.self.held.passed ≡ 0;
   overflow : overflow_of l.self < l.count;
   fits : l.count ≤ size_of l.fn.self → overflow_of l.self ≤ overflow_of l.fn.self;
+  spared : l.count ≤ size_of l.fn.self → room_of l.self ≡ room_of l.fn.self;
 }

@@ -25,6 +25,7 @@ returns-then-count-held g c =
       overflow = omega (arith, off.overflow);
       size = off.size;
       counts = record { faults = refl; pauses = refl };
+      same = record { all = refl; steady = λ h. h };
       found = c.in-Ok.ensures.ok;
       finds = c.in-Ok.ensures.ok;
     }
@@ -46,6 +47,7 @@ returns-in-Ok-true g c =
       overflow = omega (arith, c.clear.ensures.overflow);
       size = c.clear.ensures.size;
       counts = p.counts;
+      same = p.same;
       found = c.in-Ok.ensures.ok;
       finds = c.in-Ok.ensures.ok;
     }

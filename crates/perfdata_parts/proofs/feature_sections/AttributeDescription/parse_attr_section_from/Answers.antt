@@ -31,6 +31,7 @@ frames-preserved g c =
       far = run_more (IsDescribed g.T.ByteOrder.number_of c.args.attr_size) c.args.attr_size c.args.section.now.offset c.args.section.now.size _ _ c.frames.at _ some c.frames.invariant.far
           (g.C.Source.seen c.read_frame_at.new.source) d c.push.new.self.items more c.in-Ok-push.ensures.items
           (described g.T.ByteOrder.number_of g.met.T.ByteOrder.reads_first c.args.attr_size _ _ c.frames.at c.in-Ok.attr d refl refl c.new.ensures.items c.in-Ok.ensures.reads);
+      pauses = c.in-Ok.ensures.pauses ∙ c.frames.invariant.pauses;
       lent = lent ∙ c.frames.invariant.lent;
     }
 

@@ -6,6 +6,7 @@ use Rattle.perfdata_parts.proofs.feature_sections.AttributeDescription.parse_att
 abbrev pub invariant-frames : goal.invariant-frames
 invariant-frames g l = record {
   far : IsSoFar (IsDescribed g.T.ByteOrder.number_of l.attr_size) l.attr_size l.section.offset l.section.size (g.C.Source.seen l.initial.c) (g.C.Source.seen l.c) l.at l.all.items;
+  pauses : (g.C.Source.seen l.c).pauses ≡ (g.C.Source.seen l.initial.c).pauses;
   lent : g.C.Source.lent l.c ≡ g.C.Source.lent l.initial.c;
 }
 

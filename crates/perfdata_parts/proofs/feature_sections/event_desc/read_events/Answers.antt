@@ -6,6 +6,7 @@ pub events-preserved : goal.events-preserved
 events-preserved g c = record {
   took = events_more g.T.ByteOrder.number_of g.met.T.ByteOrder.reads_first c.args.attr_size c.events._index _ _ _ c.events.all.items c.push.new.self.items c.in-Ok.description c.events.invariant.took c.in-Ok.ensures.reads
       c.in-Ok-push.ensures.items;
+  pauses = search rules;
   lent = search rules;
 }
 

@@ -19,5 +19,6 @@ ids-preserved g c =
     record {
       took = ids_more g.T.ByteOrder.number_of g.met.T.ByteOrder.reads_first c.ids._index _ _ _ c.ids.ids.items c.push.new.self.items c.read_all.new.place c.ids.invariant.took long c.in-Ok.ensures.reads
           (c.in-Ok-push.ensures.items ∙ ap (λ n. c.ids.ids.items ++ n ∷ []) c.read_u64.ensures);
+      pauses = search rules;
       lent = search rules;
     }

@@ -20,6 +20,7 @@ entries-preserved g c =
     record {
       far = run_more (IsEntry g.T.ByteOrder.number_of c.args.attr_size) (c.args.attr_size + 16) c.args.section.now.offset c.args.section.now.size _ _ c.entries.at _ some c.entries.invariant.far
           (g.C.Source.seen c.read_entry_at.new.source) c.in-Ok.entry c.push.new.self.items more c.in-Ok-push.ensures.items c.in-Ok.ensures.reads;
+      pauses = c.in-Ok.ensures.pauses ∙ c.entries.invariant.pauses;
       lent = lent ∙ c.entries.invariant.lent;
     }
 

@@ -17,5 +17,6 @@ entries-preserved g c =
           c.in-Ok-push.ensures.items
           (given_one g.T.ByteOrder.number_of g.met.T.ByteOrder.reads_first (name_at c.args.types.now) c.entries.index _ _ _ _ c.entries.invariant.stood refl c.in-Ok-copy_name.ensures c.in-Ok.ensures.reads.1);
       stood = stood_more _ _ _ c.entries.invariant.stood c.in-Ok.ensures.reads.0;
+      pauses = c.in-Ok.ensures.pauses ∙ c.entries.invariant.pauses;
       lent = lent ∙ c.entries.invariant.lent;
     }

@@ -7,5 +7,6 @@ abbrev pub invariant-entries : goal.invariant-entries
 invariant-entries g l = record {
   given : Given g.T.ByteOrder.number_of (all_of (g.C.Source.seen l.initial.source).place) (name_at l.types) 0 (take l.index l.entries) l.all.items;
   stood : Stood (g.C.Source.seen l.initial.source) (g.C.Source.seen l.source);
+  pauses : (g.C.Source.seen l.source).pauses ≡ (g.C.Source.seen l.initial.source).pauses;
   lent : g.C.Source.lent l.source ≡ g.C.Source.lent l.initial.source;
 }

@@ -6,7 +6,7 @@ use Rattle.perfdata_parts.proofs.Pmus.{units_none, units_more, units_refused, un
 use Rattle.perfdata_parts.proofs.feature_sections.pmu.read_units.Goals as goal
 
 pub units-init : goal.units-init
-units-init g c = record { took = units_none g.T.ByteOrder.number_of g.met.T.ByteOrder.reads_first _ c.new-names.result c.new-names.ensures.empty; lent = search rules }
+units-init g c = record { took = units_none g.T.ByteOrder.number_of g.met.T.ByteOrder.reads_first _ c.new-names.result c.new-names.ensures.empty; pauses = search rules; lent = search rules }
 
 pub returns-in-Err-clause-reads : goal.returns-in-Err-clause-reads
 returns-in-Err-clause-reads g c =
@@ -20,5 +20,6 @@ returns-in-Err-keep_name-clause-reads g c =
 pub units-preserved : goal.units-preserved
 units-preserved g c = record {
   took = units_more g.T.ByteOrder.number_of g.met.T.ByteOrder.reads_first c.units._index _ (g.R.Source.seen c.units.source) _ c.units.names c.keep_name.new.names (c.in-Ok.unit.0, option_map string_bytes c.in-Ok.unit.1) c.units.invariant.took c.in-Ok.ensures.reads c.in-Ok-keep_name.ensures;
+  pauses = search rules;
   lent = search rules;
 }
