@@ -417,8 +417,10 @@ module _ {R : Type 0} (seen : R → State) where
         place = offset ∙ i.offset;
         gave = subst (λ l. Gave (view seen old) l (view seen new)) (sym (append-nil i.markers)) (subst (λ s. Gave (view seen old) i.markers s) (sym (view_stopped now new stopped)) i.gave);
         section = λ _. (refl, empty);
+        over = λ none. absurd (file none);
         held = omega (arith, few);
         ends = subst (λ b. IsEnd old.endian b new.offset []) i.same.bound (subst (λ o. IsEnd old.endian (bound_of seen now) o []) (sym offset) (done.1 old.endian []));
+        bound = ap bound_in stopped.input ∙ i.same.bound;
         unread = section_keeps_none new.input (λ none. file (sym i.same.bound ∙ ap bound_in (sym stopped.input) ∙ none));
       }
 
@@ -457,9 +459,14 @@ module _ {R : Type 0} (seen : R → State) where
         place = offset ∙ c.offset ∙ i.offset;
         gave = subst (λ s. Gave (view seen old) (i.markers ++ cut.came) s) (sym same) all;
         section = λ file. absurd (file pipe);
+        over = λ _. elim (none_or_paused (view seen now) (view seen new) cut.none) [
+          | inl end ↦ inl (ap (λ s. s.bytes) same ∙ end)
+          | inr paused ↦ inr (subst (Paused (view seen old)) (sym same) (paused_later (view seen old) (view seen now) (view seen new) i.markers i.gave paused))
+        ];
         held = omega (arith, few, body);
         ends = subst (λ b. IsEnd old.endian b new'.offset cut.came) (sym pipe)
             (subst (λ o. IsTruncated o new'.offset cut.came) i.same.order (subst (λ n. IsTruncated now.endian n cut.came) (sym (offset ∙ c.offset)) cut.truncated));
+        bound = ap bound_in stopped.input ∙ c.same.bound ∙ i.same.bound;
         unread = subst KeepsNone (sym stopped.input) c.unread;
       }
 

@@ -39,3 +39,5 @@ pub mod NamesTold
 pub mod LateSteps
 pub mod OneOpening
 pub mod FileStands
+pub mod Readings
+pub mod PipeReadings

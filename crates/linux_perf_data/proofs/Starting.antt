@@ -54,6 +54,7 @@ module _ {R : Type 0} (seen : R → State) (opening : Opening) (r : PerfFileRead
         header = o.header;
         describes = described p o;
         bytes = at_records p o;
+        bound = size;
         comes = λ records end is. come_there (attributes_of_file r.perf_file) records end _ _ _ _ _ _ _ _ _ _ (sym (at_records p o)) (sym first.order) (sym size) (sym first.offset) (sym first.round) is;
         came = λ records end is. come_there (attributes_of_file r.perf_file) records end _ _ _ _ _ _ _ _ _ _ (at_records p o) first.order size first.offset first.round is;
       }

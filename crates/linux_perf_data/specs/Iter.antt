@@ -235,8 +235,11 @@ module _ {R : Type 0} (seen : R → State) where
     pub place : new.offset ≡ old.offset + length markers
     pub gave : Gave (view old) (markers ++ came) (view new)
     pub section : bound_of old ≢ None → (came ≡ []) × (new.body.items ≡ [])
+    -- a pipe's end is that of its bytes: none is left, or the source paused
+    pub over : bound_of old ≡ None → ((view new).bytes ≡ Some []) ⊎ Paused (view old) (view new)
     pub held : length new.body.items ≤ length (drop 8 came) + 4096
     pub ends : IsEnd old.endian (bound_of old) new.offset came
+    pub bound : bound_of new ≡ bound_of old
     pub unread : KeepsNone new.input
 
   -- the end was answered

@@ -25,3 +25,5 @@ pub mod OpenedPipe
 pub mod LateParts
 pub mod PipeOpen
 pub mod PipeParts
+pub mod Reading
+pub mod PipeReading

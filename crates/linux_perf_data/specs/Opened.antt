@@ -70,6 +70,7 @@ module _ {R : Type 0} (seen : R → State) where
     pub header : PerfHeader
     pub describes : Describes p header file
     pub bytes : (view seen it).bytes ≡ Some (drop header.data_section.offset p.all)
+    pub bound : bound_of seen it ≡ Some header.data_section.size
     pub comes : (records : List Handed) (end : End) → RecordsOf p (order_of_file file) header (attributes_of_file file) records end
         → RecordsToCome seen it (attributes_of_file file) records end
     pub came : (records : List Handed) (end : End) → RecordsToCome seen it (attributes_of_file file) records end

@@ -2,7 +2,11 @@
 //! there is one.
 ghost use Rattle.linux_perf_data.specs.BuildIds.{OneListOfEntries, KeysEqualByTexts};
 ghost use Rattle.linux_perf_data.specs.Late.{HoldsNone, HoldsMore, NamesStay};
+ghost use Rattle.linux_perf_data.specs.Reading.{FileSoFar, FileWhole, FileToFault};
+ghost use Rattle.linux_perf_data.specs.PipeReading.{PipeUpToRecord, PipeUpToEnd, PipeUpToFault, LongestRun, NotRefused};
 ghost use Rattle.linux_perf_data.specs.Laws.{OneRecord, OneFault, NoFaultAtPiece, EndFaultOrPiece, RuleOrBreach, OneBreach, OneLayout, SomeLayout, OneToCome, OffsetsRise, PlaceOfPiece, RecordsBring, TracesHold, NoNamesAtRefusal, OneNaming, OneOpening, OpeningStands, FileStands, OneFile, CutHeader, FarHeader, OtherMagic};
+
+use perfdata_base::source::Source;
 
 /// No bytes begin with two whole records.
 pub fn at_most_one_record()
@@ -107,4 +111,28 @@ pub fn one_list_of_build_ids()
 /// Keys of mapped objects are equal exactly where they are of one kind with the same texts.
 pub fn keys_equal_by_texts()
     ensures { KeysEqualByTexts }
+{}
+
+/// A whole reading of a file: from what `parse_file` says of it, through calls of `next_record` one behind another, each with the
+/// `PerfFile` as the one before left it. Each record that was handed out is the layout's at its place, and what is unread stands behind the
+/// last; where the end was answered these are all, and where a steady source was refused, for another reason than want of memory, the
+/// layout has that fault behind them.
+pub fn a_reading<R: Source>()
+    ensures upto { FileSoFar R.seen }
+    ensures end { FileWhole R.seen }
+    ensures fault { FileToFault R.seen }
+{}
+
+/// A whole reading of a pipe, in the same way from what `parse_pipe` says of it; its `PerfFile` holds exactly what came.
+pub fn a_reading_of_a_pipe<R: Source>()
+    ensures upto { PipeUpToRecord R.seen }
+    ensures end { PipeUpToEnd R.seen }
+    ensures fault { PipeUpToFault R.seen }
+{}
+
+/// The opening that a pipe's reading begins with is the longest run of records of metadata at the front of its bytes, and no refusal of an
+/// opening is true of those.
+pub fn a_reading_takes_the_opening()
+    ensures longest { LongestRun }
+    ensures stands { NotRefused }
 {}

@@ -1,29 +1,23 @@
 -- What a listing of records writes, and why it stops.
-use Rattle.std.specs.Prelude.{◌≡◌, ◌≢◌, ◌⊎◌, ℕ, ◌^◌, ◌<◌, List, [], ◌∷◌, ◌++◌, length, take, flat_map, Option, None, Some, Result, Ok, Err, IfSome}
+use Rattle.std.specs.Prelude.{◌≡◌, ◌≢◌, ◌⊎◌, ℕ, ◌<◌, List, [], ◌∷◌, ◌++◌, length, take, flat_map, Option, Result, Ok, Err, IfSome}
 use Rattle.std.specs.Io.KnownBytes.{Appends}
-use Rattle.perfdata_base.specs.Source.{State, Place, Paused}
-use Rattle.perfdata_base.specs.declared.raw.Endianness.{Endianness}
+use Rattle.perfdata_base.specs.Source.{State}
 use Rattle.perfdata_parts.specs.declared.error.Error.{Error}
 use Rattle.perfdata_parts.specs.declared.error.Error.TheVariants.{Memory}
 use Rattle.linux_perf_data.specs.declared.iter.PerfRecordIter.{PerfRecordIter}
 use Rattle.linux_perf_data.specs.declared.iter.Stage.TheVariants.{Running, Ended}
 use Rattle.linux_perf_data.specs.declared.perf_file.PerfFile.{PerfFile}
-use Rattle.linux_perf_data.specs.Attribute.{Attribute}
-use Rattle.linux_perf_data.specs.Known.{Knows}
 use Rattle.linux_perf_data.specs.Late.{FileHolds}
-use Rattle.linux_perf_data.specs.Layout.{Bound, Handed, End, whole, faulty, Fault, ToCome}
-use Rattle.linux_perf_data.specs.Names.{CanName, event_desc}
-use Rattle.linux_perf_data.specs.Piece.{Answers, SourceOwes}
-use Rattle.linux_perf_data.specs.Iter.{view, bound_of, RecordsToCome}
-use Rattle.linux_perf_data.specs.PerfFile.{order_of_file, attributes_of_file, data_of}
+use Rattle.linux_perf_data.specs.Layout.{Handed, whole, faulty, Fault}
+use Rattle.linux_perf_data.specs.Piece.{Answers}
+use Rattle.linux_perf_data.specs.Iter.{view, bound_of}
 use Rattle.linux_perf_data.specs.Open.{StopsFile, SourceOwesOpening}
-use Rattle.linux_perf_data.specs.Opened.{Describes, RecordsOf}
+use Rattle.linux_perf_data.specs.Reading.{AreFirst, ComeFirst, EndsFaulty, EndsWhole, OfFile, SourceOwesFile, SourceOwesSome}
 use Rattle.perflist.specs.Line.{handed_line, line_of}
 use Rattle.perflist.specs.declared.line.Fields.{Fields}
 use Rattle.perflist.specs.declared.list.ListFault.{ListFault}
 use Rattle.perflist.specs.declared.list.ListCause.{ListCause}
 use Rattle.perflist.specs.declared.list.ListCause.TheVariants.{Perf, Write}
-use Rattle.perfdata_base.specs.declared.header.PerfHeader.{PerfHeader}
 
 -- the line that fields tell
 abbrev pub told_by : Fields → List ℕ
@@ -33,56 +27,22 @@ told_by f = line_of f.offset f.round f.time f.attr f.kind f.misc f.body_length
 abbrev pub lines_of : List Handed → List ℕ
 lines_of records = flat_map handed_line records
 
--- the source owes this error, wherever in a record it stopped
-abbrev pub SourceOwesSome : Endianness → Bound → State → Error → State → Type 0
-SourceOwesSome order bound old e new = (came : List ℕ) × SourceOwes order bound old came e new
-
--- these records come first, whatever comes behind them
-abbrev pub ComeFirst : (List Handed → End → Type 0) → List Handed → Type 0
-ComeFirst Come records = (more : List Handed) × ((end : End) × Come (records ++ more) end)
-
 -- The lines of these records were written, so many of them, and of a next one a front that is shorter than its line.
 pub record WroteFront (old new : Option (List ℕ)) (records : List Handed) (next : Handed) : Type 0 where
   pub count : ℕ
   pub short : count < length (handed_line next)
   pub appends : Appends old new (lines_of records ++ take count (handed_line next))
 
--- an iterator that hasn't failed, at an offset of 64 bits
-pub record IsUnfailed {R : Type 0} (it : PerfRecordIter R) : Type 0 where
-  pub stage : (it.stage ≡ Running) ⊎ (it.stage ≡ Ended)
-  pub fits : it.offset < 2 ^ 64
-
 module _ {R : Type 0} (seen : R → State) where
-  -- A `PerfFile` is the iterator's own: it has the attributes that came, and in a pipe an EVENT_DESC that can be read, if any.
-  pub record IsOwn (it : PerfRecordIter R) (file : PerfFile) : Type 0 where
-    pub knows : Knows it.endian it.known (attributes_of_file file)
-    pub names : bound_of seen it ≡ None → CanName it.endian (data_of file event_desc)
-
-  -- these are the first of what is to come
-  abbrev pub AreFirst : PerfRecordIter R → List Handed → Type 0
-  AreFirst old records = (attrs : List Attribute) → Knows old.endian old.known attrs
-      → IfSome (view seen old).bytes (λ bytes. ComeFirst (ToCome old.endian bytes (bound_of seen old) old.offset old.round attrs) records)
-
-  -- the layout is whole behind these records, or, in a pipe, the source paused
-  abbrev pub EndsWhole : PerfRecordIter R → List Handed → PerfRecordIter R → Type 0
-  EndsWhole old records new =
-      ((attrs : List Attribute) → Knows old.endian old.known attrs → RecordsToCome seen old attrs records whole)
-      ⊎ ((bound_of seen old ≡ None) × Paused (view seen old) (view seen new))
-
   -- all records of an iterator were listed, and none where it had ended
   pub record ListedAll (old : PerfRecordIter R) (file : PerfFile) (before after : Option (List ℕ)) (lines : ℕ) (new : PerfRecordIter R) (file' : PerfFile) : Type 0 where
     pub records : List Handed
     pub count : lines ≡ length records
     pub appends : Appends before after (lines_of records)
-    pub first : AreFirst old records
-    pub are : old.stage ≡ Running → EndsWhole old records new
+    pub first : AreFirst seen old records
+    pub are : old.stage ≡ Running → EndsWhole seen old records new
     pub over : old.stage ≡ Ended → records ≡ []
     pub holds : FileHolds old.endian (bound_of seen old) records file file'
-
-  -- the layout ends with this fault behind these records, and this is its answer
-  abbrev pub EndsFaulty : PerfRecordIter R → List Handed → Error → Type 0
-  EndsFaulty old records e = IfSome (view seen old).bytes (λ bytes. (f : Fault) × ((attrs : List Attribute) → Knows old.endian old.known attrs
-      → ToCome old.endian bytes (bound_of seen old) old.offset old.round attrs records (faulty f)) × Answers f e)
 
   -- the first records were listed, and then the input was refused
   pub record ListedTo (old : PerfRecordIter R) (before after : Option (List ℕ)) (lines : ℕ) (e : Error) (new : PerfRecordIter R) : Type 0 where
@@ -90,8 +50,8 @@ module _ {R : Type 0} (seen : R → State) where
     pub records : List Handed
     pub count : lines ≡ length records
     pub appends : Appends before after (lines_of records)
-    pub first : AreFirst old records
-    pub reason : e ≢ Memory → EndsFaulty old records e ⊎ SourceOwesSome old.endian (bound_of seen old) (view seen old) e (view seen new)
+    pub first : AreFirst seen old records
+    pub reason : e ≢ Memory → EndsFaulty seen old records e ⊎ SourceOwesSome old.endian (bound_of seen old) (view seen old) e (view seen new)
 
   -- the first records were listed, and of the next one a front of its line
   pub record ListedInto (old : PerfRecordIter R) (before after : Option (List ℕ)) (lines : ℕ) : Type 0 where
@@ -100,7 +60,7 @@ module _ {R : Type 0} (seen : R → State) where
     pub next : Handed
     pub count : lines ≡ length records
     pub wrote : WroteFront before after records next
-    pub first : AreFirst old (records ++ next ∷ [])
+    pub first : AreFirst seen old (records ++ next ∷ [])
 
   abbrev pub StopsListing : PerfRecordIter R → Option (List ℕ) → Option (List ℕ) → ℕ → ListCause → PerfRecordIter R → Type 0
   StopsListing old before after lines (Perf e) new = ListedTo old before after lines e new
@@ -111,14 +71,6 @@ module _ {R : Type 0} (seen : R → State) where
   abbrev pub ListsRecords : PerfRecordIter R → PerfFile → Option (List ℕ) → Result ℕ ListFault → Option (List ℕ) → PerfRecordIter R → PerfFile → Type 0
   ListsRecords old file before (Ok lines) after new file' = ListedAll old file before after lines new file'
   ListsRecords old file before (Err fault) after new file' = StopsListing old before after fault.lines fault.cause new
-
--- the file that begins at a place has these records first, and they are so
-abbrev pub OfFile : Place → ((List Handed → End → Type 0) → Type 0) → Type 0
-OfFile p P = (file : PerfFile) × ((header : PerfHeader) × Describes p header file × P (RecordsOf p (order_of_file file) header (attributes_of_file file)))
-
--- the source of a file owes this error
-abbrev pub SourceOwesFile : State → Error → State → Type 0
-SourceOwesFile old e new = (order : Endianness) × ((size : ℕ) × SourceOwesSome order (Some size) old e new)
 
 -- all records of a file were listed, and its layout is whole
 pub record ListedFile (old : State) (before after : Option (List ℕ)) (lines : ℕ) : Type 0 where

@@ -1,4 +1,4 @@
-//! What holds of lines and of the buffer that counts them, whatever is listed, and of the opening that a pipe is listed behind.
+//! What holds of lines and of the buffer that counts them, whatever is listed.
 ghost use Rattle.std.specs.Prelude.{◌≡◌, ℕ, ◌++◌, List, length, flat_map};
 ghost use Rattle.linux_perf_data.specs.Layout.{Handed};
 ghost use Rattle.perfdata_base.specs.declared.raw.Endianness.{Endianness};
@@ -6,7 +6,6 @@ ghost use Rattle.perflist.specs.Line.{handed_line};
 ghost use Rattle.perflist.specs.JitListing.{piece_lines};
 ghost use Rattle.perflist.specs.Output.{newlines};
 ghost use Rattle.perflist.specs.Buffer.{Passes};
-ghost use Rattle.perflist.specs.PipeListing.{LongestRun, NotRefused};
 ghost use Rattle.perflist.specs.declared.output.LineBuffer.{LineBuffer};
 
 use std::io::Write;
@@ -25,11 +24,4 @@ pub fn one_jit_line_each()
 /// left is counted, whatever calls were made.
 pub fn calls_add_up<W: Write>()
     ensures { (old mid new : LineBuffer W) (first second : List ℕ) → Passes W.contents old first mid → Passes W.contents mid second new → Passes W.contents old (first ++ second) new }
-{}
-
-/// The opening that a listing of a pipe takes is the longest run of records of metadata at the front of its bytes, and no
-/// refusal of an opening is true of those.
-pub fn a_listing_takes_the_opening()
-    ensures longest { LongestRun }
-    ensures stands { NotRefused }
 {}

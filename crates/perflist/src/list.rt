@@ -5,7 +5,8 @@ ghost use Rattle.linux_perf_data.specs.Iter.{handed_of};
 ghost use Rattle.perflist.specs.Line.{handed_line};
 ghost use Rattle.perflist.specs.Text.{text_of};
 ghost use Rattle.perflist.specs.Listing.{told_by};
-ghost use Rattle.perflist.specs.Listing.{IsOwn, IsUnfailed, ListsRecords, ListsFile};
+ghost use Rattle.linux_perf_data.specs.Reading.{IsOwn, IsUnfailed};
+ghost use Rattle.perflist.specs.Listing.{ListsRecords, ListsFile};
 ghost use Rattle.perflist.specs.PipeListing.{ListsPipe, ReadsPipe};
 
 use crate::line::{Fields, Line};

@@ -1,4 +1,5 @@
-use Rattle.perflist.proofs.Listings.{listed_file, refused_file, own_file}
+use Rattle.linux_perf_data.proofs.Readings.{own_file}
+use Rattle.perflist.proofs.Listings.{listed_file, refused_file}
 use Rattle.perflist.proofs.list.list_file.Goals as goal
 
 pub list_records-requires-clause-own : goal.list_records-requires-clause-own

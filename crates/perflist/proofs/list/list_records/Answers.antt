@@ -1,21 +1,15 @@
-use Rattle.std.proofs.Common.{arith, [], ◌∷◌, ◌++◌, length-append, Ok, refl, ap, ◌∙◌, subst, sym, inl, inr}
+use Rattle.std.proofs.Common.{arith, [], ◌∷◌, ◌++◌, length-append, Ok, refl, ap, ◌∙◌, subst, sym}
 use Rattle.std.specs.Io.KnownBytes.{Appends}
 use Rattle.std.proofs.KnownBytes.{Appends-trans, Appends-nil}
 use Rattle.linux_perf_data.specs.Iter.{Nexts, handed_of, bound_of}
 use Rattle.linux_perf_data.specs.Late.{FileHolds}
-use Rattle.linux_perf_data.proofs.Iters.{handing_none, handing_more, handing_end, handing_reason}
-use Rattle.linux_perf_data.proofs.Takings.{holds_none}
+use Rattle.linux_perf_data.proofs.Readings.{first_of, hands_out_more, holds_of, none_of, stops_of, whole_of}
 use Rattle.perflist.specs.Listing.{lines_of}
-use Rattle.perflist.proofs.Listings.{lines_more, first_of, wrote_front, own_after, not_foreign, holds_step}
+use Rattle.perflist.proofs.Listings.{lines_more, wrote_front, ran_first}
 use Rattle.perflist.proofs.list.list_records.Goals as goal
 
 pub records-init : goal.records-init
-records-init g c = record {
-  fits = c.requires.unfailed.fits;
-  few = omega arith;
-  own = c.requires.own;
-  listed = ([], refl, Appends-nil _, handing_none g.R.Source.seen _, holds_none _ _ _, elim c.requires.unfailed.stage [ inl runs ↦ inl (runs, runs) | inr ended ↦ inr (ended, ended, refl) ]);
-}
+records-init g c = record { fits = c.requires.unfailed.fits; few = omega arith; listed = ([], refl, Appends-nil _, (refl, refl)) }
 
 pub records-preserved : goal.records-preserved
 records-preserved g c =
@@ -28,14 +22,11 @@ records-preserved g c =
     record {
       fits = step.fits;
       few = (let a = step.offset in let b = step.place in let f = before.few in omega arith);
-      own = own_after g.R.Source.seen c.records.iter rested c.records.file c.next_record.new.perf_file h before.own step;
       listed = (
         before.listed.0 ++ h ∷ [],
         (let n = before.listed.1 in omega (arith, n, length-append before.listed.0 (h ∷ []))),
         subst (Appends _ _) (ap (λ l. lines_of before.listed.0 ++ l) text ∙ lines_more before.listed.0 h) (Appends-trans _ _ _ _ _ before.listed.2 c.in-Ok.ensures),
-        handing_more g.R.Source.seen _ c.records.iter rested c.records.file c.next_record.new.perf_file before.listed.0 h before.listed.3 step,
-        holds_step g.R.Source.seen _ c.records.iter rested _ c.records.file c.next_record.new.perf_file before.listed.0 h before.listed.3 before.listed.4 step,
-        inl (step.runs, (elim before.listed.5 [ inl runs ↦ runs.1 | inr over ↦ (let r = step.ran in let o = over.0 in absurd cc) ])),
+        hands_out_more g.R.Source.seen _ c.records.iter rested _ c.records.file c.next_record.new.perf_file before.listed.0 h before.listed.3 step,
       );
     }
 
@@ -47,13 +38,14 @@ returns-in-Err-write_line g c =
     let step = nexts.0 in
     let h = handed_of c.in-Ok-Some.place c.in-Ok-Some.record in
     let text = c.as_bytes.ensures ∙ c.put_line.ensures in
+    let all = hands_out_more g.R.Source.seen _ c.records.iter rested _ c.records.file c.next_record.new.perf_file before.listed.0 h before.listed.3 step in
     record {
-      ran = elim before.listed.5 [ inl runs ↦ runs.1 | inr over ↦ (let r = step.ran in let o = over.0 in absurd cc) ];
+      ran = ran_first g.R.Source.seen _ _ _ _ before.listed.0 c.requires.unfailed before.listed.3 (λ ended. let r = step.ran in absurd cc);
       records = before.listed.0;
       next = h;
       count = before.listed.1;
       wrote = wrote_front _ _ _ before.listed.0 h _ text before.listed.2 c.in-Err-write_line.ensures;
-      first = first_of g.R.Source.seen _ rested (before.listed.0 ++ h ∷ []) (handing_more g.R.Source.seen _ c.records.iter rested c.records.file c.next_record.new.perf_file before.listed.0 h before.listed.3 step) step.fits;
+      first = first_of g.R.Source.seen _ rested _ c.next_record.new.perf_file (before.listed.0 ++ h ∷ []) c.requires.unfailed.fits all;
     }
 
 pub returns-in-Ok-None : goal.returns-in-Ok-None
@@ -65,13 +57,11 @@ returns-in-Ok-None g c =
       records = before.listed.0;
       count = before.listed.1;
       appends = before.listed.2;
-      first = first_of g.R.Source.seen _ c.records.iter before.listed.0 before.listed.3 before.fits;
-      are = λ ran. elim before.listed.5 [
-        | inl runs ↦ handing_end g.R.Source.seen _ c.records.iter rested c.records.file c.next_record.new.perf_file before.listed.0 before.listed.3 runs.0 ended.0
-        | inr over ↦ (let o = over.1 in absurd cc)
-      ];
-      over = λ ended. elim before.listed.5 [ inl runs ↦ (let r = runs.1 in absurd cc) | inr over ↦ over.2 ];
-      holds = subst (λ f. FileHolds c.args.iter.now.endian (bound_of g.R.Source.seen c.args.iter.now) before.listed.0 c.args.file.now f) (sym ended.0.untouched) before.listed.4;
+      first = first_of g.R.Source.seen _ c.records.iter _ c.records.file before.listed.0 c.requires.unfailed.fits before.listed.3;
+      are = λ ran. whole_of g.R.Source.seen _ c.records.iter rested _ c.records.file c.next_record.new.perf_file before.listed.0 ran before.listed.3 ended.0;
+      over = λ over. (none_of g.R.Source.seen _ c.records.iter _ c.records.file before.listed.0 over before.listed.3).0;
+      holds = subst (λ f. FileHolds c.args.iter.now.endian (bound_of g.R.Source.seen c.args.iter.now) before.listed.0 c.args.file.now f) (sym ended.0.untouched)
+          (holds_of g.R.Source.seen _ c.records.iter _ c.records.file before.listed.0 before.listed.3);
     }
 
 pub returns-in-Err : goal.returns-in-Err
@@ -79,17 +69,12 @@ returns-in-Err g c =
     let before = c.records.invariant in
     let rested = c.next_record.follows.lender-at-none in
     let refused = subst (λ r. Nexts g.R.Source.seen g.R.Source.lent c.records.iter c.records.file r rested c.next_record.new.perf_file) c.in-Err.is c.next_record.follows.holds-at-none in
+    let ran = ran_first g.R.Source.seen _ _ _ _ before.listed.0 c.requires.unfailed before.listed.3 refused.0.unended in
     record {
-      ran = elim before.listed.5 [ inl runs ↦ runs.1 | inr over ↦ absurd (refused.0.unended over.0) ];
+      ran = ran;
       records = before.listed.0;
       count = before.listed.1;
       appends = before.listed.2;
-      first = first_of g.R.Source.seen _ c.records.iter before.listed.0 before.listed.3 before.fits;
-      reason = λ other. elim before.listed.5 [
-        | inr over ↦ absurd (refused.0.unended over.0)
-        | inl runs ↦ elim (handing_reason g.R.Source.seen _ c.records.iter rested c.records.file c.next_record.new.perf_file before.listed.0 _ before.listed.3 runs.0 refused.0 other) [
-          | inl fault ↦ inl fault
-          | inr why ↦ elim why [ inl owes ↦ inr owes | inr foreign ↦ absurd (not_foreign g.R.Source.seen c.records.iter c.records.file foreign.0 _ before.own foreign.1) ]
-        ]
-      ];
+      first = first_of g.R.Source.seen _ c.records.iter _ c.records.file before.listed.0 c.requires.unfailed.fits before.listed.3;
+      reason = λ other. stops_of g.R.Source.seen _ c.records.iter rested _ c.records.file c.next_record.new.perf_file before.listed.0 _ ran c.requires.own before.listed.3 refused.0 other;
     }

@@ -1,4 +1,5 @@
-use Rattle.perflist.proofs.PipeListings.{listed_pipe, own_pipe, refused_pipe, stopped_pipe, unfailed_pipe}
+use Rattle.linux_perf_data.proofs.PipeReadings.{own_pipe, unfailed_pipe}
+use Rattle.perflist.proofs.PipeListings.{listed_pipe, refused_pipe, stopped_pipe}
 use Rattle.perflist.proofs.list.read_pipe.Goals as goal
 
 pub list_records-requires-clause-own : goal.list_records-requires-clause-own
