@@ -98,6 +98,15 @@ pub record ReadToFault (p : Place) (file : PerfFile) (records : List Handed) (e 
   pub answers : Answers fault e
 
 module _ {R : Type 0} (seen : R → State) where
+  -- no call hands out no record
+  abbrev pub NoCall : Type 0
+  NoCall = (it : PerfRecordIter R) (file : PerfFile) → HandsOutAll seen it file [] it file
+
+  -- and one behind others hands out one record more
+  abbrev pub OneCallMore : Type 0
+  OneCallMore = (old now new : PerfRecordIter R) (file now_file file' : PerfFile) (records : List Handed) (h : Handed) →
+      HandsOutAll seen old file records now now_file → HandsOut seen now now_file h new file' → HandsOutAll seen old file (records ++ h ∷ []) new file'
+
   -- a reading of a file, up to any of its records
   abbrev pub FileSoFar : Type 0
   FileSoFar = (p : Place) (old : State) (file file' : PerfFile) (it now : PerfRecordIter R) (records : List Handed) →

@@ -2,7 +2,7 @@
 //! there is one.
 ghost use Rattle.linux_perf_data.specs.BuildIds.{OneListOfEntries, KeysEqualByTexts};
 ghost use Rattle.linux_perf_data.specs.Late.{HoldsNone, HoldsMore, NamesStay};
-ghost use Rattle.linux_perf_data.specs.Reading.{FileSoFar, FileWhole, FileToFault};
+ghost use Rattle.linux_perf_data.specs.Reading.{FileSoFar, FileWhole, FileToFault, NoCall, OneCallMore};
 ghost use Rattle.linux_perf_data.specs.PipeReading.{PipeUpToRecord, PipeUpToEnd, PipeUpToFault, LongestRun, NotRefused};
 ghost use Rattle.linux_perf_data.specs.Laws.{OneRecord, OneFault, NoFaultAtPiece, EndFaultOrPiece, RuleOrBreach, OneBreach, OneLayout, SomeLayout, OneToCome, OffsetsRise, PlaceOfPiece, RecordsBring, TracesHold, NoNamesAtRefusal, OneNaming, OneOpening, OpeningStands, FileStands, OneFile, CutHeader, FarHeader, OtherMagic};
 
@@ -111,6 +111,12 @@ pub fn one_list_of_build_ids()
 /// Keys of mapped objects are equal exactly where they are of one kind with the same texts.
 pub fn keys_equal_by_texts()
     ensures { KeysEqualByTexts }
+{}
+
+/// How a caller that counts on a reading's law adds one call of `next_record` at a time to those before it.
+pub fn several_calls<R: Source>()
+    ensures none { NoCall R.seen }
+    ensures more { OneCallMore R.seen }
 {}
 
 /// A whole reading of a file: from what `parse_file` says of it, through calls of `next_record` one behind another, each with the
