@@ -1,5 +1,5 @@
 -- Bytes are a message of some fields, or else have a fault.
-use Rattle.std.proofs.Common.{◌≡◌, ℕ, zero, suc, ◌<◌, ◌⊎◌, inl, inr, Bool, true, false, cond, List, [], ◌∷◌, length, refl, sym, ◌∙◌, subst, arith, IsUtf8}
+use Rattle.std.proofs.Common.{◌≡◌, ℕ, zero, suc, ◌<◌, ◌⊎◌, inl, inr, Bool, true, false, cond, List, [], ◌∷◌, length, refl, sym, ◌∙◌, subst, arith}
 use Rattle.std.specs.Prelude.{◌==◌, ◌||◌}
 use Rattle.std.proofs.lemmas.Bool.{cases_Bool, false≢true}
 use Rattle.std.proofs.lemmas.Str.{IsUtf8-from_is_utf8, is_utf8-from_IsUtf8}
@@ -14,10 +14,10 @@ use Rattle.perfdata_simpleperf.specs.declared.protobuf.field.Shape.{Shape}
 use Rattle.perfdata_simpleperf.specs.declared.protobuf.field.Shape.TheVariants as shapes
 use Rattle.perfdata_simpleperf.specs.Protobuf.Wire.{KeyAt, Contents, number, bytes, skipped}
 use Rattle.perfdata_simpleperf.specs.Protobuf.Fields.{Part, shape, is_permitted, FieldAt, FieldFault, Holds, HoldsFault, HeldFault}
-use Rattle.perfdata_simpleperf.specs.Protobuf.Messages.{NumbersAt, ArePacked, PackedFault, IsFine, IsWrong, FieldsBy, FaultBy, NoInner, NoInnerFault, LeafFault, IsLeaf, SomeLeaf, IsFile, FileFault}
+use Rattle.perfdata_simpleperf.specs.Protobuf.Messages.{NumbersAt, ArePacked, PackedFault, IsFine, IsWrong, FieldsBy, FaultBy, NoInner, NoInnerFault, LeafFault, SomeLeaf, IsFile, FileFault}
 use Rattle.perfdata_simpleperf.proofs.Decoding.GroupSteps.{varint_shorter}
 use Rattle.perfdata_simpleperf.proofs.Decoding.MessageSteps.{fields_then, field_shorter, numbers_then}
-use Rattle.perfdata_simpleperf.proofs.Decoding.SomeToken.{AreBytes, Reading, Fault, Some, HoldsBytes, number_some, key_some, value_some, group_some}
+use Rattle.perfdata_simpleperf.proofs.Decoding.SomeToken.{AreBytes, Fault, Some, HoldsBytes, number_some, key_some, value_some, group_some}
 
 -- ---- fields
 
@@ -44,20 +44,20 @@ HasField m bs p rest = FieldAt m bs p rest × HoldsBytes p.contents
 field_behind : (m : Message) (bs : List ℕ) (n : ℕ) (w : Wire) (mid : List ℕ) → KeyAt bs n w mid → AreBytes mid → is_permitted (shape m n) w ≡ true → Some Part (HasField m bs) (FieldFault m bs)
 field_behind m bs n w mid key are permitted = elim (holds_some w n mid are) [
   | inl x ↦ inl record {
-      value = record { number = n; contents = x.value };
-      rest = x.rest;
-      at = (record { wire = w; mid = mid; key = key; permitted = permitted; holds = x.at.0 }, x.at.1);
-      are = x.are;
-    }
+    value = record { number = n; contents = x.value };
+    rest = x.rest;
+    at = (record { wire = w; mid = mid; key = key; permitted = permitted; holds = x.at.0 }, x.at.1);
+    are = x.are;
+  }
   | inr fault ↦ inr (fault.0, inr record { number = n; wire = w; mid = mid; key = key; fault = subst (λ (b : Bool). HeldFault b w n mid fault.0) (sym permitted) fault.1 })
 ]
 
 field_some : (m : Message) (bs : List ℕ) → AreBytes bs → Some Part (HasField m bs) (FieldFault m bs)
 field_some m bs are = elim (key_some bs are) [
   | inl key ↦ elim (cases_Bool (is_permitted (shape m key.value.0) key.value.1)) [
-      | inl permitted ↦ field_behind m bs key.value.0 key.value.1 key.rest key.at key.are permitted
-      | inr other ↦ inr (errors.WireType, inr record { number = key.value.0; wire = key.value.1; mid = key.rest; key = key.at; fault = subst (λ (b : Bool). HeldFault b key.value.1 key.value.0 key.rest errors.WireType) (sym other) refl })
-    ]
+    | inl permitted ↦ field_behind m bs key.value.0 key.value.1 key.rest key.at key.are permitted
+    | inr other ↦ inr (errors.WireType, inr record { number = key.value.0; wire = key.value.1; mid = key.rest; key = key.at; fault = subst (λ (b : Bool). HeldFault b key.value.1 key.value.0 key.rest errors.WireType) (sym other) refl })
+  ]
   | inr fault ↦ inr (fault.0, inl fault.1)
 ]
 
@@ -68,8 +68,8 @@ packed_more zero bs ns mid before less are = absurd (omega (arith, less))
 packed_more (suc most) bs ns [] before less are = inl (ns, before)
 packed_more (suc most) bs ns (b ∷ mid) before less are = elim (number_some (b ∷ mid) are) [
   | inl n ↦
-    let shorter = varint_shorter 10 _ (b ∷ mid) n.value n.rest n.at in
-    packed_more most bs _ n.rest (numbers_then bs ns (b ∷ mid) n.value n.rest before n.at) (omega (arith, shorter, less)) n.are
+      let shorter = varint_shorter 10 _ (b ∷ mid) n.value n.rest n.at in
+      packed_more most bs _ n.rest (numbers_then bs ns (b ∷ mid) n.value n.rest before n.at) (omega (arith, shorter, less)) n.are
   | inr fault ↦ inr (fault.0, record { numbers = ns; mid = b ∷ mid; before = before; inside = omega arith; here = fault.1 })
 ]
 
@@ -112,11 +112,11 @@ module _ (Inner : Message → List ℕ → Type 0) (InnerFault : Message → Lis
     fields_more (suc most) bs ps [] before less are = inl (ps, before)
     fields_more (suc most) bs ps (b ∷ mid) before less are = elim (field_some m (b ∷ mid) are) [
       | inl p ↦ elim (contents_some (shape m p.value.number) p.value.contents (among p.value.number) p.at.1) [
-          | inl fine ↦
+        | inl fine ↦
             let shorter = field_shorter m (b ∷ mid) p.value p.rest p.at.0 in
             fields_more most bs _ p.rest (fields_then Inner m bs ps (b ∷ mid) p.value p.rest before p.at.0 fine) (omega (arith, shorter, less)) p.are
-          | inr wrong ↦ inr (wrong.0, record { fields = ps; mid = b ∷ mid; before = before; inside = omega arith; here = inr record { field = p.value; rest = p.rest; at = p.at.0; wrong = wrong.1 } })
-        ]
+        | inr wrong ↦ inr (wrong.0, record { fields = ps; mid = b ∷ mid; before = before; inside = omega arith; here = inr record { field = p.value; rest = p.rest; at = p.at.0; wrong = wrong.1 } })
+      ]
       | inr fault ↦ inr (fault.0, record { fields = ps; mid = b ∷ mid; before = before; inside = omega arith; here = inl fault.1 })
     ]
 

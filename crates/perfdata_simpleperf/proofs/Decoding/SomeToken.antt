@@ -33,11 +33,11 @@ Some X At Is = Reading X At ⊎ Fault Is
 varint_here : (most b : ℕ) (bs : List ℕ) → 1 ≤ most → b < 128 → AreBytes bs → Some ℕ (VarintAt most (2 * 128 ^ (most - 1)) (b ∷ bs)) (VarintFault most (b ∷ bs))
 varint_here most b bs le small are = elim (cases_eq most 1) [
   | inl one ↦ elim (cases_lt 1 b) [
-      | inl high ↦ inr (errors.Varint, record { front = []; last = b; rest = bs; goes = tt; place = omega (arith, one); high = high; parts = refl })
-      | inr low ↦
+    | inl high ↦ inr (errors.Varint, record { front = []; last = b; rest = bs; goes = tt; place = omega (arith, one); high = high; parts = refl })
+    | inr low ↦
         let e : 128 ^ (most - 1) ≡ 1 = ap (λ (x : ℕ). 128 ^ (x - 1)) one in
         inl record { value = b; rest = bs; at = varint_last most _ b bs le small (omega (arith, low, e)); are = are }
-    ]
+  ]
   | inr other ↦ inl record { value = b; rest = bs; at = varint_last most _ b bs le small (small_fits most b (omega (arith, le, other)) small); are = are }
 ]
 
@@ -46,14 +46,14 @@ varint_some [] most le are = inr (errors.Truncated, record { goes = tt; short = 
 varint_some (b ∷ bs) most le are = elim (cases_lt b 128) [
   | inl small ↦ varint_here most b bs le small are.1
   | inr goes ↦ elim (cases_eq most 1) [
-      | inl one ↦ inr (errors.Varint, record { front = []; last = b; rest = bs; goes = tt; place = omega (arith, one); high = omega (arith, goes); parts = refl })
-      | inr other ↦
+    | inl one ↦ inr (errors.Varint, record { front = []; last = b; rest = bs; goes = tt; place = omega (arith, one); high = omega (arith, goes); parts = refl })
+    | inr other ↦
         let two : 2 ≤ most = omega (arith, le, other) in
         elim (varint_some bs (most - 1) (omega (arith, two)) are.1) [
           | inl high ↦ inl record { value = high.value * 128 + (b - 128); rest = high.rest; at = varint_more most high.value b bs high.rest two goes are.0 high.at; are = high.are }
           | inr fault ↦ inr (fault.0, fault_more most b bs fault.0 two goes fault.1)
         ]
-    ]
+  ]
 ]
 
 pub number_some : (bs : List ℕ) → AreBytes bs → Some ℕ (NumberAt bs) (NumberFault bs)
@@ -80,12 +80,12 @@ code_some : (bs : List ℕ) (code : ℕ) (rest : List ℕ) → NumberAt bs code 
 code_some bs code rest at are = elim (cases_lt code (2 ^ 32)) [
   | inr high ↦ inr (errors.Key, record { code = code; rest = rest; at = at; wrong = inl high })
   | inl small ↦ elim (cases_lt 5 (code % 8)) [
-      | inl wrong ↦ inr (errors.WireType, record { code = code; rest = rest; at = at; wrong = (small, omega (arith, wrong)) })
-      | inr low ↦ elim (cases_lt code 8) [
-          | inl zero_field ↦ inr (errors.Key, record { code = code; rest = rest; at = at; wrong = inr (omega (arith, zero_field, low)) })
-          | inr high ↦ inl record { value = (code / 8, wire_of (code % 8)); rest = rest; at = key_of_code bs code rest at small low high; are = are }
-        ]
+    | inl wrong ↦ inr (errors.WireType, record { code = code; rest = rest; at = at; wrong = (small, omega (arith, wrong)) })
+    | inr low ↦ elim (cases_lt code 8) [
+      | inl zero_field ↦ inr (errors.Key, record { code = code; rest = rest; at = at; wrong = inr (omega (arith, zero_field, low)) })
+      | inr high ↦ inl record { value = (code / 8, wire_of (code % 8)); rest = rest; at = key_of_code bs code rest at small low high; are = are }
     ]
+  ]
 ]
 
 key_of_fault : (bs : List ℕ) (e : DecodeError) → NumberFault bs e → KeyFault bs e
@@ -155,11 +155,11 @@ length_of_fault bs _ f = absurd f
 length_some : (bs : List ℕ) → AreBytes bs → Some Contents (HasValue wires.Length bs) (ValueFault wires.Length bs)
 length_some bs are = elim (number_some bs are) [
   | inl len ↦ elim (cases_lt (length len.rest) len.value) [
-      | inl short ↦ inr (errors.Truncated, inr record { len = len.value; mid = len.rest; at = len.at; short = short })
-      | inr le ↦
+    | inl short ↦ inr (errors.Truncated, inr record { len = len.value; mid = len.rest; at = len.at; short = short })
+    | inr le ↦
         let s = split_some len.value len.rest le len.are in
         inl record { value = bytes s.front; rest = s.rest; at = (record { len = len.value; mid = len.rest; at = len.at; splits = s.splits }, s.are_front); are = s.are }
-    ]
+  ]
   | inr fault ↦ inr (fault.0, length_of_fault bs fault.0 fault.1)
 ]
 
@@ -222,9 +222,9 @@ passes_some wires.Four n around bs are = plain_some wires.Four n around bs tt ar
 token_some : (around bs : List ℕ) → 0 < length around → AreBytes bs → Some (List ℕ) (λ inner rest. Token around bs inner rest) (TokenFault around bs)
 token_some around bs inside are = elim (key_some bs are) [
   | inl key ↦ elim (passes_some key.value.1 key.value.0 around key.rest key.are) [
-      | inl p ↦ inl record { value = p.value; rest = p.rest; at = record { number = key.value.0; wire = key.value.1; mid = key.rest; inside = inside; key = key.at; passes = p.at }; are = p.are }
-      | inr fault ↦ inr (fault.0, inr record { number = key.value.0; wire = key.value.1; mid = key.rest; key = key.at; fault = fault.1 })
-    ]
+    | inl p ↦ inl record { value = p.value; rest = p.rest; at = record { number = key.value.0; wire = key.value.1; mid = key.rest; inside = inside; key = key.at; passes = p.at }; are = p.are }
+    | inr fault ↦ inr (fault.0, inr record { number = key.value.0; wire = key.value.1; mid = key.rest; key = key.at; fault = fault.1 })
+  ]
   | inr fault ↦ inr (fault.0, inl fault.1)
 ]
 
@@ -239,8 +239,8 @@ group_more zero n bs around mid before less are = absurd (omega (arith, less))
 group_more (suc most) n bs [] mid before less are = inl record { value = skipped; rest = mid; at = (refl, before); are = are }
 group_more (suc most) n bs (a ∷ around) mid before less are = elim (token_some (a ∷ around) mid (omega arith) are) [
   | inl t ↦
-    let shorter = token_shorter t.at in
-    group_more most n bs t.value t.rest (tokens_then before t.at) (omega (arith, shorter, less)) t.are
+      let shorter = token_shorter t.at in
+      group_more most n bs t.value t.rest (tokens_then before t.at) (omega (arith, shorter, less)) t.are
   | inr fault ↦ inr (fault.0, record { around = a ∷ around; mid = mid; before = before; inside = omega arith; here = fault.1 })
 ]
 

@@ -1,5 +1,5 @@
 -- Each message of whole fields has a value.
-use Rattle.std.proofs.Common.{◌≡◌, ℕ, Bool, true, false, cond, inl, inr, List, [], ◌∷◌, ◌++◌, map, refl, ap, sym, subst, append_assoc}
+use Rattle.std.proofs.Common.{◌≡◌, ℕ, Bool, true, false, cond, inl, inr, List, [], ◌∷◌, ◌++◌, map, refl, sym, subst, append_assoc}
 use Rattle.std.specs.Prelude.{◌==◌, ◌||◌}
 use Rattle.std.proofs.lemmas.Bool.{cases_eq, ne_eqb}
 use Rattle.std.proofs.lemmas.List.{append-nil}
@@ -8,7 +8,7 @@ use Rattle.perfdata_simpleperf.specs.declared.protobuf.field.Shape.TheVariants a
 use Rattle.perfdata_simpleperf.specs.Protobuf.Wire.{Contents, number, bytes, skipped}
 use Rattle.perfdata_simpleperf.specs.Protobuf.Fields.{Part, shape}
 use Rattle.perfdata_simpleperf.specs.Protobuf.Messages.{IsFine, FieldsBy, NoInner, SomeLeaf, IsFile}
-use Rattle.perfdata_simpleperf.specs.FileRecord.{SymbolValue, Info, no_info, dex_file, elf_file, kernel_module, FileValue}
+use Rattle.perfdata_simpleperf.specs.FileRecord.{SymbolValue, Info, dex_file, elf_file, kernel_module, FileValue}
 use Rattle.perfdata_simpleperf.specs.Protobuf.Values.{bytes_list, numbers, texts, texts_in, last_or, low, symbol_from, no_symbol, IsSymbol, contents_in, contents_of, IsOffsets, AreOffsets, IsDex, IsAddressFrom, AreSymbols, numbered, infos_in, infos_of, HasValue, IsFileRecord, kept_offsets, kept_elf, kept_module, ArePut}
 use Rattle.perfdata_simpleperf.proofs.Decoding.MessageSteps.{offsets_append}
 use Rattle.perfdata_simpleperf.proofs.Decoding.Infos.{no_fields, value_more}
@@ -90,12 +90,12 @@ put_some : (n : ℕ) (x : Contents) (old : Info) → IsFine SomeLeaf (shape mess
 put_some n x old fine = elim (cases_eq n 5) [
   | inl five ↦ subst (λ (k : ℕ). Puts k x old) (sym five) (dex_put x old (subst (λ (k : ℕ). IsFine SomeLeaf (shape messages.File k) x) five fine))
   | inr a ↦ elim (cases_eq n 6) [
-      | inl six ↦ subst (λ (k : ℕ). Puts k x old) (sym six) (elf_put x old (subst (λ (k : ℕ). IsFine SomeLeaf (shape messages.File k) x) six fine))
-      | inr b ↦ elim (cases_eq n 7) [
-          | inl seven ↦ subst (λ (k : ℕ). Puts k x old) (sym seven) (module_put x old (subst (λ (k : ℕ). IsFine SomeLeaf (shape messages.File k) x) seven fine))
-          | inr c ↦ none_put (n == 5) (n == 6) (n == 7) (numbered n (bytes_list x)) old (ne_eqb n 5 a) (ne_eqb n 6 b) (ne_eqb n 7 c)
-        ]
+    | inl six ↦ subst (λ (k : ℕ). Puts k x old) (sym six) (elf_put x old (subst (λ (k : ℕ). IsFine SomeLeaf (shape messages.File k) x) six fine))
+    | inr b ↦ elim (cases_eq n 7) [
+      | inl seven ↦ subst (λ (k : ℕ). Puts k x old) (sym seven) (module_put x old (subst (λ (k : ℕ). IsFine SomeLeaf (shape messages.File k) x) seven fine))
+      | inr c ↦ none_put (n == 5) (n == 6) (n == 7) (numbered n (bytes_list x)) old (ne_eqb n 5 a) (ne_eqb n 6 b) (ne_eqb n 7 c)
     ]
+  ]
 ]
 
 infos_some : (p : Part) (old : Info) → IsFine SomeLeaf (shape messages.File p.number) p.contents → (new : Info) × ArePut (infos_of (p ∷ [])) old new
