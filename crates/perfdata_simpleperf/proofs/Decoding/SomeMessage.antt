@@ -17,20 +17,20 @@ use Rattle.perfdata_simpleperf.specs.Protobuf.Fields.{Part, shape, is_permitted,
 use Rattle.perfdata_simpleperf.specs.Protobuf.Messages.{NumbersAt, ArePacked, PackedFault, IsFine, IsWrong, FieldsBy, FaultBy, NoInner, NoInnerFault, LeafFault, SomeLeaf, IsFile, FileFault}
 use Rattle.perfdata_simpleperf.proofs.Decoding.GroupSteps.{varint_shorter}
 use Rattle.perfdata_simpleperf.proofs.Decoding.MessageSteps.{fields_then, field_shorter, numbers_then}
-use Rattle.perfdata_simpleperf.proofs.Decoding.SomeToken.{AreBytes, Fault, Some, HoldsBytes, number_some, key_some, value_some, group_some}
+use Rattle.perfdata_simpleperf.proofs.Decoding.SomeToken.{AreBytes, SomeFault, ReadingOrFault, HoldsBytes, number_some, key_some, value_some, group_some}
 
 -- ---- fields
 
-abbrev HeldBytes : Wire → ℕ → List ℕ → Contents → List ℕ → Type 0
-HeldBytes w n bs x rest = Holds w n bs x rest × HoldsBytes x
+abbrev BytesHeld : Wire → ℕ → List ℕ → Contents → List ℕ → Type 0
+BytesHeld w n bs x rest = Holds w n bs x rest × HoldsBytes x
 
-holds_group : (n : ℕ) (bs : List ℕ) → AreBytes bs → Some Contents (HeldBytes wires.Begin n bs) (HoldsFault wires.Begin n bs)
+holds_group : (n : ℕ) (bs : List ℕ) → AreBytes bs → ReadingOrFault Contents (BytesHeld wires.Begin n bs) (HoldsFault wires.Begin n bs)
 holds_group n bs are = elim (group_some n bs are) [
   | inl g ↦ inl record { value = skipped; rest = g.rest; at = (g.at.1, tt); are = g.are }
   | inr fault ↦ inr fault
 ]
 
-holds_some : (w : Wire) (n : ℕ) (bs : List ℕ) → AreBytes bs → Some Contents (HeldBytes w n bs) (HoldsFault w n bs)
+holds_some : (w : Wire) (n : ℕ) (bs : List ℕ) → AreBytes bs → ReadingOrFault Contents (BytesHeld w n bs) (HoldsFault w n bs)
 holds_some wires.Begin n bs are = holds_group n bs are
 holds_some wires.End n bs are = inr (errors.Group, tt)
 holds_some wires.Number n bs are = value_some wires.Number bs tt are
@@ -41,7 +41,7 @@ holds_some wires.Four n bs are = value_some wires.Four bs tt are
 abbrev HasField : Message → List ℕ → Part → List ℕ → Type 0
 HasField m bs p rest = FieldAt m bs p rest × HoldsBytes p.contents
 
-field_behind : (m : Message) (bs : List ℕ) (n : ℕ) (w : Wire) (mid : List ℕ) → KeyAt bs n w mid → AreBytes mid → is_permitted (shape m n) w ≡ true → Some Part (HasField m bs) (FieldFault m bs)
+field_behind : (m : Message) (bs : List ℕ) (n : ℕ) (w : Wire) (mid : List ℕ) → KeyAt bs n w mid → AreBytes mid → is_permitted (shape m n) w ≡ true → ReadingOrFault Part (HasField m bs) (FieldFault m bs)
 field_behind m bs n w mid key are permitted = elim (holds_some w n mid are) [
   | inl x ↦ inl record {
     value = record { number = n; contents = x.value };
@@ -52,7 +52,7 @@ field_behind m bs n w mid key are permitted = elim (holds_some w n mid are) [
   | inr fault ↦ inr (fault.0, inr record { number = n; wire = w; mid = mid; key = key; fault = subst (λ (b : Bool). HeldFault b w n mid fault.0) (sym permitted) fault.1 })
 ]
 
-field_some : (m : Message) (bs : List ℕ) → AreBytes bs → Some Part (HasField m bs) (FieldFault m bs)
+field_some : (m : Message) (bs : List ℕ) → AreBytes bs → ReadingOrFault Part (HasField m bs) (FieldFault m bs)
 field_some m bs are = elim (key_some bs are) [
   | inl key ↦ elim (cases_Bool (is_permitted (shape m key.value.0) key.value.1)) [
     | inl permitted ↦ field_behind m bs key.value.0 key.value.1 key.rest key.at key.are permitted
@@ -63,7 +63,7 @@ field_some m bs are = elim (key_some bs are) [
 
 -- ---- contents
 
-packed_more : (most : ℕ) (bs ns mid : List ℕ) → NumbersAt bs ns mid → length mid < most → AreBytes mid → ((xs : List ℕ) × ArePacked bs xs) ⊎ Fault (PackedFault bs)
+packed_more : (most : ℕ) (bs ns mid : List ℕ) → NumbersAt bs ns mid → length mid < most → AreBytes mid → ((xs : List ℕ) × ArePacked bs xs) ⊎ SomeFault (PackedFault bs)
 packed_more zero bs ns mid before less are = absurd (omega (arith, less))
 packed_more (suc most) bs ns [] before less are = inl (ns, before)
 packed_more (suc most) bs ns (b ∷ mid) before less are = elim (number_some (b ∷ mid) are) [
@@ -73,11 +73,11 @@ packed_more (suc most) bs ns (b ∷ mid) before less are = elim (number_some (b 
   | inr fault ↦ inr (fault.0, record { numbers = ns; mid = b ∷ mid; before = before; inside = omega arith; here = fault.1 })
 ]
 
-packed_some : (bs : List ℕ) → AreBytes bs → ((xs : List ℕ) × ArePacked bs xs) ⊎ Fault (PackedFault bs)
+packed_some : (bs : List ℕ) → AreBytes bs → ((xs : List ℕ) × ArePacked bs xs) ⊎ SomeFault (PackedFault bs)
 packed_some bs are = packed_more (suc (length bs)) bs [] bs refl (omega arith) are
 
 abbrev FineOrWrong : (Message → List ℕ → Type 0) → (Message → List ℕ → DecodeError → Type 0) → Shape → Contents → Type 0
-FineOrWrong Inner InnerFault s x = IsFine Inner s x ⊎ Fault (IsWrong InnerFault s x)
+FineOrWrong Inner InnerFault s x = IsFine Inner s x ⊎ SomeFault (IsWrong InnerFault s x)
 
 text_some : (Inner : Message → List ℕ → Type 0) (InnerFault : Message → List ℕ → DecodeError → Type 0) (b : List ℕ) → FineOrWrong Inner InnerFault shapes.Text (bytes b)
 text_some Inner InnerFault b = elim (cases_Bool (is_utf8 b)) [
@@ -90,7 +90,7 @@ abbrev IsAmong : (Message → Type 0) → Shape → Type 0
 IsAmong These (shapes.Inner m) = These m
 IsAmong These _ = Unit {0}
 
-module _ (Inner : Message → List ℕ → Type 0) (InnerFault : Message → List ℕ → DecodeError → Type 0) (These : Message → Type 0) (inner : (m : Message) (bs : List ℕ) → These m → AreBytes bs → Inner m bs ⊎ Fault (InnerFault m bs)) where
+module _ (Inner : Message → List ℕ → Type 0) (InnerFault : Message → List ℕ → DecodeError → Type 0) (These : Message → Type 0) (inner : (m : Message) (bs : List ℕ) → These m → AreBytes bs → Inner m bs ⊎ SomeFault (InnerFault m bs)) where
   contents_some : (s : Shape) (x : Contents) → IsAmong These s → HoldsBytes x → FineOrWrong Inner InnerFault s x
   contents_some shapes.Text (bytes b) among are = text_some Inner InnerFault b
   contents_some shapes.Numbers (bytes b) among are = packed_some b are
@@ -107,7 +107,7 @@ module _ (Inner : Message → List ℕ → Type 0) (InnerFault : Message → Lis
   -- ---- messages
 
   module _ (m : Message) (among : (n : ℕ) → IsAmong These (shape m n)) where
-    fields_more : (most : ℕ) (bs : List ℕ) (ps : List Part) (mid : List ℕ) → FieldsBy Inner m bs ps mid → length mid < most → AreBytes mid → ((qs : List Part) × FieldsBy Inner m bs qs []) ⊎ Fault (FaultBy Inner (IsWrong InnerFault) m bs)
+    fields_more : (most : ℕ) (bs : List ℕ) (ps : List Part) (mid : List ℕ) → FieldsBy Inner m bs ps mid → length mid < most → AreBytes mid → ((qs : List Part) × FieldsBy Inner m bs qs []) ⊎ SomeFault (FaultBy Inner (IsWrong InnerFault) m bs)
     fields_more zero bs ps mid before less are = absurd (omega (arith, less))
     fields_more (suc most) bs ps [] before less are = inl (ps, before)
     fields_more (suc most) bs ps (b ∷ mid) before less are = elim (field_some m (b ∷ mid) are) [
@@ -120,7 +120,7 @@ module _ (Inner : Message → List ℕ → Type 0) (InnerFault : Message → Lis
       | inr fault ↦ inr (fault.0, record { fields = ps; mid = b ∷ mid; before = before; inside = omega arith; here = inl fault.1 })
     ]
 
-    pub message_some : (bs : List ℕ) → AreBytes bs → ((qs : List Part) × FieldsBy Inner m bs qs []) ⊎ Fault (FaultBy Inner (IsWrong InnerFault) m bs)
+    pub message_some : (bs : List ℕ) → AreBytes bs → ((qs : List Part) × FieldsBy Inner m bs qs []) ⊎ SomeFault (FaultBy Inner (IsWrong InnerFault) m bs)
     message_some bs are = fields_more (suc (length bs)) bs [] bs refl (omega arith) are
 
 -- ---- the messages that are read
@@ -132,7 +132,7 @@ abbrev IsInner : Message → Type 0
 IsInner messages.File = ⊥
 IsInner _ = Unit {0}
 
-none_inner : (m : Message) (bs : List ℕ) → NoMessage m → AreBytes bs → NoInner m bs ⊎ Fault (NoInnerFault m bs)
+none_inner : (m : Message) (bs : List ℕ) → NoMessage m → AreBytes bs → NoInner m bs ⊎ SomeFault (NoInnerFault m bs)
 none_inner m bs none are = absurd none
 
 symbol_known : (a b : Bool) → IsAmong NoMessage (cond a shapes.Number (cond b shapes.Text shapes.Unknown))
@@ -168,7 +168,7 @@ file_known false false false false false = tt
 file_shapes : (n : ℕ) → IsAmong IsInner (shape messages.File n)
 file_shapes n = file_known (n == 1) ((n == 2) || (n == 3)) (n == 4) (n == 5) ((n == 6) || (n == 7))
 
-leaf_some : (m : Message) (bs : List ℕ) → IsInner m → AreBytes bs → SomeLeaf m bs ⊎ Fault (LeafFault m bs)
+leaf_some : (m : Message) (bs : List ℕ) → IsInner m → AreBytes bs → SomeLeaf m bs ⊎ SomeFault (LeafFault m bs)
 leaf_some messages.File bs is are = absurd is
 leaf_some messages.Symbol bs is are = message_some NoInner NoInnerFault NoMessage none_inner messages.Symbol symbol_shapes bs are
 leaf_some messages.Dex bs is are = message_some NoInner NoInnerFault NoMessage none_inner messages.Dex dex_shapes bs are

@@ -22,15 +22,15 @@ pub record Reading (X : Type 0) (At : X → List ℕ → Type 0) : Type 0 where
   pub at : At value rest
   pub are : AreBytes rest
 
-abbrev pub Fault : (DecodeError → Type 0) → Type 0
-Fault Is = (e : DecodeError) × Is e
+abbrev pub SomeFault : (DecodeError → Type 0) → Type 0
+SomeFault Is = (e : DecodeError) × Is e
 
-abbrev pub Some : (X : Type 0) → (X → List ℕ → Type 0) → (DecodeError → Type 0) → Type 0
-Some X At Is = Reading X At ⊎ Fault Is
+abbrev pub ReadingOrFault : (X : Type 0) → (X → List ℕ → Type 0) → (DecodeError → Type 0) → Type 0
+ReadingOrFault X At Is = Reading X At ⊎ SomeFault Is
 
 -- ---- numbers
 
-varint_here : (most b : ℕ) (bs : List ℕ) → 1 ≤ most → b < 128 → AreBytes bs → Some ℕ (VarintAt most (2 * 128 ^ (most - 1)) (b ∷ bs)) (VarintFault most (b ∷ bs))
+varint_here : (most b : ℕ) (bs : List ℕ) → 1 ≤ most → b < 128 → AreBytes bs → ReadingOrFault ℕ (VarintAt most (2 * 128 ^ (most - 1)) (b ∷ bs)) (VarintFault most (b ∷ bs))
 varint_here most b bs le small are = elim (cases_eq most 1) [
   | inl one ↦ elim (cases_lt 1 b) [
     | inl high ↦ inr (errors.Varint, record { front = []; last = b; rest = bs; goes = tt; place = omega (arith, one); high = high; parts = refl })
@@ -41,7 +41,7 @@ varint_here most b bs le small are = elim (cases_eq most 1) [
   | inr other ↦ inl record { value = b; rest = bs; at = varint_last most _ b bs le small (small_fits most b (omega (arith, le, other)) small); are = are }
 ]
 
-varint_some : (bs : List ℕ) (most : ℕ) → 1 ≤ most → AreBytes bs → Some ℕ (VarintAt most (2 * 128 ^ (most - 1)) bs) (VarintFault most bs)
+varint_some : (bs : List ℕ) (most : ℕ) → 1 ≤ most → AreBytes bs → ReadingOrFault ℕ (VarintAt most (2 * 128 ^ (most - 1)) bs) (VarintFault most bs)
 varint_some [] most le are = inr (errors.Truncated, record { goes = tt; short = omega (arith, le) })
 varint_some (b ∷ bs) most le are = elim (cases_lt b 128) [
   | inl small ↦ varint_here most b bs le small are.1
@@ -56,7 +56,7 @@ varint_some (b ∷ bs) most le are = elim (cases_lt b 128) [
   ]
 ]
 
-pub number_some : (bs : List ℕ) → AreBytes bs → Some ℕ (NumberAt bs) (NumberFault bs)
+pub number_some : (bs : List ℕ) → AreBytes bs → ReadingOrFault ℕ (NumberAt bs) (NumberFault bs)
 number_some bs are = varint_some bs 10 (omega arith) are
 
 pub number_either : (bs : List ℕ) → AreBytes bs → ((n : ℕ) × (r : List ℕ) × NumberAt bs n r) ⊎ ((e : DecodeError) × NumberFault bs e)
@@ -64,10 +64,10 @@ number_either bs are = elim (number_some bs are) [ inl n ↦ inl (n.value, n.res
 
 -- ---- keys
 
-abbrev Key : Type 0
-Key = ℕ × Wire
+abbrev KeyParts : Type 0
+KeyParts = ℕ × Wire
 
-abbrev HasKey : List ℕ → Key → List ℕ → Type 0
+abbrev HasKey : List ℕ → KeyParts → List ℕ → Type 0
 HasKey bs k rest = KeyAt bs k.0 k.1 rest
 
 key_of_code : (bs : List ℕ) (code : ℕ) (rest : List ℕ) → NumberAt bs code rest → code < 2 ^ 32 → code % 8 ≤ 5 → 8 ≤ code → KeyAt bs (code / 8) (wire_of (code % 8)) rest
@@ -76,7 +76,7 @@ key_of_code bs code rest at small low high =
     let e : code ≡ code / 8 * 8 + wire_code (wire_of (code % 8)) = omega (arith, back) in
     record { at = subst (λ (n : ℕ). NumberAt bs n rest) e at; positive = omega (arith, high); fits = omega (arith, e, small) }
 
-code_some : (bs : List ℕ) (code : ℕ) (rest : List ℕ) → NumberAt bs code rest → AreBytes rest → Some Key (HasKey bs) (KeyFault bs)
+code_some : (bs : List ℕ) (code : ℕ) (rest : List ℕ) → NumberAt bs code rest → AreBytes rest → ReadingOrFault KeyParts (HasKey bs) (KeyFault bs)
 code_some bs code rest at are = elim (cases_lt code (2 ^ 32)) [
   | inr high ↦ inr (errors.Key, record { code = code; rest = rest; at = at; wrong = inl high })
   | inl small ↦ elim (cases_lt 5 (code % 8)) [
@@ -93,7 +93,7 @@ key_of_fault bs errors.Truncated f = f
 key_of_fault bs errors.Varint f = f
 key_of_fault bs _ f = absurd f
 
-pub key_some : (bs : List ℕ) → AreBytes bs → Some Key (HasKey bs) (KeyFault bs)
+pub key_some : (bs : List ℕ) → AreBytes bs → ReadingOrFault KeyParts (HasKey bs) (KeyFault bs)
 key_some bs are = elim (number_some bs are) [
   | inl code ↦ code_some bs code.value code.rest code.at code.are
   | inr fault ↦ inr (fault.0, key_of_fault bs fault.0 fault.1)
@@ -101,14 +101,14 @@ key_some bs are = elim (number_some bs are) [
 
 -- ---- values
 
-pub record Split (len : ℕ) (bs : List ℕ) : Type 0 where
+pub record SplitBytes (len : ℕ) (bs : List ℕ) : Type 0 where
   pub front : List ℕ
   pub rest : List ℕ
   pub splits : Splits bs len front rest
   pub are_front : AreBytes front
   pub are : AreBytes rest
 
-split_some : (len : ℕ) (bs : List ℕ) → len ≤ length bs → AreBytes bs → Split len bs
+split_some : (len : ℕ) (bs : List ℕ) → len ≤ length bs → AreBytes bs → SplitBytes len bs
 split_some zero bs le are = record { front = []; rest = bs; splits = record { long = refl; parts = refl }; are_front = tt; are = are }
 split_some (suc len) [] le are = absurd (omega (arith, le))
 split_some (suc len) (b ∷ bs) le are =
@@ -126,22 +126,22 @@ abbrev pub HoldsBytes : Contents → Type 0
 HoldsBytes (bytes b) = AreBytes b
 HoldsBytes _ = Unit {0}
 
-abbrev pub HasValue : Wire → List ℕ → Contents → List ℕ → Type 0
-HasValue w bs x rest = ValueAt w bs x rest × HoldsBytes x
+abbrev pub ValueHeld : Wire → List ℕ → Contents → List ℕ → Type 0
+ValueHeld w bs x rest = ValueAt w bs x rest × HoldsBytes x
 
-fixed_some : (len : ℕ) (bs : List ℕ) → AreBytes bs → Some Contents (λ x rest. (x ≡ skipped) × FixedAt bs len rest) (FixedFault len bs)
+fixed_some : (len : ℕ) (bs : List ℕ) → AreBytes bs → ReadingOrFault Contents (λ x rest. (x ≡ skipped) × FixedAt bs len rest) (FixedFault len bs)
 fixed_some len bs are = elim (cases_lt (length bs) len) [
   | inl short ↦ inr (errors.Truncated, short)
   | inr le ↦ let s = split_some len bs le are in inl record { value = skipped; rest = s.rest; at = (refl, record { front = s.front; splits = s.splits }); are = s.are }
 ]
 
-eight_some : (bs : List ℕ) → AreBytes bs → Some Contents (HasValue wires.Eight bs) (ValueFault wires.Eight bs)
+eight_some : (bs : List ℕ) → AreBytes bs → ReadingOrFault Contents (ValueHeld wires.Eight bs) (ValueFault wires.Eight bs)
 eight_some bs are = elim (fixed_some 8 bs are) [
   | inl x ↦ inl record { value = skipped; rest = x.rest; at = (x.at.1, tt); are = x.are }
   | inr fault ↦ inr (fault.0, fault.1)
 ]
 
-four_some : (bs : List ℕ) → AreBytes bs → Some Contents (HasValue wires.Four bs) (ValueFault wires.Four bs)
+four_some : (bs : List ℕ) → AreBytes bs → ReadingOrFault Contents (ValueHeld wires.Four bs) (ValueFault wires.Four bs)
 four_some bs are = elim (fixed_some 4 bs are) [
   | inl x ↦ inl record { value = skipped; rest = x.rest; at = (x.at.1, tt); are = x.are }
   | inr fault ↦ inr (fault.0, fault.1)
@@ -152,7 +152,7 @@ length_of_fault bs errors.Truncated f = inl f
 length_of_fault bs errors.Varint f = f
 length_of_fault bs _ f = absurd f
 
-length_some : (bs : List ℕ) → AreBytes bs → Some Contents (HasValue wires.Length bs) (ValueFault wires.Length bs)
+length_some : (bs : List ℕ) → AreBytes bs → ReadingOrFault Contents (ValueHeld wires.Length bs) (ValueFault wires.Length bs)
 length_some bs are = elim (number_some bs are) [
   | inl len ↦ elim (cases_lt (length len.rest) len.value) [
     | inl short ↦ inr (errors.Truncated, inr record { len = len.value; mid = len.rest; at = len.at; short = short })
@@ -163,7 +163,7 @@ length_some bs are = elim (number_some bs are) [
   | inr fault ↦ inr (fault.0, length_of_fault bs fault.0 fault.1)
 ]
 
-pub value_some : (w : Wire) (bs : List ℕ) → IsPlain w → AreBytes bs → Some Contents (HasValue w bs) (ValueFault w bs)
+pub value_some : (w : Wire) (bs : List ℕ) → IsPlain w → AreBytes bs → ReadingOrFault Contents (ValueHeld w bs) (ValueFault w bs)
 value_some wires.Number bs plain are = elim (number_some bs are) [
   | inl n ↦ inl record { value = number n.value; rest = n.rest; at = (n.at, tt); are = n.are }
   | inr fault ↦ inr (fault.0, fault.1)
@@ -199,13 +199,13 @@ ends_some (a ∷ b ∷ around) n = elim (ends_some (b ∷ around) n) [
   | inr not ↦ inr (ends_later a b around n not)
 ]
 
-plain_some : (w : Wire) (n : ℕ) (around bs : List ℕ) → IsPlain w → AreBytes bs → Some (List ℕ) (λ inner rest. (around ≡ inner) × (x : Contents) × ValueAt w bs x rest) (ValueFault w bs)
+plain_some : (w : Wire) (n : ℕ) (around bs : List ℕ) → IsPlain w → AreBytes bs → ReadingOrFault (List ℕ) (λ inner rest. (around ≡ inner) × (x : Contents) × ValueAt w bs x rest) (ValueFault w bs)
 plain_some w n around bs plain are = elim (value_some w bs plain are) [
   | inl x ↦ inl record { value = around; rest = x.rest; at = (refl, x.value, x.at.0); are = x.are }
   | inr fault ↦ inr fault
 ]
 
-passes_some : (w : Wire) (n : ℕ) (around bs : List ℕ) → AreBytes bs → Some (List ℕ) (Passes w n around bs) (PassFault w n around bs)
+passes_some : (w : Wire) (n : ℕ) (around bs : List ℕ) → AreBytes bs → ReadingOrFault (List ℕ) (Passes w n around bs) (PassFault w n around bs)
 passes_some wires.Begin n around bs are = elim (cases_lt (length around) 100) [
   | inl few ↦ inl record { value = around ++ n ∷ []; rest = bs; at = (few, refl, refl); are = are }
   | inr deep ↦ inr (errors.Depth, deep)
@@ -219,7 +219,7 @@ passes_some wires.Eight n around bs are = plain_some wires.Eight n around bs tt 
 passes_some wires.Length n around bs are = plain_some wires.Length n around bs tt are
 passes_some wires.Four n around bs are = plain_some wires.Four n around bs tt are
 
-token_some : (around bs : List ℕ) → 0 < length around → AreBytes bs → Some (List ℕ) (λ inner rest. Token around bs inner rest) (TokenFault around bs)
+token_some : (around bs : List ℕ) → 0 < length around → AreBytes bs → ReadingOrFault (List ℕ) (λ inner rest. Token around bs inner rest) (TokenFault around bs)
 token_some around bs inside are = elim (key_some bs are) [
   | inl key ↦ elim (passes_some key.value.1 key.value.0 around key.rest key.are) [
     | inl p ↦ inl record { value = p.value; rest = p.rest; at = record { number = key.value.0; wire = key.value.1; mid = key.rest; inside = inside; key = key.at; passes = p.at }; are = p.are }
@@ -234,7 +234,7 @@ token_some around bs inside are = elim (key_some bs are) [
 abbrev pub PassesGroup : ℕ → List ℕ → Contents → List ℕ → Type 0
 PassesGroup n bs x rest = (x ≡ skipped) × GroupAt n bs rest
 
-group_more : (most n : ℕ) (bs around mid : List ℕ) → Tokens (n ∷ []) bs around mid → length mid < most → AreBytes mid → Some Contents (PassesGroup n bs) (GroupFault n bs)
+group_more : (most n : ℕ) (bs around mid : List ℕ) → Tokens (n ∷ []) bs around mid → length mid < most → AreBytes mid → ReadingOrFault Contents (PassesGroup n bs) (GroupFault n bs)
 group_more zero n bs around mid before less are = absurd (omega (arith, less))
 group_more (suc most) n bs [] mid before less are = inl record { value = skipped; rest = mid; at = (refl, before); are = are }
 group_more (suc most) n bs (a ∷ around) mid before less are = elim (token_some (a ∷ around) mid (omega arith) are) [
@@ -244,5 +244,5 @@ group_more (suc most) n bs (a ∷ around) mid before less are = elim (token_some
   | inr fault ↦ inr (fault.0, record { around = a ∷ around; mid = mid; before = before; inside = omega arith; here = fault.1 })
 ]
 
-pub group_some : (n : ℕ) (bs : List ℕ) → AreBytes bs → Some Contents (PassesGroup n bs) (GroupFault n bs)
+pub group_some : (n : ℕ) (bs : List ℕ) → AreBytes bs → ReadingOrFault Contents (PassesGroup n bs) (GroupFault n bs)
 group_some n bs are = group_more (suc (length bs)) n bs (n ∷ []) bs none (omega arith) are

@@ -118,12 +118,12 @@ value_then ps p old has fine =
     } in
     (new, value_more ps p old new s.0 has refl refl refl s.1 refl i.1)
 
-value_some : (qs : List Part) (bs : List ℕ) (ps : List Part) (old : FileValue) → HasValue ps old → FieldsBy SomeLeaf messages.File bs qs [] → (new : FileValue) × HasValue (ps ++ qs) new
-value_some [] bs ps old has f = (old, subst (λ (rs : List Part). HasValue rs old) (sym (append-nil ps)) has)
-value_some (q ∷ qs) bs ps old has f =
+fields_value : (qs : List Part) (bs : List ℕ) (ps : List Part) (old : FileValue) → HasValue ps old → FieldsBy SomeLeaf messages.File bs qs [] → (new : FileValue) × HasValue (ps ++ qs) new
+fields_value [] bs ps old has f = (old, subst (λ (rs : List Part). HasValue rs old) (sym (append-nil ps)) has)
+fields_value (q ∷ qs) bs ps old has f =
     let v = value_then ps q old has f.2 in
-    let w = value_some qs f.0 (ps ++ q ∷ []) v.0 v.1 f.3 in
+    let w = fields_value qs f.0 (ps ++ q ∷ []) v.0 v.1 f.3 in
     (w.0, subst (λ (rs : List Part). HasValue rs w.0) (append_assoc ps (q ∷ []) qs) w.1)
 
 pub record_some : (bs : List ℕ) (ps : List Part) → IsFile bs ps → (v : FileValue) × IsFileRecord bs v
-record_some bs ps is = let v = value_some ps bs [] _ no_fields is in (v.0, (ps, is, v.1))
+record_some bs ps is = let v = fields_value ps bs [] _ no_fields is in (v.0, (ps, is, v.1))
