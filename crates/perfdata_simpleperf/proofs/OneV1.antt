@@ -10,7 +10,7 @@ use Rattle.std.proofs.Math.Seq.{drop-append_seam}
 use Rattle.std.proofs.lemmas.List.Elements.{All-drop, All-head, All-tail}
 use Rattle.perfdata_base.specs.Raw.{HasNoNul}
 use Rattle.perfdata_simpleperf.specs.FileRecord.{Info, no_info, dex_file, elf_file, kernel_module, FileValue, record_value}
-use Rattle.perfdata_simpleperf.specs.FileV1.{ThenAt, ThenFault, ManyAt, ManyFault, NumberAt, NumberFault, BoundedAt, BoundedFault, CountedAt, CountedFault, SymbolAt, SymbolFault, OffsetAt, OffsetFault, InfoAt, InfoFault, TailAt, TailFault, V1At, IsV1, V1Fault}
+use Rattle.perfdata_simpleperf.specs.FileV1.{ThenAt, ThenFault, ManyAt, ManyFault, IntegerAt, IntegerFault, BoundedAt, BoundedFault, CountedAt, CountedFault, SymbolAt, SymbolFault, OffsetAt, OffsetFault, InfoAt, InfoFault, TailAt, TailFault, V1At, IsV1, V1Fault}
 use Rattle.perfdata_simpleperf.specs.NulText.{TextAt, TextFault}
 use Rattle.perfdata_simpleperf.specs.declared.simpleperf.file_record.SimpleperfFileRecord.{SimpleperfFileRecord}
 
@@ -118,7 +118,7 @@ module _ {A : Type 0} (OneAt : List ℕ → A → List ℕ → Type 0) (OneFault
 module _ (number : ℕ → List ℕ → ℕ) where
   -- ---- numbers
 
-  one_number : (size : ℕ) → One (NumberAt number size) (NumberFault number size)
+  one_number : (size : ℕ) → One (IntegerAt number size) (IntegerFault number size)
   one_number size = record {
     same = λ bs a b r s x y. (x.value ∙ sym y.value, x.behind ∙ sym y.behind);
     none = λ bs a r k x f. let enough = x.enough in let few = f.1 in omega (arith, enough, few);
@@ -156,8 +156,8 @@ module _ (number : ℕ → List ℕ → ℕ) where
 
   one_symbol : One (SymbolAt number) (SymbolFault number)
   one_symbol =
-      let tail = one_then (NumberAt number 4) (NumberFault number 4) (λ _. TextAt) (λ _. TextFault) (one_number 4) (λ _. one_text) in
-      let row = one_then (NumberAt number 8) (NumberFault number 8) (λ _. ThenAt (NumberAt number 4) (λ _. TextAt)) (λ _. ThenFault (NumberAt number 4) (NumberFault number 4) (λ _. TextFault)) (one_number 8) (λ _. tail) in
+      let tail = one_then (IntegerAt number 4) (IntegerFault number 4) (λ _. TextAt) (λ _. TextFault) (one_number 4) (λ _. one_text) in
+      let row = one_then (IntegerAt number 8) (IntegerFault number 8) (λ _. ThenAt (IntegerAt number 4) (λ _. TextAt)) (λ _. ThenFault (IntegerAt number 4) (IntegerFault number 4) (λ _. TextFault)) (one_number 8) (λ _. tail) in
       record {
         same = λ bs a b r s x y.
             let e = row.same bs (a.vaddr, (a.len, a.name)) (b.vaddr, (b.len, b.name)) r s x y in
@@ -181,8 +181,8 @@ module _ (number : ℕ → List ℕ → ℕ) where
   one_offset : One (OffsetAt number) (OffsetFault number)
   one_offset = record { same = offset_same; none = offset_none; why = λ bs k l f g. f.1.0 ∙ sym g.1.0 }
 
-  one_offsets : One (CountedAt number (NumberAt number 8)) (CountedFault number (NumberAt number 8) (NumberFault number 8))
-  one_offsets = one_counted (NumberAt number 8) (NumberFault number 8) (one_number 8)
+  one_offsets : One (CountedAt number (IntegerAt number 8)) (CountedFault number (IntegerAt number 8) (IntegerFault number 8))
+  one_offsets = one_counted (IntegerAt number 8) (IntegerFault number 8) (one_number 8)
 
   module _ (t : ℕ) where
     info_same : (bs : List ℕ) (a b : Info) (r s : List ℕ) → InfoAt number t bs a r → InfoAt number t bs b s → (a ≡ b) × (r ≡ s)
@@ -231,7 +231,7 @@ module _ (number : ℕ → List ℕ → ℕ) where
     one_tail =
         let symbols = one_counted (SymbolAt number) (SymbolFault number) one_symbol in
         let row = one_then (CountedAt number (SymbolAt number)) (CountedFault number (SymbolAt number) (SymbolFault number)) (λ _. InfoAt number t) (λ _. InfoFault number t) symbols (λ _. one_info) in
-        one_then (NumberAt number 8) (NumberFault number 8) (λ _. ThenAt (CountedAt number (SymbolAt number)) (λ _. InfoAt number t))
+        one_then (IntegerAt number 8) (IntegerFault number 8) (λ _. ThenAt (CountedAt number (SymbolAt number)) (λ _. InfoAt number t))
         (λ _. ThenFault (CountedAt number (SymbolAt number)) (CountedFault number (SymbolAt number) (SymbolFault number)) (λ _. InfoFault number t)) (one_number 8) (λ _. row)
 
   -- ---- a record

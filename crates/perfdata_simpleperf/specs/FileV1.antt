@@ -31,29 +31,29 @@ module _ {A : Type 0} (OneAt : List ℕ → A → List ℕ → Type 0) where
     pub here : OneFault mid kind
 
 module _ (number : ℕ → List ℕ → ℕ) where
-  -- a number of so many bytes
-  pub record NumberAt (size : ℕ) (bs : List ℕ) (n : ℕ) (rest : List ℕ) : Type 0 where
+  -- an integer of so many bytes
+  pub record IntegerAt (size : ℕ) (bs : List ℕ) (n : ℕ) (rest : List ℕ) : Type 0 where
     pub enough : size ≤ length bs
     pub value : n ≡ number size bs
     pub behind : rest ≡ drop size bs
 
-  abbrev pub NumberFault : ℕ → List ℕ → ErrorKind → Type 0
-  NumberFault size bs kind = (kind ≡ UnexpectedEof) × (length bs < size)
+  abbrev pub IntegerFault : ℕ → List ℕ → ErrorKind → Type 0
+  IntegerFault size bs kind = (kind ≡ UnexpectedEof) × (length bs < size)
 
   -- a number of four bytes that isn't above a bound, which may go by what follows
   module _ (bound : List ℕ → ℕ) where
     pub record BoundedAt (bs : List ℕ) (n : ℕ) (rest : List ℕ) : Type 0 where
-      pub at : NumberAt 4 bs n rest
+      pub at : IntegerAt 4 bs n rest
       pub bounded : n ≤ bound rest
 
     pub record IsAbove (bs : List ℕ) : Type 0 where
       pub n : ℕ
       pub rest : List ℕ
-      pub at : NumberAt 4 bs n rest
+      pub at : IntegerAt 4 bs n rest
       pub above : bound rest < n
 
     abbrev pub BoundedFault : List ℕ → ErrorKind → Type 0
-    BoundedFault bs kind = NumberFault 4 bs kind ⊎ ((kind ≡ InvalidData) × IsAbove bs)
+    BoundedFault bs kind = IntegerFault 4 bs kind ⊎ ((kind ≡ InvalidData) × IsAbove bs)
 
   -- a count of what follows, which is never above the bytes that are left, and so many parts
   module _ {A : Type 0} (OneAt : List ℕ → A → List ℕ → Type 0) where
@@ -65,34 +65,34 @@ module _ (number : ℕ → List ℕ → ℕ) where
 
   -- a symbol: its address, its length, and its name up to a NUL
   abbrev pub SymbolAt : List ℕ → SymbolValue → List ℕ → Type 0
-  SymbolAt bs s rest = ThenAt (NumberAt 8) (λ _. ThenAt (NumberAt 4) (λ _. TextAt)) bs (s.vaddr, (s.len, s.name)) rest
+  SymbolAt bs s rest = ThenAt (IntegerAt 8) (λ _. ThenAt (IntegerAt 4) (λ _. TextAt)) bs (s.vaddr, (s.len, s.name)) rest
 
   abbrev pub SymbolFault : List ℕ → ErrorKind → Type 0
-  SymbolFault bs kind = ThenFault (NumberAt 8) (NumberFault 8) (λ _. ThenFault (NumberAt 4) (NumberFault 4) (λ _. TextFault)) bs kind
+  SymbolFault bs kind = ThenFault (IntegerAt 8) (IntegerFault 8) (λ _. ThenFault (IntegerAt 4) (IntegerFault 4) (λ _. TextFault)) bs kind
 
   -- an offset, which is the greatest number of 64 bits where no byte is left
   abbrev pub OffsetAt : List ℕ → ℕ → List ℕ → Type 0
-  OffsetAt bs n rest = ((length bs ≡ 0) × (n ≡ 2 ^ 64 - 1) × (rest ≡ bs)) ⊎ ((0 < length bs) × NumberAt 8 bs n rest)
+  OffsetAt bs n rest = ((length bs ≡ 0) × (n ≡ 2 ^ 64 - 1) × (rest ≡ bs)) ⊎ ((0 < length bs) × IntegerAt 8 bs n rest)
 
   abbrev pub OffsetFault : List ℕ → ErrorKind → Type 0
-  OffsetFault bs kind = (0 < length bs) × NumberFault 8 bs kind
+  OffsetFault bs kind = (0 < length bs) × IntegerFault 8 bs kind
 
   -- what a record of this type has at its end: offsets for a DEX file, an offset for an ELF file or a kernel module, else nothing
   abbrev pub InfoAt : ℕ → List ℕ → Info → List ℕ → Type 0
-  InfoAt type_ bs (dex_file offsets) rest = (type_ ≡ 3) × CountedAt (NumberAt 8) bs offsets rest
+  InfoAt type_ bs (dex_file offsets) rest = (type_ ≡ 3) × CountedAt (IntegerAt 8) bs offsets rest
   InfoAt type_ bs (elf_file offset) rest = (type_ ≡ 2) × OffsetAt bs offset rest
   InfoAt type_ bs (kernel_module offset) rest = (type_ ≡ 1) × OffsetAt bs offset rest
   InfoAt type_ bs no_info rest = (type_ ≢ 1) × (type_ ≢ 2) × (type_ ≢ 3) × (rest ≡ bs)
 
   abbrev pub InfoFault : ℕ → List ℕ → ErrorKind → Type 0
-  InfoFault type_ bs kind = ((type_ ≡ 3) × CountedFault (NumberAt 8) (NumberFault 8) bs kind) ⊎ (((type_ ≡ 1) ⊎ (type_ ≡ 2)) × OffsetFault bs kind)
+  InfoFault type_ bs kind = ((type_ ≡ 3) × CountedFault (IntegerAt 8) (IntegerFault 8) bs kind) ⊎ (((type_ ≡ 1) ⊎ (type_ ≡ 2)) × OffsetFault bs kind)
 
   -- behind a path and a type: the least address, the symbols, and what the type asks for
   abbrev pub TailAt : ℕ → List ℕ → ℕ × (List SymbolValue × Info) → List ℕ → Type 0
-  TailAt type_ bs tail rest = ThenAt (NumberAt 8) (λ _. ThenAt (CountedAt SymbolAt) (λ _. InfoAt type_)) bs tail rest
+  TailAt type_ bs tail rest = ThenAt (IntegerAt 8) (λ _. ThenAt (CountedAt SymbolAt) (λ _. InfoAt type_)) bs tail rest
 
   abbrev pub TailFault : ℕ → List ℕ → ErrorKind → Type 0
-  TailFault type_ bs kind = ThenFault (NumberAt 8) (NumberFault 8) (λ _. ThenFault (CountedAt SymbolAt) (CountedFault SymbolAt SymbolFault) (λ _. InfoFault type_)) bs kind
+  TailFault type_ bs kind = ThenFault (IntegerAt 8) (IntegerFault 8) (λ _. ThenFault (CountedAt SymbolAt) (CountedFault SymbolAt SymbolFault) (λ _. InfoFault type_)) bs kind
 
   -- a record: its path up to a NUL, its type, which is at most 5, and what is behind these
   abbrev pub V1At : List ℕ → FileValue → List ℕ → Type 0

@@ -10,7 +10,7 @@ use Rattle.perfdata_simpleperf.proofs.Decoding.OneNumber.{One, number_same, numb
 
 -- ---- keys
 
-wire_of : ℕ → Wire
+pub wire_of : ℕ → Wire
 wire_of zero = wires.Number
 wire_of (suc zero) = wires.Eight
 wire_of (suc (suc zero)) = wires.Length
@@ -26,6 +26,15 @@ wire_back wires.Length = refl
 wire_back wires.Begin = refl
 wire_back wires.End = refl
 wire_back wires.Four = refl
+
+pub code_back : (code : ℕ) → code ≤ 5 → wire_code (wire_of code) ≡ code
+unfolding wire_of
+code_back zero le = refl
+code_back (suc zero) le = refl
+code_back (suc (suc zero)) le = refl
+code_back (suc (suc (suc zero))) le = refl
+code_back (suc (suc (suc (suc zero)))) le = refl
+code_back (suc (suc (suc (suc (suc n))))) le = omega (arith, le)
 
 code_small : (w : Wire) → wire_code w ≤ 5
 code_small wires.Number = omega arith

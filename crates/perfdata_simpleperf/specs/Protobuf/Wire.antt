@@ -8,6 +8,9 @@ use Rattle.perfdata_simpleperf.specs.declared.protobuf.wire.Wire.TheVariants as 
 use Rattle.perfdata_simpleperf.specs.declared.protobuf.wire.Value.{Value}
 use Rattle.perfdata_simpleperf.specs.declared.protobuf.wire.Value.TheVariants as values
 
+abbrev pub IsByte : ℕ → Type 0
+IsByte b = b < 256
+
 -- The bytes that spell a number: seven bits in each, the lowest first, and 128 added to each but the
 -- last. A number has many spellings, since bytes for the value 0 may stand at the end.
 abbrev pub IsVarint : List ℕ → ℕ → Type 0

@@ -4,7 +4,7 @@ ghost use Rattle.std.specs.IoError.{error_kind};
 ghost use Rattle.std.specs.declared.io.ErrorKind.{ErrorKind};
 ghost use Rattle.std.specs.declared.io.ErrorKind.TheVariants.{OutOfMemory};
 ghost use Rattle.perfdata_simpleperf.specs.FileRecord.{FileValue, symbol_value, info_value, record_value};
-ghost use Rattle.perfdata_simpleperf.specs.FileV1.{NumberAt, NumberFault, BoundedAt, BoundedFault, CountedAt, CountedFault, SymbolAt, SymbolFault, OffsetAt, OffsetFault, InfoAt, InfoFault, IsV1, V1Fault};
+ghost use Rattle.perfdata_simpleperf.specs.FileV1.{IntegerAt, IntegerFault, BoundedAt, BoundedFault, CountedAt, CountedFault, SymbolAt, SymbolFault, OffsetAt, OffsetFault, InfoAt, InfoFault, IsV1, V1Fault};
 
 use crate::simpleperf::nul_text::split_text;
 use crate::simpleperf::simpleperf_dso_type::{
@@ -20,8 +20,8 @@ use std::io::{Error, ErrorKind, Result};
 
 // The number of four bytes at the front, and what follows it.
 fn u32_at<T: ByteOrder>(bytes: &[u8]) -> Result<(u32, &[u8])>
-    ensures found { IfOk result (λ x. NumberAt T.number_of 4 bytes.now x.0 x.1.now) }
-    ensures fault { IfErr result (λ e. NumberFault T.number_of 4 bytes.now (error_kind e)) }
+    ensures found { IfOk result (λ x. IntegerAt T.number_of 4 bytes.now x.0 x.1.now) }
+    ensures fault { IfErr result (λ e. IntegerFault T.number_of 4 bytes.now (error_kind e)) }
 {
     if bytes.len() < 4 {
         return Err(Error::from(ErrorKind::UnexpectedEof));
@@ -32,8 +32,8 @@ fn u32_at<T: ByteOrder>(bytes: &[u8]) -> Result<(u32, &[u8])>
 
 // The number of eight bytes at the front, and what follows it.
 fn u64_at<T: ByteOrder>(bytes: &[u8]) -> Result<(u64, &[u8])>
-    ensures found { IfOk result (λ x. NumberAt T.number_of 8 bytes.now x.0 x.1.now) }
-    ensures fault { IfErr result (λ e. NumberFault T.number_of 8 bytes.now (error_kind e)) }
+    ensures found { IfOk result (λ x. IntegerAt T.number_of 8 bytes.now x.0 x.1.now) }
+    ensures fault { IfErr result (λ e. IntegerFault T.number_of 8 bytes.now (error_kind e)) }
 {
     if bytes.len() < 8 {
         return Err(Error::from(ErrorKind::UnexpectedEof));
@@ -107,8 +107,8 @@ fn symbols_at<T: ByteOrder>(alloc: Global, bytes: &[u8]) -> Result<(Vec<Simplepe
 
 // The offsets at the front, behind their count, and what follows them.
 fn offsets_at<T: ByteOrder>(alloc: Global, bytes: &[u8]) -> Result<(Vec<u64>, &[u8])>
-    ensures found { IfOk result (λ x. CountedAt T.number_of (NumberAt T.number_of 8) bytes.now x.0.items x.1.now) }
-    ensures fault { IfErr result (λ e. (error_kind e ≡ OutOfMemory) ⊎ CountedFault T.number_of (NumberAt T.number_of 8) (NumberFault T.number_of 8) bytes.now (error_kind e)) }
+    ensures found { IfOk result (λ x. CountedAt T.number_of (IntegerAt T.number_of 8) bytes.now x.0.items x.1.now) }
+    ensures fault { IfErr result (λ e. (error_kind e ≡ OutOfMemory) ⊎ CountedFault T.number_of (IntegerAt T.number_of 8) (IntegerFault T.number_of 8) bytes.now (error_kind e)) }
 {
     let (count, start) = count_at::<T>(bytes)?;
     let mut offsets = Vec::new(alloc);

@@ -1,4 +1,6 @@
+use Rattle.std.proofs.lemmas.List.Elements.{recursion_from_All}
 use Rattle.perfdata_simpleperf.proofs.Decoding.OneNumber.{number_one}
+use Rattle.perfdata_simpleperf.proofs.Decoding.SomeToken.{number_either}
 use Rattle.perfdata_simpleperf.proofs.protobuf.laws.one_number.Goals as goal
 
 pub returns-clause-value : goal.returns-clause-value
@@ -9,3 +11,6 @@ returns-clause-whole c = λ bs. (number_one bs).whole
 
 pub returns-clause-fault : goal.returns-clause-fault
 returns-clause-fault c = λ bs. (number_one bs).fault
+
+pub returns-clause-either : goal.returns-clause-either
+returns-clause-either c = λ bs are. number_either bs (recursion_from_All _ bs are)
