@@ -62,6 +62,7 @@ module _ {R : Type 0} (seen : R → State) where
           quiet = λ _. refl;
           still = λ _. refl;
         };
+        emptied = λ less. absurd (omega (arith, less, all, long));
         long = long;
         kept = is;
         counts = record { faults = refl; pauses = refl };
@@ -96,6 +97,7 @@ module _ {R : Type 0} (seen : R → State) where
         more = omega (arith, ap length s.holds, length-append (jit_held old) s.came);
         between = jit_overflow mid;
         head = c.took.asks.overflow;
+        emptied = c.took.emptied;
         behind = record {
           asked = λ less. asks.asked (omega (arith, all, long));
           had = λ le. asks.had (omega (arith, all, long));

@@ -1,11 +1,11 @@
 -- What a buffered reader holds as bytes come.
-use Rattle.std.proofs.Common.{◌≡◌, ℕ, List, ◌++◌, length, sym, ap, ◌∙◌, append_assoc, Bool, ap₂, take, arith}
+use Rattle.std.proofs.Common.{◌≡◌, ℕ, ◌≤◌, List, ◌++◌, length, sym, ap, ◌∙◌, append_assoc, Bool, ap₂, take, arith}
 use Rattle.perfdata_base.proofs.Gives.{gave_more, prepend_more}
 use Rattle.perfdata_base.specs.Source.{State, prepend, Gave}
 use Rattle.std.specs.Prelude.{true, false, Ok}
 use Rattle.std.proofs.lemmas.List.{length-take-le, take-append-drop}
 use Rattle.perfdata_jit.proofs.Ranges.{part_taken}
-use Rattle.perfdata_jit.specs.BufferedReader.{Keeps, Asks, AskedWhole, AskedShort, ConsumedPart, TakesFront, Skips, SkippedPart, SkippedNone, view, held_in, size_of, is_lost}
+use Rattle.perfdata_jit.specs.BufferedReader.{Keeps, Asks, AskedWhole, AskedShort, ConsumedPart, ConsumedHead, TakesFront, Skips, SkippedPart, SkippedNone, is_overflow_used_up, view, held_in, overflow_of, room_of, size_of, source_of, is_lost}
 use Rattle.perfdata_jit.specs.declared.buffered_reader.BufferedReader.{BufferedReader}
 
 -- the flat bytes stay where what came is held
@@ -67,8 +67,38 @@ module _ {R : Type 0} (seen : R → State) where
           spared = λ le. left.room ∙ asked.asks.spared le;
           quiet = λ le. left.source ∙ asked.asks.quiet le;
         };
+        used_up = λ less. left.used_up (omega (arith, asked.asks.asked less));
         counts = rw still asked.counts;
         size = left.size ∙ k.size;
         found = found;
         finds = left.lost ∙ k.lost ∙ found;
+      }
+
+  -- a head was copied, and a used up overflow buffer emptied
+  pub head_copied : (old mid new : BufferedReader R) (part head : List ℕ) → ConsumedPart seen 16 old part mid → head ≡ part → source_of new ≡ source_of mid → held_in new ≡ held_in mid → overflow_of new ≤ overflow_of mid → (is_overflow_used_up mid → overflow_of new ≡ 0)
+      → (is_overflow_used_up mid → is_overflow_used_up new) → room_of new ≡ room_of mid → size_of new ≡ size_of mid → is_lost new ≡ is_lost mid → ConsumedHead seen old head new
+  head_copied old mid new part head c is source held shorter emptied used_up room size lost =
+      let still : view seen new ≡ view seen mid = ap seen source in
+      record {
+        part = record {
+          long = ap length is ∙ c.long;
+          flat = c.flat ∙ ap (λ l. prepend l (prepend (held_in mid) (view seen mid).bytes)) (sym is) ∙ ap₂ (λ l (s : State). prepend head (prepend l s.bytes)) (sym held) (sym still);
+          came = c.came;
+          gave = rw still c.gave;
+          holds = c.holds ∙ ap₂ (λ a b. a ++ b) (sym is) (sym held);
+          front = λ le. c.front le ∙ ap₂ (λ a b. a ++ b) (sym is) (sym held);
+          asks = record {
+            asked = λ less. omega (arith, c.asks.asked less, shorter);
+            had = λ le. omega (arith, c.asks.had le, shorter);
+            fits = λ le. omega (arith, c.asks.fits le, shorter);
+            spared = λ le. room ∙ c.asks.spared le;
+            quiet = λ le. source ∙ c.asks.quiet le;
+          };
+          used_up = λ less. used_up (c.used_up less);
+          counts = rw still c.counts;
+          size = size ∙ c.size;
+          found = c.found;
+          finds = lost ∙ c.finds;
+        };
+        emptied = λ less. emptied (c.used_up less);
       }

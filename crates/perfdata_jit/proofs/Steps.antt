@@ -135,6 +135,7 @@ module _ {R : Type 0} (seen : R → State) where
           had = λ le. omega (arith, c.took.asks.overflow.had le, skipped.overflow);
           fits = λ le. omega (arith, c.took.asks.overflow.fits le, skipped.overflow);
         };
+        emptied = λ less. omega (arith, c.took.emptied less, skipped.overflow);
         file = record { header = header ∙ s.file.header; order = order ∙ s.file.order; size = skipped.size ∙ s.file.size };
         found = s.found;
         finds = skipped.finds;

@@ -6,7 +6,7 @@ use Rattle.std.specs.declared.io.ErrorKind.TheVariants.{Other, OutOfMemory}
 use Rattle.perfdata_base.specs.Raw.{bytes_of}
 use Rattle.perfdata_base.specs.declared.raw.RawData.{RawData}
 use Rattle.perfdata_base.specs.Source.{State, all_of, prepend, Gave, GaveNone, Failed}
-use Rattle.perfdata_jit.specs.Held.{held_bytes, overflow_len, overflow_room, held_size}
+use Rattle.perfdata_jit.specs.Held.{held_bytes, is_used_up, overflow_len, overflow_room, held_size}
 use Rattle.perfdata_jit.specs.declared.buffered_reader.BufferedReader.{BufferedReader}
 
 -- the source
@@ -20,6 +20,10 @@ held_in r = held_bytes r.held
 -- how long the overflow buffer is
 abbrev pub overflow_of : {R : Type 0} → BufferedReader R → ℕ
 overflow_of r = overflow_len r.held
+
+-- all of it was taken
+abbrev pub is_overflow_used_up : {R : Type 0} → BufferedReader R → Type 0
+is_overflow_used_up r = is_used_up r.held
 
 -- for how many bytes the overflow buffer has memory
 abbrev pub room_of : {R : Type 0} → BufferedReader R → ℕ
@@ -113,16 +117,18 @@ module _ {R : Type 0} (seen : R → State) where
   Asks n old (Ok false) new = AskedShort n old new
   Asks n old (Err e) new = AskRefused n old e new
 
-  -- the first n bytes held were taken, and nothing else was done
+  -- The first n bytes held were taken, and nothing else was done. An overflow buffer no longer than n is used up.
   pub record TakesFront (n : ℕ) (old new : BufferedReader R) : Type 0 where
     pub held : held_in new ≡ drop n (held_in old)
     pub source : source_of new ≡ source_of old
     pub overflow : overflow_of new ≡ overflow_of old
+    pub used_up : overflow_of old ≤ n → is_overflow_used_up new
     pub room : room_of new ≡ room_of old
     pub size : size_of new ≡ size_of old
     pub lost : is_lost new ≡ is_lost old
 
-  -- the first n of the flat bytes were handed out as this part, and taken off; where they were held none came
+  -- The first n of the flat bytes were handed out as this part, and taken off. Where they were held none came; where they weren't the
+  -- overflow buffer is used up.
   pub record ConsumedPart (n : ℕ) (old : BufferedReader R) (part : List ℕ) (new : BufferedReader R) : Type 0 where
     pub long : length part ≡ n
     pub flat : flat_bytes old ≡ prepend part (flat_bytes new)
@@ -131,6 +137,7 @@ module _ {R : Type 0} (seen : R → State) where
     pub holds : held_in old ++ came ≡ part ++ held_in new
     pub front : n ≤ length (held_in old) → held_in old ≡ part ++ held_in new
     pub asks : AsksOnlyFor n old new
+    pub used_up : length (held_in old) < n → is_overflow_used_up new
     pub counts : SameCounts (view old) (view new)
     pub size : size_of new ≡ size_of old
     pub found : is_lost old ≡ false
@@ -152,9 +159,14 @@ module _ {R : Type 0} (seen : R → State) where
   Consumes n old (Ok None) new = ConsumedNone n old new
   Consumes n old (Err e) new = ConsumeRefused n old e new ⊎ SaysLost (is_lost old) old e new
 
+  -- the next sixteen bytes were copied and taken off; where they weren't held the overflow buffer is empty
+  pub record ConsumedHead (old : BufferedReader R) (head : List ℕ) (new : BufferedReader R) : Type 0 where
+    pub part : ConsumedPart 16 old head new
+    pub emptied : length (held_in old) < 16 → overflow_of new ≡ 0
+
   -- what a call for a copy of the next sixteen bytes does
   abbrev pub ConsumesHead : BufferedReader R → Result (Option (List ℕ)) Error → BufferedReader R → Type 0
-  ConsumesHead old (Ok (Some head)) new = ConsumedPart 16 old head new
+  ConsumesHead old (Ok (Some head)) new = ConsumedHead old head new
   ConsumesHead old (Ok None) new = ConsumedNone 16 old new
   ConsumesHead old (Err e) new = ConsumeRefused 16 old e new ⊎ SaysLost (is_lost old) old e new
 

@@ -16,14 +16,19 @@ overflow_len h = vec_len h.overflow
 abbrev pub overflow_room : Held → ℕ
 overflow_room h = vec_capacity h.overflow
 
+-- all of it was taken
+abbrev pub is_used_up : Held → Type 0
+is_used_up h = h.passed ≡ overflow_len h
+
 -- the length of the fixed buffer
 abbrev pub held_size : Held → ℕ
 held_size h = ring_size h.ring
 
--- the first n bytes are gone, and the buffers are as long as they were
+-- The first n bytes are gone, and the buffers are as long as they were. An overflow buffer no longer than n is used up.
 pub record TakesOff (n : ℕ) (old new : Held) : Type 0 where
   pub bytes : held_bytes new ≡ drop n (held_bytes old)
   pub overflow : overflow_len new ≡ overflow_len old
+  pub used_up : overflow_len old ≤ n → is_used_up new
   pub room : overflow_room new ≡ overflow_room old
   pub size : held_size new ≡ held_size old
 

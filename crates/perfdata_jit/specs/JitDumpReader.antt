@@ -59,8 +59,8 @@ pub record AsksFor (size part end held before after : ℕ) : Type 0 where
   pub had : end ≤ held → after ≤ before
   pub fits : part ≤ size → after ≤ before
 
--- The source was asked for a head where it wasn't held, and then for the body behind it where that wasn't held then. Of all bytes that
--- were held in the end none came with the head where the head was held.
+-- The source was asked for a head where it wasn't held, and the overflow buffer is empty once that came. Then it was asked for the body
+-- behind the head where that wasn't held then. Of all bytes that were held in the end none came with the head where the head was held.
 pub record AsksForBoth (size body held all before after : ℕ) : Type 0 where
   pub held_then : ℕ
   pub still : 16 ≤ held → held_then ≡ held
@@ -68,6 +68,7 @@ pub record AsksForBoth (size body held all before after : ℕ) : Type 0 where
   pub most : held_then ≤ all
   pub between : ℕ
   pub head : AsksFor size 16 16 held before between
+  pub emptied : held < 16 → between ≡ 0
   pub behind : AsksFor size body (16 + body) held_then between after
 
 -- so many bytes has the part that is asked for next: a head where it isn't held, and otherwise the body behind it
@@ -116,10 +117,11 @@ module _ {R : Type 0} (seen : R → State) where
     pub found : jit_lost old ≡ false
     pub finds : jit_lost new ≡ false
 
-  -- the head of the next record was told, and it stays the next
+  -- the head of the next record was told, and it stays the next; where it wasn't held the overflow buffer is empty
   pub record TellsHead {A : Type 0} (pick : JitDumpRecordHeader → A) (old : JitDumpReader R) (told : A) (new : JitDumpReader R) : Type 0 where
     pub stays : Stays old new
     pub asks : AsksHead old new
+    pub emptied : length (jit_held old) < 16 → jit_overflow new ≡ 0
     pub there : 16 ≤ length (jit_held new)
     pub is : told ≡ pick (head_in (jit_order old) (jit_held new))
     pub counts : SameCounts (jit_view old) (jit_view new)
@@ -172,10 +174,11 @@ module _ {R : Type 0} (seen : R → State) where
     pub faults : (jit_view new).faults ≡ (jit_view old).faults
     pub asks : AsksRecord (size_in (jit_order old) (jit_held new)) old new
 
-  -- the next head, which stays, is one that no record can have
+  -- the next head, which stays, is one that no record can have; where it wasn't held the overflow buffer is empty
   pub record RefusesSize (old : JitDumpReader R) (e : Error) (new : JitDumpReader R) : Type 0 where
     pub stays : Stays old new
     pub asks : AsksHead old new
+    pub emptied : length (jit_held old) < 16 → jit_overflow new ≡ 0
     pub invalid : IsInvalid (jit_order old) (jit_offset old) (jit_held new)
     pub kind : error_kind e ≡ InvalidData
     pub counts : SameCounts (jit_view old) (jit_view new)
@@ -198,7 +201,8 @@ module _ {R : Type 0} (seen : R → State) where
   Nexts old (Ok None) new = Waits old new
   Nexts old (Err e) new = Refuses old e new
 
-  -- the next record was taken off unread: its bytes were the first of the flat bytes
+  -- The next record was taken off unread: its bytes were the first of the flat bytes. Where its head wasn't held the overflow buffer is
+  -- empty.
   pub record PassesOver (old new : JitDumpReader R) : Type 0 where
     pub bytes : List ℕ
     pub one : IsOneRecord (jit_order old) (jit_offset old) bytes
@@ -208,11 +212,13 @@ module _ {R : Type 0} (seen : R → State) where
     pub counts : SameCounts (jit_view old) (jit_view new)
     pub same : SameSource (jit_view old) (jit_view new)
     pub overflow : AsksFor (jit_size old) 16 16 (length (jit_held old)) (jit_overflow old) (jit_overflow new)
+    pub emptied : length (jit_held old) < 16 → jit_overflow new ≡ 0
     pub file : SameFile old new
     pub found : jit_lost old ≡ false
     pub finds : jit_lost new ≡ false
 
-  -- the next record isn't held whole, as bytes that are held say, and it stays the next
+  -- The next record isn't held whole, as bytes that are held say, and it stays the next. Where its head wasn't held the overflow buffer is
+  -- empty.
   pub record StandsStill (old new : JitDumpReader R) : Type 0 where
     pub flat : jit_bytes old ≡ jit_bytes new
     pub offset : jit_offset new ≡ jit_offset old
@@ -220,11 +226,13 @@ module _ {R : Type 0} (seen : R → State) where
     pub counts : SameCounts (jit_view old) (jit_view new)
     pub same : SameSource (jit_view old) (jit_view new)
     pub overflow : AsksFor (jit_size old) 16 16 (length (jit_held old)) (jit_overflow old) (jit_overflow new)
+    pub emptied : length (jit_held old) < 16 → jit_overflow new ≡ 0
     pub file : SameFile old new
     pub found : jit_lost old ≡ false
     pub finds : jit_lost new ≡ false
 
-  -- the next record isn't held whole, and a seek failed: where the source stands is open
+  -- The next record isn't held whole, and a seek failed: where the source stands is open. Where the record's head wasn't held the overflow
+  -- buffer is empty.
   pub record LosesPlace (old new : JitDumpReader R) : Type 0 where
     pub cut : IsCut (jit_order old) (jit_offset old) (jit_held new)
     pub offset : jit_offset new ≡ jit_offset old
@@ -232,6 +240,7 @@ module _ {R : Type 0} (seen : R → State) where
     pub pauses : (jit_view new).pauses ≡ (jit_view old).pauses
     pub same : SameSource (jit_view old) (jit_view new)
     pub overflow : AsksFor (jit_size old) 16 16 (length (jit_held old)) (jit_overflow old) (jit_overflow new)
+    pub emptied : length (jit_held old) < 16 → jit_overflow new ≡ 0
     pub file : SameFile old new
     pub found : jit_lost old ≡ false
     pub loses : jit_lost new ≡ true

@@ -9,10 +9,11 @@ use Rattle.perfdata_jit.specs.declared.record.JitDumpRecordHeader.{JitDumpRecord
 use Rattle.perfdata_jit.specs.declared.jitdump_reader.JitDumpReader.{JitDumpReader}
 
 module _ {R : Type 0} (seen : R → State) where
-  -- the next head is kept
+  -- the next head is kept; where it wasn't held the overflow buffer is empty
   pub record TookHead (old : JitDumpReader R) (bytes : List ℕ) (new : JitDumpReader R) : Type 0 where
     pub stays : Stays seen old new
     pub asks : AsksHead old new
+    pub emptied : length (jit_held old) < 16 → jit_overflow new ≡ 0
     pub long : length bytes ≡ 16
     pub kept : new.head ≡ Some bytes
     pub counts : SameCounts (jit_view seen old) (jit_view seen new)

@@ -114,14 +114,17 @@ impl<R: Source> BufferedReader<R> {
         }
     }
 
-    // A copy of the next bytes, as many as a record's head has.
+    // A copy of the next bytes, as many as a record's head has. So no buffer need hold them any more.
     pub(crate) fn consume_head(&mut self) -> Result<Option<[u8; 16]>>
         ensures { ConsumesHead R.seen self.old result self.new }
     {
         let mut head = [0u8; 16];
         match self.consume_data(16) {
             Ok(Some(mut bytes)) => match bytes.read_exact(&mut head) {
-                Ok(()) => Ok(Some(head)),
+                Ok(()) => {
+                    self.held.drop_used_up();
+                    Ok(Some(head))
+                }
                 Err(error) => Err(error),
             },
             Ok(None) => Ok(None),

@@ -35,7 +35,7 @@ pub(crate) struct Span {
 
 impl Held {
     ghost use Rattle.perfdata_jit.specs.contracts.held.Held.{the_row};
-    ghost use Rattle.perfdata_jit.specs.Held.{TakesOff, LiesIn, bytes_at, held_bytes, overflow_len, overflow_room, held_size};
+    ghost use Rattle.perfdata_jit.specs.Held.{TakesOff, LiesIn, bytes_at, held_bytes, is_used_up, overflow_len, overflow_room, held_size};
     ghost use Rattle.perfdata_jit.specs.Ring.{ring_bytes, ring_len, ring_size};
 
     pub(crate) fn new(ring: Ring, overflow: Vec<u8>) -> Held
@@ -84,6 +84,21 @@ impl Held {
         if self.passed > 0 {
             self.overflow.copy_within(self.passed..len, 0);
             self.overflow.truncate(len - self.passed);
+            self.passed = 0;
+        }
+    }
+
+    // Empties the overflow buffer where it is used up.
+    pub(crate) fn drop_used_up(&mut self)
+        ensures bytes { held_bytes self.new ≡ held_bytes self.old }
+        ensures shorter { overflow_len self.new ≤ overflow_len self.old }
+        ensures emptied { is_used_up self.old → overflow_len self.new ≡ 0 }
+        ensures used_up { is_used_up self.old → is_used_up self.new }
+        ensures room { overflow_room self.new ≡ overflow_room self.old }
+        ensures size { held_size self.new ≡ held_size self.old }
+    {
+        if self.passed == self.overflow.len() {
+            self.overflow.truncate(0);
             self.passed = 0;
         }
     }

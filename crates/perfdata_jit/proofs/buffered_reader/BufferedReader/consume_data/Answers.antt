@@ -11,7 +11,7 @@ returns-in-Ok-true g c =
         refl,
         λ _. tt,
         consumed seen c.args.count c.args.self.now c.ask.new.self _ _ asked c.take.ensures.value
-            (record { held = left.bytes; source = refl; overflow = left.overflow; room = left.room; size = left.size; lost = refl })
+            (record { held = left.bytes; source = refl; overflow = left.overflow; used_up = left.used_up; room = left.room; size = left.size; lost = refl })
             c.in-Ok.ensures.ok,
       ),
       record { after_borrow = tt },

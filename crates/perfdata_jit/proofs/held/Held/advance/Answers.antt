@@ -14,6 +14,7 @@ returns-clause-off c =
     record {
       bytes = over_dropped h.overflow.items _ (ring_bytes h.ring) h.passed c.len-to.result _ c.args.n (omega arith) (omega arith) c.advance-start.ensures.bytes;
       overflow = refl;
+      used_up = λ le. omega (arith, le, c.len-to.ensures);
       room = refl;
       size = c.advance-start.ensures.size;
     }
