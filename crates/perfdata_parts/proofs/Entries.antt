@@ -6,19 +6,20 @@ use Rattle.std.proofs.Math.Seq.{drop-cons, drop-append_seam}
 use Rattle.std.specs.declared.alloc.Global.{Global}
 use Rattle.std.specs.declared.io.Error.{Error as SourceError}
 use Rattle.std.specs.declared.io.SeekFrom.TheVariants.{Start}
-use Rattle.perfdata_base.specs.Source.{State, Place, all_of, put_at, Stood, Sought}
+use Rattle.perfdata_base.specs.Source.{State, Place, all_of, put_at, IsPlaced, Stood, Sought}
 use Rattle.perfdata_base.specs.Section.{section_of, TookSection}
 use Rattle.perfdata_base.specs.declared.attr.PerfEventAttr.{PerfEventAttr}
 use Rattle.perfdata_base.specs.declared.section.PerfFileSection.{PerfFileSection}
 use Rattle.perfdata_base.specs.declared.source.AppendFault.{AppendFault}
 use Rattle.perfdata_base.specs.declared.source.AppendFault.TheVariants.{Memory as NoMemory, Source}
 use Rattle.perfdata_base.proofs.Cut.{gave_stood, stood_more}
+use Rattle.perfdata_base.proofs.Gives.{gave_none}
 use Rattle.perfdata_base.proofs.Numbers.{ReadsFirst}
 use Rattle.perfdata_parts.specs.AttributeDescription.{attr_in, name_in, ids_in}
 use Rattle.perfdata_parts.specs.Attributes.{IsFramed, SeesNoFrame, IsUnread, OwesAttributes}
 use Rattle.perfdata_parts.specs.Error.{IsShort}
 use Rattle.perfdata_parts.specs.EventIds.{AreIds, BeginWithIds, ReadsIds}
-use Rattle.perfdata_parts.specs.EventTypes.{IsNear, IsSectionThere, IsEntry, IsNoEntry, RefusedEntry, ReadsEntries, IsIdsOf, IsNoIds, RefusedIds, ids_end, behind_ids, StandsBehindIds, IsGiven, Given, StopsGiven, ReadsGivenOf, IsTooFar, DescribesByEntries, NoEntries, TookEntries, StopsEntries, ReadsDescribed}
+use Rattle.perfdata_parts.specs.EventTypes.{IsNear, IsFar, IsSectionThere, IsEntry, IsNoEntry, RefusedEntry, ReadsEntries, IsIdsOf, IsNoIds, RefusedIds, ids_end, behind_ids, StandsBehindIds, IsGiven, Given, StopsGiven, ReadsGivenOf, IsTooFar, DescribesByEntries, NoEntries, TookEntries, StopsEntries, ReadsDescribed}
 use Rattle.perfdata_parts.specs.Part.{Took, error_of}
 use Rattle.perfdata_parts.specs.Run.{SomeBytes, RefusedNext, RefusedAt, IsShortOf, IsUnreadOf, IsFewer, TookOne, Run, IsRun, TookRun}
 use Rattle.perfdata_parts.proofs.Runs.{if_some_more, if_some_both, refused_there, refused_later, sought_gave, unread_carries, cut_next, took_there}
@@ -27,7 +28,8 @@ use Rattle.perfdata_parts.proofs.IdLists.{ids_stay, numbers_long}
 use Rattle.perfdata_parts.specs.declared.feature_sections.AttributeDescription.{AttributeDescription}
 use Rattle.perfdata_parts.specs.declared.feature_sections.event_types.Entry.{Entry}
 use Rattle.perfdata_parts.specs.declared.error.Error.{Error}
-use Rattle.perfdata_parts.specs.declared.error.Error.TheVariants.{IoError, Memory}
+use Rattle.perfdata_parts.specs.declared.error.Error.TheVariants.{IoError, Read, Memory}
+use Rattle.perfdata_parts.specs.declared.error.ReadError.TheVariants.{PerfEventAttr as OfAttr}
 
 if_some_any : (o : Option (List ℕ)) (P : List ℕ → Type 0) → ((xs : List ℕ) → P xs) → IfSome o P
 if_some_any None P any = tt
@@ -134,6 +136,10 @@ module _ (number : ℕ → List ℕ → ℕ) (first : ReadsFirst number) where
       subst (λ e. Stood a c × (e ≢ Memory → RefusedIds number (λ left. left ≡ a) a s e c)) (sym is)
       (let there = cut_there a b c s.offset n (8 * (s.size / 8)) fault sought (cut_next b c (8 * (s.size / 8)) fault cut) in
       (there.0, λ ne. inr (near, there.1 ne)))
+
+  -- they end too far, and the source isn't touched
+  pub ids_far : (a : State) (s : PerfFileSection) → IsPlaced a → IsFar s → Stood a a × (Read OfAttr ≢ Memory → RefusedIds number (λ left. left ≡ a) a s (Read OfAttr) a)
+  ids_far a s placed far = (gave_stood a a [] placed (gave_none a), λ ne. inl (far, refl, refl))
 
   ids_later : (P Q : State → Type 0) (a b c : State) (s : PerfFileSection) (e : Error) → (P c → Q c) → Stood a b → RefusedIds number P b s e c → RefusedIds number Q a s e c
   ids_later P Q a b c s e stands stood refused = elim refused [
