@@ -1,33 +1,35 @@
 -- How the entries of events, and the ids that they tell, come to what they describe, or to the reason why there is none.
-use Rattle.std.proofs.Common.{◌≡◌, ◌≢◌, ℕ, suc, ◌+◌, ◌-◌, ◌*◌, ◌/◌, ◌^◌, ◌<◌, ◌≤◌, List, [], ◌∷◌, ◌++◌, length, take, drop, get_or, sym, ap, ◌∙◌, subst, inl, inr, arith, length-append, length-drop, Option, None, Some}
+use Rattle.std.proofs.Common.{◌≡◌, ◌≢◌, ℕ, suc, ◌+◌, ◌-◌, ◌*◌, ◌/◌, ◌^◌, ◌<◌, ◌≤◌, List, [], ◌∷◌, ◌++◌, length, take, drop, get_or, refl, sym, ap, ◌∙◌, subst, inl, inr, arith, length-append, length-drop, Option, None, Some}
 use Rattle.std.specs.Prelude.{◌⊎◌, IfSome, Result, Ok, Err, Vec}
 use Rattle.std.proofs.lemmas.List.{drop-drop, drop-append-le, length-take-le, take_more, take-append-drop, take_all}
 use Rattle.std.proofs.Math.Seq.{drop-cons, drop-append_seam}
 use Rattle.std.specs.declared.alloc.Global.{Global}
 use Rattle.std.specs.declared.io.Error.{Error as SourceError}
 use Rattle.std.specs.declared.io.SeekFrom.TheVariants.{Start}
-use Rattle.perfdata_base.specs.Source.{State, all_of, Stood, Sought}
+use Rattle.perfdata_base.specs.Source.{State, Place, all_of, put_at, IsPlaced, Stood, Sought}
 use Rattle.perfdata_base.specs.Section.{section_of, TookSection}
 use Rattle.perfdata_base.specs.declared.attr.PerfEventAttr.{PerfEventAttr}
 use Rattle.perfdata_base.specs.declared.section.PerfFileSection.{PerfFileSection}
 use Rattle.perfdata_base.specs.declared.source.AppendFault.{AppendFault}
 use Rattle.perfdata_base.specs.declared.source.AppendFault.TheVariants.{Memory as NoMemory, Source}
 use Rattle.perfdata_base.proofs.Cut.{gave_stood, stood_more}
+use Rattle.perfdata_base.proofs.Gives.{gave_none}
 use Rattle.perfdata_base.proofs.Numbers.{ReadsFirst}
 use Rattle.perfdata_parts.specs.AttributeDescription.{attr_in, name_in, ids_in}
-use Rattle.perfdata_parts.specs.Attributes.{IsFramed, IsNoFrame, IsUnread, OwesAttributes}
+use Rattle.perfdata_parts.specs.Attributes.{IsFramed, SeesNoFrame, IsUnread, OwesAttributes}
 use Rattle.perfdata_parts.specs.Error.{IsShort}
 use Rattle.perfdata_parts.specs.EventIds.{AreIds, BeginWithIds, ReadsIds}
-use Rattle.perfdata_parts.specs.EventTypes.{IsNear, IsSectionThere, IsEntry, IsNoEntry, RefusedEntry, ReadsEntries, IsIdsOf, IsNoIds, RefusedIds, IsGiven, Given, StopsGiven, ReadsGivenOf, IsTooFar, DescribesByEntries, NoEntries, TookEntries, StopsEntries, ReadsDescribed}
+use Rattle.perfdata_parts.specs.EventTypes.{IsNear, IsFar, IsSectionThere, IsEntry, IsNoEntry, RefusedEntry, ReadsEntries, IsIdsOf, IsNoIds, RefusedIds, ids_end, behind_ids, StandsBehindIds, IsGiven, Given, StopsGiven, ReadsGivenOf, IsTooFar, DescribesByEntries, NoEntries, TookEntries, StopsEntries, ReadsDescribed}
 use Rattle.perfdata_parts.specs.Part.{Took, error_of}
 use Rattle.perfdata_parts.specs.Run.{SomeBytes, RefusedNext, RefusedAt, IsShortOf, IsUnreadOf, IsFewer, TookOne, Run, IsRun, TookRun}
-use Rattle.perfdata_parts.proofs.Runs.{if_some_more, if_some_both, refused_there, refused_later, unread_carries, cut_next, took_there}
+use Rattle.perfdata_parts.proofs.Runs.{if_some_more, if_some_both, refused_there, refused_later, sought_gave, unread_carries, cut_next, took_there}
 use Rattle.perfdata_parts.proofs.Frames.{frame_carries, frame_stays, framed_filled}
 use Rattle.perfdata_parts.proofs.IdLists.{ids_stay, numbers_long}
 use Rattle.perfdata_parts.specs.declared.feature_sections.AttributeDescription.{AttributeDescription}
 use Rattle.perfdata_parts.specs.declared.feature_sections.event_types.Entry.{Entry}
 use Rattle.perfdata_parts.specs.declared.error.Error.{Error}
-use Rattle.perfdata_parts.specs.declared.error.Error.TheVariants.{IoError, Memory}
+use Rattle.perfdata_parts.specs.declared.error.Error.TheVariants.{IoError, Read, Memory}
+use Rattle.perfdata_parts.specs.declared.error.ReadError.TheVariants.{PerfEventAttr as OfAttr}
 
 if_some_any : (o : Option (List ℕ)) (P : List ℕ → Type 0) → ((xs : List ℕ) → P xs) → IfSome o P
 if_some_any None P any = tt
@@ -47,7 +49,7 @@ cut_later count a b c at e stood refused = refused_later (IsShortOf (IsFewer cou
 cut_owed : (count : ℕ) (a c : State) (at : ℕ) (e : Error) → RefusedAt (IsShortOf (IsFewer count)) (IsUnreadOf (IsFewer count)) a at e c → IfSome (all_of a.place) (λ all. IsShort e × (length (drop at all) < count)) ⊎ OwesAttributes a e c
 cut_owed count a c at e refused = elim refused [
   | inl there ↦ elim there.why [
-    | inl shown ↦ inl shown.1
+    | inl shown ↦ inl (if_some_more (all_of a.place) (λ all. IsShortOf (IsFewer count) e there.front (drop at all)) (λ all. IsShort e × (length (drop at all) < count)) (λ all cut. (cut.0, cut.1)) shown.1)
     | inr source ↦ elim source.1 [ inl failed ↦ inr (inl failed) | inr paused ↦ inr (inr (inl paused)) ]
   ]
   | inr sought ↦ inr (inl sought)
@@ -65,6 +67,10 @@ module _ (number : ℕ → List ℕ → ℕ) (first : ReadsFirst number) where
       let size = ap (number 8) (drop-append-le 8 took.bytes rest (omega arith)) ∙ first 8 (drop 8 took.bytes) rest room in
       let same : section_of number (took.bytes ++ rest) ≡ section_of number took.bytes = λ i. record { offset = offset i; size = size i } in
       (omega (arith, length-append took.bytes rest), took.is ∙ sym same))
+
+  -- the source then stands behind it
+  pub section_place : (a b c : State) (at n : ℕ) (s : PerfFileSection) → Sought a (Start at) n b → TookSection number b s c → c.place ≡ put_at (at + 16) a.place
+  section_place a b c at n s sought took = sought_gave a b c at n took.bytes sought took.gave ∙ ap (λ k. put_at (at + k) a.place) took.long
 
   module _ (attr_size : ℕ) where
     -- an entry's two parts stand in some bytes
@@ -103,7 +109,7 @@ module _ (number : ℕ → List ℕ → ℕ) (first : ReadsFirst number) where
     -- what was refused at a later state was refused
     pub entry_later : (a b c : State) (at : ℕ) (e : Error) → Stood a b → RefusedEntry number attr_size b at e c → RefusedEntry number attr_size a at e c
     entry_later a b c at e stood refused = elim refused [
-      | inl frame ↦ inl (refused_later (IsNoFrame number attr_size) (IsUnread number attr_size) (frame_carries number first attr_size) a b c at e stood frame)
+      | inl frame ↦ inl (refused_later (SeesNoFrame number attr_size) (IsUnread number attr_size) (frame_carries number first attr_size) a b c at e stood frame)
       | inr cut ↦ inr (record {
         attr = cut.attr;
         some = cut.some;
@@ -119,17 +125,25 @@ module _ (number : ℕ → List ℕ → ℕ) (first : ReadsFirst number) where
       let one = took_there (BeginWithIds number (s.size / 8)) a b c s.offset n took.bytes ids sought took.gave (λ rest. ids_stay number first (s.size / 8) took.bytes rest ids took.is) in
       (one.stood, record { near = near; count = ap length took.is.1 ∙ numbers_long number (s.size / 8) took.bytes; are = one.is })
 
+  -- the source then stands behind them
+  pub ids_place : (a b c : State) (s : PerfFileSection) (n : ℕ) (ids : List ℕ) → Sought a (Start s.offset) n b → Took (AreIds number (s.size / 8)) b ids c → c.place ≡ put_at (ids_end s) a.place
+  ids_place a b c s n ids sought took = sought_gave a b c s.offset n took.bytes sought took.gave ∙ ap (λ k. put_at (s.offset + k) a.place) took.is.0
+
   pub ids_unread : (a b c : State) (s : PerfFileSection) (n : ℕ) (fault : AppendFault) (e : Error) → IsNear s → Sought a (Start s.offset) n b → ReadsIds number (s.size / 8) b (Err fault) c → e ≡ error_of fault
-      → Stood a c × (e ≢ Memory → RefusedIds number a s e c)
+      → Stood a c × (e ≢ Memory → RefusedIds number (λ left. left ≡ a) a s e c)
   ids_unread a b c s n NoMemory e near sought some is = (stood_more a b c sought.stood (gave_stood b c some.bytes sought.stood.placed some.gave), λ ne. absurd (ne is))
   ids_unread a b c s n (Source fault) e near sought cut is =
-      subst (λ e. Stood a c × (e ≢ Memory → RefusedIds number a s e c)) (sym is)
+      subst (λ e. Stood a c × (e ≢ Memory → RefusedIds number (λ left. left ≡ a) a s e c)) (sym is)
       (let there = cut_there a b c s.offset n (8 * (s.size / 8)) fault sought (cut_next b c (8 * (s.size / 8)) fault cut) in
       (there.0, λ ne. inr (near, there.1 ne)))
 
-  ids_later : (a b c : State) (s : PerfFileSection) (e : Error) → Stood a b → RefusedIds number b s e c → RefusedIds number a s e c
-  ids_later a b c s e stood refused = elim refused [
-    | inl far ↦ inl far
+  -- they end too far, and the source isn't touched
+  pub ids_far : (a : State) (s : PerfFileSection) → IsPlaced a → IsFar s → Stood a a × (Read OfAttr ≢ Memory → RefusedIds number (λ left. left ≡ a) a s (Read OfAttr) a)
+  ids_far a s placed far = (gave_stood a a [] placed (gave_none a), λ ne. inl (far, refl, refl))
+
+  ids_later : (P Q : State → Type 0) (a b c : State) (s : PerfFileSection) (e : Error) → (P c → Q c) → Stood a b → RefusedIds number P b s e c → RefusedIds number Q a s e c
+  ids_later P Q a b c s e stands stood refused = elim refused [
+    | inl far ↦ inl (far.0, far.1, stands far.2)
     | inr near ↦ inr (near.0, cut_later (8 * (s.size / 8)) a b c s.offset e stood near.1)
   ]
 
@@ -159,7 +173,7 @@ module _ (number : ℕ → List ℕ → ℕ) (first : ReadsFirst number) where
     given_all entries i ds past before = subst (λ l. Given number told names 0 l ds) (take_all i entries past) before
 
     -- the next isn't
-    pub given_stops : (entries : List Entry) (i : ℕ) (z : Entry) (ds : List AttributeDescription) (Stops : PerfFileSection → Type 0) → i < length entries → Given number told names 0 (take i entries) ds → Stops ((get_or entries i z).ids)
+    pub given_stops : (entries : List Entry) (i : ℕ) (z : Entry) (ds : List AttributeDescription) (Stops : List Entry → PerfFileSection → Type 0) → i < length entries → Given number told names 0 (take i entries) ds → Stops (take i entries) ((get_or entries i z).ids)
         → StopsGiven number told names entries Stops
     given_stops entries i z ds Stops low before here = record {
       before = take i entries;
@@ -176,12 +190,25 @@ module _ (number : ℕ → List ℕ → ℕ) (first : ReadsFirst number) where
       → IsGiven number (all_of a.place) names i entry d
   given_one names i a b entry d stood attr name ids = record { attr = attr; name = name; ids = subst (λ o. IsIdsOf number o entry.ids (ids_in d)) stood.all ids }
 
+  behind_push : (place : Option Place) (entries : List Entry) (entry : Entry) → behind_ids place (entries ++ entry ∷ []) ≡ put_at (ids_end entry.ids) (behind_ids place entries)
+  behind_push place [] entry = refl
+  behind_push place (x ∷ xs) entry = behind_push (put_at (ids_end x.ids) place) xs entry
+
+  -- the source stands behind the ids of one more
+  pub behind_more : (start b c : Option Place) (entries : List Entry) (i : ℕ) (z : Entry) → i < length entries → b ≡ behind_ids start (take i entries) → c ≡ put_at (ids_end ((get_or entries i z).ids)) b
+      → c ≡ behind_ids start (take (i + 1) entries)
+  behind_more start b c entries i z low before here =
+      here ∙ ap (put_at (ids_end ((get_or entries i z).ids))) before ∙ sym (behind_push start (take i entries) (get_or entries i z)) ∙ ap (behind_ids start) (sym (take_more entries i z low))
+
   -- the ids of the next weren't read
   pub given_refused : (names : ℕ → Option (List ℕ)) (a b c : State) (entries : List Entry) (i : ℕ) (z : Entry) (ds : List AttributeDescription) (e : Error) → Stood a b → i < length entries → Given number (all_of a.place) names 0 (take i entries) ds
-      → Stood b c × (e ≢ Memory → RefusedIds number b ((get_or entries i z).ids) e c) → Stood a c × (e ≢ Memory → StopsGiven number (all_of a.place) names entries (λ s. RefusedIds number a s e c))
-  given_refused names a b c entries i z ds e stood low before refused = (
+      → b.place ≡ behind_ids a.place (take i entries) → b.pauses ≡ a.pauses → Stood b c × (e ≢ Memory → RefusedIds number (λ left. left ≡ b) b ((get_or entries i z).ids) e c)
+      → Stood a c × (e ≢ Memory → StopsGiven number (all_of a.place) names entries (λ before s. RefusedIds number (StandsBehindIds a a.place before) a s e c))
+  given_refused names a b c entries i z ds e stood low before place pauses refused = (
     stood_more a b c stood refused.0,
-    λ ne. given_stops (all_of a.place) names entries i z ds (λ s. RefusedIds number a s e c) low before (ids_later a b c ((get_or entries i z).ids) e stood (refused.1 ne)),
+    λ ne. given_stops (all_of a.place) names entries i z ds (λ before s. RefusedIds number (StandsBehindIds a a.place before) a s e c) low before
+        (ids_later (λ left. left ≡ b) (StandsBehindIds a a.place (take i entries)) a b c ((get_or entries i z).ids) e
+        (λ same. record { place = ap (λ s. s.place) same ∙ place; pauses = ap (λ s. s.pauses) same ∙ pauses }) stood (refused.1 ne)),
   )
 
 -- ---- the section
@@ -206,40 +233,48 @@ module _ (number : ℕ → List ℕ → ℕ) (attr_size : ℕ) (names : ℕ → 
     },
   )
 
+  -- a source stands behind entries, of which there are some
+  abbrev pub BehindEntries : State → State → List Entry → Type 0
+  BehindEntries a b entries = (0 < length entries → b.place ≡ put_at (s.offset + length entries * (attr_size + 16)) a.place) × (b.pauses ≡ a.pauses)
+
   module _ (first : ReadsFirst number) where
-    stops_later : (a b c : State) (entries : List Entry) (e : Error) → Stood a b → StopsGiven number (all_of b.place) names entries (λ s. RefusedIds number b s e c)
-        → StopsGiven number (all_of a.place) names entries (λ s. RefusedIds number a s e c)
-    stops_later a b c entries e stood stops = record {
-      before = stops.before;
-      next = stops.next;
-      after = stops.after;
-      are = stops.are;
-      ds = stops.ds;
-      given = subst (λ o. Given number o names 0 stops.before stops.ds) stood.all stops.given;
-      here = ids_later number first a b c stops.next.ids e stood stops.here;
-    }
+    stops_later : (a b c : State) (at : Option Place) (entries : List Entry) (e : Error) → Stood a b → (0 < length entries → b.place ≡ at) → b.pauses ≡ a.pauses
+        → StopsGiven number (all_of b.place) names entries (λ before s. RefusedIds number (StandsBehindIds b b.place before) b s e c)
+        → StopsGiven number (all_of a.place) names entries (λ before s. RefusedIds number (StandsBehindIds a at before) a s e c)
+    stops_later a b c at entries e stood place pauses stops =
+        let some : 0 < length entries = omega (arith, ap length stops.are, length-append stops.before (stops.next ∷ stops.after)) in
+        record {
+          before = stops.before;
+          next = stops.next;
+          after = stops.after;
+          are = stops.are;
+          ds = stops.ds;
+          given = subst (λ o. Given number o names 0 stops.before stops.ds) stood.all stops.given;
+          here = ids_later number first (StandsBehindIds b b.place stops.before) (StandsBehindIds a at stops.before) a b c stops.next.ids e
+              (λ stands. record { place = stands.place ∙ ap (λ p. behind_ids p stops.before) (place some); pauses = stands.pauses ∙ pauses }) stood stops.here;
+        }
 
     -- the ids of an entry weren't read
-    described_refused : (a b c : State) (entries : List Entry) (e : Error) → attr_size ≤ 2 ^ 64 - 1 - 16 → s.offset ≤ 2 ^ 64 - 1 - s.size → s.size < 2 ^ 64
+    described_refused : (a b c : State) (entries : List Entry) (e : Error) → BehindEntries a b entries → attr_size ≤ 2 ^ 64 - 1 - 16 → s.offset ≤ 2 ^ 64 - 1 - s.size → s.size < 2 ^ 64
         → TookRun (IsEntry number attr_size) (attr_size + 16) a s.offset s.size entries b → ReadsGivenOf number names b entries (Err e) c
         → (¬ IsTooFar number attr_size names s) × (Stood a c × (e ≢ Memory → StopsEntries number attr_size names s a e c))
-    described_refused a b c entries e low near fits run given = (
+    described_refused a b c entries e stands low near fits run given = (
       can_stand low near fits,
       (
         stood_more a b c run.stood given.0,
         λ ne. inr (record {
           entries = entries;
           run = run_stood number attr_size a b c s.offset s.size entries given.0 run;
-          stops = stops_later a b c entries e run.stood (given.1 ne);
+          stops = stops_later a b c (put_at (s.offset + length entries * (attr_size + 16)) a.place) entries e run.stood stands.0 stands.1 (given.1 ne);
         }),
       ),
     )
 
     -- a reading of what entries describe is one of their section
-    pub described_result : (a b c : State) (entries l : List Entry) (r : Result (Vec AttributeDescription Global) Error) → l ≡ entries → attr_size ≤ 2 ^ 64 - 1 - 16 → s.offset ≤ 2 ^ 64 - 1 - s.size → s.size < 2 ^ 64
+    pub described_result : (a b c : State) (entries l : List Entry) (r : Result (Vec AttributeDescription Global) Error) → l ≡ entries → BehindEntries a b entries → attr_size ≤ 2 ^ 64 - 1 - 16 → s.offset ≤ 2 ^ 64 - 1 - s.size → s.size < 2 ^ 64
         → TookRun (IsEntry number attr_size) (attr_size + 16) a s.offset s.size entries b → ReadsGivenOf number names b l r c → ReadsDescribed number attr_size names s a r c
-    described_result a b c entries l (Ok v) same low near fits run given = described_took a b c entries v low near fits run (subst (λ l. ReadsGivenOf number names b l (Ok v) c) same given)
-    described_result a b c entries l (Err e) same low near fits run given = inr (described_refused a b c entries e low near fits run (subst (λ l. ReadsGivenOf number names b l (Err e) c) same given))
+    described_result a b c entries l (Ok v) same stands low near fits run given = described_took a b c entries v low near fits run (subst (λ l. ReadsGivenOf number names b l (Ok v) c) same given)
+    described_result a b c entries l (Err e) same stands low near fits run given = inr (described_refused a b c entries e stands low near fits run (subst (λ l. ReadsGivenOf number names b l (Err e) c) same given))
 
   -- an entry wasn't read
   pub entries_refused : (a b : State) (e : Error) → attr_size ≤ 2 ^ 64 - 1 - 16 → s.offset ≤ 2 ^ 64 - 1 - s.size → s.size < 2 ^ 64 → ReadsEntries number attr_size a s (Err e) b
@@ -257,7 +292,7 @@ module _ (number : ℕ → List ℕ → ℕ) (attr_size : ℕ) (names : ℕ → 
   pub entries_described : (old : State) (ds : List AttributeDescription) (new : State) → TookEntries number attr_size names s old ds new → IfSome (all_of old.place) (λ all. DescribesByEntries number attr_size names s all ds)
   entries_described old ds new took = told_entries (all_of old.place) took.entries ds took.run.is took.given
 
-  told_stops : (o : Option (List ℕ)) (entries : List Entry) (e : Error) (Stops : PerfFileSection → Type 0) → IfSome o (λ all. IsRun (IsEntry number attr_size) (attr_size + 16) s.offset s.size all entries)
+  told_stops : (o : Option (List ℕ)) (entries : List Entry) (e : Error) (Stops : List Entry → PerfFileSection → Type 0) → IfSome o (λ all. IsRun (IsEntry number attr_size) (attr_size + 16) s.offset s.size all entries)
       → (stops : StopsGiven number o names entries Stops) → IfSome o (λ all. IsNoIds number e stops.next.ids all) → IfSome o (λ all. NoEntries number attr_size names s e all)
   told_stops None entries e Stops run stops here = tt
   told_stops (Some all) entries e Stops run stops here = inr (record {
@@ -267,9 +302,9 @@ module _ (number : ℕ → List ℕ → ℕ) (attr_size : ℕ) (names : ℕ → 
   })
 
   -- the ids of a section weren't read: all bytes show it, or the source failed or paused
-  ids_owed : (a c : State) (t : PerfFileSection) (e : Error) → RefusedIds number a t e c → IfSome (all_of a.place) (λ all. IsNoIds number e t all) ⊎ OwesAttributes a e c
-  ids_owed a c t e refused = elim refused [
-    | inl far ↦ inl (if_some_any (all_of a.place) (λ all. IsNoIds number e t all) (λ all. inl far))
+  ids_owed : (P : State → Type 0) (a c : State) (t : PerfFileSection) (e : Error) → RefusedIds number P a t e c → IfSome (all_of a.place) (λ all. IsNoIds number e t all) ⊎ OwesAttributes a e c
+  ids_owed P a c t e refused = elim refused [
+    | inl far ↦ inl (if_some_any (all_of a.place) (λ all. IsNoIds number e t all) (λ all. inl (far.0, far.1)))
     | inr near ↦ elim (cut_owed (8 * (t.size / 8)) a c t.offset e near.1) [
       | inl shown ↦ inl (if_some_more (all_of a.place) (λ all. IsShort e × (length (drop t.offset all) < 8 * (t.size / 8))) (λ all. IsNoIds number e t all) (λ all cut. inr (near.0, cut.0, cut.1)) shown)
       | inr owes ↦ inr owes
@@ -284,7 +319,7 @@ module _ (number : ℕ → List ℕ → ℕ) (attr_size : ℕ) (names : ℕ → 
   entry_owed a c at e refused = elim refused [
     | inl frame ↦ elim frame [
       | inl there ↦ elim there.why [
-        | inl shown ↦ inl (if_some_more (all_of a.place) (λ all. IsNoFrame number attr_size e (drop at all)) (λ all. IsNoEntry number attr_size e (drop at all)) (λ all none. inl none) shown.1)
+        | inl shown ↦ inl (if_some_more (all_of a.place) (λ all. SeesNoFrame number attr_size e there.front (drop at all)) (λ all. IsNoEntry number attr_size e (drop at all)) (λ all none. inl none.0) shown.1)
         | inr source ↦ inr (inr (inr (source.0.0, source.1)))
       ]
       | inr sought ↦ inr (inl sought)
@@ -304,8 +339,10 @@ module _ (number : ℕ → List ℕ → ℕ) (attr_size : ℕ) (names : ℕ → 
       | inl shown ↦ inl (entry_shown (all_of old.place) e run.before run.few run.are shown)
       | inr owes ↦ inr owes
     ]
-    | inr ids ↦ elim (ids_owed old new ids.stops.next.ids e ids.stops.here) [
-      | inl shown ↦ inl (told_stops (all_of old.place) ids.entries e (λ t. RefusedIds number old t e new) ids.run.is ids.stops shown)
-      | inr owes ↦ inr owes
-    ]
+    | inr ids ↦
+        let at = put_at (s.offset + length ids.entries * (attr_size + 16)) old.place in
+        elim (ids_owed (StandsBehindIds old at ids.stops.before) old new ids.stops.next.ids e ids.stops.here) [
+          | inl shown ↦ inl (told_stops (all_of old.place) ids.entries e (λ before t. RefusedIds number (StandsBehindIds old at before) old t e new) ids.run.is ids.stops shown)
+          | inr owes ↦ inr owes
+        ]
   ]

@@ -14,7 +14,7 @@ use Rattle.perfdata_base.proofs.Cut.{gave_stood, stood_more, failed_after_stood,
 use Rattle.perfdata_base.proofs.Gives.{gave_more, gave_none, gave_none_later, failed_later, paused_later}
 use Rattle.perfdata_base.proofs.Numbers.{ReadsFirst}
 use Rattle.perfdata_parts.specs.AttributeDescription.{DescribedEvent, event_in, events_in}
-use Rattle.perfdata_parts.specs.Attributes.{IsFramed, IsNoFrame, TookFrame, OwesAttributes}
+use Rattle.perfdata_parts.specs.Attributes.{IsFramed, SeesNoFrame, TookFrame, OwesAttributes}
 use Rattle.perfdata_parts.specs.EventIds.{AreIds, ReadsIds}
 use Rattle.perfdata_parts.specs.EventDesc.{IsTail, IsCutTail, ReadsTail, IsEvent, AreEvents, IsNoEvent, PassedFrame, UnsoughtEnd, RefusedFrame, PassesFrame, RefusedEvent, ReadsEvents, TookEvents, StopsEvents, IsEventDesc, DescribesByEventDesc, NoEventDesc, StopsEventDesc, ReadsEventDesc, count_in, size_in}
 use Rattle.perfdata_parts.specs.Part.{Took, Stopped, error_of}
@@ -291,16 +291,16 @@ module _ (number : ℕ → List ℕ → ℕ) (first : ReadsFirst number) where
     event_owed : (a c : State) (e : Error) → IsPlaced a → RefusedEvent number attr_size a e c → IfSome a.bytes (IsNoEvent number attr_size e) ⊎ OwesAttributes a e c
     event_owed a c e placed refused = elim refused [
       | inl frame ↦ elim frame.why [
-        | inl bytes ↦ inl (if_some_more a.bytes (IsNoFrame number attr_size e) (IsNoEvent number attr_size e) (λ xs none. inl none) bytes.1)
+        | inl bytes ↦ inl (if_some_more a.bytes (SeesNoFrame number attr_size e frame.front) (IsNoEvent number attr_size e) (λ xs none. inl none.0) bytes.1)
         | inr source ↦ inr (inr (inr (source.0.0, source.1)))
       ]
       | inr behind ↦ elim behind [
         | inl end ↦ inr (inl (end.io, failed_later a end.mid c end.took.bytes end.took.gave end.failed))
         | inr cut ↦ elim cut.next.why [
-          | inl bytes ↦ inl (if_some_both a.bytes (λ xs. IsFramed number attr_size xs cut.attr) (λ xs. IsShortOf (IsCutTail number) e (drop attr_size xs)) (IsNoEvent number attr_size e)
+          | inl bytes ↦ inl (if_some_both a.bytes (λ xs. IsFramed number attr_size xs cut.attr) (λ xs. IsShortOf (IsCutTail number) e cut.next.front (drop attr_size xs)) (IsNoEvent number attr_size e)
               (λ xs framed none. inr ((cut.attr, framed), none.0, none.1))
               cut.passed.is
-              (cut_behind a.bytes (IsShortOf (IsCutTail number) e) (subst (λ o. IfSome o (IsShortOf (IsCutTail number) e)) (bytes_moved a cut.mid attr_size placed cut.passed.stood.placed cut.passed.place) bytes.1)))
+              (cut_behind a.bytes (IsShortOf (IsCutTail number) e cut.next.front) (subst (λ o. IfSome o (IsShortOf (IsCutTail number) e cut.next.front)) (bytes_moved a cut.mid attr_size placed cut.passed.stood.placed cut.passed.place) bytes.1)))
           | inr source ↦ elim source.1 [
             | inl failed ↦ inr (inl (failed.0, failed_after_stood a cut.mid c cut.passed.stood failed.1))
             | inr paused ↦ inr (inr (inl (paused.0, paused_after_stood a cut.mid c cut.passed.stood paused.1)))
@@ -365,7 +365,7 @@ module _ (number : ℕ → List ℕ → ℕ) (first : ReadsFirst number) where
   pub event_desc_owed : (old : State) (e : Error) (new : State) → IsPlaced old → StopsEventDesc number old e new → IfSome old.bytes (NoEventDesc number e) ⊎ OwesAttributes old e new
   event_desc_owed old e new placed stops = elim stops [
     | inl cut ↦ elim cut.why [
-      | inl bytes ↦ inl (if_some_more old.bytes (IsShortOf (IsFewer 8) e) (NoEventDesc number e) (λ xs none. inl none) bytes.1)
+      | inl bytes ↦ inl (if_some_more old.bytes (IsShortOf (IsFewer 8) e cut.front) (NoEventDesc number e) (λ xs none. inl (none.0, none.1)) bytes.1)
       | inr source ↦ elim source.1 [ inl failed ↦ inr (inl failed) | inr paused ↦ inr (inr (inl paused)) ]
     ]
     | inr behind ↦

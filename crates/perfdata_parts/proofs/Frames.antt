@@ -14,7 +14,7 @@ use Rattle.perfdata_base.specs.declared.attr.PerfEventAttr.{PerfEventAttr}
 use Rattle.perfdata_base.specs.declared.section.PerfFileSection.{PerfFileSection}
 use Rattle.perfdata_parts.specs.AttributeDescription.{attr_in, name_in, ids_in}
 use Rattle.perfdata_parts.specs.Run.{RefusedNext, TookOne}
-use Rattle.perfdata_parts.specs.Attributes.{IsUnread, IsFramed, IsCutFrame, IsNoFrame, TookFrame, ReadsFrame, ReadsFrameAt, IsDescribed, IsNoSection}
+use Rattle.perfdata_parts.specs.Attributes.{IsUnread, IsFramed, IsCutFrame, SeesNoFrame, TookFrame, ReadsFrame, ReadsFrameAt, IsDescribed, IsNoSection}
 use Rattle.perfdata_parts.proofs.Runs.{if_some_more, later, why_bytes, why_few, refused_there, took_there, Carries}
 use Rattle.perfdata_parts.specs.declared.feature_sections.AttributeDescription.{AttributeDescription}
 use Rattle.perfdata_parts.specs.declared.error.Error.{Error}
@@ -24,32 +24,39 @@ use Rattle.perfdata_parts.specs.declared.error.ReadError.TheVariants.{PerfEventA
 zeros : (n : ℕ) → (xs : List ℕ) × (length xs ≡ n)
 zeros n = (replicate n 0, length-replicate n 0)
 
+first_eight : (head rest : List ℕ) → length head ≡ 8 → head ≡ take 8 (head ++ rest)
+first_eight head rest long = sym (ap (λ n. take n (head ++ rest)) (sym long) ∙ take-append_seam head rest)
+
 module _ (number : ℕ → List ℕ → ℕ) (first : (n : ℕ) (xs ys : List ℕ) → n ≤ length xs → number n (xs ++ ys) ≡ number n xs) (attr_size : ℕ) where
   -- the first eight bytes were refused
-  pub frame_head_refused : (a b : State) (e : SourceError) → RefusedOwn number a e b → RefusedNext (IsNoFrame number attr_size) (IsUnread number attr_size) a (Read OfAttr) b
+  pub frame_head_refused : (a b : State) (e : SourceError) → RefusedOwn number a e b → RefusedNext (SeesNoFrame number attr_size) (IsUnread number attr_size) a (Read OfAttr) b
   frame_head_refused a b e own = record {
     front = own.front;
     gave = own.gave;
     why = elim own.why [
-      | inl short ↦ why_few (IsNoFrame number attr_size) (IsUnread number attr_size) a b own.front (Read OfAttr) own.gave (inl (inl short.0)) (λ end. ((refl, inl short.0), end)) (elim short.1 [ inl none ↦ inl none.1 | inr failed ↦ inr failed ])
-      | inr small ↦ why_bytes (IsNoFrame number attr_size) (IsUnread number attr_size) a b own.front (Read OfAttr) own.gave (λ rest.
+      | inl short ↦ why_few (SeesNoFrame number attr_size) (IsUnread number attr_size) a b own.front (Read OfAttr) own.gave (inl (inl short.0), inl (inl short.0, refl)) (λ end. ((refl, inl short.0), end)) (elim short.1 [ inl none ↦ inl none.1 | inr failed ↦ inr failed ])
+      | inr small ↦ why_bytes (SeesNoFrame number attr_size) (IsUnread number attr_size) a b own.front (Read OfAttr) own.gave (λ rest.
           let size = own_stays number first own.front rest (omega (arith, small.0)) in
-          inr (omega (arith, length-append own.front rest, small.0), omega (arith, small.1, size)))
+          let room : 8 ≤ length (own.front ++ rest) = omega (arith, length-append own.front rest, small.0) in
+          let low : own_size number (own.front ++ rest) < 64 = omega (arith, small.1, size) in
+          (inr (room, low), inr (λ cut. elim cut [ inl few ↦ omega arith | inr part ↦ (let least = part.0 in omega arith) ], first_eight own.front rest small.0)))
     ];
   }
 
   -- the attribute's own size is above the frame's
-  pub frame_too_long : (a b : State) (head : List ℕ) (own : ℕ) → length head ≡ 8 → TookOwn number a head own b → attr_size < own → RefusedNext (IsNoFrame number attr_size) (IsUnread number attr_size) a (InconsistentAttributeSizes own attr_size) b
+  pub frame_too_long : (a b : State) (head : List ℕ) (own : ℕ) → length head ≡ 8 → TookOwn number a head own b → attr_size < own → RefusedNext (SeesNoFrame number attr_size) (IsUnread number attr_size) a (InconsistentAttributeSizes own attr_size) b
   frame_too_long a b head own long took more = record {
     front = head;
     gave = took.gave;
-    why = why_bytes (IsNoFrame number attr_size) (IsUnread number attr_size) a b head (InconsistentAttributeSizes own attr_size) took.gave (λ rest.
+    why = why_bytes (SeesNoFrame number attr_size) (IsUnread number attr_size) a b head (InconsistentAttributeSizes own attr_size) took.gave (λ rest.
         let size = own_stays number first head rest (omega arith) in
-        (omega (arith, length-append head rest), took.is ∙ sym size, refl, took.least, more));
+        let room : 8 ≤ length (head ++ rest) = omega (arith, length-append head rest) in
+        let same : own ≡ own_size number (head ++ rest) = took.is ∙ sym size in
+        ((room, same, refl, took.least, more), inr (λ cut. elim cut [ inl few ↦ omega arith | inr part ↦ (let within = part.1 in omega arith) ], first_eight head rest long)));
   }
 
   -- what should follow the first eight bytes ended early
-  pub frame_rest_refused : (a b c : State) (head : List ℕ) (own : ℕ) (e : SourceError) → length head ≡ 8 → TookOwn number a head own b → own ≤ attr_size → CutShort b (own - 8) e c → RefusedNext (IsNoFrame number attr_size) (IsUnread number attr_size) a (Read OfAttr) c
+  pub frame_rest_refused : (a b c : State) (head : List ℕ) (own : ℕ) (e : SourceError) → length head ≡ 8 → TookOwn number a head own b → own ≤ attr_size → CutShort b (own - 8) e c → RefusedNext (SeesNoFrame number attr_size) (IsUnread number attr_size) a (Read OfAttr) c
   frame_rest_refused a b c head own e long took within cut =
       let size : own_size number (head ++ cut.part) ≡ own = own_stays number first head cut.part (omega arith) ∙ sym took.is in
       let least = took.least in
@@ -58,8 +65,8 @@ module _ (number : ℕ → List ℕ → ℕ) (first : (n : ℕ) (xs ys : List �
       record {
         front = head ++ cut.part;
         gave = gave_more a b c head cut.part took.gave cut.gave;
-        why = why_few (IsNoFrame number attr_size) (IsUnread number attr_size) a c (head ++ cut.part) (Read OfAttr) (gave_more a b c head cut.part took.gave cut.gave)
-            (inl few) (λ end. ((refl, few), end)) (elim cut.why [
+        why = why_few (SeesNoFrame number attr_size) (IsUnread number attr_size) a c (head ++ cut.part) (Read OfAttr) (gave_more a b c head cut.part took.gave cut.gave)
+            (inl few, inl (few, refl)) (λ end. ((refl, few), end)) (elim cut.why [
               | inl short ↦ inl (gave_none_later a b c head took.gave short.1)
               | inr failed ↦ inr (failed_later a b c head took.gave failed)
             ]);
@@ -133,7 +140,7 @@ module _ (number : ℕ → List ℕ → ℕ) (first : (n : ℕ) (xs ys : List �
   -- a seek, and a frame behind it or none
   pub frame_result : (a b c : State) (at n : ℕ) (r : Result PerfEventAttr Error) → Sought a (Start at) n b → ReadsFrame number attr_size b r c → ReadsFrameAt number attr_size a at r c
   frame_result a b c at n (Ok attr) sought took = took_there (IsFramed number attr_size) a b c at n took.bytes attr sought took.gave (λ rest. frame_stays took.bytes rest attr took.is)
-  frame_result a b c at n (Err e) sought refused = refused_there (IsNoFrame number attr_size) (IsUnread number attr_size) frame_carries a b c at n e sought refused
+  frame_result a b c at n (Err e) sought refused = refused_there (SeesNoFrame number attr_size) (IsUnread number attr_size) frame_carries a b c at n e sought refused
 
   -- the attribute of a frame is described with no name and no ids
   pub described : (a b : State) (at : ℕ) (attr : PerfEventAttr) (d : AttributeDescription) → attr_in d ≡ attr → name_in d ≡ None → ids_in d ≡ [] → TookOne (IsFramed number attr_size) a at attr b → TookOne (IsDescribed number attr_size) a at d b

@@ -1,7 +1,8 @@
 -- How things read at places come to a list of them, or to the reason why there is none.
-use Rattle.std.proofs.Common.{◌≡◌, ◌≢◌, ℕ, ◌+◌, ◌-◌, ◌*◌, ◌/◌, ◌^◌, ◌<◌, ◌≤◌, ◌++◌, List, [], ◌∷◌, length, drop, All, refl, sym, ap, ◌∙◌, subst, inl, inr, arith, length-append, Option, None, Some, suc}
+use Rattle.std.proofs.Common.{◌≡◌, ◌≢◌, ℕ, ◌+◌, ◌-◌, ◌*◌, ◌/◌, ◌^◌, ◌<◌, ◌≤◌, ◌++◌, List, [], ◌∷◌, length, take, drop, All, refl, sym, ap, ◌∙◌, subst, inl, inr, arith, length-append, Option, None, Some, suc}
 use Rattle.std.specs.Prelude.{◌⊎◌, IfSome}
 use Rattle.std.proofs.lemmas.Nat.{div-mul-add, le-div}
+use Rattle.std.proofs.Math.Seq.{take-append_seam}
 use Rattle.std.proofs.lemmas.List.Elements.{All-push}
 use Rattle.std.specs.declared.io.Error.{Error as SourceError}
 use Rattle.std.specs.declared.io.SeekFrom.TheVariants.{Start}
@@ -49,6 +50,10 @@ placed_on : (place : Option Place) (at n k : ℕ) → ((p : Place) → place ≡
 placed_on None at n k target = refl
 placed_on (Some p) at n k target = ap (λ m. Some (record { all = p.all; at = m + k })) (target p refl)
 
+-- and that is behind them
+pub sought_gave : (a b c : State) (at n : ℕ) (front : List ℕ) → Sought a (Start at) n b → Gave b front c → c.place ≡ put_at (at + length front) a.place
+sought_gave a b c at n front sought gave = gave.place ∙ ap (moved (length front)) sought.place ∙ placed_on a.place at n (length front) sought.target
+
 put_in : ℕ → Option (List ℕ) → Option Place
 put_in n None = None
 put_in n (Some all) = Some (record { all = all; at = n })
@@ -59,7 +64,7 @@ put_is n None = refl
 put_is n (Some p) = refl
 
 -- a place in the same bytes
-put_same : (n : ℕ) (place place' : Option Place) → all_of place ≡ all_of place' → put_at n place ≡ put_at n place'
+pub put_same : (n : ℕ) (place place' : Option Place) → all_of place ≡ all_of place' → put_at n place ≡ put_at n place'
 put_same n place place' same = put_is n place ∙ ap (put_in n) same ∙ sym (put_is n place')
 
 far_seek : (a : State) (at : ℕ) → at < 2 ^ 64 → SoughtNowhere a (Start at) → ⊥
@@ -69,16 +74,16 @@ far_seek a at low none = let far : 2 ^ 64 ≤ at = none.nowhere in omega arith
 abbrev pub Carries : (Error → List ℕ → State → State → Type 0) → Type 0
 Carries IsOfRead = (a b c : State) (e : Error) (front : List ℕ) → Stood a b → IsOfRead e front b c → IsOfRead e front a c
 
-module _ (IsNot : Error → List ℕ → Type 0) (IsOfRead : Error → List ℕ → State → State → Type 0) where
+module _ (IsNot : Error → List ℕ → List ℕ → Type 0) (IsOfRead : Error → List ℕ → State → State → Type 0) where
   -- these bytes came, and whatever follows, none begins there
-  pub why_bytes : (a b : State) (front : List ℕ) (e : Error) → Gave a front b → ((rest : List ℕ) → IsNot e (front ++ rest)) → Why IsNot IsOfRead a a.bytes (IsNot e) front e b
-  why_bytes a b front e gave none = inl ((front ++ [], none []), shown a.bytes b.bytes front (IsNot e) gave.bytes none)
+  pub why_bytes : (a b : State) (front : List ℕ) (e : Error) → Gave a front b → ((rest : List ℕ) → IsNot e front (front ++ rest)) → Why IsNot IsOfRead a a.bytes (IsNot e front) front e b
+  why_bytes a b front e gave none = inl ((front ++ [], none []), shown a.bytes b.bytes front (IsNot e front) gave.bytes none)
 
   -- these bytes came, too few, and no more as the source gave none or failed
-  pub why_few : (a b : State) (front : List ℕ) (e : Error) → Gave a front b → IsNot e front → (Failed a b ⊎ Paused a b → IsOfRead e front a b) → GaveNone a b ⊎ Failed a b → Why IsNot IsOfRead a a.bytes (IsNot e) front e b
+  pub why_few : (a b : State) (front : List ℕ) (e : Error) → Gave a front b → IsNot e front front → (Failed a b ⊎ Paused a b → IsOfRead e front a b) → GaveNone a b ⊎ Failed a b → Why IsNot IsOfRead a a.bytes (IsNot e front) front e b
   why_few a b front e gave few of_read end = elim end [
     | inl none ↦ elim (none_or_paused a b none) [
-      | inl none ↦ inl ((front, few), if_some_is a.bytes (IsNot e) front (all_came a b front gave none) few)
+      | inl none ↦ inl ((front, few), if_some_is a.bytes (IsNot e front) front (all_came a b front gave none) few)
       | inr paused ↦ inr (of_read (inr paused))
     ]
     | inr failed ↦ inr (of_read (inl failed))
@@ -90,9 +95,11 @@ module _ (IsNot : Error → List ℕ → Type 0) (IsOfRead : Error → List ℕ 
     stood_more a b c sought.stood (gave_stood b c refused.front sought.stood.placed refused.gave),
     λ _. inl (record {
       front = refused.front;
-      place = refused.gave.place ∙ ap (moved (length refused.front)) sought.place ∙ placed_on a.place at n (length refused.front) sought.target;
+      place = sought_gave a b c at n refused.front sought refused.gave;
+      came = placed_bytes a.place b.place b.bytes at n (λ xs. take (length refused.front) xs ≡ refused.front) sought.place sought.stood.placed sought.target
+          (shown b.bytes c.bytes refused.front (λ xs. take (length refused.front) xs ≡ refused.front) refused.gave.bytes (λ rest. take-append_seam refused.front rest));
       why = elim refused.why [
-        | inl bytes ↦ inl (bytes.0, placed_bytes a.place b.place b.bytes at n (IsNot e) sought.place sought.stood.placed sought.target bytes.1)
+        | inl bytes ↦ inl (bytes.0, placed_bytes a.place b.place b.bytes at n (IsNot e refused.front) sought.place sought.stood.placed sought.target bytes.1)
         | inr source ↦ inr (carries a b c e refused.front sought.stood source)
       ];
     }),
@@ -114,8 +121,9 @@ module _ (IsNot : Error → List ℕ → Type 0) (IsOfRead : Error → List ℕ 
     | inl there ↦ inl (record {
       front = there.front;
       place = there.place ∙ put_same (at + length there.front) b.place a.place stood.all;
+      came = subst (λ o. IfSome o (λ all. take (length there.front) (drop at all) ≡ there.front)) stood.all there.came;
       why = elim there.why [
-        | inl bytes ↦ inl (bytes.0, subst (λ o. IfSome o (λ all. IsNot e (drop at all))) stood.all bytes.1)
+        | inl bytes ↦ inl (bytes.0, subst (λ o. IfSome o (λ all. IsNot e there.front (drop at all))) stood.all bytes.1)
         | inr source ↦ inr (carries a b c e there.front stood source)
       ];
     })
@@ -139,7 +147,7 @@ module _ (IsCut : List ℕ → Type 0) where
     gave = gave;
     why = elim why [
       | inl short ↦ elim (none_or_paused a b short.1) [
-        | inl end ↦ inl ((front, (short.0, few)), if_some_is a.bytes (IsShortOf IsCut (IoError e)) front (all_came a b front gave end) (short.0, few))
+        | inl end ↦ inl ((front, (short.0, few, refl)), if_some_is a.bytes (IsShortOf IsCut (IoError e) front) front (all_came a b front gave end) (short.0, few, refl))
         | inr paused ↦ inr (few, inr (short.0, paused))
       ]
       | inr failed ↦ inr (few, inl (tt, failed))

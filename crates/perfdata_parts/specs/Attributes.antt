@@ -1,5 +1,5 @@
 -- Attributes in frames, as the bytes of a file describe them. A frame has so many bytes in all, and the attribute at its front as many as it says.
-use Rattle.std.specs.Prelude.{◌≡◌, ℕ, ◌+◌, ◌^◌, ◌<◌, ◌≤◌, ◌⊎◌, List, [], length, None, Result, Ok, Err, Vec}
+use Rattle.std.specs.Prelude.{◌≡◌, ℕ, ◌+◌, ◌^◌, ◌<◌, ◌≤◌, ◌⊎◌, List, [], length, take, None, Result, Ok, Err, Vec}
 use Rattle.std.specs.declared.alloc.Global.{Global}
 use Rattle.perfdata_base.specs.Source.{State, Gave, Failed, Paused}
 use Rattle.perfdata_base.specs.Attr.{own_size, IsAttr, IsTooSmall}
@@ -34,6 +34,10 @@ module _ (number : ℕ → List ℕ → ℕ) (attr_size : ℕ) where
   IsNoFrame (InconsistentAttributeSizes own size) xs = (8 ≤ length xs) × (own ≡ own_size number xs) × (size ≡ attr_size) × (64 ≤ own) × (attr_size < own)
   IsNoFrame _ xs = ⊥
 
+  -- the same, and this front of the bytes is what a reading takes to see it: all of them where they are cut, and else the first eight
+  abbrev pub SeesNoFrame : Error → List ℕ → List ℕ → Type 0
+  SeesNoFrame e front xs = IsNoFrame e xs × ((IsCutFrame xs × (front ≡ xs)) ⊎ ((¬ IsCutFrame xs) × (front ≡ take 8 xs)))
+
   -- a read of a frame failed or paused, and these of its bytes came
   abbrev pub IsUnread : Error → List ℕ → State → State → Type 0
   IsUnread e xs old new = ((e ≡ Read OfAttr) × IsCutFrame xs) × (Failed old new ⊎ Paused old new)
@@ -49,11 +53,11 @@ module _ (number : ℕ → List ℕ → ℕ) (attr_size : ℕ) where
   -- what a reading of a frame at the front of a source does
   abbrev pub ReadsFrame : State → Result PerfEventAttr Error → State → Type 0
   ReadsFrame old (Ok a) new = TookFrame old a new
-  ReadsFrame old (Err e) new = RefusedNext IsNoFrame IsUnread old e new
+  ReadsFrame old (Err e) new = RefusedNext SeesNoFrame IsUnread old e new
 
   -- what a reading of a frame at a place does
   abbrev pub ReadsFrameAt : State → ℕ → Result PerfEventAttr Error → State → Type 0
-  ReadsFrameAt old at result new = ReadsAt IsFramed IsNoFrame IsUnread old at result new
+  ReadsFrameAt old at result new = ReadsAt IsFramed SeesNoFrame IsUnread old at result new
 
   -- what is described where attributes stand alone: no name, no ids
   pub record IsDescribed (xs : List ℕ) (d : AttributeDescription) : Type 0 where
@@ -73,6 +77,6 @@ module _ (number : ℕ → List ℕ → ℕ) (attr_size : ℕ) where
     -- What a reading of the section does. Where no list can stand there, the source isn't touched. Else it holds the attributes that it gives; or
     -- some came and the next was refused, as no frame stands there, or a read of it failed or paused, or the seek of it failed, which alone gives an I/O error.
     abbrev pub ReadsAttrSection : State → Result (Vec AttributeDescription Global) Error → State → Type 0
-    ReadsAttrSection old (Ok v) new = (¬ IsNoSection) × ReadsRun IsDescribed IsNoFrame IsUnread attr_size old section.offset section.size (Ok v) new
+    ReadsAttrSection old (Ok v) new = (¬ IsNoSection) × ReadsRun IsDescribed SeesNoFrame IsUnread attr_size old section.offset section.size (Ok v) new
     ReadsAttrSection old (Err e) new =
-        (IsNoSection × (e ≡ Read OfAttr) × (new ≡ old)) ⊎ ((¬ IsNoSection) × ReadsRun IsDescribed IsNoFrame IsUnread attr_size old section.offset section.size (Err e) new)
+        (IsNoSection × (e ≡ Read OfAttr) × (new ≡ old)) ⊎ ((¬ IsNoSection) × ReadsRun IsDescribed SeesNoFrame IsUnread attr_size old section.offset section.size (Err e) new)

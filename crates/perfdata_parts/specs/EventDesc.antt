@@ -8,7 +8,7 @@ use Rattle.perfdata_base.specs.declared.attr.PerfEventAttr.{PerfEventAttr}
 use Rattle.perfdata_base.specs.declared.source.AppendFault.{AppendFault}
 use Rattle.perfdata_base.specs.declared.source.AppendFault.TheVariants.{Memory as NoMemory, Source}
 use Rattle.perfdata_parts.specs.AttributeDescription.{DescribedEvent, event_in, events_in}
-use Rattle.perfdata_parts.specs.Attributes.{IsFramed, IsNoFrame, IsUnread, TookFrame}
+use Rattle.perfdata_parts.specs.Attributes.{IsFramed, IsNoFrame, SeesNoFrame, IsUnread, TookFrame}
 use Rattle.perfdata_parts.specs.Error.{IsShort, IsIo}
 use Rattle.perfdata_parts.specs.EventIds.{AreIds}
 use Rattle.perfdata_parts.specs.Part.{Took, Stopped}
@@ -96,7 +96,7 @@ module _ (number : ℕ → List ℕ → ℕ) where
       pub next : RefusedNext (IsShortOf IsCutTail) (IsUnreadOf IsCutTail) mid e new
 
     abbrev pub RefusedFrame : State → Error → State → Type 0
-    RefusedFrame old e new = RefusedNext (IsNoFrame number attr_size) (IsUnread number attr_size) old e new
+    RefusedFrame old e new = RefusedNext (SeesNoFrame number attr_size) (IsUnread number attr_size) old e new
 
     -- what a reading of a frame does that goes to its end
     abbrev pub PassesFrame : State → Result PerfEventAttr Error → State → Type 0

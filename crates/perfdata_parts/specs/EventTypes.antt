@@ -2,12 +2,12 @@
 use Rattle.std.specs.Prelude.{◌≡◌, ◌≢◌, ℕ, ◌+◌, ◌*◌, ◌/◌, ◌^◌, ◌<◌, ◌≤◌, ◌⊎◌, List, [], ◌∷◌, ◌++◌, length, drop, slice_get, Option, Some, Result, Ok, Err, IfSome, Vec, String, string_bytes}
 use Rattle.std.specs.Option.{option_map}
 use Rattle.std.specs.declared.alloc.Global.{Global}
-use Rattle.perfdata_base.specs.Source.{State, Stood, all_of}
+use Rattle.perfdata_base.specs.Source.{State, Place, Stood, put_at, all_of}
 use Rattle.perfdata_base.specs.Section.{IsSection}
 use Rattle.perfdata_base.specs.declared.attr.PerfEventAttr.{PerfEventAttr}
 use Rattle.perfdata_base.specs.declared.section.PerfFileSection.{PerfFileSection}
 use Rattle.perfdata_parts.specs.AttributeDescription.{attr_in, name_in, ids_in}
-use Rattle.perfdata_parts.specs.Attributes.{IsFramed, IsNoFrame, IsUnread}
+use Rattle.perfdata_parts.specs.Attributes.{IsFramed, IsNoFrame, SeesNoFrame, IsUnread}
 use Rattle.perfdata_parts.specs.Error.{IsShort}
 use Rattle.perfdata_parts.specs.EventIds.{BeginWithIds}
 use Rattle.perfdata_parts.specs.Run.{SomeBytes, RefusedAt, IsShortOf, IsUnreadOf, IsFewer, Run, IsRun, TookRun, StopsRunBy, ReadsAt, ReadsAtBy, ReadsRunBy}
@@ -34,6 +34,20 @@ IsNear s = s.offset + s.size < 2 ^ 64
 -- one that doesn't
 abbrev pub IsFar : PerfFileSection → Type 0
 IsFar s = 2 ^ 64 ≤ s.offset + s.size
+
+-- the place behind the whole ids that a section has room for
+abbrev pub ids_end : PerfFileSection → ℕ
+ids_end s = s.offset + 8 * (s.size / 8)
+
+-- the place behind the ids of these entries, or that before them where there are no entries
+abbrev pub behind_ids : Option Place → List Entry → Option Place
+behind_ids place [] = place
+behind_ids place (entry ∷ entries) = behind_ids (put_at (ids_end entry.ids) place) entries
+
+-- the source wasn't touched behind the ids of these entries, the first of which were sought from a place
+pub record StandsBehindIds (old : State) (start : Option Place) (entries : List Entry) (new : State) : Type 0 where
+  pub place : new.place ≡ behind_ids start entries
+  pub pauses : new.pauses ≡ old.pauses
 
 module _ (number : ℕ → List ℕ → ℕ) where
   -- ---- an entry
@@ -65,7 +79,7 @@ module _ (number : ℕ → List ℕ → ℕ) where
 
     -- an entry wasn't read from a place: its frame wasn't, or what stands behind it
     abbrev pub RefusedEntry : State → ℕ → Error → State → Type 0
-    RefusedEntry old at e new = RefusedAt (IsNoFrame number attr_size) (IsUnread number attr_size) old at e new ⊎ CutEntry old at e new
+    RefusedEntry old at e new = RefusedAt (SeesNoFrame number attr_size) (IsUnread number attr_size) old at e new ⊎ CutEntry old at e new
 
     -- what a reading of an entry at a place does
     abbrev pub ReadsEntryAt : State → ℕ → Result Entry Error → State → Type 0
@@ -87,14 +101,14 @@ module _ (number : ℕ → List ℕ → ℕ) where
   abbrev pub IsNoIds : Error → PerfFileSection → List ℕ → Type 0
   IsNoIds e s all = (IsFar s × (e ≡ Read OfAttr)) ⊎ (IsNear s × IsShort e × (length (drop s.offset all) < 8 * (s.size / 8)))
 
-  -- the ids of a section weren't read: it ends too far, or they weren't read from their place
-  abbrev pub RefusedIds : State → PerfFileSection → Error → State → Type 0
-  RefusedIds old s e new = (IsFar s × (e ≡ Read OfAttr)) ⊎ (IsNear s × RefusedAt (IsShortOf (IsFewer (8 * (s.size / 8)))) (IsUnreadOf (IsFewer (8 * (s.size / 8)))) old s.offset e new)
+  -- The ids of a section weren't read: it ends too far, and the source is as `Stands` says; or they weren't read from their place.
+  abbrev pub RefusedIds : (State → Type 0) → State → PerfFileSection → Error → State → Type 0
+  RefusedIds Stands old s e new = (IsFar s × (e ≡ Read OfAttr) × Stands new) ⊎ (IsNear s × RefusedAt (IsShortOf (IsFewer (8 * (s.size / 8)))) (IsUnreadOf (IsFewer (8 * (s.size / 8)))) old s.offset e new)
 
-  -- what a reading of them does
+  -- what a reading of them does; where their section ends too far, the source isn't touched
   abbrev pub ReadsIdsOf : State → PerfFileSection → Result (Vec ℕ Global) Error → State → Type 0
   ReadsIdsOf old s (Ok v) new = Stood old new × IsIdsOf (all_of old.place) s v.items
-  ReadsIdsOf old s (Err e) new = Stood old new × (e ≢ Memory → RefusedIds old s e new)
+  ReadsIdsOf old s (Err e) new = Stood old new × (e ≢ Memory → RefusedIds (λ left. left ≡ old) old s e new)
 
   -- ---- what entries describe
 
@@ -112,20 +126,21 @@ module _ (number : ℕ → List ℕ → ℕ) where
     Given i (entry ∷ entries) [] = ⊥
     Given i (entry ∷ entries) (d ∷ ds) = IsGiven i entry d × Given (i + 1) entries ds
 
-    -- the first entries are described, and the ids of the next aren't, as this says of their section
-    pub record StopsGiven (entries : List Entry) (Stops : PerfFileSection → Type 0) : Type 0 where
+    -- the first entries are described, and the ids of the next aren't, as this says of those and of its section
+    pub record StopsGiven (entries : List Entry) (Stops : List Entry → PerfFileSection → Type 0) : Type 0 where
       pub before : List Entry
       pub next : Entry
       pub after : List Entry
       pub are : entries ≡ before ++ next ∷ after
       pub ds : List AttributeDescription
       pub given : Given 0 before ds
-      pub here : Stops next.ids
+      pub here : Stops before next.ids
 
-  -- what a reading of what entries describe does; no reason is told where memory ran out
+  -- What a reading of what entries describe does. Where ids end too far, the source stands behind those before them. No reason is told where memory
+  -- ran out.
   abbrev pub ReadsGivenOf : (ℕ → Option (List ℕ)) → State → List Entry → Result (Vec AttributeDescription Global) Error → State → Type 0
   ReadsGivenOf names old entries (Ok v) new = Stood old new × Given (all_of old.place) names 0 entries v.items
-  ReadsGivenOf names old entries (Err e) new = Stood old new × (e ≢ Memory → StopsGiven (all_of old.place) names entries (λ s. RefusedIds old s e new))
+  ReadsGivenOf names old entries (Err e) new = Stood old new × (e ≢ Memory → StopsGiven (all_of old.place) names entries (λ before s. RefusedIds (StandsBehindIds old old.place before) old s e new))
 
   -- ---- the section
 
@@ -151,7 +166,7 @@ module _ (number : ℕ → List ℕ → ℕ) where
     pub record StopsAtIds (e : Error) (all : List ℕ) : Type 0 where
       pub entries : List Entry
       pub run : IsRun (IsEntry attr_size) (attr_size + 16) section.offset section.size all entries
-      pub stops : StopsGiven (Some all) names entries (λ s. IsNoIds e s all)
+      pub stops : StopsGiven (Some all) names entries (λ before s. IsNoIds e s all)
 
     -- the first thing that isn't there
     abbrev pub NoEntries : Error → List ℕ → Type 0
@@ -163,11 +178,12 @@ module _ (number : ℕ → List ℕ → ℕ) where
       pub run : TookRun (IsEntry attr_size) (attr_size + 16) old section.offset section.size entries new
       pub given : Given (all_of old.place) names 0 entries ds
 
-    -- all entries came, and the ids of one weren't read
+    -- All entries came, and the ids of one weren't read. Where these end too far, the source stands behind the ids before them, or behind the last entry.
     pub record StopsIds (old : State) (e : Error) (new : State) : Type 0 where
       pub entries : List Entry
       pub run : TookRun (IsEntry attr_size) (attr_size + 16) old section.offset section.size entries new
-      pub stops : StopsGiven (all_of old.place) names entries (λ s. RefusedIds old s e new)
+      pub stops : StopsGiven (all_of old.place) names entries
+          (λ before s. RefusedIds (StandsBehindIds old (put_at (section.offset + length entries * (attr_size + 16)) old.place) before) old s e new)
 
     -- the first thing that wasn't read: an entry, or ids, of which none are read before all entries
     abbrev pub StopsEntries : State → Error → State → Type 0

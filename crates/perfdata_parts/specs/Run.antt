@@ -1,5 +1,5 @@
 -- Things that stand at places of a file, alone or one after the other, and what a reading of them does to a source.
-use Rattle.std.specs.Prelude.{◌≡◌, ◌≢◌, ℕ, ◌+◌, ◌*◌, ◌/◌, ◌<◌, ◌⊎◌, List, [], ◌∷◌, length, drop, All, Option, Result, Ok, Err, IfSome, Vec}
+use Rattle.std.specs.Prelude.{◌≡◌, ◌≢◌, ℕ, ◌+◌, ◌*◌, ◌/◌, ◌<◌, ◌⊎◌, List, [], ◌∷◌, length, take, drop, All, Option, Result, Ok, Err, IfSome, Vec}
 use Rattle.std.specs.declared.alloc.Global.{Global}
 use Rattle.perfdata_base.specs.Source.{State, Gave, Failed, Paused, Stood, all_of, put_at}
 use Rattle.perfdata_parts.specs.Error.{IsIo, IsShort}
@@ -10,33 +10,34 @@ use Rattle.perfdata_parts.specs.declared.error.Error.TheVariants.{Memory}
 abbrev pub SomeBytes : (List ℕ → Type 0) → Type 0
 SomeBytes P = (xs : List ℕ) × P xs
 
--- `IsNot e xs` says that the bytes xs begin with no such thing, in the way that the error e tells. `IsOfRead e xs old new` says that a read of such a
--- thing failed or paused where these of its bytes came, and that e is its error.
-module _ (IsNot : Error → List ℕ → Type 0) (IsOfRead : Error → List ℕ → State → State → Type 0) where
-  -- Why one wasn't read of which these bytes came: there are bytes that begin with none, as the error tells, and those that are told do; or a read
-  -- failed or paused.
+-- `IsNot e front xs` says that the bytes xs begin with no such thing, in the way that the error e tells, and that a reading takes this front of them to
+-- see it. `IsOfRead e front old new` says that a read of such a thing failed or paused where these of its bytes came, and that e is its error.
+module _ (IsNot : Error → List ℕ → List ℕ → Type 0) (IsOfRead : Error → List ℕ → State → State → Type 0) where
+  -- Why one wasn't read of which these bytes came: there are bytes that begin with none, as the error tells, and those that are told do, and no more
+  -- than these of them show it; or a read failed or paused.
   abbrev pub Why : State → Option (List ℕ) → (List ℕ → Type 0) → List ℕ → Error → State → Type 0
-  Why old bytes Shows front e new = (SomeBytes (IsNot e) × IfSome bytes Shows) ⊎ IsOfRead e front old new
+  Why old bytes Shows front e new = (SomeBytes (IsNot e front) × IfSome bytes Shows) ⊎ IsOfRead e front old new
 
   -- one wasn't read from what was to come
   pub record RefusedNext (old : State) (e : Error) (new : State) : Type 0 where
     pub front : List ℕ
     pub gave : Gave old front new
-    pub why : Why old old.bytes (IsNot e) front e new
+    pub why : Why old old.bytes (IsNot e front) front e new
 
   -- one wasn't read from a place, and the source stands behind those of its bytes that came
   pub record RefusedThere (old : State) (at : ℕ) (e : Error) (new : State) : Type 0 where
     pub front : List ℕ
     pub place : new.place ≡ put_at (at + length front) old.place
-    pub why : Why old (all_of old.place) (λ all. IsNot e (drop at all)) front e new
+    pub came : IfSome (all_of old.place) (λ all. take (length front) (drop at all) ≡ front)
+    pub why : Why old (all_of old.place) (λ all. IsNot e front (drop at all)) front e new
 
   -- one wasn't read from a place, or the seek of that place failed, and the error is the seek's
   abbrev pub RefusedAt : State → ℕ → Error → State → Type 0
   RefusedAt old at e new = RefusedThere old at e new ⊎ (IsIo e × Failed old new)
 
--- bytes that are too few for a thing, so that a read of it is short
-abbrev pub IsShortOf : (List ℕ → Type 0) → Error → List ℕ → Type 0
-IsShortOf IsCut e xs = IsShort e × IsCut xs
+-- bytes that are too few for a thing, so that a read of it is short, and takes them all
+abbrev pub IsShortOf : (List ℕ → Type 0) → Error → List ℕ → List ℕ → Type 0
+IsShortOf IsCut e front xs = IsShort e × IsCut xs × (front ≡ xs)
 
 -- a read of such a thing failed, and the error is the source's own; or it paused, which is short
 abbrev pub IsUnreadOf : (List ℕ → Type 0) → Error → List ℕ → State → State → Type 0
@@ -93,7 +94,7 @@ module _ {D : Type 0} (IsOne : List ℕ → D → Type 0) where
     ReadsRunBy step old offset size (Err e) new = Stood old new × (e ≢ Memory → StopsRunBy step old offset size e new)
 
   -- the same, of things that are refused as the bytes at their place or a read of them tell
-  module _ (IsNot : Error → List ℕ → Type 0) (IsOfRead : Error → List ℕ → State → State → Type 0) where
+  module _ (IsNot : Error → List ℕ → List ℕ → Type 0) (IsOfRead : Error → List ℕ → State → State → Type 0) where
     abbrev pub StopsRun : ℕ → State → ℕ → ℕ → Error → State → Type 0
     StopsRun step old offset size e new = StopsRunBy (RefusedAt IsNot IsOfRead) step old offset size e new
 

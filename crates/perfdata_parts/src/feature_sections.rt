@@ -222,8 +222,8 @@ impl AttributeDescription {
     /// of the offset and the size of a section of ids of eight bytes each. There are as many entries, and ids, as their
     /// sections have whole ones. All entries are read before any ids. They have no names.
     ///
-    /// `Read(PerfEventAttr)` where an entry's size, or a section's end, is past 2^64 - 1, where an attribute's own size is 1
-    /// to 63, and where the bytes of an attribute end early or a read of them fails;
+    /// `Read(PerfEventAttr)` where an entry's size, or a section's end, is past 2^64 - 1, found before the source is touched for
+    /// it, where an attribute's own size is 1 to 63, and where the bytes of an attribute end early or a read of them fails;
     /// `InconsistentAttributeSizes(own, attr_size)` where an attribute's own size is above `attr_size`; `IoError` where a
     /// seek fails, where other bytes end early, or a read of them fails; `Memory` where memory runs out.
     pub fn parse_event_types_section_from<C: PlacedSource, T: FileOrder>(

@@ -8,7 +8,8 @@ use Rattle.std.proofs.lemmas.List.Elements.{All-tail}
 use Rattle.perfdata_base.specs.Raw.{HasNoNul}
 use Rattle.perfdata_base.proofs.Numbers.{ReadsFirst}
 use Rattle.perfdata_parts.specs.Strings.{before_nul}
-use Rattle.perfdata_records.specs.ThreadMap.{thread_at, threads_in, IsThreadMap}
+use Rattle.perfdata_records.specs.Thread.{thread_at}
+use Rattle.perfdata_records.specs.ThreadMap.{threads_in, IsThreadMap}
 
 no_nul : (x : ℕ) → x ≢ 0 → not (x == 0) ≡ true
 no_nul x h = grind arith
@@ -28,6 +29,12 @@ before_none (x ∷ xs) none =
     take_while-cons (λ b. not (b == 0)) x xs
     ∙ ap (λ t. cond t (x ∷ before_nul xs) []) (no_nul x (none 0 0 (omega arith)))
     ∙ ap (λ l. x ∷ l) (before_none xs (All-tail (λ b. b ≢ 0) x xs none))
+
+-- bytes that whole entries take are as many as those entries have
+pub whole_entries : (n : ℕ) (xs : List ℕ) → length xs ≡ n * 24 → length xs ≡ 24 * (length xs / 24)
+whole_entries n xs long =
+    let many : length xs / 24 ≡ n = ap (λ l. l / 24) (long ∙ omega arith) ∙ div-mul-add n 24 0 (omega arith) in
+    long ∙ omega arith
 
 module _ (number : ℕ → List ℕ → ℕ) where
   pub threads_long : (n : ℕ) (xs : List ℕ) → length (threads_in number n xs) ≡ n

@@ -1,5 +1,6 @@
 pub mod Record
 pub mod Auxtrace
+pub mod Thread
 pub mod ThreadMap
 pub mod HeaderAttr
 pub mod HeaderFeature

@@ -1,36 +1,29 @@
--- The body of a thread map: eight bytes that say how many entries there are, and the entries, of 24 bytes each: eight for the thread's number,
--- and sixteen for its name, which ends at the first NUL of these.
+-- The body of a thread map: eight bytes that say how many entries there are, and the entries, of 24 bytes each.
 use Rattle.std.specs.Prelude.{◌≡◌, ℕ, zero, suc, ◌+◌, ◌*◌, ◌/◌, ◌^◌, ◌<◌, ◌≤◌, ◌⊎◌, List, [], ◌∷◌, length, take, drop}
 use Rattle.std.specs.IoError.{error_kind}
 use Rattle.std.specs.declared.io.Error.{Error}
 use Rattle.std.specs.declared.io.ErrorKind.TheVariants.{UnexpectedEof, InvalidData}
 use Rattle.perfdata_base.specs.Raw.{bytes_of}
 use Rattle.perfdata_base.specs.Numbers.{number_in}
-use Rattle.perfdata_parts.specs.Strings.{before_nul}
+use Rattle.perfdata_records.specs.Thread.{Thread, thread_at}
 use Rattle.perfdata_records.specs.declared.thread_map.ThreadMap.{ThreadMap}
 use Rattle.perfdata_records.specs.declared.thread_map.ThreadMapIter.{ThreadMapIter}
-use Rattle.perfdata_records.specs.declared.thread_map.ThreadMapEntry.{ThreadMapEntry}
-
--- a thread by its number and the bytes of its name
-pub record Thread : Type 0 where
-  pub number : ℕ
-  pub name : List ℕ
 
 module _ (number : ℕ → List ℕ → ℕ) where
-  -- the thread that these bytes begin with
-  abbrev pub thread_at : List ℕ → Thread
-  thread_at bytes = record { number = number 8 bytes; name = before_nul (take 16 (drop 8 bytes)) }
-
   -- so many threads, one behind the other
   abbrev pub threads_in : ℕ → List ℕ → List Thread
   threads_in zero bytes = []
-  threads_in (suc n) bytes = thread_at bytes ∷ threads_in n (drop 24 bytes)
+  threads_in (suc n) bytes = thread_at number bytes ∷ threads_in n (drop 24 bytes)
 
   -- this body is a map of these threads; what stands behind them is passed over
   pub record IsThreadMap (body : List ℕ) (threads : List Thread) : Type 0 where
     pub head : 8 ≤ length body
     pub there : 8 + number 8 body * 24 ≤ length body
     pub are : threads ≡ threads_in (number 8 body) (drop 8 body)
+
+  -- these bytes are the entries in a body, whole, and nothing behind them
+  abbrev pub AreEntries : List ℕ → List ℕ → Type 0
+  AreEntries body entries = entries ≡ take (number 8 body * 24) (drop 8 body)
 
   -- This body is none, and this is the kind of error that says how: the first eight bytes are cut, or the entries would have 2^64 bytes or
   -- more, or not all of them are there.
@@ -40,9 +33,9 @@ module _ (number : ℕ → List ℕ → ℕ) where
       ⊎ (((8 ≤ length body) × (2 ^ 64 ≤ number 8 body * 24) × (error_kind e ≡ InvalidData))
       ⊎ ((8 ≤ length body) × (number 8 body * 24 < 2 ^ 64) × (length body < 8 + number 8 body * 24) × (error_kind e ≡ UnexpectedEof)))
 
--- the thread of an entry
-abbrev pub thread_of : ThreadMapEntry → Thread
-thread_of entry = record { number = entry.tid; name = bytes_of entry.name }
+-- the bytes that a map keeps
+abbrev pub entries_in : ThreadMap → List ℕ
+entries_in map = bytes_of map.entries
 
 -- the threads of a map, in order
 abbrev pub threads_of : ThreadMap → List Thread

@@ -1,13 +1,14 @@
 //! The threads that were recorded.
-ghost use Rattle.std.specs.Prelude.{◌≡◌, ◌==◌, ◌<◌, ◌≤◌, IfOk, IfErr, OnOk, IfSome, IfNone, length, drop};
+ghost use Rattle.std.specs.Prelude.{◌≡◌, ◌==◌, ◌*◌, ◌/◌, ◌<◌, ◌≤◌, ⊤, IfOk, IfErr, OnOk, IfSome, IfNone, length, drop};
 ghost use Rattle.std.specs.Iterator.{YieldsFirstBy, item_count};
 ghost use Rattle.perfdata_base.specs.Raw.{bytes_of, IsShort, Takes};
 ghost use Rattle.perfdata_base.specs.Numbers.{number_in};
 ghost use Rattle.perfdata_parts.specs.Strings.{before_nul};
-ghost use Rattle.perfdata_records.specs.ThreadMap.{IsNoThreadMap, IsThreadMap, thread_at, thread_of, threads_left, threads_of};
+ghost use Rattle.perfdata_records.specs.Thread.{thread_at, thread_of};
 
 use byteorder::{BigEndian, LittleEndian};
 use perfdata_base::raw::{Endianness, FileOrder, RawData};
+use std::alloc::AllocError;
 use std::io::{Error, ErrorKind, Result};
 
 /// How many bytes an entry has: a number of 8, and 16 of name.
@@ -17,11 +18,12 @@ const ENTRY_SIZE: usize = 24;
 const NAME_SIZE: usize = 16;
 
 /// The threads that were recorded (`PERF_RECORD_THREAD_MAP` of Linux's perf). Contracts see them by `threads_of`.
-#[derive(Clone, Debug, Drop, PartialEq, Eq)]
+#[derive(Debug, Drop, PartialEq, Eq)]
 pub struct ThreadMap<'a> {
     endian: Endianness,
-    // the entries whole, and nothing behind them
     entries: RawData<'a>,
+    // the entries whole, and nothing behind them
+    ghost whole: { length (bytes_of entries) ≡ 24 * (length (bytes_of entries) / 24) },
 }
 
 /// A thread of a thread map.
@@ -41,11 +43,15 @@ pub struct ThreadMapIter<'a> {
 }
 
 impl<'a> ThreadMap<'a> {
-    /// The map in the body of a record: a count of eight bytes, and that many entries of 24. What stands behind them is passed over.
+    ghost use Rattle.perfdata_records.specs.ThreadMap.{AreEntries, IsNoThreadMap, IsThreadMap, entries_in, threads_left, threads_of};
+
+    /// The map in the body of a record: a count of eight bytes, and that many entries of 24. What stands behind them is passed over,
+    /// and not kept: two maps of the same byte order and entries are equal.
     ///
     /// An `InvalidData` error where the count times 24 passes 2^64 - 1, and an `UnexpectedEof` error where the count or the entries are cut.
     pub fn parse<T: FileOrder>(body: RawData<'a>) -> Result<ThreadMap<'a>>
         ensures value { IfOk result (λ map. IsThreadMap T.number_of (bytes_of body.entry) (threads_of map)) }
+        ensures kept { IfOk result (λ map. AreEntries T.number_of (bytes_of body.entry) (entries_in map)) }
         ensures refused { IfErr result (λ error. IsNoThreadMap T.number_of (bytes_of body.entry) error) }
     {
         let mut rest = body;
@@ -62,7 +68,8 @@ impl<'a> ThreadMap<'a> {
 
     /// How many threads there are.
     pub fn len(&self) -> usize
-        ensures { result ≡ length (threads_of self.now) }
+        ensures count { result ≡ length (threads_of self.now) }
+        ensures whole { length (entries_in self.now) ≡ 24 * result }
     {
         self.entries.len() / ENTRY_SIZE
     }
@@ -82,6 +89,18 @@ impl<'a> ThreadMap<'a> {
             endian: self.endian,
             rest: self.entries,
         }
+    }
+}
+
+impl<'a> Clone for ThreadMap<'a> {
+    ghost is_clone = { λ map copy. copy ≡ map };
+
+    ghost is_infallible = { λ _. ⊤ };
+
+    fn clone(&self) -> std::result::Result<ThreadMap<'a>, AllocError> {
+        let endian = self.endian;
+        let entries = self.entries;
+        Ok(ThreadMap { endian, entries })
     }
 }
 
@@ -132,6 +151,8 @@ fn split_entry(endian: Endianness, bytes: RawData<'_>) -> Option<(ThreadMapEntry
 }
 
 impl<'a> Iterator for ThreadMapIter<'a> {
+    ghost use Rattle.perfdata_records.specs.ThreadMap.{threads_left};
+
     type Item = ThreadMapEntry<'a>;
 
     ghost next_gives = { YieldsFirstBy thread_of threads_left };

@@ -1,7 +1,7 @@
 //! The section of event types: attributes, and where their ids stand.
-ghost use Rattle.std.specs.Prelude.{◌≡◌, ◌+◌, ◌^◌, ◌<◌};
-ghost use Rattle.perfdata_base.specs.Source.{PausesOnce};
-ghost use Rattle.perfdata_parts.specs.EventTypes.{name_at, TellsName, ReadsSectionAt, ReadsEntryAt, ReadsEntries, ReadsIdsOf, ReadsGivenOf, ReadsDescribed};
+ghost use Rattle.std.specs.Prelude.{◌≡◌, ◌+◌, ◌*◌, ◌^◌, ◌<◌, length, IfOk, OnOk};
+ghost use Rattle.perfdata_base.specs.Source.{PausesOnce, put_at};
+ghost use Rattle.perfdata_parts.specs.EventTypes.{name_at, ids_end, TellsName, ReadsSectionAt, ReadsEntryAt, ReadsEntries, ReadsIdsOf, ReadsGivenOf, ReadsDescribed};
 
 use crate::bytes::as_error;
 use crate::error::{Error, ReadError};
@@ -31,6 +31,7 @@ fn read_section_at<C: PlacedSource, T: FileOrder>(
     at: u64,
 ) -> Result<PerfFileSection, Error>
     ensures reads { ReadsSectionAt T.number_of (C.seen source.old) at result (C.seen source.new) }
+    ensures place { OnOk result ((C.seen source.new).place ≡ put_at (at + 16) (C.seen source.old).place) }
     ensures pauses { PausesOnce (C.seen source.old) result (C.seen source.new) }
     ensures lent { C.lent source.new ≡ C.lent source.old }
 {
@@ -52,6 +53,7 @@ fn read_entry_at<C: PlacedSource, T: FileOrder>(
 ) -> Result<Entry, Error>
     requires { at + attr_size < 2 ^ 64 }
     ensures reads { ReadsEntryAt T.number_of attr_size (C.seen source.old) at result (C.seen source.new) }
+    ensures place { OnOk result ((C.seen source.new).place ≡ put_at (at + attr_size + 16) (C.seen source.old).place) }
     ensures pauses { PausesOnce (C.seen source.old) result (C.seen source.new) }
     ensures lent { C.lent source.new ≡ C.lent source.old }
 {
@@ -75,6 +77,7 @@ fn read_entries<C: PlacedSource, T: FileOrder>(
     requires near { section.now.offset + section.now.size < 2 ^ 64 }
     requires step { attr_size + 16 < 2 ^ 64 }
     ensures reads { ReadsEntries T.number_of attr_size (C.seen source.old) section.now result (C.seen source.new) }
+    ensures place { IfOk result (λ all. 0 < length all.items → (C.seen source.new).place ≡ put_at (section.now.offset + length all.items * (attr_size + 16)) (C.seen source.old).place) }
     ensures pauses { PausesOnce (C.seen source.old) result (C.seen source.new) }
     ensures lent { C.lent source.new ≡ C.lent source.old }
 {
@@ -103,6 +106,7 @@ fn read_ids_of<C: PlacedSource, T: FileOrder>(
     section: &PerfFileSection,
 ) -> Result<Vec<u64>, Error>
     ensures reads { ReadsIdsOf T.number_of (C.seen source.old) section.now result (C.seen source.new) }
+    ensures place { OnOk result ((C.seen source.new).place ≡ put_at (ids_end section.now) (C.seen source.old).place) }
     ensures pauses { PausesOnce (C.seen source.old) result (C.seen source.new) }
     ensures lent { C.lent source.new ≡ C.lent source.old }
 {

@@ -1,6 +1,6 @@
 use Rattle.std.proofs.Common.{rules, arith, ◌≡◌, ◌+◌, ◌-◌, ◌<◌, ◌≤◌, ◌^◌, refl, inr, ◌∙◌, None}
 use Rattle.perfdata_parts.specs.Run.{RefusedAt}
-use Rattle.perfdata_parts.specs.Attributes.{IsUnread, IsNoFrame, IsDescribed}
+use Rattle.perfdata_parts.specs.Attributes.{IsUnread, SeesNoFrame, IsDescribed}
 use Rattle.perfdata_parts.specs.declared.feature_sections.AttributeDescription.{AttributeDescription}
 use Rattle.perfdata_parts.proofs.Runs.{run_whole, run_more, run_stops, refused_later}
 use Rattle.perfdata_parts.proofs.Frames.{described, can_be, frame_carries}
@@ -15,8 +15,8 @@ returns-in-Err-clause-reads g c =
     inr (
       can_be g.T.ByteOrder.number_of c.args.attr_size c.args.section.now some low,
       run_stops (IsDescribed g.T.ByteOrder.number_of c.args.attr_size) c.args.attr_size c.args.section.now.offset c.args.section.now.size _ _ c.frames.at _ some c.frames.invariant.far
-          (RefusedAt (IsNoFrame g.T.ByteOrder.number_of c.args.attr_size) (IsUnread g.T.ByteOrder.number_of c.args.attr_size)) (g.C.Source.seen c.read_frame_at.new.source) _
-          (λ k. refused_later (IsNoFrame g.T.ByteOrder.number_of c.args.attr_size) (IsUnread g.T.ByteOrder.number_of c.args.attr_size) (frame_carries g.T.ByteOrder.number_of g.met.T.ByteOrder.reads_first c.args.attr_size) _ _ _ k _ c.frames.invariant.far.stood)
+          (RefusedAt (SeesNoFrame g.T.ByteOrder.number_of c.args.attr_size) (IsUnread g.T.ByteOrder.number_of c.args.attr_size)) (g.C.Source.seen c.read_frame_at.new.source) _
+          (λ k. refused_later (SeesNoFrame g.T.ByteOrder.number_of c.args.attr_size) (IsUnread g.T.ByteOrder.number_of c.args.attr_size) (frame_carries g.T.ByteOrder.number_of g.met.T.ByteOrder.reads_first c.args.attr_size) _ _ _ k _ c.frames.invariant.far.stood)
           more c.in-Err.ensures.reads,
     )
 

@@ -4,7 +4,7 @@ use Rattle.perfdata_base.specs.Numbers.{number_in}
 use Rattle.perfdata_records.proofs.Threads.{threads_long}
 use Rattle.perfdata_records.proofs.thread_map.ThreadMap.len.Goals as goal
 
-pub returns : goal.returns
-returns c =
+pub returns-clause-count : goal.returns-clause-count
+returns-clause-count c =
     let map = c.args.self.now in
     ap (λ n. n / 24) c.len.ensures ∙ sym (threads_long (number_in map.endian) _ (bytes_of map.entries))

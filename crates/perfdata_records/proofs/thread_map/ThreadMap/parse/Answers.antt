@@ -1,7 +1,8 @@
-use Rattle.std.proofs.Common.{◌*◌, take, arith, ap, sym, ◌∙◌}
+use Rattle.std.proofs.Common.{◌≡◌, ◌*◌, length, take, arith, ap, sym, ◌∙◌}
 use Rattle.perfdata_base.specs.Raw.{bytes_of}
 use Rattle.perfdata_base.specs.Numbers.{number_in}
-use Rattle.perfdata_records.proofs.Threads.{is_map}
+use Rattle.std.proofs.lemmas.List.{length-take-le}
+use Rattle.perfdata_records.proofs.Threads.{is_map, whole_entries}
 use Rattle.perfdata_records.proofs.thread_map.ThreadMap.parse.Goals as goal
 
 pub returns-clause-value : goal.returns-clause-value
@@ -17,3 +18,9 @@ returns-clause-value g c =
     (bytes_of c.args.body) (bytes_of c.read_u64.new.self) (bytes_of c.in_ok-entries.entries)
     counted.taken.enough counted.taken.left (omega (arith, cut.taken.enough, size, many))
     (cut.prefix ∙ ap (λ n. take n (bytes_of c.read_u64.new.self)) (size ∙ many))
+
+pub invariant_of-result : goal.invariant_of-result
+invariant_of-result g c =
+    let cut = c.in_ok-entries.ensures in
+    let enough = cut.taken.enough in
+    record { whole = whole_entries c.in_ok-count.count (bytes_of c.in_ok-entries.entries) (ap length cut.prefix ∙ length-take-le _ _ enough ∙ c.in-Some.ensures.1) }
