@@ -16,7 +16,7 @@ use Rattle.linux_perf_data.specs.Late.{IsMetadata}
 use Rattle.linux_perf_data.specs.Names.{Named, event_desc}
 use Rattle.linux_perf_data.specs.PerfFile.{descriptions_of}
 use Rattle.linux_perf_data.specs.PipeOpen.{IsPipeHeader, AreMetadata, Ended, HoldsTold, OpenedPipe, data_told}
-use Rattle.linux_perf_data.specs.OpenedPipe.{EndsThere, HoldsMetadata, KeepsHead, OpensPipe, ParsesPipe, StageBehind, Starts, StartsPipe, unplaced}
+use Rattle.linux_perf_data.specs.OpenedPipe.{EndsThere, HoldsMetadata, KeepsHead, OpensPipe, ParsesPipe, StageBehind, StartsThere, StartsPipe, unplaced}
 
 prepend_append : (a b : List ℕ) (o : Option (List ℕ)) → prepend (a ++ b) o ≡ prepend a (prepend b o)
 prepend_append a b None = refl
@@ -35,7 +35,7 @@ gave_before old new front head g = record {
 gave_head : (s : State) (head : List ℕ) → Gave (with_front head s) head (unplaced s)
 gave_head s head = record { bytes = refl; place = refl; faults = omega arith; pauses = omega arith; steady = λ h. record { steady = h; faults = refl; pauses = refl } }
 
-module _ {R : Type 0} (seen : R → State) (source : R) (opening : PipeOpening) (r : PerfFileReader R) (starts : Starts seen source opening r) where
+module _ {R : Type 0} (seen : R → State) (source : R) (opening : PipeOpening) (r : PerfFileReader R) (starts : StartsThere seen source opening r) where
   holds : (pieces : List (List ℕ)) → HoldsTold opening.endian pieces opening → HoldsMetadata opening.endian pieces r.perf_file
   holds pieces told = record {
     is = starts.is;

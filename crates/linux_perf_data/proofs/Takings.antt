@@ -7,12 +7,12 @@ use Rattle.perfdata_parts.specs.AttributeDescription.{events_in}
 use Rattle.perfdata_parts.specs.declared.feature_sections.AttributeDescription.{AttributeDescription}
 use Rattle.perfdata_base.specs.declared.raw.Endianness.{Endianness}
 use Rattle.linux_perf_data.specs.Layout.{Bound, Handed, attributes_of, brought}
-use Rattle.linux_perf_data.specs.Late.{brings_features, brought_features, BringsFeature, BroughtFeature, GivesNames, HoldsNone, HoldsMore, NamesStay}
+use Rattle.linux_perf_data.specs.Late.{brings_features, brought_features, BringsFeature, BroughtFeature, GivesNames, HoldsFirst, HoldsMore, NamesStay}
 use Rattle.linux_perf_data.specs.Names.{Named, CanName, event_desc, feature_of}
 use Rattle.linux_perf_data.specs.PerfFile.{attributes_of_file, data_of, descriptions_of}
 use Rattle.linux_perf_data.proofs.Brought.{brought_one}
 
-pub holds_none : HoldsNone
+pub holds_none : HoldsFirst
 holds_none order bound file = record {
   stays = refl;
   attributes = sym (append-nil (attributes_of_file file));

@@ -130,8 +130,8 @@ module _ (order : Endianness) where
     pub named : Named order (data_of old event_desc) (descriptions_of old) → Named order (data_of new event_desc) (descriptions_of new)
 
 -- what records bring, one behind another, is what they bring together
-abbrev pub HoldsNone : Type 0
-HoldsNone = (order : Endianness) (bound : Bound) (file : PerfFile) → FileHolds order bound [] file file
+abbrev pub HoldsFirst : Type 0
+HoldsFirst = (order : Endianness) (bound : Bound) (file : PerfFile) → FileHolds order bound [] file file
 
 abbrev pub HoldsMore : Type 0
 HoldsMore = (order : Endianness) (bound : Bound) (records : List Handed) (h : Handed) (old now new : PerfFile) →

@@ -28,8 +28,8 @@ pub record SameSections (old new : PerfFile) : Type 0 where
   pub kept : (n : ℕ) → data_of new n ≡ data_of old n
 
 -- nothing else changed, and memory ran out
-abbrev pub WantsMemory : PerfFile → Error → PerfFile → Type 0
-WantsMemory old e new = SameFile old new × (e ≡ Memory)
+abbrev pub LacksMemory : PerfFile → Error → PerfFile → Type 0
+LacksMemory old e new = SameFile old new × (e ≡ Memory)
 
 -- there is room for one attribute more
 abbrev pub HasRoom : PerfFile → Type 0
@@ -38,7 +38,7 @@ HasRoom file = vec_len file.attributes < vec_capacity file.attributes
 -- where there is room nothing is done, and else there is room for at most four more than twice as many
 abbrev pub MakesRoom : {A : Type 0} → PerfFile → Result A Error → PerfFile → Type 0
 MakesRoom old (Ok _) new = SameFile old new × HasRoom new × (HasRoom old → new ≡ old) × (vec_capacity new.attributes ≤ max (vec_capacity old.attributes) (2 * vec_len old.attributes + 4))
-MakesRoom old (Err e) new = WantsMemory old e new
+MakesRoom old (Err e) new = LacksMemory old e new
 
 -- no attribute has a name any more
 pub record Unnames (old new : PerfFile) : Type 0 where
@@ -86,7 +86,7 @@ pub record PutFeature (old : PerfFile) (feature : ℕ) (bytes : List ℕ) (new :
 
 abbrev pub PutsFeatureData : {A : Type 0} → PerfFile → ℕ → List ℕ → Result A Error → PerfFile → Type 0
 PutsFeatureData old feature bytes (Ok _) new = PutFeature old feature bytes new × (descriptions_of new ≡ descriptions_of old)
-PutsFeatureData old feature bytes (Err e) new = WantsMemory old e new
+PutsFeatureData old feature bytes (Err e) new = LacksMemory old e new
 
 -- an EVENT_DESC stands in place of that which was there, and gives all attributes their names
 abbrev pub PutsEventDesc : {A : Type 0} → Endianness → PerfFile → List ℕ → Result A Error → PerfFile → Type 0

@@ -13,6 +13,7 @@ pub mod Pairs
 pub mod Pauses
 pub mod Iter
 pub mod PerfFile
+pub mod FeatureNumbers
 pub mod Sections
 pub mod Open
 pub mod Opened

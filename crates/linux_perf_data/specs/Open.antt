@@ -16,6 +16,8 @@ use Rattle.linux_perf_data.specs.Attribute.{Breach, Breaks, Rule}
 use Rattle.linux_perf_data.specs.Described.{attributes_by}
 use Rattle.linux_perf_data.specs.Rules.{error_of_breach}
 use Rattle.linux_perf_data.specs.AttributeSources.{Told, told_by, DescribesFrom, StopsFrom}
+use Rattle.linux_perf_data.specs.FeatureNumbers.{simpleperf_meta_info}
+use Rattle.linux_perf_data.specs.Names.{event_desc}
 use Rattle.linux_perf_data.specs.Sections.{HasSections, LacksSections, table_of, data_by, data_in}
 use Rattle.linux_perf_data.specs.declared.opening.Opening.{Opening}
 
@@ -46,7 +48,7 @@ section_data order h all = data_by all (table_of order all (table_place h) (feat
 
 -- the bytes of the sections EVENT_DESC (12) and SIMPLEPERF_META_INFO (129), where the file has them
 abbrev pub told_of : Endianness → PerfHeader → List ℕ → Told
-told_of order h all = told_by (section_data order h all 12) (section_data order h all 129)
+told_of order h all = told_by (section_data order h all event_desc) (section_data order h all simpleperf_meta_info)
 
 -- a file's attributes, by the first of their sources that it has
 abbrev pub DescribesAttributes : Endianness → PerfHeader → List ℕ → List AttributeDescription → Type 0

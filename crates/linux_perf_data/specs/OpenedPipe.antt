@@ -74,7 +74,7 @@ module _ {R : Type 0} (seen : R → State) where
   StageBehind None it = it.stage ≡ Ended
   StageBehind (Some head) it = it.stage ≡ Running
 
-  pub record Starts (source : R) (opening : PipeOpening) (r : PerfFileReader R) : Type 0 where
+  pub record StartsThere (source : R) (opening : PipeOpening) (r : PerfFileReader R) : Type 0 where
     pub kept : r.record_iter.source ≡ source
     pub input : r.record_iter.input ≡ Pipe opening.head
     pub stage : StageBehind opening.head r.record_iter
@@ -89,7 +89,7 @@ module _ {R : Type 0} (seen : R → State) where
 
   -- or memory ran out
   abbrev pub StartsPipe : R → PipeOpening → Result (PerfFileReader R) Error → Type 0
-  StartsPipe source opening (Ok r) = Starts source opening r
+  StartsPipe source opening (Ok r) = StartsThere source opening r
   StartsPipe source opening (Err e) = e ≡ Memory
 
   -- A pipe was refused, and its source dropped: the bytes that came show the reason, or the source failed or paused.

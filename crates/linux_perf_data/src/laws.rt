@@ -1,7 +1,7 @@
 //! Laws of the layout of records, over its definitions alone: what the clauses of a reading promise is one list, and
 //! there is one.
 ghost use Rattle.linux_perf_data.specs.BuildIds.{OneListOfEntries, KeysEqualByTexts};
-ghost use Rattle.linux_perf_data.specs.Late.{HoldsNone, HoldsMore, NamesStay};
+ghost use Rattle.linux_perf_data.specs.Late.{HoldsFirst, HoldsMore, NamesStay};
 ghost use Rattle.linux_perf_data.specs.Reading.{FileSoFar, FileWhole, FileToFault, NoCall, OneCallMore};
 ghost use Rattle.linux_perf_data.specs.PipeReading.{PipeUpToRecord, PipeUpToEnd, PipeUpToFault, LongestRun, NotRefused};
 ghost use Rattle.linux_perf_data.specs.Laws.{OneRecord, OneFault, NoFaultAtPiece, EndFaultOrPiece, RuleOrBreach, OneBreach, OneLayout, SomeLayout, OneToCome, OffsetsRise, PlaceOfPiece, RecordsBring, TracesHold, NoNamesAtRefusal, OneNaming, OneOpening, OpeningStands, FileStands, OneFile, CutHeader, FarHeader, OtherMagic};
@@ -61,7 +61,7 @@ pub fn records_bring()
 /// What a pipe's records bring into a `PerfFile` one behind another is what they bring together, and an EVENT_DESC that
 /// can be read is always followed by one that can.
 pub fn several_records_bring()
-    ensures none { HoldsNone }
+    ensures none { HoldsFirst }
     ensures more { HoldsMore }
     ensures names { NamesStay }
 {}

@@ -3,6 +3,7 @@ ghost use Rattle.std.specs.Prelude.{◌≡◌, ◌<◌, ◌↔◌, false, IsTrue
 ghost use Rattle.std.specs.Option.{option_map};
 ghost use Rattle.perfdata_base.specs.Features.{HasFeature};
 ghost use Rattle.perfdata_simpleperf.specs.MetaInfo.{ParsesMetaInfo};
+ghost use Rattle.linux_perf_data.specs.FeatureNumbers.{arch, build_id, clock_data, clock_id, cmd_line, compressed, cpu_desc, cpuid, hostname, nr_cpus, os_release, pmu_mappings, sample_time, simpleperf_file, simpleperf_file2, simpleperf_meta_info, total_mem, version};
 ghost use Rattle.linux_perf_data.specs.Names.{Unnamed};
 ghost use Rattle.linux_perf_data.specs.Simpleperf.{TellsSymbolTables};
 ghost use Rattle.linux_perf_data.specs.Values.{TellsOf, TellsText, TellsTexts, TellsNumber, TellsCpus, TellsTimes, TellsCompression, TellsClock, TellsUnits};
@@ -109,42 +110,42 @@ impl PerfFile {
     /// text. `NotEnoughSpaceForStringLen` where there are fewer than four bytes, `StringLengthTooLong` where they end
     /// before the length says, `StringUtf8` where the text isn't UTF-8.
     pub fn hostname(&self) -> Result<Option<&str>, Error>
-        ensures { TellsOf (TellsText (order_of_file self.now)) (data_of self.now 3) result }
+        ensures { TellsOf (TellsText (order_of_file self.now)) (data_of self.now hostname) result }
     {
         self.text(Feature::HOSTNAME)
     }
 
     /// The release of the system (section OSRELEASE), as `uname -r` prints it. Refusals are those of `hostname`.
     pub fn os_release(&self) -> Result<Option<&str>, Error>
-        ensures { TellsOf (TellsText (order_of_file self.now)) (data_of self.now 4) result }
+        ensures { TellsOf (TellsText (order_of_file self.now)) (data_of self.now os_release) result }
     {
         self.text(Feature::OSRELEASE)
     }
 
     /// The version of the tool that recorded (section VERSION). Refusals are those of `hostname`.
     pub fn perf_version(&self) -> Result<Option<&str>, Error>
-        ensures { TellsOf (TellsText (order_of_file self.now)) (data_of self.now 5) result }
+        ensures { TellsOf (TellsText (order_of_file self.now)) (data_of self.now version) result }
     {
         self.text(Feature::VERSION)
     }
 
     /// The processor's architecture (section ARCH), as `uname -m` prints it. Refusals are those of `hostname`.
     pub fn arch(&self) -> Result<Option<&str>, Error>
-        ensures { TellsOf (TellsText (order_of_file self.now)) (data_of self.now 6) result }
+        ensures { TellsOf (TellsText (order_of_file self.now)) (data_of self.now arch) result }
     {
         self.text(Feature::ARCH)
     }
 
     /// The processor's description (section CPUDESC). Refusals are those of `hostname`.
     pub fn cpu_desc(&self) -> Result<Option<&str>, Error>
-        ensures { TellsOf (TellsText (order_of_file self.now)) (data_of self.now 8) result }
+        ensures { TellsOf (TellsText (order_of_file self.now)) (data_of self.now cpu_desc) result }
     {
         self.text(Feature::CPUDESC)
     }
 
     /// The processor's identifier (section CPUID). Refusals are those of `hostname`.
     pub fn cpu_id(&self) -> Result<Option<&str>, Error>
-        ensures { TellsOf (TellsText (order_of_file self.now)) (data_of self.now 9) result }
+        ensures { TellsOf (TellsText (order_of_file self.now)) (data_of self.now cpuid) result }
     {
         self.text(Feature::CPUID)
     }
@@ -154,7 +155,7 @@ impl PerfFile {
     /// `NotEnoughSpaceForStringListLen` where there are fewer than four bytes, and for a string the refusals of
     /// `hostname`. `Memory` where memory runs out.
     pub fn cmdline(&self, alloc: Global) -> Result<Option<Vec<&str>>, Error>
-        ensures { TellsOf (TellsTexts (order_of_file self.now)) (data_of self.now 11) result }
+        ensures { TellsOf (TellsTexts (order_of_file self.now)) (data_of self.now cmd_line) result }
     {
         match self.feature_section_data(Feature::CMDLINE) {
             Some(bytes) => match values::texts(alloc, self.endian, bytes) {
@@ -169,7 +170,7 @@ impl PerfFile {
     ///
     /// `FeatureSectionTooSmall` where there are fewer.
     pub fn total_mem(&self) -> Result<Option<u64>, Error>
-        ensures { TellsOf (TellsNumber (order_of_file self.now)) (data_of self.now 10) result }
+        ensures { TellsOf (TellsNumber (order_of_file self.now)) (data_of self.now total_mem) result }
     {
         self.number(Feature::TOTAL_MEM)
     }
@@ -178,7 +179,7 @@ impl PerfFile {
     ///
     /// `FeatureSectionTooSmall` where there are fewer.
     pub fn clock_frequency(&self) -> Result<Option<u64>, Error>
-        ensures { TellsOf (TellsNumber (order_of_file self.now)) (data_of self.now 23) result }
+        ensures { TellsOf (TellsNumber (order_of_file self.now)) (data_of self.now clock_id) result }
     {
         self.number(Feature::CLOCKID)
     }
@@ -187,7 +188,7 @@ impl PerfFile {
     ///
     /// An `IoError` of kind `UnexpectedEof` where there are fewer than 8 bytes.
     pub fn nr_cpus(&self) -> Result<Option<NrCpus>, Error>
-        ensures { TellsOf (TellsCpus (order_of_file self.now)) (data_of self.now 7) result }
+        ensures { TellsOf (TellsCpus (order_of_file self.now)) (data_of self.now nr_cpus) result }
     {
         match self.feature_section_data(Feature::NRCPUS) {
             Some(bytes) => match values::nr_cpus(self.endian, bytes) {
@@ -202,7 +203,7 @@ impl PerfFile {
     ///
     /// An `IoError` of kind `UnexpectedEof` where there are fewer than 16 bytes.
     pub fn sample_time_range(&self) -> Result<Option<SampleTimeRange>, Error>
-        ensures { TellsOf (TellsTimes (order_of_file self.now)) (data_of self.now 21) result }
+        ensures { TellsOf (TellsTimes (order_of_file self.now)) (data_of self.now sample_time) result }
     {
         match self.feature_section_data(Feature::SAMPLE_TIME) {
             Some(bytes) => match values::sample_times(self.endian, bytes) {
@@ -218,7 +219,7 @@ impl PerfFile {
     /// An `IoError` of kind `InvalidData` where its version isn't 1, and of kind `UnexpectedEof` where there are fewer
     /// than 24 bytes.
     pub fn clock_data(&self) -> Result<Option<ClockData>, Error>
-        ensures { TellsOf (TellsClock (order_of_file self.now)) (data_of self.now 29) result }
+        ensures { TellsOf (TellsClock (order_of_file self.now)) (data_of self.now clock_data) result }
     {
         match self.feature_section_data(Feature::CLOCK_DATA) {
             Some(bytes) => match values::clock(self.endian, bytes) {
@@ -233,7 +234,7 @@ impl PerfFile {
     ///
     /// An `IoError` of kind `UnexpectedEof` where there are fewer than 20 bytes.
     pub fn compression_info(&self) -> Result<Option<CompressionInfo>, Error>
-        ensures { TellsOf (TellsCompression (order_of_file self.now)) (data_of self.now 27) result }
+        ensures { TellsOf (TellsCompression (order_of_file self.now)) (data_of self.now compressed) result }
     {
         match self.feature_section_data(Feature::COMPRESSED) {
             Some(bytes) => match values::compression(self.endian, bytes) {
@@ -248,7 +249,7 @@ impl PerfFile {
     ///
     /// An `IoError` of kind `UnexpectedEof` where the bytes end early, and `Memory` where memory runs out.
     pub fn pmu_mappings(&self, alloc: Global) -> Result<Option<PmuMappings>, Error>
-        ensures { TellsOf (TellsUnits (order_of_file self.now)) (data_of self.now 16) result }
+        ensures { TellsOf (TellsUnits (order_of_file self.now)) (data_of self.now pmu_mappings) result }
     {
         match self.feature_section_data(Feature::PMU_MAPPINGS) {
             Some(bytes) => match values::units(alloc, self.endian, bytes) {
@@ -265,7 +266,7 @@ impl PerfFile {
     /// The section is read up to the first entry that isn't there whole; an entry whose path has no key is passed over.
     /// `Memory` where memory runs out.
     pub fn build_ids(&self, alloc: Global) -> Result<HashMap<DsoKey, DsoInfo>, Error>
-        ensures { TellsBuildIds (order_of_file self.now) (data_of self.now 2) result }
+        ensures { TellsBuildIds (order_of_file self.now) (data_of self.now build_id) result }
     {
         match self.feature_section_data(Feature::BUILD_ID) {
             Some(bytes) => build_ids::build_ids(alloc, self.endian, bytes),
@@ -277,7 +278,7 @@ impl PerfFile {
     ///
     /// `StringUtf8` where a key or a value isn't UTF-8, and `Memory` where memory runs out.
     pub fn simpleperf_meta_info(&self, alloc: Global) -> Result<Option<HashMap<&str, &str>>, Error>
-        ensures { TellsOf ParsesMetaInfo (data_of self.now 129) result }
+        ensures { TellsOf ParsesMetaInfo (data_of self.now simpleperf_meta_info) result }
     {
         match self.feature_section_data(Feature::SIMPLEPERF_META_INFO) {
             Some(bytes) => match parse_meta_info_map(alloc, bytes) {
@@ -294,7 +295,7 @@ impl PerfFile {
         &self,
         alloc: Global,
     ) -> Result<Option<Vec<SimpleperfFileRecord>>, Error>
-        ensures { TellsSymbolTables (order_of_file self.now) (data_of self.now 132) (data_of self.now 128) result }
+        ensures { TellsSymbolTables (order_of_file self.now) (data_of self.now simpleperf_file2) (data_of self.now simpleperf_file) result }
     {
         if let Some(bytes) = self.feature_section_data(Feature::SIMPLEPERF_FILE2) {
             return match parse_file2_section(alloc, bytes, self.endian) {

@@ -18,7 +18,7 @@ use perfdata_parts::constants::{
 use perfdata_parts::error::{Error, ReadError, short, unsupported};
 
 /// How many bytes a head has.
-pub(crate) const HEAD: u16 = 8;
+pub(crate) const HEAD: u16 = HEAD_BYTES as u16;
 
 /// How many bytes the body of a record with auxiliary data has at the least.
 const LEAST_TRACE: usize = 40;

@@ -139,8 +139,8 @@ pub struct PerfEventAttr {
     pub config3: u64,
 }
 
-/// How many bytes have a meaning here.
-const KNOWN: usize = 136;
+/// How many bytes of an attribute have a meaning here; what is behind them is passed over.
+pub const KNOWN: usize = 136;
 
 /// The fewest bytes that an attribute takes, those of its first version.
 const LEAST: u32 = 64;

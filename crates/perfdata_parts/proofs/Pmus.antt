@@ -20,7 +20,7 @@ use Rattle.perfdata_base.proofs.Gives.{gave_more, gave_none, gave_none_later, fa
 use Rattle.perfdata_base.proofs.Numbers.{ReadsFirst}
 use Rattle.perfdata_parts.specs.Part.{Took, CameSome, Stopped}
 use Rattle.perfdata_parts.specs.Strings.{IsStringOf, IsCutString, ReadsString}
-use Rattle.perfdata_parts.specs.Pmu.{PmuUnit, named, last_name, name_at, IsUnit, IsCutUnit, AreUnits, CutUnits, IsPmuSection, IsPmuSectionOf, IsCutPmuSection, IsInPmuSection, ReadsUnit, TookUnits, ReadsUnits, ReadsPmus}
+use Rattle.perfdata_parts.specs.Pmu.{PmuUnit, named, last_name, unit_name, IsUnit, IsCutUnit, AreUnits, CutUnits, IsPmuSection, IsPmuSectionOf, IsCutPmuSection, IsInPmuSection, ReadsUnit, TookUnits, ReadsUnits, ReadsPmus}
 use Rattle.perfdata_parts.proofs.Parts.{drop_front, stopped_at_once}
 
 -- what ended early behind a front, as a part of the whole
@@ -55,8 +55,8 @@ pub last_unnamed : (us : List PmuUnit) (k q : ℕ) → last_name (us ++ (k, None
 last_unnamed us k q =
     ap (λ l. update_all nat_eq (λ _. None) l q) (filter_map-append (λ u. option_map (λ n. (u.0, n)) u.1) us ((k, None) ∷ []) ∙ append-nil (named us))
 
-pub names_push : {S : Type 0} (old new : IndexMap ℕ (String Global) S) (us : List PmuUnit) (k : ℕ) (name : String Global) → ((q : ℕ) → name_at old q ≡ last_name us q)
-    → ((q : ℕ) → get nat_eq new q ≡ cond (nat_eq k q) (Some name) (get nat_eq old q)) → (q : ℕ) → name_at new q ≡ last_name (us ++ (k, Some (string_bytes name)) ∷ []) q
+pub names_push : {S : Type 0} (old new : IndexMap ℕ (String Global) S) (us : List PmuUnit) (k : ℕ) (name : String Global) → ((q : ℕ) → unit_name old q ≡ last_name us q)
+    → ((q : ℕ) → get nat_eq new q ≡ cond (nat_eq k q) (Some name) (get nat_eq old q)) → (q : ℕ) → unit_name new q ≡ last_name (us ++ (k, Some (string_bytes name)) ∷ []) q
 names_push old new us k name before updates q =
     ap (option_map string_bytes) (updates q)
     ∙ elim (nat_eq k q) as (λ b. option_map string_bytes (cond b (Some name) (get nat_eq old q)) ≡ cond b (Some (string_bytes name)) (last_name us q)) [ true ↦ refl | false ↦ before q ]
@@ -99,7 +99,7 @@ module _ (number : ℕ → List ℕ → ℕ) (first : ReadsFirst number) where
 
   -- one more
   pub units_more : {S : Type 0} (i : ℕ) (a b c : State) (m new : IndexMap ℕ (String Global) S) (u : PmuUnit) → TookUnits number i a m b → Took (IsUnit number) b u c
-      → ((us : List PmuUnit) → ((q : ℕ) → name_at m q ≡ last_name us q) → (q : ℕ) → name_at new q ≡ last_name (us ++ u ∷ []) q) → TookUnits number (i + 1) a new c
+      → ((us : List PmuUnit) → ((q : ℕ) → unit_name m q ≡ last_name us q) → (q : ℕ) → unit_name new q ≡ last_name (us ++ u ∷ []) q) → TookUnits number (i + 1) a new c
   units_more i a b c m new u took one keeps = record {
     units = took.units ++ u ∷ [];
     bytes = took.bytes ++ one.bytes;

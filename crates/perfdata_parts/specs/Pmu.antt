@@ -28,18 +28,18 @@ abbrev pub last_name : List PmuUnit → ℕ → Option (List ℕ)
 last_name us = update_all nat_eq (λ _. None) (named us)
 
 -- the name that a map has for a number
-abbrev pub name_at : {S : Type 0} → IndexMap ℕ (String Global) S → ℕ → Option (List ℕ)
-name_at m k = option_map string_bytes (get nat_eq m k)
+abbrev pub unit_name : {S : Type 0} → IndexMap ℕ (String Global) S → ℕ → Option (List ℕ)
+unit_name m k = option_map string_bytes (get nat_eq m k)
 
 -- Where a map has the last of each number's names, it has so with one unit more; or there was no memory for it.
 abbrev pub KeepsUnit : {S A : Type 0} → IndexMap ℕ (String Global) S → PmuUnit → Result A AppendFault → IndexMap ℕ (String Global) S → Type 0
-KeepsUnit old u (Ok _) new = (us : List PmuUnit) → ((q : ℕ) → name_at old q ≡ last_name us q) → (q : ℕ) → name_at new q ≡ last_name (us ++ u ∷ []) q
+KeepsUnit old u (Ok _) new = (us : List PmuUnit) → ((q : ℕ) → unit_name old q ≡ last_name us q) → (q : ℕ) → unit_name new q ≡ last_name (us ++ u ∷ []) q
 KeepsUnit old u (Err fault) new = fault ≡ Memory
 
 -- a map that ascends by the units' numbers, each number once with the last of its names
 pub record MapsUnits {S : Type 0} (m : IndexMap ℕ (String Global) S) (us : List PmuUnit) : Type 0 where
   pub ascends : IsStrictlyIncreasing (keys m)
-  pub names : (k : ℕ) → name_at m k ≡ last_name us k
+  pub names : (k : ℕ) → unit_name m k ≡ last_name us k
 
 module _ (number : ℕ → List ℕ → ℕ) where
   -- these bytes are a unit
@@ -96,7 +96,7 @@ module _ (number : ℕ → List ℕ → ℕ) where
     pub long : length units ≡ count
     pub gave : Gave old bytes new
     pub are : AreUnits bytes units
-    pub names : (k : ℕ) → name_at m k ≡ last_name units k
+    pub names : (k : ℕ) → unit_name m k ≡ last_name units k
 
   -- what a reading of so many units does
   abbrev pub ReadsUnits : {S : Type 0} → ℕ → State → Result (IndexMap ℕ (String Global) S) AppendFault → State → Type 0

@@ -13,7 +13,7 @@ use crate::event_type::SimplePerfEventType;
 use crate::feature_sections::event_desc::read_event_desc;
 use crate::feature_sections::event_types::read_described;
 use crate::feature_sections::simpleperf_attrs::read_simpleperf_attrs;
-use perfdata_base::attr::{PerfEventAttr, read_own, read_rest};
+use perfdata_base::attr::{KNOWN, PerfEventAttr, read_own, read_rest};
 use perfdata_base::raw::FileOrder;
 use perfdata_base::section::PerfFileSection;
 use perfdata_base::source::{PlacedSource, Source};
@@ -31,9 +31,6 @@ mod strings;
 pub use numbers::{ClockData, CompressionInfo, NrCpus, SampleTimeRange};
 pub use pmu::PmuMappings;
 pub use strings::{HeaderString, before_nul};
-
-/// How many bytes of an attribute have a meaning.
-const KNOWN: usize = 136;
 
 /// An event's attribute, with its name and its ids where they are known.
 #[derive(Debug, Drop)]

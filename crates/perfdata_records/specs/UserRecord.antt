@@ -7,7 +7,7 @@ use Rattle.perfdata_records.specs.ThreadMap.{threads_of, IsThreadMap, IsNoThread
 use Rattle.perfdata_records.specs.Auxtrace.{IsAuxtrace, IsNoAuxtrace}
 use Rattle.perfdata_records.specs.HeaderAttr.{HoldsAttributeBy, attribute_by, attribute_of, RefusesAttribute}
 use Rattle.perfdata_records.specs.HeaderFeature.{IsHeaderFeature, RefusesFeature}
-use Rattle.perfdata_records.specs.declared.record.RawUserRecord.{RawUserRecord}
+use Rattle.perfdata_records.specs.declared.user_record.RawUserRecord.{RawUserRecord}
 use Rattle.perfdata_records.specs.declared.user_record.UserRecord.{UserRecord}
 use Rattle.perfdata_records.specs.declared.user_record.UserRecord.TheVariants.{ThreadMap, HeaderAttr, HeaderFeature, Auxtrace, Raw}
 

@@ -1,7 +1,7 @@
 //! A record as it is handed out, and the types of those that tools write.
 ghost use Rattle.std.specs.Prelude.{◌≡◌, ◌≤◌, IsSome, IfSome, ◌↔◌};
 
-pub use crate::user_record::{HeaderAttr, HeaderFeature, UserRecord};
+pub use crate::user_record::{HeaderAttr, HeaderFeature, RawUserRecord, UserRecord};
 use perfdata_base::event::{RawEventRecord, RecordType};
 use perfdata_base::raw::{Endianness, RawData};
 use perfdata_parts::constants::*;
@@ -234,19 +234,6 @@ impl fmt::Debug for UserRecordType {
             None => write!(f, "Unknown UserRecordType {number}"),
         }
     }
-}
-
-/// A record that a tool wrote, as perf or simpleperf, whose body is lent.
-#[derive(Clone, Copy, Debug)]
-pub struct RawUserRecord<'a> {
-    /// The record's type, 64 or above.
-    pub record_type: UserRecordType,
-    /// The order of its numbers.
-    pub endian: Endianness,
-    /// Bits of the record.
-    pub misc: u16,
-    /// All bytes behind the head, auxiliary data included.
-    pub body: RawData<'a>,
 }
 
 /// A record as it is handed out.

@@ -7,7 +7,7 @@ ghost use Rattle.perfdata_records.specs.HeaderFeature.{IsHeaderFeature, RefusesF
 ghost use Rattle.perfdata_records.specs.UserRecord.{IsUserRecord, RefusesUserRecord};
 
 use crate::auxtrace::Auxtrace;
-use crate::record::RawUserRecord;
+use crate::record::UserRecordType;
 use crate::thread_map::ThreadMap;
 use byteorder::{BigEndian, LittleEndian};
 use perfdata_base::attr::PerfEventAttr;
@@ -36,6 +36,19 @@ pub struct HeaderFeature {
     pub feature: Feature,
     /// The feature's data, in the form that it would have in a file's section.
     pub bytes: Vec<u8>,
+}
+
+/// A record that a tool wrote, as perf or simpleperf, whose body is lent.
+#[derive(Clone, Copy, Debug)]
+pub struct RawUserRecord<'a> {
+    /// The record's type, 64 or above.
+    pub record_type: UserRecordType,
+    /// The order of its numbers.
+    pub endian: Endianness,
+    /// Bits of the record.
+    pub misc: u16,
+    /// All bytes behind the head, auxiliary data included.
+    pub body: RawData<'a>,
 }
 
 /// A record that a tool wrote, in the form that its type has.

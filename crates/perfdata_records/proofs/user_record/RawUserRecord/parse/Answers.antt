@@ -1,7 +1,7 @@
 use Rattle.std.proofs.Common.{IfOk, sym, subst}
 use Rattle.perfdata_base.specs.Numbers.{number_in}
 use Rattle.perfdata_records.specs.UserRecord.{IsUserRecord}
-use Rattle.perfdata_records.proofs.record.RawUserRecord.parse.Goals as goal
+use Rattle.perfdata_records.proofs.user_record.RawUserRecord.parse.Goals as goal
 
 pub returns-in-LittleEndian-clause-value : goal.returns-in-LittleEndian-clause-value
 returns-in-LittleEndian-clause-value c =
