@@ -8,15 +8,15 @@ use Rattle.perfdata_base.proofs.Numbers.{in_reads_first}
 use Rattle.perfdata_base.proofs.Cut.{stood_none}
 use Rattle.perfdata_base.specs.declared.raw.Endianness.{Endianness}
 use Rattle.perfdata_base.specs.declared.header.PerfHeader.{PerfHeader}
-use Rattle.perfdata_parts.specs.Attributes.{OwesAttributes}
-use Rattle.perfdata_parts.specs.EventDesc.{DescribesByEventDesc, NoEventDesc, ReadsEventDesc}
-use Rattle.perfdata_parts.specs.EventTypes.{DescribesByEventTypes, NoEventTypes, ReadsDescribed, name_at}
-use Rattle.perfdata_parts.specs.SimpleperfAttrs.{DescribesBySimpleperf, NoSimpleperfAttrs}
-use Rattle.perfdata_parts.specs.declared.event_type.SimplePerfEventType.{SimplePerfEventType}
-use Rattle.perfdata_parts.specs.declared.feature_sections.AttributeDescription.{AttributeDescription}
-use Rattle.perfdata_parts.specs.declared.error.Error.{Error}
-use Rattle.perfdata_parts.proofs.Entries.{entries_described, entries_owed}
-use Rattle.perfdata_parts.proofs.Events.{event_desc_described, event_desc_owed}
+use Rattle.perfdata_sections.specs.Attributes.{OwesAttributes}
+use Rattle.perfdata_sections.specs.EventDesc.{DescribesByEventDesc, NoEventDesc, ReadsEventDesc}
+use Rattle.perfdata_sections.specs.EventTypes.{DescribesByEventTypes, NoEventTypes, ReadsDescribed, name_at}
+use Rattle.perfdata_sections.specs.SimpleperfAttrs.{DescribesBySimpleperf, NoSimpleperfAttrs}
+use Rattle.perfdata_sections.specs.declared.event_type.SimplePerfEventType.{SimplePerfEventType}
+use Rattle.perfdata_sections.specs.declared.feature_sections.AttributeDescription.{AttributeDescription}
+use Rattle.perfdata_sections.specs.declared.error.Error.{Error}
+use Rattle.perfdata_sections.proofs.Entries.{entries_described, entries_owed}
+use Rattle.perfdata_sections.proofs.Events.{event_desc_described, event_desc_owed}
 use Rattle.linux_perf_data.specs.AttributeSources.{told_by, NamesEvents, DescribesFrom, StopsFrom, ReadsAttributes, ReadsDesc, ReadsTypes, ReadsNamed}
 
 -- what holds of each value holds of that which is there

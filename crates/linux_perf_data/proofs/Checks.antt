@@ -7,8 +7,8 @@ use Rattle.perfdata_base.specs.declared.place.RecordIdParseInfo.{RecordIdParseIn
 use Rattle.std.proofs.lemmas.List.{take_more, map_push, map-append, length-take-le}
 use Rattle.std.proofs.lemmas.List.Elements.{All-head, All-tail, All-push, All-cons}
 use Rattle.perfdata_base.specs.Place.{id_places_of}
-use Rattle.perfdata_parts.specs.declared.feature_sections.AttributeDescription.{AttributeDescription}
-use Rattle.perfdata_parts.specs.declared.error.Error.{Error}
+use Rattle.perfdata_sections.specs.declared.feature_sections.AttributeDescription.{AttributeDescription}
+use Rattle.perfdata_sections.specs.declared.error.Error.{Error}
 use Rattle.linux_perf_data.specs.Attribute.{Attribute, Rule, Conforms, BreaksAt}
 use Rattle.linux_perf_data.specs.Described.{attribute_by, attributes_by}
 use Rattle.linux_perf_data.specs.Rules.{SamePlaces, ChecksEach, ChecksRule}

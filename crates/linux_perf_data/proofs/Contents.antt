@@ -6,7 +6,7 @@ use Rattle.perfdata_base.specs.Numbers.{number_in}
 use Rattle.perfdata_base.proofs.Numbers.{number_front}
 use Rattle.perfdata_base.specs.declared.raw.Endianness.{Endianness}
 use Rattle.perfdata_base.specs.declared.event.PerfEventHeader.{PerfEventHeader}
-use Rattle.perfdata_parts.specs.declared.error.Error.{Error}
+use Rattle.perfdata_sections.specs.declared.error.Error.{Error}
 use Rattle.linux_perf_data.specs.Layout.{IsCompressed}
 use Rattle.linux_perf_data.specs.Piece.{TookBytes, Kept, TookTrace, TraceRefused, TookContent, WhyNoContent, CameContent}
 

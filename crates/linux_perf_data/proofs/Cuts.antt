@@ -3,7 +3,7 @@ use Rattle.std.proofs.Common.{◌≡◌, ◌≢◌, length, sym, ◌∙◌, subs
 use Rattle.std.specs.Prelude.{Result, Ok}
 use Rattle.perfdata_base.specs.Source.{State}
 use Rattle.perfdata_base.specs.declared.event.PerfEventHeader.{PerfEventHeader}
-use Rattle.perfdata_parts.specs.declared.error.Error.{Error}
+use Rattle.perfdata_sections.specs.declared.error.Error.{Error}
 use Rattle.linux_perf_data.specs.declared.iter.PerfRecordIter.{PerfRecordIter}
 use Rattle.linux_perf_data.specs.Input.{CutAnswers, KeepsNone}
 use Rattle.linux_perf_data.specs.Piece.{CutAt, RefusedAt}

@@ -11,19 +11,19 @@ use Rattle.perfdata_base.specs.declared.raw.Endianness.{Endianness}
 use Rattle.perfdata_base.specs.declared.raw.Endianness.TheVariants.{LittleEndian}
 use Rattle.perfdata_base.specs.declared.header.PerfHeader.{PerfHeader}
 use Rattle.perfdata_base.proofs.Numbers.{in_reads_first}
-use Rattle.perfdata_parts.specs.AttributeDescription.{DescribedEvent, attr_in, ids_in, events_in}
-use Rattle.perfdata_parts.specs.Attributes.{IsFramed, IsNoFrame, IsDescribed}
-use Rattle.perfdata_parts.specs.Error.{IsShort, IsInvalidInput}
-use Rattle.perfdata_parts.specs.EventDesc.{DescribesByEventDesc}
-use Rattle.perfdata_parts.specs.EventTypes.{name_at, IsEntry, IsNoEntry, IsIdsOf, IsNoIds, Given, DescribesByEntries, NoEntries}
-use Rattle.perfdata_parts.specs.Run.{Run}
-use Rattle.perfdata_parts.specs.declared.feature_sections.AttributeDescription.{AttributeDescription}
-use Rattle.perfdata_parts.specs.declared.event_type.SimplePerfEventType.{SimplePerfEventType}
+use Rattle.perfdata_sections.specs.AttributeDescription.{DescribedEvent, attr_in, ids_in, events_in}
+use Rattle.perfdata_sections.specs.Attributes.{IsFramed, IsNoFrame, IsDescribed}
+use Rattle.perfdata_sections.specs.Error.{IsShort, IsInvalidInput}
+use Rattle.perfdata_sections.specs.EventDesc.{DescribesByEventDesc}
+use Rattle.perfdata_sections.specs.EventTypes.{name_at, IsEntry, IsNoEntry, IsIdsOf, IsNoIds, Given, DescribesByEntries, NoEntries}
+use Rattle.perfdata_sections.specs.Run.{Run}
+use Rattle.perfdata_sections.specs.declared.feature_sections.AttributeDescription.{AttributeDescription}
+use Rattle.perfdata_sections.specs.declared.event_type.SimplePerfEventType.{SimplePerfEventType}
 use Rattle.perfdata_simpleperf.specs.SimpleperfEvents.{event_type_of}
-use Rattle.perfdata_parts.specs.declared.error.Error.{Error}
-use Rattle.perfdata_parts.specs.declared.error.Error.TheVariants.{Read, UnrecognizedMagicValue, InconsistentAttributeSizes, StringUtf8, NoEventTypesInSimpleperfMetaInfo}
-use Rattle.perfdata_parts.specs.declared.error.ReadError.TheVariants.{PerfEventAttr as OfAttr}
-use Rattle.perfdata_parts.proofs.EventFronts.{told_one, told_or_refused}
+use Rattle.perfdata_sections.specs.declared.error.Error.{Error}
+use Rattle.perfdata_sections.specs.declared.error.Error.TheVariants.{Read, UnrecognizedMagicValue, InconsistentAttributeSizes, StringUtf8, NoEventTypesInSimpleperfMetaInfo}
+use Rattle.perfdata_sections.specs.declared.error.ReadError.TheVariants.{PerfEventAttr as OfAttr}
+use Rattle.perfdata_sections.proofs.EventFronts.{told_one, told_or_refused}
 use Rattle.linux_perf_data.specs.Attribute.{Attribute, Rule}
 use Rattle.linux_perf_data.specs.AttributeSources.{NamesEvents, NamesNone, DescribesBySections, DescribesByAttrs, DescribesWith, StopsAtSections, StopsAtSection, StopsWith}
 use Rattle.linux_perf_data.specs.Described.{attribute_by, attributes_by}

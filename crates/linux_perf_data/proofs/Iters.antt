@@ -10,8 +10,8 @@ use Rattle.perfdata_base.proofs.Gives.{gave_none, gave_more, failed_later, pause
 use Rattle.perfdata_base.proofs.Cut.{none_or_paused, all_came}
 use Rattle.perfdata_base.specs.declared.raw.Endianness.{Endianness}
 use Rattle.perfdata_base.specs.declared.event.PerfEventHeader.{PerfEventHeader}
-use Rattle.perfdata_parts.specs.declared.error.Error.{Error}
-use Rattle.perfdata_parts.specs.declared.error.Error.TheVariants as error
+use Rattle.perfdata_sections.specs.declared.error.Error.{Error}
+use Rattle.perfdata_sections.specs.declared.error.Error.TheVariants as error
 use Rattle.linux_perf_data.specs.declared.input.Input.{Input}
 use Rattle.linux_perf_data.specs.declared.input.Input.TheVariants.{Section, Pipe}
 use Rattle.linux_perf_data.specs.declared.iter.PerfRecordIter.{PerfRecordIter}

@@ -12,7 +12,7 @@ use Rattle.linux_perf_data.specs.declared.known.Known.{Known}
 use Rattle.linux_perf_data.specs.declared.id_table.IdTable.{IdTable}
 use Rattle.linux_perf_data.specs.Attribute.{Attribute, Event, greatest, greatest_or_first, index_of, event_of, event_time}
 use Rattle.linux_perf_data.specs.Layout.{Handed, handed_with}
-use Rattle.perfdata_parts.specs.declared.feature_sections.AttributeDescription.{AttributeDescription}
+use Rattle.perfdata_sections.specs.declared.feature_sections.AttributeDescription.{AttributeDescription}
 use Rattle.linux_perf_data.specs.Described.{attribute_by, attributes_by, all_places}
 use Rattle.linux_perf_data.specs.IdTable.{found}
 use Rattle.linux_perf_data.specs.Pairs.{last_listing}

@@ -7,15 +7,15 @@ use Rattle.std.proofs.lemmas.List.{map_push, length-map}
 use Rattle.perfdata_base.specs.Place.{places_of}
 use Rattle.perfdata_base.specs.Features.{HasFeature}
 use Rattle.perfdata_base.specs.declared.features.FeatureSet.{FeatureSet}
-use Rattle.perfdata_parts.specs.Error.{IsInvalidInput}
+use Rattle.perfdata_sections.specs.Error.{IsInvalidInput}
 use Rattle.linux_perf_data.specs.Layout.{attributes_of}
 use Rattle.perfdata_base.specs.Numbers.{number_in}
 use Rattle.perfdata_base.specs.declared.raw.Endianness.{Endianness}
-use Rattle.perfdata_parts.specs.AttributeDescription.{name_in, ids_in}
-use Rattle.perfdata_parts.specs.EventDesc.{NoEventDesc}
-use Rattle.perfdata_parts.specs.declared.feature_sections.AttributeDescription.{AttributeDescription}
-use Rattle.perfdata_parts.specs.declared.error.Error.{Error}
-use Rattle.perfdata_parts.specs.declared.error.Error.TheVariants.{Memory, Failed}
+use Rattle.perfdata_sections.specs.AttributeDescription.{name_in, ids_in}
+use Rattle.perfdata_sections.specs.EventDesc.{NoEventDesc}
+use Rattle.perfdata_sections.specs.declared.feature_sections.AttributeDescription.{AttributeDescription}
+use Rattle.perfdata_sections.specs.declared.error.Error.{Error}
+use Rattle.perfdata_sections.specs.declared.error.Error.TheVariants.{Memory, Failed}
 use Rattle.linux_perf_data.specs.declared.known.Known.{Known}
 use Rattle.linux_perf_data.specs.declared.perf_file.PerfFile.{PerfFile}
 use Rattle.linux_perf_data.specs.Attribute.{Attribute, HoldsAttribute, attribute_in, Breach, lacks_identifier, differs_about_trailing}

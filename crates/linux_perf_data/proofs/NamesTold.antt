@@ -5,11 +5,11 @@ use Rattle.std.proofs.lemmas.List.Elements.{All-head, All-tail}
 use Rattle.perfdata_base.specs.Numbers.{number_in}
 use Rattle.perfdata_base.specs.declared.raw.Endianness.{Endianness}
 use Rattle.perfdata_base.proofs.Numbers.{in_reads_first}
-use Rattle.perfdata_parts.specs.AttributeDescription.{DescribedEvent, name_in, ids_in, events_in}
-use Rattle.perfdata_parts.specs.EventDesc.{DescribesByEventDesc, NoEventDesc}
-use Rattle.perfdata_parts.specs.declared.error.Error.{Error}
-use Rattle.perfdata_parts.specs.declared.feature_sections.AttributeDescription.{AttributeDescription}
-use Rattle.perfdata_parts.proofs.EventFronts.{told_one, told_or_refused}
+use Rattle.perfdata_sections.specs.AttributeDescription.{DescribedEvent, name_in, ids_in, events_in}
+use Rattle.perfdata_sections.specs.EventDesc.{DescribesByEventDesc, NoEventDesc}
+use Rattle.perfdata_sections.specs.declared.error.Error.{Error}
+use Rattle.perfdata_sections.specs.declared.feature_sections.AttributeDescription.{AttributeDescription}
+use Rattle.perfdata_sections.proofs.EventFronts.{told_one, told_or_refused}
 use Rattle.linux_perf_data.specs.Names.{TellsNames, Named, NamedBy, name_for, same_first}
 
 -- bytes that were read tell names

@@ -5,8 +5,8 @@ use Rattle.std.specs.Option.{option_map}
 use Rattle.std.specs.declared.alloc.Global.{Global}
 use Rattle.std.proofs.lemmas.List.{at_drop_more, take_more, take_more_set, map_push, get_or-drop, get_or_default, drop-drop, drop-set-lt}
 use Rattle.std.proofs.lemmas.List.Elements.{All-nil, All-cons, All-push}
-use Rattle.perfdata_parts.specs.AttributeDescription.{attr_in, name_in, ids_in}
-use Rattle.perfdata_parts.specs.declared.feature_sections.AttributeDescription.{AttributeDescription}
+use Rattle.perfdata_sections.specs.AttributeDescription.{attr_in, name_in, ids_in}
+use Rattle.perfdata_sections.specs.declared.feature_sections.AttributeDescription.{AttributeDescription}
 use Rattle.linux_perf_data.specs.Attribute.{Attribute}
 use Rattle.linux_perf_data.specs.Described.{attribute_by, attributes_by}
 use Rattle.linux_perf_data.specs.Names.{same_first, name_for, names_in, texts_of, names_for, NamedBy, Unnamed}

@@ -7,12 +7,12 @@ use Rattle.perfdata_base.specs.declared.section.PerfFileSection.{PerfFileSection
 use Rattle.perfdata_base.specs.declared.raw.Endianness.{Endianness}
 use Rattle.perfdata_base.specs.declared.header.PerfHeader.{PerfHeader}
 use Rattle.perfdata_base.proofs.Numbers.{in_reads_first}
-use Rattle.perfdata_parts.specs.AttributeDescription.{DescribedEvent, attr_in, name_in, ids_in, event_in, events_in}
-use Rattle.perfdata_parts.specs.Attributes.{IsDescribed}
-use Rattle.perfdata_parts.specs.EventTypes.{name_at, Given, DescribesByEntries}
-use Rattle.perfdata_parts.specs.declared.feature_sections.AttributeDescription.{AttributeDescription}
-use Rattle.perfdata_parts.specs.declared.event_type.SimplePerfEventType.{SimplePerfEventType}
-use Rattle.perfdata_parts.proofs.EventFronts.{told_one}
+use Rattle.perfdata_sections.specs.AttributeDescription.{DescribedEvent, attr_in, name_in, ids_in, event_in, events_in}
+use Rattle.perfdata_sections.specs.Attributes.{IsDescribed}
+use Rattle.perfdata_sections.specs.EventTypes.{name_at, Given, DescribesByEntries}
+use Rattle.perfdata_sections.specs.declared.feature_sections.AttributeDescription.{AttributeDescription}
+use Rattle.perfdata_sections.specs.declared.event_type.SimplePerfEventType.{SimplePerfEventType}
+use Rattle.perfdata_sections.proofs.EventFronts.{told_one}
 use Rattle.perfdata_simpleperf.specs.MetaInfo.{last_value, meta_pairs}
 use Rattle.perfdata_simpleperf.specs.SimpleperfEvents.{EventType, event_type_of, event_type_info, lines, parts, TellsEvent, TellEvents, TellsEventTypes}
 use Rattle.linux_perf_data.specs.AttributeSources.{DescribesBySections, DescribesByAttrs, DescribesWith}

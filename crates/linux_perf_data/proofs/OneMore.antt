@@ -6,7 +6,7 @@ use Rattle.std.proofs.lemmas.Bool.{cases_Bool}
 use Rattle.std.proofs.lemmas.List.Elements.{All-nil, All-cons, All-head, All-tail, All-append}
 use Rattle.perfdata_base.specs.Place.{id_places_of}
 use Rattle.perfdata_base.specs.declared.place.RecordIdParseInfo.{RecordIdParseInfo}
-use Rattle.perfdata_parts.specs.declared.feature_sections.AttributeDescription.{AttributeDescription}
+use Rattle.perfdata_sections.specs.declared.feature_sections.AttributeDescription.{AttributeDescription}
 use Rattle.linux_perf_data.specs.Attribute.{Attribute, Rule, lacks_identifier, differs_about_trailing, has_identifier, has_trailing, Conforms, Breaks, lists, greatest}
 use Rattle.linux_perf_data.specs.Described.{attribute_by, attributes_by}
 use Rattle.linux_perf_data.specs.Rules.{unidentified}

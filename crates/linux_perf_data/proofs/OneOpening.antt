@@ -10,7 +10,7 @@ use Rattle.perfdata_base.specs.Numbers.{number_in}
 use Rattle.perfdata_base.specs.declared.raw.Endianness.{Endianness}
 use Rattle.perfdata_base.specs.declared.raw.Endianness.TheVariants.{LittleEndian, BigEndian}
 use Rattle.perfdata_base.proofs.Numbers.{number_drop_front}
-use Rattle.perfdata_parts.specs.declared.error.Error.{Error}
+use Rattle.perfdata_sections.specs.declared.error.Error.{Error}
 use Rattle.linux_perf_data.specs.Late.{IsMetadata, Spoils}
 use Rattle.linux_perf_data.specs.Layout.{attributes_in, kind_of}
 use Rattle.linux_perf_data.specs.Open.{magic_of}

@@ -14,13 +14,13 @@ use Rattle.linux_perf_data.specs.Described.{attributes_by}
 use Rattle.linux_perf_data.specs.Rules.{error_of_breach}
 use Rattle.linux_perf_data.specs.AttributeSources.{Told, told_by, DescribesFrom, StopsFrom, ReadsAttributes}
 use Rattle.linux_perf_data.proofs.Attributes.{if_more, if_both}
-use Rattle.perfdata_parts.specs.declared.feature_sections.AttributeDescription.{AttributeDescription}
-use Rattle.perfdata_parts.specs.declared.error.Error.{Error}
-use Rattle.perfdata_parts.specs.declared.error.Error.TheVariants.{IoError, NoAttributes, UnrecognizedMagicValue}
+use Rattle.perfdata_sections.specs.declared.feature_sections.AttributeDescription.{AttributeDescription}
+use Rattle.perfdata_sections.specs.declared.error.Error.{Error}
+use Rattle.perfdata_sections.specs.declared.error.Error.TheVariants.{IoError, NoAttributes, UnrecognizedMagicValue}
 use Rattle.indexmap.specs.IndexMap.{IndexMap}
 use Rattle.perfdata_base.specs.Features.{features_of}
 use Rattle.perfdata_base.specs.declared.features.Feature.{Feature}
-use Rattle.perfdata_parts.specs.Error.{IsShort, IsIo}
+use Rattle.perfdata_sections.specs.Error.{IsShort, IsIo}
 use Rattle.linux_perf_data.specs.Sections.{ReadsSections, LacksSections, SourceOwesBytes, data_in}
 use Rattle.linux_perf_data.specs.declared.opening.Opening.{Opening}
 use Rattle.linux_perf_data.specs.Open.{EndsNear, table_place, HoldsSections, section_data, told_of, DescribesAttributes, StopsAtAttributes, RefusedBehind, StopsBehind, SourceOwesOpening, HasHeader, StopsFile, RefusedFile, ReadFile, OpenedAt, ReadBehind, ReadsBehind, ReadsFile, magic_of}

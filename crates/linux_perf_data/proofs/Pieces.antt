@@ -10,10 +10,10 @@ use Rattle.perfdata_base.specs.Numbers.{number_in}
 use Rattle.perfdata_base.proofs.Numbers.{number_front}
 use Rattle.perfdata_base.specs.declared.raw.Endianness.{Endianness}
 use Rattle.perfdata_base.specs.declared.event.PerfEventHeader.{PerfEventHeader}
-use Rattle.perfdata_parts.specs.declared.error.Error.{Error}
-use Rattle.perfdata_parts.specs.declared.error.Error.TheVariants.{Read, Memory, Failed}
-use Rattle.perfdata_parts.specs.declared.error.ReadError.TheVariants.{PerfEventData}
-use Rattle.perfdata_parts.specs.Error.{IsShort, IsUnsupported, IsIo}
+use Rattle.perfdata_sections.specs.declared.error.Error.{Error}
+use Rattle.perfdata_sections.specs.declared.error.Error.TheVariants.{Read, Memory, Failed}
+use Rattle.perfdata_sections.specs.declared.error.ReadError.TheVariants.{PerfEventData}
+use Rattle.perfdata_sections.specs.Error.{IsShort, IsUnsupported, IsIo}
 use Rattle.linux_perf_data.specs.Attribute.{Attribute}
 use Rattle.linux_perf_data.specs.Layout.{Bound, Fault, short_head, bad_size, too_far, cut_body, compressed, short_trace, trace_too_far, cut_trace, IsLate, FaultAt, IsCompressed, IsTruncated, IsRecord, HasHead, HasBody, HasTrace, kind_of, misc_of, size_of, trace_of, extent_of}
 use Rattle.linux_perf_data.specs.Piece.{Answers, TookBytes, TookHead, EndedIn, FailedIn, Checks, TookContent, EndedContent, CameContent, CutContent, WhyNoContent, CutBehindHead, CameWithin, SourceOwes, RefusedAt, CutAt}

@@ -13,8 +13,8 @@ use Rattle.perfdata_base.specs.declared.header.pipe.PerfPipeHeader.{PerfPipeHead
 use Rattle.perfdata_base.specs.declared.raw.Endianness.{Endianness}
 use Rattle.perfdata_base.specs.declared.raw.Endianness.TheVariants.{LittleEndian, BigEndian}
 use Rattle.perfdata_base.proofs.Numbers.{number_drop_front}
-use Rattle.perfdata_parts.specs.declared.error.Error.{Error}
-use Rattle.perfdata_parts.specs.declared.error.Error.TheVariants.{Memory, NoAttributes, UnrecognizedMagicValue}
+use Rattle.perfdata_sections.specs.declared.error.Error.{Error}
+use Rattle.perfdata_sections.specs.declared.error.Error.TheVariants.{Memory, NoAttributes, UnrecognizedMagicValue}
 use Rattle.linux_perf_data.specs.Attribute.{Breaks, Rule}
 use Rattle.linux_perf_data.specs.Late.{IsMetadata}
 use Rattle.linux_perf_data.specs.Layout.{kind_of, size_of}

@@ -8,7 +8,7 @@ use Rattle.perfdata_base.specs.Source.{State, prepend, Gave, Paused}
 use Rattle.perfdata_base.specs.declared.raw.Endianness.{Endianness}
 use Rattle.perfdata_base.proofs.Cut.{none_or_paused}
 use Rattle.perfdata_base.proofs.Gives.{failed_later, paused_later}
-use Rattle.perfdata_parts.specs.declared.error.Error.{Error}
+use Rattle.perfdata_sections.specs.declared.error.Error.{Error}
 use Rattle.linux_perf_data.specs.declared.input.Input.{Input}
 use Rattle.linux_perf_data.specs.declared.input.Input.TheVariants.{Section, Pipe}
 use Rattle.linux_perf_data.specs.declared.iter.PerfRecordIter.{PerfRecordIter}

@@ -6,8 +6,8 @@ use Rattle.perfdata_base.specs.Event.{head_of}
 use Rattle.perfdata_base.specs.Numbers.{number_in}
 use Rattle.perfdata_base.specs.declared.raw.Endianness.{Endianness}
 use Rattle.perfdata_base.specs.declared.event.PerfEventHeader.{PerfEventHeader}
-use Rattle.perfdata_parts.specs.declared.error.Error.{Error}
-use Rattle.perfdata_parts.specs.declared.error.Error.TheVariants.{InvalidPerfEventSize}
+use Rattle.perfdata_sections.specs.declared.error.Error.{Error}
+use Rattle.perfdata_sections.specs.declared.error.Error.TheVariants.{InvalidPerfEventSize}
 use Rattle.linux_perf_data.specs.Attribute.{HoldsAttribute}
 use Rattle.linux_perf_data.specs.Late.{IsMetadata, Spoils}
 use Rattle.linux_perf_data.specs.Layout.{IsCompressed, IsRecord, kind_of, size_of}

@@ -5,9 +5,9 @@ use Rattle.perfdata_base.specs.Source.{State, Gave}
 use Rattle.perfdata_base.proofs.Gives.{gave_none, gave_more, gave_none_later, failed_later}
 use Rattle.perfdata_base.specs.declared.raw.Endianness.{Endianness}
 use Rattle.perfdata_base.specs.declared.event.PerfEventHeader.{PerfEventHeader}
-use Rattle.perfdata_parts.specs.Error.{IsShort}
-use Rattle.perfdata_parts.specs.declared.error.Error.{Error}
-use Rattle.perfdata_parts.specs.declared.error.Error.TheVariants.{Memory}
+use Rattle.perfdata_sections.specs.Error.{IsShort}
+use Rattle.perfdata_sections.specs.declared.error.Error.{Error}
+use Rattle.perfdata_sections.specs.declared.error.Error.TheVariants.{Memory}
 use Rattle.linux_perf_data.specs.Late.{Spoils}
 use Rattle.linux_perf_data.specs.Piece.{Checks, TookBytes}
 use Rattle.linux_perf_data.specs.PipeOpen.{Refused}

@@ -7,7 +7,7 @@ use Rattle.std.proofs.lemmas.List.Folds.{concat-append}
 use Rattle.perfdata_base.specs.Source.{State, Gave}
 use Rattle.perfdata_base.proofs.Gives.{gave_none, gave_more, gave_none_later}
 use Rattle.perfdata_base.specs.declared.raw.Endianness.{Endianness}
-use Rattle.perfdata_parts.specs.declared.error.Error.{Error}
+use Rattle.perfdata_sections.specs.declared.error.Error.{Error}
 use Rattle.linux_perf_data.specs.PipeOpen.{AreMetadata, Ended, IsMetadataRecord, Refused, StopsMetadata, StopsRecord}
 use Rattle.linux_perf_data.specs.PipeParts.{Tells, TookEnd, TookMetadata, TookNext}
 use Rattle.linux_perf_data.specs.declared.pipe_opening.Metadata.{Metadata}

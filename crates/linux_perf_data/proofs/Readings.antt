@@ -9,9 +9,9 @@ use Rattle.perfdata_base.specs.declared.raw.Endianness.{Endianness}
 use Rattle.perfdata_base.proofs.Cut.{failed_after_stood, paused_after_stood}
 use Rattle.perfdata_base.proofs.Gives.{gave_none, gave_more}
 use Rattle.perfdata_base.proofs.Numbers.{in_reads_first}
-use Rattle.perfdata_parts.specs.declared.error.Error.{Error}
-use Rattle.perfdata_parts.specs.declared.error.Error.TheVariants.{Memory}
-use Rattle.perfdata_parts.proofs.EventFronts.{told_or_refused}
+use Rattle.perfdata_sections.specs.declared.error.Error.{Error}
+use Rattle.perfdata_sections.specs.declared.error.Error.TheVariants.{Memory}
+use Rattle.perfdata_sections.proofs.EventFronts.{told_or_refused}
 use Rattle.linux_perf_data.specs.declared.input.Input.{Input}
 use Rattle.linux_perf_data.specs.declared.input.Input.TheVariants.{Section, Pipe}
 use Rattle.linux_perf_data.specs.declared.iter.PerfRecordIter.{PerfRecordIter}

@@ -11,13 +11,13 @@ use Rattle.perfdata_base.specs.Numbers.{number_in}
 use Rattle.perfdata_base.specs.declared.raw.Endianness.{Endianness}
 use Rattle.perfdata_base.specs.declared.source.AppendFault.{AppendFault}
 use Rattle.perfdata_base.specs.declared.source.AppendFault.TheVariants.{Memory, Source}
-use Rattle.perfdata_parts.specs.Part.{Took, Stopped, error_of}
-use Rattle.perfdata_parts.specs.NumberSections.{clock_of, IsClock, IsCutClock, ParsesClock}
-use Rattle.perfdata_parts.specs.Pmu.{IsPmuSectionOf, IsCutPmuSection, ReadsPmus}
-use Rattle.perfdata_parts.specs.declared.feature_sections.numbers.ClockData.{ClockData}
-use Rattle.perfdata_parts.specs.declared.feature_sections.pmu.PmuMappings.{PmuMappings}
-use Rattle.perfdata_parts.specs.declared.error.Error.{Error}
-use Rattle.perfdata_parts.specs.declared.error.Error.TheVariants.{IoError}
+use Rattle.perfdata_sections.specs.Part.{Took, Stopped, error_of}
+use Rattle.perfdata_sections.specs.NumberSections.{clock_of, IsClock, IsCutClock, ParsesClock}
+use Rattle.perfdata_sections.specs.Pmu.{IsPmuSectionOf, IsCutPmuSection, ReadsPmus}
+use Rattle.perfdata_sections.specs.declared.feature_sections.numbers.ClockData.{ClockData}
+use Rattle.perfdata_sections.specs.declared.feature_sections.pmu.PmuMappings.{PmuMappings}
+use Rattle.perfdata_sections.specs.declared.error.Error.{Error}
+use Rattle.perfdata_sections.specs.declared.error.Error.TheVariants.{IoError}
 use Rattle.linux_perf_data.specs.Values.{TellsClock, TellsUnits, HasUnits}
 
 -- what came stood at the slice's front

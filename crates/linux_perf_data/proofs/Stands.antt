@@ -8,7 +8,7 @@ use Rattle.perfdata_base.specs.Attr.{own_size, IsTooSmall}
 use Rattle.perfdata_base.proofs.Numbers.{in_reads_first}
 use Rattle.perfdata_base.specs.declared.raw.Endianness.{Endianness}
 use Rattle.linux_perf_data.specs.Attribute.{Attribute, Rule, Breach, Breaks, HoldsAttribute}
-use Rattle.perfdata_parts.proofs.EventFronts.{told_or_not}
+use Rattle.perfdata_sections.proofs.EventFronts.{told_or_not}
 use Rattle.linux_perf_data.specs.Names.{TellsNames, event_desc, feature_of}
 use Rattle.linux_perf_data.specs.Layout.{Bound, Begins, IsCompressed, IsRecord, IsPiece, IsEnd, HasHead, HasBody, HoldsNone, Fronts, attributes_of, Fault, short_head, bad_size, too_far, cut_body, compressed, short_trace, trace_too_far, cut_trace, bad_metadata, Spoilt, cut_metadata, small_attribute, CutsAttribute, bad_names, HoldsNoNames, unruly, FaultAt, End, whole, faulty, Ends, kind_of, size_of, extent_of}
 use Rattle.linux_perf_data.proofs.Heads.{kind_front, size_front, extent_front, extent_plain, size_in_extent, record_least, record_length, same_front}

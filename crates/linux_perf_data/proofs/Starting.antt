@@ -3,7 +3,7 @@ use Rattle.std.proofs.Common.{◌≡◌, ℕ, List, drop, sym, ap, ◌∙◌, su
 use Rattle.std.specs.Prelude.{IfSome, Result, Ok, Err}
 use Rattle.perfdata_base.specs.Source.{State, Place, Stood, IsPlaced, behind}
 use Rattle.perfdata_base.specs.declared.raw.Endianness.{Endianness}
-use Rattle.perfdata_parts.specs.declared.error.Error.{Error}
+use Rattle.perfdata_sections.specs.declared.error.Error.{Error}
 use Rattle.linux_perf_data.specs.declared.opening.Opening.{Opening}
 use Rattle.linux_perf_data.specs.declared.file_reader.PerfFileReader.{PerfFileReader}
 use Rattle.linux_perf_data.specs.Attribute.{Attribute, Rule}

@@ -4,7 +4,7 @@ use Rattle.std.specs.Prelude.{◌⊎◌, ◌↔◌, IsSome, Result, Ok, Err}
 use Rattle.std.specs.List.{concat}
 use Rattle.perfdata_base.specs.Source.{State, prepend, Gave, GaveNone}
 use Rattle.perfdata_base.specs.Features.{HasFeature}
-use Rattle.perfdata_parts.specs.declared.error.Error.{Error}
+use Rattle.perfdata_sections.specs.declared.error.Error.{Error}
 use Rattle.linux_perf_data.specs.declared.file_reader.PerfFileReader.{PerfFileReader}
 use Rattle.linux_perf_data.specs.declared.pipe_opening.PipeOpening.{PipeOpening}
 use Rattle.linux_perf_data.specs.declared.input.Input.TheVariants.{Pipe}

@@ -20,10 +20,10 @@ use Rattle.perfdata_base.specs.declared.source.AppendFault.TheVariants.{Memory, 
 use Rattle.perfdata_base.proofs.Gives.{gave_none, gave_more, gave_none_later, failed_later}
 use Rattle.perfdata_base.proofs.Cut.{none_or_paused, all_came, gave_stood, stood_none, stood_more, failed_after_stood, paused_after_stood}
 use Rattle.perfdata_base.proofs.Numbers.{number_front, number_drop_front}
-use Rattle.perfdata_parts.specs.Part.{ReadsBytes, error_of}
-use Rattle.perfdata_parts.specs.Error.{IsShort}
-use Rattle.perfdata_parts.specs.declared.error.Error.{Error}
-use Rattle.perfdata_parts.specs.declared.error.Error.TheVariants.{IoError, Memory as OfMemory}
+use Rattle.perfdata_sections.specs.Part.{ReadsBytes, error_of}
+use Rattle.perfdata_sections.specs.Error.{IsShort}
+use Rattle.perfdata_sections.specs.declared.error.Error.{Error}
+use Rattle.perfdata_sections.specs.declared.error.Error.TheVariants.{IoError, Memory as OfMemory}
 use Rattle.linux_perf_data.specs.Sections.{Entry, entries_in, entries_of, HoldsSection, LacksSection, bytes_of_section, sections_by, data_by, data_in, LacksOne, table_of, HasTable, HasSections, LacksSections, SourceOwesBytes, TookTable, StoppedTable, ReadsSection, ReadsData, ReadsSections}
 
 -- ---- one section

@@ -3,8 +3,8 @@ use Rattle.std.proofs.Common.{◌≡◌, ◌≢◌, ◌==◌, ℕ, ◌++◌, Lis
 use Rattle.std.specs.Prelude.{◌⊎◌, Option, None, Some}
 use Rattle.std.specs.Map.{update, update_all}
 use Rattle.std.proofs.lemmas.Bool.{cases_eq, cond-true, cond-false, eq-eqb, ne_eqb}
-use Rattle.perfdata_parts.specs.AttributeDescription.{events_in}
-use Rattle.perfdata_parts.specs.declared.feature_sections.AttributeDescription.{AttributeDescription}
+use Rattle.perfdata_sections.specs.AttributeDescription.{events_in}
+use Rattle.perfdata_sections.specs.declared.feature_sections.AttributeDescription.{AttributeDescription}
 use Rattle.perfdata_base.specs.declared.raw.Endianness.{Endianness}
 use Rattle.linux_perf_data.specs.Layout.{Bound, Handed, attributes_of, brought}
 use Rattle.linux_perf_data.specs.Late.{brings_features, brought_features, BringsFeature, BroughtFeature, GivesNames, HoldsFirst, HoldsMore, NamesStay}

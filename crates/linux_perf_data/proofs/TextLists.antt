@@ -5,8 +5,8 @@ use Rattle.std.specs.Borrow.{Bor}
 use Rattle.std.proofs.lemmas.List.{map_push}
 use Rattle.perfdata_base.specs.Numbers.{number_in}
 use Rattle.perfdata_base.specs.declared.raw.Endianness.{Endianness}
-use Rattle.perfdata_parts.specs.declared.error.Error.{Error}
-use Rattle.perfdata_parts.specs.declared.error.Error.TheVariants.{NotEnoughSpaceForStringLen, StringLengthTooLong, StringUtf8}
+use Rattle.perfdata_sections.specs.declared.error.Error.{Error}
+use Rattle.perfdata_sections.specs.declared.error.Error.TheVariants.{NotEnoughSpaceForStringLen, StringLengthTooLong, StringUtf8}
 use Rattle.linux_perf_data.specs.Values.{HasString, text_of, behind_string, HasTexts, behind_texts, IsNoText, IsNoTextList}
 
 module _ (order : Endianness) where

@@ -4,7 +4,7 @@ use Rattle.std.specs.Prelude.{Bool, true, false, Result, Ok, Err}
 use Rattle.perfdata_base.specs.Source.{State, prepend, Gave, GaveNone, Failed as SourceFailed, Paused}
 use Rattle.perfdata_base.specs.declared.raw.Endianness.{Endianness}
 use Rattle.perfdata_base.specs.declared.event.PerfEventHeader.{PerfEventHeader}
-use Rattle.perfdata_parts.specs.declared.error.Error.{Error}
+use Rattle.perfdata_sections.specs.declared.error.Error.{Error}
 use Rattle.linux_perf_data.specs.declared.input.Input.{Input}
 use Rattle.linux_perf_data.specs.declared.input.Input.TheVariants.{Section, Pipe}
 use Rattle.linux_perf_data.specs.Input.{KeepsNone, with_front, view_in, CutAnswers, bound_in}

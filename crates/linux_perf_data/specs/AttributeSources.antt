@@ -7,18 +7,18 @@ use Rattle.perfdata_base.specs.Numbers.{number_in}
 use Rattle.perfdata_base.specs.declared.raw.Endianness.{Endianness}
 use Rattle.perfdata_base.specs.declared.header.PerfHeader.{PerfHeader}
 use Rattle.perfdata_base.specs.declared.section.PerfFileSection.{PerfFileSection}
-use Rattle.perfdata_parts.specs.Run.{Run}
-use Rattle.perfdata_parts.specs.Attributes.{OwesAttributes, DescribesByAttrSection, ReadsAttrSection, IsDescribed, IsNoFrame, IsNoSection}
-use Rattle.perfdata_parts.specs.EventDesc.{DescribesByEventDesc, NoEventDesc}
-use Rattle.perfdata_parts.specs.EventTypes.{DescribesByEventTypes, NoEventTypes, ReadsEventTypes, IsTooFar, name_at}
+use Rattle.perfdata_sections.specs.Run.{Run}
+use Rattle.perfdata_sections.specs.Attributes.{OwesAttributes, DescribesByAttrSection, ReadsAttrSection, IsDescribed, IsNoFrame, IsNoSection}
+use Rattle.perfdata_sections.specs.EventDesc.{DescribesByEventDesc, NoEventDesc}
+use Rattle.perfdata_sections.specs.EventTypes.{DescribesByEventTypes, NoEventTypes, ReadsEventTypes, IsTooFar, name_at}
 use Rattle.perfdata_simpleperf.specs.MetaInfo.{meta_pairs, last_value, IsPairOfTexts}
-use Rattle.perfdata_parts.specs.SimpleperfAttrs.{DescribesBySimpleperf, NoSimpleperfAttrs, ReadsSimpleperfAttrs}
+use Rattle.perfdata_sections.specs.SimpleperfAttrs.{DescribesBySimpleperf, NoSimpleperfAttrs, ReadsSimpleperfAttrs}
 use Rattle.perfdata_simpleperf.specs.SimpleperfEvents.{EventType, event_type_of, event_type_info, TellsEventTypes}
-use Rattle.perfdata_parts.specs.declared.event_type.SimplePerfEventType.{SimplePerfEventType}
-use Rattle.perfdata_parts.specs.declared.feature_sections.AttributeDescription.{AttributeDescription}
-use Rattle.perfdata_parts.specs.declared.error.Error.{Error}
-use Rattle.perfdata_parts.specs.declared.error.Error.TheVariants.{Read, StringUtf8, NoEventTypesInSimpleperfMetaInfo, Memory}
-use Rattle.perfdata_parts.specs.declared.error.ReadError.TheVariants.{PerfEventAttr as OfAttr}
+use Rattle.perfdata_sections.specs.declared.event_type.SimplePerfEventType.{SimplePerfEventType}
+use Rattle.perfdata_sections.specs.declared.feature_sections.AttributeDescription.{AttributeDescription}
+use Rattle.perfdata_sections.specs.declared.error.Error.{Error}
+use Rattle.perfdata_sections.specs.declared.error.Error.TheVariants.{Read, StringUtf8, NoEventTypesInSimpleperfMetaInfo, Memory}
+use Rattle.perfdata_sections.specs.declared.error.ReadError.TheVariants.{PerfEventAttr as OfAttr}
 
 -- the first frames of a section hold attributes, fewer than it has room for, and the next is none, as this error says
 pub record StopsAttrSection (order : Endianness) (attr_size : ℕ) (section : PerfFileSection) (e : Error) (all : List ℕ) : Type 0 where

@@ -14,8 +14,8 @@ use Rattle.perfdata_records.specs.contracts.dso_key.DsoKeyPartialEq.TheImpl.{gho
 use Rattle.perfdata_records.specs.declared.build_id_event.BuildIdEvent.{BuildIdEvent}
 use Rattle.perfdata_records.specs.declared.dso_info.DsoInfo.{DsoInfo}
 use Rattle.perfdata_records.specs.declared.dso_key.DsoKey.{DsoKey}
-use Rattle.perfdata_parts.specs.declared.error.Error.{Error}
-use Rattle.perfdata_parts.specs.declared.error.Error.TheVariants.{Memory}
+use Rattle.perfdata_sections.specs.declared.error.Error.{Error}
+use Rattle.perfdata_sections.specs.declared.error.Error.TheVariants.{Memory}
 
 -- a path and a build id
 abbrev pub Info : Type 0

@@ -4,10 +4,10 @@ use Rattle.std.specs.declared.alloc.Global.{Global}
 use Rattle.perfdata_base.specs.Place.{places_of}
 use Rattle.perfdata_base.specs.declared.place.RecordParseInfo.{RecordParseInfo}
 use Rattle.perfdata_base.specs.declared.raw.Endianness.{Endianness}
-use Rattle.perfdata_parts.specs.declared.error.Error.{Error}
-use Rattle.perfdata_parts.specs.declared.error.Error.TheVariants.{Memory}
-use Rattle.perfdata_parts.specs.declared.feature_sections.AttributeDescription.{AttributeDescription}
-use Rattle.perfdata_parts.specs.AttributeDescription.{attr_in, ids_in}
+use Rattle.perfdata_sections.specs.declared.error.Error.{Error}
+use Rattle.perfdata_sections.specs.declared.error.Error.TheVariants.{Memory}
+use Rattle.perfdata_sections.specs.declared.feature_sections.AttributeDescription.{AttributeDescription}
+use Rattle.perfdata_sections.specs.AttributeDescription.{attr_in, ids_in}
 use Rattle.linux_perf_data.specs.Attribute.{Attribute}
 
 -- an attribute with the identifiers of its records

@@ -5,12 +5,12 @@ use Rattle.perfdata_base.specs.Numbers.{number_in}
 use Rattle.perfdata_base.specs.Raw.{bytes_of}
 use Rattle.perfdata_base.specs.declared.raw.Endianness.{Endianness}
 use Rattle.perfdata_base.specs.declared.event.PerfEventHeader.{PerfEventHeader}
-use Rattle.perfdata_parts.specs.declared.error.Error.{Error}
-use Rattle.perfdata_parts.specs.declared.error.Error.TheVariants as error
+use Rattle.perfdata_sections.specs.declared.error.Error.{Error}
+use Rattle.perfdata_sections.specs.declared.error.Error.TheVariants as error
 use Rattle.perfdata_records.specs.declared.record.PerfFileRecord.{PerfFileRecord}
 use Rattle.perfdata_records.specs.declared.record.PerfFileRecord.TheVariants.{EventRecord, UserRecord}
-use Rattle.perfdata_parts.specs.Error.{IsInvalidInput}
-use Rattle.perfdata_parts.specs.EventDesc.{NoEventDesc}
+use Rattle.perfdata_sections.specs.Error.{IsInvalidInput}
+use Rattle.perfdata_sections.specs.EventDesc.{NoEventDesc}
 use Rattle.perfdata_records.specs.Record.{type_of}
 use Rattle.linux_perf_data.specs.declared.iter.PerfRecordIter.{PerfRecordIter}
 use Rattle.linux_perf_data.specs.declared.iter.RecordPlace.{RecordPlace}

@@ -5,8 +5,8 @@ use Rattle.perfdata_base.specs.Place.{places_of}
 use Rattle.perfdata_base.specs.IdCache.{cached}
 use Rattle.perfdata_base.specs.declared.attr.PerfEventAttr.{PerfEventAttr}
 use Rattle.perfdata_base.specs.declared.raw.Endianness.{Endianness}
-use Rattle.perfdata_parts.specs.declared.error.Error.{Error}
-use Rattle.perfdata_parts.specs.declared.error.Error.TheVariants.{Memory}
+use Rattle.perfdata_sections.specs.declared.error.Error.{Error}
+use Rattle.perfdata_sections.specs.declared.error.Error.TheVariants.{Memory}
 use Rattle.linux_perf_data.specs.declared.known.Known.{Known}
 use Rattle.linux_perf_data.specs.declared.known.FoundEvent.{FoundEvent}
 use Rattle.linux_perf_data.specs.Attribute.{Attribute, Breach, Breaks, Event, Rule, greatest, event_of}

@@ -5,10 +5,10 @@ use Rattle.perfdata_base.specs.Features.{HasFeature}
 use Rattle.perfdata_base.specs.Numbers.{number_in}
 use Rattle.perfdata_base.specs.Attr.{IsTooSmall}
 use Rattle.perfdata_base.specs.declared.raw.Endianness.{Endianness}
-use Rattle.perfdata_parts.specs.Error.{IsShort, IsInvalidData, IsInvalidInput}
-use Rattle.perfdata_parts.specs.EventDesc.{NoEventDesc}
-use Rattle.perfdata_parts.specs.declared.error.Error.{Error}
-use Rattle.perfdata_parts.specs.declared.error.Error.TheVariants.{Memory, Failed}
+use Rattle.perfdata_sections.specs.Error.{IsShort, IsInvalidData, IsInvalidInput}
+use Rattle.perfdata_sections.specs.EventDesc.{NoEventDesc}
+use Rattle.perfdata_sections.specs.declared.error.Error.{Error}
+use Rattle.perfdata_sections.specs.declared.error.Error.TheVariants.{Memory, Failed}
 use Rattle.linux_perf_data.specs.declared.known.Known.{Known}
 use Rattle.linux_perf_data.specs.declared.perf_file.PerfFile.{PerfFile}
 use Rattle.linux_perf_data.specs.Attribute.{Attribute, HoldsAttribute, Breach, Breaks}

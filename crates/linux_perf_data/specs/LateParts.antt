@@ -4,10 +4,10 @@ use Rattle.std.specs.declared.alloc.Global.{Global}
 use Rattle.perfdata_base.specs.Features.{PutsFeature}
 use Rattle.perfdata_base.specs.Numbers.{number_in}
 use Rattle.perfdata_base.specs.declared.raw.Endianness.{Endianness}
-use Rattle.perfdata_parts.specs.EventDesc.{DescribesByEventDesc, NoEventDesc}
-use Rattle.perfdata_parts.specs.declared.error.Error.{Error}
-use Rattle.perfdata_parts.specs.declared.error.Error.TheVariants.{Memory}
-use Rattle.perfdata_parts.specs.declared.feature_sections.AttributeDescription.{AttributeDescription}
+use Rattle.perfdata_sections.specs.EventDesc.{DescribesByEventDesc, NoEventDesc}
+use Rattle.perfdata_sections.specs.declared.error.Error.{Error}
+use Rattle.perfdata_sections.specs.declared.error.Error.TheVariants.{Memory}
+use Rattle.perfdata_sections.specs.declared.feature_sections.AttributeDescription.{AttributeDescription}
 use Rattle.linux_perf_data.specs.declared.known.Known.{Known}
 use Rattle.linux_perf_data.specs.Attribute.{Attribute, HoldsAttribute, attribute_in, Breach, Breaks}
 use Rattle.linux_perf_data.specs.Known.{Knows}

@@ -7,13 +7,13 @@ use Rattle.perfdata_base.specs.declared.raw.Endianness.{Endianness}
 use Rattle.linux_perf_data.specs.Attribute.{Attribute, Rule, Breach, Breaks}
 use Rattle.linux_perf_data.specs.Layout.{Bound, Begins, IsEnd, IsRecord, IsPiece, Fronts, Fault, FaultAt, End, Layout, Handed, handed, handed_at, brought, ToCome, attributes_of, attributes_in, kind_of, size_of}
 use Rattle.perfdata_base.specs.Numbers.{number_in}
-use Rattle.perfdata_parts.specs.AttributeDescription.{name_in, ids_in, events_in}
+use Rattle.perfdata_sections.specs.AttributeDescription.{name_in, ids_in, events_in}
 use Rattle.perfdata_records.specs.Auxtrace.{HoldsAuxtrace}
-use Rattle.perfdata_parts.specs.Error.{IsShort, IsInvalidInput}
-use Rattle.perfdata_parts.specs.EventDesc.{NoEventDesc}
-use Rattle.perfdata_parts.specs.declared.error.Error.{Error}
-use Rattle.perfdata_parts.specs.declared.error.Error.TheVariants.{UnrecognizedMagicValue}
-use Rattle.perfdata_parts.specs.declared.feature_sections.AttributeDescription.{AttributeDescription}
+use Rattle.perfdata_sections.specs.Error.{IsShort, IsInvalidInput}
+use Rattle.perfdata_sections.specs.EventDesc.{NoEventDesc}
+use Rattle.perfdata_sections.specs.declared.error.Error.{Error}
+use Rattle.perfdata_sections.specs.declared.error.Error.TheVariants.{UnrecognizedMagicValue}
+use Rattle.perfdata_sections.specs.declared.feature_sections.AttributeDescription.{AttributeDescription}
 use Rattle.linux_perf_data.specs.Names.{TellsNames, Named}
 use Rattle.linux_perf_data.specs.Open.{magic_of, HasHeader, CanPass, StopsFile}
 use Rattle.linux_perf_data.specs.Opened.{Describes}

@@ -4,11 +4,11 @@ use Rattle.std.specs.Option.{option_map}
 use Rattle.std.specs.declared.alloc.Global.{Global}
 use Rattle.perfdata_base.specs.Numbers.{number_in}
 use Rattle.perfdata_base.specs.declared.raw.Endianness.{Endianness}
-use Rattle.perfdata_parts.specs.AttributeDescription.{DescribedEvent, name_in, ids_in}
-use Rattle.perfdata_parts.specs.EventDesc.{TellsByEventDesc, DescribesByEventDesc, NoEventDesc}
-use Rattle.perfdata_parts.specs.declared.error.Error.{Error}
-use Rattle.perfdata_parts.specs.declared.error.Error.TheVariants.{Memory}
-use Rattle.perfdata_parts.specs.declared.feature_sections.AttributeDescription.{AttributeDescription}
+use Rattle.perfdata_sections.specs.AttributeDescription.{DescribedEvent, name_in, ids_in}
+use Rattle.perfdata_sections.specs.EventDesc.{TellsByEventDesc, DescribesByEventDesc, NoEventDesc}
+use Rattle.perfdata_sections.specs.declared.error.Error.{Error}
+use Rattle.perfdata_sections.specs.declared.error.Error.TheVariants.{Memory}
+use Rattle.perfdata_sections.specs.declared.feature_sections.AttributeDescription.{AttributeDescription}
 use Rattle.linux_perf_data.specs.Described.{attributes_by}
 
 -- the number of the feature EVENT_DESC

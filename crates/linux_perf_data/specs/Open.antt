@@ -5,12 +5,12 @@ use Rattle.perfdata_base.specs.Header.{header_of}
 use Rattle.perfdata_base.specs.declared.raw.Endianness.{Endianness}
 use Rattle.perfdata_base.specs.declared.raw.Endianness.TheVariants.{LittleEndian, BigEndian}
 use Rattle.perfdata_base.specs.declared.header.PerfHeader.{PerfHeader}
-use Rattle.perfdata_parts.specs.Error.{IsShort, IsInvalidInput}
-use Rattle.perfdata_parts.specs.Attributes.{OwesAttributes}
-use Rattle.perfdata_parts.specs.declared.feature_sections.AttributeDescription.{AttributeDescription}
-use Rattle.perfdata_parts.specs.declared.error.Error.{Error}
-use Rattle.perfdata_parts.specs.declared.error.Error.TheVariants.{Read, UnrecognizedMagicValue, NoAttributes, Memory}
-use Rattle.perfdata_parts.specs.declared.error.ReadError.TheVariants.{FeatureSection}
+use Rattle.perfdata_sections.specs.Error.{IsShort, IsInvalidInput}
+use Rattle.perfdata_sections.specs.Attributes.{OwesAttributes}
+use Rattle.perfdata_sections.specs.declared.feature_sections.AttributeDescription.{AttributeDescription}
+use Rattle.perfdata_sections.specs.declared.error.Error.{Error}
+use Rattle.perfdata_sections.specs.declared.error.Error.TheVariants.{Read, UnrecognizedMagicValue, NoAttributes, Memory}
+use Rattle.perfdata_sections.specs.declared.error.ReadError.TheVariants.{FeatureSection}
 use Rattle.perfdata_base.specs.Features.{features_of}
 use Rattle.linux_perf_data.specs.Attribute.{Breach, Breaks, Rule}
 use Rattle.linux_perf_data.specs.Described.{attributes_by}

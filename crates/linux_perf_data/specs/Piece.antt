@@ -4,11 +4,11 @@ use Rattle.perfdata_base.specs.Source.{State, Gave, GaveNone, Failed as SourceFa
 use Rattle.perfdata_base.specs.Numbers.{number_in}
 use Rattle.perfdata_base.specs.declared.raw.Endianness.{Endianness}
 use Rattle.perfdata_base.specs.declared.event.PerfEventHeader.{PerfEventHeader}
-use Rattle.perfdata_parts.specs.declared.error.Error.{Error}
-use Rattle.perfdata_parts.specs.declared.error.Error.TheVariants.{Read, InvalidPerfEventSize, Memory, Failed}
-use Rattle.perfdata_parts.specs.declared.error.ReadError.TheVariants.{PerfEventData}
-use Rattle.perfdata_parts.specs.Error.{IsShort, IsUnsupported, IsInvalidData, IsIo}
-use Rattle.perfdata_parts.specs.EventDesc.{NoEventDesc}
+use Rattle.perfdata_sections.specs.declared.error.Error.{Error}
+use Rattle.perfdata_sections.specs.declared.error.Error.TheVariants.{Read, InvalidPerfEventSize, Memory, Failed}
+use Rattle.perfdata_sections.specs.declared.error.ReadError.TheVariants.{PerfEventData}
+use Rattle.perfdata_sections.specs.Error.{IsShort, IsUnsupported, IsInvalidData, IsIo}
+use Rattle.perfdata_sections.specs.EventDesc.{NoEventDesc}
 use Rattle.linux_perf_data.specs.Attribute.{Attribute}
 use Rattle.linux_perf_data.specs.Rules.{error_of_breach}
 use Rattle.linux_perf_data.specs.Layout.{Bound, Fault, short_head, bad_size, too_far, cut_body, compressed, short_trace, trace_too_far, cut_trace, bad_metadata, cut_metadata, small_attribute, bad_names, unruly, IsLate, FaultAt, IsCompressed, IsTruncated, kind_of, misc_of, size_of, extent_of}

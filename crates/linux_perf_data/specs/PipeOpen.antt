@@ -6,11 +6,11 @@ use Rattle.perfdata_base.specs.Source.{State, Gave, GaveNone, Failed}
 use Rattle.perfdata_base.specs.Numbers.{number_in}
 use Rattle.perfdata_base.specs.Features.{HasFeature}
 use Rattle.perfdata_base.specs.declared.raw.Endianness.{Endianness}
-use Rattle.perfdata_parts.specs.Error.{IsShort, IsIo}
-use Rattle.perfdata_parts.specs.EventDesc.{NoEventDesc}
-use Rattle.perfdata_parts.specs.declared.error.Error.{Error}
-use Rattle.perfdata_parts.specs.declared.error.Error.TheVariants.{Read, UnrecognizedMagicValue, InvalidPerfEventSize, NoAttributes, Memory}
-use Rattle.perfdata_parts.specs.declared.error.ReadError.TheVariants.{PerfEventData}
+use Rattle.perfdata_sections.specs.Error.{IsShort, IsIo}
+use Rattle.perfdata_sections.specs.EventDesc.{NoEventDesc}
+use Rattle.perfdata_sections.specs.declared.error.Error.{Error}
+use Rattle.perfdata_sections.specs.declared.error.Error.TheVariants.{Read, UnrecognizedMagicValue, InvalidPerfEventSize, NoAttributes, Memory}
+use Rattle.perfdata_sections.specs.declared.error.ReadError.TheVariants.{PerfEventData}
 use Rattle.linux_perf_data.specs.Attribute.{Breach, Breaks, Rule, HoldsAttribute}
 use Rattle.linux_perf_data.specs.Described.{attributes_by}
 use Rattle.linux_perf_data.specs.Late.{IsMetadata, Spoils, brings_features}

@@ -10,13 +10,13 @@ use Rattle.perfdata_base.specs.Numbers.{number_in}
 use Rattle.perfdata_base.specs.Features.{HasFeature}
 use Rattle.perfdata_base.specs.declared.raw.Endianness.{Endianness}
 use Rattle.perfdata_base.specs.declared.event.PerfEventHeader.{PerfEventHeader}
-use Rattle.perfdata_parts.specs.Error.{IsShort}
+use Rattle.perfdata_sections.specs.Error.{IsShort}
 use Rattle.perfdata_records.specs.HeaderAttr.{attribute_of}
 use Rattle.perfdata_records.specs.HeaderFeature.{IsHeaderFeature}
-use Rattle.perfdata_parts.specs.EventDesc.{NoEventDesc}
-use Rattle.perfdata_parts.specs.declared.error.Error.{Error}
-use Rattle.perfdata_parts.specs.declared.error.Error.TheVariants.{Read, NoAttributes, Memory, IoError}
-use Rattle.perfdata_parts.specs.declared.error.ReadError.TheVariants.{PerfEventData}
+use Rattle.perfdata_sections.specs.EventDesc.{NoEventDesc}
+use Rattle.perfdata_sections.specs.declared.error.Error.{Error}
+use Rattle.perfdata_sections.specs.declared.error.Error.TheVariants.{Read, NoAttributes, Memory, IoError}
+use Rattle.perfdata_sections.specs.declared.error.ReadError.TheVariants.{PerfEventData}
 use Rattle.perfdata_records.specs.declared.user_record.HeaderAttr.{HeaderAttr}
 use Rattle.perfdata_records.specs.declared.user_record.HeaderFeature.{HeaderFeature}
 use Rattle.linux_perf_data.specs.Attribute.{Breach, Breaks, Rule, HoldsAttribute, attribute_in}

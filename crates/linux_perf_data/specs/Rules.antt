@@ -1,8 +1,8 @@
 -- What a look at the rule of attributes tells.
 use Rattle.std.specs.Prelude.{◌≡◌, ◌≢◌, ℕ, ◌+◌, List, [], ◌∷◌, Bool, true, false, All, if◌then◌else◌, Option, None, Some, Result, Ok, Err}
 use Rattle.perfdata_base.specs.Place.{id_places_of}
-use Rattle.perfdata_parts.specs.declared.error.Error.{Error}
-use Rattle.perfdata_parts.specs.declared.error.Error.TheVariants.{NoIdentifierDespiteMultiEvent, InconsistentSampleIdAllWithMultiEvent}
+use Rattle.perfdata_sections.specs.declared.error.Error.{Error}
+use Rattle.perfdata_sections.specs.declared.error.Error.TheVariants.{NoIdentifierDespiteMultiEvent, InconsistentSampleIdAllWithMultiEvent}
 use Rattle.linux_perf_data.specs.Attribute.{Attribute, Rule, Conforms, Breach, lacks_identifier, differs_about_trailing, has_identifier, BreachOf, Breaks}
 
 -- the answer to a breach of the rule

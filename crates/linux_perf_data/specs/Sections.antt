@@ -10,9 +10,9 @@ use Rattle.perfdata_base.specs.Section.{section_of}
 use Rattle.perfdata_base.specs.declared.features.Feature.{Feature}
 use Rattle.perfdata_base.specs.declared.raw.Endianness.{Endianness}
 use Rattle.perfdata_base.specs.declared.section.PerfFileSection.{PerfFileSection}
-use Rattle.perfdata_parts.specs.Error.{IsShort, IsIo}
-use Rattle.perfdata_parts.specs.declared.error.Error.{Error}
-use Rattle.perfdata_parts.specs.declared.error.Error.TheVariants.{Memory}
+use Rattle.perfdata_sections.specs.Error.{IsShort, IsIo}
+use Rattle.perfdata_sections.specs.declared.error.Error.{Error}
+use Rattle.perfdata_sections.specs.declared.error.Error.TheVariants.{Memory}
 
 -- a feature's number, and where its section is
 abbrev pub Entry : Type 0

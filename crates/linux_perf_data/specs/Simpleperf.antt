@@ -7,9 +7,9 @@ use Rattle.perfdata_simpleperf.specs.FileRecord.{record_value}
 use Rattle.perfdata_simpleperf.specs.File2.{IsFile2Of, File2Fault, TellsFile2}
 use Rattle.perfdata_simpleperf.specs.FileSection.{IsFileSectionOf, FileSectionFault, TellsFileSection}
 use Rattle.perfdata_simpleperf.specs.Pieces.{PieceFault}
-use Rattle.perfdata_parts.specs.declared.error.Error.{Error}
-use Rattle.perfdata_parts.specs.declared.error.Error.TheVariants.{Memory}
-use Rattle.perfdata_parts.specs.declared.decode_error.DecodeError.{DecodeError}
+use Rattle.perfdata_sections.specs.declared.error.Error.{Error}
+use Rattle.perfdata_sections.specs.declared.error.Error.TheVariants.{Memory}
+use Rattle.perfdata_sections.specs.declared.decode_error.DecodeError.{DecodeError}
 use Rattle.perfdata_simpleperf.specs.declared.simpleperf.file_record.SimpleperfFileRecord.{SimpleperfFileRecord}
 use Rattle.linux_perf_data.specs.Values.{TellsOf}
 

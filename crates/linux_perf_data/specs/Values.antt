@@ -7,17 +7,17 @@ use Rattle.std.specs.declared.alloc.Global.{Global}
 use Rattle.std.specs.declared.io.ErrorKind.TheVariants.{InvalidData}
 use Rattle.perfdata_base.specs.Numbers.{number_in}
 use Rattle.perfdata_base.specs.declared.raw.Endianness.{Endianness}
-use Rattle.perfdata_parts.specs.Error.{IsShort}
-use Rattle.perfdata_parts.specs.Strings.{before_nul}
-use Rattle.perfdata_parts.specs.NumberSections.{nr_cpus_of, sample_times_of, compression_of, clock_of, IsCutClock}
-use Rattle.perfdata_parts.specs.Pmu.{IsPmuSectionOf, IsCutPmuSection}
-use Rattle.perfdata_parts.specs.declared.error.Error.{Error}
-use Rattle.perfdata_parts.specs.declared.error.Error.TheVariants.{IoError, NotEnoughSpaceForStringLen, NotEnoughSpaceForStringListLen, StringLengthTooLong, StringUtf8, FeatureSectionTooSmall, Memory}
-use Rattle.perfdata_parts.specs.declared.feature_sections.numbers.NrCpus.{NrCpus}
-use Rattle.perfdata_parts.specs.declared.feature_sections.numbers.SampleTimeRange.{SampleTimeRange}
-use Rattle.perfdata_parts.specs.declared.feature_sections.numbers.CompressionInfo.{CompressionInfo}
-use Rattle.perfdata_parts.specs.declared.feature_sections.numbers.ClockData.{ClockData}
-use Rattle.perfdata_parts.specs.declared.feature_sections.pmu.PmuMappings.{PmuMappings}
+use Rattle.perfdata_sections.specs.Error.{IsShort}
+use Rattle.perfdata_sections.specs.Strings.{before_nul}
+use Rattle.perfdata_sections.specs.NumberSections.{nr_cpus_of, sample_times_of, compression_of, clock_of, IsCutClock}
+use Rattle.perfdata_sections.specs.Pmu.{IsPmuSectionOf, IsCutPmuSection}
+use Rattle.perfdata_sections.specs.declared.error.Error.{Error}
+use Rattle.perfdata_sections.specs.declared.error.Error.TheVariants.{IoError, NotEnoughSpaceForStringLen, NotEnoughSpaceForStringListLen, StringLengthTooLong, StringUtf8, FeatureSectionTooSmall, Memory}
+use Rattle.perfdata_sections.specs.declared.feature_sections.numbers.NrCpus.{NrCpus}
+use Rattle.perfdata_sections.specs.declared.feature_sections.numbers.SampleTimeRange.{SampleTimeRange}
+use Rattle.perfdata_sections.specs.declared.feature_sections.numbers.CompressionInfo.{CompressionInfo}
+use Rattle.perfdata_sections.specs.declared.feature_sections.numbers.ClockData.{ClockData}
+use Rattle.perfdata_sections.specs.declared.feature_sections.pmu.PmuMappings.{PmuMappings}
 
 -- the section tells no such value, as what stands there asks for what isn't known
 abbrev pub IsInvalidData : Error → Type 0

@@ -7,10 +7,10 @@ use byteorder::{BigEndian, LittleEndian};
 use perfdata_base::event::CpuMode;
 use perfdata_base::raw::Endianness;
 use perfdata_base::source::AppendFault;
+use perfdata_parts::build_id_event::BuildIdEvent;
+use perfdata_parts::dso_info::DsoInfo;
+use perfdata_parts::dso_key::DsoKey;
 use perfdata_parts::error::Error;
-use perfdata_records::build_id_event::BuildIdEvent;
-use perfdata_records::dso_info::DsoInfo;
-use perfdata_records::dso_key::DsoKey;
 use std::alloc::Global;
 use std::collections::HashMap;
 

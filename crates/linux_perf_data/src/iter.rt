@@ -13,7 +13,7 @@ use perfdata_base::raw::{Endianness, RawData};
 use perfdata_base::source::Source;
 use perfdata_parts::constants::PERF_RECORD_FINISHED_ROUND;
 use perfdata_parts::error::{Error, ReadError, short};
-use perfdata_records::record::{PerfFileRecord, RawUserRecord, UserRecordType};
+use perfdata_parts::record::{PerfFileRecord, RawUserRecord, UserRecordType};
 use std::alloc::Global;
 
 /// Where a record stands, and when it was written.

@@ -1,7 +1,7 @@
 //! Metadata that came late: in a pipe's records behind its opening.
 ghost use Rattle.std.specs.Prelude.{◌≡◌, ◌≢◌, ◌<◌, None, length, vec_len};
-ghost use Rattle.perfdata_parts.specs.AttributeDescription.{name_in};
-ghost use Rattle.perfdata_parts.specs.Error.{IsInvalidInput};
+ghost use Rattle.perfdata_sections.specs.AttributeDescription.{name_in};
+ghost use Rattle.perfdata_sections.specs.Error.{IsInvalidInput};
 ghost use Rattle.linux_perf_data.specs.Described.{attribute_by};
 ghost use Rattle.linux_perf_data.specs.Late.{TakesIn};
 ghost use Rattle.linux_perf_data.specs.LateParts.{TakesAttribute, TakesFeature};

@@ -18,7 +18,7 @@ use perfdata_base::section::PerfFileSection;
 use perfdata_base::source::PlacedSource;
 use perfdata_parts::error::{Error, ReadError};
 use perfdata_parts::feature_sections::AttributeDescription;
-use perfdata_simpleperf::simpleperf::{SimplePerfEventType, get_event_types, parse_meta_info_map};
+use perfdata_parts::simpleperf::{SimplePerfEventType, get_event_types, parse_meta_info_map};
 use std::alloc::Global;
 
 const LITTLE_MAGIC: [u8; 8] = *b"PERFILE2";

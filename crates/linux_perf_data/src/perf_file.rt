@@ -14,13 +14,13 @@ use crate::{build_ids, values};
 use indexmap::IndexMap;
 use perfdata_base::features::{Feature, FeatureSet};
 use perfdata_base::raw::Endianness;
+use perfdata_parts::dso_info::DsoInfo;
+use perfdata_parts::dso_key::DsoKey;
 use perfdata_parts::error::Error;
 use perfdata_parts::feature_sections::{
     AttributeDescription, ClockData, CompressionInfo, NrCpus, PmuMappings, SampleTimeRange,
 };
-use perfdata_records::dso_info::DsoInfo;
-use perfdata_records::dso_key::DsoKey;
-use perfdata_simpleperf::simpleperf::{
+use perfdata_parts::simpleperf::{
     SimpleperfFileRecord, parse_file_section, parse_file2_section, parse_meta_info_map,
 };
 use std::alloc::Global;

@@ -21,7 +21,7 @@ use perfdata_base::source::{AppendFault, Source, append};
 use perfdata_parts::constants::{PERF_RECORD_HEADER_ATTR, PERF_RECORD_HEADER_FEATURE};
 use perfdata_parts::error::{Error, short};
 use perfdata_parts::feature_sections::AttributeDescription;
-use perfdata_records::record::{HeaderAttr, HeaderFeature};
+use perfdata_parts::record::{HeaderAttr, HeaderFeature};
 use std::alloc::Global;
 use std::io;
 use std::io::ErrorKind;

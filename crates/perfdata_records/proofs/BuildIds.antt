@@ -13,11 +13,11 @@ use Rattle.perfdata_base.proofs.Gives.{gave_more}
 use Rattle.perfdata_base.proofs.Numbers.{ReadsFirst, first_drop_front}
 use Rattle.perfdata_base.specs.declared.source.AppendFault.{AppendFault}
 use Rattle.perfdata_base.specs.declared.source.AppendFault.TheVariants.{Memory, Source}
-use Rattle.perfdata_parts.specs.Part.{Took, CameSome, Stopped, ReadsBytes}
-use Rattle.perfdata_parts.specs.Strings.{before_nul}
+use Rattle.perfdata_sections.specs.Part.{Took, CameSome, Stopped, ReadsBytes}
+use Rattle.perfdata_sections.specs.Strings.{before_nul}
 use Rattle.perfdata_records.specs.BuildId.{zero_group, zero_groups, IsIdIn, IsEntryOf, IsCutEntry, IsInEntry, ReadsEntry}
 use Rattle.perfdata_records.specs.declared.build_id_event.BuildIdEvent.{BuildIdEvent}
-use Rattle.perfdata_parts.proofs.Parts.{drop_front, stopped_behind, stopped_at_once}
+use Rattle.perfdata_sections.proofs.Parts.{drop_front, stopped_behind, stopped_at_once}
 
 -- one group more is cut
 pub group_cut : (xs rest : List ℕ) (n : ℕ) → xs ≡ rest ++ zero_groups n → ends_with nat_eq rest zero_group ≡ true → xs ≡ take (length rest - 4) rest ++ zero_groups (suc n)

@@ -7,7 +7,7 @@ use Rattle.std.proofs.lemmas.List.Sums.{take_while-cons}
 use Rattle.std.proofs.lemmas.List.Elements.{All-tail}
 use Rattle.perfdata_base.specs.Raw.{HasNoNul}
 use Rattle.perfdata_base.proofs.Numbers.{ReadsFirst}
-use Rattle.perfdata_parts.specs.Strings.{before_nul}
+use Rattle.perfdata_sections.specs.Strings.{before_nul}
 use Rattle.perfdata_records.specs.Thread.{thread_at}
 use Rattle.perfdata_records.specs.ThreadMap.{threads_in, IsThreadMap}
 

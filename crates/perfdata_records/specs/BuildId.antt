@@ -11,8 +11,8 @@ use Rattle.perfdata_base.specs.Source.{State}
 use Rattle.perfdata_base.specs.declared.event.PerfEventHeader.{PerfEventHeader}
 use Rattle.perfdata_base.specs.declared.source.AppendFault.{AppendFault}
 use Rattle.perfdata_base.specs.declared.source.AppendFault.TheVariants.{Memory, Source}
-use Rattle.perfdata_parts.specs.Part.{Took, CameSome, Stopped}
-use Rattle.perfdata_parts.specs.Strings.{before_nul}
+use Rattle.perfdata_sections.specs.Part.{Took, CameSome, Stopped}
+use Rattle.perfdata_sections.specs.Strings.{before_nul}
 use Rattle.perfdata_records.specs.declared.build_id_event.BuildIdEvent.{BuildIdEvent}
 
 -- what an entry tells

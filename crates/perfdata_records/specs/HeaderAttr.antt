@@ -7,7 +7,7 @@ use Rattle.perfdata_base.specs.Numbers.{number_in}
 use Rattle.perfdata_base.specs.Attr.{own_size, attr_of, IsTooSmall, IsUnfinished}
 use Rattle.perfdata_base.specs.declared.raw.Endianness.{Endianness}
 use Rattle.perfdata_base.specs.declared.attr.PerfEventAttr.{PerfEventAttr}
-pub use Rattle.perfdata_parts.specs.EventIds.{numbers}
+pub use Rattle.perfdata_sections.specs.EventIds.{numbers}
 use Rattle.perfdata_records.specs.declared.user_record.HeaderAttr.{HeaderAttr}
 
 -- an event's attribute with the identifiers of its records

@@ -1,7 +1,7 @@
 -- An entry of a thread map, of 24 bytes: eight for the thread's number, and sixteen for its name, which ends at the first NUL of these.
 use Rattle.std.specs.Prelude.{ℕ, List, take, drop}
 use Rattle.perfdata_base.specs.Raw.{bytes_of}
-use Rattle.perfdata_parts.specs.Strings.{before_nul}
+use Rattle.perfdata_sections.specs.Strings.{before_nul}
 use Rattle.perfdata_records.specs.declared.thread_map.ThreadMapEntry.{ThreadMapEntry}
 
 -- a thread by its number and the bytes of its name

@@ -2,13 +2,13 @@
 ghost use Rattle.std.specs.Prelude.{◌≡◌, length};
 ghost use Rattle.perfdata_base.specs.Source.{State, PausesOnce};
 ghost use Rattle.perfdata_records.specs.BuildId.{IsTrimmed, IsIdIn, ReadsEntry, ParsesEntry};
-ghost use Rattle.perfdata_parts.specs.Strings.{before_nul};
+ghost use Rattle.perfdata_sections.specs.Strings.{before_nul};
 
 use perfdata_base::event::PerfEventHeader;
 use perfdata_base::raw::FileOrder;
 use perfdata_base::source::{AppendFault, Source, read_all};
-use perfdata_parts::bytes::{as_io, read_bytes};
-use perfdata_parts::feature_sections::before_nul;
+use perfdata_sections::bytes::{as_io, read_bytes};
+use perfdata_sections::feature_sections::before_nul;
 use std::alloc::Global;
 use std::io;
 

@@ -4,7 +4,7 @@ ghost use Rattle.std.specs.Prelude.{◌≡◌, ◌≤◌, IsSome, IfSome, ◌↔
 pub use crate::user_record::{HeaderAttr, HeaderFeature, RawUserRecord, UserRecord};
 use perfdata_base::event::{RawEventRecord, RecordType};
 use perfdata_base::raw::{Endianness, RawData};
-use perfdata_parts::constants::*;
+use perfdata_sections::constants::*;
 use std::fmt;
 
 /// The type of a record that a tool wrote, 64 and more.

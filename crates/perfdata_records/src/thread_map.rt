@@ -3,7 +3,7 @@ ghost use Rattle.std.specs.Prelude.{◌≡◌, ◌==◌, ◌*◌, ◌/◌, ◌<�
 ghost use Rattle.std.specs.Iterator.{YieldsFirstBy, item_count};
 ghost use Rattle.perfdata_base.specs.Raw.{bytes_of, IsShort, Takes};
 ghost use Rattle.perfdata_base.specs.Numbers.{number_in};
-ghost use Rattle.perfdata_parts.specs.Strings.{before_nul};
+ghost use Rattle.perfdata_sections.specs.Strings.{before_nul};
 ghost use Rattle.perfdata_records.specs.Thread.{thread_at, thread_of};
 
 use byteorder::{BigEndian, LittleEndian};

@@ -13,7 +13,7 @@ use byteorder::{BigEndian, LittleEndian};
 use perfdata_base::attr::PerfEventAttr;
 use perfdata_base::features::Feature;
 use perfdata_base::raw::{Endianness, FileOrder, RawData};
-use perfdata_parts::constants::{
+use perfdata_sections::constants::{
     PERF_RECORD_AUXTRACE, PERF_RECORD_HEADER_ATTR, PERF_RECORD_HEADER_FEATURE,
     PERF_RECORD_THREAD_MAP,
 };

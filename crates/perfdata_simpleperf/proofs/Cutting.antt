@@ -4,8 +4,8 @@ use Rattle.std.specs.declared.alloc.Global.{Global}
 use Rattle.perfdata_base.specs.Numbers.{number_in}
 use Rattle.perfdata_base.specs.declared.raw.Endianness.{Endianness}
 use Rattle.perfdata_simpleperf.specs.Pieces.{PieceFault, cut_length, too_long, bad, TellsPiece, PieceAt, CutsLength, CutsPiece, PiecesAt, ArePieces, FaultAt, StopsAt}
-use Rattle.perfdata_parts.specs.declared.error.Error.{Error}
-use Rattle.perfdata_parts.specs.declared.error.Error.TheVariants.{Memory}
+use Rattle.perfdata_sections.specs.declared.error.Error.{Error}
+use Rattle.perfdata_sections.specs.declared.error.Error.TheVariants.{Memory}
 use Rattle.perfdata_simpleperf.proofs.Decoding.OneToken.{splits_same}
 
 module _ (endian : Endianness) where

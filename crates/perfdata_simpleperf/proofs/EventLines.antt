@@ -5,7 +5,7 @@ use Rattle.std.specs.Iterator.{AlwaysYields}
 use Rattle.std.proofs.lemmas.Iterator.{YieldsList}
 use Rattle.std.proofs.lemmas.List.{append-nil, map_push}
 use Rattle.perfdata_simpleperf.specs.SimpleperfEvents.{EventType, event_type_of, lines, parts, TellsEvent, TellEvents, IsFirstThree}
-use Rattle.perfdata_parts.specs.declared.event_type.SimplePerfEventType.{SimplePerfEventType}
+use Rattle.perfdata_sections.specs.declared.event_type.SimplePerfEventType.{SimplePerfEventType}
 
 module _ {S : Type 0} (steps : S → Option (Bor (List ℕ)) → S → Type 0) where
   -- ---- the first three

@@ -7,9 +7,9 @@ use Rattle.perfdata_simpleperf.specs.FileRecord.{FileValue, record_value}
 use Rattle.perfdata_simpleperf.specs.Pieces.{PieceFault}
 use Rattle.perfdata_simpleperf.specs.Protobuf.Messages.{FileFault}
 use Rattle.perfdata_simpleperf.specs.Protobuf.Values.{IsFileRecord}
-use Rattle.perfdata_parts.specs.declared.error.Error.{Error}
-use Rattle.perfdata_parts.specs.declared.error.Error.TheVariants.{Memory}
-use Rattle.perfdata_parts.specs.declared.decode_error.DecodeError.{DecodeError}
+use Rattle.perfdata_sections.specs.declared.error.Error.{Error}
+use Rattle.perfdata_sections.specs.declared.error.Error.TheVariants.{Memory}
+use Rattle.perfdata_sections.specs.declared.decode_error.DecodeError.{DecodeError}
 use Rattle.perfdata_simpleperf.specs.declared.simpleperf.file_record.SimpleperfFileRecord.{SimpleperfFileRecord}
 use Rattle.perfdata_simpleperf.proofs.Cutting.{OnePiece, only_pieces, first_piece}
 use Rattle.perfdata_simpleperf.proofs.Decoding.OneMessage.{file_whole, file_fault}

@@ -8,8 +8,8 @@ use Rattle.perfdata_simpleperf.specs.FileRecord.{FileValue, record_value}
 use Rattle.perfdata_simpleperf.specs.FileSection.{IsFileSectionOf, FileSectionFault, TellsFileSection, TellsV1}
 use Rattle.perfdata_simpleperf.specs.FileV1.{IsV1, V1Fault}
 use Rattle.perfdata_simpleperf.specs.Pieces.{PieceFault}
-use Rattle.perfdata_parts.specs.declared.error.Error.{Error}
-use Rattle.perfdata_parts.specs.declared.error.Error.TheVariants.{Memory}
+use Rattle.perfdata_sections.specs.declared.error.Error.{Error}
+use Rattle.perfdata_sections.specs.declared.error.Error.TheVariants.{Memory}
 use Rattle.perfdata_simpleperf.specs.declared.simpleperf.file_record.SimpleperfFileRecord.{SimpleperfFileRecord}
 use Rattle.perfdata_simpleperf.proofs.Cutting.{OnePiece, only_pieces, first_piece}
 use Rattle.perfdata_simpleperf.proofs.OneV1.{v1_same, v1_none, v1_why}

@@ -14,8 +14,8 @@ use Rattle.std.proofs.lemmas.List.Sums.{fold_push}
 use Rattle.std.proofs.lemmas.Map.Text.{hash_map_updates_str}
 use Rattle.perfdata_base.specs.Raw.{HasNoNul}
 use Rattle.perfdata_simpleperf.specs.MetaInfo.{Pair, pieces, meta_pairs, last_value, text_at, IsPairOfTexts, PutsPair, IsMetaInfo, ParsesMetaInfo}
-use Rattle.perfdata_parts.specs.declared.error.Error.{Error}
-use Rattle.perfdata_parts.specs.declared.error.Error.TheVariants.{StringUtf8, Memory}
+use Rattle.perfdata_sections.specs.declared.error.Error.{Error}
+use Rattle.perfdata_sections.specs.declared.error.Error.TheVariants.{StringUtf8, Memory}
 use Rattle.perfdata_simpleperf.specs.NulText.{EndsAtNul}
 
 -- no byte passes the test for NUL

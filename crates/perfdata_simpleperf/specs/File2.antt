@@ -5,9 +5,9 @@ use Rattle.perfdata_simpleperf.specs.FileRecord.{FileValue}
 use Rattle.perfdata_simpleperf.specs.Pieces.{PieceFault, ArePieces, StopsAt, TellsPiece}
 use Rattle.perfdata_simpleperf.specs.Protobuf.Messages.{FileFault}
 use Rattle.perfdata_simpleperf.specs.Protobuf.Values.{IsFileRecord}
-use Rattle.perfdata_parts.specs.declared.error.Error.{Error}
-use Rattle.perfdata_parts.specs.declared.error.Error.TheVariants.{ProtobufParsingSimpleperfFileSection}
-use Rattle.perfdata_parts.specs.declared.decode_error.DecodeError.{DecodeError}
+use Rattle.perfdata_sections.specs.declared.error.Error.{Error}
+use Rattle.perfdata_sections.specs.declared.error.Error.TheVariants.{ProtobufParsingSimpleperfFileSection}
+use Rattle.perfdata_sections.specs.declared.decode_error.DecodeError.{DecodeError}
 
 -- the section's messages have these values
 abbrev pub IsFile2Of : Endianness → List ℕ → List FileValue → Type 0

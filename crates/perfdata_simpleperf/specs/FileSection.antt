@@ -7,8 +7,8 @@ use Rattle.perfdata_base.specs.declared.raw.Endianness.{Endianness}
 use Rattle.perfdata_simpleperf.specs.FileRecord.{FileValue}
 use Rattle.perfdata_simpleperf.specs.FileV1.{IsV1, V1Fault}
 use Rattle.perfdata_simpleperf.specs.Pieces.{PieceFault, ArePieces, StopsAt, TellsPiece}
-use Rattle.perfdata_parts.specs.declared.error.Error.{Error}
-use Rattle.perfdata_parts.specs.declared.error.Error.TheVariants.{ParsingSimpleperfFileV1Section}
+use Rattle.perfdata_sections.specs.declared.error.Error.{Error}
+use Rattle.perfdata_sections.specs.declared.error.Error.TheVariants.{ParsingSimpleperfFileV1Section}
 
 -- the section's records have these values
 abbrev pub IsFileSectionOf : Endianness → List ℕ → List FileValue → Type 0

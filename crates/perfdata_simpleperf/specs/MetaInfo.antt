@@ -6,8 +6,8 @@ use Rattle.std.specs.List.{slice_split}
 use Rattle.std.specs.Map.{update_all}
 use Rattle.std.specs.Option.{option_map}
 use Rattle.std.specs.Str.{IsUtf8, bytes_eq}
-use Rattle.perfdata_parts.specs.declared.error.Error.{Error}
-use Rattle.perfdata_parts.specs.declared.error.Error.TheVariants.{StringUtf8, Memory}
+use Rattle.perfdata_sections.specs.declared.error.Error.{Error}
+use Rattle.perfdata_sections.specs.declared.error.Error.TheVariants.{StringUtf8, Memory}
 
 -- a key and its value
 abbrev pub Pair : Type 0

@@ -2,9 +2,9 @@
 use Rattle.std.specs.Prelude.{◌≡◌, ℕ, ◌+◌, ◌<◌, ◌≤◌, ◌⊎◌, List, [], ◌∷◌, ◌++◌, length, drop}
 use Rattle.perfdata_base.specs.Numbers.{number_in}
 use Rattle.perfdata_base.specs.declared.raw.Endianness.{Endianness}
-use Rattle.perfdata_parts.specs.Error.{IsShort}
-use Rattle.perfdata_parts.specs.declared.error.Error.{Error}
-use Rattle.perfdata_parts.specs.declared.error.Error.TheVariants.{FeatureSectionTooSmall}
+use Rattle.perfdata_sections.specs.Error.{IsShort}
+use Rattle.perfdata_sections.specs.declared.error.Error.{Error}
+use Rattle.perfdata_sections.specs.declared.error.Error.TheVariants.{FeatureSectionTooSmall}
 
 -- what is wrong where a piece should stand: its length isn't there whole, the length goes beyond the bytes left, or its own bytes are wrong
 pub data PieceFault (F : Type 0) : Type 0 where

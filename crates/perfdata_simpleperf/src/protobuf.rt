@@ -7,4 +7,4 @@ pub(crate) mod messages;
 mod wire;
 
 pub use laws::{groups_nest, one_message, one_number, one_value};
-pub use perfdata_parts::decode_error::DecodeError;
+pub use perfdata_sections::decode_error::DecodeError;

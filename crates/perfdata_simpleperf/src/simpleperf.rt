@@ -19,4 +19,4 @@ pub use file_section::parse_file_section;
 pub use file2::parse_file2_section;
 pub use meta_info::parse_meta_info_map;
 pub use nul_text::SliceReadStringExt;
-pub use perfdata_parts::event_type::SimplePerfEventType;
+pub use perfdata_sections::event_type::SimplePerfEventType;

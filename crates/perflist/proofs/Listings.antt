@@ -7,7 +7,7 @@ use Rattle.linux_perf_data.specs.declared.iter.Stage.TheVariants.{Running, Ended
 use Rattle.linux_perf_data.specs.Layout.{Handed}
 use Rattle.linux_perf_data.specs.Iter.{view}
 use Rattle.perflist.specs.Line.{handed_line}
-use Rattle.perfdata_parts.specs.declared.error.Error.{Error}
+use Rattle.perfdata_sections.specs.declared.error.Error.{Error}
 use Rattle.std.specs.Prelude.{Result, Ok, Err}
 use Rattle.std.proofs.Common.{inl, inr}
 use Rattle.std.specs.Io.KnownBytes.{Appends}

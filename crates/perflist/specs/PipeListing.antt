@@ -3,8 +3,8 @@ use Rattle.std.specs.Prelude.{◌≡◌, ◌≢◌, ◌⊎◌, ℕ, List, [], �
 use Rattle.std.specs.Io.KnownBytes.{Appends}
 use Rattle.perfdata_base.specs.Source.{State, Paused}
 use Rattle.perfdata_base.specs.declared.raw.Endianness.{Endianness}
-use Rattle.perfdata_parts.specs.declared.error.Error.{Error}
-use Rattle.perfdata_parts.specs.declared.error.Error.TheVariants.{Memory}
+use Rattle.perfdata_sections.specs.declared.error.Error.{Error}
+use Rattle.perfdata_sections.specs.declared.error.Error.TheVariants.{Memory}
 use Rattle.linux_perf_data.specs.declared.perf_file.PerfFile.{PerfFile}
 use Rattle.linux_perf_data.specs.Layout.{Handed, faulty, Fault}
 use Rattle.linux_perf_data.specs.OpenedPipe.{unplaced}

@@ -4,8 +4,8 @@ use Rattle.std.proofs.Common.{lit≤, rules, drop-cons}
 use Rattle.std.proofs.lemmas.List.{take_all}
 use Rattle.std.proofs.lemmas.Nat.{pow-add}
 use Rattle.std.proofs.Math.Nat.{pow-le-pow_right, one-le-pow}
-use Rattle.perfdata_parts.specs.declared.decode_error.DecodeError.{DecodeError}
-use Rattle.perfdata_parts.specs.declared.decode_error.DecodeError.TheVariants as errors
+use Rattle.perfdata_sections.specs.declared.decode_error.DecodeError.{DecodeError}
+use Rattle.perfdata_sections.specs.declared.decode_error.DecodeError.TheVariants as errors
 use Rattle.perfdata_simpleperf.specs.Protobuf.Wire.{IsVarint, VarintAt, VarintFault, VarintLong}
 
 -- the pattern [byte, rest @ ..]

@@ -1,7 +1,7 @@
 -- At most one reading of a field and of a message, and no fault beside a reading.
 use Rattle.std.proofs.Common.{◌≡◌, ℕ, ◌^◌, ◌<◌, ◌⊎◌, inl, inr, Bool, true, false, List, [], ◌∷◌, length, refl, ap, sym, ◌∙◌, subst, arith}
-use Rattle.perfdata_parts.specs.declared.decode_error.DecodeError.{DecodeError}
-use Rattle.perfdata_parts.specs.declared.decode_error.DecodeError.TheVariants as errors
+use Rattle.perfdata_sections.specs.declared.decode_error.DecodeError.{DecodeError}
+use Rattle.perfdata_sections.specs.declared.decode_error.DecodeError.TheVariants as errors
 use Rattle.perfdata_simpleperf.specs.declared.protobuf.wire.Wire.{Wire}
 use Rattle.perfdata_simpleperf.specs.declared.protobuf.wire.Wire.TheVariants as wires
 use Rattle.perfdata_simpleperf.specs.declared.protobuf.field.Message.{Message}

@@ -2,8 +2,8 @@
 use Rattle.std.proofs.Common.{◌≡◌, ℕ, suc, ◌+◌, ◌*◌, ◌^◌, ◌<◌, ◌≤◌, ◌⊎◌, inl, inr, List, [], ◌∷◌, ◌++◌, length, refl, ap, sym, ◌∙◌, subst, arith, length-append}
 use Rattle.std.specs.List.{AllByRecursion}
 use Rattle.std.proofs.lemmas.Nat.{pow-add}
-use Rattle.perfdata_parts.specs.declared.decode_error.DecodeError.{DecodeError}
-use Rattle.perfdata_parts.specs.declared.decode_error.DecodeError.TheVariants as errors
+use Rattle.perfdata_sections.specs.declared.decode_error.DecodeError.{DecodeError}
+use Rattle.perfdata_sections.specs.declared.decode_error.DecodeError.TheVariants as errors
 use Rattle.perfdata_simpleperf.specs.Protobuf.Wire.{IsVarint, VarintCut, VarintLong, Goes, NumberAt, NumberFault}
 
 -- a reader gives at most one value and rest, or else at most one fault

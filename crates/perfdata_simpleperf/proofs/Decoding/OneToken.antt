@@ -1,7 +1,7 @@
 -- At most one reading of a key, a value, a token and a group at the front of bytes.
 use Rattle.std.proofs.Common.{◌≡◌, ℕ, zero, suc, ◌<◌, ◌≤◌, ◌⊎◌, inl, inr, List, [], ◌∷◌, ◌++◌, length, refl, ap, sym, ◌∙◌, subst, arith, length-append}
-use Rattle.perfdata_parts.specs.declared.decode_error.DecodeError.{DecodeError}
-use Rattle.perfdata_parts.specs.declared.decode_error.DecodeError.TheVariants as errors
+use Rattle.perfdata_sections.specs.declared.decode_error.DecodeError.{DecodeError}
+use Rattle.perfdata_sections.specs.declared.decode_error.DecodeError.TheVariants as errors
 use Rattle.perfdata_simpleperf.specs.declared.protobuf.wire.Wire.{Wire}
 use Rattle.perfdata_simpleperf.specs.declared.protobuf.wire.Wire.TheVariants as wires
 use Rattle.perfdata_simpleperf.specs.Protobuf.Wire.{VarintCut, VarintLong, wire_code, KeyAt, KeyFault, IsBadKey, IsBadWireType, Contents, number, bytes, skipped, Splits, LengthAt, LengthCut, FixedAt, FixedFault, ValueAt, ValueFault}

@@ -1,8 +1,8 @@
 -- A message has one value, and what a reader that finds it or its fault answers.
 use Rattle.std.proofs.Common.{◌≡◌, ℕ, ◌^◌, ◌⊎◌, inl, inr, List, [], ◌∷◌, ◌++◌, length, map, refl, ap, sym, ◌∙◌, subst, arith, Result, Ok, Err}
 use Rattle.std.specs.Prelude.{IfOk, IfErr, MatchResult, IsErrAnd}
-use Rattle.perfdata_parts.specs.declared.decode_error.DecodeError.{DecodeError}
-use Rattle.perfdata_parts.specs.declared.decode_error.DecodeError.TheVariants.{Memory}
+use Rattle.perfdata_sections.specs.declared.decode_error.DecodeError.{DecodeError}
+use Rattle.perfdata_sections.specs.declared.decode_error.DecodeError.TheVariants.{Memory}
 use Rattle.perfdata_simpleperf.specs.declared.protobuf.field.Message.TheVariants as messages
 use Rattle.perfdata_simpleperf.specs.declared.simpleperf.file_record.SimpleperfFileRecord.{SimpleperfFileRecord}
 use Rattle.perfdata_simpleperf.specs.Protobuf.Wire.{Contents, number, bytes, skipped}

@@ -4,8 +4,8 @@ use Rattle.std.specs.Prelude.{◌==◌, ◌||◌}
 use Rattle.std.proofs.lemmas.Bool.{cases_Bool, false≢true}
 use Rattle.std.proofs.lemmas.Str.{IsUtf8-from_is_utf8, is_utf8-from_IsUtf8}
 use Rattle.std.specs.Str.{is_utf8}
-use Rattle.perfdata_parts.specs.declared.decode_error.DecodeError.{DecodeError}
-use Rattle.perfdata_parts.specs.declared.decode_error.DecodeError.TheVariants as errors
+use Rattle.perfdata_sections.specs.declared.decode_error.DecodeError.{DecodeError}
+use Rattle.perfdata_sections.specs.declared.decode_error.DecodeError.TheVariants as errors
 use Rattle.perfdata_simpleperf.specs.declared.protobuf.wire.Wire.{Wire}
 use Rattle.perfdata_simpleperf.specs.declared.protobuf.wire.Wire.TheVariants as wires
 use Rattle.perfdata_simpleperf.specs.declared.protobuf.field.Message.{Message}

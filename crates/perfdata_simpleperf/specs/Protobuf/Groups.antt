@@ -1,7 +1,7 @@
 -- Unknown groups: what stands between a group's first key and what follows its last.
 use Rattle.std.specs.Prelude.{◌≡◌, ℕ, ◌<◌, ◌≤◌, ◌⊎◌, List, [], ◌∷◌, ◌++◌, length}
-use Rattle.perfdata_parts.specs.declared.decode_error.DecodeError.{DecodeError}
-use Rattle.perfdata_parts.specs.declared.decode_error.DecodeError.TheVariants as errors
+use Rattle.perfdata_sections.specs.declared.decode_error.DecodeError.{DecodeError}
+use Rattle.perfdata_sections.specs.declared.decode_error.DecodeError.TheVariants as errors
 use Rattle.perfdata_simpleperf.specs.declared.protobuf.wire.Wire.{Wire}
 use Rattle.perfdata_simpleperf.specs.declared.protobuf.wire.Wire.TheVariants as wires
 use Rattle.perfdata_simpleperf.specs.Protobuf.Wire.{KeyAt, KeyFault, Contents, ValueAt, ValueFault}

@@ -1,7 +1,7 @@
 -- Messages: the fields of all their bytes, what each field's contents are, and the first fault.
 use Rattle.std.specs.Prelude.{◌≡◌, ℕ, ◌<◌, ◌⊎◌, List, [], ◌∷◌, length, IsUtf8}
-use Rattle.perfdata_parts.specs.declared.decode_error.DecodeError.{DecodeError}
-use Rattle.perfdata_parts.specs.declared.decode_error.DecodeError.TheVariants as errors
+use Rattle.perfdata_sections.specs.declared.decode_error.DecodeError.{DecodeError}
+use Rattle.perfdata_sections.specs.declared.decode_error.DecodeError.TheVariants as errors
 use Rattle.perfdata_simpleperf.specs.declared.protobuf.field.Message.{Message}
 use Rattle.perfdata_simpleperf.specs.declared.protobuf.field.Message.TheVariants as messages
 use Rattle.perfdata_simpleperf.specs.declared.protobuf.field.Shape.{Shape}

@@ -1,8 +1,8 @@
 -- Numbers, keys and values on the wire: what stands at the front of bytes, and the first fault there.
 use Rattle.std.specs.Prelude.{◌≡◌, ℕ, ◌+◌, ◌*◌, ◌%◌, ◌^◌, ◌<◌, ◌≤◌, ◌⊎◌, List, [], ◌∷◌, ◌++◌, length}
 use Rattle.std.specs.List.{AllByRecursion}
-use Rattle.perfdata_parts.specs.declared.decode_error.DecodeError.{DecodeError}
-use Rattle.perfdata_parts.specs.declared.decode_error.DecodeError.TheVariants as errors
+use Rattle.perfdata_sections.specs.declared.decode_error.DecodeError.{DecodeError}
+use Rattle.perfdata_sections.specs.declared.decode_error.DecodeError.TheVariants as errors
 use Rattle.perfdata_simpleperf.specs.declared.protobuf.wire.Wire.{Wire}
 use Rattle.perfdata_simpleperf.specs.declared.protobuf.wire.Wire.TheVariants as wires
 use Rattle.perfdata_simpleperf.specs.declared.protobuf.wire.Value.{Value}

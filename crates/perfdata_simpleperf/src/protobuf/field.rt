@@ -4,7 +4,7 @@ ghost use Rattle.perfdata_simpleperf.specs.Protobuf.Fields.{FieldAt, FieldFault,
 
 use crate::protobuf::groups::skip_group;
 use crate::protobuf::wire::{Value, Wire, key_at, value_at};
-use perfdata_parts::decode_error::DecodeError;
+use perfdata_sections::decode_error::DecodeError;
 
 /// The messages. `Address` is both the ELF info and the module info.
 #[derive(Clone, Copy, Debug, PartialEq, Eq)]

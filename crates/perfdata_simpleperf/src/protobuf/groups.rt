@@ -4,7 +4,7 @@ ghost use Rattle.perfdata_simpleperf.specs.Protobuf.Groups.{Token, TokenFault, G
 
 use crate::protobuf::wire::{Wire, key_at, value_at};
 use arrayvec::ArrayVec;
-use perfdata_parts::decode_error::DecodeError;
+use perfdata_sections::decode_error::DecodeError;
 
 /// How many unknown groups stand in one another.
 const DEPTH: usize = 100;

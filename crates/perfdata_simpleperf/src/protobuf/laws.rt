@@ -7,7 +7,7 @@ ghost use Rattle.perfdata_simpleperf.specs.Protobuf.Groups.{GroupAt};
 ghost use Rattle.perfdata_simpleperf.specs.Protobuf.Nesting.{IsNestedGroup};
 ghost use Rattle.perfdata_simpleperf.specs.FileRecord.{FileValue};
 ghost use Rattle.perfdata_simpleperf.specs.Protobuf.Values.{IsFileRecord};
-ghost use Rattle.perfdata_parts.specs.declared.decode_error.DecodeError.{DecodeError};
+ghost use Rattle.perfdata_sections.specs.declared.decode_error.DecodeError.{DecodeError};
 
 /// At the front of bytes stands one number, or else one fault.
 pub fn one_number()

@@ -5,8 +5,8 @@ ghost use Rattle.perfdata_simpleperf.specs.Protobuf.Wire.{contents_bytes};
 ghost use Rattle.perfdata_simpleperf.specs.Protobuf.Messages.{NoInner, NoInnerFault, IsFine, IsWrong, LeafFault, ArePacked, PackedFault, SomeLeaf, FileFault};
 ghost use Rattle.perfdata_simpleperf.specs.FileRecord.{symbol_value, SymbolValue, info_value, record_value};
 ghost use Rattle.perfdata_simpleperf.specs.Protobuf.Values.{symbol_from, IsSymbol, low, last_or, numbers, contents_of, AreOffsets, IsDex, IsAddressFrom, AreSymbols, texts, infos_of, is_info, IsPut, ArePut, IsFileRecord, kept_offsets, kept_elf, kept_module};
-ghost use Rattle.perfdata_parts.specs.declared.decode_error.DecodeError.TheVariants.{Memory, Utf8};
-ghost use Rattle.perfdata_parts.specs.declared.decode_error.DecodeError.{DecodeError};
+ghost use Rattle.perfdata_sections.specs.declared.decode_error.DecodeError.TheVariants.{Memory, Utf8};
+ghost use Rattle.perfdata_sections.specs.declared.decode_error.DecodeError.{DecodeError};
 ghost use Rattle.perfdata_simpleperf.specs.declared.protobuf.field.Message.TheVariants as messages;
 
 use crate::protobuf::field::{Field, Message, field_at};
@@ -15,7 +15,7 @@ use crate::simpleperf::{
     SimpleperfDexFileInfo, SimpleperfElfFileInfo, SimpleperfFileRecord, SimpleperfKernelModuleInfo,
     SimpleperfSymbol, SimpleperfTypeSpecificInfo,
 };
-use perfdata_parts::decode_error::DecodeError;
+use perfdata_sections::decode_error::DecodeError;
 use std::alloc::Global;
 
 fn low_of(n: u64) -> u32

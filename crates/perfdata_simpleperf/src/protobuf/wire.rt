@@ -2,7 +2,7 @@
 ghost use Rattle.std.specs.Prelude.{◌≤◌, ◌<◌, ◌*◌, ◌-◌, ◌^◌, IfOk, IfErr};
 ghost use Rattle.perfdata_simpleperf.specs.Protobuf.Wire.{VarintAt, VarintFault, NumberAt, NumberFault, KeyAt, KeyFault, FixedAt, FixedFault, seen, ValueAt, ValueFault, IsPlain};
 
-use perfdata_parts::decode_error::DecodeError;
+use perfdata_sections::decode_error::DecodeError;
 
 /// What stands behind a key.
 #[derive(Clone, Copy, Debug, PartialEq, Eq)]

@@ -3,7 +3,7 @@ ghost use Rattle.std.specs.Prelude.{IfOk, Some};
 ghost use Rattle.perfdata_simpleperf.specs.MetaInfo.{text_at};
 ghost use Rattle.perfdata_simpleperf.specs.SimpleperfEvents.{parts, event_type_info, GivesEvent, GivesEventTypes, IsFirstThree};
 
-use perfdata_parts::event_type::SimplePerfEventType;
+use perfdata_sections::event_type::SimplePerfEventType;
 use std::alloc::{AllocError, Global};
 use std::collections::HashMap;
 

@@ -5,14 +5,14 @@ ghost use Rattle.perfdata_simpleperf.specs.FileRecord.{FileValue, record_value};
 ghost use Rattle.perfdata_simpleperf.specs.Pieces.{PieceFault};
 ghost use Rattle.perfdata_simpleperf.specs.Protobuf.Messages.{FileFault};
 ghost use Rattle.perfdata_simpleperf.specs.Protobuf.Values.{IsFileRecord};
-ghost use Rattle.perfdata_parts.specs.declared.error.Error.TheVariants.{Memory};
-ghost use Rattle.perfdata_parts.specs.declared.decode_error.DecodeError.{DecodeError};
+ghost use Rattle.perfdata_sections.specs.declared.error.Error.TheVariants.{Memory};
+ghost use Rattle.perfdata_sections.specs.declared.decode_error.DecodeError.{DecodeError};
 
 use crate::simpleperf::SimpleperfFileRecord;
 use crate::simpleperf::pieces::piece_at;
 use perfdata_base::raw::Endianness;
-use perfdata_parts::decode_error::DecodeError;
-use perfdata_parts::error::Error;
+use perfdata_sections::decode_error::DecodeError;
+use perfdata_sections::error::Error;
 use std::alloc::Global;
 
 // The record of a message, or the section's error.

@@ -4,11 +4,11 @@ ghost use Rattle.perfdata_simpleperf.specs.FileRecord.{FileValue, record_value};
 ghost use Rattle.perfdata_simpleperf.specs.Protobuf.Fields.{Part};
 ghost use Rattle.perfdata_simpleperf.specs.Protobuf.Messages.{IsFile, FileFault};
 ghost use Rattle.perfdata_simpleperf.specs.Protobuf.Values.{HasValue, IsFileRecord};
-ghost use Rattle.perfdata_parts.specs.declared.decode_error.DecodeError.{DecodeError};
-ghost use Rattle.perfdata_parts.specs.declared.decode_error.DecodeError.TheVariants.{Memory};
+ghost use Rattle.perfdata_sections.specs.declared.decode_error.DecodeError.{DecodeError};
+ghost use Rattle.perfdata_sections.specs.declared.decode_error.DecodeError.TheVariants.{Memory};
 
 use crate::protobuf::messages::record_of;
-use perfdata_parts::decode_error::DecodeError;
+use perfdata_sections::decode_error::DecodeError;
 use std::alloc::Global;
 
 /// A symbol of a file.

@@ -8,13 +8,13 @@ ghost use Rattle.perfdata_simpleperf.specs.FileRecord.{FileValue, record_value};
 ghost use Rattle.perfdata_simpleperf.specs.FileSection.{IsFileSectionOf, FileSectionFault, TellsFileSection, TellsV1};
 ghost use Rattle.perfdata_simpleperf.specs.FileV1.{IsV1, V1Fault};
 ghost use Rattle.perfdata_simpleperf.specs.Pieces.{PieceFault};
-ghost use Rattle.perfdata_parts.specs.declared.error.Error.TheVariants.{Memory};
+ghost use Rattle.perfdata_sections.specs.declared.error.Error.TheVariants.{Memory};
 
 use crate::simpleperf::SimpleperfFileRecord;
 use crate::simpleperf::pieces::piece_at;
 use byteorder::{BigEndian, LittleEndian};
 use perfdata_base::raw::Endianness;
-use perfdata_parts::error::Error;
+use perfdata_sections::error::Error;
 use std::alloc::Global;
 use std::io::{self, ErrorKind};
 

@@ -5,7 +5,7 @@ ghost use Rattle.perfdata_simpleperf.specs.MetaInfo.{pieces, PutsPair, ParsesMet
 ghost use Rattle.perfdata_simpleperf.specs.Pairs.{pieces_left, pairs_left, pair_of};
 
 use crate::simpleperf::nul_text::split_at_nul;
-use perfdata_parts::error::Error;
+use perfdata_sections::error::Error;
 use std::alloc::Global;
 use std::collections::HashMap;
 

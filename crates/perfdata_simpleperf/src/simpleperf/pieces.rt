@@ -4,7 +4,7 @@ ghost use Rattle.perfdata_simpleperf.specs.Pieces.{PieceAt, LacksPiece};
 
 use perfdata_base::order::read_u32;
 use perfdata_base::raw::Endianness;
-use perfdata_parts::error::{Error, short};
+use perfdata_sections::error::{Error, short};
 
 /// The piece at the front of a section of pieces, each behind its length of four bytes, and what follows it.
 pub(crate) fn piece_at(endian: Endianness, bytes: &[u8]) -> Result<(&[u8], &[u8]), Error>

@@ -2,10 +2,8 @@
 use byteorder::LittleEndian;
 use perfdata_base::raw::Endianness;
 use perfdata_parts::error::Error;
-use perfdata_simpleperf::protobuf::DecodeError;
-use perfdata_simpleperf::simpleperf::{
-    SimpleperfFileRecord, parse_file_section, parse_file2_section,
-};
+use perfdata_parts::protobuf::DecodeError;
+use perfdata_parts::simpleperf::{SimpleperfFileRecord, parse_file_section, parse_file2_section};
 use std::alloc::Global;
 use std::io::ErrorKind;
 use std::test::Fail;

@@ -1,7 +1,7 @@
 //! Auxiliary traces, wherever they are split, in both orders, and what is refused.
 use byteorder::{BigEndian, LittleEndian};
 use perfdata_base::raw::RawData;
-use perfdata_records::auxtrace::Auxtrace;
+use perfdata_parts::auxtrace::Auxtrace;
 use std::io::ErrorKind;
 
 // A trace of one byte of data, and a byte behind it.

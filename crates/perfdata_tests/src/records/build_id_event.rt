@@ -1,6 +1,6 @@
 //! Entries of build ids: the length of an id, what an entry's size tells, and what is cut.
 use byteorder::{BigEndian, LittleEndian};
-use perfdata_records::build_id_event::BuildIdEvent;
+use perfdata_parts::build_id_event::BuildIdEvent;
 use std::alloc::{AllocError, Global};
 use std::io::ErrorKind;
 use std::test::Fail;

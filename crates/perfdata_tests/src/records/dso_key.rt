@@ -1,6 +1,6 @@
 //! Keys of mapped objects: each kind of path in each mode, and which keys are equal.
 use perfdata_base::event::CpuMode;
-use perfdata_records::dso_key::DsoKey;
+use perfdata_parts::dso_key::DsoKey;
 use std::alloc::{AllocError, Global};
 use std::hash::{DefaultHasher, Hash, Hasher};
 use std::test::Fail;

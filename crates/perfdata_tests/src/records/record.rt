@@ -1,7 +1,7 @@
 //! Types of users' records: their constants, numbers and texts.
 use perfdata_base::event::RecordType;
 use perfdata_parts::constants::*;
-use perfdata_records::record::UserRecordType;
+use perfdata_parts::record::UserRecordType;
 use std::alloc::{AllocError, Global};
 use std::test::Fail;
 

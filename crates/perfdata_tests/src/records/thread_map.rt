@@ -1,7 +1,7 @@
 //! Thread maps, wherever they are split, in both orders, and what is refused.
 use byteorder::{BigEndian, ByteOrder, LittleEndian};
 use perfdata_base::raw::RawData;
-use perfdata_records::thread_map::ThreadMap;
+use perfdata_parts::thread_map::ThreadMap;
 use std::io::ErrorKind;
 
 const TIDS: [u64; 12] = [

@@ -2,7 +2,7 @@
 use byteorder::{BigEndian, ByteOrder, LittleEndian};
 use perfdata_base::features::Feature;
 use perfdata_base::raw::{Endianness, RawData};
-use perfdata_records::record::{
+use perfdata_parts::record::{
     HeaderAttr, HeaderFeature, RawUserRecord, UserRecord, UserRecordType,
 };
 use std::alloc::Global;

@@ -1,5 +1,5 @@
 //! The event types that meta info tells, line by line.
-use perfdata_simpleperf::simpleperf::{SimplePerfEventType, get_event_types};
+use perfdata_parts::simpleperf::{SimplePerfEventType, get_event_types};
 use std::alloc::{AllocError, Global};
 use std::collections::{HashMap, TryReserveError};
 use std::test::Fail;

@@ -2,7 +2,7 @@
 use perfdata_base::raw::Endianness;
 use perfdata_parts::decode_error::DecodeError;
 use perfdata_parts::error::Error;
-use perfdata_simpleperf::simpleperf::{SimpleperfFileRecord, parse_file2_section};
+use perfdata_parts::simpleperf::{SimpleperfFileRecord, parse_file2_section};
 use std::alloc::{AllocError, Global};
 use std::io::ErrorKind;
 use std::test::Fail;

@@ -1,6 +1,6 @@
 //! Protobuf messages: their fields, the value that counts, and each fault.
 use perfdata_parts::decode_error::DecodeError;
-use perfdata_simpleperf::simpleperf::{
+use perfdata_parts::simpleperf::{
     SimpleperfDexFileInfo, SimpleperfElfFileInfo, SimpleperfFileRecord, SimpleperfKernelModuleInfo,
     SimpleperfSymbol, SimpleperfTypeSpecificInfo,
 };

@@ -1,7 +1,7 @@
 //! Sections of the older file records, and what is cut in them.
 use perfdata_base::raw::Endianness;
 use perfdata_parts::error::Error;
-use perfdata_simpleperf::simpleperf::{SimpleperfFileRecord, parse_file_section};
+use perfdata_parts::simpleperf::{SimpleperfFileRecord, parse_file_section};
 use std::alloc::{AllocError, Global};
 use std::io::ErrorKind;
 use std::test::Fail;

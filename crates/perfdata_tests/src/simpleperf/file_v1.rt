@@ -1,6 +1,6 @@
 //! The older file records: each type, in both orders, and what is refused.
 use byteorder::{BigEndian, LittleEndian};
-use perfdata_simpleperf::simpleperf::{
+use perfdata_parts::simpleperf::{
     SimpleperfFileRecord, SimpleperfSymbol, SimpleperfTypeSpecificInfo,
 };
 use std::alloc::Global;

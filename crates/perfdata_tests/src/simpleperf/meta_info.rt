@@ -1,6 +1,6 @@
 //! Meta info: the pairs of its pieces, and texts that aren't UTF-8.
 use perfdata_parts::error::Error;
-use perfdata_simpleperf::simpleperf::parse_meta_info_map;
+use perfdata_parts::simpleperf::parse_meta_info_map;
 use std::alloc::Global;
 
 // How many pairs there are and the value of a key; or whether the refusal is that a text isn't UTF-8.

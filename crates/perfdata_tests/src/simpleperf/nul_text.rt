@@ -1,5 +1,5 @@
 //! Texts up to a NUL, taken off the front.
-use perfdata_simpleperf::simpleperf::SliceReadStringExt;
+use perfdata_parts::simpleperf::SliceReadStringExt;
 use std::io::ErrorKind;
 
 // The text at the front, or why there is none, and what is left.

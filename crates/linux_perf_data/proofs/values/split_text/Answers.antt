@@ -2,7 +2,7 @@ use Rattle.std.proofs.Common.{◌≡◌, ◌≤◌, ◌+◌, ◌-◌, ◌∙◌,
 use Rattle.std.specs.Str.{IsUtf8}
 use Rattle.std.proofs.lemmas.List.{take_all}
 use Rattle.perfdata_base.specs.Numbers.{number_in}
-use Rattle.perfdata_parts.specs.Strings.{before_nul}
+use Rattle.perfdata_sections.specs.Strings.{before_nul}
 use Rattle.linux_perf_data.specs.Values.{text_of}
 use Rattle.linux_perf_data.proofs.values.split_text.Goals as goal
 

@@ -1,6 +1,6 @@
 use Rattle.std.proofs.Common.{sym, ap, ◌∙◌}
 use Rattle.perfdata_base.specs.Raw.{bytes_of}
-use Rattle.perfdata_parts.specs.Strings.{before_nul}
+use Rattle.perfdata_sections.specs.Strings.{before_nul}
 use Rattle.perfdata_records.proofs.Threads.{before_string, before_none}
 use Rattle.perfdata_records.proofs.thread_map.cut_at_nul.Goals as goal
 

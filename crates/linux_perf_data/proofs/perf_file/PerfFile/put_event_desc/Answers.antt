@@ -1,7 +1,7 @@
 use Rattle.std.proofs.Common.{◌≡◌, ◌∙◌, ap, sym, subst}
 use Rattle.std.proofs.lemmas.List.{with_items_is}
 use Rattle.perfdata_base.specs.Numbers.{number_in}
-use Rattle.perfdata_parts.specs.EventDesc.{DescribesByEventDesc}
+use Rattle.perfdata_sections.specs.EventDesc.{DescribesByEventDesc}
 use Rattle.linux_perf_data.specs.Described.{attributes_by}
 use Rattle.linux_perf_data.specs.Names.{NamedBy, names_for, texts_of}
 use Rattle.linux_perf_data.specs.PerfFile.{descriptions_of}

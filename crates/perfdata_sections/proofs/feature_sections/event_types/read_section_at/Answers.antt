@@ -1,0 +1,15 @@
+use Rattle.perfdata_sections.proofs.Runs.{cut_next}
+use Rattle.perfdata_sections.proofs.Entries.{section_there, section_place, cut_there}
+use Rattle.perfdata_sections.proofs.feature_sections.event_types.read_section_at.Goals as goal
+
+pub returns-in-Ok-parse_from-clause-reads : goal.returns-in-Ok-parse_from-clause-reads
+returns-in-Ok-parse_from-clause-reads g c =
+    section_there g.T.ByteOrder.number_of g.met.T.ByteOrder.reads_first _ _ _ c.args.at _ _ c.in-Ok.ensures.seeks c.in-Ok-parse_from.ensures.parses
+
+pub returns-in-Err-parse_from-clause-reads : goal.returns-in-Err-parse_from-clause-reads
+returns-in-Err-parse_from-clause-reads g c =
+    cut_there _ _ _ c.args.at _ 16 _ c.in-Ok.ensures.seeks (cut_next _ _ 16 _ c.in-Err-parse_from.ensures.parses)
+
+pub returns-in-Ok-parse_from-clause-place : goal.returns-in-Ok-parse_from-clause-place
+returns-in-Ok-parse_from-clause-place g c =
+    section_place g.T.ByteOrder.number_of g.met.T.ByteOrder.reads_first _ _ _ c.args.at _ _ c.in-Ok.ensures.seeks c.in-Ok-parse_from.ensures.parses

@@ -1,0 +1,25 @@
+use Rattle.std.proofs.Common.{rules, arith, sym, subst, Err, BuildHasherDefault, FoldHasher}
+use Rattle.perfdata_sections.specs.Pmu.{ReadsUnits}
+use Rattle.std.specs.Prelude.{string_bytes}
+use Rattle.std.specs.Option.{option_map}
+use Rattle.perfdata_sections.proofs.Pmus.{units_none, units_more, units_refused, units_unkept}
+use Rattle.perfdata_sections.proofs.feature_sections.pmu.read_units.Goals as goal
+
+pub units-init : goal.units-init
+units-init g c = record { took = units_none g.T.ByteOrder.number_of g.met.T.ByteOrder.reads_first _ c.new-names.result c.new-names.ensures.empty; pauses = search rules; lent = search rules }
+
+pub returns-in-Err-clause-reads : goal.returns-in-Err-clause-reads
+returns-in-Err-clause-reads g c =
+    units_refused g.T.ByteOrder.number_of g.met.T.ByteOrder.reads_first c.units._index c.args.count _ _ _ c.units.names c.in-Err.fault (omega arith) c.units.invariant.took c.in-Err.ensures.reads
+
+pub returns-in-Err-keep_name-clause-reads : goal.returns-in-Err-keep_name-clause-reads
+returns-in-Err-keep_name-clause-reads g c =
+    subst (λ fault. ReadsUnits g.T.ByteOrder.number_of {S = BuildHasherDefault FoldHasher} c.args.count (g.R.Source.seen c.args.source.now) (Err fault) (g.R.Source.seen c.read_unit.new.source)) (sym c.in-Err-keep_name.ensures)
+    (units_unkept g.T.ByteOrder.number_of g.met.T.ByteOrder.reads_first c.units._index c.args.count _ (g.R.Source.seen c.units.source) _ c.units.names (c.in-Ok.unit.0, option_map string_bytes c.in-Ok.unit.1) (omega arith) c.units.invariant.took c.in-Ok.ensures.reads)
+
+pub units-preserved : goal.units-preserved
+units-preserved g c = record {
+  took = units_more g.T.ByteOrder.number_of g.met.T.ByteOrder.reads_first c.units._index _ (g.R.Source.seen c.units.source) _ c.units.names c.keep_name.new.names (c.in-Ok.unit.0, option_map string_bytes c.in-Ok.unit.1) c.units.invariant.took c.in-Ok.ensures.reads c.in-Ok-keep_name.ensures;
+  pauses = search rules;
+  lent = search rules;
+}

@@ -1,0 +1,30 @@
+-- What the description of an attribute tells.
+use Rattle.std.specs.Prelude.{ℕ, List, map, Option, string_bytes}
+use Rattle.std.specs.Option.{option_map}
+use Rattle.perfdata_base.specs.declared.attr.PerfEventAttr.{PerfEventAttr}
+use Rattle.perfdata_sections.specs.declared.feature_sections.AttributeDescription.{AttributeDescription}
+
+-- the attribute
+abbrev pub attr_in : AttributeDescription → PerfEventAttr
+attr_in d = d.attr
+
+-- the bytes of its name
+abbrev pub name_in : AttributeDescription → Option (List ℕ)
+name_in d = option_map string_bytes d.name
+
+-- its ids
+abbrev pub ids_in : AttributeDescription → List ℕ
+ids_in d = d.event_ids.items
+
+-- an attribute with the bytes of its name and with its ids, as plain values
+pub record DescribedEvent : Type 0 where
+  pub attr : PerfEventAttr
+  pub name : Option (List ℕ)
+  pub ids : List ℕ
+
+-- all that a description tells
+abbrev pub event_in : AttributeDescription → DescribedEvent
+event_in d = record { attr = attr_in d; name = name_in d; ids = ids_in d }
+
+abbrev pub events_in : List AttributeDescription → List DescribedEvent
+events_in ds = map event_in ds
