@@ -1,5 +1,6 @@
 //! The records of a file and of a pipe, with their places, and what is refused.
 use super::stream::{Answer, file, file_answers, pipe, pipe_answers, push_attribute};
+use counted::count_records;
 use linux_perf_data::RecordPlace;
 use linux_perf_data::source::{Counted, Script, Step};
 use std::alloc::{AllocError, Global};
@@ -173,5 +174,21 @@ fn ends_a_pipe_that_pauses(rt: HostRuntime) -> Result<(), Fail> {
     let answers = pausing(rt.alloc(), 132, 3)?;
     let wanted = [SAMPLE, Answer::Nothing, Answer::Nothing];
     assert_eq!(rt; answers.as_slice(), wanted.as_slice());
+    Ok(())
+}
+
+#[test]
+fn counts_the_records_of_a_file(rt: HostRuntime) -> Result<(), Fail> {
+    // the bytes that are there, how many of them the data section tells, and how many records that are no markers
+    let cases = [
+        (&RECORDS[..], 107, Some(3)),
+        (&RECORDS[..], 83, Some(2)),
+        (&RECORDS[..], 0, Some(0)),
+        (&RECORDS[..106], 107, None),
+    ];
+    for (records, size, count) in cases {
+        let bytes = file(rt.alloc(), &ATTRIBUTE, records, size)?;
+        assert!(rt; count_records(rt.alloc(), bytes.as_slice()).ok() == count);
+    }
     Ok(())
 }
