@@ -1,4 +1,4 @@
-use Rattle.std.proofs.Common.{◌≡◌, ◌*◌, length, take, arith, ap, sym, ◌∙◌}
+use Rattle.std.proofs.Common.{◌*◌, length, take, arith, ap, sym, ◌∙◌}
 use Rattle.perfdata_base.specs.Raw.{bytes_of}
 use Rattle.perfdata_base.specs.Numbers.{number_in}
 use Rattle.std.proofs.lemmas.List.{length-take-le}
