@@ -46,7 +46,7 @@ Entry = Told (IsEntry (number_in LittleEndian) 0)
 -- ---- things one behind another
 
 module _ {D : Type 0} (IsOne : List ℕ → D → Type 0) (step : ℕ) (all : List ℕ) where
-  run_at : (n at : ℕ) (ds : List D) → Run IsOne step all at ds → n < length ds → (d : D) × IsOne (drop (at + n * step) all) d
+  pub run_at : (n at : ℕ) (ds : List D) → Run IsOne step all at ds → n < length ds → (d : D) × IsOne (drop (at + n * step) all) d
   run_at n at [] run few = absurd (omega (arith, few))
   run_at zero at (d ∷ ds) (is, more) few =
       let here : at ≡ at + 0 * step = omega arith in
@@ -63,7 +63,7 @@ module _ {D : Type 0} (IsOne : List ℕ → D → Type 0) (step : ℕ) (all : Li
   run_alike f same at (d ∷ ds) (e ∷ es) long (is, more) (is', more') =
       ap (λ b. b ∷ map f ds) (same (drop at all) d e is is') ∙ ap (λ l. f e ∷ l) (run_alike f same (at + step) ds es (omega (arith, long)) more more')
 
-  run_one : ((xs : List ℕ) (d e : D) → IsOne xs d → IsOne xs e → d ≡ e) → (at : ℕ) (ds es : List D) → length ds ≡ length es → Run IsOne step all at ds → Run IsOne step all at es → ds ≡ es
+  pub run_one : ((xs : List ℕ) (d e : D) → IsOne xs d → IsOne xs e → d ≡ e) → (at : ℕ) (ds es : List D) → length ds ≡ length es → Run IsOne step all at ds → Run IsOne step all at es → ds ≡ es
   run_one same at [] [] long x y = refl
   run_one same at [] (e ∷ es) long x y = absurd (omega (arith, long))
   run_one same at (d ∷ ds) [] long x y = absurd (omega (arith, long))
@@ -73,7 +73,7 @@ module _ {D : Type 0} (IsOne : List ℕ → D → Type 0) (step : ℕ) (all : Li
 module _ (number : ℕ → List ℕ → ℕ) where
   -- ---- attributes in frames
 
-  frame_stands : (size : ℕ) (e : Error) (xs : List ℕ) (a : PerfEventAttr) → IsFramed number size xs a → IsNoFrame number size e xs → ⊥
+  pub frame_stands : (size : ℕ) (e : Error) (xs : List ℕ) (a : PerfEventAttr) → IsFramed number size xs a → IsNoFrame number size e xs → ⊥
   frame_stands size (Read OfAttr) xs a framed (inl (inl short)) = let least = framed.is.least in let there = framed.is.there in omega (arith, short, least, there)
   frame_stands size (Read OfAttr) xs a framed (inl (inr (least, within, short))) = let there = framed.is.there in omega (arith, short, there)
   frame_stands size (Read OfAttr) xs a framed (inr (head, small)) = let least = framed.is.least in omega (arith, small, least)
@@ -97,14 +97,14 @@ module _ (number : ℕ → List ℕ → ℕ) where
       let two : (let a : Entry = record { attr = e.attr; ids = d.ids } in a) ≡ e = ap (λ x. record { attr = e.attr; ids = x }) ids in
       one ∙ two
 
-  entry_one : (size : ℕ) (xs : List ℕ) (d e : Entry) → IsEntry number size xs d → IsEntry number size xs e → d ≡ e
+  pub entry_one : (size : ℕ) (xs : List ℕ) (d e : Entry) → IsEntry number size xs d → IsEntry number size xs e → d ≡ e
   entry_one size xs d e x y = entry_same d e (x.framed.is.is ∙ sym y.framed.is.is) (x.ids.1 ∙ sym y.ids.1)
 
-  entry_stands : (size : ℕ) (e : Error) (xs : List ℕ) (d : Entry) → IsEntry number size xs d → IsNoEntry number size e xs → ⊥
+  pub entry_stands : (size : ℕ) (e : Error) (xs : List ℕ) (d : Entry) → IsEntry number size xs d → IsNoEntry number size e xs → ⊥
   entry_stands size e xs d is (inl none) = frame_stands size e xs d.attr is.framed none
   entry_stands size e xs d is (inr (framed, short, few)) = let there = is.ids.0 in omega (arith, few, there)
 
-  ids_stand : (e : Error) (s : PerfFileSection) (all ids : List ℕ) → IsIdsOf number (Some all) s ids → IsNoIds number e s all → ⊥
+  pub ids_stand : (e : Error) (s : PerfFileSection) (all ids : List ℕ) → IsIdsOf number (Some all) s ids → IsNoIds number e s all → ⊥
   ids_stand e s all ids is (inl (far, read)) = let near = is.near in omega (arith, far, near)
   ids_stand e s all ids is (inr (near, short, few)) = let there = is.are.0 in omega (arith, few, there)
 
@@ -166,7 +166,7 @@ desc_alike order desc ds es x y =
 
 -- ---- meta info
 
-names_stand : (info : List ℕ) (e : Error) (types : List SimplePerfEventType) → NamesEvents info types → NamesNone info e → ⊥
+pub names_stand : (info : List ℕ) (e : Error) (types : List SimplePerfEventType) → NamesEvents info types → NamesNone info e → ⊥
 names_stand info StringUtf8 types names none = none names.texts
 names_stand info NoEventTypesInSimpleperfMetaInfo types names (texts, none) = none (map event_type_of types) names.tells
 names_stand info _ types names none = absurd none
@@ -185,7 +185,7 @@ module _ (order : Endianness) (h : PerfHeader) (all : List ℕ) where
   sections_alike info ds es (inr (none, x)) (inl (some, can, y)) = absurd (some none)
   sections_alike info ds es (inr (none, x)) (inr (none', y)) = attrs_alike info ds es x y
 
-  with_alike : (desc info : Option (List ℕ)) (ds es : List AttributeDescription) → DescribesWith order h desc info all ds → DescribesWith order h desc info all es → attributes_by ds ≡ attributes_by es
+  pub with_alike : (desc info : Option (List ℕ)) (ds es : List AttributeDescription) → DescribesWith order h desc info all ds → DescribesWith order h desc info all es → attributes_by ds ≡ attributes_by es
   with_alike (Some desc) info ds es x y = desc_alike order desc ds es x y
   with_alike None info ds es x y = sections_alike info ds es x y
 
@@ -209,7 +209,7 @@ module _ (order : Endianness) (h : PerfHeader) (all : List ℕ) where
   sections_stand info e ds (inr (none, x)) (inl (some, stops)) = some none
   sections_stand info e ds (inr (none, x)) (inr (none', stops)) = section_stands info e ds x stops
 
-  with_stands : (desc info : Option (List ℕ)) (e : Error) (ds : List AttributeDescription) → DescribesWith order h desc info all ds → StopsWith order h desc info all e → ⊥
+  pub with_stands : (desc info : Option (List ℕ)) (e : Error) (ds : List AttributeDescription) → DescribesWith order h desc info all ds → StopsWith order h desc info all e → ⊥
   with_stands (Some desc) info e ds x stops = told_or_refused (number_in order) (in_reads_first order) e desc (events_in ds) stops x
   with_stands None info e ds x stops = sections_stand info e ds x stops
 
@@ -230,7 +230,7 @@ module _ (order : Endianness) (h : PerfHeader) (all : List ℕ) where
   lacks_none [] entry behind holds lacks = let here = All-head (λ (e : TableEntry). HoldsSection all e.1) entry behind holds in omega (arith, here, lacks)
   lacks_none (b ∷ bs) entry behind holds lacks = lacks_none bs entry behind (All-tail (λ (e : TableEntry). HoldsSection all e.1) b (bs ++ entry ∷ behind) holds) lacks
 
-  holds_or_lacks : HoldsSections order h all → LacksSections order all (table_place h) (features_of h.features) → ⊥
+  pub holds_or_lacks : HoldsSections order h all → LacksSections order all (table_place h) (features_of h.features) → ⊥
   holds_or_lacks (table, holds) (inl few) = omega (arith, table, few)
   holds_or_lacks (table, holds) (inr (table', one)) = lacks_none one.before one.entry one.behind (subst (All (λ e. HoldsSection all e.1)) one.is holds) one.lacks
 

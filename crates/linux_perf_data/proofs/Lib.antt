@@ -39,5 +39,7 @@ pub mod NamesTold
 pub mod LateSteps
 pub mod OneOpening
 pub mod FileStands
+pub mod OneFileRefusal
+pub mod OnePipeRefusal
 pub mod Readings
 pub mod PipeReadings

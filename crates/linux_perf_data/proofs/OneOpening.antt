@@ -57,7 +57,7 @@ module _ (order : Endianness) where
       spoils_none p e is (subst (λ r. Spoils order (kind_of order r) (drop 8 r) e) same spoils)
 
   -- nor is what ends them
-  end_stands : (offset : ℕ) (behind : List ℕ) (e : Error) → EndsMetadata order behind → StopsRecord order offset behind e → ⊥
+  pub end_stands : (offset : ℕ) (behind : List ℕ) (e : Error) → EndsMetadata order behind → StopsRecord order offset behind e → ⊥
   end_stands offset behind e ends (inl (error, head, small)) = let least = (ends head).0 in omega (arith, least, small)
   end_stands offset behind e ends (inr (inl (error, kind, head, least, far))) = (ends head).1 kind
   end_stands offset behind e ends (inr (inr (inl (error, kind, head, cut)))) = (ends head.head).1 kind
@@ -108,10 +108,10 @@ module _ (order : Endianness) where
         | inr next ↦ inr (subst (λ o. Next o later) sum next)
       ]
 
-  next_goes_on : (offset : ℕ) (rest : List ℕ) → Next offset rest → EndsMetadata order rest → ⊥
+  pub next_goes_on : (offset : ℕ) (rest : List ℕ) → Next offset rest → EndsMetadata order rest → ⊥
   next_goes_on offset rest next ends = metadata_goes_on next.first next.after next.is (subst (EndsMetadata order) next.cut ends)
 
-  next_stands : (offset : ℕ) (rest : List ℕ) (e : Error) → Next offset rest → StopsRecord order offset rest e → ⊥
+  pub next_stands : (offset : ℕ) (rest : List ℕ) (e : Error) → Next offset rest → StopsRecord order offset rest e → ⊥
   next_stands offset rest e next stops = record_stands offset next.first next.after e next.is next.fits (subst (λ l. StopsRecord order offset l e) next.cut stops)
 
   pub one_opening : (ps qs : List (List ℕ)) (behind later : List ℕ) → AreMetadata order ps → AreMetadata order qs → EndsMetadata order behind → EndsMetadata order later → concat ps ++ behind ≡ concat qs ++ later → (ps ≡ qs) × (behind ≡ later)
@@ -157,16 +157,16 @@ same_order BigEndian BigEndian e = refl
 same_order LittleEndian BigEndian e = let same : 80 ≡ 50 = ap first_of e in absurd (omega (arith, same))
 same_order BigEndian LittleEndian e = let same : 50 ≡ 80 = ap first_of e in absurd (omega (arith, same))
 
-header_long : (order : Endianness) (header : List ℕ) → IsPipeHeader order header → 16 ≤ length header
+pub header_long : (order : Endianness) (header : List ℕ) → IsPipeHeader order header → 16 ≤ length header
 header_long order header is = let long = is.long in omega (arith, long)
 
-header_magic : (order : Endianness) (header rest : List ℕ) → IsPipeHeader order header → take 8 (header ++ rest) ≡ magic_of order
+pub header_magic : (order : Endianness) (header rest : List ℕ) → IsPipeHeader order header → take 8 (header ++ rest) ≡ magic_of order
 header_magic order header rest is = take-append-le 8 header rest (omega (arith, header_long order header is)) ∙ is.magic
 
-header_size : (order : Endianness) (header rest : List ℕ) → IsPipeHeader order header → number_in order 8 (drop 8 (header ++ rest)) ≡ number_in order 8 (drop 8 header)
+pub header_size : (order : Endianness) (header rest : List ℕ) → IsPipeHeader order header → number_in order 8 (drop 8 (header ++ rest)) ≡ number_in order 8 (drop 8 header)
 header_size order header rest is = number_drop_front order 8 8 header rest (header_long order header is)
 
-same_cut : (a b c d : List ℕ) → length a ≡ length c → a ++ b ≡ c ++ d → (a ≡ c) × (b ≡ d)
+pub same_cut : (a b c d : List ℕ) → length a ≡ length c → a ++ b ≡ c ++ d → (a ≡ c) × (b ≡ d)
 same_cut a b c d long same = (
   sym (take-append_seam a b) ∙ ap (take (length a)) same ∙ ap (λ n. take n (c ++ d)) long ∙ take-append_seam c d,
   sym (drop-append_seam a b) ∙ ap (drop (length a)) same ∙ ap (λ n. drop n (c ++ d)) long ∙ drop-append_seam c d,

@@ -23,10 +23,10 @@ rule_unbroken (a ∷ more) b rule breaks = breaks.0 rule
 
 -- The first attribute that doesn't conform is one.
 
-head_same : {X : Type 0} (x y : X) (xs ys : List X) → x ∷ xs ≡ y ∷ ys → x ≡ y
+pub head_same : {X : Type 0} (x y : X) (xs ys : List X) → x ∷ xs ≡ y ∷ ys → x ≡ y
 head_same x y xs ys e = ap (λ l. get_or l 0 x) e
 
-tail_same : {X : Type 0} (x y : X) (xs ys : List X) → x ∷ xs ≡ y ∷ ys → xs ≡ ys
+pub tail_same : {X : Type 0} (x y : X) (xs ys : List X) → x ∷ xs ≡ y ∷ ys → xs ≡ ys
 tail_same x y xs ys e = ap (drop 1) e
 
 first_one : (P : Attribute → Type 0) (front front' back back' : List Attribute) (at at' : Attribute) → front ++ at ∷ back ≡ front' ++ at' ∷ back'

@@ -43,7 +43,7 @@ cut_or_held order body (inl (inl short)) holds = let head = holds.head in omega 
 cut_or_held order body (inl (inr (least, short))) holds = let there = holds.there in omega (arith, short, there)
 cut_or_held order body (inr cut) holds = cut.odd holds.even
 
-cut_or_small : (order : Endianness) (body : List ℕ) → CutsAttribute order body → IsTooSmall (number_in order) body → ⊥
+pub cut_or_small : (order : Endianness) (body : List ℕ) → CutsAttribute order body → IsTooSmall (number_in order) body → ⊥
 cut_or_small order body (inl (inl short)) small = let head = small.0 in omega (arith, short, head)
 cut_or_small order body (inl (inr (least, short))) small = let below = small.1 in omega (arith, least, below)
 cut_or_small order body (inr cut) small = let least = cut.least in let below = small.1 in omega (arith, least, below)

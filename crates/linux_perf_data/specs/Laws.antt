@@ -9,7 +9,7 @@ use Rattle.linux_perf_data.specs.Layout.{Bound, Begins, IsEnd, IsRecord, IsPiece
 use Rattle.perfdata_base.specs.Numbers.{number_in}
 use Rattle.perfdata_sections.specs.AttributeDescription.{name_in, ids_in, events_in}
 use Rattle.perfdata_records.specs.Auxtrace.{HoldsAuxtrace}
-use Rattle.perfdata_sections.specs.Error.{IsShort, IsInvalidInput}
+use Rattle.perfdata_sections.specs.Error.{IsShort, IsInvalidInput, IsInvalidData}
 use Rattle.perfdata_sections.specs.EventDesc.{NoEventDesc}
 use Rattle.perfdata_sections.specs.declared.error.Error.{Error}
 use Rattle.perfdata_sections.specs.declared.error.Error.TheVariants.{UnrecognizedMagicValue}
@@ -150,3 +150,16 @@ FarHeader = (p : Place) (h : PerfHeader) → HasHeader p h → 104 + 2 ^ 63 ≤ 
 -- one that can be passed over, of another magic, is refused for its magic, whatever stands behind it
 abbrev pub OtherMagic : Type 0
 OtherMagic = (p : Place) (h : PerfHeader) → HasHeader p h → CanPass h → ((order : Endianness) → h.magic ≢ magic_of order) → RefusedAs p (λ e. e ≡ UnrecognizedMagicValue h.magic)
+
+-- two refusals have one cause: they are the same error, or I/O errors that say the same, that bytes ended early, that what stands there asks for
+-- what can't be done, or that it has no meaning
+abbrev pub SameCause : Error → Error → Type 0
+SameCause e f = (e ≡ f) ⊎ ((IsShort e × IsShort f) ⊎ ((IsInvalidInput e × IsInvalidInput f) ⊎ (IsInvalidData e × IsInvalidData f)))
+
+-- two refusals of one file have one cause
+abbrev pub OneRefusalOfFile : Type 0
+OneRefusalOfFile = (p : Place) (e f : Error) → StopsFile p e → StopsFile p f → SameCause e f
+
+-- and so have two of one pipe
+abbrev pub OneRefusalOfPipe : Type 0
+OneRefusalOfPipe = (bytes : List ℕ) (e f : Error) → StopsPipe bytes e → StopsPipe bytes f → SameCause e f

@@ -4,7 +4,7 @@ ghost use Rattle.linux_perf_data.specs.BuildIds.{OneListOfEntries, KeysEqualByTe
 ghost use Rattle.linux_perf_data.specs.Late.{HoldsFirst, HoldsMore, NamesStay};
 ghost use Rattle.linux_perf_data.specs.Reading.{FileSoFar, FileWhole, FileToFault, NoCall, OneCallMore};
 ghost use Rattle.linux_perf_data.specs.PipeReading.{PipeUpToRecord, PipeUpToEnd, PipeUpToFault, LongestRun, NotRefused};
-ghost use Rattle.linux_perf_data.specs.Laws.{OneRecord, OneFault, NoFaultAtPiece, EndFaultOrPiece, RuleOrBreach, OneBreach, OneLayout, SomeLayout, OneToCome, OffsetsRise, PlaceOfPiece, RecordsBring, TracesHold, NoNamesAtRefusal, OneNaming, OneOpening, OpeningStands, FileStands, OneFile, CutHeader, FarHeader, OtherMagic};
+ghost use Rattle.linux_perf_data.specs.Laws.{OneRecord, OneFault, NoFaultAtPiece, EndFaultOrPiece, RuleOrBreach, OneBreach, OneLayout, SomeLayout, OneToCome, OffsetsRise, PlaceOfPiece, RecordsBring, TracesHold, NoNamesAtRefusal, OneNaming, OneOpening, OpeningStands, FileStands, OneFile, CutHeader, FarHeader, OtherMagic, OneRefusalOfFile, OneRefusalOfPipe};
 
 use perfdata_base::source::Source;
 
@@ -94,6 +94,12 @@ pub fn header_comes_first()
     ensures cut { CutHeader }
     ensures far { FarHeader }
     ensures magic { OtherMagic }
+{}
+
+/// Two refusals of one file, or of one pipe, have one cause: they are the same error, or I/O errors of one kind.
+pub fn one_refusal()
+    ensures file { OneRefusalOfFile }
+    ensures pipe { OneRefusalOfPipe }
 {}
 
 /// The names of a pipe's attributes are determined by the attributes' ids and the bytes of EVENT_DESC, and where those are refused

@@ -23,7 +23,7 @@ take_front : (n : ℕ) (xs ys : List ℕ) → length xs ≡ n → take n (xs ++ 
 take_front n xs ys long = ap (λ k. take k (xs ++ ys)) (sym long) ∙ take-append_seam xs ys
 
 -- fronts of one length are the same
-same_cut : (a b c d : List ℕ) → length a ≡ length c → a ++ b ≡ c ++ d → (a ≡ c) × (b ≡ d)
+pub same_cut : (a b c d : List ℕ) → length a ≡ length c → a ++ b ≡ c ++ d → (a ≡ c) × (b ≡ d)
 same_cut a b c d long same = (
   sym (take-append_seam a b) ∙ ap (take (length a)) same ∙ take_front (length a) c d (sym long),
   sym (drop-append_seam a b) ∙ ap (drop (length a)) same ∙ drop_front (length a) c d (sym long),
@@ -160,13 +160,13 @@ module _ (number : ℕ → List ℕ → ℕ) (first : ReadsFirst number) where
         (b.are ∙ ap (numbers number (number 4 (drop size xs))) (sym words))
 
     -- no event is a proper front of another
-    same_event : (xs ys a b : List ℕ) (d e : DescribedEvent) → IsEvent number size xs d → IsEvent number size ys e → xs ++ a ≡ ys ++ b → (xs ≡ ys) × (a ≡ b) × (d ≡ e)
+    pub same_event : (xs ys a b : List ℕ) (d e : DescribedEvent) → IsEvent number size xs d → IsEvent number size ys e → xs ++ a ≡ ys ++ b → (xs ≡ ys) × (a ≡ b) × (d ≡ e)
     same_event xs ys a b d e x y same =
         let long : length xs ≡ length ys = event_whole xs a d x ∙ ap event_length same ∙ sym (event_whole ys b e y) in
         let cut = same_cut xs a ys b long same in
         (cut.0, cut.1, event_told xs d x ∙ ap event_at cut.0 ∙ sym (event_told ys e y))
 
-    framed_or_none : (e : Error) (xs : List ℕ) (a : PerfEventAttr) → IsFramed number size xs a → IsNoFrame number size e xs → ⊥
+    pub framed_or_none : (e : Error) (xs : List ℕ) (a : PerfEventAttr) → IsFramed number size xs a → IsNoFrame number size e xs → ⊥
     framed_or_none (Read OfAttr) xs a framed (inl (inl short)) = let least = framed.is.least in let there = framed.is.there in omega (arith, short, least, there)
     framed_or_none (Read OfAttr) xs a framed (inl (inr (least, within, short))) = let there = framed.is.there in omega (arith, short, there)
     framed_or_none (Read OfAttr) xs a framed (inr (head, small)) = let least = framed.is.least in omega (arith, small, least)
@@ -174,7 +174,7 @@ module _ (number : ℕ → List ℕ → ℕ) (first : ReadsFirst number) where
     framed_or_none _ xs a framed none = absurd none
 
     -- where an event stands, none is refused
-    event_or_none : (err : Error) (xs rest : List ℕ) (d : DescribedEvent) → IsEvent number size xs d → IsNoEvent number size err (xs ++ rest) → ⊥
+    pub event_or_none : (err : Error) (xs rest : List ℕ) (d : DescribedEvent) → IsEvent number size xs d → IsNoEvent number size err (xs ++ rest) → ⊥
     event_or_none err xs rest d e (inl none) =
         let whole : xs ++ rest ≡ e.frame ++ (e.behind ++ rest) = ap (λ l. l ++ rest) e.is ∙ append_assoc e.frame e.behind rest in
         framed_or_none err (xs ++ rest) d.attr (subst (λ l. IsFramed number size l d.attr) (sym whole) (frame_stays number first size e.frame (e.behind ++ rest) d.attr e.framed)) none
@@ -401,7 +401,7 @@ module _ (number : ℕ → List ℕ → ℕ) (first : ReadsFirst number) where
 
   -- ---- the section
 
-  told_cut : (xs : List ℕ) (ds : List DescribedEvent) → (t : TellsByEventDesc number xs ds) → xs ≡ t.3.head ++ (t.3.events ++ t.1)
+  pub told_cut : (xs : List ℕ) (ds : List DescribedEvent) → (t : TellsByEventDesc number xs ds) → xs ≡ t.3.head ++ (t.3.events ++ t.1)
   told_cut xs ds (front, rest, cut, is) = cut ∙ ap (λ l. l ++ rest) is.is ∙ append_assoc is.head is.events rest
 
   -- bytes tell one list of events

@@ -7,3 +7,4 @@ pub mod IdLists
 pub mod Entries
 pub mod Events
 pub mod EventFronts
+pub mod EventRefusals

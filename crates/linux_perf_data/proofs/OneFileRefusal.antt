@@ -1,0 +1,197 @@
+-- Two refusals of one file have one cause: what an opening meets first is one thing.
+use Rattle.std.proofs.Common.{◌≡◌, ℕ, ◌+◌, ◌-◌, ◌*◌, ◌<◌, List, [], ◌∷◌, ◌++◌, length, drop, refl, sym, ap, ◌∙◌, subst, inl, inr, arith, Option, None, Some}
+use Rattle.std.proofs.lemmas.Bool.{cases_lt}
+use Rattle.perfdata_base.specs.Numbers.{number_in}
+use Rattle.perfdata_base.specs.declared.section.PerfFileSection.{PerfFileSection}
+use Rattle.perfdata_base.specs.declared.raw.Endianness.{Endianness}
+use Rattle.perfdata_base.specs.declared.header.PerfHeader.{PerfHeader}
+use Rattle.perfdata_base.proofs.Numbers.{in_reads_first}
+use Rattle.perfdata_sections.specs.AttributeDescription.{attr_in, ids_in}
+use Rattle.perfdata_sections.specs.Attributes.{IsNoFrame, IsDescribed}
+use Rattle.perfdata_sections.specs.EventTypes.{name_at, IsEntry, IsNoEntry, IsNoIds, Given, NoEntries, StopsAtEntry, StopsAtIds}
+use Rattle.perfdata_sections.specs.Run.{Run}
+use Rattle.perfdata_sections.specs.declared.feature_sections.AttributeDescription.{AttributeDescription}
+use Rattle.perfdata_sections.specs.declared.error.Error.{Error}
+use Rattle.perfdata_sections.specs.declared.error.Error.TheVariants.{StringUtf8, NoEventTypesInSimpleperfMetaInfo}
+use Rattle.perfdata_sections.proofs.EventRefusals.{Alike, frame_refused, desc_refused}
+use Rattle.linux_perf_data.specs.Attribute.{Breaks}
+use Rattle.linux_perf_data.specs.AttributeSources.{NamesNone, StopsAtSections, StopsAtSection, StopsWith}
+use Rattle.linux_perf_data.specs.Described.{attributes_by}
+use Rattle.linux_perf_data.specs.Laws.{SameCause, OneRefusalOfFile}
+use Rattle.linux_perf_data.specs.Open.{section_data, StopsAtAttributes, StopsBehind}
+use Rattle.linux_perf_data.specs.Rules.{error_of_breach}
+use Rattle.linux_perf_data.proofs.FileStands.{Entry, run_at, run_one, frame_stands, entry_one, entry_stands, ids_stand, names_stand, with_alike, with_stands, holds_or_lacks, header_one, cut_header, far_header, other_magic}
+use Rattle.linux_perf_data.proofs.OneOpening.{same_order}
+use Rattle.linux_perf_data.proofs.Rules.{breach_one, head_same, tail_same}
+
+-- ---- things one behind another
+
+-- Behind each of two runs none stands: then they are of one length, and it is one place.
+module _ {D : Type 0} (IsOne : List ℕ → D → Type 0) (step : ℕ) (all : List ℕ) (IsNot : Error → List ℕ → Type 0) (apart : (e : Error) (xs : List ℕ) (d : D) → IsOne xs d → IsNot e xs → ⊥) where
+  run_goes_on : (e : Error) (at n : ℕ) (ds : List D) → Run IsOne step all at ds → n < length ds → IsNot e (drop (at + n * step) all) → ⊥
+  run_goes_on e at n ds run few none = let here = run_at IsOne step all n at ds run few in apart e (drop (at + n * step) all) here.0 here.1 none
+
+  run_refused : (e f : Error) (at : ℕ) (ds es : List D) → Run IsOne step all at ds → Run IsOne step all at es → IsNot e (drop (at + length ds * step) all) → IsNot f (drop (at + length es * step) all)
+      → ((xs : List ℕ) → IsNot e xs → IsNot f xs → Alike e f) → Alike e f
+  run_refused e f at ds es x y none none' alike = elim (cases_lt (length ds) (length es)) [
+    | inl few ↦ absurd (run_goes_on e at (length ds) es y few none)
+    | inr most ↦ elim (cases_lt (length es) (length ds)) [
+      | inl few ↦ absurd (run_goes_on f at (length es) ds x few none')
+      | inr least ↦
+          let long : length ds ≡ length es = omega (arith, most, least) in
+          alike (drop (at + length es * step) all) (subst (λ n. IsNot e (drop (at + n * step) all)) long none) none'
+    ]
+  ]
+
+module _ (number : ℕ → List ℕ → ℕ) where
+  -- ---- entries
+
+  entry_refused : (size : ℕ) (e f : Error) (xs : List ℕ) → IsNoEntry number size e xs → IsNoEntry number size f xs → Alike e f
+  entry_refused size e f xs (inl x) (inl y) = inl (frame_refused number size e f xs x y)
+  entry_refused size e f xs (inl x) (inr (framed, short, few)) = absurd (frame_stands number size e xs framed.0 framed.1 x)
+  entry_refused size e f xs (inr (framed, short, few)) (inl y) = absurd (frame_stands number size f xs framed.0 framed.1 y)
+  entry_refused size e f xs (inr (framed, short, few)) (inr (framed', short', few')) = inr (short, short')
+
+  ids_refused : (e f : Error) (s : PerfFileSection) (all : List ℕ) → IsNoIds number e s all → IsNoIds number f s all → Alike e f
+  ids_refused e f s all (inl (far, read)) (inl (far', read')) = inl (read ∙ sym read')
+  ids_refused e f s all (inl (far, read)) (inr (near, short, few)) = absurd (omega (arith, far, near))
+  ids_refused e f s all (inr (near, short, few)) (inl (far, read)) = absurd (omega (arith, far, near))
+  ids_refused e f s all (inr (near, short, few)) (inr (near', short', few')) = inr (short, short')
+
+  module _ (all : List ℕ) (names others : ℕ → Option (List ℕ)) where
+    -- of entries that are described one by one, the first whose ids aren't there is one
+    given_refused : (e f : Error) (i : ℕ) (xs ys ws zs : List Entry) (x y : Entry) (ds es : List AttributeDescription) → xs ++ x ∷ ws ≡ ys ++ y ∷ zs → Given number (Some all) names i xs ds → Given number (Some all) others i ys es
+        → IsNoIds number e x.ids all → IsNoIds number f y.ids all → Alike e f
+    given_refused e f i [] [] ws zs x y ds es same given given' none none' =
+        ids_refused e f y.ids all (subst (λ (t : Entry). IsNoIds number e t.ids all) (head_same x y ws zs same) none) none'
+    given_refused e f i [] (t ∷ ys) ws zs x y ds [] same given given' none none' = absurd given'
+    given_refused e f i [] (t ∷ ys) ws zs x y ds (d ∷ es) same given (is, more) none none' =
+        absurd (ids_stand number e t.ids all (ids_in d) is.ids (subst (λ (t : Entry). IsNoIds number e t.ids all) (head_same x t ws (ys ++ y ∷ zs) same) none))
+    given_refused e f i (t ∷ xs) [] ws zs x y [] es same given given' none none' = absurd given
+    given_refused e f i (t ∷ xs) [] ws zs x y (d ∷ ds) es same (is, more) given' none none' =
+        absurd (ids_stand number f t.ids all (ids_in d) is.ids (subst (λ (t : Entry). IsNoIds number f t.ids all) (sym (head_same t y (xs ++ x ∷ ws) zs same)) none'))
+    given_refused e f i (s ∷ xs) (t ∷ ys) ws zs x y [] es same given given' none none' = absurd given
+    given_refused e f i (s ∷ xs) (t ∷ ys) ws zs x y (d ∷ ds) [] same given given' none none' = absurd given'
+    given_refused e f i (s ∷ xs) (t ∷ ys) ws zs x y (c ∷ ds) (d ∷ es) same (is, more) (is', more') none none' =
+        given_refused e f (i + 1) xs ys ws zs x y ds es (tail_same s t (xs ++ x ∷ ws) (ys ++ y ∷ zs) same) more more' none none'
+
+  module _ (all : List ℕ) (size : ℕ) (section : PerfFileSection) where
+    -- where all entries stand, none is refused
+    entries_or_cut : (names others : ℕ → Option (List ℕ)) (e f : Error) → StopsAtEntry number size names section e all → StopsAtIds number size others section f all → ⊥
+    entries_or_cut names others e f s t =
+        let few = s.few in
+        let count = t.run.count in
+        let here = run_at (IsEntry number size) (size + 16) all (length s.before) section.offset t.entries t.run.each (omega (arith, few, count)) in
+        entry_stands number size e (drop (section.offset + length s.before * (size + 16)) all) here.0 here.1 s.here
+
+    entries_refused : (names others : ℕ → Option (List ℕ)) (e f : Error) → NoEntries number size names section e all → NoEntries number size others section f all → Alike e f
+    entries_refused names others e f (inl s) (inl t) =
+        run_refused (IsEntry number size) (size + 16) all (IsNoEntry number size) (entry_stands number size) e f section.offset s.before t.before s.each t.each s.here t.here (entry_refused size e f)
+    entries_refused names others e f (inl s) (inr t) = absurd (entries_or_cut names others e f s t)
+    entries_refused names others e f (inr s) (inl t) = absurd (entries_or_cut others names f e t s)
+    entries_refused names others e f (inr s) (inr t) =
+        let same : s.entries ≡ t.entries = run_one (IsEntry number size) (size + 16) all (entry_one number size) section.offset s.entries t.entries (s.run.count ∙ sym t.run.count) s.run.each t.run.each in
+        let cut = sym s.stops.are ∙ same ∙ t.stops.are in
+        given_refused all names others e f 0 s.stops.before t.stops.before s.stops.after t.stops.after s.stops.next t.stops.next s.stops.ds t.stops.ds cut s.stops.given t.stops.given s.stops.here t.stops.here
+
+-- ---- meta info
+
+texts_refused : (info : List ℕ) (f : Error) → NamesNone info StringUtf8 → NamesNone info f → (let e : Error = StringUtf8 in e) ≡ f
+texts_refused info StringUtf8 x y = refl
+texts_refused info NoEventTypesInSimpleperfMetaInfo x (texts, none) = absurd (x texts)
+texts_refused info _ x y = absurd y
+
+types_refused : (info : List ℕ) (f : Error) → NamesNone info NoEventTypesInSimpleperfMetaInfo → NamesNone info f → (let e : Error = NoEventTypesInSimpleperfMetaInfo in e) ≡ f
+types_refused info StringUtf8 (texts, none) y = absurd (y texts)
+types_refused info NoEventTypesInSimpleperfMetaInfo x y = refl
+types_refused info _ x y = absurd y
+
+names_refused : (info : List ℕ) (e f : Error) → NamesNone info e → NamesNone info f → e ≡ f
+names_refused info StringUtf8 f x y = texts_refused info f x y
+names_refused info NoEventTypesInSimpleperfMetaInfo f x y = types_refused info f x y
+names_refused info _ f x y = absurd x
+
+module _ (order : Endianness) (h : PerfHeader) (all : List ℕ) where
+  -- ---- attributes
+
+  section_refused : (info : Option (List ℕ)) (e f : Error) → StopsAtSection order h info all e → StopsAtSection order h info all f → Alike e f
+  section_refused (Some info) e f (inl x) (inl y) = inl (names_refused info e f x y)
+  section_refused (Some info) e f (inl x) (inr (types, names, y)) = absurd (names_stand info e types names x)
+  section_refused (Some info) e f (inr (types, names, x)) (inl y) = absurd (names_stand info f types names y)
+  section_refused (Some info) e f (inr (types, names, inl (few, read))) (inr (others, names', inl (few', read'))) = inl (read ∙ sym read')
+  section_refused (Some info) e f (inr (types, names, inl (few, read))) (inr (others, names', inr (room, y))) = absurd (omega (arith, few, room))
+  section_refused (Some info) e f (inr (types, names, inr (room, x))) (inr (others, names', inl (few, read))) = absurd (omega (arith, few, room))
+  section_refused (Some info) e f (inr (types, names, inr (room, inl (far, read)))) (inr (others, names', inr (room', inl (far', read')))) = inl (read ∙ sym read')
+  section_refused (Some info) e f (inr (types, names, inr (room, inl (far, read)))) (inr (others, names', inr (room', inr (can, y)))) = absurd (can far)
+  section_refused (Some info) e f (inr (types, names, inr (room, inr (can, x)))) (inr (others, names', inr (room', inl (far, read)))) = absurd (can far)
+  section_refused (Some info) e f (inr (types, names, inr (room, inr (can, x)))) (inr (others, names', inr (room', inr (can', y)))) =
+      entries_refused (number_in order) all (h.attr_size - 16) h.attr_section (name_at types) (name_at others) e f x y
+  section_refused None e f (inl (far, read)) (inl (far', read')) = inl (read ∙ sym read')
+  section_refused None e f (inl (far, read)) (inr (can, y)) = absurd (can far)
+  section_refused None e f (inr (can, x)) (inl (far, read)) = absurd (can far)
+  section_refused None e f (inr (can, x)) (inr (can', y)) =
+      run_refused (IsDescribed (number_in order) h.attr_size) h.attr_size all (IsNoFrame (number_in order) h.attr_size) (λ e xs d is none. frame_stands (number_in order) h.attr_size e xs (attr_in d) is.framed none) e f h.attr_section.offset x.before y.before x.each y.each x.here y.here
+      (λ xs none none'. inl (frame_refused (number_in order) h.attr_size e f xs none none'))
+
+  sections_refused : (info : Option (List ℕ)) (e f : Error) → StopsAtSections order h info all e → StopsAtSections order h info all f → Alike e f
+  sections_refused info e f (inl (some, inl (far, read))) (inl (some', inl (far', read'))) = inl (read ∙ sym read')
+  sections_refused info e f (inl (some, inl (far, read))) (inl (some', inr (can, y))) = absurd (can far)
+  sections_refused info e f (inl (some, inr (can, x))) (inl (some', inl (far, read))) = absurd (can far)
+  sections_refused info e f (inl (some, inr (can, x))) (inl (some', inr (can', y))) = entries_refused (number_in order) all h.attr_size h.event_types_section (name_at []) (name_at []) e f x y
+  sections_refused info e f (inl (some, x)) (inr (none, y)) = absurd (some none)
+  sections_refused info e f (inr (none, x)) (inl (some, y)) = absurd (some none)
+  sections_refused info e f (inr (none, x)) (inr (none', y)) = section_refused info e f x y
+
+  with_refused : (desc info : Option (List ℕ)) (e f : Error) → StopsWith order h desc info all e → StopsWith order h desc info all f → Alike e f
+  with_refused (Some desc) info e f x y = desc_refused (number_in order) (in_reads_first order) e f desc x y
+  with_refused None info e f x y = sections_refused info e f x y
+
+  -- ---- what stands behind a header
+
+  attributes_refused : (e f : Error) → StopsAtAttributes order h all e → StopsAtAttributes order h all f → Alike e f
+  attributes_refused e f (inl x) (inl y) = with_refused (section_data order h all 12) (section_data order h all 129) e f x y
+  attributes_refused e f (inl x) (inr (inl (is, none))) = absurd (with_stands order h all (section_data order h all 12) (section_data order h all 129) e [] none x)
+  attributes_refused e f (inl x) (inr (inr unruly)) = absurd (with_stands order h all (section_data order h all 12) (section_data order h all 129) e unruly.ds unruly.described x)
+  attributes_refused e f (inr (inl (is, none))) (inl y) = absurd (with_stands order h all (section_data order h all 12) (section_data order h all 129) f [] none y)
+  attributes_refused e f (inr (inl (is, none))) (inr (inl (is', none'))) = inl (is ∙ sym is')
+  attributes_refused e f (inr (inl (is, none))) (inr (inr unruly)) =
+      let same : attributes_by unruly.ds ≡ [] = with_alike order h all (section_data order h all 12) (section_data order h all 129) unruly.ds [] unruly.described none in
+      absurd (subst (λ l. Breaks l unruly.breach) same unruly.breaks)
+  attributes_refused e f (inr (inr unruly)) (inl y) = absurd (with_stands order h all (section_data order h all 12) (section_data order h all 129) f unruly.ds unruly.described y)
+  attributes_refused e f (inr (inr unruly)) (inr (inl (is, none))) =
+      let same : attributes_by unruly.ds ≡ [] = with_alike order h all (section_data order h all 12) (section_data order h all 129) unruly.ds [] unruly.described none in
+      absurd (subst (λ l. Breaks l unruly.breach) same unruly.breaks)
+  attributes_refused e f (inr (inr x)) (inr (inr y)) =
+      let same : attributes_by x.ds ≡ attributes_by y.ds = with_alike order h all (section_data order h all 12) (section_data order h all 129) x.ds y.ds x.described y.described in
+      let breach : x.breach ≡ y.breach = breach_one (attributes_by y.ds) x.breach y.breach (subst (λ l. Breaks l x.breach) same x.breaks) y.breaks in
+      inl (x.is ∙ ap error_of_breach breach ∙ sym y.is)
+
+  behind_refused : (e f : Error) → StopsBehind order h all e → StopsBehind order h all f → Alike e f
+  behind_refused e f (inl (read, far)) (inl (read', far')) = inl (read ∙ sym read')
+  behind_refused e f (inl (read, far)) (inr (inl (short, near, lacks))) = absurd (omega (arith, far, near))
+  behind_refused e f (inl (read, far)) (inr (inr (near, holds, y))) = absurd (omega (arith, far, near))
+  behind_refused e f (inr (inl (short, near, lacks))) (inl (read, far)) = absurd (omega (arith, far, near))
+  behind_refused e f (inr (inl (short, near, lacks))) (inr (inl (short', near', lacks'))) = inr (short, short')
+  behind_refused e f (inr (inl (short, near, lacks))) (inr (inr (near', holds, y))) = absurd (holds_or_lacks order h all holds lacks)
+  behind_refused e f (inr (inr (near, holds, x))) (inl (read, far)) = absurd (omega (arith, far, near))
+  behind_refused e f (inr (inr (near, holds, x))) (inr (inl (short, near', lacks))) = absurd (holds_or_lacks order h all holds lacks)
+  behind_refused e f (inr (inr (near, holds, x))) (inr (inr (near', holds', y))) = attributes_refused e f x y
+
+-- ---- the file
+
+pub same_cause : (e f : Error) → Alike e f → SameCause e f
+same_cause e f (inl same) = inl same
+same_cause e f (inr short) = inr (inl short)
+
+pub one_refusal : OneRefusalOfFile
+one_refusal p e f (inl (short, few)) y = inr (inl (short, (cut_header p few).0 f y))
+one_refusal p e f (inr (inl (h, has, (far, invalid)))) y = inr (inr (inl (invalid, (far_header p h has far).0 f y)))
+one_refusal p e f (inr (inr (inl (h, (has, near, unknown, is))))) y = inl (is ∙ sym ((other_magic p h has near unknown).0 f y))
+one_refusal p e f (inr (inr (inr x))) (inl (short, few)) = inr (inl ((cut_header p few).0 e (inr (inr (inr x))), short))
+one_refusal p e f (inr (inr (inr x))) (inr (inl (h, has, (far, invalid)))) = inr (inr (inl ((far_header p h has far).0 e (inr (inr (inr x))), invalid)))
+one_refusal p e f (inr (inr (inr x))) (inr (inr (inl (h, (has, near, unknown, is))))) = inl ((other_magic p h has near unknown).0 e (inr (inr (inr x))) ∙ sym is)
+one_refusal p e f (inr (inr (inr (order, (h, is, x))))) (inr (inr (inr (order', (i, is', y))))) =
+    let same = header_one p h i is.has is'.has in
+    let orders : order ≡ order' = same_order order order' (sym is.magic ∙ ap (λ k. k.magic) same ∙ is'.magic) in
+    let here : StopsBehind order' i p.all e = subst (λ k. StopsBehind order' k p.all e) same (subst (λ o. StopsBehind o h p.all e) orders x) in
+    same_cause e f (behind_refused order' i p.all e f here y)

@@ -1,0 +1,218 @@
+-- Two refusals of one pipe have one cause: what an opening meets first is one thing.
+use Rattle.std.proofs.Common.{◌≡◌, ℕ, ◌+◌, ◌-◌, ◌^◌, ◌<◌, ◌≤◌, List, [], ◌∷◌, ◌++◌, length, take, drop, refl, sym, ap, ◌∙◌, subst, inl, inr, arith, length-append, append_assoc, None}
+use Rattle.std.specs.Prelude.{◌⊎◌, All}
+use Rattle.std.specs.List.{concat}
+use Rattle.std.proofs.lemmas.List.Elements.{All-head, All-tail}
+use Rattle.perfdata_base.specs.Numbers.{number_in}
+use Rattle.perfdata_base.specs.declared.raw.Endianness.{Endianness}
+use Rattle.perfdata_base.proofs.Numbers.{in_reads_first}
+use Rattle.perfdata_sections.specs.EventDesc.{NoEventDesc}
+use Rattle.perfdata_sections.specs.declared.error.Error.{Error}
+use Rattle.perfdata_sections.proofs.EventRefusals.{desc_refused}
+use Rattle.linux_perf_data.specs.Attribute.{Breaks}
+use Rattle.linux_perf_data.specs.Late.{Spoils}
+use Rattle.linux_perf_data.specs.Laws.{SameCause, OneRefusalOfPipe}
+use Rattle.linux_perf_data.specs.Layout.{Fronts, attributes_in, kind_of, size_of}
+use Rattle.linux_perf_data.specs.Open.{magic_of}
+use Rattle.linux_perf_data.specs.PipeOpen.{IsPipeHeader, IsMetadataRecord, EndsMetadata, StopsRecord, StopsTold, StopsMetadata, StopsBehindHeader}
+use Rattle.linux_perf_data.specs.Rules.{error_of_breach}
+use Rattle.linux_perf_data.proofs.Heads.{size_front, size_in_extent, record_least, same_front}
+use Rattle.linux_perf_data.proofs.NamesTold.{refused_tells}
+use Rattle.linux_perf_data.proofs.OneFileRefusal.{same_cause}
+use Rattle.linux_perf_data.proofs.OneOpening.{Next, end_stands, next_stands, next_goes_on, same_order, header_long, header_magic, header_size, same_cut}
+use Rattle.linux_perf_data.proofs.Rules.{breach_one}
+use Rattle.linux_perf_data.proofs.Stands.{cut_or_small}
+
+module _ (order : Endianness) where
+  -- ---- what stands behind records of metadata
+
+  spoils_refused : (kind : ℕ) (body : List ℕ) (e f : Error) → Spoils order kind body e → Spoils order kind body f → SameCause e f
+  spoils_refused kind body e f (inl (short, why)) (inl (short', why')) = inr (inl (short, short'))
+  spoils_refused kind body e f (inl (short, inl (is, cut))) (inr (invalid, is', small)) = absurd (cut_or_small order body cut small)
+  spoils_refused kind body e f (inl (short, inr (is, few))) (inr (invalid, is', small)) = absurd (omega (arith, is, is'))
+  spoils_refused kind body e f (inr (invalid, is, small)) (inl (short, inl (is', cut))) = absurd (cut_or_small order body cut small)
+  spoils_refused kind body e f (inr (invalid, is, small)) (inl (short, inr (is', few))) = absurd (omega (arith, is, is'))
+  spoils_refused kind body e f (inr (invalid, is, small)) (inr (invalid', is', small')) = inr (inr (inr (invalid, invalid')))
+
+  -- where a whole record stands, all that its head counts does
+  pub record Counted (offset : ℕ) (behind : List ℕ) : Type 0 where
+    pub least : 8 ≤ size_of order behind
+    pub near : offset + size_of order behind < 2 ^ 64
+    pub there : size_of order behind ≤ length behind
+
+  front_counted : (offset : ℕ) (behind p : List ℕ) → Fronts order offset behind p → Counted offset behind
+  front_counted offset behind p fronts =
+      let head = record_least order p fronts.is_record in
+      let size : size_of order behind ≡ size_of order p = ap (size_of order) fronts.cut ∙ size_front order p fronts.behind head in
+      let least = fronts.is_record.least in
+      let long = fronts.is_record.long in
+      let fits = fronts.fits in
+      let inside = size_in_extent order p in
+      let whole = ap length fronts.cut in
+      record {
+        least = omega (arith, size, least);
+        near = omega (arith, size, long, inside, fits);
+        there = omega (arith, size, long, inside, whole, length-append p fronts.behind);
+      }
+
+  record_refused : (offset : ℕ) (behind : List ℕ) (e f : Error) → StopsRecord order offset behind e → StopsRecord order offset behind f → SameCause e f
+  record_refused offset behind e f (inl (is, head, small)) (inl (is', head', small')) = inl (is ∙ sym is')
+  record_refused offset behind e f (inl (is, head, small)) (inr (inl (is', kind, head', least, far))) = absurd (omega (arith, small, least))
+  record_refused offset behind e f (inl (is, head, small)) (inr (inr (inl (short, kind, head', few)))) = let least = head'.least in absurd (omega (arith, small, least))
+  record_refused offset behind e f (inl (is, head, small)) (inr (inr (inr (p, fronts, spoils)))) = let least = (front_counted offset behind p fronts).least in absurd (omega (arith, small, least))
+  record_refused offset behind e f (inr (inl (is, kind, head, least, far))) (inl (is', head', small)) = absurd (omega (arith, small, least))
+  record_refused offset behind e f (inr (inl (is, kind, head, least, far))) (inr (inl (is', kind', head', least', far'))) = inl (is ∙ sym is')
+  record_refused offset behind e f (inr (inl (is, kind, head, least, far))) (inr (inr (inl (short, kind', head', few)))) = let near = head'.near in absurd (omega (arith, far, near))
+  record_refused offset behind e f (inr (inl (is, kind, head, least, far))) (inr (inr (inr (p, fronts, spoils)))) = let near = (front_counted offset behind p fronts).near in absurd (omega (arith, far, near))
+  record_refused offset behind e f (inr (inr (inl (short, kind, head, few)))) (inl (is, head', small)) = let least = head.least in absurd (omega (arith, small, least))
+  record_refused offset behind e f (inr (inr (inl (short, kind, head, few)))) (inr (inl (is, kind', head', least, far))) = let near = head.near in absurd (omega (arith, far, near))
+  record_refused offset behind e f (inr (inr (inl (short, kind, head, few)))) (inr (inr (inl (short', kind', head', few')))) = inr (inl (short, short'))
+  record_refused offset behind e f (inr (inr (inl (short, kind, head, few)))) (inr (inr (inr (p, fronts, spoils)))) = let there = (front_counted offset behind p fronts).there in absurd (omega (arith, few, there))
+  record_refused offset behind e f (inr (inr (inr (p, fronts, spoils)))) (inl (is, head, small)) = let least = (front_counted offset behind p fronts).least in absurd (omega (arith, small, least))
+  record_refused offset behind e f (inr (inr (inr (p, fronts, spoils)))) (inr (inl (is, kind, head, least, far))) = let near = (front_counted offset behind p fronts).near in absurd (omega (arith, far, near))
+  record_refused offset behind e f (inr (inr (inr (p, fronts, spoils)))) (inr (inr (inl (short, kind, head, few)))) = let there = (front_counted offset behind p fronts).there in absurd (omega (arith, few, there))
+  record_refused offset behind e f (inr (inr (inr (p, fronts, spoils)))) (inr (inr (inr (q, fronts', spoils')))) =
+      let same = (same_front order p q fronts.behind fronts'.behind fronts.is_record fronts'.is_record (sym fronts.cut ∙ fronts'.cut)).0 in
+      spoils_refused (kind_of order q) (drop 8 q) e f (subst (λ r. Spoils order (kind_of order r) (drop 8 r) e) same spoils) spoils'
+
+  told_refused : (ps : List (List ℕ)) (e f : Error) → StopsTold order ps e → StopsTold order ps f → SameCause e f
+  told_refused ps e f (inl (is, none)) (inl (is', none')) = inl (is ∙ sym is')
+  told_refused ps e f (inl (is, none)) (inr (inl (bytes, some, told, refused))) = absurd (some none)
+  told_refused ps e f (inl (is, none)) (inr (inr (b, tells, breaks, is'))) = absurd (subst (λ l. Breaks l b) none breaks)
+  told_refused ps e f (inr (inl (bytes, some, told, refused))) (inl (is, none)) = absurd (some none)
+  told_refused ps e f (inr (inl (bytes, some, told, refused))) (inr (inl (others, some', told', refused'))) =
+      let both = sym told ∙ told' in
+      let same : bytes ≡ others = cc in
+      same_cause e f (desc_refused (number_in order) (in_reads_first order) e f others (subst (λ l. NoEventDesc (number_in order) e l) same refused) refused')
+  told_refused ps e f (inr (inl (bytes, some, told, refused))) (inr (inr (b, tells, breaks, is))) = absurd (refused_tells order e bytes refused (tells bytes told))
+  told_refused ps e f (inr (inr (b, tells, breaks, is))) (inl (is', none)) = absurd (subst (λ l. Breaks l b) none breaks)
+  told_refused ps e f (inr (inr (b, tells, breaks, is))) (inr (inl (bytes, some, told, refused))) = absurd (refused_tells order f bytes refused (tells bytes told))
+  told_refused ps e f (inr (inr (b, tells, breaks, is))) (inr (inr (c, tells', breaks', is'))) =
+      inl (is ∙ ap error_of_breach (breach_one (attributes_in order None ps) b c breaks breaks') ∙ sym is')
+
+  -- ---- two runs of records of metadata
+
+  -- they are the same, or behind one of them another record of metadata stands
+  runs_meet : (offset : ℕ) (ps qs : List (List ℕ)) (behind later : List ℕ) → All (IsMetadataRecord order) ps → All (IsMetadataRecord order) qs → offset + length (concat ps) < 2 ^ 64 → offset + length (concat qs) < 2 ^ 64
+      → concat ps ++ behind ≡ concat qs ++ later → ((ps ≡ qs) × (behind ≡ later)) ⊎ (Next order (offset + length (concat ps)) behind ⊎ Next order (offset + length (concat qs)) later)
+  runs_meet offset [] [] behind later x y fits fits' same = inl (refl, same)
+  runs_meet offset [] (q ∷ qs) behind later x y fits fits' same =
+      inr (inl (record {
+        first = q;
+        after = concat qs ++ later;
+        cut = same ∙ append_assoc q (concat qs) later;
+        is = All-head (IsMetadataRecord order) q qs y;
+        fits = omega (arith, fits', length-append q (concat qs));
+      }))
+  runs_meet offset (p ∷ ps) [] behind later x y fits fits' same =
+      inr (inr (record {
+        first = p;
+        after = concat ps ++ behind;
+        cut = sym same ∙ append_assoc p (concat ps) behind;
+        is = All-head (IsMetadataRecord order) p ps x;
+        fits = omega (arith, fits, length-append p (concat ps));
+      }))
+  runs_meet offset (p ∷ ps) (q ∷ qs) behind later x y fits fits' same =
+      let is = All-head (IsMetadataRecord order) p ps x in
+      let is' = All-head (IsMetadataRecord order) q qs y in
+      let whole : p ++ (concat ps ++ behind) ≡ q ++ (concat qs ++ later) = sym (append_assoc p (concat ps) behind) ∙ same ∙ append_assoc q (concat qs) later in
+      let here = same_front order p q (concat ps ++ behind) (concat qs ++ later) is.is_record is'.is_record whole in
+      let long : length p ≡ length q = ap length here.0 in
+      let near : offset + length p + length (concat ps) < 2 ^ 64 = omega (arith, fits, length-append p (concat ps)) in
+      let near' : offset + length p + length (concat qs) < 2 ^ 64 = omega (arith, fits', long, length-append q (concat qs)) in
+      let sum : offset + length p + length (concat ps) ≡ offset + length (p ++ concat ps) = omega (arith, length-append p (concat ps)) in
+      let sum' : offset + length p + length (concat qs) ≡ offset + length (q ++ concat qs) = omega (arith, long, length-append q (concat qs)) in
+      elim (runs_meet (offset + length p) ps qs behind later (All-tail (IsMetadataRecord order) p ps x) (All-tail (IsMetadataRecord order) q qs y) near near' here.1) [
+        | inl both ↦ inl (ap (λ l. l ∷ ps) here.0 ∙ ap (λ l. q ∷ l) both.0, both.1)
+        | inr (inl next) ↦ inr (inl (subst (λ o. Next order o behind) sum next))
+        | inr (inr next) ↦ inr (inr (subst (λ o. Next order o later) sum' next))
+      ]
+
+  -- what stands behind them is refused, or what they tell
+  abbrev Stops : List (List ℕ) → List ℕ → Error → Type 0
+  Stops ps behind e = StopsRecord order (length (concat ps)) behind e ⊎ (EndsMetadata order behind × StopsTold order ps e)
+
+  next_or_stops : (ps : List (List ℕ)) (behind : List ℕ) (e : Error) → Next order (0 + length (concat ps)) behind → Stops ps behind e → ⊥
+  next_or_stops ps behind e next stops =
+      let z : 0 + length (concat ps) ≡ length (concat ps) = omega arith in
+      let near = subst (λ o. Next order o behind) z next in
+      elim stops as (λ _. ⊥) [
+        | inl here ↦ next_stands order (length (concat ps)) behind e near here
+        | inr told ↦ next_goes_on order (length (concat ps)) behind near told.0
+      ]
+
+  stops_refused : (ps : List (List ℕ)) (behind : List ℕ) (e f : Error) → Stops ps behind e → Stops ps behind f → SameCause e f
+  stops_refused ps behind e f (inl x) (inl y) = record_refused (length (concat ps)) behind e f x y
+  stops_refused ps behind e f (inl x) (inr (ends, y)) = absurd (end_stands order (length (concat ps)) behind e ends x)
+  stops_refused ps behind e f (inr (ends, x)) (inl y) = absurd (end_stands order (length (concat ps)) behind f ends y)
+  stops_refused ps behind e f (inr (ends, x)) (inr (ends', y)) = told_refused ps e f x y
+
+  metadata_refused : (rest : List ℕ) (e f : Error) → StopsMetadata order rest e → StopsMetadata order rest f → SameCause e f
+  metadata_refused rest e f x y =
+      let fits = x.are.fits in
+      let fits' = y.are.fits in
+      elim (runs_meet 0 x.pieces y.pieces x.behind y.behind x.are.are y.are.are (omega (arith, fits)) (omega (arith, fits')) (sym x.cut ∙ y.cut)) as (λ _. SameCause e f) [
+        | inl both ↦
+            let here : Stops y.pieces y.behind e = subst (λ l. Stops y.pieces l e) both.1 (subst (λ ps. Stops ps x.behind e) both.0 x.why) in
+            stops_refused y.pieces y.behind e f here y.why
+        | inr (inl next) ↦ absurd (next_or_stops x.pieces x.behind e next x.why)
+        | inr (inr next) ↦ absurd (next_or_stops y.pieces y.behind f next y.why)
+      ]
+
+-- ---- the pipe
+
+-- what bytes show that begin with a header
+pub record Headed (order : Endianness) (bytes : List ℕ) : Type 0 where
+  pub long : 16 ≤ length bytes
+  pub magic : take 8 bytes ≡ magic_of order
+  pub there : number_in order 8 (drop 8 bytes) ≤ length bytes
+
+headed : (bytes : List ℕ) (e : Error) → (s : StopsBehindHeader bytes e) → Headed s.order bytes
+headed bytes e s =
+    let whole = ap length s.cut in
+    let long = header_long s.order s.header s.is in
+    let size : number_in s.order 8 (drop 8 bytes) ≡ number_in s.order 8 (drop 8 s.header) = ap (λ l. number_in s.order 8 (drop 8 l)) s.cut ∙ header_size s.order s.header s.rest s.is in
+    let counts = s.is.long in
+    record {
+      long = omega (arith, whole, long, length-append s.header s.rest);
+      magic = ap (take 8) s.cut ∙ header_magic s.order s.header s.rest s.is;
+      there = omega (arith, whole, size, counts, length-append s.header s.rest);
+    }
+
+early_or_headed : (bytes : List ℕ) (order : Endianness) (e : Error) → take 8 bytes ≡ magic_of order → length bytes < number_in order 8 (drop 8 bytes) → StopsBehindHeader bytes e → ⊥
+early_or_headed bytes order e magic few s =
+    let h = headed bytes e s in
+    let same : order ≡ s.order = same_order order s.order (sym magic ∙ h.magic) in
+    let cut : length bytes < number_in s.order 8 (drop 8 bytes) = subst (λ o. length bytes < number_in o 8 (drop 8 bytes)) same few in
+    let there = h.there in
+    omega (arith, cut, there)
+
+header_refused : (bytes : List ℕ) (e f : Error) → StopsBehindHeader bytes e → StopsBehindHeader bytes f → SameCause e f
+header_refused bytes e f x y =
+    let orders : x.order ≡ y.order = same_order x.order y.order (sym (headed bytes e x).magic ∙ (headed bytes f y).magic) in
+    let is : IsPipeHeader y.order x.header = subst (λ o. IsPipeHeader o x.header) orders x.is in
+    let whole : x.header ++ x.rest ≡ y.header ++ y.rest = sym x.cut ∙ y.cut in
+    let size : number_in y.order 8 (drop 8 x.header) ≡ number_in y.order 8 (drop 8 y.header) =
+    sym (header_size y.order x.header x.rest is) ∙ ap (λ l. number_in y.order 8 (drop 8 l)) whole ∙ header_size y.order y.header y.rest y.is in
+    let long : length x.header ≡ length y.header = is.long ∙ ap (λ n. 16 + (n - 16)) size ∙ sym y.is.long in
+    let cut = same_cut x.header x.rest y.header y.rest long whole in
+    let here : StopsMetadata y.order y.rest e = subst (λ l. StopsMetadata y.order l e) cut.1 (subst (λ o. StopsMetadata o x.rest e) orders x.stops) in
+    metadata_refused y.order y.rest e f here y.stops
+
+pub one_refusal : OneRefusalOfPipe
+one_refusal bytes e f (inl (short, few)) (inl (short', few')) = inr (inl (short, short'))
+one_refusal bytes e f (inl (short, few)) (inr (inl (is, long, unknown))) = absurd (omega (arith, few, long))
+one_refusal bytes e f (inl (short, few)) (inr (inr (inl (order, is, long, magic, early)))) = absurd (omega (arith, few, long))
+one_refusal bytes e f (inl (short, few)) (inr (inr (inr y))) = let long = (headed bytes f y).long in absurd (omega (arith, few, long))
+one_refusal bytes e f (inr (inl (is, long, unknown))) (inl (short, few)) = absurd (omega (arith, few, long))
+one_refusal bytes e f (inr (inl (is, long, unknown))) (inr (inl (is', long', unknown'))) = inl (is ∙ sym is')
+one_refusal bytes e f (inr (inl (is, long, unknown))) (inr (inr (inl (order, is', long', magic, early)))) = absurd (unknown order magic)
+one_refusal bytes e f (inr (inl (is, long, unknown))) (inr (inr (inr y))) = absurd (unknown y.order (headed bytes f y).magic)
+one_refusal bytes e f (inr (inr (inl (order, is, long, magic, early)))) (inl (short, few)) = absurd (omega (arith, few, long))
+one_refusal bytes e f (inr (inr (inl (order, is, long, magic, early)))) (inr (inl (is', long', unknown))) = absurd (unknown order magic)
+one_refusal bytes e f (inr (inr (inl (order, is, long, magic, early)))) (inr (inr (inl (order', is', long', magic', early')))) = inl (is ∙ sym is')
+one_refusal bytes e f (inr (inr (inl (order, is, long, magic, early)))) (inr (inr (inr y))) = absurd (early_or_headed bytes order f magic early y)
+one_refusal bytes e f (inr (inr (inr x))) (inl (short, few)) = let long = (headed bytes e x).long in absurd (omega (arith, few, long))
+one_refusal bytes e f (inr (inr (inr x))) (inr (inl (is, long, unknown))) = absurd (unknown x.order (headed bytes e x).magic)
+one_refusal bytes e f (inr (inr (inr x))) (inr (inr (inl (order, is, long, magic, early)))) = absurd (early_or_headed bytes order e magic early x)
+one_refusal bytes e f (inr (inr (inr x))) (inr (inr (inr y))) = header_refused bytes e f x y
