@@ -151,15 +151,15 @@ FarHeader = (p : Place) (h : PerfHeader) → HasHeader p h → 104 + 2 ^ 63 ≤ 
 abbrev pub OtherMagic : Type 0
 OtherMagic = (p : Place) (h : PerfHeader) → HasHeader p h → CanPass h → ((order : Endianness) → h.magic ≢ magic_of order) → RefusedAs p (λ e. e ≡ UnrecognizedMagicValue h.magic)
 
--- two refusals have one cause: they are the same error, or I/O errors that say the same, that bytes ended early, that what stands there asks for
--- what can't be done, or that it has no meaning
+-- two refusals have one cause: they are the same error, or both are I/O errors of one kind: bytes end early, or what stands there asks for what
+-- can't be done, or it has no meaning
 abbrev pub SameCause : Error → Error → Type 0
 SameCause e f = (e ≡ f) ⊎ ((IsShort e × IsShort f) ⊎ ((IsInvalidInput e × IsInvalidInput f) ⊎ (IsInvalidData e × IsInvalidData f)))
 
--- two refusals of one file have one cause
+-- two refusals that are true of one file have one cause
 abbrev pub OneRefusalOfFile : Type 0
 OneRefusalOfFile = (p : Place) (e f : Error) → StopsFile p e → StopsFile p f → SameCause e f
 
--- and so have two of one pipe
+-- and so have two that are true of one pipe
 abbrev pub OneRefusalOfPipe : Type 0
 OneRefusalOfPipe = (bytes : List ℕ) (e f : Error) → StopsPipe bytes e → StopsPipe bytes f → SameCause e f
