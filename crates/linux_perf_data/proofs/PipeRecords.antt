@@ -12,7 +12,7 @@ use Rattle.linux_perf_data.specs.Attribute.{HoldsAttribute}
 use Rattle.linux_perf_data.specs.Late.{IsMetadata, Spoils}
 use Rattle.linux_perf_data.specs.Layout.{IsCompressed, IsRecord, kind_of, size_of}
 use Rattle.linux_perf_data.specs.PipeOpen.{Refused, StopsRecord}
-use Rattle.linux_perf_data.specs.PipeParts.{Gathered, StopsContents, TookNext, TookMetadata}
+use Rattle.linux_perf_data.specs.PipeParts.{Gathered, StopsContents, TookNext, GatheredRecord}
 use Rattle.linux_perf_data.specs.declared.pipe_opening.Metadata.{Metadata}
 use Rattle.linux_perf_data.proofs.Heads.{kind_front, size_front, extent_plain}
 use Rattle.linux_perf_data.proofs.Pieces.{behind_head}
@@ -87,7 +87,7 @@ module _ (order : Endianness) (bytes : List ℕ) (head : PerfEventHeader) (is : 
     record_refused a b c offset e gave r = refused_later (StopsContents order offset head) (StopsRecord order offset) a b c bytes e gave r (λ xs stops. contents_stop offset e xs stops)
 
     -- a record of metadata came
-    pub record_took : (a b c : State) (offset end : ℕ) (m m' : Metadata) → Gave a bytes b → TookMetadata order offset head b m end c m' → TookNext order offset a m end c m'
+    pub record_took : (a b c : State) (offset end : ℕ) (m m' : Metadata) → Gave a bytes b → GatheredRecord order offset head b m end c m' → TookNext order offset a m end c m'
     record_took a b c offset end m m' gave t =
         let body = t.body in
         let long = t.took.long in

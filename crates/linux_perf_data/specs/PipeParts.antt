@@ -79,7 +79,7 @@ module _ (order : Endianness) where
   -- ---- a record
 
   -- what belongs to a head came, and was put to what was told
-  pub record TookMetadata (offset : ℕ) (head : PerfEventHeader) (old : State) (m : Metadata) (end : ℕ) (new : State) (m' : Metadata) : Type 0 where
+  pub record GatheredRecord (offset : ℕ) (head : PerfEventHeader) (old : State) (m : Metadata) (end : ℕ) (new : State) (m' : Metadata) : Type 0 where
     pub body : List ℕ
     pub took : TookBytes old (head.size - 8) body new
     pub ends : end ≡ offset + head.size
@@ -93,9 +93,9 @@ module _ (order : Endianness) where
       ⊎ ((IsShort e × (offset + head.size < 2 ^ 64) × (length xs < head.size - 8))
       ⊎ ((offset + head.size < 2 ^ 64) × ((body : List ℕ) × (rest : List ℕ) × (xs ≡ body ++ rest) × (length body ≡ head.size - 8) × Spoils order head.type_ body e)))
 
-  abbrev pub TakesMetadata : ℕ → PerfEventHeader → State → Metadata → Result ℕ Error → State → Metadata → Type 0
-  TakesMetadata offset head old m (Ok end) new m' = TookMetadata offset head old m end new m'
-  TakesMetadata offset head old m (Err e) new m' = Refused (StopsContents offset head) old e new
+  abbrev pub GathersRecord : ℕ → PerfEventHeader → State → Metadata → Result ℕ Error → State → Metadata → Type 0
+  GathersRecord offset head old m (Ok end) new m' = GatheredRecord offset head old m end new m'
+  GathersRecord offset head old m (Err e) new m' = Refused (StopsContents offset head) old e new
 
   -- a record of metadata came, and was put to what was told
   pub record TookNext (offset : ℕ) (old : State) (m : Metadata) (end : ℕ) (new : State) (m' : Metadata) : Type 0 where

@@ -4,7 +4,7 @@ ghost use Rattle.linux_perf_data.specs.Late.{IsMetadata};
 ghost use Rattle.perfdata_base.specs.Source.{PausesOnce};
 ghost use Rattle.linux_perf_data.specs.Pauses.{PausesTaken, PausesMetadata, PausesOpening};
 ghost use Rattle.linux_perf_data.specs.PipeOpen.{ReadsPipe};
-ghost use Rattle.linux_perf_data.specs.PipeParts.{Finishes, Gathers, OpensBehind, ParsesAttribute, ParsesFeature, ReadsMetadata, TakesBody, TakesNext, TakesMetadata, Tells, TellsRefusal, TestsMetadata};
+ghost use Rattle.linux_perf_data.specs.PipeParts.{Finishes, Gathers, OpensBehind, ParsesAttribute, ParsesFeature, ReadsMetadata, TakesBody, TakesNext, GathersRecord, Tells, TellsRefusal, TestsMetadata};
 
 use crate::input::read_eight;
 use crate::names::name_all;
@@ -203,7 +203,7 @@ fn take_record<R: Source>(
 ) -> Result<u64, Error>
     requires size { 8 ≤ head.size }
     requires metadata { IsMetadata head.type_ }
-    ensures takes { TakesMetadata endian offset head (R.seen source.old) metadata.old result (R.seen source.new) metadata.new }
+    ensures takes { GathersRecord endian offset head (R.seen source.old) metadata.old result (R.seen source.new) metadata.new }
     ensures pauses { PausesOnce (R.seen source.old) result (R.seen source.new) }
     ensures lent { R.lent source.new ≡ R.lent source.old }
 {
