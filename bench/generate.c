@@ -14,6 +14,7 @@
 //   attributes   a file with SIZE attributes in its attribute section, and one sample
 //   types        a file with SIZE event types and an identifier of each, and one sample
 //   jit          a jitdump of loads, moves and debug info
+//   jit-one      a jitdump of one load of SIZE bytes
 #include "bytes.h"
 #include <stdio.h>
 #include <stdlib.h>
@@ -382,14 +383,29 @@ static size_t put_move(unsigned char *at, uint64_t number) {
     return 64;
 }
 
-static void write_jit(uint64_t wanted) {
-    unsigned char header[40] = "DTiJ";
+enum { JIT_HEADER = 40 };
+
+static void write_jit_header(void) {
+    unsigned char header[JIT_HEADER] = "DTiJ";
     put(header + 4, 1, 4);
     put(header + 8, sizeof header, 4);
     put(header + 12, 62, 4);
     put(header + 20, 7, 4);
     write_bytes(header, sizeof header);
-    uint64_t state = 1, size = sizeof header;
+}
+
+static void write_jit_one(uint64_t size) {
+    unsigned char record[64] = {0};
+    write_jit_header();
+    put_jit_head(record, 0, size, 1000000000);
+    put(record + 40, size - 57, 8);
+    write_bytes(record, sizeof record);
+    for (uint64_t written = sizeof record; written < size; written++) write_bytes("", 1);
+}
+
+static void write_jit(uint64_t wanted) {
+    write_jit_header();
+    uint64_t state = 1, size = JIT_HEADER;
     for (uint64_t number = 0; size < wanted; number++) {
         static unsigned char record[32768];
         uint64_t choice = next(&state) % 8, kind = choice < 5 ? 0 : choice < 7 ? 2 : 1;
@@ -405,7 +421,7 @@ int main(int argc, char **argv) {
         {"one", write_one}, {"small", write_small}, {"events", write_events}, {"pipe", write_pipe}, {"pipe-events", write_pipe_events},
         {"late", write_late}, {"late-named", write_late_named}, {"described", write_described}, {"opening", write_opening},
         {"ids-up", write_ids_up}, {"ids-down", write_ids_down}, {"single-up", write_single_up}, {"single-down", write_single_down},
-        {"attributes", write_attribute_section}, {"types", write_types}, {"jit", write_jit},
+        {"attributes", write_attribute_section}, {"types", write_types}, {"jit", write_jit}, {"jit-one", write_jit_one},
     };
     if (argc != 4) return 1;
     out = fopen(argv[2], "wb");

@@ -2,16 +2,24 @@
 use Rattle.std.proofs.Common.{◌≡◌, ℕ, ◌+◌, ◌<◌, ◌≤◌, List, [], ◌∷◌, ◌++◌, length, refl, sym, ap, ◌∙◌, subst, inl, inr, true, false, arith, length-append, append_assoc, append-nil, None, Some}
 use Rattle.std.specs.Prelude.{Err, Option, String, string_bytes, nat_eq, cond}
 use Rattle.std.specs.Option.{option_map}
+use Rattle.std.specs.BTreeMap.{BTreeMap, IsOrdered, get as get_kept}
 use Rattle.std.specs.Map.{lookup, update, update_all}
 use Rattle.std.specs.declared.alloc.Global.{Global}
 use Rattle.std.specs.declared.io.Error.{Error}
 use Rattle.std.proofs.lemmas.List.Elements.{filter_map-append}
 use Rattle.std.proofs.lemmas.List.Sums.{fold_push}
-use Rattle.std.specs.List.Sorted.{IsSorted}
-use Rattle.std.specs.Ordering.{nat_cmp}
-use Rattle.std.proofs.lemmas.List.Sorted.{IsNonDecreasingBy-from_sort}
-use Rattle.std.proofs.lemmas.Map.Keys.{IsStrictlyIncreasing-from_distinct}
-use Rattle.indexmap.specs.IndexMap.{IndexMap, get, keys, IsUnique}
+use Rattle.std.specs.Cmp.{unsigned_tied}
+use Rattle.std.specs.Ordering.{is_eq, nat_cmp}
+use Rattle.std.specs.Cmp.{ranks}
+use Rattle.std.specs.List.{AllByRecursion}
+use Rattle.std.specs.List.Sorted.{IsStrictlySortedBy}
+use Rattle.std.specs.Map.{keys_of}
+use Rattle.std.specs.Ordering.{MatchOrdering}
+use Rattle.std.specs.declared.cmp.Ordering.TheVariants.{Less}
+use Rattle.std.proofs.lemmas.Bool.{ne_eqb}
+use Rattle.std.proofs.lemmas.Map.Keys.{IsStrictlyIncreasing-from_sorted, sorted_head, sorted_tail}
+use Rattle.indexmap.specs.IndexMap.{IndexMap, keys, insert_entry}
+use Rattle.indexmap.proofs.CallerLemmas.{insert_entry-new}
 use Rattle.perfdata_sections.specs.declared.feature_sections.pmu.PmuMappings.{PmuMappings}
 use Rattle.perfdata_base.specs.Source.{State, Gave, CutShort}
 use Rattle.perfdata_base.specs.declared.source.AppendFault.{AppendFault}
@@ -20,8 +28,48 @@ use Rattle.perfdata_base.proofs.Gives.{gave_more, gave_none, gave_none_later, fa
 use Rattle.perfdata_base.proofs.Numbers.{ReadsFirst}
 use Rattle.perfdata_sections.specs.Part.{Took, CameSome, Stopped}
 use Rattle.perfdata_sections.specs.Strings.{IsStringOf, IsCutString, ReadsString}
-use Rattle.perfdata_sections.specs.Pmu.{PmuUnit, named, last_name, unit_name, IsUnit, IsCutUnit, AreUnits, CutUnits, IsPmuSection, IsPmuSectionOf, IsCutPmuSection, IsInPmuSection, ReadsUnit, TookUnits, ReadsUnits, ReadsPmus}
+use Rattle.perfdata_sections.specs.Pmu.{PmuUnit, named, last_name, kept_name, OrdersUnits, IsUnit, IsCutUnit, AreUnits, CutUnits, IsPmuSection, IsPmuSectionOf, IsCutPmuSection, IsInPmuSection, ReadsUnit, TookUnits, ReadsUnits, ReadsPmus}
 use Rattle.perfdata_sections.proofs.Parts.{drop_front, stopped_at_once}
+
+-- ---- the names by their numbers, ascending
+
+-- two numbers compare as equal where they are one
+same_number : (k q : ℕ) → is_eq (nat_cmp k q) ≡ nat_eq k q
+same_number k q = unsigned_tied k q
+
+-- what holds of each number holds of the one behind a front
+behind_front : {X : Type 0} (P : ℕ → Type 0) (es rest : List (ℕ × X)) (k : ℕ) (x : X) → AllByRecursion P (keys_of (es ++ (k, x) ∷ rest)) → P k
+behind_front P [] rest k x all = all.0
+behind_front P (e ∷ es) rest k x all = behind_front P es rest k x all.1
+
+-- a number that is above another isn't that one
+apart : (low high : ℕ) → nat_cmp low high ≡ Less → nat_eq high low ≡ false
+apart low high less = ne_eqb high low (λ same. let below = subst (λ r. MatchOrdering r (low < high) (low ≡ high) (high < low)) less (ranks low high) in absurd (omega arith))
+
+-- a number that comes later isn't in front of its place
+not_in_front : {X : Type 0} (es rest : List (ℕ × X)) (k : ℕ) (x : X) → IsStrictlySortedBy nat_cmp (keys_of (es ++ (k, x) ∷ rest)) → lookup (nat_eq k) es ≡ None
+not_in_front [] rest k x up = refl
+not_in_front (e ∷ es) rest k x up =
+    ap (λ b. cond b (Some e.1) (lookup (nat_eq k) es)) (apart e.0 k (behind_front (λ y. nat_cmp e.0 y ≡ Less) es rest k x (sorted_head nat_cmp e.0 (keys_of (es ++ (k, x) ∷ rest)) up)))
+    ∙ not_in_front es rest k x (sorted_tail nat_cmp e.0 (keys_of (es ++ (k, x) ∷ rest)) up)
+
+-- one more name in front
+pub names_ordered : {S : Type 0} (all rest : List (ℕ × String Global)) (m new : IndexMap ℕ (String Global) S) (k : ℕ) (name : String Global) → IsStrictlySortedBy nat_cmp (keys_of all)
+    → m.entries ++ (k, name) ∷ rest ≡ all → new.entries ≡ insert_entry nat_eq m.entries k name → new.entries ++ rest ≡ all
+names_ordered all rest m new k name up is put =
+    ap (λ es. es ++ rest) (put ∙ insert_entry-new nat_eq m k name (not_in_front m.entries rest k name (subst (λ es. IsStrictlySortedBy nat_cmp (keys_of es)) (sym is) up)))
+    ∙ append_assoc m.entries ((k, name) ∷ []) rest ∙ is
+
+-- all names in order
+pub orders_units : {S : Type 0} (kept : BTreeMap ℕ (String Global)) (m : IndexMap ℕ (String Global) S) → IsOrdered nat_cmp kept → m.entries ≡ kept.entries → OrdersUnits kept m
+orders_units kept m up is = record {
+  ascends = IsStrictlyIncreasing-from_sorted (keys m) (subst (λ es. IsStrictlySortedBy nat_cmp (keys_of es)) (sym is) up);
+  names = λ k. ap (option_map string_bytes) (ap (lookup (nat_eq k)) is ∙ same_lookup k kept.entries);
+}
+  where
+    same_lookup : (k : ℕ) (es : List (ℕ × String Global)) → lookup (nat_eq k) es ≡ lookup (λ q. is_eq (nat_cmp k q)) es
+    same_lookup k [] = refl
+    same_lookup k (e ∷ es) = ap (λ b. cond b (Some e.1) (lookup (nat_eq k) es)) (sym (same_number k e.0)) ∙ ap (cond (is_eq (nat_cmp k e.0)) (Some e.1)) (same_lookup k es)
 
 -- what ended early behind a front, as a part of the whole
 pub stopped_more : (IsCut IsCutRest : List ℕ → Type 0) (a b c : State) (front : List ℕ) (e : Error) → Gave a front b → Stopped IsCutRest b e c
@@ -55,11 +103,12 @@ pub last_unnamed : (us : List PmuUnit) (k q : ℕ) → last_name (us ++ (k, None
 last_unnamed us k q =
     ap (λ l. update_all nat_eq (λ _. None) l q) (filter_map-append (λ u. option_map (λ n. (u.0, n)) u.1) us ((k, None) ∷ []) ∙ append-nil (named us))
 
-pub names_push : {S : Type 0} (old new : IndexMap ℕ (String Global) S) (us : List PmuUnit) (k : ℕ) (name : String Global) → ((q : ℕ) → unit_name old q ≡ last_name us q)
-    → ((q : ℕ) → get nat_eq new q ≡ cond (nat_eq k q) (Some name) (get nat_eq old q)) → (q : ℕ) → unit_name new q ≡ last_name (us ++ (k, Some (string_bytes name)) ∷ []) q
+pub names_push : (old new : BTreeMap ℕ (String Global)) (us : List PmuUnit) (k : ℕ) (name : String Global) → ((q : ℕ) → kept_name old q ≡ last_name us q)
+    → ((q : ℕ) → get_kept nat_cmp new q ≡ cond (is_eq (nat_cmp k q)) (Some name) (get_kept nat_cmp old q)) → (q : ℕ) → kept_name new q ≡ last_name (us ++ (k, Some (string_bytes name)) ∷ []) q
 names_push old new us k name before updates q =
     ap (option_map string_bytes) (updates q)
-    ∙ elim (nat_eq k q) as (λ b. option_map string_bytes (cond b (Some name) (get nat_eq old q)) ≡ cond b (Some (string_bytes name)) (last_name us q)) [ true ↦ refl | false ↦ before q ]
+    ∙ ap (λ b. option_map string_bytes (cond b (Some name) (get_kept nat_cmp old q))) (same_number k q)
+    ∙ elim (nat_eq k q) as (λ b. option_map string_bytes (cond b (Some name) (get_kept nat_cmp old q)) ≡ cond b (Some (string_bytes name)) (last_name us q)) [ true ↦ refl | false ↦ before q ]
     ∙ sym (last_push us k (string_bytes name) q)
 
 module _ (number : ℕ → List ℕ → ℕ) (first : ReadsFirst number) where
@@ -94,12 +143,12 @@ module _ (number : ℕ → List ℕ → ℕ) (first : ReadsFirst number) where
   units_push front p (v ∷ us) u (one, rest, cut, is_one, are) is =
       (one, rest ++ p, ap (λ l. l ++ p) cut ∙ append_assoc one rest p, is_one, units_push rest p us u are is)
 
-  pub units_none : {S : Type 0} (a : State) (m : IndexMap ℕ (String Global) S) → m.entries ≡ [] → TookUnits number 0 a m a
-  units_none a m empty = record { units = []; bytes = []; long = refl; gave = gave_none a; are = refl; names = λ k. ap (λ es. option_map string_bytes (lookup (nat_eq k) es)) empty }
+  pub units_none : (a : State) (m : BTreeMap ℕ (String Global)) → m.entries ≡ [] → TookUnits number 0 a m a
+  units_none a m empty = record { units = []; bytes = []; long = refl; gave = gave_none a; are = refl; names = λ k. ap (λ es. option_map string_bytes (lookup (λ q. is_eq (nat_cmp k q)) es)) empty }
 
   -- one more
-  pub units_more : {S : Type 0} (i : ℕ) (a b c : State) (m new : IndexMap ℕ (String Global) S) (u : PmuUnit) → TookUnits number i a m b → Took (IsUnit number) b u c
-      → ((us : List PmuUnit) → ((q : ℕ) → unit_name m q ≡ last_name us q) → (q : ℕ) → unit_name new q ≡ last_name (us ++ u ∷ []) q) → TookUnits number (i + 1) a new c
+  pub units_more : (i : ℕ) (a b c : State) (m new : BTreeMap ℕ (String Global)) (u : PmuUnit) → TookUnits number i a m b → Took (IsUnit number) b u c
+      → ((us : List PmuUnit) → ((q : ℕ) → kept_name m q ≡ last_name us q) → (q : ℕ) → kept_name new q ≡ last_name (us ++ u ∷ []) q) → TookUnits number (i + 1) a new c
   units_more i a b c m new u took one keeps = record {
     units = took.units ++ u ∷ [];
     bytes = took.bytes ++ one.bytes;
@@ -110,8 +159,8 @@ module _ (number : ℕ → List ℕ → ℕ) (first : ReadsFirst number) where
   }
 
   -- the next unit was refused
-  pub units_refused : {S : Type 0} (i count : ℕ) (a b c : State) (m : IndexMap ℕ (String Global) S) (fault : AppendFault) → i < count → TookUnits number i a m b → ReadsUnit number b (Err fault) c
-      → ReadsUnits number {S = S} count a (Err fault) c
+  pub units_refused : (i count : ℕ) (a b c : State) (m : BTreeMap ℕ (String Global)) (fault : AppendFault) → i < count → TookUnits number i a m b → ReadsUnit number b (Err fault) c
+      → ReadsUnits number count a (Err fault) c
   units_refused i count a b c m Memory low took some =
       some_more (CutUnits number (count + 1)) (IsCutUnit number) a b c took.bytes took.gave some (λ part cut.
       let long = took.long in record { units = took.units; front = took.bytes; rest = part; few = omega arith; is = refl; are = took.are; cut = cut })
@@ -120,7 +169,7 @@ module _ (number : ℕ → List ℕ → ℕ) (first : ReadsFirst number) where
       let long = took.long in record { units = took.units; front = took.bytes; rest = part; few = omega arith; is = refl; are = took.are; cut = cut })
 
   -- there was no memory for what units tell
-  pub units_some : {S : Type 0} (i count : ℕ) (a b : State) (m : IndexMap ℕ (String Global) S) → i ≤ count → TookUnits number i a m b → CameSome (CutUnits number (count + 1)) a b
+  pub units_some : (i count : ℕ) (a b : State) (m : BTreeMap ℕ (String Global)) → i ≤ count → TookUnits number i a m b → CameSome (CutUnits number (count + 1)) a b
   units_some i count a b m low took =
       let long = took.long in record {
         bytes = took.bytes;
@@ -129,7 +178,7 @@ module _ (number : ℕ → List ℕ → ℕ) (first : ReadsFirst number) where
       }
 
   -- nor for one more
-  pub units_unkept : {S : Type 0} (i count : ℕ) (a b c : State) (m : IndexMap ℕ (String Global) S) (u : PmuUnit) → i < count → TookUnits number i a m b → Took (IsUnit number) b u c
+  pub units_unkept : (i count : ℕ) (a b c : State) (m : BTreeMap ℕ (String Global)) (u : PmuUnit) → i < count → TookUnits number i a m b → Took (IsUnit number) b u c
       → CameSome (CutUnits number (count + 1)) a c
   units_unkept i count a b c m u low took one =
       let long = took.long in record {
@@ -151,13 +200,13 @@ module _ (number : ℕ → List ℕ → ℕ) (first : ReadsFirst number) where
   pub section_head_cut : (a b : State) (e : Error) → CutShort a 4 e b → Stopped (IsCutPmuSection number) a e b
   section_head_cut a b e cut = stopped_at_once (IsCutPmuSection number) a b 4 e cut (λ part few enough. absurd (omega arith))
 
-  pub section_refused : (S : Type 0) (a b c : State) (head : List ℕ) (count : ℕ) (fault : AppendFault) → length head ≡ 4 → count ≡ number 4 head → Gave a head b
-      → ReadsUnits number {S = S} count b (Err fault) c → ReadsPmus number a (Err fault) c
-  section_refused S a b c head count Memory long says before some = some_more (IsInPmuSection number) (CutUnits number (count + 1)) a b c head before some (λ part cut _.
+  pub section_refused : (a b c : State) (head : List ℕ) (count : ℕ) (fault : AppendFault) → length head ≡ 4 → count ≡ number 4 head → Gave a head b
+      → ReadsUnits number count b (Err fault) c → ReadsPmus number a (Err fault) c
+  section_refused a b c head count Memory long says before some = some_more (IsInPmuSection number) (CutUnits number (count + 1)) a b c head before some (λ part cut _.
       let same = first 4 head part (omega arith) in
       let all : count + 1 ≡ number 4 (head ++ part) + 1 = omega arith in
       subst (CutUnits number (number 4 (head ++ part) + 1)) (sym (drop_front 4 head part long)) (subst (λ n. CutUnits number n part) all cut))
-  section_refused S a b c head count (Source e) long says before stopped = stopped_more (IsCutPmuSection number) (CutUnits number count) a b c head e before stopped (λ part cut _.
+  section_refused a b c head count (Source e) long says before stopped = stopped_more (IsCutPmuSection number) (CutUnits number count) a b c head e before stopped (λ part cut _.
       let same = first 4 head part (omega arith) in
       let all : count ≡ number 4 (head ++ part) = omega arith in
       subst (CutUnits number (number 4 (head ++ part))) (sym (drop_front 4 head part long)) (subst (λ n. CutUnits number n part) all cut))
@@ -171,22 +220,19 @@ module _ (number : ℕ → List ℕ → ℕ) (first : ReadsFirst number) where
       }
 
   -- no memory for the map in order
-  pub section_some : {S : Type 0} (a b c : State) (head : List ℕ) (count : ℕ) (m : IndexMap ℕ (String Global) S) → length head ≡ 4 → count ≡ number 4 head → Gave a head b → TookUnits number count b m c
+  pub section_some : (a b c : State) (head : List ℕ) (count : ℕ) (m : BTreeMap ℕ (String Global)) → length head ≡ 4 → count ≡ number 4 head → Gave a head b → TookUnits number count b m c
       → CameSome (IsInPmuSection number) a c
-  section_some {S} a b c head count m long says before took =
-      section_refused S a b c head count Memory long says before (units_some count count b c m (omega arith) took)
+  section_some a b c head count m long says before took =
+      section_refused a b c head count Memory long says before (units_some count count b c m (omega arith) took)
 
-  pub section_took : {S : Type 0} (a b c : State) (head : List ℕ) (count : ℕ) (m : IndexMap ℕ (String Global) S) (sorted : PmuMappings) → length head ≡ 4 → count ≡ number 4 head → Gave a head b
-      → TookUnits number count b m c → IsSorted nat_cmp (keys sorted.0) → IsUnique nat_eq sorted.0 → ((q : ℕ) → get nat_eq sorted.0 q ≡ get nat_eq m q) → Took (IsPmuSectionOf number) a sorted c
-  section_took a b c head count m sorted long says before took up unique same = record {
+  pub section_took : (a b c : State) (head : List ℕ) (count : ℕ) (m : BTreeMap ℕ (String Global)) (ordered : PmuMappings) → length head ≡ 4 → count ≡ number 4 head → Gave a head b
+      → TookUnits number count b m c → OrdersUnits m ordered.0 → Took (IsPmuSectionOf number) a ordered c
+  section_took a b c head count m ordered long says before took orders = record {
     bytes = head ++ took.bytes;
     gave = gave_more a b c head took.bytes before took.gave;
     is = (
       took.units,
       section_is head took.bytes count took.units long says took.long took.are,
-      record {
-        ascends = IsStrictlyIncreasing-from_distinct (keys sorted.0) (IsNonDecreasingBy-from_sort (λ x. x) (keys sorted.0) up) unique;
-        names = λ k. ap (option_map string_bytes) (same k) ∙ took.names k;
-      },
+      record { ascends = orders.ascends; names = λ k. orders.names k ∙ took.names k },
     );
   }

@@ -1,9 +1,11 @@
 -- The list of performance monitoring units: a count of four bytes, and for each a number of four bytes and a string, its name.
+use Rattle.std.specs.BTreeMap.{BTreeMap, get as get_kept}
 use Rattle.std.specs.Prelude.{◌≡◌, ℕ, ◌+◌, ◌<◌, ◌≤◌, ◌++◌, ◌⊎◌, List, [], ◌∷◌, length, drop, filter_map, nat_eq, Option, None, Result, Ok, Err, String, string_bytes}
 use Rattle.std.specs.IoError.{error_kind}
 use Rattle.std.specs.List.Sorted.{IsStrictlyIncreasing}
 use Rattle.std.specs.Map.{update_all}
 use Rattle.std.specs.Option.{option_map}
+use Rattle.std.specs.Ordering.{nat_cmp}
 use Rattle.std.specs.declared.alloc.Global.{Global}
 use Rattle.std.specs.declared.io.Error.{Error}
 use Rattle.std.specs.declared.io.ErrorKind.TheVariants.{OutOfMemory}
@@ -31,10 +33,19 @@ last_name us = update_all nat_eq (λ _. None) (named us)
 abbrev pub unit_name : {S : Type 0} → IndexMap ℕ (String Global) S → ℕ → Option (List ℕ)
 unit_name m k = option_map string_bytes (get nat_eq m k)
 
--- Where a map has the last of each number's names, it has so with one unit more; or there was no memory for it.
-abbrev pub KeepsUnit : {S A : Type 0} → IndexMap ℕ (String Global) S → PmuUnit → Result A AppendFault → IndexMap ℕ (String Global) S → Type 0
-KeepsUnit old u (Ok _) new = (us : List PmuUnit) → ((q : ℕ) → unit_name old q ≡ last_name us q) → (q : ℕ) → unit_name new q ≡ last_name (us ++ u ∷ []) q
+-- the name that is kept of a number while the units are read
+abbrev pub kept_name : BTreeMap ℕ (String Global) → ℕ → Option (List ℕ)
+kept_name m k = option_map string_bytes (get_kept nat_cmp m k)
+
+-- Where the last of each number's names is kept, it is so with one unit more; or there was no memory for it.
+abbrev pub KeepsUnit : {A : Type 0} → BTreeMap ℕ (String Global) → PmuUnit → Result A AppendFault → BTreeMap ℕ (String Global) → Type 0
+KeepsUnit old u (Ok _) new = (us : List PmuUnit) → ((q : ℕ) → kept_name old q ≡ last_name us q) → (q : ℕ) → kept_name new q ≡ last_name (us ++ u ∷ []) q
 KeepsUnit old u (Err fault) new = fault ≡ Memory
+
+-- a map that ascends by the numbers and has the names that were kept
+pub record OrdersUnits {S : Type 0} (kept : BTreeMap ℕ (String Global)) (m : IndexMap ℕ (String Global) S) : Type 0 where
+  pub ascends : IsStrictlyIncreasing (keys m)
+  pub names : (k : ℕ) → unit_name m k ≡ kept_name kept k
 
 -- a map that ascends by the units' numbers, each number once with the last of its names
 pub record MapsUnits {S : Type 0} (m : IndexMap ℕ (String Global) S) (us : List PmuUnit) : Type 0 where
@@ -89,17 +100,17 @@ module _ (number : ℕ → List ℕ → ℕ) where
   ReadsUnit old (Err Memory) new = CameSome IsCutUnit old new
   ReadsUnit old (Err (Source e)) new = Stopped IsCutUnit old e new
 
-  -- so many units came, and a map has the last of each number's names
-  pub record TookUnits {S : Type 0} (count : ℕ) (old : State) (m : IndexMap ℕ (String Global) S) (new : State) : Type 0 where
+  -- so many units came, and the last of each number's names is kept
+  pub record TookUnits (count : ℕ) (old : State) (m : BTreeMap ℕ (String Global)) (new : State) : Type 0 where
     pub units : List PmuUnit
     pub bytes : List ℕ
     pub long : length units ≡ count
     pub gave : Gave old bytes new
     pub are : AreUnits bytes units
-    pub names : (k : ℕ) → unit_name m k ≡ last_name units k
+    pub names : (k : ℕ) → kept_name m k ≡ last_name units k
 
   -- what a reading of so many units does
-  abbrev pub ReadsUnits : {S : Type 0} → ℕ → State → Result (IndexMap ℕ (String Global) S) AppendFault → State → Type 0
+  abbrev pub ReadsUnits : ℕ → State → Result (BTreeMap ℕ (String Global)) AppendFault → State → Type 0
   ReadsUnits count old (Ok m) new = TookUnits count old m new
   ReadsUnits count old (Err Memory) new = CameSome (CutUnits (count + 1)) old new
   ReadsUnits count old (Err (Source e)) new = Stopped (CutUnits count) old e new

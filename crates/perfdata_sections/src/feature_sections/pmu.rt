@@ -1,15 +1,16 @@
 //! The section PMU_MAPPINGS.
-ghost use Rattle.std.specs.Prelude.{◌≡◌, string_bytes};
+ghost use Rattle.std.specs.Prelude.{◌≡◌, IfOk, string_bytes};
 ghost use Rattle.std.specs.Option.{option_map};
 ghost use Rattle.perfdata_base.specs.Source.{State, PausesOnce};
-ghost use Rattle.perfdata_sections.specs.Pmu.{KeepsUnit, ReadsUnit, ReadsUnits, ReadsPmus, ParsesPmus};
+ghost use Rattle.perfdata_sections.specs.Pmu.{KeepsUnit, OrdersUnits, ReadsUnit, ReadsUnits, ReadsPmus, ParsesPmus};
 
 use crate::bytes::as_io;
 use crate::feature_sections::strings::HeaderString;
 use indexmap::IndexMap;
 use perfdata_base::raw::FileOrder;
 use perfdata_base::source::{AppendFault, Source, read_all};
-use std::alloc::Global;
+use std::alloc::{AllocError, Global};
+use std::collections::BTreeMap;
 use std::io;
 
 /// The names of the performance monitoring units by their numbers, ascending (section PMU_MAPPINGS of Linux's perf).
@@ -38,7 +39,7 @@ fn read_unit<R: Source, T: FileOrder>(
 
 // Gives a unit's number its name, where it has one.
 fn keep_name(
-    names: &mut IndexMap<u32, String>,
+    names: &mut BTreeMap<u32, String>,
     number: u32,
     name: Option<String>,
 ) -> Result<(), AppendFault>
@@ -58,12 +59,12 @@ fn read_units<R: Source, T: FileOrder>(
     alloc: Global,
     source: &mut R,
     count: u32,
-) -> Result<IndexMap<u32, String>, AppendFault>
+) -> Result<BTreeMap<u32, String>, AppendFault>
     ensures reads { ReadsUnits T.number_of count (R.seen source.old) result (R.seen source.new) }
     ensures pauses { PausesOnce (R.seen source.old) result (R.seen source.new) }
     ensures lent { R.lent source.new ≡ R.lent source.old }
 {
-    let mut names = IndexMap::new(alloc);
+    let mut names = BTreeMap::new(alloc);
     'units: for _index in 0..count {
         let (number, name) = match read_unit::<R, T>(alloc, source) {
             Ok(unit) => unit,
@@ -75,6 +76,20 @@ fn read_units<R: Source, T: FileOrder>(
         }
     }
     Ok(names)
+}
+
+// The names by their numbers, which they are put in ascending.
+fn in_order(
+    alloc: Global,
+    names: BTreeMap<u32, String>,
+) -> Result<IndexMap<u32, String>, AllocError>
+    ensures { IfOk result (λ m. OrdersUnits names m) }
+{
+    let mut ordered = IndexMap::new(alloc);
+    'names: for (number, name) in names {
+        ordered.insert(number, name)?;
+    }
+    Ok(ordered)
 }
 
 impl PmuMappings {
@@ -95,12 +110,12 @@ impl PmuMappings {
             Ok(()) => {}
             Err(error) => return Err(AppendFault::Source(error)),
         }
-        let mut names = match read_units::<R, T>(alloc, source, T::read_u32(&count)) {
+        let names = match read_units::<R, T>(alloc, source, T::read_u32(&count)) {
             Ok(names) => names,
             Err(fault) => return Err(fault),
         };
-        match names.sort_keys() {
-            Ok(()) => Ok(PmuMappings(names)),
+        match in_order(alloc, names) {
+            Ok(names) => Ok(PmuMappings(names)),
             Err(_) => Err(AppendFault::Memory),
         }
     }

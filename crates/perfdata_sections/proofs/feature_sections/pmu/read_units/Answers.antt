@@ -1,4 +1,4 @@
-use Rattle.std.proofs.Common.{rules, arith, sym, subst, Err, BuildHasherDefault, FoldHasher}
+use Rattle.std.proofs.Common.{rules, arith, sym, subst, Err}
 use Rattle.perfdata_sections.specs.Pmu.{ReadsUnits}
 use Rattle.std.specs.Prelude.{string_bytes}
 use Rattle.std.specs.Option.{option_map}
@@ -14,7 +14,7 @@ returns-in-Err-clause-reads g c =
 
 pub returns-in-Err-keep_name-clause-reads : goal.returns-in-Err-keep_name-clause-reads
 returns-in-Err-keep_name-clause-reads g c =
-    subst (λ fault. ReadsUnits g.T.ByteOrder.number_of {S = BuildHasherDefault FoldHasher} c.args.count (g.R.Source.seen c.args.source.now) (Err fault) (g.R.Source.seen c.read_unit.new.source)) (sym c.in-Err-keep_name.ensures)
+    subst (λ fault. ReadsUnits g.T.ByteOrder.number_of c.args.count (g.R.Source.seen c.args.source.now) (Err fault) (g.R.Source.seen c.read_unit.new.source)) (sym c.in-Err-keep_name.ensures)
     (units_unkept g.T.ByteOrder.number_of g.met.T.ByteOrder.reads_first c.units._index c.args.count _ (g.R.Source.seen c.units.source) _ c.units.names (c.in-Ok.unit.0, option_map string_bytes c.in-Ok.unit.1) (omega arith) c.units.invariant.took c.in-Ok.ensures.reads)
 
 pub units-preserved : goal.units-preserved
