@@ -18,7 +18,7 @@ use crate::list::{ListCause, ListFault, list_file, settle};
 use crate::output::{LineBuffer, finish};
 use image::{Image, Part};
 use linux_perf_data::source::{Counted, PlacedSource};
-use linux_perf_data::{AttributeDescription, Endianness, Error, PerfFileReader, ReadError};
+use linux_perf_data::{Endianness, Error, PerfFileReader, ReadError};
 use std::alloc::{AllocError, Global};
 use std::io::{BufReader, Cursor, ErrorKind};
 use std::process::Abort;
@@ -154,20 +154,8 @@ fn opens(
     end: End,
 ) -> Result<(), Fail> {
     shows(rt, name, file, wanted, end)?;
-    plainly(rt, name, file, wanted, end)
-}
-
-/// What the plain program says of a file.
-fn plainly(
-    rt: &(impl Abort + AllocGlobal),
-    name: &str,
-    file: &[u8],
-    wanted: &str,
-    end: End,
-) -> Result<(), Fail> {
     let (text, plain) = slow::lines_of(rt.alloc(), file)?;
-    assert_eq!(rt; text.as_str(), wanted, "{name}, plain");
-    assert_eq!(rt; plain, end, "{name}, plain");
+    assert_eq!(rt; (text.as_str(), plain), (wanted, end), "{name}, plain");
     Ok(())
 }
 
@@ -465,14 +453,6 @@ fn a_refusal_and_an_end_stay(rt: HostRuntime) -> Result<(), Fail> {
     ends(&rt, (0, 4, 0), &[Part::Sample(20)], &ended[..1])
 }
 
-/// A file's one attribute has the sample type 4, no name and no ids.
-fn is_plain(rt: &impl Abort, attributes: &[AttributeDescription]) {
-    assert_eq!(rt; attributes.len(), 1);
-    assert_eq!(rt; attributes[0].attributes().sample_format.0, 4);
-    assert!(rt; attributes[0].name().is_none());
-    assert!(rt; attributes[0].ids().is_empty());
-}
-
 #[test]
 fn what_a_file_says_of_itself(rt: HostRuntime) -> Result<(), Fail> {
     for endian in [Endianness::LittleEndian, Endianness::BigEndian] {
@@ -480,7 +460,11 @@ fn what_a_file_says_of_itself(rt: HostRuntime) -> Result<(), Fail> {
         let reader = PerfFileReader::parse_file(rt.alloc(), Cursor::new(image.bytes.as_slice()))?;
         assert_eq!(rt; reader.perf_file.endian(), endian);
         assert!(rt; reader.perf_file.features().is_empty());
-        is_plain(&rt, reader.perf_file.event_attributes());
+        let attributes = reader.perf_file.event_attributes();
+        assert_eq!(rt; attributes.len(), 1);
+        assert_eq!(rt; attributes[0].attributes().sample_format.0, 4);
+        assert!(rt; attributes[0].name().is_none());
+        assert!(rt; attributes[0].ids().is_empty());
     }
     Ok(())
 }
@@ -509,46 +493,4 @@ fn the_program_tells_a_fault(rt: HostRuntime) -> Result<(), Fail> {
     ends_with(&rt, cut, 2, "perflist: fault after 1 records\n")?;
     let bad = made(rt.alloc(), (8, 4, 0), &[Part::Head(9, 0, 7)])?;
     ends_with(&rt, &bad.bytes, 2, "perflist: fault after 0 records\n")
-}
-
-/// A writer that takes 20 bytes and then fails.
-#[derive(Drop)]
-struct Twenty {
-    taken: usize,
-}
-
-impl std::io::Write for Twenty {
-    fn write(&mut self, bytes: &[u8]) -> std::io::Result<usize> {
-        let room = 20usize.saturating_sub(self.taken);
-        if room == 0 {
-            return Err(std::io::Error::from(ErrorKind::StorageFull));
-        }
-        let count = bytes.len().min(room);
-        self.taken = self.taken.saturating_add(count);
-        Ok(count)
-    }
-
-    fn flush(&mut self) -> std::io::Result<()> {
-        Ok(())
-    }
-}
-
-#[test]
-fn a_writer_that_fails(rt: HostRuntime) -> Result<(), Fail> {
-    let image = Image::first(rt.alloc(), Endianness::LittleEndian)?;
-    let mut out = Twenty { taken: 0 };
-    match list_file(rt.alloc(), Cursor::new(image.bytes.as_slice()), &mut out) {
-        Err(
-            ListFault {
-                lines,
-                cause: ListCause::Write(error),
-            },
-        ) => {
-            assert_eq!(rt; lines, 1);
-            assert_eq!(rt; error.kind(), ErrorKind::StorageFull);
-        }
-        _ => assert!(rt; false, "the writer's refusal is the cause"),
-    }
-    assert_eq!(rt; out.taken, 20);
-    Ok(())
 }

@@ -9,45 +9,35 @@ ghost use Rattle.perfdata_sections.specs.declared.error.Error.TheVariants.{Memor
 ghost use Rattle.perfdata_sections.specs.declared.decode_error.DecodeError.{DecodeError};
 
 use crate::simpleperf::SimpleperfFileRecord;
-use crate::simpleperf::pieces::piece_at;
+use crate::simpleperf::pieces::{Spelling, read_pieces};
 use perfdata_base::raw::Endianness;
 use perfdata_sections::decode_error::DecodeError;
 use perfdata_sections::error::Error;
 use std::alloc::Global;
 
-// The record of a message, or the section's error.
-fn record_in(alloc: Global, message: &[u8]) -> Result<SimpleperfFileRecord, Error>
-    ensures found { IfOk result (λ r. IsFileRecord message.now (record_value r)) }
-    ensures fault { IfErr result (λ e. (e ≡ Memory) ⊎ ((f : DecodeError) × FileFault message.now f × TellsMessage f e)) }
-{
-    match SimpleperfFileRecord::decode(alloc, message) {
-        Ok(record) => Ok(record),
-        Err(DecodeError::Memory) => Err(Error::Memory),
-        Err(fault) => Err(Error::ProtobufParsingSimpleperfFileSection(fault)),
-    }
-}
+// Messages of protobuf.
+struct Messages;
 
-// The records of a section.
-fn read_messages(
-    alloc: Global,
-    bytes: &[u8],
-    endian: Endianness,
-) -> Result<Vec<SimpleperfFileRecord>, Error>
-    ensures found { IfOk result (λ v. IsFile2Of endian bytes.now (map record_value v.items)) }
-    ensures fault { IfErr result (λ e. (e ≡ Memory) ⊎ ((f : PieceFault DecodeError) × File2Fault endian bytes.now f × TellsFile2 f e)) }
-{
-    let mut records = Vec::new(alloc);
-    let mut rest = bytes;
-    'messages: while !rest.is_empty() {
-        let (message, after) = piece_at(endian, rest)?;
-        let record = record_in(alloc, message)?;
-        match records.push(record) {
-            Ok(()) => {}
-            Err(_) => return Err(Error::Memory),
+impl Spelling for Messages {
+    type Fault = DecodeError;
+
+    ghost spells = { λ _. IsFileRecord };
+
+    ghost refuses = { λ _. FileFault };
+
+    ghost tells = { TellsMessage };
+
+    fn record_in(
+        alloc: Global,
+        _endian: Endianness,
+        message: &[u8],
+    ) -> Result<SimpleperfFileRecord, Error> {
+        match SimpleperfFileRecord::decode(alloc, message) {
+            Ok(record) => Ok(record),
+            Err(DecodeError::Memory) => Err(Error::Memory),
+            Err(fault) => Err(Error::ProtobufParsingSimpleperfFileSection(fault)),
         }
-        rest = after;
     }
-    Ok(records)
 }
 
 /// The files with their symbols (section FILE2 of Android's simpleperf): up to the section's end a length of four bytes, and so many bytes of a message.
@@ -68,5 +58,5 @@ pub fn parse_file2_section(
     // Such a fault is refused, by its error, unless memory runs out before it.
     ensures first { (f : PieceFault DecodeError) → File2Fault endian bytes.now f → IsErrAnd result (λ e. (e ≡ Memory) ⊎ TellsFile2 f e) }
 {
-    read_messages(alloc, bytes, endian)
+    read_pieces::<Messages>(alloc, bytes, endian)
 }

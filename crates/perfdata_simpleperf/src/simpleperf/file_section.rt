@@ -11,7 +11,7 @@ ghost use Rattle.perfdata_simpleperf.specs.Pieces.{PieceFault};
 ghost use Rattle.perfdata_sections.specs.declared.error.Error.TheVariants.{Memory};
 
 use crate::simpleperf::SimpleperfFileRecord;
-use crate::simpleperf::pieces::piece_at;
+use crate::simpleperf::pieces::{Spelling, read_pieces};
 use byteorder::{BigEndian, LittleEndian};
 use perfdata_base::raw::Endianness;
 use perfdata_sections::error::Error;
@@ -29,44 +29,31 @@ fn decode_in(alloc: Global, endian: Endianness, bytes: &[u8]) -> io::Result<Simp
     }
 }
 
-// The record of a piece, or the section's error.
-fn record_in(alloc: Global, endian: Endianness, bytes: &[u8]) -> Result<SimpleperfFileRecord, Error>
-    ensures found { IfOk result (λ r. IsV1 (number_in endian) bytes.now (record_value r)) }
-    ensures fault { IfErr result (λ e. (e ≡ Memory) ⊎ ((kind : ErrorKind) × V1Fault (number_in endian) bytes.now kind × TellsV1 kind e)) }
-{
-    match decode_in(alloc, endian, bytes) {
-        Ok(record) => Ok(record),
-        Err(error) => match error.kind() {
-            ErrorKind::OutOfMemory => Err(Error::Memory),
-            _ => Err(Error::ParsingSimpleperfFileV1Section(error)),
-        },
-    }
-}
+// Records as `decode_v1` reads them.
+struct OlderRecords;
 
-// The records of a section.
-fn read_records(
-    alloc: Global,
-    bytes: &[u8],
-    endian: Endianness,
-) -> Result<Vec<SimpleperfFileRecord>, Error>
-    ensures found { IfOk result (λ v. IsFileSectionOf endian bytes.now (map record_value v.items)) }
-    ensures fault { IfErr result (λ e. (e ≡ Memory) ⊎ ((f : PieceFault ErrorKind) × FileSectionFault endian bytes.now f × TellsFileSection f e)) }
-{
-    let mut records = Vec::new(alloc);
-    let mut rest = bytes;
-    'records: while !rest.is_empty() {
-        let (piece, after) = piece_at(endian, rest)?;
-        let record = match record_in(alloc, endian, piece) {
-            Ok(record) => record,
-            Err(error) => return Err(error),
-        };
-        match records.push(record) {
-            Ok(()) => {}
-            Err(_) => return Err(Error::Memory),
+impl Spelling for OlderRecords {
+    type Fault = ErrorKind;
+
+    ghost spells = { λ endian. IsV1 (number_in endian) };
+
+    ghost refuses = { λ endian. V1Fault (number_in endian) };
+
+    ghost tells = { TellsV1 };
+
+    fn record_in(
+        alloc: Global,
+        endian: Endianness,
+        piece: &[u8],
+    ) -> Result<SimpleperfFileRecord, Error> {
+        match decode_in(alloc, endian, piece) {
+            Ok(record) => Ok(record),
+            Err(error) => match error.kind() {
+                ErrorKind::OutOfMemory => Err(Error::Memory),
+                _ => Err(Error::ParsingSimpleperfFileV1Section(error)),
+            },
         }
-        rest = after;
     }
-    Ok(records)
 }
 
 /// The files with their symbols as older simpleperf writes them (section FILE): up to the section's end a length of four
@@ -89,5 +76,5 @@ pub fn parse_file_section(
     // Such a fault is refused, by its error, unless memory runs out before it.
     ensures first { (f : PieceFault ErrorKind) → FileSectionFault endian bytes.now f → IsErrAnd result (λ e. (e ≡ Memory) ⊎ TellsFileSection f e) }
 {
-    read_records(alloc, bytes, endian)
+    read_pieces::<OlderRecords>(alloc, bytes, endian)
 }

@@ -1,7 +1,7 @@
 //! The cases of several attributes, told by event types, by EVENT_DESC and by the attribute section.
 use super::image::Image;
-use super::{End, FIRST, opens, shows};
-use linux_perf_data::PerfFileReader;
+use super::{End, FIRST, opens, pipe, shows};
+use linux_perf_data::{Endianness, PerfFileReader};
 use std::alloc::{AllocError, Global};
 use std::io::Cursor;
 use std::test::Fail;
@@ -45,9 +45,7 @@ fn front(alloc: Global, events: &Events, size: u64) -> Result<Image, AllocError>
 fn file(alloc: Global, events: &Events) -> Result<Image, AllocError> {
     let mut image = front(alloc, events, 72)?;
     for (id, time) in events.samples {
-        image.head(9, 0, 24)?;
-        image.long(id)?;
-        image.long(time)?;
+        image.identified(id, time)?;
     }
     Ok(image)
 }
@@ -126,13 +124,8 @@ fn described(alloc: Global, size: u32) -> Result<Image, AllocError> {
     image.sample(20)?;
     image.long(136)?;
     image.long(90)?;
-    image.word(1)?;
-    image.word(size)?;
-    image.attribute(4, 0)?;
-    image.word(1)?;
-    image.word(2)?;
-    image.raw(b"c\0")?;
-    image.long(5)?;
+    let events = pipe::described(alloc, Endianness::LittleEndian, size)?;
+    image.raw(&events.bytes)?;
     Ok(image)
 }
 

@@ -19,19 +19,11 @@ fn file(
     content: &[u8],
 ) -> Result<Image, AllocError> {
     let mut image = Image::first(alloc, endian)?;
-    let mut at = 72usize;
-    for word in words {
-        let bytes = match endian {
-            Endianness::LittleEndian => word.to_le_bytes(),
-            Endianness::BigEndian => word.to_be_bytes(),
-        };
-        for byte in bytes {
-            if let Some(slot) = image.bytes.get_mut(at) {
-                *slot = byte;
-            }
-            at = at.saturating_add(1);
-        }
-    }
+    let [first, second, third, fourth] = words;
+    image.put(72, first);
+    image.put(80, second);
+    image.put(88, third);
+    image.put(96, fourth);
     for (offset, size) in entries {
         image.long(*offset)?;
         image.long(*size)?;
@@ -80,41 +72,6 @@ pub fn opened(alloc: Global, image: &Image) -> Result<PerfFile, Error> {
 pub fn little(alloc: Global, feature: Feature, content: &[u8]) -> Result<PerfFile, Fail> {
     let image = with_section(alloc, Endianness::LittleEndian, feature, content)?;
     Ok(opened(alloc, &image)?)
-}
-
-/// The bytes of a section, in an order.
-#[derive(Drop)]
-struct Content {
-    bytes: Vec<u8>,
-    endian: Endianness,
-}
-
-impl Content {
-    fn new(alloc: Global, endian: Endianness) -> Content {
-        Content {
-            bytes: Vec::new(alloc),
-            endian,
-        }
-    }
-
-    fn word(&mut self, number: u32) -> Result<(), AllocError> {
-        match self.endian {
-            Endianness::LittleEndian => self.bytes.extend_from_slice(&number.to_le_bytes()),
-            Endianness::BigEndian => self.bytes.extend_from_slice(&number.to_be_bytes()),
-        }
-    }
-
-    fn long(&mut self, number: u64) -> Result<(), AllocError> {
-        match self.endian {
-            Endianness::LittleEndian => self.bytes.extend_from_slice(&number.to_le_bytes()),
-            Endianness::BigEndian => self.bytes.extend_from_slice(&number.to_be_bytes()),
-        }
-    }
-
-    fn string(&mut self, text: &[u8]) -> Result<(), AllocError> {
-        self.word(u32::try_from(text.len()).unwrap_or(u32::MAX))?;
-        self.bytes.extend_from_slice(text)
-    }
 }
 
 const HOST: &[u8] = &[5, 0, 0, 0, b'a', b'b', 0, b'c', b'd'];
@@ -321,7 +278,7 @@ fn tells(
 #[test]
 fn texts_in_both_orders(rt: HostRuntime) -> Result<(), Fail> {
     for endian in ORDERS {
-        let mut content = Content::new(rt.alloc(), endian);
+        let mut content = Image::empty(rt.alloc(), endian);
         content.string(b"x86_64\0\0")?;
         for text in [
             Text::Release,
@@ -441,7 +398,7 @@ fn told(
     feature: Feature,
     words: &[(u64, u32)],
 ) -> Result<PerfFile, Fail> {
-    let mut content = Content::new(alloc, endian);
+    let mut content = Image::empty(alloc, endian);
     for (number, bytes) in words {
         if *bytes == 8 {
             content.long(*number)?;
@@ -512,8 +469,8 @@ fn clock_in_both_orders(rt: HostRuntime) -> Result<(), Fail> {
 }
 
 /// A section of four units.
-fn units(alloc: Global, endian: Endianness) -> Result<Content, AllocError> {
-    let mut content = Content::new(alloc, endian);
+fn units(alloc: Global, endian: Endianness) -> Result<Image, AllocError> {
+    let mut content = Image::empty(alloc, endian);
     content.word(4)?;
     for (number, name) in [(7, b"b" as &[u8]), (1, b"\xff"), (2, b"a"), (7, b"c")] {
         content.word(number)?;

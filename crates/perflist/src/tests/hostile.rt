@@ -6,6 +6,7 @@ mod seeks;
 mod writers;
 
 use super::image::{Image, Part};
+use super::pipe::{scripted, steps_of};
 use linux_perf_data::raw::RawData;
 use linux_perf_data::source::{PlacedSource, Script, Source, Step};
 use linux_perf_data::{Endianness, Error, PerfFileReader, PerfFileRecord, ReadError, RecordPlace};
@@ -121,28 +122,24 @@ enum Answer {
 
 const DATA: Refusal = Refusal::Read(ReadError::PerfEventData);
 
-fn handed_of(place: RecordPlace, record: PerfFileRecord<'_>) -> Handed {
-    match record {
-        PerfFileRecord::EventRecord { attr_index, event } => Handed {
-            place,
-            attr_index: Some(attr_index),
-            record_type: event.record_type.0,
-            misc: event.misc,
-            body: body_of(event.body),
-        },
-        PerfFileRecord::UserRecord(user) => Handed {
+fn answer_of(next: Result<Option<(RecordPlace, PerfFileRecord<'_>)>, Error>) -> Answer {
+    match next {
+        Ok(Some((place, PerfFileRecord::EventRecord { attr_index, event }))) => {
+            Answer::Record(Handed {
+                place,
+                attr_index: Some(attr_index),
+                record_type: event.record_type.0,
+                misc: event.misc,
+                body: body_of(event.body),
+            })
+        }
+        Ok(Some((place, PerfFileRecord::UserRecord(user)))) => Answer::Record(Handed {
             place,
             attr_index: None,
             record_type: user.record_type.record_type().0,
             misc: user.misc,
             body: body_of(user.body),
-        },
-    }
-}
-
-fn answer_of(next: Result<Option<(RecordPlace, PerfFileRecord<'_>)>, Error>) -> Answer {
-    match next {
-        Ok(Some((place, record))) => Answer::Record(handed_of(place, record)),
+        }),
         Ok(None) => Answer::Nothing,
         Err(error) => Answer::Refused(refusal_of(&error)),
     }
@@ -226,14 +223,10 @@ const UNTOUCHED: ErrorKind = ErrorKind::PermissionDenied;
 
 /// A source of these bytes, one a read, that does this behind so many of them; a fault of its own kind is to come then.
 fn stopping(alloc: Global, bytes: &[u8], at: usize, step: Step) -> Result<Script, AllocError> {
-    let mut steps = Vec::new(alloc);
-    for _ in 0..at {
-        steps.push(Step::Give(1))?;
-    }
+    let mut steps = steps_of(alloc, Step::Give(1), at)?;
     steps.push(step)?;
     steps.push(Step::Fault(UNTOUCHED))?;
-    let copy = Vec::from_slice(alloc, bytes)?;
-    Ok(Script::new(copy, bytes.len(), steps, Vec::new(alloc)))
+    scripted(alloc, bytes, steps)
 }
 
 /// Whether the last step of such a source is still to come.

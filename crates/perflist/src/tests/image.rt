@@ -115,6 +115,23 @@ impl Image {
         self.bytes.extend_from_slice(bytes)
     }
 
+    /// A text behind its length of four bytes.
+    pub fn string(&mut self, text: &[u8]) -> Result<(), AllocError> {
+        self.word(u32::try_from(text.len()).unwrap_or(u32::MAX))?;
+        self.bytes.extend_from_slice(text)
+    }
+
+    /// The description of an event: an attribute of 64 bytes, its identifiers, and a name of one byte.
+    pub fn event(&mut self, ids: &[u64], letter: u8) -> Result<(), AllocError> {
+        self.attribute(4, 0)?;
+        self.word(u32::try_from(ids.len()).unwrap_or(0))?;
+        self.string(&[letter, 0])?;
+        for id in ids {
+            self.long(*id)?;
+        }
+        Ok(())
+    }
+
     /// So many bytes of one value.
     pub fn filled(&mut self, value: u8, count: usize) -> Result<(), AllocError> {
         for _ in 0..count {

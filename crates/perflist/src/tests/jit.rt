@@ -1,9 +1,9 @@
 //! The cases of jitdump files.
 use crate::jit::list_jit;
 use crate::list::{ListCause, ListFault};
-use crate::tests::Twenty;
-use linux_perf_data::source::{Counted, Script, Source, Step};
-use std::alloc::{AllocError, Global};
+use crate::tests::pipe::scripted;
+use linux_perf_data::source::{Counted, Source, Step};
+use std::alloc::Global;
 use std::io::{Cursor, ErrorKind};
 use std::process::Abort;
 use std::test::Fail;
@@ -46,7 +46,7 @@ const NODE_LINES: &[u8] =
 
 /// How a listing ends.
 #[derive(Clone, Copy, Debug, PartialEq, Eq)]
-enum End {
+pub enum End {
     Whole,
     Unopened,
     Read(ErrorKind),
@@ -55,7 +55,7 @@ enum End {
 }
 
 // How it ended, and how many lines it tells.
-fn end_of(listed: Result<u64, ListFault>) -> (End, u64) {
+pub fn end_of(listed: Result<u64, ListFault>) -> (End, u64) {
     match listed {
         Ok(lines) => (End::Whole, lines),
         Err(fault) => {
@@ -127,13 +127,6 @@ fn lists_what_is_whole(rt: HostRuntime) -> Result<(), Fail> {
     Ok(())
 }
 
-// A source of the file whose reads do this.
-fn scripted(alloc: Global, steps: &[Step]) -> Result<Script, AllocError> {
-    let bytes = Vec::from_slice(alloc, &FILE)?;
-    let steps = Vec::from_slice(alloc, steps)?;
-    Ok(Script::new(bytes, FILE.len(), steps, Vec::new(alloc)))
-}
-
 #[test]
 fn tells_lines_before_a_fault(rt: HostRuntime) -> Result<(), Fail> {
     let fault = Step::Fault(ErrorKind::TimedOut);
@@ -146,20 +139,9 @@ fn tells_lines_before_a_fault(rt: HostRuntime) -> Result<(), Fail> {
     ];
     for (steps, end, wanted) in cases {
         let lines = if wanted.is_empty() { 0 } else { 1 };
-        lists(&rt, scripted(rt.alloc(), steps)?, end, lines, wanted);
+        let steps = Vec::from_slice(rt.alloc(), steps)?;
+        let source = scripted(rt.alloc(), &FILE, steps)?;
+        lists(&rt, source, end, lines, wanted);
     }
     Ok(())
-}
-
-// How the listing of the file ends where the writer takes 20 bytes, how many lines it tells, and how many bytes were taken.
-fn refused(alloc: Global) -> ((End, u64), usize) {
-    let mut out = Twenty { taken: 0 };
-    let listed = list_jit(alloc, FILE.as_slice(), &mut out);
-    (end_of(listed), out.taken)
-}
-
-#[test]
-fn tells_lines_before_a_refused_write(rt: HostRuntime) {
-    let refusal = End::Write(ErrorKind::StorageFull);
-    assert_eq!(rt; refused(rt.alloc()), ((refusal, 1), 20));
 }

@@ -5,7 +5,7 @@ use super::simpleperf::{EVENT, recorded};
 use super::{End, end_of_error, ends, made, reads as reads_file};
 use linux_perf_data::source::Source;
 use linux_perf_data::{
-    Endianness, Error, PerfFile, PerfFileReader, PerfFileRecord, PerfRecordIter, RecordPlace,
+    Endianness, Error, PerfFile, PerfFileReader, PerfFileRecord, PerfRecordIter,
 };
 use std::alloc::Global;
 use std::io::Cursor;
@@ -187,31 +187,26 @@ fn attributes_as_they_come(rt: HostRuntime) -> Result<(), Fail> {
 /// body is.
 type Told = ((u64, u64, Option<u64>), Option<usize>, (u32, u16, usize));
 
-fn told_of(place: RecordPlace, record: &PerfFileRecord<'_>) -> Told {
-    let place = (place.offset, place.round, place.timestamp);
-    match record {
-        PerfFileRecord::EventRecord { attr_index, event } => (
-            place,
-            Some(*attr_index),
-            (event.record_type.0, event.misc, event.body.len()),
-        ),
-        PerfFileRecord::UserRecord(user) => (
-            place,
-            None,
-            (user.record_type.record_type().0, user.misc, user.body.len()),
-        ),
-    }
-}
-
 /// Asks for a record, and tells of it.
 fn next_told<R: Source>(
     records: &mut PerfRecordIter<R>,
     file: &mut PerfFile,
 ) -> Result<Option<Told>, Error> {
-    match records.next_record(file)? {
-        Some((place, record)) => Ok(Some(told_of(place, &record))),
-        None => Ok(None),
-    }
+    let Some((place, record)) = records.next_record(file)? else {
+        return Ok(None);
+    };
+    let place = (place.offset, place.round, place.timestamp);
+    let (index, parts) = match &record {
+        PerfFileRecord::EventRecord { attr_index, event } => (
+            Some(*attr_index),
+            (event.record_type.0, event.misc, event.body.len()),
+        ),
+        PerfFileRecord::UserRecord(user) => (
+            None,
+            (user.record_type.record_type().0, user.misc, user.body.len()),
+        ),
+    };
+    Ok(Some((place, index, parts)))
 }
 
 /// Nothing is taken into the `PerfFile` of a pipe with two attributes, whatever else is wrong with the late record.
@@ -289,12 +284,6 @@ fn keeps_name(rt: &(impl Abort + AllocGlobal), bytes: &[u8], other: &[u8]) -> Re
     Ok(())
 }
 
-/// What a file says of itself whose attribute is named by simpleperf's meta info.
-fn named(alloc: Global) -> Result<PerfFile, Fail> {
-    let image = recorded(alloc, 80, EVENT)?;
-    Ok(opened_file(alloc, &image.bytes)?.perf_file)
-}
-
 /// Whether an attribute has a name.
 fn has_name(file: &PerfFile) -> bool {
     file.event_attributes()
@@ -305,7 +294,8 @@ fn has_name(file: &PerfFile) -> bool {
 /// A file named its attribute by simpleperf's meta info, and no EVENT_DESC names it anew.
 #[test]
 fn names_are_given_anew(rt: HostRuntime) -> Result<(), Fail> {
-    let mut file = named(rt.alloc())?;
+    let recorded = recorded(rt.alloc(), 80, EVENT)?;
+    let mut file = opened_file(rt.alloc(), &recorded.bytes)?.perf_file;
     let image = little(rt.alloc(), &LATE)?;
     let mut records = opened(rt.alloc(), image.bytes.as_slice())?.record_iter;
     answers(&rt, &mut records, &mut file, &[(Ok(true), 1)]);
@@ -329,7 +319,7 @@ fn a_broken_rule_stays(rt: HostRuntime) -> Result<(), Fail> {
 }
 
 /// Whether there are no features, how many there are, and whether this is the host's name.
-fn has_host(file: &PerfFile, name: Option<&str>) -> Result<(bool, usize, bool), Error> {
+pub fn has_host(file: &PerfFile, name: Option<&str>) -> Result<(bool, usize, bool), Error> {
     let has = file.hostname()? == name;
     let features = file.features();
     Ok((features.is_empty(), features.len(), has))
@@ -360,7 +350,9 @@ fn names_of(
 ) -> Result<(), Fail> {
     let image = little(rt.alloc(), parts)?;
     let file = at_end(opened(rt.alloc(), image.bytes.as_slice())?, parts.len())?;
-    assert!(rt; are_named(&file, wanted));
+    let attributes = file.event_attributes();
+    assert_eq!(rt; attributes.len(), 2);
+    assert_eq!(rt; [attributes[0].name(), attributes[1].name()], wanted);
     Ok(())
 }
 
@@ -374,12 +366,6 @@ fn at_end<R: Source + Drop>(reader: PerfFileReader<R>, records: usize) -> Result
         }
     }
     Ok(file)
-}
-
-/// Whether there are two attributes, of these names.
-fn are_named(file: &PerfFile, names: [Option<&str>; 2]) -> bool {
-    let attributes = file.event_attributes();
-    attributes.len() == 2 && attributes[0].name() == names[0] && attributes[1].name() == names[1]
 }
 
 #[test]
@@ -410,18 +396,19 @@ fn a_file_takes_nothing_in(rt: HostRuntime) -> Result<(), Fail> {
     let reader = opened_file(rt.alloc(), &image.bytes)?;
     let wanted: [Answer; 3] = [(Ok(true), 1), (Ok(true), 1), (Ok(false), 1)];
     come(&rt, reader, &wanted);
-    a_record_without_contents(&rt)
+    Ok(())
+}
+
+/// In a file even that is a record.
+#[test]
+fn a_record_without_contents(rt: HostRuntime) -> Result<(), Fail> {
+    let cut = [Part::Sample(1), Part::Head(80, 0, 8)];
+    let wanted = "0 0 1 0 9 0 8\n16 0 - - 80 0 0\n";
+    reads_file(&rt, "no contents", (24, 4, 0), &cut, wanted, End::Whole)?;
+    ends(&rt, (24, 4, 0), &cut, &[End::Other, End::Other, End::Whole])
 }
 
 /// The reader of a file.
 fn opened_file(alloc: Global, bytes: &[u8]) -> Result<PerfFileReader<Cursor<&[u8]>>, Fail> {
     Ok(PerfFileReader::parse_file(alloc, Cursor::new(bytes))?)
-}
-
-/// In a file even that is a record.
-fn a_record_without_contents(rt: &(impl Abort + AllocGlobal)) -> Result<(), Fail> {
-    let cut = [Part::Sample(1), Part::Head(80, 0, 8)];
-    let wanted = "0 0 1 0 9 0 8\n16 0 - - 80 0 0\n";
-    reads_file(rt, "no contents", (24, 4, 0), &cut, wanted, End::Whole)?;
-    ends(rt, (24, 4, 0), &cut, &[End::Other, End::Other, End::Whole])
 }

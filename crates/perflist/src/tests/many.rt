@@ -93,26 +93,9 @@ fn described(alloc: Global, dice: &mut Dice, endian: Endianness) -> Result<Image
     image.word(dice.pick(&[64, 64, 64, 64, 72, 63]))?;
     for _ in 0..count {
         let ids = ids(alloc, dice)?;
-        describe(&mut image, &ids, dice.pick(b"abc\0\xff"))?;
+        image.event(&ids, dice.pick(b"abc\0\xff"))?;
     }
     Ok(image)
-}
-
-/// Describes an event of these identifiers and a name of this one byte.
-fn describe(image: &mut Image, ids: &[u64], letter: u8) -> Result<(), AllocError> {
-    image.attribute(4, 0)?;
-    image.word(u32::try_from(ids.len()).unwrap_or(0))?;
-    image.word(2)?;
-    image.raw(&[letter, 0])?;
-    longs(image, ids)
-}
-
-/// These numbers.
-fn longs(image: &mut Image, numbers: &[u64]) -> Result<(), AllocError> {
-    for number in numbers {
-        image.long(*number)?;
-    }
-    Ok(())
 }
 
 /// Something that is no ordinary record.
@@ -186,22 +169,6 @@ fn made(alloc: Global, dice: &mut Dice) -> Result<Image, AllocError> {
     Ok(image)
 }
 
-/// An attribute is the one that the plain program found.
-fn same_event(rt: &impl Abort, attribute: &AttributeDescription, event: &Event) {
-    let name = event.name.as_ref().map(|name| name.as_slice());
-    assert_eq!(rt;
-        event_in(attribute),
-        (event.format, event.flags, event.ids.as_slice(), name)
-    );
-}
-
-/// The sample type and the flags of an attribute, its identifiers, and the bytes of its name.
-fn event_in(attribute: &AttributeDescription) -> (u64, u64, &[u64], Option<&[u8]>) {
-    let found = attribute.attributes();
-    let name = attribute.name().map(|name| name.as_bytes());
-    (found.sample_format.0, found.flags.0, attribute.ids(), name)
-}
-
 /// What a pipe says of itself is what the plain program found.
 fn same_file(
     rt: &(impl Abort + AllocGlobal),
@@ -213,7 +180,14 @@ fn same_file(
     for number in [3u32, 12, 255, 256] {
         let data = pipe.data(rt.alloc(), number as u64)?;
         let has = data.is_some() && number < 256;
-        assert_eq!(rt; feature_in(file, Feature(number)), (data, has));
+        let feature = Feature(number);
+        assert_eq!(rt;
+            (
+                file.feature_section_data(feature),
+                file.features().has_feature(feature)
+            ),
+            (data, has)
+        );
     }
     Ok(())
 }
@@ -222,20 +196,14 @@ fn same_file(
 fn same_events(rt: &impl Abort, attributes: &[AttributeDescription], events: &[Event]) {
     assert_eq!(rt; attributes.len(), events.len());
     for (attribute, event) in attributes.iter().zip(events.iter()) {
-        same_event(rt, attribute, event);
+        let found = attribute.attributes();
+        let name = event.name.as_ref().map(|name| name.as_slice());
+        assert_eq!(rt;
+            (found.sample_format.0, found.flags.0, attribute.ids()),
+            (event.format, event.flags, event.ids.as_slice())
+        );
+        assert_eq!(rt; attribute.name().map(|name| name.as_bytes()), name);
     }
-}
-
-/// The data of a feature, and whether it is in the set.
-fn feature_in(file: &PerfFile, feature: Feature) -> (Option<&[u8]>, bool) {
-    let has = file.features().has_feature(feature);
-    (file.feature_section_data(feature), has)
-}
-
-/// Reads a pipe to its end, and compares what it then says of itself.
-fn reads_on(rt: &(impl Abort + AllocGlobal), bytes: &[u8], pipe: &Pipe<'_>) -> Result<(), Fail> {
-    let file = at_end(opened(rt.alloc(), bytes)?, bytes.len());
-    same_file(rt, &file, pipe)
 }
 
 /// What a pipe of at most so many records says of itself at its end, or where it is refused.
@@ -257,7 +225,9 @@ fn agree(rt: &(impl Abort + AllocGlobal), bytes: &[u8]) -> Result<bool, Fail> {
         Ok(pipe) => {
             let lines = pipe.lines(rt.alloc())?;
             comes_to(rt, bytes, lines.as_str(), pipe.end);
-            reads_on(rt, bytes, &pipe)?;
+            // what it says of itself once it is read to its end
+            let file = at_end(opened(rt.alloc(), bytes)?, bytes.len());
+            same_file(rt, &file, &pipe)?;
             Ok(true)
         }
         Err(end) => {
@@ -326,19 +296,13 @@ fn both_programs_list_files(rt: HostRuntime) -> Result<(), Fail> {
     for _ in 0..1000u32 {
         let image = file(rt.alloc(), &mut dice)?;
         let (lines, end) = slow::lines_of(rt.alloc(), &image.bytes)?;
-        let (came, out) = listed_file(rt.alloc(), &image.bytes);
-        assert_eq!(rt; (came, out.as_slice()), (end, lines.as_bytes()));
+        let mut out: Vec<u8> = Vec::new(rt.alloc());
+        let listed = list_file(rt.alloc(), Cursor::new(image.bytes.as_slice()), &mut out);
+        assert_eq!(rt; (end_of(&listed), out.as_slice()), (end, lines.as_bytes()));
         if end == End::Whole {
             whole = whole.saturating_add(1);
         }
     }
     assert!(rt; whole > 400, "{whole}");
     Ok(())
-}
-
-/// How the listing of a file ends, and its lines.
-fn listed_file(alloc: Global, bytes: &[u8]) -> (End, Vec<u8>) {
-    let mut out: Vec<u8> = Vec::new(alloc);
-    let listed = list_file(alloc, Cursor::new(bytes), &mut out);
-    (end_of(&listed), out)
 }

@@ -1,7 +1,8 @@
 //! The cases of pipes: their lines, how their reading ends, and how far their source is read.
 use super::image::{Image, Part};
-use super::{End, FIRST, Twenty, end_of, end_of_error, lines_of, lists};
-use crate::list::{ListCause, ListFault, list_pipe};
+use super::late::has_host;
+use super::{End, FIRST, end_of, end_of_error, lines_of, lists};
+use crate::list::list_pipe;
 use linux_perf_data::source::{Counted, Script, Source, Step};
 use linux_perf_data::{Endianness, Feature, PerfFile, PerfFileReader, SimpleperfFileRecord};
 use std::alloc::{AllocError, Global};
@@ -24,13 +25,13 @@ pub fn little(alloc: Global, parts: &[Part<'_>]) -> Result<Image, AllocError> {
 }
 
 /// A source of these bytes whose reads do these steps in turn.
-fn scripted(alloc: Global, bytes: &[u8], steps: Vec<Step>) -> Result<Script, AllocError> {
+pub fn scripted(alloc: Global, bytes: &[u8], steps: Vec<Step>) -> Result<Script, AllocError> {
     let copy = Vec::from_slice(alloc, bytes)?;
     Ok(Script::new(copy, bytes.len(), steps, Vec::new(alloc)))
 }
 
 /// So many steps of one kind.
-fn steps_of(alloc: Global, step: Step, count: usize) -> Result<Vec<Step>, AllocError> {
+pub fn steps_of(alloc: Global, step: Step, count: usize) -> Result<Vec<Step>, AllocError> {
     let mut steps = Vec::new(alloc);
     for _ in 0..count {
         steps.push(step)?;
@@ -45,11 +46,6 @@ pub fn listed<R: Source + Drop>(alloc: Global, source: R) -> (End, u64, Vec<u8>)
     (end_of(&listed), lines_of(&listed), out)
 }
 
-/// How many lines a text has.
-fn count_of(text: &str) -> u64 {
-    text.lines().count() as u64
-}
-
 /// Lists a pipe from a source, and compares the end, the number of lines and the lines with what is wanted.
 fn pipes<R: Source + Drop>(
     rt: &(impl Abort + AllocGlobal),
@@ -60,22 +56,12 @@ fn pipes<R: Source + Drop>(
     end: End,
 ) {
     let (came, told, out) = listed(rt.alloc(), source);
-    let lines = count_of(wanted);
+    let lines = wanted.lines().count() as u64;
     assert_eq!(rt;
         (came, told, out.as_slice()),
         (end, lines, wanted.as_bytes()),
         "{name}, {way}"
     );
-}
-
-/// A source that owns these bytes.
-fn owned(alloc: Global, bytes: &[u8]) -> Result<Cursor<Vec<u8>>, AllocError> {
-    Ok(Cursor::new(Vec::from_slice(alloc, bytes)?))
-}
-
-/// A source of these bytes that holds some of them, and counts them.
-fn counted(alloc: Global, bytes: &[u8]) -> Result<Counted<BufReader<&[u8]>>, Fail> {
-    Ok(Counted::new(BufReader::new(alloc, bytes)?))
 }
 
 /// A source of these bytes that gives them one by one.
@@ -93,15 +79,10 @@ pub fn shows(
     end: End,
 ) -> Result<(), Fail> {
     pipes(rt, name, "lent", bytes, wanted, end);
-    pipes(rt, name, "owned", owned(rt.alloc(), bytes)?, wanted, end);
-    pipes(
-        rt,
-        name,
-        "counted",
-        counted(rt.alloc(), bytes)?,
-        wanted,
-        end,
-    );
+    let copy = Vec::from_slice(rt.alloc(), bytes)?;
+    pipes(rt, name, "owned", Cursor::new(copy), wanted, end);
+    let buffered = BufReader::new(rt.alloc(), bytes)?;
+    pipes(rt, name, "counted", Counted::new(buffered), wanted, end);
     let source = one_by_one(rt.alloc(), bytes)?;
     pipes(rt, name, "one byte a read", source, wanted, end);
     Ok(())
@@ -215,51 +196,14 @@ fn an_opening_takes_all_of_its_metadata(rt: HostRuntime) -> Result<(), Fail> {
     reads(&rt, "no attribute", &none, "", End::NoAttributes)?;
     let small = described(rt.alloc(), Endianness::LittleEndian, 56)?;
     let later = described(rt.alloc(), Endianness::LittleEndian, 64)?;
-    named_twice(&rt, &small.bytes, &later.bytes)
-}
-
-/// Names that come later don't stand for those of the opening.
-fn named_twice<'a>(
-    rt: &(impl Abort + AllocGlobal),
-    first: &'a [u8],
-    later: &'a [u8],
-) -> Result<(), Fail> {
+    // names that come later don't stand for those of the opening
     let named = [
         PLAIN,
-        Part::Feature(12, first),
+        Part::Feature(12, &small.bytes),
         Part::Sample(3),
-        Part::Feature(12, later),
+        Part::Feature(12, &later.bytes),
     ];
-    reads(rt, "names that come later", &named, "", End::Sizes)
-}
-
-/// How many lines were told before the writer refused one, and of which kind its error is, where it did.
-fn refusal_of(listed: &Result<u64, ListFault>) -> Option<(u64, ErrorKind)> {
-    let Err(
-        ListFault {
-            lines,
-            cause: ListCause::Write(error),
-        },
-    ) = listed
-    else {
-        return None;
-    };
-    Some((*lines, error.kind()))
-}
-
-/// How the writer of 20 bytes refuses the listing of a pipe, and how many bytes it took.
-fn refused(alloc: Global, bytes: &[u8]) -> (Option<(u64, ErrorKind)>, usize) {
-    let mut out = Twenty { taken: 0 };
-    let listed = list_pipe(alloc, bytes, &mut out);
-    (refusal_of(&listed), out.taken)
-}
-
-#[test]
-fn a_refused_write_counts_no_opening(rt: HostRuntime) -> Result<(), Fail> {
-    let image = little(rt.alloc(), &TWO)?;
-    let came = refused(rt.alloc(), &image.bytes);
-    assert_eq!(rt; came, (Some((1, ErrorKind::StorageFull)), 20));
-    Ok(())
+    reads(&rt, "names that come later", &named, "", End::Sizes)
 }
 
 /// How a pipe's opening ends, whatever comes of its records.
@@ -279,23 +223,18 @@ fn every_cut_of_a_pipe(rt: HostRuntime) -> Result<(), Fail> {
     Ok(())
 }
 
-/// How the opening of the traced pipe's first bytes ends, their lines, and how those end.
-fn of_cut(length: usize) -> (End, &'static str, End) {
-    match length {
+/// What so many of the traced pipe's bytes come to: how its opening ends, their lines, and how those end.
+fn is_cut(rt: &(impl Abort + AllocGlobal), bytes: &[u8], length: usize) -> Result<(), Fail> {
+    let cut = bytes.get(..length).unwrap_or(&[]);
+    let name = format!(in rt.alloc(); "cut to {length}")?;
+    let (opening, lines, end) = match length {
         0..=15 => (End::Short, "", End::Short),
         16..=23 => (End::NoAttributes, "", End::NoAttributes),
         24..=87 => (End::Short, "", End::Short),
         88..=135 => (End::Whole, "", End::Whole),
         136 => (End::Whole, "", End::Data),
         _ => (End::Whole, TRACE_LINE, End::Whole),
-    }
-}
-
-/// What so many of the traced pipe's bytes come to.
-fn is_cut(rt: &(impl Abort + AllocGlobal), bytes: &[u8], length: usize) -> Result<(), Fail> {
-    let cut = bytes.get(..length).unwrap_or(&[]);
-    let name = format!(in rt.alloc(); "cut to {length}")?;
-    let (opening, lines, end) = of_cut(length);
+    };
     assert_eq!(rt; opening_of(rt, cut), opening, "{name}");
     shows(rt, &name, cut, lines, end)
 }
@@ -375,25 +314,15 @@ const TWO_NAMES: [Part<'_>; 3] = [
     Part::Feature((1 << 32) + 3, &[1, 0, 0, 0, b'b']),
 ];
 
-/// Whether a pipe of these parts has no features in its set, and feature 300 has this data.
-fn has_300(alloc: Global, parts: &[Part<'_>], data: &[u8]) -> Result<(bool, bool), Fail> {
-    let file = told(alloc, parts)?;
-    let has = file.feature_section_data(Feature(300)) == Some(data);
-    Ok((file.features().is_empty(), has))
-}
-
-/// How many features a pipe of these parts has, and whether this is its host's name.
-fn has_host(alloc: Global, parts: &[Part<'_>], name: &str) -> Result<(usize, bool), Fail> {
-    let file = told(alloc, parts)?;
-    let has = file.hostname()? == Some(name);
-    Ok((file.features().len(), has))
-}
-
 #[test]
 fn features_of_pipes(rt: HostRuntime) -> Result<(), Fail> {
     reads(&rt, "feature 300", &FEATURE_300, LINE, End::Whole)?;
-    assert_eq!(rt; has_300(rt.alloc(), &FEATURE_300, b"a")?, (true, true));
-    assert_eq!(rt; has_host(rt.alloc(), &TWO_NAMES, "b")?, (1, true));
+    let file = told(rt.alloc(), &FEATURE_300)?;
+    assert!(rt; file.features().is_empty(), "no set has it");
+    let data = file.feature_section_data(Feature(300));
+    assert_eq!(rt; data, Some(b"a".as_slice()));
+    let file = told(rt.alloc(), &TWO_NAMES)?;
+    assert_eq!(rt; has_host(&file, Some("b"))?, (false, 1, true));
     let cut = [PLAIN, Part::Head(80, 0, 12), Part::Filled(0, 4)];
     reads(&rt, "a cut number", &cut, "", End::Short)
 }
@@ -414,11 +343,7 @@ fn lettered(
     image.word(u32::try_from(letters.len()).unwrap_or(0))?;
     image.word(size)?;
     for letter in letters {
-        image.attribute(4, 0)?;
-        image.word(1)?;
-        image.word(2)?;
-        image.raw(&[*letter, 0])?;
-        image.long(5)?;
+        image.event(&[5], *letter)?;
     }
     Ok(image)
 }
@@ -447,16 +372,6 @@ pub fn first_name(file: &PerfFile) -> Option<&str> {
     file.event_attributes().first()?.name()
 }
 
-/// The name of a pipe's one attribute, where there is just one, and it has these identifiers.
-fn only_name<'a>(file: &'a PerfFile, ids: &[u64]) -> Option<Option<&'a str>> {
-    let attributes = file.event_attributes();
-    if attributes.len() == 1 && attributes[0].ids() == ids {
-        Some(attributes[0].name())
-    } else {
-        None
-    }
-}
-
 /// The name that EVENT_DESC gives an attribute with these identifiers, and the pipe's line.
 fn is_named(
     rt: &(impl Abort + AllocGlobal),
@@ -471,7 +386,9 @@ fn is_named(
     ];
     reads(rt, "EVENT_DESC", &parts, LINE, End::Whole)?;
     let file = told(rt.alloc(), &parts)?;
-    assert_eq!(rt; only_name(&file, ids), Some(name));
+    let attributes = file.event_attributes();
+    assert_eq!(rt; attributes.len(), 1);
+    assert_eq!(rt; (attributes[0].ids(), attributes[0].name()), (ids, name));
     Ok(())
 }
 
@@ -544,11 +461,11 @@ fn interrupted_reads(rt: HostRuntime) -> Result<(), Fail> {
         let source = interrupted(rt.alloc(), &file.bytes, 168, times)?;
         lists(&rt, "a file", "interrupted", source, lines, end);
     }
-    interrupted_pipes(&rt)
+    Ok(())
 }
 
-/// The same of pipes.
-fn interrupted_pipes(rt: &(impl Abort + AllocGlobal)) -> Result<(), Fail> {
+#[test]
+fn interrupted_reads_of_pipes(rt: HostRuntime) -> Result<(), Fail> {
     let pipe = little(rt.alloc(), &TRACED)?;
     for (times, lines, end) in [
         (16usize, TRACED_LINES, End::Whole),
@@ -556,7 +473,7 @@ fn interrupted_pipes(rt: &(impl Abort + AllocGlobal)) -> Result<(), Fail> {
     ] {
         // the header and the attribute have 88 bytes
         let source = interrupted(rt.alloc(), &pipe.bytes, 88, times)?;
-        pipes(rt, "a pipe", "interrupted", source, lines, end);
+        pipes(&rt, "a pipe", "interrupted", source, lines, end);
     }
     Ok(())
 }

@@ -1,11 +1,11 @@
 //! A fault at each read in turn.
-use super::super::image::{Image, Part};
+use super::super::image::Part;
+use super::super::made;
 use super::{
     DATA, FILE_RECORDS, PIPE_RECORDS, Promise, Refusal, ends, fails, file_holds, first, of_first,
     pipe_holds, traced,
 };
 use linux_perf_data::source::Step;
-use std::alloc::{AllocError, Global};
 use std::io::ErrorKind;
 use std::test::Fail;
 
@@ -22,21 +22,7 @@ fn a_fault_at_each_read_of_a_file(rt: HostRuntime) -> Result<(), Fail> {
     Ok(())
 }
 
-/// Two samples with a marker of 16 bytes between them; the first has misc 2.
-fn with_marker(alloc: Global) -> Result<Image, AllocError> {
-    let mut image = Image::little(alloc, 48, 4, 0)?;
-    for part in [
-        Part::Head(9, 2, 16),
-        Part::Long(20),
-        Part::Marker(16),
-        Part::Sample(10),
-    ] {
-        image.part(part)?;
-    }
-    Ok(image)
-}
-
-/// What that file comes to where its source fails behind so many bytes of it.
+/// What two samples with a marker of 16 bytes between them come to where its source fails behind so many bytes of it.
 fn of_marked(at: usize) -> Promise<'static> {
     match at {
         192..=199 => fails(&FILE_RECORDS[..1], DATA),
@@ -48,7 +34,13 @@ fn of_marked(at: usize) -> Promise<'static> {
 
 #[test]
 fn a_fault_at_each_read_of_a_marker(rt: HostRuntime) -> Result<(), Fail> {
-    let image = with_marker(rt.alloc())?;
+    let parts = [
+        Part::Head(9, 2, 16),
+        Part::Long(20),
+        Part::Marker(16),
+        Part::Sample(10),
+    ];
+    let image = made(rt.alloc(), (48, 4, 0), &parts)?;
     assert_eq!(rt; image.bytes.len(), 216);
     for at in 184..216usize {
         let stop = (at, Step::Fault(ErrorKind::Other));

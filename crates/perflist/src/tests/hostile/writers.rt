@@ -1,9 +1,12 @@
 //! Writers that take so many bytes and then fail, or take none.
-use super::super::jit::FILE;
+use super::super::image::Image;
+use super::super::jit::{End, FILE, end_of};
+use super::super::pipe::{TWO, little};
 use super::{first, traced};
 use crate::jit::list_jit;
-use crate::list::{ListCause, ListFault, list_file, list_pipe};
+use crate::list::{list_file, list_pipe};
 use crate::output::{LineBuffer, write_line};
+use linux_perf_data::Endianness;
 use std::alloc::{AllocError, Global};
 use std::io::{Cursor, Error, ErrorKind, Write};
 use std::test::Fail;
@@ -34,32 +37,6 @@ impl Write for Front {
     fn flush(&mut self) -> std::io::Result<()> {
         self.flushes = self.flushes.saturating_add(1);
         Ok(())
-    }
-}
-
-/// How a listing ends.
-#[derive(Clone, Copy, Debug, PartialEq, Eq)]
-enum End {
-    Whole,
-    Write(ErrorKind),
-    Perf,
-    Jit,
-    Read(ErrorKind),
-}
-
-/// How it ends, and the lines that it tells.
-fn end_of(listed: Result<u64, ListFault>) -> (End, u64) {
-    match listed {
-        Ok(lines) => (End::Whole, lines),
-        Err(fault) => {
-            let end = match fault.cause {
-                ListCause::Write(error) => End::Write(error.kind()),
-                ListCause::Read(error) => End::Read(error.kind()),
-                ListCause::Perf(_) => End::Perf,
-                ListCause::Jit(_) => End::Jit,
-            };
-            (end, fault.lines)
-        }
     }
 }
 
@@ -131,6 +108,22 @@ fn a_writer_takes_each_front(rt: HostRuntime) -> Result<(), Fail> {
                 );
             }
         }
+    }
+    Ok(())
+}
+
+#[test]
+fn a_writer_takes_twenty_bytes(rt: HostRuntime) -> Result<(), Fail> {
+    let file = Image::first(rt.alloc(), Endianness::LittleEndian)?;
+    let pipe = little(rt.alloc(), &TWO)?;
+    let full = ErrorKind::StorageFull;
+    for (input, bytes) in [(Input::File, &file.bytes), (Input::Pipe, &pipe.bytes)] {
+        let (end, taken) = listed(rt.alloc(), input, bytes, (20, Some(full)));
+        assert_eq!(rt;
+            (end, taken.len()),
+            ((End::Write(full), 1), 20),
+            "{input:?}"
+        );
     }
     Ok(())
 }
