@@ -6,8 +6,6 @@ mod base;
 #[cfg(test)]
 mod files;
 #[cfg(test)]
-mod helpers;
-#[cfg(test)]
 mod hostile;
 #[cfg(test)]
 mod jit;

@@ -37,16 +37,22 @@ fn refusal_of(error: &Error) -> Answer {
     }
 }
 
-fn answer_of(next: Result<Option<(RecordPlace, PerfFileRecord<'_>)>, Error>) -> Answer {
-    match next {
-        Ok(Some((place, PerfFileRecord::EventRecord { attr_index, event }))) => {
+fn record_of(place: RecordPlace, record: PerfFileRecord<'_>) -> Answer {
+    match record {
+        PerfFileRecord::EventRecord { attr_index, event } => {
             let parts = (event.record_type.0, event.misc, event.body.len());
             Answer::Record(place, Some(attr_index), parts)
         }
-        Ok(Some((place, PerfFileRecord::UserRecord(user)))) => {
+        PerfFileRecord::UserRecord(user) => {
             let parts = (user.record_type.record_type().0, user.misc, user.body.len());
             Answer::Record(place, None, parts)
         }
+    }
+}
+
+fn answer_of(next: Result<Option<(RecordPlace, PerfFileRecord<'_>)>, Error>) -> Answer {
+    match next {
+        Ok(Some((place, record))) => record_of(place, record),
         Ok(None) => Answer::Nothing,
         Err(error) => refusal_of(&error),
     }
@@ -111,6 +117,14 @@ pub fn pipe(alloc: Global) -> Result<Vec<u8>, AllocError> {
     Ok(bytes)
 }
 
+/// Appends numbers of eight bytes.
+pub fn push_numbers(bytes: &mut Vec<u8>, numbers: &[u64]) -> Result<(), AllocError> {
+    for number in numbers {
+        bytes.extend_from_slice(&number.to_le_bytes())?;
+    }
+    Ok(())
+}
+
 /// Appends a record of an attribute with these identifiers.
 pub fn push_attribute(
     bytes: &mut Vec<u8>,
@@ -122,10 +136,7 @@ pub fn push_attribute(
     bytes.extend_from_slice(&[64, 0, 0, 0, 0, 0])?;
     bytes.extend_from_slice(&size.to_le_bytes())?;
     bytes.extend_from_slice(attribute)?;
-    for id in ids {
-        bytes.extend_from_slice(&id.to_le_bytes())?;
-    }
-    Ok(())
+    push_numbers(bytes, ids)
 }
 
 /// An attribute of this format, with SAMPLE_ID_ALL or without.

@@ -1,9 +1,14 @@
 //! Headers of jitdump files, wherever they are split, and the first reason why there is none.
-use crate::jit::jitdump_reader::FILE;
 use byteorder::LittleEndian;
 use perfdata_base::raw::RawData;
 use perfdata_jit::{JitDumpError, JitDumpHeader};
 use std::io::ErrorKind;
+
+// Of version 1 and 40 bytes, for the machine 62, by the process 7 at 5.
+const LITTLE: [u8; 40] = [
+    0x44, 0x54, 0x69, 0x4a, 1, 0, 0, 0, 40, 0, 0, 0, 62, 0, 0, 0, 0, 0, 0, 0, 7, 0, 0, 0, 5, 0, 0,
+    0, 0, 0, 0, 0, 0, 0, 0, 0, 0, 0, 0, 0,
+];
 
 // Of version 1 and 40 bytes, with other numbers all different.
 const BIG: [u8; 40] = [
@@ -13,6 +18,15 @@ const BIG: [u8; 40] = [
 
 // The magic, the version and the size, the machine and the process, the time and the flags.
 type Told = ([u8; 4], (u32, u32), (u32, u32), (u64, u64));
+
+fn told_of(header: &JitDumpHeader) -> Told {
+    (
+        header.magic,
+        (header.version, header.total_size),
+        (header.elf_machine_arch, header.pid),
+        (header.timestamp, header.flags),
+    )
+}
 
 #[derive(Clone, Copy, Debug, PartialEq, Eq)]
 enum Refusal {
@@ -24,12 +38,7 @@ enum Refusal {
 
 fn parse(bytes: RawData<'_>) -> Result<Told, Refusal> {
     match JitDumpHeader::parse(bytes) {
-        Ok(header) => Ok((
-            header.magic,
-            (header.version, header.total_size),
-            (header.elf_machine_arch, header.pid),
-            (header.timestamp, header.flags),
-        )),
+        Ok(header) => Ok(told_of(&header)),
         Err(JitDumpError::NotEnoughBytesForHeader) => Err(Refusal::NotEnoughBytes),
         Err(JitDumpError::InvalidHeaderSize(size)) => Err(Refusal::Size(size)),
         Err(JitDumpError::InvalidMagicBytes(magic)) => Err(Refusal::Magic(magic)),
@@ -37,9 +46,9 @@ fn parse(bytes: RawData<'_>) -> Result<Told, Refusal> {
     }
 }
 
-// The file's first bytes, so many, with a byte changed.
+// The first bytes, so many, with a byte changed.
 fn changed(at: usize, byte: u8, count: usize) -> Result<Told, Refusal> {
-    let mut bytes = FILE;
+    let mut bytes = LITTLE;
     if let Some(slot) = bytes.get_mut(at) {
         *slot = byte;
     }
@@ -62,7 +71,7 @@ fn behind_magic(behind: &[u8]) -> Result<(u32, u64), ErrorKind> {
 fn reads_each_field_wherever_it_is_split(rt: HostRuntime) {
     let wanted = ([0x44, 0x54, 0x69, 0x4a], (1, 40), (62, 7), (5, 0));
     for at in 0..41usize {
-        let (front, back) = FILE[..40].split_at(at);
+        let (front, back) = LITTLE.split_at(at);
         let got = parse(RawData::Split(front, back));
         assert_eq!(rt; got, Ok(wanted), "split at {at}");
     }
@@ -93,8 +102,8 @@ fn refuses_by_the_first_reason(rt: HostRuntime) {
 
 #[test]
 fn takes_small_headers_behind_the_magic(rt: HostRuntime) {
-    let mut bytes = FILE;
+    let mut bytes = LITTLE;
     bytes[8] = 39;
-    assert_eq!(rt; behind_magic(&bytes[4..40]), Ok((39, 5)));
+    assert_eq!(rt; behind_magic(&bytes[4..]), Ok((39, 5)));
     assert_eq!(rt; behind_magic(&bytes[4..39]), Err(ErrorKind::UnexpectedEof));
 }

@@ -1,5 +1,4 @@
 //! The reader, over sources that show their bytes bit by bit, pause, fail and grow.
-use crate::helpers::{by_kind, joined};
 use perfdata_base::raw::RawData;
 use perfdata_base::source::{Script, Source, Step};
 use perfdata_jit::{
@@ -9,8 +8,7 @@ use std::alloc::Global;
 use std::io::{Cursor, ErrorKind, Result as IoResult};
 use std::test::Fail;
 
-// A header of version 1 and 40 bytes, for the machine 62, by the process 7 at 5, and a load record of 62 at 9: process and
-// thread 7, addresses 0x1000, index 0, `foo` and two bytes of code.
+// A header of 40 bytes, and a load record of 62 at 9.
 pub(crate) const FILE: [u8; 102] = [
     0x44, 0x54, 0x69, 0x4a, 1, 0, 0, 0, 40, 0, 0, 0, 62, 0, 0, 0, 0, 0, 0, 0, 7, 0, 0, 0, 5, 0, 0,
     0, 0, 0, 0, 0, 0, 0, 0, 0, 0, 0, 0, 0, 0, 0, 0, 0, 62, 0, 0, 0, 9, 0, 0, 0, 0, 0, 0, 0, 7, 0,
@@ -21,32 +19,35 @@ pub(crate) const FILE: [u8; 102] = [
 // A closing record at 11.
 const CLOSE: [u8; 16] = [3, 0, 0, 0, 16, 0, 0, 0, 11, 0, 0, 0, 0, 0, 0, 0];
 
-// What a call for the next record answers.
+// What a call for the next record answers: the record's place, time, type and size, or none, or a refusal.
 #[derive(Clone, Copy, Debug, PartialEq, Eq)]
-pub(crate) enum Answer {
-    // A record's place, time, type and size, and whether its body is that of the file's record.
-    Record((u64, u64, u32, u32), bool),
+enum Answer {
+    Record(u64, u64, u32, u32),
     Nothing,
     Refused(ErrorKind),
 }
 
-pub(crate) const LOAD: Answer = Answer::Record((40, 9, 0, 62), true);
+const LOAD: Answer = Answer::Record(40, 9, 0, 62);
 
 fn answer_of(next: IoResult<Option<JitDumpRawRecord<'_>>>) -> Answer {
     match next {
-        Ok(Some(r)) => Answer::Record(
-            (r.start_offset, r.timestamp, r.record_type.0, r.record_size),
-            r.body == RawData::Single(&FILE[56..]),
-        ),
+        Ok(Some(r)) => Answer::Record(r.start_offset, r.timestamp, r.record_type.0, r.record_size),
         Ok(None) => Answer::Nothing,
         Err(error) => Answer::Refused(error.kind()),
     }
 }
 
 // The answer of a call for the next record, and where the next record begins then.
-pub(crate) fn next<R: Source>(reader: &mut JitDumpReader<R>) -> (Answer, u64) {
+fn next<R: Source>(reader: &mut JitDumpReader<R>) -> (Answer, u64) {
     let answer = answer_of(reader.next_record());
     (answer, reader.next_record_offset())
+}
+
+fn timestamp<R: Source>(reader: &mut JitDumpReader<R>) -> Result<Option<u64>, ErrorKind> {
+    match reader.next_record_timestamp() {
+        Ok(timestamp) => Ok(timestamp),
+        Err(error) => Err(error.kind()),
+    }
 }
 
 // The type and the size of the next record.
@@ -84,7 +85,7 @@ fn script(alloc: Global, shown: usize, steps: Vec<Step>) -> Result<Script, Fail>
 }
 
 // A head of this size behind the header, and then these bytes.
-pub(crate) fn head_of_size(alloc: Global, size: u32, behind: &[u8]) -> Result<Vec<u8>, Fail> {
+fn head_of_size(alloc: Global, size: u32, behind: &[u8]) -> Result<Vec<u8>, Fail> {
     let mut bytes = FILE.to_vec(alloc)?;
     bytes.truncate(44);
     bytes.extend_from_slice(&size.to_le_bytes())?;
@@ -99,6 +100,45 @@ fn opened<R: Source + Drop>(
     size: usize,
 ) -> Result<JitDumpReader<R>, Fail> {
     Ok(JitDumpReader::new_with_buffer_size(alloc, source, size)?)
+}
+
+// A reader of the file, whose reads come to this step behind so many single bytes, and which grows then.
+fn stopping(
+    alloc: Global,
+    at: usize,
+    step: Step,
+    shown: usize,
+) -> Result<JitDumpReader<Script>, Fail> {
+    let mut steps = bytes_then(alloc, at, step)?;
+    steps.push(Step::Grow(200))?;
+    let source = script(alloc, shown, steps)?;
+    opened(alloc, source, 40)
+}
+
+#[test]
+fn loses_nothing_at_any_read(rt: HostRuntime) -> Result<(), Fail> {
+    for at in 40..102usize {
+        for (step, shown, first) in [
+            (Step::Pause, 102, Answer::Nothing),
+            (
+                Step::Fault(ErrorKind::TimedOut),
+                102,
+                Answer::Refused(ErrorKind::TimedOut),
+            ),
+            (
+                Step::Fault(ErrorKind::Interrupted),
+                102,
+                Answer::Refused(ErrorKind::Interrupted),
+            ),
+            (Step::Pause, at, Answer::Nothing),
+        ] {
+            let mut reader = stopping(rt.alloc(), at, step, shown)?;
+            for wanted in [(first, 40), (LOAD, 102)] {
+                assert_eq!(rt; next(&mut reader), wanted, "at {at}");
+            }
+        }
+    }
+    Ok(())
 }
 
 // A reader of the file, of which so many bytes are shown and which grows by a byte at a time.
@@ -172,15 +212,18 @@ fn a_cut_file_waits(rt: HostRuntime) {
 }
 
 // Where the code of a function with a short name begins in its record, and whether the code is the two bytes of the file.
+fn code_of(load: &JitCodeLoadRecord<'_>) -> Option<(usize, bool)> {
+    let is_code = load.code_bytes == RawData::Single(&[0x90, 0xc3]);
+    if load.function_name.len() < 100 {
+        Some((load.code_bytes_offset_from_record_header_start(), is_code))
+    } else {
+        None
+    }
+}
+
 fn code_in(alloc: Global, record: &JitDumpRawRecord<'_>) -> Option<(usize, bool)> {
     match record.parse(alloc) {
-        Ok(JitDumpRecord::CodeLoad(load)) => {
-            if load.function_name.len() >= 100 {
-                return None;
-            }
-            let is_code = load.code_bytes == RawData::Single(&[0x90, 0xc3]);
-            Some((load.code_bytes_offset_from_record_header_start(), is_code))
-        }
+        Ok(JitDumpRecord::CodeLoad(load)) => code_of(&load),
         _ => None,
     }
 }
@@ -203,7 +246,7 @@ fn next_code<R: Source>(
 fn tells_of_the_next_record(rt: HostRuntime) -> Result<(), Fail> {
     let mut reader = JitDumpReader::new(rt.alloc(), &FILE[..])?;
     assert_eq!(rt; reader.header().pid, 7);
-    assert_eq!(rt; by_kind(reader.next_record_timestamp()), Ok(Some(9)));
+    assert_eq!(rt; timestamp(&mut reader), Ok(Some(9)));
     assert_eq!(rt; type_and_size(&mut reader), Some((0, 62)));
     assert_eq!(rt;
         next_code(rt.alloc(), &mut reader),
@@ -212,11 +255,16 @@ fn tells_of_the_next_record(rt: HostRuntime) -> Result<(), Fail> {
     Ok(())
 }
 
+// A reader of the whole file, which comes in single bytes.
+fn single_bytes(alloc: Global) -> Result<JitDumpReader<Script>, Fail> {
+    let steps = bytes_then(alloc, 102, Step::Pause)?;
+    let source = script(alloc, 102, steps)?;
+    opened(alloc, source, 40)
+}
+
 #[test]
 fn a_record_comes_in_single_bytes(rt: HostRuntime) -> Result<(), Fail> {
-    let steps = bytes_then(rt.alloc(), 102, Step::Pause)?;
-    let source = script(rt.alloc(), 102, steps)?;
-    let mut reader = opened(rt.alloc(), source, 40)?;
+    let mut reader = single_bytes(rt.alloc())?;
     assert_eq!(rt;
         next_code(rt.alloc(), &mut reader),
         (LOAD, Some((60, true)))
@@ -247,17 +295,23 @@ fn a_body_may_lie_in_two_pieces(rt: HostRuntime) -> Result<(), Fail> {
 }
 
 // The file with a header of 48 bytes.
-#[test]
-fn records_begin_behind_the_whole_header(rt: HostRuntime) -> Result<(), Fail> {
-    let mut bytes = FILE[..40].to_vec(rt.alloc())?;
+fn longer_header(alloc: Global) -> Result<Vec<u8>, Fail> {
+    let mut bytes = FILE.to_vec(alloc)?;
+    bytes.truncate(40);
     if let Some(size) = bytes.get_mut(8) {
         *size = 48;
     }
     bytes.extend_from_slice(&[0xee; 8])?;
     bytes.extend_from_slice(&FILE[40..])?;
+    Ok(bytes)
+}
+
+#[test]
+fn records_begin_behind_the_whole_header(rt: HostRuntime) -> Result<(), Fail> {
+    let bytes = longer_header(rt.alloc())?;
     let mut reader = opened(rt.alloc(), bytes.as_slice(), 64)?;
     assert_eq!(rt; reader.next_record_offset(), 48);
-    let wanted = (Answer::Record((48, 9, 0, 62), true), 110);
+    let wanted = (Answer::Record(48, 9, 0, 62), 110);
     assert_eq!(rt; next(&mut reader), wanted);
     Ok(())
 }
@@ -356,7 +410,7 @@ fn waits_for_a_record_longer_than_any_file(rt: HostRuntime) -> Result<(), Fail> 
         let mut reader = waiting(rt.alloc(), size, pauses)?;
         for call in 0..3u32 {
             assert_eq!(rt; next(&mut reader), (Answer::Nothing, 40), "call {call}");
-            assert_eq!(rt; by_kind(reader.next_record_timestamp()), Ok(Some(9)));
+            assert_eq!(rt; timestamp(&mut reader), Ok(Some(9)));
         }
     }
     for size in [40usize, 4096] {
@@ -366,12 +420,18 @@ fn waits_for_a_record_longer_than_any_file(rt: HostRuntime) -> Result<(), Fail> 
     Ok(())
 }
 
+// A reader of the file and a closing record behind it.
+fn closed(alloc: Global) -> Result<JitDumpReader<Cursor<Vec<u8>>>, Fail> {
+    let mut bytes = FILE.to_vec(alloc)?;
+    bytes.extend_from_slice(&CLOSE)?;
+    opened(alloc, Cursor::new(bytes), 4096)
+}
+
 #[test]
 fn passes_over_records(rt: HostRuntime) -> Result<(), Fail> {
-    let bytes = joined(rt.alloc(), &FILE, &CLOSE)?;
-    let mut reader = opened(rt.alloc(), Cursor::new(bytes), 4096)?;
+    let mut reader = closed(rt.alloc())?;
     assert!(rt; reader.skip_next_record()?);
-    let wanted = (Answer::Record((102, 11, 3, 16), false), 118);
+    let wanted = (Answer::Record(102, 11, 3, 16), 118);
     assert_eq!(rt; next(&mut reader), wanted);
     assert!(rt; !reader.skip_next_record()?);
     assert_eq!(rt; next(&mut reader), (Answer::Nothing, 118));
@@ -385,32 +445,38 @@ fn long_record(
     steps: &[Step],
     seek_faults: &[u64],
 ) -> Result<JitDumpReader<Script>, Fail> {
-    let bytes = head_of_size(alloc, 100, &[0xee; 84])?;
+    let mut bytes = head_of_size(alloc, 100, &[])?;
+    bytes.resize(140, 0xee)?;
     let steps = Vec::from_slice(alloc, steps)?;
     let seek_faults = Vec::from_slice(alloc, seek_faults)?;
     opened(alloc, Script::new(bytes, shown, steps, seek_faults), 40)
+}
+
+// Whether the next record was passed over, and where the next one begins then.
+fn skipped(reader: &mut JitDumpReader<Script>) -> (Result<bool, ErrorKind>, u64) {
+    let passed = match reader.skip_next_record() {
+        Ok(passed) => Ok(passed),
+        Err(error) => Err(error.kind()),
+    };
+    (passed, reader.next_record_offset())
 }
 
 #[test]
 fn passes_over_what_is_shown_alone(rt: HostRuntime) -> Result<(), Fail> {
     let steps = [Step::Give(40), Step::Give(20), Step::Grow(80)];
     let mut reader = long_record(rt.alloc(), 60, &steps, &[])?;
-    assert_eq!(rt; by_kind(reader.skip_next_record()), Ok(false));
-    assert_eq!(rt; reader.next_record_offset(), 40);
-    let wanted = (Answer::Record((40, 9, 0, 100), false), 140);
+    assert_eq!(rt; skipped(&mut reader), (Ok(false), 40));
+    let wanted = (Answer::Record(40, 9, 0, 100), 140);
     assert_eq!(rt; next(&mut reader), wanted);
     for failing in 0..3u64 {
         let mut reader = long_record(rt.alloc(), 140, &[], &[failing])?;
         let other = ErrorKind::Other;
-        let passed = by_kind(reader.skip_next_record());
-        assert_eq!(rt; passed, Err(other), "{failing}");
-        assert_eq!(rt; reader.next_record_offset(), 40);
-        assert_eq!(rt; by_kind(reader.next_record_timestamp()), Err(other));
+        assert_eq!(rt; skipped(&mut reader), (Err(other), 40), "{failing}");
+        assert_eq!(rt; timestamp(&mut reader), Err(other));
         assert_eq!(rt; next(&mut reader), (Answer::Refused(other), 40));
     }
     let mut reader = long_record(rt.alloc(), 140, &[], &[3])?;
-    assert_eq!(rt; by_kind(reader.skip_next_record()), Ok(true));
-    assert_eq!(rt; reader.next_record_offset(), 140);
+    assert_eq!(rt; skipped(&mut reader), (Ok(true), 140));
     Ok(())
 }
 
@@ -429,7 +495,7 @@ fn ten_records_go_round_the_ring(rt: HostRuntime) -> Result<(), Fail> {
     let mut reader = ten_records(rt.alloc())?;
     for number in 0..10u64 {
         let place = 40 + 62 * number;
-        let wanted = (Answer::Record((place, 9, 0, 62), true), place + 62);
+        let wanted = (Answer::Record(place, 9, 0, 62), place + 62);
         assert_eq!(rt; next(&mut reader), wanted);
     }
     assert_eq!(rt; next(&mut reader), (Answer::Nothing, 660));
