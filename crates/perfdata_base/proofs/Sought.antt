@@ -5,6 +5,7 @@ use Rattle.std.specs.Io.Cursor.{IsSeekResult, IsSeekFromEnd}
 use Rattle.std.specs.declared.io.SeekFrom.{SeekFrom}
 use Rattle.std.specs.declared.io.SeekFrom.TheVariants.{Start, End, Current}
 use Rattle.std.proofs.lemmas.List.{length-take-le, take-append-drop, drop-drop}
+use Rattle.perfdata_base.specs.AtHand.{HandedOver}
 use Rattle.perfdata_base.specs.Source.{told_from, CameInto, Stood, Shown, GoesTo, GoesNowhere, Seeks}
 
 stood : (all : List ℕ) (at to : ℕ) → Stood (told_from all at) (told_from all to)
@@ -59,3 +60,17 @@ came_from all place at n some within same fits =
       };
       none = λ is. absurd (omega arith);
     }
+
+-- the bytes from a cursor's place on, up to a further place
+pub handed_from : (all front : List ℕ) (at n : ℕ) → length front ≡ n → front ≡ take n (drop at all) → HandedOver (told_from all at) front (told_from all (at + n))
+handed_from all front at n long is = record {
+  gave = record {
+    bytes = ap (λ l. Some l) (sym (take-append-drop n (drop at all)) ∙ ap (λ f. f ++ drop n (drop at all)) (sym is) ∙ ap (λ r. front ++ r) (drop-drop n at all));
+    place = ap (λ k. Some (record { all = all; at = at + k })) (sym long);
+    faults = omega arith;
+    pauses = omega arith;
+    steady = λ h. record { steady = h; faults = refl; pauses = refl };
+  };
+  faults = refl;
+  pauses = refl;
+}

@@ -1,8 +1,11 @@
+pub mod AtHand
 pub mod Attr
+pub mod CountedBuffer
 pub mod Event
 pub mod Features
 pub mod Header
 pub mod IdCache
+pub mod Near
 pub mod Numbers
 pub mod PipeHeader
 pub mod Place

@@ -6,16 +6,24 @@ ghost use Rattle.std.specs.Io.Cursor.{cursor_inner, cursor_position};
 ghost use Rattle.std.specs.IoError.{error_kind};
 ghost use Rattle.std.specs.declared.io.ErrorKind.TheVariants.{Interrupted, UnexpectedEof};
 ghost use Rattle.perfdata_base.specs.Source.{State, told, told_from, untold, counted, CanCount, CountsRead, CountsSeek, PausesFor, PausesOnce, IsPlaced, IsSmall, IsWithinReach, Seeks, Reads, Fills, PassesOver, Appends, ReadsAll, SkipsAll};
+ghost use Rattle.perfdata_base.specs.Near.{ReadMoves, SeekTells};
+ghost use Rattle.perfdata_base.specs.AtHand.{IsFront, TakesAtHand, AppendsAtHand};
 ghost use Rattle.perfdata_base.specs.declared.source.AppendFault.TheVariants.{Memory, Source as FromSource};
 ghost use Rattle.perfdata_base.specs.Raw.{bytes_of};
 
 use crate::raw::RawData;
+use crate::source::near::{place_after, seek_near};
 use std::alloc::AllocError;
 use std::io::{Cursor, Error, ErrorKind, Read, Result, Seek, SeekFrom};
 
+mod counted_buffer;
+mod near;
 mod scripted;
 
+pub use counted_buffer::CountedBuffer;
 pub use scripted::{Script, Step};
+
+static NOTHING: &[u8] = &[];
 
 /// Where bytes come from.
 ///
@@ -41,6 +49,34 @@ pub trait Source {
         ensures counts { CountsRead (seen self.old) result (seen self.new) }
         ensures lent { lent self.new ≡ lent self.old };
 
+    /// The front of the bytes to come that the source already holds: to take them it asks nobody. None where it holds none.
+    fn at_hand(&self) -> &[u8]
+        ensures front { IsFront (seen self.now) result.now }
+    {
+        NOTHING
+    }
+
+    /// Fills a place with the next bytes, where as many are at hand, and says so. Where it answers no, nothing is done.
+    fn take_at_hand(&mut self, place: &mut [u8]) -> bool
+        ensures takes { TakesAtHand (seen self.old) place.old result place.new (seen self.new) }
+        ensures lent { lent self.new ≡ lent self.old }
+    {
+        false
+    }
+
+    /// Appends so many of the next bytes, where as many are at hand, and says so. Where it answers no, and where there is no
+    /// memory for them, nothing is done.
+    fn append_at_hand(
+        &mut self,
+        buffer: &mut Vec<u8>,
+        count: usize,
+    ) -> std::result::Result<bool, AllocError>
+        ensures appends { AppendsAtHand (seen self.old) buffer.old.items count result buffer.new.items (seen self.new) }
+        ensures lent { lent self.new ≡ lent self.old }
+    {
+        Ok(false)
+    }
+
     /// A steady source never counts, so its counts are not at their highest.
     ghost steady_can_count: { (s : Self) → IsTrue (seen s).steady → CanCount (seen s) };
 }
@@ -58,6 +94,36 @@ impl Source for &[u8] {
         Ok(count)
     }
 
+    fn at_hand(&self) -> &[u8] {
+        &self[..]
+    }
+
+    fn take_at_hand(&mut self, place: &mut [u8]) -> bool {
+        let all: &[u8] = *self;
+        if all.len() < place.len() {
+            return false;
+        }
+        let (front, rest) = all.split_at(place.len());
+        place.copy_from_slice(front);
+        *self = rest;
+        true
+    }
+
+    fn append_at_hand(
+        &mut self,
+        buffer: &mut Vec<u8>,
+        count: usize,
+    ) -> std::result::Result<bool, AllocError> {
+        let all: &[u8] = *self;
+        if all.len() < count {
+            return Ok(false);
+        }
+        let left = &all[count..];
+        buffer.extend_from_slice(&all[..count])?;
+        *self = left;
+        Ok(true)
+    }
+
     ghost steady_can_count = { λ _ _. record { faults = lit< tt; pauses = lit< tt } };
 }
 
@@ -68,6 +134,22 @@ impl<S: Source> Source for &mut S {
 
     fn read_front(&mut self, place: &mut [u8]) -> Result<usize> {
         Source::read_front(&mut **self, place)
+    }
+
+    fn at_hand(&self) -> &[u8] {
+        Source::at_hand(&**self)
+    }
+
+    fn take_at_hand(&mut self, place: &mut [u8]) -> bool {
+        Source::take_at_hand(&mut **self, place)
+    }
+
+    fn append_at_hand(
+        &mut self,
+        buffer: &mut Vec<u8>,
+        count: usize,
+    ) -> std::result::Result<bool, AllocError> {
+        Source::append_at_hand(&mut **self, buffer, count)
     }
 
     ghost steady_can_count = { λ s. S.steady_can_count s.now };
@@ -100,6 +182,14 @@ fn copy_from(all: &[u8], at: u64, place: &mut [u8]) -> usize
     count
 }
 
+// The bytes from a place on.
+fn bytes_from(all: &[u8], at: u64) -> &[u8]
+    ensures { result.now ≡ drop at all.now }
+{
+    let first = (at as usize).min(all.len());
+    &all[first..]
+}
+
 impl Source for Cursor<Vec<u8>> {
     ghost seen = { λ c. told_from (cursor_inner c).items (cursor_position c) };
 
@@ -112,6 +202,37 @@ impl Source for Cursor<Vec<u8>> {
             self.set_position(at + count as u64);
         }
         Ok(count)
+    }
+
+    fn at_hand(&self) -> &[u8] {
+        bytes_from(self.get_ref().as_slice(), self.position())
+    }
+
+    fn take_at_hand(&mut self, place: &mut [u8]) -> bool {
+        let at = self.position();
+        let rest = bytes_from(self.get_ref().as_slice(), at);
+        let count = place.len();
+        if count == 0 || rest.len() < count {
+            return false;
+        }
+        place.copy_from_slice(&rest[..count]);
+        self.set_position(at + count as u64);
+        true
+    }
+
+    fn append_at_hand(
+        &mut self,
+        buffer: &mut Vec<u8>,
+        count: usize,
+    ) -> std::result::Result<bool, AllocError> {
+        let at = self.position();
+        let left = bytes_from(self.get_ref().as_slice(), at);
+        if count == 0 || left.len() < count {
+            return Ok(false);
+        }
+        buffer.extend_from_slice(&left[..count])?;
+        self.set_position(at + count as u64);
+        Ok(true)
     }
 
     ghost steady_can_count = { λ _ _. record { faults = lit< tt; pauses = lit< tt } };
@@ -132,6 +253,37 @@ impl Source for Cursor<&[u8]> {
         Ok(count)
     }
 
+    fn at_hand(&self) -> &[u8] {
+        bytes_from(self.get_ref(), self.position())
+    }
+
+    fn take_at_hand(&mut self, place: &mut [u8]) -> bool {
+        let at = self.position();
+        let rest = bytes_from(self.get_ref(), at);
+        let count = place.len();
+        if count == 0 || rest.len() < count {
+            return false;
+        }
+        place.copy_from_slice(&rest[..count]);
+        self.set_position(at + count as u64);
+        true
+    }
+
+    fn append_at_hand(
+        &mut self,
+        buffer: &mut Vec<u8>,
+        count: usize,
+    ) -> std::result::Result<bool, AllocError> {
+        let at = self.position();
+        let left = bytes_from(self.get_ref(), at);
+        if count == 0 || left.len() < count {
+            return Ok(false);
+        }
+        buffer.extend_from_slice(&left[..count])?;
+        self.set_position(at + count as u64);
+        Ok(true)
+    }
+
     ghost steady_can_count = { λ _ _. record { faults = lit< tt; pauses = lit< tt } };
 }
 
@@ -139,11 +291,16 @@ impl Source for Cursor<&[u8]> {
 ///
 /// Contracts know none of its bytes. It counts the faults and the empty answers that the reader gives, up to
 /// `u64::MAX`. Each `Err` of a read or a seek is a fault, whatever its kind.
+///
+/// Once a seek has told its place, it seeks by an offset from there, which a `BufReader` does inside its buffer where that
+/// holds the place, and asks for no seek where it already stands there. See [`CountedBuffer`] for a reader behind a buffer
+/// that shows what it holds.
 #[derive(Drop)]
 pub struct Counted<R> {
     reader: R,
     faults: u64,
     pauses: u64,
+    place: Option<u64>,
 }
 
 impl<R: Read> Counted<R> {
@@ -155,6 +312,7 @@ impl<R: Read> Counted<R> {
             reader,
             faults: 0,
             pauses: 0,
+            place: None,
         }
     }
 }
@@ -164,7 +322,13 @@ impl<R: Read> Source for Counted<R> {
 
     ghost lent = { λ _. 0 };
 
-    fn read_front(&mut self, place: &mut [u8]) -> Result<usize> {
+    fn read_front(&mut self, place: &mut [u8]) -> Result<usize>
+        ensures idle { length place.old ≡ 0 → (result ≡ Ok 0) × (counted self.new ≡ counted self.old) }
+        ensures reads { 0 < length place.old → Reads (counted self.old) place.new result (counted self.new) }
+        ensures counts { CountsRead (counted self.old) result (counted self.new) }
+        ensures place { 0 < length place.old → ReadMoves self.old.place result self.new.place }
+        ensures stands { length place.old ≡ 0 → self.new.place ≡ self.old.place }
+    {
         if place.is_empty() {
             return Ok(0);
         }
@@ -173,10 +337,12 @@ impl<R: Read> Source for Counted<R> {
                 if count == 0 {
                     self.pauses = self.pauses.saturating_add(1);
                 }
+                self.place = place_after(self.place, count);
                 Ok(count)
             }
             Err(error) => {
                 self.faults = self.faults.saturating_add(1);
+                self.place = None;
                 Err(error)
             }
         }
@@ -223,11 +389,21 @@ impl PlacedSource for Cursor<&[u8]> {
 }
 
 impl<R: Read + Seek> PlacedSource for Counted<R> {
-    fn seek_to(&mut self, to: SeekFrom) -> Result<u64> {
-        match Seek::seek(&mut self.reader, to) {
-            Ok(at) => Ok(at),
+    fn seek_to(&mut self, to: SeekFrom) -> Result<u64>
+        ensures seeks { Seeks (counted self.old) to result (counted self.new) }
+        ensures counts { CountsSeek (counted self.old) result (counted self.new) }
+        ensures small { IsSmall (counted self.old) }
+        ensures within_reach { IsWithinReach (counted self.old) }
+        ensures place { SeekTells result self.new.place }
+    {
+        match seek_near(&mut self.reader, self.place, to) {
+            Ok(at) => {
+                self.place = Some(at);
+                Ok(at)
+            }
             Err(error) => {
                 self.faults = self.faults.saturating_add(1);
+                self.place = None;
                 Err(error)
             }
         }
@@ -253,11 +429,8 @@ fn is_interrupted(error: &Error) -> bool
     error.kind() == ErrorKind::Interrupted
 }
 
-/// Reads until the place is full or the source gives none. Says how many bytes came.
-///
-/// A read that is interrupted is asked again, up to 16 times in a row. Every other fault, and the 17th of those, is
-/// answered as it came; a part of the place may be filled then.
-pub fn fill<S: Source>(source: &mut S, place: &mut [u8]) -> Result<usize>
+// Fills a place by reads.
+fn fill_asking<S: Source>(source: &mut S, place: &mut [u8]) -> Result<usize>
     ensures fills { Fills (S.seen source.old) place.new result (S.seen source.new) }
     ensures pauses { PausesFor (length place.new) (S.seen source.old) result (S.seen source.new) }
     ensures lent { S.lent source.new ≡ S.lent source.old }
@@ -280,6 +453,21 @@ pub fn fill<S: Source>(source: &mut S, place: &mut [u8]) -> Result<usize>
         }
     }
     Ok(filled)
+}
+
+/// Reads until the place is full or the source gives none. Says how many bytes came.
+///
+/// What is at hand is taken with no read. A read that is interrupted is asked again, up to 16 times in a row. Every other
+/// fault, and the 17th of those, is answered as it came; a part of the place may be filled then.
+pub fn fill<S: Source>(source: &mut S, place: &mut [u8]) -> Result<usize>
+    ensures fills { Fills (S.seen source.old) place.new result (S.seen source.new) }
+    ensures pauses { PausesFor (length place.new) (S.seen source.old) result (S.seen source.new) }
+    ensures lent { S.lent source.new ≡ S.lent source.old }
+{
+    if source.take_at_hand(place) {
+        return Ok(place.len());
+    }
+    fill_asking(source, place)
 }
 
 /// How many bytes are passed over at once.
@@ -360,13 +548,8 @@ fn append_piece<S: Source>(
     Ok(came)
 }
 
-/// Appends so many bytes, or those that come until the source gives none. Says how many.
-///
-/// Reads in pieces of at most 4,096 bytes, and asks for a piece's memory before it reads the piece, so the buffer is
-/// never more than 4,096 bytes longer than what came makes it, whatever the count. Faults are [`AppendFault::Memory`]
-/// and those of [`fill`]; some of the bytes may have been taken then, and the buffer may be up to 4,096 bytes longer
-/// than they make it.
-pub fn append<S: Source>(
+// Appends by reads, in pieces.
+fn append_pieces<S: Source>(
     source: &mut S,
     buffer: &mut Vec<u8>,
     count: usize,
@@ -385,6 +568,31 @@ pub fn append<S: Source>(
         }
     }
     Ok(appended)
+}
+
+/// Appends so many bytes, or those that come until the source gives none. Says how many.
+///
+/// Where all of them are at hand, they are taken from there. Else reads in pieces of at most 4,096 bytes, and asks for a
+/// piece's memory before it reads the piece. So the buffer is never more than 4,096 bytes longer than what came makes it,
+/// whatever the count. Faults are [`AppendFault::Memory`] and those of [`fill`]; some of the bytes may have been taken then,
+/// and the buffer may be up to 4,096 bytes longer than they make it.
+pub fn append<S: Source>(
+    source: &mut S,
+    buffer: &mut Vec<u8>,
+    count: usize,
+) -> std::result::Result<usize, AppendFault>
+    ensures appends { Appends (S.seen source.old) buffer.old.items count result buffer.new.items (S.seen source.new) }
+    ensures pauses { PausesFor count (S.seen source.old) result (S.seen source.new) }
+    ensures lent { S.lent source.new ≡ S.lent source.old }
+{
+    if count == 0 {
+        return Ok(0);
+    }
+    match source.append_at_hand(buffer, count) {
+        Ok(true) => Ok(count),
+        Ok(false) => append_pieces(source, buffer, count),
+        Err(_) => Err(AppendFault::Memory),
+    }
 }
 
 /// The error of bytes that ended early.

@@ -2,7 +2,7 @@ use Rattle.std.proofs.Common.{arith, refl, ◌∙◌, ◌-◌, ◌<◌, ◌≤�
 use Rattle.perfdata_base.proofs.Gives.{gave_none, gave_more, gave_no_more, none_came, failed_later, gave_none_later, front_and_part, length-refilled}
 use Rattle.std.proofs.lemmas.List.{length-take-le}
 use Rattle.std.proofs.lemmas.Slice.{take-put_mid_below}
-use Rattle.perfdata_base.proofs.source.fill.Goals as goal
+use Rattle.perfdata_base.proofs.source.fill_asking.Goals as goal
 
 pub loop-filled-init : goal.loop-filled-init
 loop-filled-init g c = record { within = omega arith; tries = omega arith; gave = gave_none _; pauses = refl; lent = refl }

@@ -1,7 +1,7 @@
 use Rattle.std.proofs.Common.{arith, ◌<◌}
 use Rattle.std.proofs.lemmas.Result.{err_from_is_err_and}
 use Rattle.perfdata_base.proofs.Gives.{appended_fault}
-use Rattle.perfdata_base.proofs.source.append.Goals as goal
+use Rattle.perfdata_base.proofs.source.append_pieces.Goals as goal
 
 pub returns-in_err-came-clause-appends : goal.returns-in_err-came-clause-appends
 returns-in_err-came-clause-appends g c = let p = err_from_is_err_and c.from_residual.result c.from_residual.ensures.1 in

@@ -1,6 +1,6 @@
 use Rattle.std.proofs.Common.{◌≡◌, ◌+◌, ◌-◌, ◌*◌, ◌≤◌, length, take}
 use Rattle.perfdata_base.specs.Source.{Gave}
-use Rattle.perfdata_base.proofs.source.fill.Given as goal
+use Rattle.perfdata_base.proofs.source.fill_asking.Given as goal
 
 abbrev pub invariant-loop-filled : goal.invariant-loop-filled
 invariant-loop-filled g l = record {
