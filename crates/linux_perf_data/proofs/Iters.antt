@@ -67,7 +67,7 @@ markers_on order bound offset (q ∷ qs) p are begins is kind =
 pub markers_none : (order : Endianness) (bound : Bound) (offset : ℕ) → AreMarkers order bound offset []
 markers_none order bound offset = record { pieces = []; cut = refl; are = _ }
 
-markers_more : (order : Endianness) (bound : Bound) (offset : ℕ) (bytes p : List ℕ) → AreMarkers order bound offset bytes → Begins bound (offset + length bytes) → IsRecord order p → kind_of order p ≡ 68 → AreMarkers order bound offset (bytes ++ p)
+pub markers_more : (order : Endianness) (bound : Bound) (offset : ℕ) (bytes p : List ℕ) → AreMarkers order bound offset bytes → Begins bound (offset + length bytes) → IsRecord order p → kind_of order p ≡ 68 → AreMarkers order bound offset (bytes ++ p)
 markers_more order bound offset bytes p m begins is kind = record {
   pieces = m.pieces ++ p ∷ [];
   cut = ap (λ l. l ++ p) m.cut ∙ sym (concat-append m.pieces (p ∷ []) ∙ ap (λ l. concat m.pieces ++ l) (append-nil p));

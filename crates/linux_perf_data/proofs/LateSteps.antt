@@ -1,65 +1,95 @@
 -- How a late record of metadata comes to what a `PerfFile` holds.
-use Rattle.std.proofs.Common.{◌≡◌, ◌≢◌, ℕ, List, [], ◌∷◌, ◌++◌, length, drop, refl, sym, ap, ◌∙◌, subst, arith, inl, inr, append-nil, false, ◌==◌, Option, None, Some}
-use Rattle.std.specs.Prelude.{cond, map, nat_eq, Result, Ok, Err, vec_len}
+use Rattle.std.proofs.Common.{◌≡◌, ◌≢◌, ℕ, List, [], ◌∷◌, ◌++◌, length, drop, refl, sym, ap, ◌∙◌, subst, arith, inl, inr, append-nil, false, ◌==◌, None, Some}
+use Rattle.std.specs.Prelude.{◌⊎◌, cond, nat_eq, Result, Ok, Err, vec_len}
 use Rattle.std.specs.Map.{update_all}
 use Rattle.std.proofs.lemmas.Bool.{ne_eqb}
-use Rattle.std.proofs.lemmas.List.{map_push, length-map}
+use Rattle.std.proofs.lemmas.List.{length-map}
 use Rattle.perfdata_base.specs.Place.{places_of}
 use Rattle.perfdata_base.specs.Features.{HasFeature}
+use Rattle.perfdata_base.specs.declared.attr.PerfEventAttr.{PerfEventAttr}
 use Rattle.perfdata_base.specs.declared.features.FeatureSet.{FeatureSet}
 use Rattle.perfdata_sections.specs.Error.{IsInvalidInput}
 use Rattle.linux_perf_data.specs.Layout.{attributes_of}
 use Rattle.perfdata_base.specs.Numbers.{number_in}
 use Rattle.perfdata_base.specs.declared.raw.Endianness.{Endianness}
-use Rattle.perfdata_sections.specs.AttributeDescription.{name_in, ids_in}
 use Rattle.perfdata_sections.specs.EventDesc.{NoEventDesc}
 use Rattle.perfdata_sections.specs.declared.feature_sections.AttributeDescription.{AttributeDescription}
 use Rattle.perfdata_sections.specs.declared.error.Error.{Error}
 use Rattle.perfdata_sections.specs.declared.error.Error.TheVariants.{Memory, Failed}
 use Rattle.linux_perf_data.specs.declared.known.Known.{Known}
 use Rattle.linux_perf_data.specs.declared.perf_file.PerfFile.{PerfFile}
-use Rattle.linux_perf_data.specs.Attribute.{Attribute, HoldsAttribute, attribute_in, Breach, lacks_identifier, differs_about_trailing}
+use Rattle.linux_perf_data.specs.Attribute.{Attribute, HoldsAttribute, attribute_in, Breach, Breaks, lacks_identifier, differs_about_trailing}
 use Rattle.linux_perf_data.specs.Described.{attribute_by, attributes_by}
 use Rattle.linux_perf_data.specs.Known.{Knows}
 use Rattle.linux_perf_data.specs.Late.{SameFile, IsMetadata, SameCount, Spoils, TakesIn, brings_features}
-use Rattle.linux_perf_data.specs.LateParts.{Names, FindsNames, HaveNames, PutsAttribute, TookAttribute, TakesAttribute, TakesFeature}
-use Rattle.linux_perf_data.specs.Names.{Named, NamedBy, event_desc, name_for, names_for, names_in}
+use Rattle.linux_perf_data.specs.LateParts.{FindsNames, FitsNaming, NoAttribute, PutsAttribute, TookAttribute, TakesAttribute, TakesFeature, table_behind}
+use Rattle.linux_perf_data.specs.NameTable.{IsOf, IsTable, name_by, names_by}
+use Rattle.linux_perf_data.specs.Names.{CanName, Named, event_desc}
 use Rattle.linux_perf_data.specs.PerfFile.{descriptions_of, features_of, data_of, attributes_of_file}
 use Rattle.linux_perf_data.specs.Rules.{error_of_breach}
-use Rattle.linux_perf_data.proofs.Naming.{all_by_map, names_by_attributes}
+use Rattle.linux_perf_data.specs.declared.late.Naming.{Naming}
+use Rattle.linux_perf_data.specs.declared.late.Naming.TheVariants.{Own, OfAll}
+use Rattle.linux_perf_data.proofs.NameTables.{named_by_kept, named_can, table_can}
 
 -- ---- an attribute
 
--- all have the names of descriptions, and so has one more
-named_with : (told ds new : List AttributeDescription) (a : Attribute) (ids : List ℕ) → names_in new ≡ names_for told ds ++ name_for told ids ∷ [] → attributes_by new ≡ attributes_by ds ++ a ∷ [] → a.ids ≡ ids → NamedBy told new
-named_with told ds new a ids names attrs same =
-    let by = λ (b : Attribute). name_for told b.ids in
-    let all : names_for told new ≡ names_for told ds ++ name_for told ids ∷ [] = names_by_attributes told new ∙ ap (map by) attrs ∙ map_push by (attributes_by ds) a
-    ∙ ap (λ l. l ++ by a ∷ []) (sym (names_by_attributes told ds)) ∙ ap (λ l. names_for told ds ++ name_for told l ∷ []) same in
-    all_by_map name_in (λ d. name_for told (ids_in d)) new (names ∙ sym all)
+-- the names that a late attribute comes with stay as room is made for it
+pub fits_room : (file room : PerfFile) (ids own : List ℕ) (naming : Naming) → SameFile file room → room.told ≡ file.told → own ≡ ids → FitsNaming file ids naming → FitsNaming room own naming
+fits_room file room ids own (Own name) same kept is (t, there, its) = (t, kept ∙ there, its ∙ ap (name_by t) (sym is))
+fits_room file room ids own (OfAll table names name) same kept is f = record {
+  is = subst (IsTable table) (sym (same.kept event_desc)) f.is;
+  others = f.others ∙ ap (names_by table) (sym same.descriptions);
+  its = f.its ∙ ap (name_by table) (sym is);
+}
 
-names_given : (order : Endianness) (desc : Option (List ℕ)) (ds new : List AttributeDescription) (a : Attribute) (ids : List ℕ) (names : Option Names) → FindsNames order desc ds ids (Ok names) → HaveNames names new
-    → attributes_by new ≡ attributes_by ds ++ a ∷ [] → a.ids ≡ ids → Named order desc new
-names_given order None ds new a ids None found have attrs same = have
-names_given order None ds new a ids (Some names) found have attrs same = absurd found
-names_given order (Some bytes) ds new a ids None found have attrs same = absurd found
-names_given order (Some bytes) ds new a ids (Some names) (told, described, copies) have attrs same = (told, described, named_with told ds new a ids (have ∙ copies) attrs same)
+behind_room : (file room : PerfFile) (naming : Naming) → room.told ≡ file.told → table_behind room naming ≡ table_behind file naming
+behind_room file room (Own name) kept = kept
+behind_room file room (OfAll table names name) kept = refl
 
-pub took_attribute : (order : Endianness) (known known' : Known) (file room new : PerfFile) (body : List ℕ) (a : Attribute) (d : AttributeDescription) (names : Option Names) (ids : List ℕ) → HoldsAttribute order body → a ≡ attribute_in order body → a.ids ≡ ids
-    → FindsNames order (data_of file event_desc) (descriptions_of file) ids (Ok names) → SameFile file room → ((attrs : List Attribute) → Knows order known attrs → Knows order known' (attrs ++ a ∷ [])) → attribute_by d ≡ a
-    → PutsAttribute room (attribute_by d) names new → TookAttribute order known file body known' new
-took_attribute order known known' file room new body a d names ids holds is own found same knows one put =
-    let attrs : attributes_of_file new ≡ attributes_of_file file ++ a ∷ [] = put.attributes ∙ ap (λ l. l ++ attribute_by d ∷ []) (ap attributes_by same.descriptions) ∙ ap (λ b. attributes_of_file file ++ b ∷ []) one in record {
+-- the attributes of a `PerfFile` that keeps a table have their names
+named_of : (order : Endianness) (file : PerfFile) → IsOf order file.told → Named order (data_of file event_desc) (descriptions_of file)
+named_of order file is = named_by_kept order file.told (data_of file event_desc) (descriptions_of file) is file.names file.none file.can file.events
+
+-- an EVENT_DESC that gives names can be read
+pub found_can : (order : Endianness) (file : PerfFile) (ids : List ℕ) (naming : Naming) → FindsNames order file ids (Ok naming) → CanName order (data_of file event_desc)
+found_can order file ids (Own name) (fits, is) = named_can order (data_of file event_desc) (descriptions_of file) (named_of order file is)
+found_can order file ids (OfAll table names name) (fits, is) = table_can order table (data_of file event_desc) is fits.is
+
+pub took_attribute : (order : Endianness) (known known' : Known) (file room new : PerfFile) (body : List ℕ) (a : Attribute) (d : AttributeDescription) (naming : Naming) (ids : List ℕ) → HoldsAttribute order body → a ≡ attribute_in order body
+    → FindsNames order file ids (Ok naming) → SameFile file room → room.told ≡ file.told → ((attrs : List Attribute) → Knows order known attrs → Knows order known' (attrs ++ a ∷ [])) → attribute_by d ≡ a
+    → PutsAttribute room (attribute_by d) naming new → TookAttribute order known file body known' new
+took_attribute order known known' file room new body a d naming ids holds is found same kept knows one put =
+    let attrs : attributes_of_file new ≡ attributes_of_file file ++ a ∷ [] = put.attributes ∙ ap (λ l. l ++ attribute_by d ∷ []) (ap attributes_by same.descriptions) ∙ ap (λ b. attributes_of_file file ++ b ∷ []) one in
+    let bytes : (n : ℕ) → data_of new n ≡ data_of file n = λ n. put.sections.kept n ∙ same.kept n in
+    let table : new.told ≡ table_behind file naming = put.table_kept ∙ behind_room file room naming kept in
+    let have : Named order (data_of new event_desc) (descriptions_of new) = named_of order new (subst (IsOf order) (sym table) found.1) in record {
       holds = holds;
       knows = λ all k. subst (λ b. Knows order known' (all ++ b ∷ [])) is (knows all k);
       sections = record {
         stays = put.sections.stays ∙ same.stays;
         features = put.sections.features ∙ same.features;
-        kept = λ n. put.sections.kept n ∙ same.kept n;
+        kept = bytes;
       };
       attributes = attrs ∙ ap (λ b. attributes_of_file file ++ b ∷ []) is;
-      named = names_given order (data_of file event_desc) (descriptions_of file) (descriptions_of new) a ids names found put.have attrs own;
+      named = subst (λ o. Named order o (descriptions_of new)) (bytes event_desc) have;
     }
+
+-- it breaks the rule, or memory ran out
+abbrev with_ids : PerfEventAttr → List ℕ → Attribute
+with_ids attr ids = record { attr = attr; ids = ids }
+
+pub added_not : (order : Endianness) (known : Known) (file : PerfFile) (body : List ℕ) (attr : PerfEventAttr) (own told ids : List ℕ) (naming : Naming) (e : Error) → HoldsAttribute order body → own ≡ told → with_ids attr told ≡ attribute_in order body
+    → FindsNames order file ids (Ok naming) → (e ≡ Memory) ⊎ ((b : Breach) × (e ≡ error_of_breach b) × ((attrs : List Attribute) → Knows order known attrs → Breaks (attrs ++ with_ids attr own ∷ []) b))
+    → (e ≡ Memory → HoldsAttribute order body) × (e ≢ Memory → NoAttribute order known file body e)
+added_not order known file body attr own told ids naming e holds same is found why = (
+  λ _. holds,
+  λ other. elim why [
+    | inl memory ↦ absurd (other memory)
+    | inr (b, breach, breaks) ↦
+        let all : with_ids attr own ≡ attribute_in order body = ap (with_ids attr) same ∙ is in
+        inr (inr (b, holds, found_can order file ids naming found, breach, λ attrs k. subst (λ a. Breaks (attrs ++ a ∷ []) b) all (breaks attrs k)))
+  ],
+)
 
 -- ---- an attribute or a feature, as a record of its type
 

@@ -36,6 +36,7 @@ pub mod PipeRuns
 pub mod PipeFinish
 pub mod PipeRecords
 pub mod NamesTold
+pub mod NameTables
 pub mod LateSteps
 pub mod OneOpening
 pub mod FileStands
@@ -43,3 +44,4 @@ pub mod OneFileRefusal
 pub mod OnePipeRefusal
 pub mod Readings
 pub mod PipeReadings
+pub mod AtHand

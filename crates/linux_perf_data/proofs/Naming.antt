@@ -1,27 +1,15 @@
 -- How attributes come to their names, one after the other.
-use Rattle.std.proofs.Common.{◌≡◌, ℕ, zero, suc, ◌+◌, ◌<◌, true, false, List, [], ◌∷◌, ◌++◌, length, get_or, set, take, drop, refl, sym, ap, ◌∙◌, subst, arith, Option, None}
+use Rattle.std.proofs.Common.{◌≡◌, ℕ, zero, suc, ◌+◌, ◌<◌, List, [], ◌∷◌, ◌++◌, length, get_or, set, take, drop, refl, sym, ap, ◌∙◌, subst, arith, Option}
 use Rattle.std.specs.Prelude.{map, All, String, string_bytes}
 use Rattle.std.specs.Option.{option_map}
 use Rattle.std.specs.declared.alloc.Global.{Global}
-use Rattle.std.proofs.lemmas.List.{at_drop_more, take_more, take_more_set, map_push, get_or-drop, get_or_default, drop-drop, drop-set-lt}
-use Rattle.std.proofs.lemmas.List.Elements.{All-nil, All-cons, All-push}
+use Rattle.std.proofs.lemmas.List.{take_more, take_more_set, map_push, get_or-drop, get_or_default, drop-drop, drop-set-lt}
+use Rattle.std.proofs.lemmas.List.Elements.{All-nil, All-cons}
 use Rattle.perfdata_sections.specs.AttributeDescription.{attr_in, name_in, ids_in}
 use Rattle.perfdata_sections.specs.declared.feature_sections.AttributeDescription.{AttributeDescription}
 use Rattle.linux_perf_data.specs.Attribute.{Attribute}
 use Rattle.linux_perf_data.specs.Described.{attribute_by, attributes_by}
-use Rattle.linux_perf_data.specs.Names.{same_first, name_for, names_in, texts_of, names_for, NamedBy, Unnamed}
-
--- ---- the first description of an id
-
-module _ (told : List AttributeDescription) (ids : List ℕ) (i : ℕ) (d : AttributeDescription) (there : i < length told) (is : d ≡ get_or told i d) where
-  name_next : name_for (drop i told) ids ≡ name_for (d ∷ drop (i + 1) told) ids
-  name_next = at_drop_more (λ l. name_for l ids) told i d there ∙ sym (ap (λ x. name_for (x ∷ drop (i + 1) told) ids) is)
-
-  pub name_found : same_first (ids_in d) ids ≡ true → name_for (drop i told) ids ≡ name_in d
-  name_found same = name_next ∙ (rw same refl)
-
-  pub name_later : same_first (ids_in d) ids ≡ false → name_for (drop i told) ids ≡ name_for (drop (i + 1) told) ids
-  name_later other = name_next ∙ (rw other refl)
+use Rattle.linux_perf_data.specs.Names.{names_in, texts_of}
 
 -- ---- one attribute more that has another name
 
@@ -36,10 +24,6 @@ module _ (ds : List AttributeDescription) (i : ℕ) (old new : AttributeDescript
   renamed attr ids =
       let one : attribute_by new ≡ attribute_by (get_or ds i old) = cc in
       set_same attribute_by ds i new (one ∙ ap attribute_by (get_or_default ds i old new there))
-
-  -- it has none any more
-  pub unnamed_more : Unnamed (take i ds) → name_in new ≡ None → Unnamed (take (i + 1) (set ds i new))
-  unnamed_more before one = subst Unnamed (sym (take_more_set ds i new there)) (All-push (λ d. name_in d ≡ None) (take i ds) new before one)
 
   -- it has the name at its index
   pub named_more : (names left : List (Option (String Global))) (n : Option (String Global)) → i < length names → names_in (take i ds) ≡ texts_of (take i names) → drop i left ≡ drop i names
@@ -65,11 +49,11 @@ all_by_map f g (x ∷ xs) same =
     let later : map f xs ≡ map g xs = cc in
     All-cons (λ x. f x ≡ g x) x xs here (all_by_map f g xs later)
 
-pub names_by_attributes : (told ds : List AttributeDescription) → names_for told ds ≡ map (λ (a : Attribute). name_for told a.ids) (attributes_by ds)
-names_by_attributes told [] = refl
-names_by_attributes told (d ∷ ds) = ap (λ l. name_for told (ids_in d) ∷ l) (names_by_attributes told ds)
+pub by_attributes : (f : List ℕ → Option (List ℕ)) (ds : List AttributeDescription) → map (λ d. f (ids_in d)) ds ≡ map (λ (a : Attribute). f a.ids) (attributes_by ds)
+by_attributes f [] = refl
+by_attributes f (d ∷ ds) = ap (λ l. f (ids_in d) ∷ l) (by_attributes f ds)
 
--- attributes that have the names of descriptions, which were told by their ids
-pub named_by : (told ds new : List AttributeDescription) → names_in new ≡ names_for told ds → attributes_by new ≡ attributes_by ds → NamedBy told new
-named_by told ds new names same = all_by_map name_in (λ d. name_for told (ids_in d)) new
-    (names ∙ names_by_attributes told ds ∙ ap (map (λ (a : Attribute). name_for told a.ids)) (sym same) ∙ sym (names_by_attributes told new))
+-- attributes that have the names that were told by their ids
+pub named_by : (f : List ℕ → Option (List ℕ)) (ds new : List AttributeDescription) → names_in new ≡ map (λ d. f (ids_in d)) ds → attributes_by new ≡ attributes_by ds → All (λ d. name_in d ≡ f (ids_in d)) new
+named_by f ds new names same = all_by_map name_in (λ d. f (ids_in d)) new
+    (names ∙ by_attributes f ds ∙ ap (map (λ (a : Attribute). f a.ids)) (sym same) ∙ sym (by_attributes f new))

@@ -1,7 +1,8 @@
 -- How what records of metadata told comes to an opening, or to the reason why there is none.
-use Rattle.std.proofs.Common.{◌≡◌, ◌≢◌, ℕ, ◌≤◌, ◌++◌, List, [], ◌∷◌, length, take, drop, refl, sym, ap, ◌∙◌, subst, arith, inl, inr, length-append, append_assoc, Option, None, Some}
-use Rattle.std.specs.Prelude.{Bool, true, false, Result, Ok, Err}
+use Rattle.std.proofs.Common.{◌≡◌, ◌≢◌, ℕ, ◌≤◌, ◌++◌, List, [], ◌∷◌, length, take, drop, refl, sym, ap, ◌∙◌, subst, arith, inl, inr, length-append, append_assoc, eq-eqb, Option, None, Some}
+use Rattle.std.specs.Prelude.{◌==◌, Bool, true, false, Result, Ok, Err}
 use Rattle.std.specs.List.{concat}
+use Rattle.std.proofs.lemmas.Bool.{false≢true}
 use Rattle.std.proofs.lemmas.List.{take-append-le}
 use Rattle.perfdata_base.specs.Source.{State}
 use Rattle.perfdata_base.proofs.Gives.{gave_more}
@@ -15,18 +16,49 @@ use Rattle.perfdata_base.specs.declared.raw.Endianness.TheVariants.{LittleEndian
 use Rattle.perfdata_base.proofs.Numbers.{number_drop_front}
 use Rattle.perfdata_sections.specs.declared.error.Error.{Error}
 use Rattle.perfdata_sections.specs.declared.error.Error.TheVariants.{Memory, NoAttributes, UnrecognizedMagicValue}
-use Rattle.linux_perf_data.specs.Attribute.{Breaks, Rule}
+use Rattle.perfdata_sections.specs.declared.feature_sections.AttributeDescription.{AttributeDescription}
+use Rattle.linux_perf_data.specs.Attribute.{Breach, Breaks, Rule}
+use Rattle.linux_perf_data.specs.Described.{attributes_by}
 use Rattle.linux_perf_data.specs.Late.{IsMetadata}
 use Rattle.linux_perf_data.specs.Layout.{kind_of, size_of}
-use Rattle.linux_perf_data.specs.Names.{Named, event_desc}
+use Rattle.linux_perf_data.specs.NameTable.{RefusesNames}
+use Rattle.linux_perf_data.specs.Names.{CanName, Named, TellsNames, event_desc}
 use Rattle.linux_perf_data.specs.Open.{TellsOrder, magic_of}
 use Rattle.linux_perf_data.specs.PipeOpen.{Ended, HoldsTold, IsPipeHeader, OpenedPipe, ReadsPipe, Refused, StopsMetadata, StopsPipe, StopsTold, TookOpening, Why}
 use Rattle.linux_perf_data.specs.PipeParts.{Finished, Finishes, OpensBehind, StopsFinish, Tells, TookMetadata}
+use Rattle.linux_perf_data.specs.Rules.{error_of_breach}
+use Rattle.linux_perf_data.specs.Sections.{data_in}
 use Rattle.linux_perf_data.specs.declared.pipe_opening.Metadata.{Metadata}
-use Rattle.linux_perf_data.specs.declared.pipe_opening.PipeOpening.{PipeOpening}
+use Rattle.linux_perf_data.specs.declared.pipe_told.PipeOpening.{PipeOpening}
 use Rattle.linux_perf_data.proofs.Heads.{kind_front, size_front}
+use Rattle.linux_perf_data.proofs.NameTables.{named_can}
 use Rattle.linux_perf_data.proofs.PipeRefusals.{refused_later, shows}
 use Rattle.linux_perf_data.proofs.PipeRuns.{ended_later}
+
+-- the names that attributes were given
+pub names_kept : (order : Endianness) (desc told : Option (List ℕ)) (ds named : List AttributeDescription) → desc ≡ told → ds ≡ named → Named order desc named → Named order told ds
+names_kept order desc told ds named is same names = subst (λ o. Named order o ds) is (subst (Named order desc) (sym same) names)
+
+-- ---- why there is no opening
+
+pub not_none : (n : ℕ) → false ≡ (n == 0) → n ≢ 0
+not_none n other is = false≢true (other ∙ eq-eqb n 0 is)
+
+some_attributes : (ds : List AttributeDescription) → length ds ≢ 0 → attributes_by ds ≢ []
+some_attributes [] some none = some refl
+some_attributes (d ∷ ds) some none = cc
+
+-- EVENT_DESC can't be read
+pub names_stop : (order : Endianness) (m : Metadata) (desc : Option (List ℕ)) (e : Error) → length m.attributes.items ≢ 0 → desc ≡ data_in m.sections event_desc → RefusesNames order desc e → e ≢ Memory → StopsFinish order m e
+names_stop order m None e some is refuses other = absurd (other refuses)
+names_stop order m (Some bytes) e some is refuses other = inr (inl (bytes, some_attributes m.attributes.items some, sym is, refuses other))
+
+-- it can, and the rule is broken
+pub rule_stops : (order : Endianness) (m : Metadata) (desc : Option (List ℕ)) (named : List AttributeDescription) (e : Error) → desc ≡ data_in m.sections event_desc → Named order desc named → attributes_by named ≡ attributes_by m.attributes.items
+    → (b : Breach) × Breaks (attributes_by named) b × (e ≡ error_of_breach b) → StopsFinish order m e
+rule_stops order m desc named e is names same (b, breaks, told) =
+    let can : (bytes : List ℕ) → data_in m.sections event_desc ≡ Some bytes → TellsNames order bytes = λ bytes there. subst (CanName order) (is ∙ there) (named_can order desc named names) in
+    inr (inr (b, can, subst (λ l. Breaks l b) same breaks, told))
 
 -- ---- what stands behind a header
 

@@ -6,7 +6,7 @@ use Rattle.perfdata_base.specs.Source.{State, prepend, Gave, GaveNone}
 use Rattle.perfdata_base.specs.Features.{HasFeature}
 use Rattle.perfdata_sections.specs.declared.error.Error.{Error}
 use Rattle.linux_perf_data.specs.declared.file_reader.PerfFileReader.{PerfFileReader}
-use Rattle.linux_perf_data.specs.declared.pipe_opening.PipeOpening.{PipeOpening}
+use Rattle.linux_perf_data.specs.declared.pipe_told.PipeOpening.{PipeOpening}
 use Rattle.linux_perf_data.specs.declared.input.Input.TheVariants.{Pipe}
 use Rattle.linux_perf_data.specs.Described.{attributes_by}
 use Rattle.linux_perf_data.specs.Input.{bound_in, view_in, with_front}

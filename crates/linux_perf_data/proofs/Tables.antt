@@ -289,3 +289,7 @@ pub data_put : {S : Type 0} (m new : IndexMap Feature (Vec ℕ Global) S) (k : F
 data_put m new k v puts n =
     ap (option_map (λ (w : Vec ℕ Global). w.items)) (puts (record { 0 = n }))
     ∙ elim (nat_eq k.0 n) as (λ t. option_map (λ (w : Vec ℕ Global). w.items) (cond t (Some v) (get (λ (f g : Feature). nat_eq f.0 g.0) m (record { 0 = n }))) ≡ cond t (Some v.items) (data_in m n)) [ true ↦ refl | false ↦ refl ]
+
+-- and what an insertion leaves that was refused
+pub data_left : {S : Type 0} (m new : IndexMap Feature (Vec ℕ Global) S) → new.entries ≡ m.entries → (n : ℕ) → data_in new n ≡ data_in m n
+data_left m new same n = ap (λ (es : List (Feature × Vec ℕ Global)). option_map (λ (v : Vec ℕ Global). v.items) (lookup (λ f. nat_eq n f.0) es)) same

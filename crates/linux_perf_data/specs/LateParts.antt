@@ -1,25 +1,25 @@
 -- What the steps do by which a late record of metadata is taken in.
-use Rattle.std.specs.Prelude.{◌≡◌, ◌≢◌, ◌⊎◌, ℕ, ◌+◌, ◌<◌, ◌≤◌, List, [], ◌∷◌, ◌++◌, length, drop, cond, nat_eq, max, false, ◌*◌, Option, None, Some, Result, Ok, Err, Vec, String, vec_len, vec_capacity}
+use Rattle.std.specs.Prelude.{◌≡◌, ◌≢◌, ◌⊎◌, ℕ, ◌+◌, ◌<◌, ◌≤◌, List, [], ◌∷◌, ◌++◌, length, drop, cond, nat_eq, max, ◌*◌, Option, Some, Result, Ok, Err, Vec, String, string_bytes, vec_len, vec_capacity}
+use Rattle.std.specs.Option.{option_map}
 use Rattle.std.specs.declared.alloc.Global.{Global}
 use Rattle.perfdata_base.specs.Features.{PutsFeature}
 use Rattle.perfdata_base.specs.Numbers.{number_in}
 use Rattle.perfdata_base.specs.declared.raw.Endianness.{Endianness}
-use Rattle.perfdata_sections.specs.EventDesc.{DescribesByEventDesc, NoEventDesc}
+use Rattle.perfdata_sections.specs.EventDesc.{NoEventDesc}
 use Rattle.perfdata_sections.specs.declared.error.Error.{Error}
 use Rattle.perfdata_sections.specs.declared.error.Error.TheVariants.{Memory}
-use Rattle.perfdata_sections.specs.declared.feature_sections.AttributeDescription.{AttributeDescription}
 use Rattle.linux_perf_data.specs.declared.known.Known.{Known}
 use Rattle.linux_perf_data.specs.Attribute.{Attribute, HoldsAttribute, attribute_in, Breach, Breaks}
 use Rattle.linux_perf_data.specs.Known.{Knows}
 use Rattle.linux_perf_data.specs.Late.{SameFile, Spoils}
-use Rattle.linux_perf_data.specs.Names.{CanName, Named, Unnamed, event_desc, feature_of, name_for, names_for, names_in, texts_of}
+use Rattle.linux_perf_data.specs.NameTable.{IsOf, IsTable, name_by, names_by}
+use Rattle.linux_perf_data.specs.Names.{CanName, Named, event_desc, feature_of, texts_of}
 use Rattle.linux_perf_data.specs.Rules.{error_of_breach}
 use Rattle.linux_perf_data.specs.PerfFile.{descriptions_of, features_of, order_of_file, data_of, attributes_of_file}
+use Rattle.linux_perf_data.specs.declared.late.Naming.{Naming}
+use Rattle.linux_perf_data.specs.declared.late.Naming.TheVariants.{Own, OfAll}
+use Rattle.linux_perf_data.specs.declared.name_table.NameTable.{NameTable}
 use Rattle.linux_perf_data.specs.declared.perf_file.PerfFile.{PerfFile}
-
--- names that were copied
-abbrev pub Names : Type 0
-Names = Vec (Option (String Global)) Global
 
 -- all but the attributes is the same
 pub record SameSections (old new : PerfFile) : Type 0 where
@@ -35,48 +35,43 @@ LacksMemory old e new = SameFile old new × (e ≡ Memory)
 abbrev pub HasRoom : PerfFile → Type 0
 HasRoom file = vec_len file.attributes < vec_capacity file.attributes
 
--- where there is room nothing is done, and else there is room for at most four more than twice as many
+-- where there is room nothing is done, and else there is room for at most four more than twice as many; the table of names stays
 abbrev pub MakesRoom : {A : Type 0} → PerfFile → Result A Error → PerfFile → Type 0
-MakesRoom old (Ok _) new = SameFile old new × HasRoom new × (HasRoom old → new ≡ old) × (vec_capacity new.attributes ≤ max (vec_capacity old.attributes) (2 * vec_len old.attributes + 4))
+MakesRoom old (Ok _) new = SameFile old new × HasRoom new × (HasRoom old → new ≡ old) × (vec_capacity new.attributes ≤ max (vec_capacity old.attributes) (2 * vec_len old.attributes + 4)) × (new.told ≡ old.told)
 MakesRoom old (Err e) new = LacksMemory old e new
 
--- no attribute has a name any more
-pub record Unnames (old new : PerfFile) : Type 0 where
-  pub sections : SameSections old new
-  pub attributes : attributes_of_file new ≡ attributes_of_file old
-  pub none : Unnamed (descriptions_of new)
-  pub named : new.named ≡ false
-  pub room : vec_capacity new.attributes ≡ vec_capacity old.attributes
-
--- there is a name for each attribute and one more, or there are none
-abbrev pub FitNames : PerfFile → Option Names → Type 0
-FitNames file None = Unit {0}
-FitNames file (Some names) = vec_len names ≡ vec_len file.attributes + 1
-
--- attributes have these names, or none
-abbrev pub HaveNames : Option Names → List AttributeDescription → Type 0
-HaveNames None ds = Unnamed ds
-HaveNames (Some names) ds = names_in ds ≡ texts_of names.items
-
--- one attribute more stands behind the others, and all have these names
-pub record PutsAttribute (old : PerfFile) (a : Attribute) (names : Option Names) (new : PerfFile) : Type 0 where
+-- one attribute more stands behind the others, and this table is kept, which gives all their names
+pub record PutsNamed (old : PerfFile) (a : Attribute) (table : Option NameTable) (new : PerfFile) : Type 0 where
   pub sections : SameSections old new
   pub attributes : attributes_of_file new ≡ attributes_of_file old ++ a ∷ []
-  pub have : HaveNames names (descriptions_of new)
+  pub table_kept : new.told ≡ table
 
--- copies of the names that an EVENT_DESC gives to attributes and to one with these ids
-abbrev pub CopiesTold : Endianness → List ℕ → List AttributeDescription → List ℕ → Result Names Error → Type 0
-CopiesTold order bytes ds ids (Ok names) = (told : List AttributeDescription) × DescribesByEventDesc (number_in order) bytes told × (texts_of names.items ≡ names_for told ds ++ name_for told ids ∷ [])
-CopiesTold order bytes ds ids (Err e) = e ≢ Memory → NoEventDesc (number_in order) e bytes
+-- the table by which all are named where a late attribute comes with these names
+abbrev pub table_behind : PerfFile → Naming → Option NameTable
+table_behind file (Own name) = file.told
+table_behind file (OfAll table names own) = Some table
 
--- the same, where there is an EVENT_DESC
-abbrev pub FindsNames : Endianness → Option (List ℕ) → List AttributeDescription → List ℕ → Result (Option Names) Error → Type 0
-FindsNames order None ds ids (Ok None) = Unit {0}
-FindsNames order None ds ids (Ok (Some names)) = ⊥
-FindsNames order None ds ids (Err e) = ⊥
-FindsNames order (Some bytes) ds ids (Ok None) = ⊥
-FindsNames order (Some bytes) ds ids (Ok (Some names)) = CopiesTold order bytes ds ids (Ok names)
-FindsNames order (Some bytes) ds ids (Err e) = CopiesTold order bytes ds ids (Err e)
+abbrev pub PutsAttribute : PerfFile → Attribute → Naming → PerfFile → Type 0
+PutsAttribute old a naming new = PutsNamed old a (table_behind old naming) new
+
+-- the name that the kept table gives an attribute with these ids
+abbrev pub FitsOwn : PerfFile → List ℕ → Option (String Global) → Type 0
+FitsOwn file ids name = (t : NameTable) × (file.told ≡ Some t) × (option_map string_bytes name ≡ name_by t ids)
+
+-- the names that a table of EVENT_DESC gives the attributes of a `PerfFile` and one with these ids
+pub record FitsAll (file : PerfFile) (ids : List ℕ) (table : NameTable) (names : Vec (Option (String Global)) Global) (own : Option (String Global)) : Type 0 where
+  pub is : IsTable table (data_of file event_desc)
+  pub others : texts_of names.items ≡ names_by table (descriptions_of file)
+  pub its : option_map string_bytes own ≡ name_by table ids
+
+abbrev pub FitsNaming : PerfFile → List ℕ → Naming → Type 0
+FitsNaming file ids (Own name) = FitsOwn file ids name
+FitsNaming file ids (OfAll table names own) = FitsAll file ids table names own
+
+-- the names that a late attribute with these ids comes with, by a table of this order
+abbrev pub FindsNames : Endianness → PerfFile → List ℕ → Result Naming Error → Type 0
+FindsNames order file ids (Ok naming) = FitsNaming file ids naming × IsOf order (table_behind file naming)
+FindsNames order file ids (Err e) = e ≢ Memory → (bytes : List ℕ) × (data_of file event_desc ≡ Some bytes) × NoEventDesc (number_in order) e bytes
 
 -- a feature's data stand in place of those that it had
 pub record PutFeature (old : PerfFile) (feature : ℕ) (bytes : List ℕ) (new : PerfFile) : Type 0 where

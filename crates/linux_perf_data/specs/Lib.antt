@@ -12,6 +12,7 @@ pub mod AttributeSources
 pub mod Pairs
 pub mod Pauses
 pub mod Iter
+pub mod AtHand
 pub mod PerfFile
 pub mod FeatureNumbers
 pub mod Sections
@@ -21,6 +22,8 @@ pub mod Values
 pub mod BuildIds
 pub mod Simpleperf
 pub mod Names
+pub mod FirstIds
+pub mod NameTable
 pub mod Late
 pub mod OpenedPipe
 pub mod LateParts

@@ -1,15 +1,14 @@
 -- The names that a pipe's section EVENT_DESC gives its attributes.
-use Rattle.std.specs.Prelude.{◌≡◌, ◌≢◌, ℕ, ◌%◌, ◌^◌, ◌==◌, Bool, false, List, [], ◌∷◌, map, All, if◌then◌else◌, Option, None, Some, Result, Ok, Err, Vec, String, string_bytes}
+use Rattle.std.specs.Prelude.{◌≡◌, ℕ, ◌%◌, ◌^◌, ◌==◌, Bool, false, List, [], ◌∷◌, map, All, if◌then◌else◌, Option, None, Some, Result, Ok, Err, String, string_bytes}
 use Rattle.std.specs.Option.{option_map}
 use Rattle.std.specs.declared.alloc.Global.{Global}
 use Rattle.perfdata_base.specs.Numbers.{number_in}
 use Rattle.perfdata_base.specs.declared.raw.Endianness.{Endianness}
 use Rattle.perfdata_sections.specs.AttributeDescription.{DescribedEvent, name_in, ids_in}
-use Rattle.perfdata_sections.specs.EventDesc.{TellsByEventDesc, DescribesByEventDesc, NoEventDesc}
+use Rattle.perfdata_sections.specs.EventDesc.{TellsByEventDesc, DescribesByEventDesc}
 use Rattle.perfdata_sections.specs.declared.error.Error.{Error}
 use Rattle.perfdata_sections.specs.declared.error.Error.TheVariants.{Memory}
 use Rattle.perfdata_sections.specs.declared.feature_sections.AttributeDescription.{AttributeDescription}
-use Rattle.linux_perf_data.specs.Described.{attributes_by}
 
 -- the number of the feature EVENT_DESC
 abbrev pub event_desc : ℕ
@@ -48,35 +47,14 @@ abbrev pub Named : Endianness → Option (List ℕ) → List AttributeDescriptio
 Named order None ds = NamedBy [] ds
 Named order (Some bytes) ds = (told : List AttributeDescription) × DescribesByEventDesc (number_in order) bytes told × NamedBy told ds
 
--- no attribute has a name
-abbrev pub Unnamed : List AttributeDescription → Type 0
-Unnamed ds = All (λ d. name_in d ≡ None) ds
-
--- the names that attributes have, the bytes of names that were copied, and the names that descriptions give to attributes
+-- the names that attributes have, and the bytes of names that were copied
 abbrev pub names_in : List AttributeDescription → List (Option (List ℕ))
 names_in ds = map name_in ds
 
 abbrev pub texts_of : List (Option (String Global)) → List (Option (List ℕ))
 texts_of names = map (λ name. option_map string_bytes name) names
 
-abbrev pub names_for : List AttributeDescription → List AttributeDescription → List (Option (List ℕ))
-names_for told ds = map (λ d. name_for told (ids_in d)) ds
-
--- what a copying of a name, and of the names of attributes, does
+-- what a copying of a name does
 abbrev pub CopiesName : Option (List ℕ) → Result (Option (String Global)) Error → Type 0
 CopiesName name (Ok copy) = option_map string_bytes copy ≡ name
 CopiesName name (Err e) = e ≡ Memory
-
-abbrev pub CopiesNames : List AttributeDescription → List AttributeDescription → Result (Vec (Option (String Global)) Global) Error → Type 0
-CopiesNames told ds (Ok names) = texts_of names.items ≡ names_for told ds
-CopiesNames told ds (Err e) = e ≡ Memory
-
--- why no names are given: there is an EVENT_DESC, and it can't be read, or memory ran out
-abbrev pub RefusesNames : Endianness → Option (List ℕ) → Error → Type 0
-RefusesNames order None e = ⊥
-RefusesNames order (Some bytes) e = e ≢ Memory → NoEventDesc (number_in order) e bytes
-
--- Each attribute was given the name that EVENT_DESC gives it, or none without that section; or none was given another name.
-abbrev pub NamesAll : {A : Type 0} → Endianness → Option (List ℕ) → List AttributeDescription → Result A Error → List AttributeDescription → Type 0
-NamesAll order desc old (Ok _) new = Named order desc new × (attributes_by new ≡ attributes_by old)
-NamesAll order desc old (Err e) new = (new ≡ old) × RefusesNames order desc e

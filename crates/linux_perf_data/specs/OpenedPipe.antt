@@ -11,7 +11,7 @@ use Rattle.linux_perf_data.specs.declared.iter.PerfRecordIter.{PerfRecordIter}
 use Rattle.linux_perf_data.specs.declared.iter.Stage.TheVariants.{Running, Ended}
 use Rattle.linux_perf_data.specs.declared.perf_file.PerfFile.{PerfFile}
 use Rattle.linux_perf_data.specs.declared.input.Input.TheVariants.{Pipe}
-use Rattle.linux_perf_data.specs.declared.pipe_opening.PipeOpening.{PipeOpening}
+use Rattle.linux_perf_data.specs.declared.pipe_told.PipeOpening.{PipeOpening}
 use Rattle.linux_perf_data.specs.Described.{attributes_by}
 use Rattle.linux_perf_data.specs.Sections.{data_in}
 use Rattle.linux_perf_data.specs.Known.{Knows}

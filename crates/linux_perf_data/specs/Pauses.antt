@@ -3,7 +3,7 @@ use Rattle.std.specs.Prelude.{◌≡◌, ◌+◌, ◌≤◌, Bool, true, false, 
 use Rattle.perfdata_base.specs.Source.{State}
 use Rattle.linux_perf_data.specs.declared.pipe_opening.Next.{Next}
 use Rattle.linux_perf_data.specs.declared.pipe_opening.Next.TheVariants.{Taken, End}
-use Rattle.linux_perf_data.specs.declared.pipe_opening.PipeOpening.{PipeOpening}
+use Rattle.linux_perf_data.specs.declared.pipe_told.PipeOpening.{PipeOpening}
 
 -- none where there is one more thing, and at most one where there is no more
 abbrev pub PausesEnd : {A : Type 0} → State → Option A → State → Type 0

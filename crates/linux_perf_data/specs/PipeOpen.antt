@@ -19,7 +19,7 @@ use Rattle.linux_perf_data.specs.Names.{Named, TellsNames, event_desc}
 use Rattle.linux_perf_data.specs.Open.{magic_of}
 use Rattle.linux_perf_data.specs.Rules.{error_of_breach}
 use Rattle.linux_perf_data.specs.Sections.{data_in}
-use Rattle.linux_perf_data.specs.declared.pipe_opening.PipeOpening.{PipeOpening}
+use Rattle.linux_perf_data.specs.declared.pipe_told.PipeOpening.{PipeOpening}
 
 module _ (order : Endianness) where
   -- ---- what opens a pipe

@@ -28,7 +28,7 @@ use Rattle.linux_perf_data.specs.Piece.{TookBytes}
 use Rattle.linux_perf_data.specs.PipeOpen.{AreMetadata, IsMetadataRecord, StopsRecord, StopsMetadata, Ended, HoldsTold, Refused, data_told}
 use Rattle.linux_perf_data.specs.Rules.{error_of_breach}
 use Rattle.linux_perf_data.specs.Sections.{data_in}
-use Rattle.linux_perf_data.specs.declared.pipe_opening.PipeOpening.{PipeOpening}
+use Rattle.linux_perf_data.specs.declared.pipe_told.PipeOpening.{PipeOpening}
 use Rattle.linux_perf_data.specs.declared.pipe_opening.Metadata.{Metadata}
 use Rattle.linux_perf_data.specs.declared.pipe_opening.Next.{Next}
 use Rattle.linux_perf_data.specs.declared.pipe_opening.Next.TheVariants.{Taken, End}

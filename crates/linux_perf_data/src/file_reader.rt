@@ -9,7 +9,8 @@ pub use crate::iter::{PerfRecordIter, RecordPlace};
 use crate::known::Known;
 use crate::opening::{Opening, open};
 use crate::perf_file::PerfFile;
-use crate::pipe_opening::{PipeOpening, open_pipe};
+use crate::pipe_opening::open_pipe;
+use crate::pipe_told::PipeOpening;
 use perfdata_base::source::{PlacedSource, Source};
 use perfdata_parts::error::Error;
 use std::alloc::Global;
@@ -27,6 +28,7 @@ impl<C: PlacedSource + Drop> PerfFileReader<C> {
     ghost use Rattle.linux_perf_data.specs.Opened.{ParsesFile, StartsOrNot};
 
     // The reader of a file that was opened, whose source stands at the first record.
+    #[tactic(auto, using(crate::proofs::NameTables::no_names, crate::proofs::NameTables::no_none, crate::proofs::NameTables::no_some, crate::proofs::NameTables::no_events))]
     fn starting(alloc: Global, source: C, opening: Opening) -> Result<PerfFileReader<C>, Error>
         requires some { 0 < vec_len opening.attributes }
         requires rule { Rule (attributes_by opening.attributes.items) }
@@ -47,7 +49,7 @@ impl<C: PlacedSource + Drop> PerfFileReader<C> {
             features: opening.features,
             sections: opening.sections,
             attributes: opening.attributes,
-            named: true,
+            told: None,
         };
         Ok(PerfFileReader {
             perf_file,
@@ -120,7 +122,7 @@ impl<R: Source + Drop> PerfFileReader<R> {
             features: opening.features,
             sections: opening.sections,
             attributes: opening.attributes,
-            named: true,
+            told: Some(opening.told),
         };
         Ok(PerfFileReader {
             perf_file,

@@ -6,10 +6,13 @@ ghost use Rattle.linux_perf_data.specs.Pairs.{last_listing, pairs_by, rank, AreO
 
 use perfdata_parts::feature_sections::AttributeDescription;
 use std::alloc::{AllocError, Global};
+use std::collections::BTreeMap;
 
-// Which attribute lists an identifier: pairs of an identifier and an index, ascending, each identifier once.
+// Which attribute lists an identifier: those that came late by a map, which is asked first, and those of an opening by
+// pairs of an identifier and an index, ascending, each identifier once.
 #[derive(Drop)]
 pub(crate) struct IdTable {
+    late: BTreeMap<u64, usize>,
     pairs: Vec<(u64, usize)>,
     ghost ascending: { Ascend pairs.items },
 }
@@ -71,7 +74,7 @@ fn last_of_each(alloc: Global, ordered: &[(u64, usize)]) -> Result<Vec<(u64, usi
 }
 
 impl IdTable {
-    ghost use Rattle.linux_perf_data.specs.IdTable.{found, Inserts, InsertsAll};
+    ghost use Rattle.linux_perf_data.specs.IdTable.{found, found_first, Inserts, InsertsAll};
 
     // The table of what these attributes list. An identifier that several list is the last one's.
     pub(crate) fn new(
@@ -83,7 +86,10 @@ impl IdTable {
         let mut pairs = pairs_of(alloc, attributes)?;
         order(&mut pairs);
         let pairs = last_of_each(alloc, &pairs)?;
-        Ok(IdTable { pairs })
+        Ok(IdTable {
+            late: BTreeMap::new(alloc),
+            pairs,
+        })
     }
 
     // The place of an identifier, found by halving.
@@ -111,9 +117,9 @@ impl IdTable {
         at < self.pairs.len() && self.pairs[at].0 == id
     }
 
-    // The index of the attribute that lists an identifier.
-    pub(crate) fn find(&self, id: u64) -> Option<usize>
-        ensures { result ≡ found self.now id }
+    // The index that an opening's pairs have of an identifier.
+    fn find_first(&self, id: u64) -> Option<usize>
+        ensures { result ≡ found_first self.now id }
     {
         let at = self.place_of(id);
         if self.stands_at(id, at) {
@@ -124,17 +130,22 @@ impl IdTable {
         }
     }
 
+    // The index of the attribute that lists an identifier.
+    pub(crate) fn find(&self, id: u64) -> Option<usize>
+        ensures { result ≡ found self.now id }
+    {
+        match self.late.get(&id) {
+            Some(index) => Some(*index),
+            None => self.find_first(id),
+        }
+    }
+
     // Has an identifier stand with this index, in place of the one that it had.
     pub(crate) fn insert(&mut self, id: u64, index: usize) -> Result<(), AllocError>
         ensures { Inserts self.old id index result self.new }
     {
-        let at = self.place_of(id);
-        if self.stands_at(id, at) {
-            self.pairs[at] = (id, index);
-            return Ok(());
-        }
-        match self.pairs.insert(at, (id, index)) {
-            Ok(()) => Ok(()),
+        match self.late.insert(id, index) {
+            Ok(_) => Ok(()),
             Err(_) => Err(AllocError),
         }
     }

@@ -1,8 +1,9 @@
 //! The record loop.
-ghost use Rattle.std.specs.Prelude.{◌≡◌, ◌≤◌, []};
+ghost use Rattle.std.specs.Prelude.{◌≡◌, ◌≤◌, [], IsTrue, IfSome};
 ghost use Rattle.perfdata_base.specs.Raw.{bytes_of};
 ghost use Rattle.linux_perf_data.specs.Pauses.{PausesNext};
 
+use crate::at_hand::{holds_record, keeps_none};
 use crate::input::{Input, cut};
 use crate::known::{FoundEvent, Known};
 use crate::late::take_in;
@@ -153,7 +154,8 @@ impl<R> PerfRecordIter<R> {
 }
 
 impl<R: Source> PerfRecordIter<R> {
-    ghost use Rattle.linux_perf_data.specs.Iter.{NextPiece, MayBegin, TakesRecord, Advances, Nexts, bound_of};
+    ghost use Rattle.linux_perf_data.specs.AtHand.{IsOver, ShowsRecord, TellsAtHand};
+    ghost use Rattle.linux_perf_data.specs.Iter.{NextPiece, MayBegin, TakesRecord, Advances, Nexts, bound_of, view};
     ghost use Rattle.std.specs.Io.BufRead.{Rests};
     ghost use Rattle.std.specs.Borrow.{sem};
     ghost use Rattle.linux_perf_data.specs.contracts.iter.PerfRecordIter.{the_row};
@@ -166,6 +168,38 @@ impl<R: Source> PerfRecordIter<R> {
             Input::Section(size) => self.offset < size,
             Input::Pipe(_) => true,
         }
+    }
+
+    /// The source of the records.
+    pub fn get_ref(&self) -> &R
+        ensures { result.now ≡ self.now.source }
+    {
+        &self.source
+    }
+
+    /// Whether the next call of `next_record` has all that it wants of the source at hand, so that it waits for nothing.
+    ///
+    /// The next record that is handed out then stands whole in what the source shows by [`Source::at_hand`], the markers in
+    /// front of it and its auxiliary data included; or the call reads nothing, since a record was refused, the end was
+    /// answered, or a file's section ends here. Where it answers no the call may wait, and where the next record is refused
+    /// or the input ends. It answers no while the head that a pipe's opening read is still kept.
+    pub fn is_at_hand(&self) -> bool
+        ensures tells { TellsAtHand R.seen self.now result }
+        ensures shown { IsTrue result → ¬ IsOver R.seen self.now → IfSome (view R.seen self.now).bytes (ShowsRecord self.now.endian (bound_of R.seen self.now) self.now.offset) }
+    {
+        let hand = self.source.at_hand();
+        match self.stage {
+            Stage::Running => {}
+            Stage::Failed => return true,
+            Stage::Ended => return true,
+        }
+        if !self.may_begin() {
+            return true;
+        }
+        if !keeps_none(self.input) {
+            return false;
+        }
+        holds_record(self.endian, self.input, self.offset, hand)
     }
 
     // The piece at the front of the source: a record, whose body is then held, or a marker. None where a pipe ends.

@@ -1,13 +1,14 @@
 //! Metadata that came late: in a pipe's records behind its opening.
-ghost use Rattle.std.specs.Prelude.{◌≡◌, ◌≢◌, ◌<◌, None, length, vec_len};
-ghost use Rattle.perfdata_sections.specs.AttributeDescription.{name_in};
+ghost use Rattle.std.specs.Prelude.{◌≡◌, ◌≢◌, None, Some};
+ghost use Rattle.perfdata_sections.specs.AttributeDescription.{ids_in};
 ghost use Rattle.perfdata_sections.specs.Error.{IsInvalidInput};
 ghost use Rattle.linux_perf_data.specs.Described.{attribute_by};
 ghost use Rattle.linux_perf_data.specs.Late.{TakesIn};
 ghost use Rattle.linux_perf_data.specs.LateParts.{TakesAttribute, TakesFeature};
 
 use crate::known::Known;
-use crate::names::{clear_names, copy_names, copy_told, give_names, read_event_desc};
+use crate::name_table::NameTable;
+use crate::names::give_names;
 use crate::perf_file::PerfFile;
 use crate::pipe_opening::{is_metadata, parse_attribute, parse_feature};
 use perfdata_base::features::Feature;
@@ -19,8 +20,17 @@ use std::alloc::Global;
 use std::io;
 use std::io::ErrorKind;
 
+// The names that a late attribute comes with.
+#[derive(Drop)]
+pub(crate) enum Naming {
+    // Its own: all others have theirs.
+    Own(Option<String>),
+    // Those of all others and its own, by a table that wasn't kept.
+    OfAll(NameTable, Vec<Option<String>>, Option<String>),
+}
+
 impl PerfFile {
-    ghost use Rattle.linux_perf_data.specs.LateParts.{HasRoom, MakesRoom, Unnames, FitNames, PutsAttribute, FindsNames, PutsFeatureData, PutsEventDesc};
+    ghost use Rattle.linux_perf_data.specs.LateParts.{FindsNames, FitsAll, FitsNaming, FitsOwn, HasRoom, MakesRoom, PutsAttribute, PutsEventDesc, PutsFeatureData, PutsNamed};
     ghost use Rattle.linux_perf_data.specs.PerfFile.{descriptions_of, data_of};
 
     // Makes room for one attribute more.
@@ -37,61 +47,94 @@ impl PerfFile {
         }
     }
 
-    // Copies of the names that attributes and one more, which has these ids, have by EVENT_DESC; none where that isn't there.
-    fn find_names(
-        &self,
-        alloc: Global,
-        endian: Endianness,
-        ids: &[u64],
-    ) -> Result<Option<Vec<Option<String>>>, Error>
-        ensures { FindsNames endian (data_of self.now 12) (descriptions_of self.now) ids.now result }
+    // The names that EVENT_DESC gives attributes and one more, which has these ids, read anew.
+    fn read_names(&self, alloc: Global, endian: Endianness, ids: &[u64]) -> Result<Naming, Error>
+        ensures { FindsNames endian self.now ids.now result }
     {
-        match self.feature_section_data(Feature::EVENT_DESC) {
-            Some(bytes) => match copy_told(alloc, endian, bytes, &self.attributes, ids) {
-                Ok(names) => Ok(Some(names)),
-                Err(error) => Err(error),
-            },
-            None => Ok(None),
+        let event_desc = self.feature_section_data(Feature::EVENT_DESC);
+        let table = match NameTable::read(alloc, endian, event_desc) {
+            Ok(table) => table,
+            Err(error) => return Err(error),
+        };
+        let names = match table.copy_names(alloc, &self.attributes) {
+            Ok(names) => names,
+            Err(error) => return Err(error),
+        };
+        match table.copy_name(alloc, ids) {
+            Ok(own) => Ok(Naming::OfAll(table, names, own)),
+            Err(error) => Err(error),
         }
     }
 
-    // Takes away what names there are.
-    fn unname(&mut self)
-        ensures { Unnames self.old self.new }
+    // The names that a late attribute with these ids comes with: its own where the table is kept that gives all others theirs.
+    fn find_names(&self, alloc: Global, endian: Endianness, ids: &[u64]) -> Result<Naming, Error>
+        ensures { FindsNames endian self.now ids.now result }
     {
-        if self.named {
-            clear_names(&mut self.attributes);
-            self.named = false;
+        let table = match &self.told {
+            Some(table) => table,
+            None => return self.read_names(alloc, endian, ids),
+        };
+        if !table.is_read_in(endian) {
+            return self.read_names(alloc, endian, ids);
+        }
+        match table.copy_name(alloc, ids) {
+            Ok(name) => Ok(Naming::Own(name)),
+            Err(error) => Err(error),
         }
     }
 
-    // Puts an attribute behind the others, for which there is room, and gives all these names, or none.
-    fn put_attribute(&mut self, attribute: AttributeDescription, names: Option<Vec<Option<String>>>)
+    // Puts an attribute behind the others, for which there is room, with the name that the kept table gives it.
+    fn put_named(&mut self, attribute: AttributeDescription, name: Option<String>)
         requires room { HasRoom self.old }
-        requires unnamed { name_in attribute ≡ None }
-        requires fit { FitNames self.old names }
-        ensures { PutsAttribute self.old (attribute_by attribute) names self.new }
+        requires fits { FitsOwn self.old (ids_in attribute) name }
+        ensures { PutsNamed self.old (attribute_by attribute) self.old.told self.new }
     {
-        match names {
-            Some(names) => {
-                self.named = true;
-                match self.attributes.push(attribute) {
-                    Ok(()) => give_names(&mut self.attributes, names),
-                    Err(_) => {}
-                }
-            }
-            None => {
-                self.unname();
-                match self.attributes.push(attribute) {
-                    Ok(()) => {}
-                    Err(_) => {}
-                }
-            }
+        let mut attribute = attribute;
+        attribute.set_name(name);
+        match self.attributes.push(attribute) {
+            Ok(()) => {}
+            Err(_) => {}
         }
     }
 
-    // Puts a feature's data in place of those that it had.
+    // Puts an attribute behind the others, for which there is room, gives it and them their names by a table, and keeps that.
+    fn put_and_name(
+        &mut self,
+        attribute: AttributeDescription,
+        table: NameTable,
+        names: Vec<Option<String>>,
+        own: Option<String>,
+    )
+        requires room { HasRoom self.old }
+        requires fits { FitsAll self.old (ids_in attribute) table names own }
+        ensures { PutsNamed self.old (attribute_by attribute) (Some table) self.new }
+    {
+        let mut attribute = attribute;
+        attribute.set_name(own);
+        self.told = None;
+        give_names(&mut self.attributes, names);
+        match self.attributes.push(attribute) {
+            Ok(()) => {}
+            Err(_) => {}
+        }
+        self.told = Some(table);
+    }
+
+    // Puts an attribute behind the others, for which there is room, with the names that it comes with.
+    fn put_attribute(&mut self, attribute: AttributeDescription, naming: Naming)
+        requires room { HasRoom self.old }
+        requires fits { FitsNaming self.old (ids_in attribute) naming }
+        ensures { PutsAttribute self.old (attribute_by attribute) naming self.new }
+    {
+        match naming {
+            Naming::Own(name) => self.put_named(attribute, name),
+            Naming::OfAll(table, names, own) => self.put_and_name(attribute, table, names, own),
+        }
+    }
+
+    // Puts a feature's data in place of those that it had. No table may be kept of an EVENT_DESC whose place they take.
     fn put_feature(&mut self, feature: Feature, bytes: Vec<u8>) -> Result<(), Error>
+        requires { feature.0 ≡ 12 → self.old.told ≡ None }
         ensures { PutsFeatureData self.old feature.0 bytes.items result self.new }
     {
         match self.sections.insert(feature, bytes) {
@@ -111,20 +154,21 @@ impl PerfFile {
     ) -> Result<(), Error>
         ensures { PutsEventDesc endian self.old bytes.items result self.new }
     {
-        let told = match read_event_desc(alloc, endian, &bytes) {
+        let told = match NameTable::read(alloc, endian, Some(bytes.as_slice())) {
             Ok(told) => told,
             Err(error) => return Err(error),
         };
-        let names = match copy_names(alloc, &told, &self.attributes) {
+        let names = match told.copy_names(alloc, &self.attributes) {
             Ok(names) => names,
             Err(error) => return Err(error),
         };
+        self.told = None;
         match self.put_feature(Feature::EVENT_DESC, bytes) {
             Ok(()) => {}
             Err(error) => return Err(error),
         }
-        self.named = true;
         give_names(&mut self.attributes, names);
+        self.told = Some(told);
         Ok(())
     }
 }
@@ -137,6 +181,7 @@ fn foreign() -> Error
 }
 
 // Takes in the attribute of a record of type 64.
+#[tactic(auto, using(crate::proofs::LateSteps::found_can))]
 fn take_attribute(
     alloc: Global,
     endian: Endianness,
@@ -150,8 +195,8 @@ fn take_attribute(
         Ok(header) => header,
         Err(error) => return Err(error),
     };
-    let names = match file.find_names(alloc, endian, &header.ids) {
-        Ok(names) => names,
+    let naming = match file.find_names(alloc, endian, &header.ids) {
+        Ok(naming) => naming,
         Err(error) => return Err(error),
     };
     match file.make_room() {
@@ -164,7 +209,7 @@ fn take_attribute(
     }
     file.put_attribute(
         AttributeDescription::new(header.attr, None, header.ids),
-        names,
+        naming,
     );
     Ok(())
 }

@@ -29,6 +29,7 @@
 //! `PerfFileReader::parse_pipe` opens a pipe, and [`jitdump`] has the reader of jitdumps.
 #![tactic(auto)]
 
+mod at_hand;
 pub mod attr;
 mod build_ids;
 pub mod file_reader;
@@ -39,11 +40,13 @@ pub mod jitdump;
 mod known;
 mod late;
 pub mod laws;
+mod name_table;
 mod names;
 mod opening;
 pub mod perf_file;
 mod piece;
 mod pipe_opening;
+mod pipe_told;
 mod rule;
 mod sections;
 mod values;

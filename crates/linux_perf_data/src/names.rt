@@ -3,9 +3,10 @@ ghost use Rattle.std.specs.Prelude.{◌≡◌, vec_len, length};
 ghost use Rattle.std.specs.Option.{option_map};
 ghost use Rattle.linux_perf_data.specs.AttributeSources.{ReadsDesc};
 ghost use Rattle.linux_perf_data.specs.Described.{attributes_by};
-ghost use Rattle.linux_perf_data.specs.LateParts.{CopiesTold};
-ghost use Rattle.linux_perf_data.specs.Names.{same_first, name_for, names_in, texts_of, CopiesName, CopiesNames, NamesAll, Unnamed};
+ghost use Rattle.linux_perf_data.specs.NameTable.{NamesAll};
+ghost use Rattle.linux_perf_data.specs.Names.{names_in, texts_of};
 
+use crate::name_table::NameTable;
 use byteorder::{BigEndian, LittleEndian};
 use perfdata_base::raw::Endianness;
 use perfdata_parts::error::Error;
@@ -35,86 +36,6 @@ pub(crate) fn read_event_desc(
     }
 }
 
-// Whether both have an id, and the same one first.
-fn is_same_first(ids: &[u64], others: &[u64]) -> bool
-    ensures { result ≡ same_first ids.now others.now }
-{
-    if ids.is_empty() || others.is_empty() {
-        return false;
-    }
-    ids[0] == others[0]
-}
-
-// The name of the first of these descriptions whose first id is the first of these.
-fn find_name<'a>(told: &'a [AttributeDescription], ids: &[u64]) -> Option<&'a str>
-    ensures { option_map (λ s. s.now) result ≡ name_for told.now ids.now }
-{
-    'descriptions: for description in told {
-        if is_same_first(description.ids(), ids) {
-            return description.name();
-        }
-    }
-    None
-}
-
-// A copy of the name that these descriptions give to an attribute with these ids.
-pub(crate) fn copy_name(
-    alloc: Global,
-    told: &[AttributeDescription],
-    ids: &[u64],
-) -> Result<Option<String>, Error>
-    ensures { CopiesName (name_for told.now ids.now) result }
-{
-    match find_name(told, ids) {
-        Some(name) => match String::from_str(alloc, name) {
-            Ok(name) => Ok(Some(name)),
-            Err(_) => Err(Error::Memory),
-        },
-        None => Ok(None),
-    }
-}
-
-// Copies of the names that these descriptions give to attributes.
-pub(crate) fn copy_names(
-    alloc: Global,
-    told: &[AttributeDescription],
-    attributes: &[AttributeDescription],
-) -> Result<Vec<Option<String>>, Error>
-    ensures { CopiesNames told.now attributes.now result }
-{
-    let mut names = Vec::new(alloc);
-    'attributes: for attribute in attributes {
-        let name = match copy_name(alloc, told, attribute.ids()) {
-            Ok(name) => name,
-            Err(error) => return Err(error),
-        };
-        match names.push(name) {
-            Ok(()) => {}
-            Err(_) => return Err(Error::Memory),
-        }
-    }
-    Ok(names)
-}
-
-// Copies of the names that the section EVENT_DESC of these bytes gives to attributes and to one more, which has these ids.
-pub(crate) fn copy_told(
-    alloc: Global,
-    endian: Endianness,
-    bytes: &[u8],
-    attributes: &[AttributeDescription],
-    ids: &[u64],
-) -> Result<Vec<Option<String>>, Error>
-    ensures { CopiesTold endian bytes.now attributes.now ids.now result }
-{
-    let told = read_event_desc(alloc, endian, bytes)?;
-    let mut names = copy_names(alloc, &told, attributes)?;
-    let name = copy_name(alloc, &told, ids)?;
-    match names.push(name) {
-        Ok(()) => Ok(names),
-        Err(_) => Err(Error::Memory),
-    }
-}
-
 // Gives each attribute the name at its index.
 pub(crate) fn give_names(attributes: &mut [AttributeDescription], names: Vec<Option<String>>)
     requires { vec_len names ≡ length attributes.old }
@@ -127,40 +48,24 @@ pub(crate) fn give_names(attributes: &mut [AttributeDescription], names: Vec<Opt
     }
 }
 
-// Takes the name of each attribute away.
-pub(crate) fn clear_names(attributes: &mut [AttributeDescription])
-    ensures names { Unnamed attributes.new }
-    ensures same { attributes_by attributes.new ≡ attributes_by attributes.old }
-{
-    'attributes: for attribute in attributes.iter_mut() {
-        attribute.set_name(None);
-    }
-}
-
-// Gives each attribute the name that the section EVENT_DESC of these bytes gives it, and none where the section isn't there.
+// Gives each attribute the name that the section EVENT_DESC of these bytes gives it, and none where the section isn't there. Answers
+// the table of those names.
 pub(crate) fn name_all(
     alloc: Global,
     endian: Endianness,
     event_desc: Option<&[u8]>,
     attributes: &mut [AttributeDescription],
-) -> Result<(), Error>
+) -> Result<NameTable, Error>
     ensures { NamesAll endian (option_map (λ s. s.now) event_desc.entry) attributes.old result attributes.new }
 {
-    let bytes = match event_desc {
-        Some(bytes) => bytes,
-        None => {
-            clear_names(attributes);
-            return Ok(());
-        }
-    };
-    let told = match read_event_desc(alloc, endian, bytes) {
-        Ok(told) => told,
+    let table = match NameTable::read(alloc, endian, event_desc) {
+        Ok(table) => table,
         Err(error) => return Err(error),
     };
-    let names = match copy_names(alloc, &told, attributes) {
+    let names = match table.copy_names(alloc, attributes) {
         Ok(names) => names,
         Err(error) => return Err(error),
     };
     give_names(attributes, names);
-    Ok(())
+    Ok(table)
 }

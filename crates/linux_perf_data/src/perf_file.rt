@@ -1,14 +1,16 @@
 //! What a file or pipe says of itself, by accessors over the bytes of its sections.
-ghost use Rattle.std.specs.Prelude.{◌≡◌, ◌<◌, ◌↔◌, false, IsTrue, length, vec_len};
+ghost use Rattle.std.specs.Prelude.{◌≡◌, ◌<◌, ◌↔◌, IsTrue, length, vec_len};
 ghost use Rattle.std.specs.Option.{option_map};
 ghost use Rattle.perfdata_base.specs.Features.{HasFeature};
 ghost use Rattle.perfdata_simpleperf.specs.MetaInfo.{ParsesMetaInfo};
 ghost use Rattle.linux_perf_data.specs.FeatureNumbers.{arch, build_id, clock_data, clock_id, cmd_line, compressed, cpu_desc, cpuid, hostname, nr_cpus, os_release, pmu_mappings, sample_time, simpleperf_file, simpleperf_file2, simpleperf_meta_info, total_mem, version};
-ghost use Rattle.linux_perf_data.specs.Names.{Unnamed};
+ghost use Rattle.linux_perf_data.specs.NameTable.{KeepsEvents, KeepsNames, KeepsEmpty, KeepsRead};
+ghost use Rattle.linux_perf_data.specs.Sections.{data_in};
 ghost use Rattle.linux_perf_data.specs.Simpleperf.{TellsSymbolTables};
 ghost use Rattle.linux_perf_data.specs.Values.{TellsOf, TellsText, TellsTexts, TellsNumber, TellsCpus, TellsTimes, TellsCompression, TellsClock, TellsUnits};
 ghost use Rattle.linux_perf_data.specs.BuildIds.{TellsBuildIds};
 
+use crate::name_table::NameTable;
 use crate::opening::section_of;
 use crate::{build_ids, values};
 use indexmap::IndexMap;
@@ -33,10 +35,13 @@ pub struct PerfFile {
     pub(crate) features: FeatureSet,
     pub(crate) sections: IndexMap<Feature, Vec<u8>>,
     pub(crate) attributes: Vec<AttributeDescription>,
-    // Whether an attribute may have a name.
-    pub(crate) named: bool,
+    // The table that gives all attributes the names that they have, where that is kept: of a file it isn't.
+    pub(crate) told: Option<NameTable>,
     ghost some: { 0 < vec_len attributes },
-    ghost unnamed: { named ≡ false → Unnamed attributes.items },
+    ghost names: { KeepsNames told attributes.items },
+    ghost none: { KeepsEmpty told (data_in sections 12) },
+    ghost can: { KeepsRead told (data_in sections 12) },
+    ghost events: { KeepsEvents told (data_in sections 12) },
 }
 
 impl PerfFile {

@@ -100,7 +100,8 @@ fn read_body<R: Source>(source: &mut R, body: &mut Vec<u8>, count: usize) -> Res
     }
 }
 
-fn is_compressed(record_type: u32) -> bool
+// Whether a type is that of a compressed record.
+pub(crate) fn is_compressed(record_type: u32) -> bool
     ensures { TestsCompressed record_type result }
 {
     record_type == PERF_RECORD_COMPRESSED || record_type == PERF_RECORD_COMPRESSED2

@@ -10,6 +10,7 @@ use crate::input::read_eight;
 use crate::names::name_all;
 use crate::opening::{order_of, section_of};
 use crate::piece::{HEAD, end_of, head_in};
+use crate::pipe_told::PipeOpening;
 use crate::rule::check_rule;
 use byteorder::{BigEndian, LittleEndian};
 use indexmap::IndexMap;
@@ -25,16 +26,6 @@ use perfdata_parts::record::{HeaderAttr, HeaderFeature};
 use std::alloc::Global;
 use std::io;
 use std::io::ErrorKind;
-
-// What a pipe says of itself, and the head that ended its metadata; none where the pipe ended.
-#[derive(Drop)]
-pub(crate) struct PipeOpening {
-    pub(crate) endian: Endianness,
-    pub(crate) features: FeatureSet,
-    pub(crate) sections: IndexMap<Feature, Vec<u8>>,
-    pub(crate) attributes: Vec<AttributeDescription>,
-    pub(crate) head: Option<[u8; 8]>,
-}
 
 // What records of metadata have told.
 #[derive(Drop)]
@@ -293,10 +284,10 @@ fn finish(
         return Err(Error::NoAttributes);
     }
     let event_desc = section_of(&sections, Feature::EVENT_DESC);
-    match name_all(alloc, endian, event_desc, &mut attributes) {
-        Ok(()) => {}
+    let told = match name_all(alloc, endian, event_desc, &mut attributes) {
+        Ok(told) => told,
         Err(error) => return Err(error),
-    }
+    };
     match check_rule(&attributes) {
         Ok(()) => {}
         Err(error) => return Err(error),
@@ -306,6 +297,7 @@ fn finish(
         features,
         sections,
         attributes,
+        told,
         head,
     })
 }

@@ -1,6 +1,6 @@
 use Rattle.std.proofs.Common.{◌∙◌, Some, ap, sym}
 use Rattle.linux_perf_data.proofs.Ids.{pair_there, index_at, place_none}
-use Rattle.linux_perf_data.proofs.id_table.IdTable.find.Goals as goal
+use Rattle.linux_perf_data.proofs.id_table.IdTable.find_first.Goals as goal
 
 pub returns-then-stands_at : goal.returns-then-stands_at
 returns-then-stands_at c =
