@@ -1,5 +1,6 @@
 //! The tests of sources, bytes, heads, attributes, headers and places.
 mod attr;
+mod counted_buffer;
 mod event;
 mod features;
 mod header;

@@ -6,6 +6,8 @@ mod base;
 #[cfg(test)]
 mod files;
 #[cfg(test)]
+mod helpers;
+#[cfg(test)]
 mod hostile;
 #[cfg(test)]
 mod jit;

@@ -3,7 +3,7 @@ mod decode_error;
 mod error;
 mod event_desc;
 mod event_type;
-mod event_types;
+pub(crate) mod event_types;
 mod feature_sections;
 mod numbers;
 mod pmu;

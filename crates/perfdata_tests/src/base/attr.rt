@@ -1,8 +1,9 @@
 //! Attributes of each size: their fields, in both orders, and which sizes are refused.
+use crate::helpers::by_kind;
 use bitflags::Flags;
 use byteorder::{BigEndian, LittleEndian};
 use perfdata_base::attr::{AttrFlags, PerfEventAttr, SampleFormat};
-use std::io::{Error, ErrorKind};
+use std::io::ErrorKind;
 use std::test::Fail;
 
 // Bytes each of which is its index, but for the clock's, which are 255, and the little-endian own size.
@@ -21,52 +22,45 @@ fn attribute(own: u8) -> [u8; 150] {
     bytes
 }
 
-// The attribute at the front, how many bytes it took, and those behind it.
-fn parsed(bytes: &[u8]) -> Result<(PerfEventAttr, u64, &[u8]), Error> {
-    let mut source = bytes;
-    match PerfEventAttr::parse_from::<_, LittleEndian>(&mut source) {
-        Ok((attr, own)) => Ok((attr, own, source)),
-        Err(error) => Err(error),
-    }
-}
-
-fn halves(attr: &PerfEventAttr) -> [u32; 7] {
-    [
-        attr.type_,
-        attr.size,
-        attr.wakeup,
-        attr.bp_type,
-        attr.sample_stack_user,
-        attr.aux_watermark,
-        attr.aux_sample_size,
-    ]
-}
-
-fn words(attr: &PerfEventAttr) -> [u64; 12] {
-    [
-        attr.config,
-        attr.period_or_freq,
-        attr.sample_format.0,
-        attr.read_format,
-        attr.flags.0,
-        attr.config1,
-        attr.config2,
-        attr.branch_sample_type,
-        attr.sample_regs_user,
-        attr.sample_regs_intr,
-        attr.sig_data,
-        attr.config3,
-    ]
+// The fields of four bytes, and those of eight.
+fn fields(attr: &PerfEventAttr) -> ([u32; 7], [u64; 12]) {
+    (
+        [
+            attr.type_,
+            attr.size,
+            attr.wakeup,
+            attr.bp_type,
+            attr.sample_stack_user,
+            attr.aux_watermark,
+            attr.aux_sample_size,
+        ],
+        [
+            attr.config,
+            attr.period_or_freq,
+            attr.sample_format.0,
+            attr.read_format,
+            attr.flags.0,
+            attr.config1,
+            attr.config2,
+            attr.branch_sample_type,
+            attr.sample_regs_user,
+            attr.sample_regs_intr,
+            attr.sig_data,
+            attr.config3,
+        ],
+    )
 }
 
 #[test]
 fn reads_each_field(rt: HostRuntime) -> Result<(), Fail> {
     let bytes = attribute(144);
-    let (attr, own, rest) = parsed(&bytes)?;
+    let mut rest = &bytes[..];
+    let (attr, own) = PerfEventAttr::parse_from::<_, LittleEndian>(&mut rest)?;
     assert_eq!(rt; own, 144);
     assert_eq!(rt; rest, [144, 145, 146, 147, 148, 149].as_slice());
+    let (halves, words) = fields(&attr);
     assert_eq!(rt;
-        halves(&attr),
+        halves,
         [
             0x0302_0100,
             144,
@@ -78,7 +72,7 @@ fn reads_each_field(rt: HostRuntime) -> Result<(), Fail> {
         ]
     );
     assert_eq!(rt;
-        words(&attr),
+        words,
         [
             0x0f0e_0d0c_0b0a_0908,
             0x1716_1514_1312_1110,
@@ -98,36 +92,16 @@ fn reads_each_field(rt: HostRuntime) -> Result<(), Fail> {
     Ok(())
 }
 
-// The own size that is told, the type, the config and the breakpoint's type.
-fn big_endian(bytes: &[u8]) -> Result<(u64, u32, u64, u32), Error> {
-    match PerfEventAttr::parse::<_, BigEndian>(bytes) {
-        Ok((attr, own)) => Ok((own, attr.type_, attr.config, attr.bp_type)),
-        Err(error) => Err(error),
-    }
-}
-
 #[test]
 fn reads_big_endian(rt: HostRuntime) -> Result<(), Fail> {
     let mut bytes = attribute(0);
     bytes[7] = 64;
+    let (attr, own) = PerfEventAttr::parse::<_, BigEndian>(&bytes[..])?;
     assert_eq!(rt;
-        big_endian(&bytes)?,
+        (own, attr.type_, attr.config, attr.bp_type),
         (64, 0x0001_0203, 0x0809_0a0b_0c0d_0e0f, 0x3435_3637)
     );
     Ok(())
-}
-
-// The own size that is told, the attribute's size, config1, config2, branch_sample_type, the clock, and how many bytes are left.
-fn told(bytes: &[u8]) -> Result<([u64; 5], i32, usize), Error> {
-    let (attr, own, rest) = parsed(bytes)?;
-    let numbers = [
-        own,
-        attr.size as u64,
-        attr.config1,
-        attr.config2,
-        attr.branch_sample_type,
-    ];
-    Ok((numbers, attr.clockid, rest.len()))
 }
 
 #[test]
@@ -143,22 +117,18 @@ fn takes_zero_beyond_its_own_size(rt: HostRuntime) -> Result<(), Fail> {
         (79, 79, CONFIG2, 0, 71),
         (80, 80, CONFIG2, 0x4f4e_4d4c_4b4a_4948, 70),
     ] {
+        let bytes = attribute(size);
+        let mut rest = &bytes[..];
+        let (attr, told) = PerfEventAttr::parse_from::<_, LittleEndian>(&mut rest)?;
+        let sizes = (told, attr.size as u64, rest.len());
+        let configs = (attr.config1, attr.config2);
         assert_eq!(rt;
-            told(&attribute(size))?,
-            ([own, own, CONFIG1, config2, branch], 0, left),
+            (sizes, configs, attr.branch_sample_type, attr.clockid),
+            ((own, own, left), (CONFIG1, config2), branch, 0),
             "at {size}"
         );
     }
     Ok(())
-}
-
-// Why no attribute stands in so many bytes of these.
-fn refusal(bytes: &[u8], count: usize) -> Option<ErrorKind> {
-    let count = count.min(bytes.len());
-    match PerfEventAttr::parse::<_, LittleEndian>(&bytes[..count]) {
-        Ok(_) => None,
-        Err(error) => Some(error.kind()),
-    }
 }
 
 #[test]
@@ -172,11 +142,9 @@ fn refuses_small_sizes_and_missing_bytes(rt: HostRuntime) {
         (0, 63, ErrorKind::UnexpectedEof),
         (144, 143, ErrorKind::UnexpectedEof),
     ] {
-        assert_eq!(rt;
-            refusal(&attribute(size), count),
-            Some(kind),
-            "{size} in {count}"
-        );
+        let bytes = attribute(size);
+        let parsed = PerfEventAttr::parse::<_, LittleEndian>(&bytes[..count]);
+        assert_eq!(rt; by_kind(parsed).err(), Some(kind), "{size} in {count}");
     }
 }
 

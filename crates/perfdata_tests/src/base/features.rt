@@ -44,31 +44,15 @@ const NAMES: [(u32, &str); 38] = [
     (300, "Unknown Feature 300"),
 ];
 
-// How a feature is displayed, and its debug form.
-fn shown(alloc: Global, number: u32) -> Result<(String, String), Fail> {
-    let feature = Feature(number);
-    let text = format!(in alloc; "{feature}")?;
-    let debug = format!(in alloc; "{feature:?}")?;
-    Ok((text, debug))
-}
-
 #[test]
 fn shows_names(rt: HostRuntime) -> Result<(), Fail> {
     for (number, name) in NAMES {
-        let (text, debug) = shown(rt.alloc(), number)?;
+        let feature = Feature(number);
+        let text = format!(in rt.alloc(); "{feature}")?;
+        let debug = format!(in rt.alloc(); "{feature:?}")?;
         assert_eq!(rt; (text.as_str(), debug.as_str()), (name, name));
     }
     Ok(())
-}
-
-fn first_four(set: &FeatureSet) -> [Option<Feature>; 4] {
-    let mut members = set.iter();
-    [
-        members.next(),
-        members.next(),
-        members.next(),
-        members.next(),
-    ]
 }
 
 // How many there are, whether there is none, and the debug form.
@@ -80,8 +64,15 @@ fn described(alloc: Global, set: &FeatureSet) -> Result<(usize, bool, String), F
 #[test]
 fn goes_over_members(rt: HostRuntime) -> Result<(), Fail> {
     let set = FeatureSet([8, 0, 1, 0]);
+    let mut members = set.iter();
+    let four = [
+        members.next(),
+        members.next(),
+        members.next(),
+        members.next(),
+    ];
     assert_eq!(rt;
-        first_four(&set),
+        four,
         [
             Some(Feature::HOSTNAME),
             Some(Feature::SIMPLEPERF_FILE),

@@ -1,6 +1,7 @@
 //! Headers of files: their fields, in both orders, and what is refused.
+use crate::helpers::by_kind;
 use perfdata_base::header::PerfHeader;
-use std::io::{Cursor, Error, ErrorKind};
+use std::io::{Cursor, ErrorKind};
 use std::test::Fail;
 
 // Bytes each of which is its index, but for this first byte and these of the header's size.
@@ -12,15 +13,6 @@ fn header(first: u8, size: [u8; 8]) -> [u8; 120] {
     bytes[0] = first;
     bytes[8..16].copy_from_slice(&size);
     bytes
-}
-
-// The header, and where the cursor stands behind it.
-fn parsed(bytes: &[u8]) -> Result<(PerfHeader, u64), Error> {
-    let mut cursor = Cursor::new(bytes);
-    match PerfHeader::parse_from(&mut cursor) {
-        Ok(header) => Ok((header, cursor.position())),
-        Err(error) => Err(error),
-    }
 }
 
 fn numbers(header: &PerfHeader) -> [u64; 12] {
@@ -43,7 +35,9 @@ fn numbers(header: &PerfHeader) -> [u64; 12] {
 #[test]
 fn reads_each_field(rt: HostRuntime) -> Result<(), Fail> {
     let bytes = header(b'P', [112, 0, 0, 0, 0, 0, 0, 0]);
-    let (header, at) = parsed(&bytes)?;
+    let mut cursor = Cursor::new(&bytes[..]);
+    let header = PerfHeader::parse_from(&mut cursor)?;
+    let at = cursor.position();
     assert_eq!(rt; at, 112, "bytes behind the known ones are passed over");
     assert_eq!(rt; header.magic, [b'P', 1, 2, 3, 4, 5, 6, 7]);
     assert_eq!(rt;
@@ -66,17 +60,12 @@ fn reads_each_field(rt: HostRuntime) -> Result<(), Fail> {
     Ok(())
 }
 
-fn last_features(bytes: &[u8]) -> Result<u64, Error> {
-    match PerfHeader::parse(Cursor::new(bytes)) {
-        Ok(header) => Ok(header.features.0[3]),
-        Err(error) => Err(error),
-    }
-}
-
 #[test]
 fn reads_big_endian(rt: HostRuntime) -> Result<(), Fail> {
     let bytes = header(b'2', [0, 0, 0, 0, 0, 0, 0, 64]);
-    let (header, at) = parsed(&bytes)?;
+    let mut cursor = Cursor::new(&bytes[..]);
+    let header = PerfHeader::parse_from(&mut cursor)?;
+    let at = cursor.position();
     assert_eq!(rt; at, 104, "a smaller size changes nothing");
     assert_eq!(rt;
         (
@@ -86,17 +75,9 @@ fn reads_big_endian(rt: HostRuntime) -> Result<(), Fail> {
         ),
         (64, 0x1011_1213_1415_1617, 0x1819_1a1b_1c1d_1e1f)
     );
-    assert_eq!(rt; last_features(&bytes)?, 0x6061_6263_6465_6667);
+    let header = PerfHeader::parse(Cursor::new(&bytes[..]))?;
+    assert_eq!(rt; header.features.0[3], 0x6061_6263_6465_6667);
     Ok(())
-}
-
-// Why no header stands in so many bytes of a header whose size is this.
-fn refusal(size: [u8; 8], count: usize) -> Option<ErrorKind> {
-    let bytes = header(b'P', size);
-    match PerfHeader::parse(Cursor::new(&bytes[..count.min(120)])) {
-        Ok(_) => None,
-        Err(error) => Some(error.kind()),
-    }
 }
 
 #[test]
@@ -110,6 +91,8 @@ fn refuses_missing_bytes_and_far_ends(rt: HostRuntime) {
         (first_far, 104, Some(ErrorKind::InvalidInput)),
         (last_near, 120, None),
     ] {
-        assert_eq!(rt; refusal(size, count), kind, "{size:?} in {count}");
+        let bytes = header(b'P', size);
+        let parsed = PerfHeader::parse(Cursor::new(&bytes[..count]));
+        assert_eq!(rt; by_kind(parsed).err(), kind, "{size:?} in {count}");
     }
 }

@@ -1,32 +1,8 @@
 //! Headers of pipes, whole, with bytes behind them, and cut.
+use crate::helpers::by_kind;
 use perfdata_base::header::PerfPipeHeader;
-use std::io::{Error, ErrorKind};
+use std::io::ErrorKind;
 use std::test::Fail;
-
-// Whether the header came whole, and how many bytes are left behind it.
-fn front(bytes: &[u8]) -> Result<(bool, usize), Error> {
-    let mut source = bytes;
-    match PerfPipeHeader::parse_front(&mut source) {
-        Ok((_, whole)) => Ok((whole, source.len())),
-        Err(error) => Err(error),
-    }
-}
-
-// The header's size, the first byte of its magic, and how many bytes are left behind it.
-fn header(bytes: &[u8]) -> Result<(u64, u8, usize), Error> {
-    let mut source = bytes;
-    match PerfPipeHeader::parse_from(&mut source) {
-        Ok(header) => Ok((header.size, header.magic[0], source.len())),
-        Err(error) => Err(error),
-    }
-}
-
-fn refusal(bytes: &[u8]) -> Option<ErrorKind> {
-    match PerfPipeHeader::parse(bytes) {
-        Ok(_) => None,
-        Err(error) => Some(error.kind()),
-    }
-}
 
 #[test]
 fn reads_pipe_headers(rt: HostRuntime) -> Result<(), Fail> {
@@ -40,11 +16,19 @@ fn reads_pipe_headers(rt: HostRuntime) -> Result<(), Fail> {
         (small, b'P', 8, 6),
         (far, b'P', u64::MAX, 0),
     ] {
-        assert_eq!(rt; front(&bytes)?, (left > 0, left));
-        assert_eq!(rt; header(&bytes)?, (size, first, left));
+        let mut source = &bytes[..];
+        let (_, whole) = PerfPipeHeader::parse_front(&mut source)?;
+        assert_eq!(rt; (whole, source.len()), (left > 0, left));
+        let mut source = &bytes[..];
+        let header = PerfPipeHeader::parse_from(&mut source)?;
+        assert_eq!(rt;
+            (header.size, header.magic[0], source.len()),
+            (size, first, left)
+        );
     }
+    let cut = b"PERFILE2\x10\0\0\0\0\0\0".as_slice();
     assert_eq!(rt;
-        refusal(b"PERFILE2\x10\0\0\0\0\0\0"),
+        by_kind(PerfPipeHeader::parse(cut)).err(),
         Some(ErrorKind::UnexpectedEof)
     );
     Ok(())

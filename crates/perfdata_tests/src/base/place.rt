@@ -1,4 +1,5 @@
 //! Where times and identifiers stand by a format, and the words that are read there.
+use super::raw::split;
 use byteorder::{BigEndian, LittleEndian};
 use perfdata_base::attr::{AttrFlags, PerfEventAttr, SampleFormat};
 use perfdata_base::event::RecordType;
@@ -7,8 +8,9 @@ use perfdata_base::place::{
 };
 use perfdata_base::raw::{Endianness, RawData};
 
-fn attr(sample_format: u64, flags: u64) -> PerfEventAttr {
-    PerfEventAttr {
+// The places of an attribute of this format and these flags.
+fn places(sample_format: u64, flags: u64) -> RecordParseInfo {
+    let attr = PerfEventAttr {
         type_: 0,
         size: 64,
         config: 0,
@@ -30,21 +32,8 @@ fn attr(sample_format: u64, flags: u64) -> PerfEventAttr {
         aux_sample_size: 0,
         sig_data: 0,
         config3: 0,
-    }
-}
-
-fn places(sample_format: u64, flags: u64) -> RecordParseInfo {
-    RecordParseInfo::new(&attr(sample_format, flags), Endianness::LittleEndian)
-}
-
-// The places of the identifier and of the time of a format and flags.
-fn found(format: u64, flags: u64) -> [(Option<u64>, Option<u64>); 2] {
-    let info = places(format, flags);
-    let id = info.id_parse_info;
-    [
-        (id.sample_id_from_start, id.other_id_from_end),
-        (info.sample_time_from_start, info.other_time_from_end),
-    ]
+    };
+    RecordParseInfo::new(&attr, Endianness::LittleEndian)
 }
 
 // Formats and flags, with the places of the identifier and of the time, each in a sample from the start and in
@@ -61,37 +50,42 @@ fn places_follow_the_format(rt: HostRuntime) {
         (0x2c8, 0x40000, (Some(8), Some(24)), (None, None)),
         (0, 0x40000, (None, None), (None, None)),
     ] {
-        assert_eq!(rt; found(format, flags), [id, time], "at {format}");
+        let info = places(format, flags);
+        let found = info.id_parse_info;
+        assert_eq!(rt;
+            [
+                (found.sample_id_from_start, found.other_id_from_end),
+                (info.sample_time_from_start, info.other_time_from_end)
+            ],
+            [id, time],
+            "at {format}"
+        );
     }
 }
 
-// The first bytes of a body in two pieces, the first of at most five bytes.
-fn split(body: &[u8]) -> RawData<'_> {
-    let (front, back) = body.split_at(body.len().min(5));
-    RawData::Split(front, back)
-}
-
-// The time of a record as each call tells it.
-fn times(info: &RecordParseInfo, record_type: RecordType, body: &[u8]) -> [Option<u64>; 3] {
+// The time of a record as each call tells it, and its identifier.
+fn told(
+    info: &RecordParseInfo,
+    record_type: RecordType,
+    body: &[u8],
+) -> ([Option<u64>; 3], [Option<u64>; 5]) {
     let single = RawData::Single(body);
-    [
-        info.time_of(record_type, body),
-        get_record_timestamp::<LittleEndian>(record_type, single, info),
-        get_record_timestamp::<LittleEndian>(record_type, split(body), info),
-    ]
-}
-
-// The identifier of a record as each call tells it.
-fn identifiers(info: &RecordParseInfo, record_type: RecordType, body: &[u8]) -> [Option<u64>; 5] {
-    let single = RawData::Single(body);
+    let pieces = split(body, 5);
     let id = &info.id_parse_info;
-    [
-        id.identifier_of(Endianness::LittleEndian, record_type, body),
-        get_record_id::<LittleEndian>(record_type, single, id),
-        get_record_id::<LittleEndian>(record_type, split(body), id),
-        get_record_identifier::<LittleEndian>(record_type, single, true),
-        get_record_identifier::<LittleEndian>(record_type, split(body), true),
-    ]
+    (
+        [
+            info.time_of(record_type, body),
+            get_record_timestamp::<LittleEndian>(record_type, single, info),
+            get_record_timestamp::<LittleEndian>(record_type, pieces, info),
+        ],
+        [
+            id.identifier_of(Endianness::LittleEndian, record_type, body),
+            get_record_id::<LittleEndian>(record_type, single, id),
+            get_record_id::<LittleEndian>(record_type, pieces, id),
+            get_record_identifier::<LittleEndian>(record_type, single, true),
+            get_record_identifier::<LittleEndian>(record_type, pieces, true),
+        ],
+    )
 }
 
 // The words TID, TIME and IDENTIFIER (or in a sample IDENTIFIER, TID and TIME) in three words of eight bytes.
@@ -110,13 +104,8 @@ fn numbers_stand_at_their_places(rt: HostRuntime) {
         (9, 23, None, Some(7)),
         (64, 24, None, None),
     ] {
-        let record_type = RecordType(kind);
-        let body = &body[..len];
         assert_eq!(rt;
-            (
-                times(&info, record_type, body),
-                identifiers(&info, record_type, body)
-            ),
+            told(&info, RecordType(kind), &body[..len]),
             ([time; 3], [id; 5]),
             "at {kind}, {len}"
         );

@@ -2,14 +2,14 @@
 use byteorder::{BigEndian, LittleEndian};
 use perfdata_base::order::{read_u16, read_u32, read_u64};
 use perfdata_base::raw::{Endianness, RawData};
-use std::alloc::{AllocError, Global};
 use std::io;
 use std::io::ErrorKind;
 use std::test::Fail;
 
 const FIVE: [u8; 5] = [1, 2, 3, 4, 5];
 
-fn split(bytes: &[u8], at: usize) -> RawData<'_> {
+// The bytes in two pieces, the first of at most so many.
+pub(crate) fn split(bytes: &[u8], at: usize) -> RawData<'_> {
     let (front, back) = bytes.split_at(at.min(bytes.len()));
     RawData::Split(front, back)
 }
@@ -34,13 +34,6 @@ fn compared(data: RawData<'_>) -> (bool, [bool; 2], usize, bool) {
     )
 }
 
-fn is_five_as_slice(alloc: Global, data: RawData<'_>) -> Result<bool, AllocError> {
-    match data.as_slice(alloc) {
-        Ok(slice) => Ok(slice.as_slice() == FIVE.as_slice()),
-        Err(error) => Err(error),
-    }
-}
-
 #[test]
 fn one_value_wherever_it_is_split(rt: HostRuntime) -> Result<(), Fail> {
     for at in 0..6usize {
@@ -50,7 +43,8 @@ fn one_value_wherever_it_is_split(rt: HostRuntime) -> Result<(), Fail> {
             (true, [false; 2], 5, false),
             "split at {at}"
         );
-        assert!(rt; is_five_as_slice(rt.alloc(), data)?, "split at {at}");
+        let slice = data.as_slice(rt.alloc())?;
+        assert_eq!(rt; slice.as_slice(), FIVE.as_slice(), "split at {at}");
     }
     assert!(rt; RawData::Split(&[], &[]).is_empty());
     Ok(())
@@ -135,21 +129,14 @@ fn numbers_wherever_they_are_split(rt: HostRuntime) -> Result<(), Fail> {
     Ok(())
 }
 
-// Whether each number of more than one byte is too many.
-fn all_short(data: &mut RawData<'_>) -> [bool; 4] {
-    [
-        is_short(data.read_u32::<LittleEndian>()),
-        is_short(data.read_u16::<BigEndian>()),
-        is_short(data.read_i32::<BigEndian>()),
-        is_short(data.read_u64::<BigEndian>()),
-    ]
-}
-
 #[test]
 fn a_short_read_leaves_the_bytes(rt: HostRuntime) -> Result<(), Fail> {
     let mut data = RawData::Split(&[1, 2, 3], &[4, 5]);
     assert_eq!(rt; data.read_u32::<LittleEndian>()?, 0x0403_0201);
-    assert_eq!(rt; all_short(&mut data), [true; 4]);
+    assert!(rt; is_short(data.read_u32::<LittleEndian>()));
+    assert!(rt; is_short(data.read_u16::<BigEndian>()));
+    assert!(rt; is_short(data.read_i32::<BigEndian>()));
+    assert!(rt; is_short(data.read_u64::<BigEndian>()));
     assert!(rt; data == RawData::Single(&[5]));
     Ok(())
 }

@@ -1,24 +1,8 @@
 //! The source that follows a script.
 use crate::base::source::reads;
 use perfdata_base::source::{PlacedSource, Script, Step};
-use std::alloc::Global;
 use std::io::{ErrorKind, SeekFrom};
 use std::test::Fail;
-
-// Ten bytes of which four are shown, whose second seek fails.
-fn ten(alloc: Global) -> Result<Script, Fail> {
-    let steps = [
-        Step::Give(1),
-        Step::Pause,
-        Step::Fault(ErrorKind::TimedOut),
-        Step::Grow(3),
-        Step::Give(9),
-    ];
-    let steps = Vec::from_array(alloc, steps)?;
-    let seek_faults = Vec::from_array(alloc, [1])?;
-    let bytes = b"0123456789".to_vec(alloc)?;
-    Ok(Script::new(bytes, 4, steps, seek_faults))
-}
 
 // One read into a place of five bytes: how many came, and the place.
 fn five(source: &mut Script) -> (Option<usize>, [u8; 5]) {
@@ -28,7 +12,18 @@ fn five(source: &mut Script) -> (Option<usize>, [u8; 5]) {
 
 #[test]
 fn follows_its_steps(rt: HostRuntime) -> Result<(), Fail> {
-    let mut source = ten(rt.alloc())?;
+    // ten bytes of which four are shown, whose second seek fails
+    let steps = [
+        Step::Give(1),
+        Step::Pause,
+        Step::Fault(ErrorKind::TimedOut),
+        Step::Grow(3),
+        Step::Give(9),
+    ];
+    let steps = Vec::from_array(rt.alloc(), steps)?;
+    let seek_faults = Vec::from_array(rt.alloc(), [1])?;
+    let bytes = b"0123456789".to_vec(rt.alloc())?;
+    let mut source = Script::new(bytes, 4, steps, seek_faults);
     for read in [
         (Some(1), *b"0\0\0\0\0"),
         (Some(0), [0; 5]),

@@ -2,11 +2,12 @@
 ghost use Rattle.std.specs.Prelude.{◌≡◌, ◌<◌, ℕ, length, Some, IfNone, IfSome};
 ghost use Rattle.perfdata_base.specs.Source.{Rose};
 
+use crate::helpers::by_kind;
 use perfdata_base::raw::RawData;
 use perfdata_base::source::{
-    Counted, PlacedSource, Source, append, fill, pass_over, read_all, skip_all,
+    Counted, CountedBuffer, PlacedSource, Source, append, fill, pass_over, read_all, skip_all,
 };
-use std::io::{Cursor, Error, ErrorKind, Read, SeekFrom};
+use std::io::{BufReader, Cursor, Error, ErrorKind, Read, SeekFrom};
 use std::process::Abort;
 use std::test::Fail;
 
@@ -48,63 +49,30 @@ impl Read for Faulty {
     }
 }
 
-// Fills the place: how many bytes came, or why none.
-fn filled<S: Source>(source: &mut S, place: &mut [u8]) -> Result<usize, ErrorKind> {
-    match fill(source, place) {
-        Ok(came) => Ok(came),
-        Err(error) => Err(error.kind()),
-    }
-}
-
-fn passed<S: Source>(source: &mut S, count: u64) -> Result<u64, ErrorKind> {
-    match pass_over(source, count) {
-        Ok(came) => Ok(came),
-        Err(error) => Err(error.kind()),
-    }
-}
-
-fn skipped<S: Source>(source: &mut S, count: u64) -> Result<(), ErrorKind> {
-    match skip_all(source, count) {
-        Ok(()) => Ok(()),
-        Err(error) => Err(error.kind()),
-    }
-}
-
-fn read<S: Source>(source: &mut S, place: &mut [u8]) -> Result<(), ErrorKind> {
-    match read_all(source, place) {
-        Ok(()) => Ok(()),
-        Err(error) => Err(error.kind()),
-    }
-}
-
-fn appended<S: Source>(source: &mut S, buffer: &mut Vec<u8>, count: usize) -> Result<usize, Fail> {
-    let came = append(source, buffer, count)?;
-    Ok(came)
-}
-
 // Takes the bytes 0 to 2, and passes over one.
 fn takes_front<S: Source>(rt: &impl Abort, source: &mut S) {
     let mut place = [0u8; 3];
-    assert_eq!(rt; filled(source, &mut place), Ok(3));
+    assert_eq!(rt; by_kind(fill(source, &mut place)), Ok(3));
     assert_eq!(rt; place, *b"012");
-    assert_eq!(rt; passed(source, 1), Ok(1));
+    assert_eq!(rt; by_kind(pass_over(source, 1)), Ok(1));
 }
 
 // Passes over one byte, and fills all but the first of a place.
 fn takes_middle<S: Source>(rt: &impl Abort, source: &mut S) {
     let mut place = *b"012";
-    assert_eq!(rt; skipped(source, 1), Ok(()));
-    assert_eq!(rt; read(source, &mut place[1..]), Ok(()));
+    assert_eq!(rt; by_kind(skip_all(source, 1)), Ok(()));
+    assert_eq!(rt; by_kind(read_all(source, &mut place[1..])), Ok(()));
     assert_eq!(rt; place, *b"078");
 }
 
 // Asks for more where no byte is left.
 fn takes_none<S: Source>(rt: &impl Abort, source: &mut S) {
     let mut place = [0u8; 3];
-    assert_eq!(rt; filled(source, &mut place), Ok(0));
-    assert_eq!(rt; passed(source, 600), Ok(0));
+    assert_eq!(rt; by_kind(fill(source, &mut place)), Ok(0));
+    assert_eq!(rt; by_kind(pass_over(source, 600)), Ok(0));
     let short = Err(ErrorKind::UnexpectedEof);
-    assert_eq!(rt; [read(source, &mut place), skipped(source, 1)], [short; 2]);
+    assert_eq!(rt; by_kind(read_all(source, &mut place)), short);
+    assert_eq!(rt; by_kind(skip_all(source, 1)), short);
 }
 
 // Takes ten bytes by each helper in turn, and asks each for more than there are.
@@ -112,10 +80,10 @@ fn takes_ten<S: Source + Drop>(rt: &(impl Abort + AllocGlobal), mut source: S) -
     let source = &mut source;
     takes_front(rt, source);
     let mut buffer = Vec::new(rt.alloc());
-    assert_eq!(rt; appended(source, &mut buffer, 2)?, 2);
+    assert_eq!(rt; append(source, &mut buffer, 2)?, 2);
     assert_eq!(rt; buffer.as_slice(), b"45".as_slice());
     takes_middle(rt, source);
-    assert_eq!(rt; appended(source, &mut buffer, 5000)?, 1);
+    assert_eq!(rt; append(source, &mut buffer, 5000)?, 1);
     assert_eq!(rt; buffer.as_slice(), b"459".as_slice());
     takes_none(rt, source);
     Ok(())
@@ -128,7 +96,11 @@ fn takes_bytes_from_each_source(rt: HostRuntime) -> Result<(), Fail> {
     takes_ten(&rt, Cursor::new(BYTES.to_vec(rt.alloc())?))?;
     takes_ten(&rt, &mut Cursor::new(BYTES))?;
     takes_ten(&rt, RawData::Split(b"01234", b"56789"))?;
-    takes_ten(&rt, Counted::new(BYTES))
+    takes_ten(&rt, Counted::new(BYTES))?;
+    takes_ten(
+        &rt,
+        CountedBuffer::new(BufReader::with_capacity(rt.alloc(), 4, BYTES)?),
+    )
 }
 
 // Goes to a place: where that is, and the byte there.
@@ -165,14 +137,16 @@ fn seeks_in_each_source(rt: HostRuntime) -> Result<(), Fail> {
     seeks(&rt, Cursor::new(BYTES))?;
     seeks(&rt, Cursor::new(BYTES.to_vec(rt.alloc())?))?;
     seeks(&rt, &mut Cursor::new(BYTES))?;
-    seeks(&rt, Counted::new(Cursor::new(BYTES)))
+    seeks(&rt, Counted::new(Cursor::new(BYTES)))?;
+    let buffer = BufReader::with_capacity(rt.alloc(), 4, Cursor::new(BYTES))?;
+    seeks(&rt, CountedBuffer::new(buffer))
 }
 
 // How many bytes fill a place of two behind so many faults of a kind before each, and those bytes.
 fn repeats(kind: ErrorKind, faults: u32) -> (Result<usize, ErrorKind>, [u8; 2]) {
     let mut source = Counted::new(Faulty::new(kind, faults));
     let mut place = [0u8; 2];
-    (filled(&mut source, &mut place), place)
+    (by_kind(fill(&mut source, &mut place)), place)
 }
 
 #[test]
@@ -198,26 +172,13 @@ pub(crate) fn reads<S: Source>(source: &mut S, place: &mut [u8]) -> Option<usize
     }
 }
 
-// What so many reads of one byte give.
-fn reads_in_turn(source: &mut Counted<Faulty>) -> [Option<usize>; 6] {
-    let mut place = [0u8; 1];
-    [
-        reads(source, &mut place),
-        reads(source, &mut place),
-        reads(source, &mut place),
-        reads(source, &mut place),
-        reads(source, &mut place),
-        reads(source, &mut place),
-    ]
-}
-
 #[test]
 fn counts_faults_and_pauses(rt: HostRuntime) -> Result<(), Fail> {
     let mut source = Counted::new(Faulty::new(ErrorKind::Other, 1));
-    assert_eq!(rt;
-        reads_in_turn(&mut source),
-        [None, Some(1), None, Some(1), None, Some(0)]
-    );
+    let mut place = [0u8; 1];
+    for came in [None, Some(1), None, Some(1), None, Some(0)] {
+        assert_eq!(rt; reads(&mut source, &mut place), came);
+    }
     assert_eq!(rt; source.read_front(&mut [])?, 0);
     Ok(())
 }

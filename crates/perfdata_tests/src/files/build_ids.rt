@@ -1,7 +1,8 @@
 //! Entries of build ids, taken one by one off a reader that is lent.
+use crate::helpers::joined;
 use byteorder::LittleEndian;
 use linux_perf_data::build_id_event::BuildIdEvent;
-use std::alloc::{AllocError, Global};
+use std::alloc::Global;
 use std::test::Fail;
 
 // An entry of 41 bytes, with a path of five.
@@ -10,14 +11,6 @@ fn entry(path: &[u8; 5]) -> [u8; 41] {
     bytes[..8].copy_from_slice(&[67, 0, 0, 0, 2, 0, 41, 0]);
     bytes[36..].copy_from_slice(path);
     bytes
-}
-
-// Two entries.
-fn content(alloc: Global) -> Result<Vec<u8>, AllocError> {
-    let mut content = Vec::new(alloc);
-    content.extend_from_slice(&entry(b"/a/x\0"))?;
-    content.extend_from_slice(&entry(b"/a/y\0"))?;
-    Ok(content)
 }
 
 // Whether the entry at the front of a lent reader has this path, and how many bytes are left then.
@@ -32,7 +25,7 @@ fn take(alloc: Global, left: &mut &[u8], path: &[u8]) -> (bool, usize) {
 // A reader that is lent gives entry by entry, and no byte behind one is taken.
 #[test]
 fn entries_of_a_lent_reader(rt: HostRuntime) -> Result<(), Fail> {
-    let content = content(rt.alloc())?;
+    let content = joined(rt.alloc(), &entry(b"/a/x\0"), &entry(b"/a/y\0"))?;
     let mut left = content.as_slice();
     for (path, behind) in [(b"/a/x", 41usize), (b"/a/y", 0)] {
         assert_eq!(rt; take(rt.alloc(), &mut left, path), (true, behind));

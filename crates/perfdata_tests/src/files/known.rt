@@ -3,7 +3,7 @@ use super::stream::{
     Answer, IDENTIFIER, described, indices_of, pipe, pipe_answers, push_attribute, push_identified,
     push_sample,
 };
-use std::alloc::{AllocError, Global};
+use std::alloc::Global;
 use std::test::Fail;
 
 // Where it is alone, it stands where IDENTIFIER would.
@@ -34,29 +34,19 @@ fn tells_attributes_that_come_later(rt: HostRuntime) -> Result<(), Fail> {
     Ok(())
 }
 
-// A pipe of an attribute, a record, and two more attributes.
-fn three(
-    alloc: Global,
-    first: u32,
-    second: u32,
-    third: (u32, bool),
-) -> Result<Vec<u8>, AllocError> {
-    let mut bytes = pipe(alloc)?;
-    push_attribute(&mut bytes, &described(first, true), &[])?;
-    bytes.extend_from_slice(&[73, 0, 0, 0, 0, 0, 8, 0])?;
-    push_attribute(&mut bytes, &described(second, true), &[])?;
-    push_attribute(&mut bytes, &described(third.0, third.1), &[])?;
-    Ok(bytes)
-}
-
-// The number of records before the third attribute, and what it is answered with, unless it is handed out.
+// Of a pipe of an attribute, a record, and two more attributes: the number of records before the third attribute, and what that
+// is answered with, unless it is handed out.
 fn breach_of(
     alloc: Global,
     first: u32,
     second: u32,
     third: (u32, bool),
 ) -> Result<(usize, Option<Answer>), Fail> {
-    let bytes = three(alloc, first, second, third)?;
+    let mut bytes = pipe(alloc)?;
+    push_attribute(&mut bytes, &described(first, true), &[])?;
+    bytes.extend_from_slice(&[73, 0, 0, 0, 0, 0, 8, 0])?;
+    push_attribute(&mut bytes, &described(second, true), &[])?;
+    push_attribute(&mut bytes, &described(third.0, third.1), &[])?;
     let answers = pipe_answers(alloc, bytes.as_slice(), 3)?;
     let mut records = 0usize;
     let mut breach = None;

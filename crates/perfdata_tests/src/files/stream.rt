@@ -1,6 +1,8 @@
 //! Files and pipes in memory, and what their readers answer.
 use linux_perf_data::source::{PlacedSource, Source};
-use linux_perf_data::{Error, PerfFileReader, PerfFileRecord, ReadError, RecordPlace};
+use linux_perf_data::{
+    Error, PerfFile, PerfFileReader, PerfFileRecord, PerfRecordIter, ReadError, RecordPlace,
+};
 use std::alloc::{AllocError, Global};
 use std::io::ErrorKind;
 use std::test::Fail;
@@ -37,39 +39,31 @@ fn refusal_of(error: &Error) -> Answer {
     }
 }
 
-fn record_of(place: RecordPlace, record: PerfFileRecord<'_>) -> Answer {
-    match record {
-        PerfFileRecord::EventRecord { attr_index, event } => {
+fn answer_of(next: Result<Option<(RecordPlace, PerfFileRecord<'_>)>, Error>) -> Answer {
+    match next {
+        Ok(Some((place, PerfFileRecord::EventRecord { attr_index, event }))) => {
             let parts = (event.record_type.0, event.misc, event.body.len());
             Answer::Record(place, Some(attr_index), parts)
         }
-        PerfFileRecord::UserRecord(user) => {
+        Ok(Some((place, PerfFileRecord::UserRecord(user)))) => {
             let parts = (user.record_type.record_type().0, user.misc, user.body.len());
             Answer::Record(place, None, parts)
         }
-    }
-}
-
-fn answer_of(next: Result<Option<(RecordPlace, PerfFileRecord<'_>)>, Error>) -> Answer {
-    match next {
-        Ok(Some((place, record))) => record_of(place, record),
         Ok(None) => Answer::Nothing,
         Err(error) => refusal_of(&error),
     }
 }
 
-fn answers_of<R: Source + Drop>(
+// Only the functions that open hold a file and its records: to hold them, and not to borrow them, is dear to prove.
+fn answers_of<R: Source>(
     alloc: Global,
-    reader: PerfFileReader<R>,
+    file: &mut PerfFile,
+    records: &mut PerfRecordIter<R>,
     count: usize,
 ) -> Result<Vec<Answer>, AllocError> {
-    let PerfFileReader {
-        perf_file: mut file,
-        record_iter: mut records,
-    } = reader;
     let mut answers = Vec::new(alloc);
     for _ in 0..count {
-        answers.push(answer_of(records.next_record(&mut file)))?;
+        answers.push(answer_of(records.next_record(file)))?;
     }
     Ok(answers)
 }
@@ -80,8 +74,11 @@ pub fn file_answers<C: PlacedSource + Drop>(
     source: C,
     count: usize,
 ) -> Result<Vec<Answer>, Fail> {
-    let reader = PerfFileReader::parse_file(alloc, source)?;
-    Ok(answers_of(alloc, reader, count)?)
+    let PerfFileReader {
+        perf_file: mut file,
+        record_iter: mut records,
+    } = PerfFileReader::parse_file(alloc, source)?;
+    Ok(answers_of(alloc, &mut file, &mut records, count)?)
 }
 
 /// The first answers of a pipe, so many.
@@ -90,8 +87,11 @@ pub fn pipe_answers<R: Source + Drop>(
     source: R,
     count: usize,
 ) -> Result<Vec<Answer>, Fail> {
-    let reader = PerfFileReader::parse_pipe(alloc, source)?;
-    Ok(answers_of(alloc, reader, count)?)
+    let PerfFileReader {
+        perf_file: mut file,
+        record_iter: mut records,
+    } = PerfFileReader::parse_pipe(alloc, source)?;
+    Ok(answers_of(alloc, &mut file, &mut records, count)?)
 }
 
 /// A file of this attribute and these records, whose data section tells this size.
@@ -117,14 +117,6 @@ pub fn pipe(alloc: Global) -> Result<Vec<u8>, AllocError> {
     Ok(bytes)
 }
 
-/// Appends numbers of eight bytes.
-pub fn push_numbers(bytes: &mut Vec<u8>, numbers: &[u64]) -> Result<(), AllocError> {
-    for number in numbers {
-        bytes.extend_from_slice(&number.to_le_bytes())?;
-    }
-    Ok(())
-}
-
 /// Appends a record of an attribute with these identifiers.
 pub fn push_attribute(
     bytes: &mut Vec<u8>,
@@ -136,7 +128,10 @@ pub fn push_attribute(
     bytes.extend_from_slice(&[64, 0, 0, 0, 0, 0])?;
     bytes.extend_from_slice(&size.to_le_bytes())?;
     bytes.extend_from_slice(attribute)?;
-    push_numbers(bytes, ids)
+    for id in ids {
+        bytes.extend_from_slice(&id.to_le_bytes())?;
+    }
+    Ok(())
 }
 
 /// An attribute of this format, with SAMPLE_ID_ALL or without.

@@ -1,54 +1,22 @@
 //! Jitdump files whose source fails, pauses or grows at each place in turn.
-use crate::jit::jitdump_reader::FILE;
-use perfdata_base::raw::RawData;
+use crate::helpers::by_kind;
+use crate::jit::jitdump_reader::{Answer, FILE, LOAD, head_of_size, next, passed_over};
 use perfdata_base::source::{Script, Step};
-use perfdata_jit::{JitDumpError, JitDumpRawRecord, JitDumpReader};
+use perfdata_jit::{JitDumpError, JitDumpReader};
 use std::alloc::{AllocError, Global};
-use std::io::{Cursor, ErrorKind, Result as IoResult};
+use std::io::{Cursor, ErrorKind};
 use std::test::Fail;
 
-/// What a call answers.
-#[derive(Clone, Copy, Debug, PartialEq, Eq)]
-enum Answer {
-    /// A record's place, time, type and size, and whether its body is the file's.
-    Record((u64, u64, u32, u32), bool),
-    Nothing,
-    Refused(ErrorKind),
-    /// The opening is refused: by its source, or otherwise.
-    Unopened(Option<ErrorKind>),
-}
-
-const LOAD: Answer = Answer::Record((40, 9, 0, 62), true);
-
-fn answer_of(next: IoResult<Option<JitDumpRawRecord<'_>>>) -> Answer {
-    match next {
-        Ok(Some(record)) => {
-            let kind = record.record_type.0;
-            let head = (
-                record.start_offset,
-                record.timestamp,
-                kind,
-                record.record_size,
-            );
-            Answer::Record(head, record.body == RawData::Single(&FILE[56..]))
-        }
-        Ok(None) => Answer::Nothing,
-        Err(error) => Answer::Refused(error.kind()),
-    }
-}
-
-// The answer of a call for the next record, and where the next record begins then.
-fn next(reader: &mut JitDumpReader<Script>) -> (Answer, u64) {
-    let answer = answer_of(reader.next_record());
-    (answer, reader.next_record_offset())
-}
-
-/// The first two answers over a source with a buffer of this size.
-fn two_answers(alloc: Global, source: Script, size: usize) -> [(Answer, u64); 2] {
+/// The first two answers over a source with a buffer of this size, or the fault of its own that the opening answers.
+fn two_answers(
+    alloc: Global,
+    source: Script,
+    size: usize,
+) -> Result<[(Answer, u64); 2], Option<ErrorKind>> {
     match JitDumpReader::new_with_buffer_size(alloc, source, size) {
-        Ok(mut reader) => [next(&mut reader), next(&mut reader)],
-        Err(JitDumpError::Io(error)) => [(Answer::Unopened(Some(error.kind())), 0); 2],
-        Err(_) => [(Answer::Unopened(None), 0); 2],
+        Ok(mut reader) => Ok([next(&mut reader), next(&mut reader)]),
+        Err(JitDumpError::Io(error)) => Err(Some(error.kind())),
+        Err(_) => Err(None),
     }
 }
 
@@ -59,6 +27,8 @@ enum Stop {
     Pause,
     /// No more is shown; then one byte more for each read.
     Shown,
+    /// No more is shown, and the read finds nothing; then all is.
+    Late,
 }
 
 /// The file, one byte a read, that stops behind so many.
@@ -84,18 +54,23 @@ fn stopping(alloc: Global, at: usize, stop: Stop) -> Result<Script, AllocError> 
             }
             at
         }
+        Stop::Late => {
+            steps.push(Step::Pause)?;
+            steps.push(Step::Grow(200))?;
+            at
+        }
     };
     let bytes = Vec::from_slice(alloc, &FILE)?;
     Ok(Script::new(bytes, shown, steps, Vec::new(alloc)))
 }
 
 /// What is promised where it stops behind so many bytes, of which an opening takes this many.
-fn promised(taken: usize, at: usize, stop: Stop) -> [(Answer, u64); 2] {
+fn promised(taken: usize, at: usize, stop: Stop) -> Result<[(Answer, u64); 2], Option<ErrorKind>> {
     match stop {
-        Stop::Fault(kind) if at < taken => [(Answer::Unopened(Some(kind)), 0); 2],
-        Stop::Fault(kind) => [(Answer::Refused(kind), 40), (LOAD, 102)],
-        _ if at < taken => [(LOAD, 102), (Answer::Nothing, 102)],
-        _ => [(Answer::Nothing, 40), (LOAD, 102)],
+        Stop::Fault(kind) if at < taken => Err(Some(kind)),
+        Stop::Fault(kind) => Ok([(Answer::Refused(kind), 40), (LOAD, 102)]),
+        _ if at < taken => Ok([(LOAD, 102), (Answer::Nothing, 102)]),
+        _ => Ok([(Answer::Nothing, 40), (LOAD, 102)]),
     }
 }
 
@@ -106,8 +81,10 @@ fn a_stop_at_each_read_behind_the_header(rt: HostRuntime) -> Result<(), Fail> {
             for stop in [
                 Stop::Fault(ErrorKind::Other),
                 Stop::Fault(ErrorKind::Interrupted),
+                Stop::Fault(ErrorKind::TimedOut),
                 Stop::Pause,
                 Stop::Shown,
+                Stop::Late,
             ] {
                 let source = stopping(rt.alloc(), at, stop)?;
                 let came = two_answers(rt.alloc(), source, size);
@@ -118,56 +95,30 @@ fn a_stop_at_each_read_behind_the_header(rt: HostRuntime) -> Result<(), Fail> {
     Ok(())
 }
 
-// The header, and a head of this size; then so many bytes that the file has 140.
-fn with_size(alloc: Global, size: u32) -> Result<Vec<u8>, AllocError> {
-    let mut bytes = FILE[..44].to_vec(alloc)?;
-    bytes.extend_from_slice(&size.to_le_bytes())?;
-    bytes.extend_from_slice(&9u64.to_le_bytes())?;
-    bytes.resize(140, 0xee)?;
-    Ok(bytes)
-}
-
-/// What the passing over of a record of 100 bytes answers, where so many bytes of the file are shown and a seek fails; where
-/// the next record begins then; and whether a call for it is refused, by which kind.
-fn skipped(
-    alloc: Global,
-    shown: usize,
-    seek: u64,
-) -> Result<(Result<bool, ErrorKind>, u64, Option<ErrorKind>), Fail> {
-    let faults = Vec::from_slice(alloc, &[seek])?;
-    let source = Script::new(with_size(alloc, 100)?, shown, Vec::new(alloc), faults);
-    let mut reader = JitDumpReader::new_with_buffer_size(alloc, source, 40)?;
-    let passed = match reader.skip_next_record() {
-        Ok(passed) => Ok(passed),
-        Err(error) => Err(error.kind()),
-    };
-    let at = reader.next_record_offset();
-    let refused = match reader.next_record() {
-        Ok(_) => None,
-        Err(error) => Some(error.kind()),
-    };
-    Ok((passed, at, refused))
-}
-
 #[test]
 fn each_seek_of_passing_over_fails(rt: HostRuntime) -> Result<(), Fail> {
     let other = ErrorKind::Other;
+    let refused = ((Err(other), 40), Err(other), (Answer::Refused(other), 40));
     for (shown, whole) in [
-        (60usize, (Ok(false), 40u64, None)),
-        (140, (Ok(true), 140, None)),
+        (
+            60usize,
+            ((Ok(false), 40u64), Ok(Some(9)), (Answer::Nothing, 40)),
+        ),
+        (140, ((Ok(true), 140), Ok(None), (Answer::Nothing, 140))),
     ] {
         for seek in 0..3u64 {
-            let came = skipped(rt.alloc(), shown, seek)?;
-            assert_eq!(rt; came, (Err(other), 40, Some(other)), "{shown} {seek}");
+            let came = passed_over(rt.alloc(), shown, &[], &[seek])?;
+            assert_eq!(rt; came, refused, "{shown} {seek}");
         }
-        assert_eq!(rt; skipped(rt.alloc(), shown, 3)?, whole, "{shown}");
+        let came = passed_over(rt.alloc(), shown, &[], &[3])?;
+        assert_eq!(rt; came, whole, "{shown}");
     }
     Ok(())
 }
 
 /// How the passing over of a record of this size is refused, twice, and the size that its head tells then.
 fn too_small(alloc: Global, size: u32) -> Result<([Option<ErrorKind>; 2], u64, Option<u32>), Fail> {
-    let source = Cursor::new(with_size(alloc, size)?);
+    let source = Cursor::new(head_of_size(alloc, size, &[0xee; 84])?);
     let mut reader = JitDumpReader::new_with_buffer_size(alloc, source, 40)?;
     let mut refused = [None; 2];
     for slot in refused.iter_mut() {

@@ -1,4 +1,5 @@
 //! Parsers that take their source by value take its bytes and no more, and no place is gone to that can't be one.
+use crate::parts::event_types::two_entries;
 use byteorder::{BigEndian, LittleEndian};
 use perfdata_base::attr::PerfEventAttr;
 use perfdata_base::event::PerfEventHeader;
@@ -10,6 +11,7 @@ use perfdata_parts::event_type::SimplePerfEventType;
 use perfdata_parts::feature_sections::AttributeDescription;
 use std::alloc::Global;
 use std::io::{Cursor, Read, Seek, SeekFrom};
+use std::slice;
 use std::test::Fail;
 
 /// What is parsed.
@@ -31,27 +33,6 @@ fn is_parsed<R: Source + Drop>(part: Part, is_little: bool, source: R) -> bool {
         (Part::Attribute, true) => PerfEventAttr::parse::<R, LittleEndian>(source).is_ok(),
         (Part::Attribute, false) => PerfEventAttr::parse::<R, BigEndian>(source).is_ok(),
         (Part::PipeHeader, _) => PerfPipeHeader::parse(source).is_ok(),
-    }
-}
-
-/// How many bytes are taken from a slice, where the part is parsed.
-fn taken_of_slice(part: Part, is_little: bool, bytes: &[u8]) -> Option<usize> {
-    let mut rest = bytes;
-    if is_parsed(part, is_little, &mut rest) {
-        Some(bytes.len().saturating_sub(rest.len()))
-    } else {
-        None
-    }
-}
-
-/// How many are taken from a cursor that stands at 3.
-fn taken_of_cursor(part: Part, is_little: bool, bytes: &[u8]) -> Option<u64> {
-    let mut cursor = Cursor::new(bytes);
-    cursor.set_position(3);
-    if is_parsed(part, is_little, &mut cursor) {
-        Some(cursor.position().saturating_sub(3))
-    } else {
-        None
     }
 }
 
@@ -91,26 +72,18 @@ fn parts_take_their_own_bytes(rt: HostRuntime) {
             (Part::PipeHeader, header(16, is_little), 16),
             (Part::PipeHeader, header(20, is_little), 20),
         ] {
-            let came = (
-                taken_of_slice(part, is_little, &bytes[3..]),
-                taken_of_cursor(part, is_little, &bytes),
-            );
+            let mut rest = &bytes[3..];
+            let first = is_parsed(part, is_little, &mut rest);
+            let mut cursor = Cursor::new(&bytes[..]);
+            cursor.set_position(3);
+            let second = is_parsed(part, is_little, &mut cursor);
+            assert_eq!(rt; (first, second), (true, true), "{part:?} {is_little}");
             assert_eq!(rt;
-                came,
-                (Some(taken), Some(taken as u64)),
+                (rest.len(), cursor.position()),
+                (197 - taken, 3 + taken as u64),
                 "{part:?} {is_little}"
             );
         }
-    }
-}
-
-/// How many bytes a file's header takes from a cursor that stands at 3.
-fn taken_by_header(bytes: &[u8]) -> Option<u64> {
-    let mut cursor = Cursor::new(bytes);
-    cursor.set_position(3);
-    match PerfHeader::parse(&mut cursor) {
-        Ok(_) => Some(cursor.position().saturating_sub(3)),
-        Err(_) => None,
     }
 }
 
@@ -118,8 +91,15 @@ fn taken_by_header(bytes: &[u8]) -> Option<u64> {
 fn a_header_takes_its_own_bytes(rt: HostRuntime) {
     for is_little in [true, false] {
         for (size, taken) in [(0u8, 104u64), (104, 104), (112, 112)] {
-            let came = taken_by_header(&header(size, is_little));
-            assert_eq!(rt; came, Some(taken), "{size} {is_little}");
+            let bytes = header(size, is_little);
+            let mut cursor = Cursor::new(&bytes[..]);
+            cursor.set_position(3);
+            let parsed = PerfHeader::parse(&mut cursor).is_ok();
+            assert_eq!(rt;
+                (parsed, cursor.position()),
+                (true, 3 + taken),
+                "{size} {is_little}"
+            );
         }
     }
 }
@@ -154,24 +134,13 @@ impl Read for Noting<'_> {
 impl Seek for Noting<'_> {
     fn seek(&mut self, to: SeekFrom) -> std::io::Result<u64> {
         self.note();
-        if let SeekFrom::Start(at) = to {
-            self.farthest = self.farthest.max(at);
-        }
-        Seek::seek(&mut self.inner, to)
+        let at = Seek::seek(&mut self.inner, to)?;
+        self.farthest = self.farthest.max(at);
+        Ok(at)
     }
 }
 
-// 88 bytes: an attribute of 64, the section of its ids, and an id.
-fn event(offset: u64) -> [u8; 88] {
-    let mut bytes = [0; 88];
-    bytes[4] = 64;
-    bytes[64..72].copy_from_slice(&offset.to_le_bytes());
-    bytes[72] = 8;
-    bytes[80] = 5;
-    bytes
-}
-
-/// The section of that attribute and of the place of its ids.
+/// The section of the first of two entries.
 const SECTION: PerfFileSection = PerfFileSection {
     offset: 0,
     size: 80,
@@ -189,56 +158,47 @@ fn told(read: Result<Vec<AttributeDescription>, Error>) -> Result<(usize, usize)
     }
 }
 
-/// What comes of the section of event types, whose frames have 64 bytes.
-fn events_of(alloc: Global, noting: &mut Noting<'_>) -> Result<(usize, usize), bool> {
-    told(AttributeDescription::parse_event_types_section::<Counted<&mut Noting<'_>>, LittleEndian>(
-        alloc,
-        Counted::new(noting),
-        &SECTION,
-        64,
-    ))
-}
-
-/// What comes of simpleperf's attribute section, whose frames count the 16 bytes that tell the place of the ids, too.
-fn simpleperf_of(
-    alloc: Global,
-    noting: &mut Noting<'_>,
-    types: &[SimplePerfEventType],
-) -> Result<(usize, usize), bool> {
-    let mut source = Counted::new(noting);
-    told(AttributeDescription::parse_simpleperf_attr_section_from::<
-        Counted<&mut Noting<'_>>,
-        LittleEndian,
-    >(alloc, &mut source, &SECTION, 80, types))
-}
-
-/// What the event comes to in the section of event types, or in simpleperf's where event types name it, and what its reader
-/// noted: the farthest place, the bytes that it gave, and whether it was asked once the entry was read.
+/// What the first of two entries, with its ids at this place, comes to in the section of event types, or in simpleperf's where
+/// event types name it, whose frames count the 16 bytes that tell the place of the ids, too; and what its reader noted: the
+/// farthest place, the bytes that it gave, and whether it was asked once the entry was read.
 fn noted(
     alloc: Global,
     offset: u64,
     types: Option<&[SimplePerfEventType]>,
 ) -> (Result<(usize, usize), bool>, (u64, usize, bool)) {
-    let bytes = event(offset);
+    let mut bytes = two_entries();
+    bytes[64..72].copy_from_slice(&offset.to_le_bytes());
     let mut noting = Noting {
         inner: Cursor::new(bytes.as_slice()),
         farthest: 0,
         given: 0,
         later: 0,
     };
-    let came = match types {
-        Some(types) => simpleperf_of(alloc, &mut noting, types),
-        None => events_of(alloc, &mut noting),
+    let mut source = Counted::new(&mut noting);
+    let read = match types {
+        Some(types) => AttributeDescription::parse_simpleperf_attr_section_from::<_, LittleEndian>(
+            alloc,
+            &mut source,
+            &SECTION,
+            80,
+            types,
+        ),
+        None => AttributeDescription::parse_event_types_section::<_, LittleEndian>(
+            alloc, source, &SECTION, 64,
+        ),
     };
-    (came, (noting.farthest, noting.given, noting.later > 0))
+    (
+        told(read),
+        (noting.farthest, noting.given, noting.later > 0),
+    )
 }
 
 #[test]
 fn ids_past_every_place_are_refused_untouched(rt: HostRuntime) {
     for (offset, wanted) in [
-        (80, (Ok((0usize, 1usize)), (80u64, 88usize, true))),
-        (u64::MAX, (Err(true), (64, 80, false))),
-        (u64::MAX - 7, (Err(true), (64, 80, false))),
+        (88, (Ok((0usize, 1usize)), (88u64, 88usize, true))),
+        (u64::MAX, (Err(true), (0, 80, false))),
+        (u64::MAX - 7, (Err(true), (0, 80, false))),
     ] {
         assert_eq!(rt; noted(rt.alloc(), offset, None), wanted, "{offset}");
     }
@@ -247,13 +207,13 @@ fn ids_past_every_place_are_refused_untouched(rt: HostRuntime) {
 #[test]
 fn ids_of_named_events_past_every_place_are_refused_untouched(rt: HostRuntime) -> Result<(), Fail> {
     let name = String::from_str(rt.alloc(), "cycles")?;
-    let types = [SimplePerfEventType::new(name, 0, 0)];
+    let event = SimplePerfEventType::new(name, 0, 0);
     for (offset, wanted) in [
-        (80, (Ok((1usize, 0usize)), (80u64, 88usize, true))),
-        (u64::MAX, (Err(true), (64, 80, false))),
-        (u64::MAX - 7, (Err(true), (64, 80, false))),
+        (88, (Ok((1usize, 0usize)), (88u64, 88usize, true))),
+        (u64::MAX, (Err(true), (0, 80, false))),
+        (u64::MAX - 7, (Err(true), (0, 80, false))),
     ] {
-        let came = noted(rt.alloc(), offset, Some(&types));
+        let came = noted(rt.alloc(), offset, Some(slice::from_ref(&event)));
         assert_eq!(rt; came, wanted, "{offset}");
     }
     Ok(())

@@ -1,14 +1,7 @@
 //! The texts of errors.
 use perfdata_jit::JitDumpError;
-use std::alloc::{AllocError, Global};
 use std::io::{Error, ErrorKind};
 use std::test::Fail;
-
-// Whether this is what is shown of an error.
-fn is_shown(alloc: Global, error: &JitDumpError, text: &str) -> Result<bool, AllocError> {
-    let shown = format!(in alloc; "{error}")?;
-    Ok(shown.as_str() == text)
-}
 
 #[test]
 fn shows_why(rt: HostRuntime) -> Result<(), Fail> {
@@ -39,7 +32,8 @@ fn shows_why(rt: HostRuntime) -> Result<(), Fail> {
             "Failed to read from the jitdump file: unexpected end of file",
         ),
     ] {
-        assert!(rt; is_shown(rt.alloc(), &error, text)?, "{text}");
+        let shown = format!(in rt.alloc(); "{error}")?;
+        assert_eq!(rt; shown.as_str(), text);
     }
     Ok(())
 }

@@ -1,14 +1,9 @@
 //! Headers of jitdump files, wherever they are split, and the first reason why there is none.
+use crate::jit::jitdump_reader::FILE;
 use byteorder::LittleEndian;
 use perfdata_base::raw::RawData;
 use perfdata_jit::{JitDumpError, JitDumpHeader};
 use std::io::ErrorKind;
-
-// Of version 1 and 40 bytes, for the machine 62, by the process 7 at 5.
-const LITTLE: [u8; 40] = [
-    0x44, 0x54, 0x69, 0x4a, 1, 0, 0, 0, 40, 0, 0, 0, 62, 0, 0, 0, 0, 0, 0, 0, 7, 0, 0, 0, 5, 0, 0,
-    0, 0, 0, 0, 0, 0, 0, 0, 0, 0, 0, 0, 0,
-];
 
 // Of version 1 and 40 bytes, with other numbers all different.
 const BIG: [u8; 40] = [
@@ -46,9 +41,9 @@ fn parse(bytes: RawData<'_>) -> Result<Told, Refusal> {
     }
 }
 
-// The first bytes, so many, with a byte changed.
+// The file's first bytes, so many, with a byte changed.
 fn changed(at: usize, byte: u8, count: usize) -> Result<Told, Refusal> {
-    let mut bytes = LITTLE;
+    let mut bytes = FILE;
     if let Some(slot) = bytes.get_mut(at) {
         *slot = byte;
     }
@@ -71,7 +66,7 @@ fn behind_magic(behind: &[u8]) -> Result<(u32, u64), ErrorKind> {
 fn reads_each_field_wherever_it_is_split(rt: HostRuntime) {
     let wanted = ([0x44, 0x54, 0x69, 0x4a], (1, 40), (62, 7), (5, 0));
     for at in 0..41usize {
-        let (front, back) = LITTLE.split_at(at);
+        let (front, back) = FILE[..40].split_at(at);
         let got = parse(RawData::Split(front, back));
         assert_eq!(rt; got, Ok(wanted), "split at {at}");
     }
@@ -102,8 +97,8 @@ fn refuses_by_the_first_reason(rt: HostRuntime) {
 
 #[test]
 fn takes_small_headers_behind_the_magic(rt: HostRuntime) {
-    let mut bytes = LITTLE;
+    let mut bytes = FILE;
     bytes[8] = 39;
-    assert_eq!(rt; behind_magic(&bytes[4..]), Ok((39, 5)));
+    assert_eq!(rt; behind_magic(&bytes[4..40]), Ok((39, 5)));
     assert_eq!(rt; behind_magic(&bytes[4..39]), Err(ErrorKind::UnexpectedEof));
 }

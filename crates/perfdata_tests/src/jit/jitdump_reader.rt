@@ -1,4 +1,5 @@
 //! The reader, over sources that show their bytes bit by bit, pause, fail and grow.
+use crate::helpers::{by_kind, joined};
 use perfdata_base::raw::RawData;
 use perfdata_base::source::{Script, Source, Step};
 use perfdata_jit::{
@@ -8,7 +9,8 @@ use std::alloc::Global;
 use std::io::{Cursor, ErrorKind, Result as IoResult};
 use std::test::Fail;
 
-// A header of 40 bytes, and a load record of 62 at 9.
+// A header of version 1 and 40 bytes, for the machine 62, by the process 7 at 5, and a load record of 62 at 9: process and
+// thread 7, addresses 0x1000, index 0, `foo` and two bytes of code.
 pub(crate) const FILE: [u8; 102] = [
     0x44, 0x54, 0x69, 0x4a, 1, 0, 0, 0, 40, 0, 0, 0, 62, 0, 0, 0, 0, 0, 0, 0, 7, 0, 0, 0, 5, 0, 0,
     0, 0, 0, 0, 0, 0, 0, 0, 0, 0, 0, 0, 0, 0, 0, 0, 0, 62, 0, 0, 0, 9, 0, 0, 0, 0, 0, 0, 0, 7, 0,
@@ -19,35 +21,32 @@ pub(crate) const FILE: [u8; 102] = [
 // A closing record at 11.
 const CLOSE: [u8; 16] = [3, 0, 0, 0, 16, 0, 0, 0, 11, 0, 0, 0, 0, 0, 0, 0];
 
-// What a call for the next record answers: the record's place, time, type and size, or none, or a refusal.
+// What a call for the next record answers.
 #[derive(Clone, Copy, Debug, PartialEq, Eq)]
-enum Answer {
-    Record(u64, u64, u32, u32),
+pub(crate) enum Answer {
+    // A record's place, time, type and size, and whether its body is that of the file's record.
+    Record((u64, u64, u32, u32), bool),
     Nothing,
     Refused(ErrorKind),
 }
 
-const LOAD: Answer = Answer::Record(40, 9, 0, 62);
+pub(crate) const LOAD: Answer = Answer::Record((40, 9, 0, 62), true);
 
 fn answer_of(next: IoResult<Option<JitDumpRawRecord<'_>>>) -> Answer {
     match next {
-        Ok(Some(r)) => Answer::Record(r.start_offset, r.timestamp, r.record_type.0, r.record_size),
+        Ok(Some(r)) => Answer::Record(
+            (r.start_offset, r.timestamp, r.record_type.0, r.record_size),
+            r.body == RawData::Single(&FILE[56..]),
+        ),
         Ok(None) => Answer::Nothing,
         Err(error) => Answer::Refused(error.kind()),
     }
 }
 
 // The answer of a call for the next record, and where the next record begins then.
-fn next<R: Source>(reader: &mut JitDumpReader<R>) -> (Answer, u64) {
+pub(crate) fn next<R: Source>(reader: &mut JitDumpReader<R>) -> (Answer, u64) {
     let answer = answer_of(reader.next_record());
     (answer, reader.next_record_offset())
-}
-
-fn timestamp<R: Source>(reader: &mut JitDumpReader<R>) -> Result<Option<u64>, ErrorKind> {
-    match reader.next_record_timestamp() {
-        Ok(timestamp) => Ok(timestamp),
-        Err(error) => Err(error.kind()),
-    }
 }
 
 // The type and the size of the next record.
@@ -85,7 +84,7 @@ fn script(alloc: Global, shown: usize, steps: Vec<Step>) -> Result<Script, Fail>
 }
 
 // A head of this size behind the header, and then these bytes.
-fn head_of_size(alloc: Global, size: u32, behind: &[u8]) -> Result<Vec<u8>, Fail> {
+pub(crate) fn head_of_size(alloc: Global, size: u32, behind: &[u8]) -> Result<Vec<u8>, Fail> {
     let mut bytes = FILE.to_vec(alloc)?;
     bytes.truncate(44);
     bytes.extend_from_slice(&size.to_le_bytes())?;
@@ -102,47 +101,23 @@ fn opened<R: Source + Drop>(
     Ok(JitDumpReader::new_with_buffer_size(alloc, source, size)?)
 }
 
-// A reader of the file, whose reads come to this step behind so many single bytes, and which grows then.
-fn stopping(
+// The first answers of a reader with a buffer of this size, so many.
+fn answers<R: Source + Drop>(
     alloc: Global,
-    at: usize,
-    step: Step,
-    shown: usize,
-) -> Result<JitDumpReader<Script>, Fail> {
-    let mut steps = bytes_then(alloc, at, step)?;
-    steps.push(Step::Grow(200))?;
-    let source = script(alloc, shown, steps)?;
-    opened(alloc, source, 40)
-}
-
-#[test]
-fn loses_nothing_at_any_read(rt: HostRuntime) -> Result<(), Fail> {
-    for at in 40..102usize {
-        for (step, shown, first) in [
-            (Step::Pause, 102, Answer::Nothing),
-            (
-                Step::Fault(ErrorKind::TimedOut),
-                102,
-                Answer::Refused(ErrorKind::TimedOut),
-            ),
-            (
-                Step::Fault(ErrorKind::Interrupted),
-                102,
-                Answer::Refused(ErrorKind::Interrupted),
-            ),
-            (Step::Pause, at, Answer::Nothing),
-        ] {
-            let mut reader = stopping(rt.alloc(), at, step, shown)?;
-            for wanted in [(first, 40), (LOAD, 102)] {
-                assert_eq!(rt; next(&mut reader), wanted, "at {at}");
-            }
-        }
+    source: R,
+    size: usize,
+    count: usize,
+) -> Result<Vec<(Answer, u64)>, Fail> {
+    let mut reader = opened(alloc, source, size)?;
+    let mut answers = Vec::new(alloc);
+    for _ in 0..count {
+        answers.push(next(&mut reader))?;
     }
-    Ok(())
+    Ok(answers)
 }
 
-// A reader of the file, of which so many bytes are shown and which grows by a byte at a time.
-fn growing(alloc: Global, at: usize, stops_again: bool) -> Result<JitDumpReader<Script>, Fail> {
+// The file, of which so many bytes are shown and which grows by a byte at a time.
+fn growing(alloc: Global, at: usize, stops_again: bool) -> Result<Script, Fail> {
     let mut steps = bytes_then(alloc, at, Step::Pause)?;
     for _ in at..102 {
         steps.push(Step::Grow(1))?;
@@ -151,19 +126,21 @@ fn growing(alloc: Global, at: usize, stops_again: bool) -> Result<JitDumpReader<
             steps.push(Step::Pause)?;
         }
     }
-    let source = script(alloc, at, steps)?;
-    opened(alloc, source, 40)
+    script(alloc, at, steps)
 }
 
 #[test]
 fn loses_nothing_where_the_file_grows_by_a_byte(rt: HostRuntime) -> Result<(), Fail> {
     for at in 40..102usize {
         for (stops_again, waits) in [(false, 1), (true, 102 - at)] {
-            let mut reader = growing(rt.alloc(), at, stops_again)?;
+            let source = growing(rt.alloc(), at, stops_again)?;
+            let mut wanted = Vec::new(rt.alloc());
             for _ in 0..waits {
-                assert_eq!(rt; next(&mut reader), (Answer::Nothing, 40), "at {at}");
+                wanted.push((Answer::Nothing, 40))?;
             }
-            assert_eq!(rt; next(&mut reader), (LOAD, 102), "at {at}");
+            wanted.push((LOAD, 102))?;
+            let came = answers(rt.alloc(), source, 40, wanted.len())?;
+            assert_eq!(rt; came.as_slice(), wanted.as_slice(), "at {at}");
         }
     }
     Ok(())
@@ -212,18 +189,15 @@ fn a_cut_file_waits(rt: HostRuntime) {
 }
 
 // Where the code of a function with a short name begins in its record, and whether the code is the two bytes of the file.
-fn code_of(load: &JitCodeLoadRecord<'_>) -> Option<(usize, bool)> {
-    let is_code = load.code_bytes == RawData::Single(&[0x90, 0xc3]);
-    if load.function_name.len() < 100 {
-        Some((load.code_bytes_offset_from_record_header_start(), is_code))
-    } else {
-        None
-    }
-}
-
 fn code_in(alloc: Global, record: &JitDumpRawRecord<'_>) -> Option<(usize, bool)> {
     match record.parse(alloc) {
-        Ok(JitDumpRecord::CodeLoad(load)) => code_of(&load),
+        Ok(JitDumpRecord::CodeLoad(load)) => {
+            if load.function_name.len() >= 100 {
+                return None;
+            }
+            let is_code = load.code_bytes == RawData::Single(&[0x90, 0xc3]);
+            Some((load.code_bytes_offset_from_record_header_start(), is_code))
+        }
         _ => None,
     }
 }
@@ -246,7 +220,7 @@ fn next_code<R: Source>(
 fn tells_of_the_next_record(rt: HostRuntime) -> Result<(), Fail> {
     let mut reader = JitDumpReader::new(rt.alloc(), &FILE[..])?;
     assert_eq!(rt; reader.header().pid, 7);
-    assert_eq!(rt; timestamp(&mut reader), Ok(Some(9)));
+    assert_eq!(rt; by_kind(reader.next_record_timestamp()), Ok(Some(9)));
     assert_eq!(rt; type_and_size(&mut reader), Some((0, 62)));
     assert_eq!(rt;
         next_code(rt.alloc(), &mut reader),
@@ -255,16 +229,11 @@ fn tells_of_the_next_record(rt: HostRuntime) -> Result<(), Fail> {
     Ok(())
 }
 
-// A reader of the whole file, which comes in single bytes.
-fn single_bytes(alloc: Global) -> Result<JitDumpReader<Script>, Fail> {
-    let steps = bytes_then(alloc, 102, Step::Pause)?;
-    let source = script(alloc, 102, steps)?;
-    opened(alloc, source, 40)
-}
-
 #[test]
 fn a_record_comes_in_single_bytes(rt: HostRuntime) -> Result<(), Fail> {
-    let mut reader = single_bytes(rt.alloc())?;
+    let steps = bytes_then(rt.alloc(), 102, Step::Pause)?;
+    let source = script(rt.alloc(), 102, steps)?;
+    let mut reader = opened(rt.alloc(), source, 40)?;
     assert_eq!(rt;
         next_code(rt.alloc(), &mut reader),
         (LOAD, Some((60, true)))
@@ -295,23 +264,17 @@ fn a_body_may_lie_in_two_pieces(rt: HostRuntime) -> Result<(), Fail> {
 }
 
 // The file with a header of 48 bytes.
-fn longer_header(alloc: Global) -> Result<Vec<u8>, Fail> {
-    let mut bytes = FILE.to_vec(alloc)?;
-    bytes.truncate(40);
+#[test]
+fn records_begin_behind_the_whole_header(rt: HostRuntime) -> Result<(), Fail> {
+    let mut bytes = FILE[..40].to_vec(rt.alloc())?;
     if let Some(size) = bytes.get_mut(8) {
         *size = 48;
     }
     bytes.extend_from_slice(&[0xee; 8])?;
     bytes.extend_from_slice(&FILE[40..])?;
-    Ok(bytes)
-}
-
-#[test]
-fn records_begin_behind_the_whole_header(rt: HostRuntime) -> Result<(), Fail> {
-    let bytes = longer_header(rt.alloc())?;
     let mut reader = opened(rt.alloc(), bytes.as_slice(), 64)?;
     assert_eq!(rt; reader.next_record_offset(), 48);
-    let wanted = (Answer::Record(48, 9, 0, 62), 110);
+    let wanted = (Answer::Record((48, 9, 0, 62), true), 110);
     assert_eq!(rt; next(&mut reader), wanted);
     Ok(())
 }
@@ -410,7 +373,7 @@ fn waits_for_a_record_longer_than_any_file(rt: HostRuntime) -> Result<(), Fail> 
         let mut reader = waiting(rt.alloc(), size, pauses)?;
         for call in 0..3u32 {
             assert_eq!(rt; next(&mut reader), (Answer::Nothing, 40), "call {call}");
-            assert_eq!(rt; timestamp(&mut reader), Ok(Some(9)));
+            assert_eq!(rt; by_kind(reader.next_record_timestamp()), Ok(Some(9)));
         }
     }
     for size in [40usize, 4096] {
@@ -420,84 +383,80 @@ fn waits_for_a_record_longer_than_any_file(rt: HostRuntime) -> Result<(), Fail> 
     Ok(())
 }
 
-// A reader of the file and a closing record behind it.
-fn closed(alloc: Global) -> Result<JitDumpReader<Cursor<Vec<u8>>>, Fail> {
-    let mut bytes = FILE.to_vec(alloc)?;
-    bytes.extend_from_slice(&CLOSE)?;
-    opened(alloc, Cursor::new(bytes), 4096)
-}
-
 #[test]
 fn passes_over_records(rt: HostRuntime) -> Result<(), Fail> {
-    let mut reader = closed(rt.alloc())?;
+    let bytes = joined(rt.alloc(), &FILE, &CLOSE)?;
+    let mut reader = opened(rt.alloc(), Cursor::new(bytes), 4096)?;
     assert!(rt; reader.skip_next_record()?);
-    let wanted = (Answer::Record(102, 11, 3, 16), 118);
+    let wanted = (Answer::Record((102, 11, 3, 16), false), 118);
     assert_eq!(rt; next(&mut reader), wanted);
     assert!(rt; !reader.skip_next_record()?);
     assert_eq!(rt; next(&mut reader), (Answer::Nothing, 118));
     Ok(())
 }
 
-// A header and a record of 100 bytes, of which so many bytes are shown.
-fn long_record(
+// What the passing over of a record answers and where the next one begins then, its time, and the answer of a call for it.
+type Passed = (
+    (Result<bool, ErrorKind>, u64),
+    Result<Option<u64>, ErrorKind>,
+    (Answer, u64),
+);
+
+// What comes where a record of 100 bytes, of which so many bytes are shown with its header, is passed over.
+pub(crate) fn passed_over(
     alloc: Global,
     shown: usize,
     steps: &[Step],
     seek_faults: &[u64],
-) -> Result<JitDumpReader<Script>, Fail> {
-    let mut bytes = head_of_size(alloc, 100, &[])?;
-    bytes.resize(140, 0xee)?;
+) -> Result<Passed, Fail> {
+    let bytes = head_of_size(alloc, 100, &[0xee; 84])?;
     let steps = Vec::from_slice(alloc, steps)?;
     let seek_faults = Vec::from_slice(alloc, seek_faults)?;
-    opened(alloc, Script::new(bytes, shown, steps, seek_faults), 40)
-}
-
-// Whether the next record was passed over, and where the next one begins then.
-fn skipped(reader: &mut JitDumpReader<Script>) -> (Result<bool, ErrorKind>, u64) {
-    let passed = match reader.skip_next_record() {
-        Ok(passed) => Ok(passed),
-        Err(error) => Err(error.kind()),
-    };
-    (passed, reader.next_record_offset())
+    let source = Script::new(bytes, shown, steps, seek_faults);
+    let mut reader = opened(alloc, source, 40)?;
+    let passed = by_kind(reader.skip_next_record());
+    let at = reader.next_record_offset();
+    let time = by_kind(reader.next_record_timestamp());
+    Ok(((passed, at), time, next(&mut reader)))
 }
 
 #[test]
 fn passes_over_what_is_shown_alone(rt: HostRuntime) -> Result<(), Fail> {
     let steps = [Step::Give(40), Step::Give(20), Step::Grow(80)];
-    let mut reader = long_record(rt.alloc(), 60, &steps, &[])?;
-    assert_eq!(rt; skipped(&mut reader), (Ok(false), 40));
-    let wanted = (Answer::Record(40, 9, 0, 100), 140);
-    assert_eq!(rt; next(&mut reader), wanted);
+    let came = passed_over(rt.alloc(), 60, &steps, &[])?;
+    let record = (Answer::Record((40, 9, 0, 100), false), 140);
+    assert_eq!(rt; came, ((Ok(false), 40), Ok(Some(9)), record));
+    let other = ErrorKind::Other;
+    let refused = ((Err(other), 40), Err(other), (Answer::Refused(other), 40));
     for failing in 0..3u64 {
-        let mut reader = long_record(rt.alloc(), 140, &[], &[failing])?;
-        let other = ErrorKind::Other;
-        assert_eq!(rt; skipped(&mut reader), (Err(other), 40), "{failing}");
-        assert_eq!(rt; timestamp(&mut reader), Err(other));
-        assert_eq!(rt; next(&mut reader), (Answer::Refused(other), 40));
+        let came = passed_over(rt.alloc(), 140, &[], &[failing])?;
+        assert_eq!(rt; came, refused, "{failing}");
     }
-    let mut reader = long_record(rt.alloc(), 140, &[], &[3])?;
-    assert_eq!(rt; skipped(&mut reader), (Ok(true), 140));
+    let came = passed_over(rt.alloc(), 140, &[], &[3])?;
+    let whole = ((Ok(true), 140), Ok(None), (Answer::Nothing, 140));
+    assert_eq!(rt; came, whole);
     Ok(())
 }
 
-// A reader of a file of ten records that comes in single bytes.
-fn ten_records(alloc: Global) -> Result<JitDumpReader<Script>, Fail> {
+// A file of ten records that comes in single bytes.
+fn ten_records(alloc: Global) -> Result<Script, Fail> {
     let mut bytes = FILE.to_vec(alloc)?;
     for _ in 0..9 {
         bytes.extend_from_slice(&FILE[40..])?;
     }
     let steps = bytes_then(alloc, 660, Step::Pause)?;
-    opened(alloc, Script::new(bytes, 660, steps, Vec::new(alloc)), 64)
+    Ok(Script::new(bytes, 660, steps, Vec::new(alloc)))
 }
 
 #[test]
 fn ten_records_go_round_the_ring(rt: HostRuntime) -> Result<(), Fail> {
-    let mut reader = ten_records(rt.alloc())?;
+    let mut wanted = Vec::new(rt.alloc());
     for number in 0..10u64 {
         let place = 40 + 62 * number;
-        let wanted = (Answer::Record(place, 9, 0, 62), place + 62);
-        assert_eq!(rt; next(&mut reader), wanted);
+        wanted.push((Answer::Record((place, 9, 0, 62), true), place + 62))?;
     }
-    assert_eq!(rt; next(&mut reader), (Answer::Nothing, 660));
+    wanted.push((Answer::Nothing, 660))?;
+    let came = answers(rt.alloc(), ten_records(rt.alloc())?, 64, 11)?;
+    assert_eq!(rt; came.as_slice(), wanted.as_slice());
     Ok(())
 }

@@ -1,5 +1,6 @@
 //! Heads of records, the numbers of types, and each record in the form that its type has.
-use crate::jit::records::LOAD;
+use crate::helpers::by_kind;
+use crate::jit::jitdump_reader::FILE;
 use byteorder::LittleEndian;
 use perfdata_base::raw::{Endianness, RawData};
 use perfdata_jit::{
@@ -7,32 +8,10 @@ use perfdata_jit::{
 };
 use std::alloc::Global;
 use std::io::ErrorKind;
+use std::test::Fail;
 
-// A head of type 0 and size 62 at 9, little-endian and big-endian.
-const LITTLE: [u8; 16] = [0, 0, 0, 0, 62, 0, 0, 0, 9, 0, 0, 0, 0, 0, 0, 0];
-
+// A head of type 0 and size 62 at 9, big-endian; the file has it little-endian.
 const BIG: [u8; 16] = [0, 0, 0, 0, 0, 0, 0, 62, 0, 0, 0, 0, 0, 0, 0, 9];
-
-// The type, the size and the time of a head.
-type Head = (JitDumpRecordType, u32, u64);
-
-fn head_of(head: &JitDumpRecordHeader) -> Head {
-    (head.record_type, head.total_size, head.timestamp)
-}
-
-fn parse_head(order: Endianness, bytes: &[u8]) -> Option<Head> {
-    match JitDumpRecordHeader::parse(order, RawData::Single(bytes)) {
-        Ok(head) => Some(head_of(&head)),
-        Err(_) => None,
-    }
-}
-
-fn little_head(bytes: &[u8]) -> Result<Head, ErrorKind> {
-    match JitDumpRecordHeader::parse_impl::<LittleEndian>(RawData::Single(bytes)) {
-        Ok(head) => Ok(head_of(&head)),
-        Err(error) => Err(error.kind()),
-    }
-}
 
 // Whether this is what the body says, with the code 60 bytes behind the start of the head.
 fn is_foo(load: &JitCodeLoadRecord<'_>) -> bool {
@@ -65,17 +44,6 @@ enum Parsed {
     Other(usize),
 }
 
-fn parsed_as(parsed: &JitDumpRecord<'_>) -> Parsed {
-    match parsed {
-        JitDumpRecord::CodeLoad(load) => Parsed::Load(is_foo(load)),
-        JitDumpRecord::CodeMove(_) => Parsed::Move,
-        JitDumpRecord::CodeDebugInfo(_) => Parsed::DebugInfo,
-        JitDumpRecord::CodeClose => Parsed::Close,
-        JitDumpRecord::CodeUnwindingInfo(_) => Parsed::Unwinding,
-        JitDumpRecord::Other(raw) => Parsed::Other(raw.body.len()),
-    }
-}
-
 fn parse(alloc: Global, kind: u32, body: RawData<'_>) -> Result<Parsed, ErrorKind> {
     let record = JitDumpRawRecord {
         endian: Endianness::LittleEndian,
@@ -86,21 +54,30 @@ fn parse(alloc: Global, kind: u32, body: RawData<'_>) -> Result<Parsed, ErrorKin
         body,
     };
     match record.parse(alloc) {
-        Ok(parsed) => Ok(parsed_as(&parsed)),
+        Ok(JitDumpRecord::CodeLoad(load)) => Ok(Parsed::Load(is_foo(&load))),
+        Ok(JitDumpRecord::CodeMove(_)) => Ok(Parsed::Move),
+        Ok(JitDumpRecord::CodeDebugInfo(_)) => Ok(Parsed::DebugInfo),
+        Ok(JitDumpRecord::CodeClose) => Ok(Parsed::Close),
+        Ok(JitDumpRecord::CodeUnwindingInfo(_)) => Ok(Parsed::Unwinding),
+        Ok(JitDumpRecord::Other(raw)) => Ok(Parsed::Other(raw.body.len())),
         Err(error) => Err(error.kind()),
     }
 }
 
 #[test]
-fn reads_heads(rt: HostRuntime) {
+fn reads_heads(rt: HostRuntime) -> Result<(), Fail> {
     for (order, bytes) in [
-        (Endianness::LittleEndian, &LITTLE),
+        (Endianness::LittleEndian, &FILE[40..56]),
         (Endianness::BigEndian, &BIG),
     ] {
         let wanted = (JitDumpRecordType::JIT_CODE_LOAD, 62, 9);
-        assert_eq!(rt; parse_head(order, bytes), Some(wanted));
+        let head = JitDumpRecordHeader::parse(order, RawData::Single(bytes))?;
+        assert_eq!(rt; (head.record_type, head.total_size, head.timestamp), wanted);
     }
-    assert_eq!(rt; little_head(&LITTLE[..15]), Err(ErrorKind::UnexpectedEof));
+    let cut = RawData::Single(&FILE[40..55]);
+    let parsed = JitDumpRecordHeader::parse_impl::<LittleEndian>(cut);
+    assert_eq!(rt; by_kind(parsed).err(), Some(ErrorKind::UnexpectedEof));
+    Ok(())
 }
 
 #[test]
@@ -122,7 +99,7 @@ fn types_have_their_numbers(rt: HostRuntime) {
 #[test]
 fn parses_by_type(rt: HostRuntime) {
     for at in 0..47usize {
-        let (front, back) = LOAD.split_at(at);
+        let (front, back) = FILE[56..].split_at(at);
         let got = parse(rt.alloc(), 0, RawData::Split(front, back));
         assert_eq!(rt; got, Ok(Parsed::Load(true)), "split at {at}");
     }
@@ -133,7 +110,7 @@ fn parses_by_type(rt: HostRuntime) {
         (3, Ok(Parsed::Close)),
         (5, Ok(Parsed::Other(46))),
     ] {
-        let got = parse(rt.alloc(), kind, RawData::Single(&LOAD));
+        let got = parse(rt.alloc(), kind, RawData::Single(&FILE[56..]));
         assert_eq!(rt; got, wanted, "of type {kind}");
     }
 }

@@ -1,4 +1,6 @@
 //! The bodies of records: their fields, what is refused, and the entry of an address.
+use crate::helpers::by_kind;
+use crate::jit::jitdump_reader::FILE;
 use byteorder::{ByteOrder, LittleEndian};
 use perfdata_base::raw::{Endianness, RawData};
 use perfdata_jit::{
@@ -9,38 +11,24 @@ use std::alloc::{AllocError, Global};
 use std::io::ErrorKind;
 use std::test::Fail;
 
-// A load record's body of 46 bytes: process and thread 7, addresses 0x1000, index 0, `foo` and two bytes of code.
-pub(crate) const LOAD: [u8; 46] = [
-    7, 0, 0, 0, 7, 0, 0, 0, 0, 0x10, 0, 0, 0, 0, 0, 0, 0, 0x10, 0, 0, 0, 0, 0, 0, 2, 0, 0, 0, 0, 0,
-    0, 0, 0, 0, 0, 0, 0, 0, 0, 0, b'f', b'o', b'o', 0, 0x90, 0xc3,
-];
-
-// How many bytes of code a load record has.
-fn code_of(bytes: &[u8]) -> Result<usize, ErrorKind> {
-    match JitCodeLoadRecord::parse(Endianness::LittleEndian, RawData::Single(bytes)) {
-        Ok(load) => Ok(load.code_bytes.len()),
-        Err(error) => Err(error.kind()),
-    }
-}
-
-fn little_code_of(bytes: &[u8]) -> Result<usize, ErrorKind> {
-    match JitCodeLoadRecord::parse_impl::<LittleEndian>(RawData::Single(bytes)) {
-        Ok(load) => Ok(load.code_bytes.len()),
-        Err(error) => Err(error.kind()),
-    }
-}
-
 #[test]
-fn loads_are_short_without_code_or_nul(rt: HostRuntime) {
-    let mut more = LOAD;
-    more[24] = 3;
-    let mut nameless = LOAD;
-    nameless[43] = b'o';
-    for bytes in [&more[..], &nameless, &LOAD[..39]] {
-        assert_eq!(rt; code_of(bytes), Err(ErrorKind::UnexpectedEof), "{bytes:?}");
+fn loads_are_short_without_code_or_nul(rt: HostRuntime) -> Result<(), Fail> {
+    let mut more = FILE;
+    more[56 + 24] = 3;
+    let mut nameless = FILE;
+    nameless[56 + 43] = b'o';
+    for bytes in [&more[56..], &nameless[56..], &FILE[56..95]] {
+        let load = JitCodeLoadRecord::parse(Endianness::LittleEndian, RawData::Single(bytes));
+        assert_eq!(rt;
+            by_kind(load).err(),
+            Some(ErrorKind::UnexpectedEof),
+            "{bytes:?}"
+        );
     }
-    assert_eq!(rt; little_code_of(&LOAD), Ok(2));
+    let load = JitCodeLoadRecord::parse_impl::<LittleEndian>(RawData::Single(&FILE[56..]))?;
+    assert_eq!(rt; load.code_bytes.len(), 2);
     assert_eq!(rt; JitCodeLoadRecord::NAME_OFFSET_FROM_RECORD_START, 56);
+    Ok(())
 }
 
 // The process, the thread and the mapping, the old and the new address, the size and the index.
@@ -81,27 +69,17 @@ fn debug_info(count: u64) -> [u8; 37] {
     body
 }
 
-// Whether the entries begin with that entry.
-fn is_expected(entries: &[JitCodeDebugInfoEntry<'_>]) -> bool {
-    match entries.first() {
+// The address, how many entries there are, and whether the first is that entry.
+fn info_of(alloc: Global, body: RawData<'_>) -> Result<(u64, usize, bool), ErrorKind> {
+    let info = by_kind(JitCodeDebugInfoRecord::parse(alloc, Endianness::LittleEndian, body))?;
+    let is_expected = match info.entries.first() {
         Some(entry) => {
             let path = entry.file_path == RawData::Single(b"a.js");
             (entry.code_addr, entry.line, entry.column, path) == (0x20, 3, 4, true)
         }
         None => false,
-    }
-}
-
-// The address, how many entries there are, and whether the first is the expected.
-fn info_of(alloc: Global, body: RawData<'_>) -> Result<(u64, usize, bool), ErrorKind> {
-    match JitCodeDebugInfoRecord::parse(alloc, Endianness::LittleEndian, body) {
-        Ok(info) => Ok((
-            info.code_addr,
-            info.entries.len(),
-            is_expected(&info.entries),
-        )),
-        Err(error) => Err(error.kind()),
-    }
+    };
+    Ok((info.code_addr, info.entries.len(), is_expected))
 }
 
 #[test]

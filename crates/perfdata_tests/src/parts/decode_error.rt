@@ -1,12 +1,6 @@
 //! The texts of the errors of protobuf messages.
 use perfdata_parts::decode_error::DecodeError;
-use std::alloc::Global;
 use std::test::Fail;
-
-fn shown(alloc: Global, error: DecodeError) -> Result<String, Fail> {
-    let text = format!(in alloc; "{error}")?;
-    Ok(text)
-}
 
 #[test]
 fn shows_its_name(rt: HostRuntime) -> Result<(), Fail> {
@@ -20,7 +14,7 @@ fn shows_its_name(rt: HostRuntime) -> Result<(), Fail> {
         (DecodeError::Utf8, "Utf8"),
         (DecodeError::Memory, "Memory"),
     ] {
-        let shown = shown(rt.alloc(), error)?;
+        let shown = format!(in rt.alloc(); "{error}")?;
         assert_eq!(rt; shown.as_str(), name);
     }
     Ok(())

@@ -1,19 +1,14 @@
 //! The texts of errors, and what they are made of.
 use perfdata_parts::decode_error::DecodeError;
 use perfdata_parts::error::{Error, ReadError, short, unsupported};
-use std::alloc::{AllocError, AllocFailed, Global};
+use std::alloc::{AllocError, AllocFailed};
 use std::io;
 use std::io::ErrorKind;
 use std::process::Abort;
 use std::test::Fail;
 
-fn shown(alloc: Global, error: &Error) -> Result<String, Fail> {
-    let text = format!(in alloc; "{error}")?;
-    Ok(text)
-}
-
 fn shows(rt: &(impl Abort + AllocGlobal), error: Error, text: &str) -> Result<(), Fail> {
-    let shown = shown(rt.alloc(), &error)?;
+    let shown = format!(in rt.alloc(); "{error}")?;
     assert_eq!(rt; shown.as_str(), text);
     Ok(())
 }
@@ -181,10 +176,6 @@ fn is_utf8_fault(bytes: &[u8]) -> bool {
     }
 }
 
-fn is_memory<T: Drop>(failed: AllocFailed<T>) -> bool {
-    matches!(Error::from(failed), Error::Memory)
-}
-
 #[test]
 fn comes_from_other_errors(rt: HostRuntime) {
     let part = Error::from(ReadError::NrCpus);
@@ -193,6 +184,7 @@ fn comes_from_other_errors(rt: HostRuntime) {
     assert!(rt; is_io_of(fault, ErrorKind::OutOfMemory));
     assert!(rt; is_utf8_fault(b"\xff"));
     assert!(rt; matches!(Error::from(AllocError), Error::Memory));
-    assert!(rt; is_memory(AllocFailed { value: 7u8 }));
+    let failed = Error::from(AllocFailed { value: 7u8 });
+    assert!(rt; matches!(failed, Error::Memory));
     assert!(rt; is_io_of(unsupported(), ErrorKind::Unsupported));
 }

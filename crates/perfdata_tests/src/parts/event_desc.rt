@@ -1,9 +1,7 @@
 //! The section EVENT_DESC: its events, in both orders, and what is refused.
 use crate::parts::refused::Refused;
 use byteorder::{BigEndian, LittleEndian};
-use perfdata_parts::error::Error;
 use perfdata_parts::feature_sections::AttributeDescription;
-use std::alloc::Global;
 use std::io::Cursor;
 use std::process::Abort;
 use std::test::Fail;
@@ -20,24 +18,6 @@ fn one_event() -> [u8; 90] {
     bytes[80] = b'c';
     bytes[82] = 5;
     bytes
-}
-
-// The events, and where the cursor stands behind them.
-fn little_endian(alloc: Global, bytes: &[u8]) -> Result<(Vec<AttributeDescription>, u64), Error> {
-    let mut cursor = Cursor::new(bytes);
-    match AttributeDescription::parse_event_desc_section_from::<_, LittleEndian>(
-        alloc,
-        &mut cursor,
-    ) {
-        Ok(all) => Ok((all, cursor.position())),
-        Err(error) => Err(error),
-    }
-}
-
-fn big_endian(alloc: Global, bytes: &[u8], at: u64) -> Result<Vec<AttributeDescription>, Error> {
-    let mut cursor = Cursor::new(bytes);
-    cursor.set_position(at);
-    AttributeDescription::parse_event_desc_section::<_, BigEndian>(alloc, cursor)
 }
 
 // What the event at an index says: its size, its format, whether this is its name or it has none, and its ids.
@@ -59,8 +39,13 @@ fn told(
 
 #[test]
 fn reads_an_event(rt: HostRuntime) -> Result<(), Fail> {
-    let (all, at) = little_endian(rt.alloc(), &one_event())?;
-    assert_eq!(rt; at, 90);
+    let bytes = one_event();
+    let mut cursor = Cursor::new(&bytes[..]);
+    let all = AttributeDescription::parse_event_desc_section_from::<_, LittleEndian>(
+        rt.alloc(),
+        &mut cursor,
+    )?;
+    assert_eq!(rt; cursor.position(), 90);
     assert_eq!(rt;
         [told(&all, 0, Some("c")), told(&all, 1, None)],
         [Some((64, 4, true, [Some(5), None])), None]
@@ -69,20 +54,18 @@ fn reads_an_event(rt: HostRuntime) -> Result<(), Fail> {
 }
 
 // The same event behind one other byte, in a frame of 72 bytes, with a name that isn't UTF-8 and no id.
-fn wide_frame() -> [u8; 90] {
-    let mut bytes = [0; 90];
+#[test]
+fn goes_on_at_the_end_of_the_frame(rt: HostRuntime) -> Result<(), Fail> {
+    let mut bytes = [0u8; 90];
     bytes[1 + 3] = 1;
     bytes[1 + 7] = 72;
     bytes[1 + 15] = 64;
     bytes[1 + 72] = 9;
     bytes[1 + 87] = 1;
     bytes[1 + 88] = 0xff;
-    bytes
-}
-
-#[test]
-fn goes_on_at_the_end_of_the_frame(rt: HostRuntime) -> Result<(), Fail> {
-    let all = big_endian(rt.alloc(), &wide_frame(), 1)?;
+    let mut cursor = Cursor::new(&bytes[..]);
+    cursor.set_position(1);
+    let all = AttributeDescription::parse_event_desc_section::<_, BigEndian>(rt.alloc(), cursor)?;
     assert_eq!(rt;
         [told(&all, 0, None), told(&all, 1, None)],
         [Some((64, 0, true, [None; 2])), None]

@@ -32,18 +32,6 @@ fn parsed<C: PlacedSource + Drop>(
     AttributeDescription::parse_attr_section::<C, LittleEndian>(alloc, source, &section, attr_size)
 }
 
-// How many attributes a section of no byte holds, at the last place.
-fn empty<C: PlacedSource + Drop>(alloc: Global, source: C) -> Result<usize, Error> {
-    let section = PerfFileSection {
-        offset: u64::MAX,
-        size: 0,
-    };
-    match AttributeDescription::parse_attr_section::<C, BigEndian>(alloc, source, &section, 72) {
-        Ok(all) => Ok(all.len()),
-        Err(error) => Err(error),
-    }
-}
-
 // The size and the config of the attribute at an index, whether it has a name, and how many ids.
 fn told(all: &[AttributeDescription], index: usize) -> Option<(u32, u64, bool, usize)> {
     let description = all.get(index)?;
@@ -65,15 +53,19 @@ fn reads_frames(rt: HostRuntime) -> Result<(), Fail> {
         [told(&all, 0), told(&all, 1), told(&all, 2)],
         [Some((64, 5, false, 0)), Some((64, 6, false, 0)), None]
     );
-    assert_eq!(rt; empty(rt.alloc(), &mut cursor)?, 0);
+    // no byte, at the last place
+    let section = PerfFileSection {
+        offset: u64::MAX,
+        size: 0,
+    };
+    let none = AttributeDescription::parse_attr_section::<_, BigEndian>(
+        rt.alloc(),
+        &mut cursor,
+        &section,
+        72,
+    )?;
+    assert_eq!(rt; none.len(), 0);
     Ok(())
-}
-
-// The attributes of one frame of 136 bytes, all 7 but for the size that is told.
-fn sevens(alloc: Global, told: u8) -> Result<Vec<AttributeDescription>, Error> {
-    let mut bytes = [7; 136];
-    bytes[4..8].copy_from_slice(&[told, 0, 0, 0]);
-    parsed(alloc, Cursor::new(&bytes[..]), 0, 136, 136)
 }
 
 // How many attributes there are, and the first one's size and fields.
@@ -97,7 +89,10 @@ fn reads_as_many_fields_as_the_size_tells(rt: HostRuntime) -> Result<(), Fail> {
         (72, 72, SEVENS, 0),
         (136, 136, SEVENS, SEVENS),
     ] {
-        let all = sevens(rt.alloc(), told)?;
+        // one frame of 136 bytes, all 7 but for the size that is told
+        let mut bytes = [7u8; 136];
+        bytes[4..8].copy_from_slice(&[told, 0, 0, 0]);
+        let all = parsed(rt.alloc(), Cursor::new(&bytes[..]), 0, 136, 136)?;
         assert_eq!(rt;
             first(&all),
             Some((1, own, [SEVENS, config2, config3, config3]))
@@ -169,21 +164,14 @@ fn tells_read_faults_from_seek_faults(rt: HostRuntime) {
     }
 }
 
-// The first attribute, with the name `cycles` and the ids 7 and 8.
-fn named(alloc: Global) -> Result<AttributeDescription, Fail> {
-    let (attr, _) = PerfEventAttr::parse::<_, LittleEndian>(&two_frames()[8..])?;
-    let name = String::from_str(alloc, "cycles")?;
-    let event_ids = Vec::from_array(alloc, [7, 8])?;
-    Ok(AttributeDescription {
-        attr,
-        name: Some(name),
-        event_ids,
-    })
-}
-
 #[test]
 fn tells_a_name(rt: HostRuntime) -> Result<(), Fail> {
-    let description = named(rt.alloc())?;
+    let (attr, _) = PerfEventAttr::parse::<_, LittleEndian>(&two_frames()[8..])?;
+    let description = AttributeDescription {
+        attr,
+        name: Some(String::from_str(rt.alloc(), "cycles")?),
+        event_ids: Vec::from_array(rt.alloc(), [7, 8])?,
+    };
     assert_eq!(rt; description.name(), Some("cycles"));
     assert_eq!(rt; description.ids(), [7, 8].as_slice());
     Ok(())

@@ -1,4 +1,5 @@
 //! PMU mappings: the names that are kept, and units that are missing.
+use crate::helpers::by_kind;
 use byteorder::LittleEndian;
 use perfdata_parts::feature_sections::PmuMappings;
 use std::alloc::Global;
@@ -33,18 +34,11 @@ fn keeps_the_last_names_ascending(rt: HostRuntime) -> Result<(), Fail> {
     Ok(())
 }
 
-fn refusal(alloc: Global, bytes: &[u8]) -> Option<ErrorKind> {
-    match parsed(alloc, bytes) {
-        Ok(_) => None,
-        Err(error) => Some(error.kind()),
-    }
-}
-
 #[test]
 fn is_short_where_units_are_missing(rt: HostRuntime) {
     for (count, held) in [(5, 40usize), (4, 39), (4, 35), (4, 3)] {
         assert_eq!(rt;
-            refusal(rt.alloc(), &units(count)[..held]),
+            by_kind(parsed(rt.alloc(), &units(count)[..held])).err(),
             Some(ErrorKind::UnexpectedEof),
             "{count} in {held}"
         );

@@ -18,24 +18,17 @@ pub(crate) enum Refused {
     No,
 }
 
-fn told(error: Error) -> Refused {
-    match error {
-        Error::Read(ReadError::PerfEventAttr) => Refused::Attribute,
-        Error::InconsistentAttributeSizes(own, all) => Refused::Sizes(own, all),
-        Error::IoError(fault) => match fault.kind() {
-            ErrorKind::UnexpectedEof => Refused::Short,
-            ErrorKind::BrokenPipe => Refused::Broken,
-            _ => Refused::No,
-        },
-        _ => Refused::No,
-    }
-}
-
 impl Refused {
     pub(crate) fn of(answer: Result<Vec<AttributeDescription>, Error>) -> Refused {
         match answer {
-            Ok(_) => Refused::No,
-            Err(error) => told(error),
+            Err(Error::Read(ReadError::PerfEventAttr)) => Refused::Attribute,
+            Err(Error::InconsistentAttributeSizes(own, all)) => Refused::Sizes(own, all),
+            Err(Error::IoError(fault)) => match fault.kind() {
+                ErrorKind::UnexpectedEof => Refused::Short,
+                ErrorKind::BrokenPipe => Refused::Broken,
+                _ => Refused::No,
+            },
+            _ => Refused::No,
         }
     }
 }

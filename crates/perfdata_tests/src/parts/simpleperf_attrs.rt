@@ -8,6 +8,7 @@ use perfdata_parts::event_type::SimplePerfEventType;
 use perfdata_parts::feature_sections::AttributeDescription;
 use std::alloc::Global;
 use std::io::Cursor;
+use std::slice;
 use std::test::Fail;
 
 // The attributes of the two entries, by one event type of this name.
@@ -17,13 +18,13 @@ fn named(alloc: Global, name: String, attr_size: u64) -> Result<Vec<AttributeDes
         size: 160,
     };
     let bytes = two_entries();
-    let types = [SimplePerfEventType::new(name, 1, 0)];
+    let event = SimplePerfEventType::new(name, 1, 0);
     AttributeDescription::parse_simpleperf_attr_section::<_, LittleEndian>(
         alloc,
         Cursor::new(&bytes[..]),
         &section,
         attr_size,
-        &types,
+        slice::from_ref(&event),
     )
 }
 

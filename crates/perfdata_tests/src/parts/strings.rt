@@ -1,17 +1,10 @@
 //! Strings of sections, up to their first NUL, and cut.
+use crate::helpers::by_kind;
 use byteorder::{BigEndian, LittleEndian};
 use perfdata_parts::feature_sections::{HeaderString, before_nul};
 use std::alloc::Global;
 use std::io::{Error, ErrorKind};
-use std::process::Abort;
 use std::test::Fail;
-
-// The text of the string at the front, and how many bytes are left behind it.
-fn little_endian(alloc: Global, bytes: &[u8]) -> Result<(Option<String>, usize), Fail> {
-    let mut source = bytes;
-    let text = HeaderString::read_from::<_, LittleEndian>(alloc, &mut source)?;
-    Ok((text, source.len()))
-}
 
 fn big_endian(alloc: Global, bytes: &[u8]) -> Result<Option<String>, Error> {
     HeaderString::parse::<_, BigEndian>(alloc, bytes)
@@ -20,9 +13,10 @@ fn big_endian(alloc: Global, bytes: &[u8]) -> Result<Option<String>, Error> {
 #[test]
 fn reads_texts(rt: HostRuntime) -> Result<(), Fail> {
     let bytes = [5, 0, 0, 0, b'a', b'b', 0, b'c', b'd', 7];
-    let (text, left) = little_endian(rt.alloc(), &bytes)?;
+    let mut source = &bytes[..];
+    let text = HeaderString::read_from::<_, LittleEndian>(rt.alloc(), &mut source)?;
     assert_eq!(rt; text.as_deref(), Some("ab"));
-    assert_eq!(rt; left, 1, "all of the string is taken");
+    assert_eq!(rt; source.len(), 1, "all of the string is taken");
     let text = big_endian(rt.alloc(), &[0, 0, 0, 2, b'a', b'b'])?;
     assert_eq!(rt; text.as_deref(), Some("ab"));
     let text = big_endian(rt.alloc(), &[0; 4])?;
@@ -32,19 +26,13 @@ fn reads_texts(rt: HostRuntime) -> Result<(), Fail> {
     Ok(())
 }
 
-fn refusal(rt: &(impl Abort + AllocGlobal), bytes: &[u8]) -> Option<ErrorKind> {
-    match HeaderString::parse::<_, LittleEndian>(rt.alloc(), bytes) {
-        Ok(_) => None,
-        Err(error) => Some(error.kind()),
-    }
-}
-
 #[test]
 fn is_short_where_bytes_are_missing(rt: HostRuntime) {
     let bytes = [6, 0, 0, 0, b'a', b'b', 0, b'c', b'd'];
     for held in [0usize, 3, 4, 9] {
+        let parsed = HeaderString::parse::<_, LittleEndian>(rt.alloc(), &bytes[..held]);
         assert_eq!(rt;
-            refusal(&rt, &bytes[..held]),
+            by_kind(parsed).err(),
             Some(ErrorKind::UnexpectedEof),
             "with {held}"
         );

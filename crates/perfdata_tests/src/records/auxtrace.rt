@@ -1,11 +1,12 @@
 //! Auxiliary traces, wherever they are split, in both orders, and what is refused.
+use crate::helpers::by_kind;
 use byteorder::{BigEndian, LittleEndian};
-use perfdata_base::raw::RawData;
+use perfdata_base::raw::{FileOrder, RawData};
 use perfdata_parts::auxtrace::Auxtrace;
 use std::io::ErrorKind;
 
 // A trace of one byte of data, and a byte behind it.
-const BODY: [u8; 42] = [
+pub(crate) const BODY: [u8; 42] = [
     1, 0, 0, 0, 0, 0, 0, 0, 0, 0, 0, 0, 0, 0, 0, 0, 0xf9, 0xcd, 0x2a, 0x49, 0x28, 4, 0, 0, 8, 0, 0,
     0, 0x7a, 0x24, 0, 0, 8, 0, 0, 0, 0, 0, 0, 0, 0, 7,
 ];
@@ -14,28 +15,13 @@ const BODY: [u8; 42] = [
 type Numbers = ((u64, u64, u64), (u32, u32, u32));
 
 // What a trace tells, where this is its data.
-fn numbers_of(trace: &Auxtrace<'_>, aux_data: &[u8]) -> Option<Numbers> {
-    if trace.aux_data == RawData::Single(aux_data) {
-        Some((
+fn numbers_of<T: FileOrder>(body: RawData<'_>, aux_data: &[u8]) -> Option<Numbers> {
+    match Auxtrace::parse::<T>(body) {
+        Ok(trace) if trace.aux_data == RawData::Single(aux_data) => Some((
             (trace.size, trace.offset, trace.reference),
             (trace.index, trace.tid, trace.cpu),
-        ))
-    } else {
-        None
-    }
-}
-
-fn little(body: RawData<'_>, aux_data: &[u8]) -> Option<Numbers> {
-    match Auxtrace::parse::<LittleEndian>(body) {
-        Ok(trace) => numbers_of(&trace, aux_data),
-        Err(_) => None,
-    }
-}
-
-fn big(body: RawData<'_>, aux_data: &[u8]) -> Option<Numbers> {
-    match Auxtrace::parse::<BigEndian>(body) {
-        Ok(trace) => numbers_of(&trace, aux_data),
-        Err(_) => None,
+        )),
+        _ => None,
     }
 }
 
@@ -46,18 +32,12 @@ fn is_same(front: &[u8], back: &[u8], whole: &[u8]) -> bool {
     matches!((&split, &single), (Ok(split), Ok(single)) if split == single)
 }
 
-fn refusal(front: &[u8], back: &[u8]) -> Option<ErrorKind> {
-    match Auxtrace::parse::<LittleEndian>(RawData::Split(front, back)) {
-        Ok(_) => None,
-        Err(error) => Some(error.kind()),
-    }
-}
-
 #[test]
 fn parses_wherever_it_is_split(rt: HostRuntime) {
     let body = &BODY[..41];
     let wanted = Some(((1, 0, 0x428_492a_cdf9), (8, 0x247a, 8)));
-    assert_eq!(rt; little(RawData::Single(body), &[0]), wanted);
+    let told = numbers_of::<LittleEndian>(RawData::Single(body), &[0]);
+    assert_eq!(rt; told, wanted);
     for at in 0..42usize {
         let (front, back) = body.split_at(at);
         assert!(rt; is_same(front, back, body), "split at {at}");
@@ -80,7 +60,8 @@ fn parses_big_endian(rt: HostRuntime) {
     }
     body[41] = 9;
     let wanted = Some(((2, 3, 4), (5, 6, 7)));
-    assert_eq!(rt; big(RawData::Single(&body), &[0, 9]), wanted);
+    let told = numbers_of::<BigEndian>(RawData::Single(&body), &[0, 9]);
+    assert_eq!(rt; told, wanted);
 }
 
 #[test]
@@ -93,7 +74,8 @@ fn refuses_other_lengths(rt: HostRuntime) {
     ] {
         for at in 0..count + 1 {
             let (front, back) = BODY[..count].split_at(at);
-            assert_eq!(rt; refusal(front, back), Some(kind), "{count} split at {at}");
+            let parsed = Auxtrace::parse::<LittleEndian>(RawData::Split(front, back));
+            assert_eq!(rt; by_kind(parsed).err(), Some(kind), "{count} split at {at}");
         }
     }
 }

@@ -1,17 +1,13 @@
 //! Entries of build ids: the length of an id, what an entry's size tells, and what is cut.
+use crate::helpers::joined;
 use byteorder::{BigEndian, LittleEndian};
 use perfdata_parts::build_id_event::BuildIdEvent;
-use std::alloc::{AllocError, Global};
+use std::alloc::Global;
 use std::io::ErrorKind;
 use std::test::Fail;
 
 // What an entry tells: its type, misc and size, its process, its build id and its path.
 type Told = ((u32, u16, u16), i32, Vec<u8>, Vec<u8>);
-
-fn told_of(entry: BuildIdEvent) -> Told {
-    let head = (entry.header.type_, entry.header.misc, entry.header.size);
-    (head, entry._pid, entry.build_id, entry.file_path)
-}
 
 // Whether this was told.
 fn is_told(
@@ -27,6 +23,11 @@ fn is_told(
         }
         None => false,
     }
+}
+
+fn told_of(entry: BuildIdEvent) -> Told {
+    let head = (entry.header.type_, entry.header.misc, entry.header.size);
+    (head, entry._pid, entry.build_id, entry.file_path)
 }
 
 fn little(alloc: Global, bytes: &[u8]) -> Option<Told> {
@@ -71,13 +72,6 @@ fn id_bytes(place: usize, byte: u8) -> [u8; 24] {
         *slot = byte;
     }
     bytes
-}
-
-// Bytes and then a path.
-fn with_path(alloc: Global, bytes: &[u8], path: &[u8]) -> Result<Vec<u8>, AllocError> {
-    let mut bytes = bytes.to_vec(alloc)?;
-    bytes.extend_from_slice(path)?;
-    Ok(bytes)
 }
 
 #[test]
@@ -126,7 +120,7 @@ fn reads_as_much_as_the_size_says(rt: HostRuntime) -> Result<(), Fail> {
         (41, 41, b"/a"),
         (42, 42, b"/a"),
     ] {
-        let bytes = with_path(rt.alloc(), &front(2, size, id), b"/a\0/b\0")?;
+        let bytes = joined(rt.alloc(), &front(2, size, id), b"/a\0/b\0")?;
         let (told, left) = from_kept(rt.alloc(), &bytes);
         let is_wanted = is_told(&told, ((67, 2, size), -1), &id[..20], path);
         assert_eq!(rt;
@@ -143,7 +137,7 @@ fn is_short_where_bytes_are_missing(rt: HostRuntime) -> Result<(), Fail> {
     let mut head = front(2, 0, [1; 24]);
     // size 38, big-endian
     head[7] = 38;
-    let bytes = with_path(rt.alloc(), &head, b"/a")?;
+    let bytes = joined(rt.alloc(), &head, b"/a")?;
     for held in [0usize, 7, 35, 36, 37] {
         let part = bytes.get(..held).unwrap_or(&[]);
         let got = big(rt.alloc(), part);

@@ -133,21 +133,6 @@ fn hash(key: &DsoKey) -> u64 {
     state.finish()
 }
 
-// Whether the keys of two paths are equal, and whether they hash equally.
-fn compare(
-    alloc: Global,
-    path: &[u8],
-    other: &[u8],
-    mode: CpuMode,
-) -> Result<Option<(bool, bool)>, AllocError> {
-    let key = DsoKey::detect(alloc, path, mode)?;
-    let other = DsoKey::detect(alloc, other, mode)?;
-    match (&key, &other) {
-        (Some(key), Some(other)) => Ok(Some((*key == *other, hash(key) == hash(other)))),
-        _ => Ok(None),
-    }
-}
-
 #[test]
 fn equal_keys_hash_equally(rt: HostRuntime) -> Result<(), Fail> {
     for (path, mode, other, equal) in [
@@ -156,7 +141,12 @@ fn equal_keys_hash_equally(rt: HostRuntime) -> Result<(), Fail> {
         (b"/a/x", CpuMode::Kernel, b"/b/y", true),
         (b"a.ko", CpuMode::Kernel, b"b.ko", false),
     ] {
-        let compared = compare(rt.alloc(), path, other, mode)?;
+        let key = DsoKey::detect(rt.alloc(), path, mode)?;
+        let other = DsoKey::detect(rt.alloc(), other, mode)?;
+        let compared = match (&key, &other) {
+            (Some(key), Some(other)) => Some((*key == *other, hash(key) == hash(other))),
+            _ => None,
+        };
         assert_eq!(rt; compared, Some((equal, equal)), "{path:?}");
     }
     Ok(())

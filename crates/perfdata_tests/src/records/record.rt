@@ -179,22 +179,6 @@ const ROWS: [Row; 28] = [
     ),
 ];
 
-// What is shown of the type of this number.
-fn shown(alloc: Global, number: u32) -> Result<Option<String>, AllocError> {
-    match UserRecordType::try_from(RecordType(number)) {
-        Some(user) => Ok(Some(format!(in alloc; "{user:?}")?)),
-        None => Ok(None),
-    }
-}
-
-// The same, as a text that is there where the number is a user type's.
-fn is_shown(alloc: Global, number: u32, text: &str) -> Result<bool, AllocError> {
-    match shown(alloc, number)? {
-        Some(shown) => Ok(shown.as_str() == text),
-        None => Ok(false),
-    }
-}
-
 // Whether a type has this number, and is shown by this text.
 fn belongs(
     alloc: Global,
@@ -206,14 +190,6 @@ fn belongs(
     Ok((user.record_type().0, shown.as_str()) == (number, text))
 }
 
-// The number of a user type by both ways, where it is one's.
-fn number_of(number: u32) -> Option<(u32, u32)> {
-    match UserRecordType::try_from(RecordType(number)) {
-        Some(user) => Some((user.record_type().0, RecordType::from(user).0)),
-        None => None,
-    }
-}
-
 #[test]
 fn tells_user_types(rt: HostRuntime) {
     for (number, told) in [
@@ -223,13 +199,19 @@ fn tells_user_types(rt: HostRuntime) {
         (64, Some((64, 64))),
         (u32::MAX, Some((u32::MAX, u32::MAX))),
     ] {
-        assert_eq!(rt; number_of(number), told, "at {number}");
+        // by both ways
+        let numbers = match UserRecordType::try_from(RecordType(number)) {
+            Some(user) => Some((user.record_type().0, RecordType::from(user).0)),
+            None => None,
+        };
+        assert_eq!(rt; numbers, told, "at {number}");
     }
 }
 
 #[test]
 fn names_the_constants(rt: HostRuntime) -> Result<(), Fail> {
-    for (user, constant, number, text) in ROWS {
+    for row in &ROWS {
+        let (user, constant, number, text) = *row;
         let belongs = belongs(rt.alloc(), user, number, text)?;
         assert_eq!(rt; (constant, belongs), (number, true), "{text}");
     }
@@ -245,7 +227,11 @@ fn shows_other_types_by_number(rt: HostRuntime) -> Result<(), Fail> {
         (32778, "Unknown UserRecordType 32778"),
         (u32::MAX, "Unknown UserRecordType 4294967295"),
     ] {
-        assert!(rt; is_shown(rt.alloc(), number, text)?, "{text}");
+        let Some(user) = UserRecordType::try_from(RecordType(number)) else {
+            return Err(Fail::from("no user's type"));
+        };
+        let shown = format!(in rt.alloc(); "{user:?}")?;
+        assert_eq!(rt; shown.as_str(), text);
     }
     Ok(())
 }

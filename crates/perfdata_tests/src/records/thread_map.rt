@@ -1,6 +1,7 @@
 //! Thread maps, wherever they are split, in both orders, and what is refused.
+use crate::helpers::by_kind;
 use byteorder::{BigEndian, ByteOrder, LittleEndian};
-use perfdata_base::raw::RawData;
+use perfdata_base::raw::{FileOrder, RawData};
 use perfdata_parts::thread_map::ThreadMap;
 use std::io::ErrorKind;
 
@@ -18,18 +19,8 @@ fn twelve(count: u64) -> [u8; 296] {
     body
 }
 
-fn little(body: RawData<'_>) -> Result<ThreadMap<'_>, ErrorKind> {
-    match ThreadMap::parse::<LittleEndian>(body) {
-        Ok(map) => Ok(map),
-        Err(error) => Err(error.kind()),
-    }
-}
-
-fn big(body: RawData<'_>) -> Result<ThreadMap<'_>, ErrorKind> {
-    match ThreadMap::parse::<BigEndian>(body) {
-        Ok(map) => Ok(map),
-        Err(error) => Err(error.kind()),
-    }
+fn parsed<T: FileOrder>(body: RawData<'_>) -> Result<ThreadMap<'_>, ErrorKind> {
+    by_kind(ThreadMap::parse::<T>(body))
 }
 
 // Whether a map is empty, its length, and how many threads come.
@@ -84,12 +75,12 @@ fn in_order(map: &Result<ThreadMap<'_>, ErrorKind>) -> usize {
 #[test]
 fn gives_each_thread_wherever_it_is_split(rt: HostRuntime) {
     let body = twelve(12);
-    let whole = little(RawData::Single(&body));
+    let whole = parsed::<LittleEndian>(RawData::Single(&body));
     assert_eq!(rt; lengths(&whole), Some((false, 12, 12)));
     assert_eq!(rt; nth(&whole, 8, &[]), Some(95167));
     for at in 0..297usize {
         let (front, back) = body.split_at(at);
-        let map = little(RawData::Split(front, back));
+        let map = parsed::<LittleEndian>(RawData::Split(front, back));
         assert_eq!(rt; (in_order(&map), map == whole), (12, true), "split at {at}");
     }
 }
@@ -97,12 +88,12 @@ fn gives_each_thread_wherever_it_is_split(rt: HostRuntime) {
 #[test]
 fn passes_over_what_follows(rt: HostRuntime) {
     let body = twelve(11);
-    let map = little(RawData::Single(&body));
+    let map = parsed::<LittleEndian>(RawData::Single(&body));
     assert_eq!(rt;
         (lengths(&map), last(&map)),
         (Some((false, 11, 11)), Some(95173))
     );
-    let none = big(RawData::Single(&[0; 30]));
+    let none = parsed::<BigEndian>(RawData::Single(&[0; 30]));
     assert_eq!(rt; (lengths(&none), last(&none)), (Some((true, 0, 0)), None));
 }
 
@@ -128,9 +119,9 @@ fn cuts_names_at_nul(rt: HostRuntime) {
     ] {
         let (first, second) = named(name);
         let wanted = (Some((false, 1, 1)), Some(542_572));
-        let map = little(RawData::Single(&first));
+        let map = parsed::<LittleEndian>(RawData::Single(&first));
         assert_eq!(rt; (lengths(&map), nth(&map, 0, shown)), wanted);
-        let map = big(RawData::Single(&second));
+        let map = parsed::<BigEndian>(RawData::Single(&second));
         assert_eq!(rt; (lengths(&map), nth(&map, 0, shown)), wanted);
     }
 }
@@ -149,7 +140,7 @@ fn refuses_bad_counts(rt: HostRuntime) {
         let body = twelve(count);
         for at in 0..held + 1 {
             let (front, back) = body[..held].split_at(at);
-            let got = little(RawData::Split(front, back)).err();
+            let got = parsed::<LittleEndian>(RawData::Split(front, back)).err();
             assert_eq!(rt; got, Some(kind), "{count} split at {at}");
         }
     }

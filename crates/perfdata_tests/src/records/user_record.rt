@@ -1,7 +1,9 @@
 //! Users' records in the form that their type has, wherever they are split, and what is refused.
+use super::auxtrace::BODY;
+use crate::helpers::by_kind;
 use byteorder::{BigEndian, ByteOrder, LittleEndian};
 use perfdata_base::features::Feature;
-use perfdata_base::raw::{Endianness, RawData};
+use perfdata_base::raw::{Endianness, FileOrder, RawData};
 use perfdata_parts::record::{
     HeaderAttr, HeaderFeature, RawUserRecord, UserRecord, UserRecordType,
 };
@@ -9,11 +11,6 @@ use std::alloc::Global;
 use std::io::ErrorKind;
 
 const FEATURE: [u8; 9] = [3, 0, 0, 0, 1, 0, 0, 0, 0x61];
-
-const TRACE: [u8; 41] = [
-    1, 0, 0, 0, 0, 0, 0, 0, 0, 0, 0, 0, 0, 0, 0, 0, 0xf9, 0xcd, 0x2a, 0x49, 0x28, 4, 0, 0, 8, 0, 0,
-    0, 0x7a, 0x24, 0, 0, 8, 0, 0, 0, 0, 0, 0, 0, 0,
-];
 
 // One thread without a name.
 const THREAD: [u8; 32] = [
@@ -49,21 +46,10 @@ fn has_ids(alloc: Global, front: &[u8], back: &[u8], ids: &[u64]) -> bool {
     matches!(&got, Ok((size, format, told)) if (*size, *format, told.as_slice()) == (64, 4, ids))
 }
 
-fn feature_of(header: HeaderFeature) -> (u32, Vec<u8>) {
-    (header.feature.0, header.bytes)
-}
-
 // The number and the data of a feature.
-fn little(alloc: Global, body: RawData<'_>) -> Result<(u32, Vec<u8>), ErrorKind> {
-    match HeaderFeature::parse::<LittleEndian>(alloc, body) {
-        Ok(header) => Ok(feature_of(header)),
-        Err(error) => Err(error.kind()),
-    }
-}
-
-fn big(alloc: Global, body: RawData<'_>) -> Result<(u32, Vec<u8>), ErrorKind> {
-    match HeaderFeature::parse::<BigEndian>(alloc, body) {
-        Ok(header) => Ok(feature_of(header)),
+fn feature_in<T: FileOrder>(alloc: Global, body: RawData<'_>) -> Result<(u32, Vec<u8>), ErrorKind> {
+    match HeaderFeature::parse::<T>(alloc, body) {
+        Ok(header) => Ok((header.feature.0, header.bytes)),
         Err(error) => Err(error.kind()),
     }
 }
@@ -100,23 +86,21 @@ fn refuses_an_attribute(rt: HostRuntime) {
     }
 }
 
-// Whether the feature in two pieces is of number 3, and its data is the byte 0x61.
-fn is_three(alloc: Global, front: &[u8], back: &[u8]) -> bool {
-    let got = little(alloc, RawData::Split(front, back));
-    matches!(&got, Ok((number, bytes)) if (*number, bytes.as_slice()) == (3, [0x61].as_slice()))
-}
-
 #[test]
 fn parses_a_feature_wherever_it_is_split(rt: HostRuntime) {
     for at in 0..10usize {
         let (front, back) = FEATURE.split_at(at);
-        assert!(rt; is_three(rt.alloc(), front, back), "split at {at}");
+        let got = feature_in::<LittleEndian>(rt.alloc(), RawData::Split(front, back));
+        assert!(rt;
+            matches!(&got, Ok((3, bytes)) if bytes.as_slice() == [0x61].as_slice()),
+            "split at {at}"
+        );
     }
     let mut swapped = [0; 8];
     BigEndian::write_u64(&mut swapped, 0x1_0000_0003);
-    let got = big(rt.alloc(), RawData::Single(&swapped));
+    let got = feature_in::<BigEndian>(rt.alloc(), RawData::Single(&swapped));
     assert!(rt; matches!(&got, Ok((3, bytes)) if bytes.is_empty()));
-    let cut = little(rt.alloc(), RawData::Single(&FEATURE[..7])).err();
+    let cut = feature_in::<LittleEndian>(rt.alloc(), RawData::Single(&FEATURE[..7])).err();
     assert_eq!(rt; cut, Some(ErrorKind::UnexpectedEof));
 }
 
@@ -132,10 +116,7 @@ fn parse<'a>(
         misc: 7,
         body,
     };
-    match raw.parse(alloc) {
-        Ok(parsed) => Ok(parsed),
-        Err(error) => Err(error.kind()),
-    }
+    by_kind(raw.parse(alloc))
 }
 
 // What is told of a record.
@@ -149,22 +130,18 @@ enum Told {
     Raw,
 }
 
-fn told_of(parsed: &UserRecord<'_>) -> Told {
-    match parsed {
-        UserRecord::HeaderAttr(header) => Told::Ids(header.ids.as_slice() == [5, 6].as_slice()),
-        UserRecord::Auxtrace(trace) => Told::Reference(trace.reference),
-        UserRecord::ThreadMap(map) => Told::Threads(map.len()),
-        UserRecord::HeaderFeature(header) => Told::Feature(header.feature),
-        UserRecord::Raw(_) => Told::Raw,
-    }
-}
-
 // What is told of a little-endian record whose body is split at a place, at most its end.
 fn split(alloc: Global, record_type: UserRecordType, body: &[u8], at: usize) -> Option<Told> {
     let (front, back) = body.split_at(at.min(body.len()));
     let body = RawData::Split(front, back);
     match parse(alloc, record_type, Endianness::LittleEndian, body) {
-        Ok(parsed) => Some(told_of(&parsed)),
+        Ok(UserRecord::HeaderAttr(header)) => {
+            Some(Told::Ids(header.ids.as_slice() == [5, 6].as_slice()))
+        }
+        Ok(UserRecord::Auxtrace(trace)) => Some(Told::Reference(trace.reference)),
+        Ok(UserRecord::ThreadMap(map)) => Some(Told::Threads(map.len())),
+        Ok(UserRecord::HeaderFeature(header)) => Some(Told::Feature(header.feature)),
+        Ok(UserRecord::Raw(_)) => Some(Told::Raw),
         Err(_) => None,
     }
 }
@@ -180,7 +157,7 @@ fn parses_by_type_wherever_it_is_split(rt: HostRuntime) {
         ),
         (
             UserRecordType::PERF_AUXTRACE,
-            &TRACE,
+            &BODY[..41],
             Told::Reference(0x428_492a_cdf9),
         ),
         (UserRecordType::PERF_THREAD_MAP, &THREAD, Told::Threads(1)),
@@ -213,7 +190,7 @@ fn stays(alloc: Global, kind: UserRecordType, body: RawData<'_>) -> bool {
 
 #[test]
 fn leaves_other_types(rt: HostRuntime) {
-    let body = RawData::Single(&TRACE);
+    let body = RawData::Single(&BODY[..41]);
     for kind in [
         UserRecordType::PERF_TIME_CONV,
         UserRecordType::SIMPLEPERF_DSO,

@@ -1,4 +1,5 @@
 //! Protobuf messages: their fields, the value that counts, and each fault.
+use crate::helpers::joined;
 use perfdata_parts::decode_error::DecodeError;
 use perfdata_parts::simpleperf::{
     SimpleperfDexFileInfo, SimpleperfElfFileInfo, SimpleperfFileRecord, SimpleperfKernelModuleInfo,
@@ -21,28 +22,6 @@ enum Info<'a> {
     Module,
 }
 
-fn info_of(
-    alloc: Global,
-    info: Info<'_>,
-) -> Result<Option<SimpleperfTypeSpecificInfo>, AllocError> {
-    match info {
-        Info::Nothing => Ok(None),
-        Info::Dex(offsets) => {
-            let dex_file_offset = Vec::from_slice(alloc, offsets)?;
-            let info = SimpleperfDexFileInfo { dex_file_offset };
-            Ok(Some(SimpleperfTypeSpecificInfo::SimpleperfDexFileInfo(info)))
-        }
-        Info::Elf(file_offset_of_min_vaddr) => Ok(Some(SimpleperfTypeSpecificInfo::ElfFile(
-            SimpleperfElfFileInfo {
-                file_offset_of_min_vaddr,
-            },
-        ))),
-        Info::Module => Ok(Some(SimpleperfTypeSpecificInfo::KernelModule(
-            SimpleperfKernelModuleInfo::default(),
-        ))),
-    }
-}
-
 // The record of this path, type, address and info, without symbols.
 fn record(
     alloc: Global,
@@ -51,12 +30,30 @@ fn record(
 ) -> Result<SimpleperfFileRecord, AllocError> {
     let (path, type_, min_vaddr) = numbers;
     let path = String::from_str(alloc, path)?;
+    let type_specific_msg = match info {
+        Info::Nothing => None,
+        Info::Dex(offsets) => {
+            let dex_file_offset = Vec::from_slice(alloc, offsets)?;
+            let info = SimpleperfDexFileInfo { dex_file_offset };
+            Some(SimpleperfTypeSpecificInfo::SimpleperfDexFileInfo(info))
+        }
+        Info::Elf(file_offset_of_min_vaddr) => {
+            let info = SimpleperfElfFileInfo {
+                file_offset_of_min_vaddr,
+            };
+            Some(SimpleperfTypeSpecificInfo::ElfFile(info))
+        }
+        Info::Module => {
+            let info = SimpleperfKernelModuleInfo::default();
+            Some(SimpleperfTypeSpecificInfo::KernelModule(info))
+        }
+    };
     Ok(SimpleperfFileRecord {
         path,
         type_,
         min_vaddr,
         symbol: Vec::new(alloc),
-        type_specific_msg: info_of(alloc, info)?,
+        type_specific_msg,
     })
 }
 
@@ -80,18 +77,11 @@ fn decodes(
 }
 
 // Why the bytes aren't decoded.
-fn fault_of(alloc: Global, bytes: &[u8]) -> Option<DecodeError> {
+pub(crate) fn fault_of(alloc: Global, bytes: &[u8]) -> Option<DecodeError> {
     match SimpleperfFileRecord::decode(alloc, bytes) {
         Ok(_) => None,
         Err(fault) => Some(fault),
     }
-}
-
-// Bytes, and more.
-fn joined(alloc: Global, front: &[u8], back: &[u8]) -> Result<Vec<u8>, AllocError> {
-    let mut bytes = Vec::from_slice(alloc, front)?;
-    bytes.extend_from_slice(back)?;
-    Ok(bytes)
 }
 
 #[test]

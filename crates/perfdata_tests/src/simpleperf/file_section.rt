@@ -1,8 +1,7 @@
 //! Sections of the older file records, and what is cut in them.
+use super::sections::{Answer, answer_of, repeated};
 use perfdata_base::raw::Endianness;
-use perfdata_parts::error::Error;
-use perfdata_parts::simpleperf::{SimpleperfFileRecord, parse_file_section};
-use std::alloc::{AllocError, Global};
+use perfdata_parts::simpleperf::parse_file_section;
 use std::io::ErrorKind;
 use std::test::Fail;
 
@@ -18,56 +17,15 @@ const BIG: [u8; 22] = [
     0, 0, 0, 18, b'a', 0, 0, 0, 0, 4, 0, 0, 0, 0, 0, 0, 0, 16, 0, 0, 0, 0,
 ];
 
-// The same section so many times.
-fn repeated(alloc: Global, count: usize) -> Result<Vec<u8>, AllocError> {
-    let mut bytes = Vec::new(alloc);
-    for _ in 0..count {
-        bytes.extend_from_slice(&section(18))?;
-    }
-    Ok(bytes)
-}
-
-// How many of these are of path `a`, this type and address 16, and have no symbols.
-fn count_expected(records: &[SimpleperfFileRecord], type_: u32) -> usize {
-    let mut count = 0usize;
-    for record in records {
-        let told = (record.path.as_str(), record.type_, record.min_vaddr);
-        if (told, record.symbol.len()) == (("a", type_, 16), 0) {
-            count = count.saturating_add(1);
-        }
-    }
-    count
-}
-
-// How a section is read: how many records there are and how many of them are the expected, or the fault.
-#[derive(Clone, Copy, Debug, PartialEq, Eq)]
-enum Answer {
-    Records(usize, usize),
-    Io(ErrorKind),
-    TooSmall,
-    Record(ErrorKind),
-    Other,
-}
-
-fn answer_of(alloc: Global, bytes: &[u8], endian: Endianness, type_: u32) -> Answer {
-    match parse_file_section(alloc, bytes, endian) {
-        Ok(records) => Answer::Records(records.len(), count_expected(&records, type_)),
-        Err(Error::IoError(error)) => Answer::Io(error.kind()),
-        Err(Error::FeatureSectionTooSmall) => Answer::TooSmall,
-        Err(Error::ParsingSimpleperfFileV1Section(error)) => Answer::Record(error.kind()),
-        Err(_) => Answer::Other,
-    }
-}
-
 #[test]
 fn reads_each_record(rt: HostRuntime) -> Result<(), Fail> {
     for count in 0..3usize {
-        let bytes = repeated(rt.alloc(), count)?;
-        let got = answer_of(rt.alloc(), &bytes, Endianness::LittleEndian, 2);
-        assert_eq!(rt; got, Answer::Records(count, count));
+        let bytes = repeated(rt.alloc(), &section(18), count)?;
+        let read = parse_file_section(rt.alloc(), &bytes, Endianness::LittleEndian);
+        assert_eq!(rt; answer_of(read, (2, 16)), Answer::Records(count, count));
     }
-    let got = answer_of(rt.alloc(), &BIG, Endianness::BigEndian, 4);
-    assert_eq!(rt; got, Answer::Records(1, 1));
+    let read = parse_file_section(rt.alloc(), &BIG, Endianness::BigEndian);
+    assert_eq!(rt; answer_of(read, (4, 16)), Answer::Records(1, 1));
     Ok(())
 }
 
@@ -85,7 +43,7 @@ fn refuses_what_is_cut(rt: HostRuntime) {
             Answer::Record(ErrorKind::InvalidData),
         ),
     ] {
-        let got = answer_of(rt.alloc(), bytes, Endianness::LittleEndian, 2);
-        assert_eq!(rt; got, wanted, "{bytes:?}");
+        let read = parse_file_section(rt.alloc(), bytes, Endianness::LittleEndian);
+        assert_eq!(rt; answer_of(read, (2, 16)), wanted, "{bytes:?}");
     }
 }

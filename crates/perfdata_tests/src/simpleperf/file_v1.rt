@@ -1,8 +1,7 @@
 //! The older file records: each type, in both orders, and what is refused.
+use crate::helpers::by_kind;
 use byteorder::{BigEndian, LittleEndian};
-use perfdata_parts::simpleperf::{
-    SimpleperfFileRecord, SimpleperfSymbol, SimpleperfTypeSpecificInfo,
-};
+use perfdata_parts::simpleperf::{SimpleperfFileRecord, SimpleperfTypeSpecificInfo};
 use std::alloc::Global;
 use std::io::ErrorKind;
 
@@ -13,9 +12,16 @@ fn head(type_: u8, count: u8) -> [u8; 18] {
     ]
 }
 
-// The type by an info, and its number.
-fn offset_of(info: &Option<SimpleperfTypeSpecificInfo>) -> Option<(u32, u64)> {
-    match info {
+// The type by the info, if one is there, and its number.
+type Offset = Option<(u32, u64)>;
+
+// What is read, if its path is `a`: type, address, count of symbols, and the info's number.
+fn little(alloc: Global, bytes: &[u8]) -> Result<Option<(u32, u64, usize, Offset)>, ErrorKind> {
+    let record = by_kind(SimpleperfFileRecord::decode_v1::<LittleEndian>(alloc, bytes))?;
+    if record.path.as_str() != "a" {
+        return Ok(None);
+    }
+    let offset = match &record.type_specific_msg {
         Some(SimpleperfTypeSpecificInfo::ElfFile(info)) => {
             Some((2, info.file_offset_of_min_vaddr))
         }
@@ -23,24 +29,8 @@ fn offset_of(info: &Option<SimpleperfTypeSpecificInfo>) -> Option<(u32, u64)> {
             Some((1, info.memory_offset_of_min_vaddr))
         }
         _ => None,
-    }
-}
-
-// The type by the info, if one is there, and its number.
-type Offset = Option<(u32, u64)>;
-
-// What is read, if its path is `a`: type, address, count of symbols, and the info's number.
-fn little(alloc: Global, bytes: &[u8]) -> Result<Option<(u32, u64, usize, Offset)>, ErrorKind> {
-    let record = match SimpleperfFileRecord::decode_v1::<LittleEndian>(alloc, bytes) {
-        Ok(record) => record,
-        Err(error) => return Err(error.kind()),
     };
-    if record.path.as_str() == "a" {
-        let offset = offset_of(&record.type_specific_msg);
-        Ok(Some((record.type_, record.min_vaddr, record.symbol.len(), offset)))
-    } else {
-        Ok(None)
-    }
+    Ok(Some((record.type_, record.min_vaddr, record.symbol.len(), offset)))
 }
 
 #[test]
@@ -63,37 +53,21 @@ const DEX: [u8; 52] = [
     b'c', 0, 0, 0, 0, 2, 0, 0, 0, 0, 0, 0, 0, 4, 0, 0, 0, 0, 0, 0, 0, 5,
 ];
 
-// Whether the symbols are this one.
-fn is_symbol(symbols: &[SimpleperfSymbol], wanted: (u64, u32, &str)) -> bool {
-    match symbols {
-        [symbol] => (symbol.vaddr, symbol.len, symbol.name.as_str()) == wanted,
+// Whether what is read is what DEX says.
+fn reads_dex(alloc: Global, bytes: &[u8]) -> Result<bool, ErrorKind> {
+    let record = by_kind(SimpleperfFileRecord::decode_v1::<BigEndian>(alloc, bytes))?;
+    let told = (record.path.as_str(), record.type_, record.min_vaddr);
+    let is_symbol = match record.symbol.as_slice() {
+        [symbol] => (symbol.vaddr, symbol.len, symbol.name.as_str()) == (2, 3, "c"),
         _ => false,
-    }
-}
-
-// Whether the info is the offsets 4 and 5 of a DEX file.
-fn is_four_and_five(info: &Option<SimpleperfTypeSpecificInfo>) -> bool {
-    match info {
+    };
+    let are_offsets = match &record.type_specific_msg {
         Some(SimpleperfTypeSpecificInfo::SimpleperfDexFileInfo(dex)) => {
             dex.dex_file_offset.as_slice() == [4, 5].as_slice()
         }
         _ => false,
-    }
-}
-
-fn is_dex(record: &SimpleperfFileRecord) -> bool {
-    let told = (record.path.as_str(), record.type_, record.min_vaddr);
-    let symbol = is_symbol(&record.symbol, (2, 3, "c"));
-    let offsets = is_four_and_five(&record.type_specific_msg);
-    (told, symbol, offsets) == (("b", 3, 1), true, true)
-}
-
-// Whether what is read is what DEX says.
-fn reads_dex(alloc: Global, bytes: &[u8]) -> Result<bool, ErrorKind> {
-    match SimpleperfFileRecord::decode_v1::<BigEndian>(alloc, bytes) {
-        Ok(record) => Ok(is_dex(&record)),
-        Err(error) => Err(error.kind()),
-    }
+    };
+    Ok((told, is_symbol, are_offsets) == (("b", 3, 1), true, true))
 }
 
 #[test]

@@ -1,16 +1,7 @@
 //! Texts up to a NUL, taken off the front.
+use crate::helpers::by_kind;
 use perfdata_parts::simpleperf::SliceReadStringExt;
 use std::io::ErrorKind;
-
-// The text at the front, or why there is none, and what is left.
-fn take(bytes: &[u8]) -> (Result<&str, ErrorKind>, &[u8]) {
-    let mut rest = bytes;
-    let got = match rest.read_nul_terminated_str() {
-        Ok(text) => Ok(text),
-        Err(error) => Err(error.kind()),
-    };
-    (got, rest)
-}
 
 #[test]
 fn takes_texts_off_the_front(rt: HostRuntime) {
@@ -21,6 +12,8 @@ fn takes_texts_off_the_front(rt: HostRuntime) {
         (&all[4..], Err(ErrorKind::InvalidData), b"c\xff\0d"),
         (b"d", Err(ErrorKind::UnexpectedEof), b"d"),
     ] {
-        assert_eq!(rt; take(bytes), (wanted, left), "a refusal takes nothing");
+        let mut rest = bytes;
+        let got = by_kind(rest.read_nul_terminated_str());
+        assert_eq!(rt; (got, rest), (wanted, left), "a refusal takes nothing");
     }
 }
