@@ -13,6 +13,7 @@
 //   single-up, single-down      one a record
 //   attributes   a file with SIZE attributes in its attribute section, and one sample
 //   types        a file with SIZE event types and an identifier of each, and one sample
+//   pmu          a file with SIZE PMU mappings, whose numbers fall, and one sample
 //   jit          a jitdump of loads, moves and debug info
 //   jit-one      a jitdump of one load of SIZE bytes
 #include "bytes.h"
@@ -23,7 +24,7 @@
 enum { HEADER = 104, ATTRIBUTE = 64, PERF_ATTRIBUTE = 128, EVENTS = 8, CPUS = 16 };
 enum { MOST_BODY = 200, ROUND = 1000, MOST_RECORD = 4096 };
 enum { MMAP = 1, LOST = 2, COMM = 3, EXIT = 4, FORK = 7, SAMPLE = 9, MMAP2 = 10, ATTR = 64, FINISHED_ROUND = 68, THREAD_MAP = 73, FEATURE = 80 };
-enum { EVENT_DESC = 12 };
+enum { EVENT_DESC = 12, PMU_MAPPINGS = 16 };
 
 static const uint64_t IP = 1 << 0, TID = 1 << 1, TIME = 1 << 2, CPU = 1 << 7, PERIOD = 1 << 8, IDENTIFIER = 1 << 16;
 static const uint64_t SAMPLE_ID_ALL = 1 << 18;
@@ -337,6 +338,25 @@ static void write_attribute_section(uint64_t count) { write_section(count, 0); }
 
 static void write_types(uint64_t count) { write_section(count, 1); }
 
+static void write_pmu(uint64_t count) {
+    unsigned char attribute[ATTRIBUTE];
+    uint64_t records = HEADER + ATTRIBUTE, section = records + 24 + 16;
+    uint64_t fields[] = {HEADER, ATTRIBUTE, HEADER, ATTRIBUTE, records, 24, 0, 0, 1 << PMU_MAPPINGS, 0, 0, 0};
+    write_bytes("PERFILE2", 8);
+    for (size_t i = 0; i < sizeof fields / sizeof *fields; i++) write_number(fields[i], 8);
+    put_attribute(attribute, sizeof attribute, IDENTIFIER | TIME, 0);
+    write_bytes(attribute, sizeof attribute);
+    write_sample(1, 1000);
+    write_number(section, 8);
+    write_number(4 + count * (4 + 4 + 4), 8);
+    write_number(count, 4);
+    for (uint64_t number = count; number > 0; number--) {
+        write_number(number, 4);
+        write_number(4, 4);
+        write_bytes("pmu", 4);
+    }
+}
+
 // ---- jitdump
 
 static size_t put_jit_head(unsigned char *at, uint64_t kind, size_t size, uint64_t time) {
@@ -421,7 +441,8 @@ int main(int argc, char **argv) {
         {"one", write_one}, {"small", write_small}, {"events", write_events}, {"pipe", write_pipe}, {"pipe-events", write_pipe_events},
         {"late", write_late}, {"late-named", write_late_named}, {"described", write_described}, {"opening", write_opening},
         {"ids-up", write_ids_up}, {"ids-down", write_ids_down}, {"single-up", write_single_up}, {"single-down", write_single_down},
-        {"attributes", write_attribute_section}, {"types", write_types}, {"jit", write_jit}, {"jit-one", write_jit_one},
+        {"attributes", write_attribute_section}, {"types", write_types}, {"pmu", write_pmu},
+        {"jit", write_jit}, {"jit-one", write_jit_one},
     };
     if (argc != 4) return 1;
     out = fopen(argv[2], "wb");

@@ -14,7 +14,7 @@ mod words;
 
 use fault::{Fault, status};
 use linux_perf_data::PerfFileReader;
-use linux_perf_data::source::Counted;
+use linux_perf_data::source::CountedBuffer;
 use page::Page;
 use records::Recording;
 use std::fs::File;
@@ -27,10 +27,10 @@ use words::{Asked, read_words};
 const BUFFER: usize = 65536;
 
 /// The file of a path, read in large pieces.
-fn open(rt: &HostRuntime, path: &str) -> io::Result<Counted<BufReader<File>>> {
+fn open(rt: &HostRuntime, path: &str) -> io::Result<CountedBuffer<File>> {
     let file = File::open(rt, path)?;
     let reader = BufReader::with_capacity(rt.alloc(), BUFFER, file)?;
-    Ok(Counted::new(reader))
+    Ok(CountedBuffer::new(reader))
 }
 
 /// Reads a perf.data file to its end.
@@ -45,7 +45,7 @@ fn read_path(rt: &HostRuntime, path: &str) -> Result<Recording, Fault> {
 /// Reads a pipe, which is standard input, to its end.
 fn read_input(rt: &HostRuntime) -> Result<Recording, Fault> {
     let reader = BufReader::with_capacity(rt.alloc(), BUFFER, rt.stdin()).map_err(Fault::Open)?;
-    match PerfFileReader::parse_pipe(rt.alloc(), Counted::new(reader)) {
+    match PerfFileReader::parse_pipe(rt.alloc(), CountedBuffer::new(reader)) {
         Ok(reader) => Ok(Recording::read(rt.alloc(), reader)),
         Err(error) => Err(Fault::Refused(error)),
     }

@@ -3,7 +3,7 @@
 #![tactic(auto)]
 
 use linux_perf_data::jitdump::JitDumpReader;
-use linux_perf_data::source::{Counted, Script, Source, Step};
+use linux_perf_data::source::{CountedBuffer, Script, Source, Step};
 use linux_perf_data::{Error, PerfFileReader};
 use std::alloc::{AllocError, Global};
 use std::fs::File;
@@ -56,9 +56,9 @@ fn paused(alloc: Global, bytes: Vec<u8>, pauses: u64) -> Result<Script, AllocErr
 }
 
 /// A file, read in large pieces.
-fn open(rt: &HostRuntime, path: &str) -> io::Result<Counted<BufReader<File>>> {
+fn open(rt: &HostRuntime, path: &str) -> io::Result<CountedBuffer<File>> {
     let file = File::open(rt, path)?;
-    Ok(Counted::new(BufReader::with_capacity(rt.alloc(), BUFFER, file)?))
+    Ok(CountedBuffer::new(BufReader::with_capacity(rt.alloc(), BUFFER, file)?))
 }
 
 fn main(rt: HostRuntime) -> anyhow::Result<()> {
@@ -73,7 +73,7 @@ fn main(rt: HostRuntime) -> anyhow::Result<()> {
         "file" => records(PerfFileReader::parse_file(alloc, open(&rt, path)?)?)?,
         "pipe" => {
             let input = BufReader::with_capacity(alloc, BUFFER, rt.stdin())?;
-            records(PerfFileReader::parse_pipe(alloc, Counted::new(input))?)?
+            records(PerfFileReader::parse_pipe(alloc, CountedBuffer::new(input))?)?
         }
         "jit" => jit_records(JitDumpReader::new(alloc, open(&rt, path)?)?, 0)?,
         _ => {
