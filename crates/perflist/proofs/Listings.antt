@@ -1,6 +1,8 @@
 -- What the records that were listed come to.
 use Rattle.std.proofs.Common.{◌≡◌, ◌≢◌, ℕ, ◌<◌, ◌++◌, List, [], ◌∷◌, length, take, refl, ap, ◌∙◌, subst, Option}
 use Rattle.std.proofs.lemmas.List.{flat_map_more}
+use Rattle.std.proofs.lemmas.Bool.{false≢true}
+use Rattle.std.specs.Prelude.{false}
 use Rattle.perfdata_base.specs.Source.{State}
 use Rattle.linux_perf_data.specs.declared.iter.PerfRecordIter.{PerfRecordIter}
 use Rattle.linux_perf_data.specs.declared.iter.Stage.TheVariants.{Running, Ended}
@@ -45,7 +47,7 @@ module _ {R : Type 0} (seen : R → State) where
     | inr ended ↦ absurd (runs (ap (λ i. i.stage) (none_of seen it now file file' records ended all).1 ∙ ended))
   ]
 
-  stopped : (old : State) (file : PerfFile) (it new : PerfRecordIter R) (before after : Option (List ℕ)) (lines : ℕ) (cause : ListCause) → Opens seen old file it → StopsListing seen it before after lines cause new → StopsListingFile old before after lines cause
+  stopped : (old : State) (file : PerfFile) (it new : PerfRecordIter R) (before after : Option (List ℕ)) (lines : ℕ) (cause : ListCause) → Opens seen old file it → StopsListing seen false it before after lines cause new → StopsListingFile old before after lines cause
   stopped old file it new before after lines (Perf e) o listed = record {
     records = listed.records;
     count = listed.count;
@@ -59,7 +61,8 @@ module _ {R : Type 0} (seen : R → State) where
       ],
     );
   }
-  stopped old file it new before after lines (Write e) o listed = record {
+  stopped old file it new before after lines (Write e) o (inr held) = absurd (false≢true held.0)
+  stopped old file it new before after lines (Write e) o (inl listed) = record {
     records = listed.records;
     next = listed.next;
     count = listed.count;
@@ -70,7 +73,7 @@ module _ {R : Type 0} (seen : R → State) where
   stopped old file it new before after lines (Read e) o listed = elim listed [ ]
 
   -- a file was opened, and its records were listed
-  pub listed_file : (old : State) (file file' : PerfFile) (it new : PerfRecordIter R) (before after : Option (List ℕ)) (r : Result ℕ ListFault) → Opens seen old file it → ListsRecords seen it file before r after new file' → ListsFile old before r after
+  pub listed_file : (old : State) (file file' : PerfFile) (it new : PerfRecordIter R) (before after : Option (List ℕ)) (r : Result ℕ ListFault) → Opens seen old file it → ListsRecords seen false it file before r after new file' → ListsFile old before r after
   listed_file old file file' it new before after (Ok lines) o listed = record {
     records = listed.records;
     count = listed.count;

@@ -1,6 +1,6 @@
 -- What the records of a pipe that were listed come to.
 use Rattle.std.proofs.Common.{ℕ, ◌++◌, List, [], ◌∷◌, refl, sym, subst, Option, None, Some, inl, inr}
-use Rattle.std.specs.Prelude.{IfSome}
+use Rattle.std.specs.Prelude.{IfSome, true}
 use Rattle.std.proofs.KnownBytes.{Appends-nil}
 use Rattle.perfdata_base.specs.Source.{State}
 use Rattle.perfdata_base.proofs.Cut.{none_or_paused}
@@ -63,7 +63,7 @@ module _ {R : Type 0} (seen : R → State) (old : State) (file : PerfFile) (it :
           ];
         }
 
-  stopped : (new : PerfRecordIter R) (before after : Option (List ℕ)) (lines : ℕ) (cause : ListCause) → KeepsHead seen old before_first it → StopsListing seen it before after lines cause new → StopsListingPipe old before after lines cause
+  stopped : (new : PerfRecordIter R) (before after : Option (List ℕ)) (lines : ℕ) (cause : ListCause) → KeepsHead seen old before_first it → StopsListing seen true it before after lines cause new → StopsListingPipe old before after lines cause
   stopped new before after lines (Perf e) k l = record {
     records = l.records;
     count = l.count;
@@ -78,7 +78,7 @@ module _ {R : Type 0} (seen : R → State) (old : State) (file : PerfFile) (it :
       why = λ other. elim (l.reason other) [ inl ends ↦ inl (fault_there seen old file it o k l.records e ends) | inr owes ↦ inr (owes_there seen old file it o k (view seen new) e owes) ];
     });
   }
-  stopped new before after lines (Write e) k l = record {
+  stopped new before after lines (Write e) k (inl l) = inl (record {
     order = it.endian;
     pieces = o.pieces;
     head = k.head;
@@ -88,14 +88,25 @@ module _ {R : Type 0} (seen : R → State) (old : State) (file : PerfFile) (it :
     count = l.count;
     wrote = l.wrote;
     first = first_there seen old file it o k (l.records ++ l.next ∷ []) l.first;
-  }
+  })
+  stopped new before after lines (Write e) k (inr held) = inr (record {
+    order = it.endian;
+    pieces = o.pieces;
+    head = k.head;
+    opening = opens_there seen old file it o k;
+    records = held.1.records;
+    count = held.1.count;
+    appends = held.1.appends;
+    first = first_there seen old file it o k held.1.records held.1.first;
+  })
   stopped new before after lines (Jit e) k l = elim l [ ]
   stopped new before after lines (Read e) k l = elim l [ ]
 
   -- an iterator that had ended refuses nothing
-  runs_or_not : (new : PerfRecordIter R) (before after : Option (List ℕ)) (lines : ℕ) (cause : ListCause) → EndsThere seen old before_first it → StopsListing seen it before after lines cause new → ⊥
+  runs_or_not : (new : PerfRecordIter R) (before after : Option (List ℕ)) (lines : ℕ) (cause : ListCause) → EndsThere seen old before_first it → StopsListing seen true it before after lines cause new → ⊥
   runs_or_not new before after lines (Perf e) ended l = (let r = l.ran in let s = ended.ended in absurd cc)
-  runs_or_not new before after lines (Write e) ended l = (let r = l.ran in let s = ended.ended in absurd cc)
+  runs_or_not new before after lines (Write e) ended (inl l) = (let r = l.ran in let s = ended.ended in absurd cc)
+  runs_or_not new before after lines (Write e) ended (inr held) = (let r = held.1.ran in let s = ended.ended in absurd cc)
   runs_or_not new before after lines (Jit e) ended l = elim l [ ]
   runs_or_not new before after lines (Read e) ended l = elim l [ ]
 
@@ -103,7 +114,7 @@ module _ {R : Type 0} (seen : R → State) (old : State) (file : PerfFile) (it :
   pub listed_pipe : (new : PerfRecordIter R) (file' : PerfFile) (before after : Option (List ℕ)) (lines : ℕ) → ListedAll seen it file before after lines new file' → ListedPipe old before after lines file'
   listed_pipe new file' before after lines l = elim o.behind [ inl k ↦ listed_behind k new file' before after lines l | inr e ↦ listed_none e new file' before after lines l ]
 
-  pub stopped_pipe : (new : PerfRecordIter R) (before after : Option (List ℕ)) (lines : ℕ) (cause : ListCause) → StopsListing seen it before after lines cause new → StopsListingPipe old before after lines cause
+  pub stopped_pipe : (new : PerfRecordIter R) (before after : Option (List ℕ)) (lines : ℕ) (cause : ListCause) → StopsListing seen true it before after lines cause new → StopsListingPipe old before after lines cause
   stopped_pipe new before after lines cause l = elim o.behind [ inl k ↦ stopped new before after lines cause k l | inr e ↦ absurd (runs_or_not new before after lines cause e l) ]
 
 -- a pipe was refused

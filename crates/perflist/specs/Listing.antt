@@ -1,5 +1,5 @@
 -- What a listing of records writes, and why it stops.
-use Rattle.std.specs.Prelude.{◌≡◌, ◌≢◌, ◌⊎◌, ℕ, ◌<◌, List, [], ◌∷◌, ◌++◌, length, take, flat_map, Option, Result, Ok, Err, IfSome}
+use Rattle.std.specs.Prelude.{◌≡◌, ◌≢◌, ◌⊎◌, ℕ, ◌<◌, Bool, true, IsTrue, List, [], ◌∷◌, ◌++◌, length, take, flat_map, Option, Result, Ok, Err, IfSome}
 use Rattle.std.specs.Io.KnownBytes.{Appends}
 use Rattle.perfdata_base.specs.Source.{State}
 use Rattle.perfdata_sections.specs.declared.error.Error.{Error}
@@ -10,6 +10,7 @@ use Rattle.linux_perf_data.specs.declared.perf_file.PerfFile.{PerfFile}
 use Rattle.linux_perf_data.specs.Late.{FileHolds}
 use Rattle.linux_perf_data.specs.Layout.{Handed, whole, faulty, Fault}
 use Rattle.linux_perf_data.specs.Piece.{Answers}
+use Rattle.linux_perf_data.specs.AtHand.{TellsAtHand}
 use Rattle.linux_perf_data.specs.Iter.{view, bound_of}
 use Rattle.linux_perf_data.specs.Open.{StopsFile, SourceOwesOpening}
 use Rattle.linux_perf_data.specs.Reading.{AreFirst, ComeFirst, EndsFaulty, EndsWhole, OfFile, SourceOwesFile, SourceOwesSome}
@@ -62,15 +63,27 @@ module _ {R : Type 0} (seen : R → State) where
     pub wrote : WroteFront before after records next
     pub first : AreFirst seen old (records ++ next ∷ [])
 
-  abbrev pub StopsListing : PerfRecordIter R → Option (List ℕ) → Option (List ℕ) → ℕ → ListCause → PerfRecordIter R → Type 0
-  StopsListing old before after lines (Perf e) new = ListedTo old before after lines e new
-  StopsListing old before after lines (Write e) new = ListedInto old before after lines
-  StopsListing old before after lines _ new = ⊥
+  -- the first records were listed, and then their lines were refused where the input may wait
+  pub record ListedHeld (old : PerfRecordIter R) (before after : Option (List ℕ)) (lines : ℕ) : Type 0 where
+    pub ran : old.stage ≡ Running
+    pub records : List Handed
+    pub count : lines ≡ length records
+    pub appends : Appends before after (lines_of records)
+    pub first : AreFirst seen old records
+
+  -- the next record is asked for: its source holds it, or no line is held back
+  abbrev pub MayWait : PerfRecordIter R → List ℕ → Type 0
+  MayWait it waiting = (waiting ≡ []) ⊎ TellsAtHand seen it true
+
+  abbrev pub StopsListing : Bool → PerfRecordIter R → Option (List ℕ) → Option (List ℕ) → ℕ → ListCause → PerfRecordIter R → Type 0
+  StopsListing live old before after lines (Perf e) new = ListedTo old before after lines e new
+  StopsListing live old before after lines (Write e) new = ListedInto old before after lines ⊎ (IsTrue live × ListedHeld old before after lines)
+  StopsListing live old before after lines _ new = ⊥
 
   -- what a listing of an iterator's records does
-  abbrev pub ListsRecords : PerfRecordIter R → PerfFile → Option (List ℕ) → Result ℕ ListFault → Option (List ℕ) → PerfRecordIter R → PerfFile → Type 0
-  ListsRecords old file before (Ok lines) after new file' = ListedAll old file before after lines new file'
-  ListsRecords old file before (Err fault) after new file' = StopsListing old before after fault.lines fault.cause new
+  abbrev pub ListsRecords : Bool → PerfRecordIter R → PerfFile → Option (List ℕ) → Result ℕ ListFault → Option (List ℕ) → PerfRecordIter R → PerfFile → Type 0
+  ListsRecords live old file before (Ok lines) after new file' = ListedAll old file before after lines new file'
+  ListsRecords live old file before (Err fault) after new file' = StopsListing live old before after fault.lines fault.cause new
 
 -- all records of a file were listed, and its layout is whole
 pub record ListedFile (old : State) (before after : Option (List ℕ)) (lines : ℕ) : Type 0 where

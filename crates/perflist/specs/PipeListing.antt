@@ -64,9 +64,20 @@ pub record WrotePipe (old : State) (before after : Option (List ℕ)) (lines : �
   pub wrote : WroteFront before after records next
   pub first : IfSome old.bytes (λ bytes. OfPipe order pieces bytes (λ Come. ComeFirst Come (records ++ next ∷ [])))
 
+-- the first records of a pipe were listed, and then their lines were refused where the pipe may wait
+pub record HeldPipe (old : State) (before after : Option (List ℕ)) (lines : ℕ) : Type 0 where
+  pub order : Endianness
+  pub pieces : List (List ℕ)
+  pub head : List ℕ
+  pub opening : OpensWith order pieces old (Some head)
+  pub records : List Handed
+  pub count : lines ≡ length records
+  pub appends : Appends before after (lines_of records)
+  pub first : IfSome old.bytes (λ bytes. OfPipe order pieces bytes (λ Come. ComeFirst Come records))
+
 abbrev pub StopsListingPipe : State → Option (List ℕ) → Option (List ℕ) → ℕ → ListCause → Type 0
 StopsListingPipe old before after lines (Perf e) = StoppedPipe old before after lines e
-StopsListingPipe old before after lines (Write e) = WrotePipe old before after lines
+StopsListingPipe old before after lines (Write e) = WrotePipe old before after lines ⊎ HeldPipe old before after lines
 StopsListingPipe old before after lines _ = ⊥
 
 -- what a whole reading of a pipe does

@@ -1,16 +1,18 @@
 //! The records of an input as lines.
-ghost use Rattle.std.specs.Prelude.{◌≡◌, ◌^◌, ◌<◌, [], IfOk, IfErr};
+ghost use Rattle.std.specs.Prelude.{◌≡◌, ◌^◌, ◌<◌, [], IfOk, IfErr, IsTrue, OnOk, OnErr};
+ghost use Rattle.std.specs.Io.KnownBytes.{Keeps};
+ghost use Rattle.linux_perf_data.specs.AtHand.{IsOver};
 ghost use Rattle.perflist.specs.Buffer.{held, lines_left, Passes};
 ghost use Rattle.linux_perf_data.specs.Iter.{handed_of};
 ghost use Rattle.perflist.specs.Line.{handed_line};
 ghost use Rattle.perflist.specs.Text.{text_of};
 ghost use Rattle.perflist.specs.Listing.{told_by};
 ghost use Rattle.linux_perf_data.specs.Reading.{IsOwn, IsUnfailed};
-ghost use Rattle.perflist.specs.Listing.{ListsRecords, ListsFile};
+ghost use Rattle.perflist.specs.Listing.{ListsRecords, ListsFile, MayWait};
 ghost use Rattle.perflist.specs.PipeListing.{ListsPipe, ReadsPipe};
 
 use crate::line::{Fields, Line};
-use crate::output::{LineBuffer, write_line};
+use crate::output::{Holding, LineBuffer, write_line};
 use linux_perf_data::jitdump::JitDumpError;
 use linux_perf_data::source::{PlacedSource, Source};
 use linux_perf_data::{
@@ -75,19 +77,53 @@ fn put_line(line: &mut Line, place: RecordPlace, found: &PerfFileRecord<'_>)
     line.set_record(fields_of(place, found));
 }
 
-/// Writes a line for each record that is to come, and says how many.
-fn list_records<R: Source, W: Write>(
+/// Lets the lines so far leave where the next record isn't at hand, so that none of them waits while the input does. An input
+/// that isn't live never waits.
+fn let_go<R: Source, W: Holding>(
+    is_live: bool,
+    iter: &PerfRecordIter<R>,
+    out: &mut W,
+) -> io::Result<()>
+    ensures keeps { Keeps (W.contents out.old) (W.contents out.new) }
+    ensures left { OnOk result (IsTrue is_live → MayWait R.seen iter.now (W.waiting out.new)) }
+    ensures waits { OnErr result (IsTrue is_live × ¬ IsOver R.seen iter.now) }
+{
+    if !is_live {
+        return Ok(());
+    }
+    if iter.is_at_hand() {
+        return Ok(());
+    }
+    match out.let_go() {
+        Ok(()) => Ok(()),
+        Err(refused) => Err(refused),
+    }
+}
+
+/// Writes a line for each record that is to come, and says how many. Of a live input, what was written leaves before each call
+/// for a record that isn't at hand.
+fn list_records<R: Source, W: Holding>(
+    is_live: bool,
     iter: &mut PerfRecordIter<R>,
     file: &mut PerfFile,
     out: &mut W,
 ) -> Result<u64, ListFault>
     requires unfailed { IsUnfailed iter.old }
     requires own { IsOwn R.seen iter.old file.old }
-    ensures { ListsRecords R.seen iter.old file.old (W.contents out.old) result (W.contents out.new) iter.new file.new }
+    ensures { ListsRecords R.seen is_live iter.old file.old (W.contents out.old) result (W.contents out.new) iter.new file.new }
 {
     let mut lines = 0u64;
     let mut line = Line::new();
     'records: loop {
+        match let_go(is_live, iter, out) {
+            Ok(()) => {}
+            Err(refused) => {
+                return Err(ListFault {
+                    lines,
+                    cause: ListCause::Write(refused),
+                });
+            }
+        }
         match iter.next_record(file) {
             Ok(Some((place, record))) => {
                 put_line(&mut line, place, &record);
@@ -118,7 +154,7 @@ fn list_records<R: Source, W: Write>(
 /// Where it is refused the fault tells how many lines were written whole: none where the file doesn't open, all of its
 /// records where its data section's layout has a fault. Where the writer refuses, a front of the next line was written; a
 /// write that takes none is of kind `WriteZero`, and no write is made a second time.
-pub fn list_file<C: PlacedSource + Drop, W: Write>(
+pub fn list_file<C: PlacedSource + Drop, W: Holding>(
     alloc: Global,
     source: C,
     out: &mut W,
@@ -129,7 +165,7 @@ pub fn list_file<C: PlacedSource + Drop, W: Write>(
         Ok(reader) => {
             let mut file = reader.perf_file;
             let mut iter = reader.record_iter;
-            list_records(&mut iter, &mut file, out)
+            list_records(false, &mut iter, &mut file, out)
         }
         Err(error) => Err(ListFault {
             lines: 0,
@@ -140,7 +176,7 @@ pub fn list_file<C: PlacedSource + Drop, W: Write>(
 
 /// Reads a whole pipe: writes a line for each of its records, as [`list_pipe`] does, and answers how many there are, and all that
 /// the pipe says of itself, in its opening and later.
-fn read_pipe<R: Source + Drop, W: Write>(
+fn read_pipe<R: Source + Drop, W: Holding>(
     alloc: Global,
     source: R,
     out: &mut W,
@@ -151,7 +187,7 @@ fn read_pipe<R: Source + Drop, W: Write>(
         Ok(reader) => {
             let mut file = reader.perf_file;
             let mut iter = reader.record_iter;
-            match list_records(&mut iter, &mut file, out) {
+            match list_records(true, &mut iter, &mut file, out) {
                 Ok(lines) => Ok((lines, file)),
                 Err(fault) => Err(fault),
             }
@@ -173,7 +209,10 @@ fn read_pipe<R: Source + Drop, W: Write>(
 /// the records in front of the one that is refused. A record that is cut off is the end and no fault. Where the writer
 /// refuses, a front of the next line was written; a write that takes none is of kind `WriteZero`, and no write is made a
 /// second time.
-pub fn list_pipe<R: Source + Drop, W: Write>(
+///
+/// The lines so far leave the writer before a record is asked for that isn't at hand, so that they can be read while the
+/// pipe waits. Where they are refused then, all of them were written, and no front of a next one.
+pub fn list_pipe<R: Source + Drop, W: Holding>(
     alloc: Global,
     source: R,
     out: &mut W,

@@ -10,7 +10,7 @@ mod output;
 mod tests;
 
 use jit::list_jit;
-use linux_perf_data::source::Counted;
+use linux_perf_data::source::CountedBuffer;
 use list::{list_file, list_pipe, settle};
 use output::{LineBuffer, finish, write_line};
 use std::env::Args;
@@ -66,12 +66,12 @@ fn asked_by(mut words: Args) -> Asked {
 }
 
 /// The file of a path, read in large pieces.
-fn open(rt: &HostRuntime, path: &str) -> Option<Counted<BufReader<File>>> {
+fn open(rt: &HostRuntime, path: &str) -> Option<CountedBuffer<File>> {
     let Ok(file) = File::open(rt, path) else {
         return None;
     };
     match BufReader::with_capacity(rt.alloc(), BUFFER, file) {
-        Ok(reader) => Some(Counted::new(reader)),
+        Ok(reader) => Some(CountedBuffer::new(reader)),
         Err(_) => None,
     }
 }
@@ -97,7 +97,7 @@ fn list_input(rt: &HostRuntime) -> Result<u64, u64> {
     let Ok(mut out) = LineBuffer::new(rt.alloc(), rt.stdout()) else {
         return Err(0);
     };
-    let listed = list_pipe(rt.alloc(), Counted::new(input), &mut out);
+    let listed = list_pipe(rt.alloc(), CountedBuffer::new(input), &mut out);
     settle(listed, &mut out)
 }
 

@@ -1,5 +1,5 @@
 //! Writing to a writer that may refuse: lines, a buffer that counts them, and the program's last word.
-ghost use Rattle.std.specs.Prelude.{◌≡◌, ◌≢◌, ◌+◌, ◌-◌, ◌^◌, ◌<◌, ◌≤◌, ◌++◌, [], length, take, drop, vec_len, vec_capacity, IfOk, OnOk, OnErr, IfErr};
+ghost use Rattle.std.specs.Prelude.{◌≡◌, ◌≢◌, ◌+◌, ◌-◌, ◌^◌, ◌<◌, ◌≤◌, ◌++◌, ℕ, List, [], length, take, drop, vec_len, vec_capacity, IfOk, OnOk, OnErr, IfErr};
 ghost use Rattle.std.specs.Io.{WritesAtMost};
 ghost use Rattle.std.specs.Io.KnownBytes.{Appends, Keeps, WriteAppends};
 ghost use Rattle.perflist.specs.Output.{Writes, Finishes, newlines};
@@ -191,6 +191,27 @@ impl<W: Write> Write for LineBuffer<W> {
     {
         self.hand_on()?;
         self.inner.flush()
+    }
+}
+
+/// A writer that may hold bytes back.
+pub trait Holding: Write {
+    /// The bytes that have not left it yet.
+    ghost waiting: { Self → List ℕ };
+
+    /// Lets all that it holds leave.
+    fn let_go(&mut self) -> io::Result<()>
+        ensures keeps { Keeps (Self.contents self.old) (Self.contents self.new) }
+        ensures none { OnOk result (waiting self.new ≡ []) };
+}
+
+impl<W: Write> Holding for LineBuffer<W> {
+    ghost use Rattle.perflist.specs.Buffer.{held};
+
+    ghost waiting = { held };
+
+    fn let_go(&mut self) -> io::Result<()> {
+        self.flush()
     }
 }
 

@@ -1,4 +1,6 @@
 //! The cases of files and pipes: their lines, and how their reading ends.
+ghost use Rattle.std.specs.Prelude.{[]};
+
 mod attributes;
 mod build_ids;
 mod code_size;
@@ -15,12 +17,12 @@ mod simpleperf;
 mod slow;
 
 use crate::list::{ListCause, ListFault, list_file, settle};
-use crate::output::{LineBuffer, finish};
+use crate::output::{Holding, LineBuffer, finish};
 use image::{Image, Part};
 use linux_perf_data::source::{Counted, PlacedSource};
 use linux_perf_data::{Endianness, Error, PerfFileReader, ReadError};
 use std::alloc::{AllocError, Global};
-use std::io::{BufReader, Cursor, ErrorKind};
+use std::io::{BufReader, Cursor, ErrorKind, Write};
 use std::process::Abort;
 use std::test::Fail;
 
@@ -493,4 +495,12 @@ fn the_program_tells_a_fault(rt: HostRuntime) -> Result<(), Fail> {
     ends_with(&rt, cut, 2, "perflist: fault after 1 records\n")?;
     let bad = made(rt.alloc(), (8, 4, 0), &[Part::Head(9, 0, 7)])?;
     ends_with(&rt, &bad.bytes, 2, "perflist: fault after 0 records\n")
+}
+
+impl Holding for Vec<u8> {
+    ghost waiting = { λ _. [] };
+
+    fn let_go(&mut self) -> std::io::Result<()> {
+        self.flush()
+    }
 }

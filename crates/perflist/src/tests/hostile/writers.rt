@@ -1,12 +1,15 @@
 //! Writers that take so many bytes and then fail, or take none.
+ghost use Rattle.std.specs.Prelude.{[]};
+
 use super::super::image::Image;
 use super::super::jit::{End, FILE, end_of};
 use super::super::pipe::{TWO, little};
 use super::{first, traced};
 use crate::jit::list_jit;
 use crate::list::{list_file, list_pipe};
-use crate::output::{LineBuffer, write_line};
+use crate::output::{Holding, LineBuffer, write_line};
 use linux_perf_data::Endianness;
+use linux_perf_data::source::{Script, Source};
 use std::alloc::{AllocError, Global};
 use std::io::{Cursor, Error, ErrorKind, Write};
 use std::test::Fail;
@@ -37,6 +40,44 @@ impl Write for Front {
     fn flush(&mut self) -> std::io::Result<()> {
         self.flushes = self.flushes.saturating_add(1);
         Ok(())
+    }
+}
+
+impl Holding for Front {
+    ghost waiting = { λ _. [] };
+
+    fn let_go(&mut self) -> std::io::Result<()> {
+        self.flush()
+    }
+}
+
+/// Takes all, and refuses to let it go once it did so this often.
+#[derive(Drop)]
+struct Stuck {
+    taken: Vec<u8>,
+    goes: u64,
+}
+
+impl Write for Stuck {
+    fn write(&mut self, bytes: &[u8]) -> std::io::Result<usize> {
+        self.taken.extend_from_slice(bytes)?;
+        Ok(bytes.len())
+    }
+
+    fn flush(&mut self) -> std::io::Result<()> {
+        match self.goes.checked_sub(1) {
+            Some(left) => self.goes = left,
+            None => return Err(Error::from(ErrorKind::BrokenPipe)),
+        }
+        Ok(())
+    }
+}
+
+impl Holding for Stuck {
+    ghost waiting = { λ _. [] };
+
+    fn let_go(&mut self) -> std::io::Result<()> {
+        self.flush()
     }
 }
 
@@ -147,6 +188,65 @@ fn flushed(alloc: Global, room: usize) -> Result<(bool, u64, usize), Fail> {
 fn a_line_buffer_flushes_what_stands_behind_it(rt: HostRuntime) -> Result<(), Fail> {
     for (room, wanted) in [(4usize, (true, 1u64, 4usize)), (3, (false, 0, 3))] {
         assert_eq!(rt; flushed(rt.alloc(), room)?, wanted);
+    }
+    Ok(())
+}
+
+/// How often lines are let go in the listing of a pipe, and how many it tells.
+fn let_go_by<R: Source + Drop>(alloc: Global, source: R) -> (u64, (End, u64)) {
+    let mut out = Front {
+        taken: Vec::new(alloc),
+        room: 1000,
+        fault: None,
+        flushes: 0,
+    };
+    let end = end_of(list_pipe(alloc, source, &mut out));
+    (out.flushes, end)
+}
+
+#[test]
+fn lines_leave_before_the_pipe_may_wait(rt: HostRuntime) -> Result<(), Fail> {
+    let bytes = bytes_of(rt.alloc(), Input::Pipe)?;
+    // before the first record, whose head is kept, and before the end
+    assert_eq!(rt;
+        let_go_by(rt.alloc(), bytes.as_slice()),
+        (2, (End::Whole, 2))
+    );
+    // before each record and the end, of a source that shows nothing
+    let shown = bytes.len();
+    let none = Vec::new(rt.alloc());
+    let source = Script::new(bytes, shown, none, Vec::new(rt.alloc()));
+    assert_eq!(rt; let_go_by(rt.alloc(), source), (3, (End::Whole, 2)));
+    Ok(())
+}
+
+/// How the listing of a pipe ends into a writer that lets go this often, and what the writer took.
+fn held_back<R: Source + Drop>(alloc: Global, source: R, goes: u64) -> ((End, u64), Vec<u8>) {
+    let mut out = Stuck {
+        taken: Vec::new(alloc),
+        goes,
+    };
+    let end = end_of(list_pipe(alloc, source, &mut out));
+    (end, out.taken)
+}
+
+#[test]
+fn lines_that_may_not_leave_end_the_listing(rt: HostRuntime) -> Result<(), Fail> {
+    let text = b"0 0 - - 71 0 41\n49 0 20 0 9 2 8\n".as_slice();
+    let broken = End::Write(ErrorKind::BrokenPipe);
+    for (goes, end, length) in [
+        (0u64, (broken, 0u64), 0usize),
+        (1, (broken, 2), text.len()),
+        (2, (End::Whole, 2), text.len()),
+    ] {
+        let bytes = bytes_of(rt.alloc(), Input::Pipe)?;
+        let came = held_back(rt.alloc(), bytes.as_slice(), goes);
+        assert_eq!(rt; came.0, end, "{goes}");
+        assert_eq!(rt;
+            came.1.as_slice(),
+            text.get(..length).unwrap_or(&[]),
+            "{goes}"
+        );
     }
     Ok(())
 }
