@@ -1,5 +1,6 @@
 //! The attributes of a file or a pipe, with their names and their ids.
-ghost use Rattle.std.specs.Prelude.{◌≡◌, ◌+◌, IfSome};
+ghost use Rattle.std.specs.Prelude.{◌≡◌, ◌+◌, IfSome, length};
+ghost use Rattle.perfdata_sections.specs.AttributeDescription.{ids_in};
 ghost use Rattle.perfdata_table.specs.Attributes.{FileAttributes, PipeAttributes, TellsAttributes, attribute_at, has_name_in, name_bytes, no_totals};
 
 use crate::entry::{count, lay, put};
@@ -146,6 +147,15 @@ fn plus(a: u64, b: u64) -> Option<u64>
     Some(a + b)
 }
 
+// Where the name and the ids of an attribute end, in front of which so many bytes and so many ids stand, where numbers of 64 bits hold both.
+fn ends_of(of: &AttributeDescription, name_place: u64, ids_place: u64) -> Option<(u64, u64)>
+    ensures { IfSome result (λ ends. (ends.0 ≡ name_place + length (name_bytes of.now)) × (ends.1 ≡ ids_place + length (ids_in of.now))) }
+{
+    let names_end = plus(name_place, name_of(of).len() as u64)?;
+    let ids_end = plus(ids_place, of.ids().len() as u64)?;
+    Some((names_end, ids_end))
+}
+
 // Writes the entries of attributes, their names and their ids, as many of each as there is room for.
 fn tell(
     all: &[AttributeDescription],
@@ -161,17 +171,7 @@ fn tell(
     let mut ids_place = 0u64;
     'attributes: while index < all.len() {
         let of = &all[index];
-        let name = name_of(of);
-        let own = of.ids();
-        let Some(names_end) = plus(name_place, name.len() as u64) else {
-            return Totals {
-                attributes: index as u64,
-                names: name_place,
-                ids: ids_place,
-                status: MEMORY,
-            };
-        };
-        let Some(ids_end) = plus(ids_place, own.len() as u64) else {
+        let Some((names_end, ids_end)) = ends_of(of, name_place, ids_place) else {
             return Totals {
                 attributes: index as u64,
                 names: name_place,
@@ -185,8 +185,8 @@ fn tell(
             0,
             entry_of(of, name_place, ids_place),
         );
-        lay(names, name_place, name);
-        lay(ids, ids_place, own);
+        lay(names, name_place, name_of(of));
+        lay(ids, ids_place, of.ids());
         name_place = names_end;
         ids_place = ids_end;
         index += 1;

@@ -5,13 +5,15 @@ ghost use Rattle.std.specs.Io.KnownBytes.{Appends, Keeps, WriteAppends};
 ghost use Rattle.perflist.specs.Output.{Writes, Finishes, newlines};
 
 use crate::line::Line;
-use memchr::memchr_iter;
 use std::alloc::{AllocError, Global};
 use std::io;
 use std::io::{ErrorKind, Write};
 
 /// What a line buffer holds before it writes.
 const CAPACITY: usize = 65536;
+
+/// How many bytes are looked through for newlines at once.
+const COUNTED: usize = 128;
 
 /// Writes the bytes to the last, or as far as the writer takes them, and returns how many it took. It makes no write a
 /// second time. A write that takes none of some bytes is an error of kind `WriteZero`.
@@ -72,11 +74,30 @@ pub struct LineBuffer<W> {
     ghost counts: { lines_left < 2 ^ 64 },
 }
 
+/// How many lines end among a few bytes: so few that their number fits 8 bits, in which the compiler counts 16 bytes at once.
+fn few_newlines(bytes: &[u8]) -> u8
+    requires { length bytes.now ≤ 255 }
+    ensures { result ≡ newlines bytes.now }
+{
+    let mut lines = 0;
+    'bytes: for byte in bytes {
+        lines += (*byte == b'\n') as u8;
+    }
+    lines
+}
+
 /// How many lines end among the bytes.
 fn count_newlines(bytes: &[u8]) -> u64
     ensures { result ≡ newlines bytes.now }
 {
-    memchr_iter(b'\n', bytes).count() as u64
+    let mut lines = 0;
+    let mut left = bytes;
+    'pieces: while !left.is_empty() {
+        let (piece, behind) = left.split_at(left.len().min(COUNTED));
+        lines += few_newlines(piece) as u64;
+        left = behind;
+    }
+    lines
 }
 
 /// Takes the first bytes away.

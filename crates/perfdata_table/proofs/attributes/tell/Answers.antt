@@ -9,11 +9,6 @@ returns-in_default c =
     let inv = c.attributes.invariant in
     tells_front c.args.all.now c.args.status c.args.entries.now c.attributes.entries c.args.names.now c.args.ids.now c.attributes.names c.attributes.ids c.attributes.index c.attributes.name_place c.attributes.ids_place inv.within inv.names_count inv.ids_count inv.writes
 
-pub returns-in_default-plus : goal.returns-in_default-plus
-returns-in_default-plus c =
-    let inv = c.attributes.invariant in
-    tells_front c.args.all.now c.args.status c.args.entries.now c.attributes.entries c.args.names.now c.args.ids.now c.attributes.names c.attributes.ids c.attributes.index c.attributes.name_place c.attributes.ids_place inv.within inv.names_count inv.ids_count inv.writes
-
 pub attributes-preserved : goal.attributes-preserved
 attributes-preserved c =
     let all = c.args.all.now in
@@ -25,15 +20,15 @@ attributes-preserved c =
     let front : take (index + 1) all ≡ told ++ d ∷ [] = told_front all index d test c.index-all-index.is in
     let names_told = inv.names_count in
     let ids_told = inv.ids_count in
-    let name = c.name_of-name.ensures in
-    let own = c.ids-own.ensures in
-    let names_end = c.in-Some.ensures in
-    let ids_end = c.in-Some-plus.ensures in
+    let name = c.name_of.ensures in
+    let own = c.ids.ensures in
+    let names_end = c.in-Some.ensures.0 in
+    let ids_end = c.in-Some.ensures.1 in
     record {
       within = omega (arith, test);
-      names_count = omega (arith, names_end, names_told, names_more told d, ap length name, ap (λ l. length (names_in l)) front);
-      ids_count = omega (arith, ids_end, ids_told, ids_more told d, ap length own, ap (λ l. length (all_ids l)) front);
+      names_count = omega (arith, names_end, names_told, names_more told d, ap (λ l. length (names_in l)) front);
+      ids_count = omega (arith, ids_end, ids_told, ids_more told d, ap (λ l. length (all_ids l)) front);
       writes = subst (λ l. Writes l c.args.entries.now c.args.names.now c.args.ids.now c.put.new.array c.lay.new.array c.lay-in-attributes.new.array) (sym front)
           (writes_more told d c.args.entries.now c.attributes.entries c.put.new.array c.args.names.now c.args.ids.now c.attributes.names c.attributes.ids c.lay.new.array c.lay-in-attributes.new.array
-          index c.attributes.name_place c.attributes.ids_place c.entry_of.result c.name_of-name.result.now c.ids-own.result.now inv.writes (sym (length-take-le index all inv.within)) names_told ids_told c.entry_of.ensures name own c.put.ensures c.lay.ensures c.lay-in-attributes.ensures);
+          index c.attributes.name_place c.attributes.ids_place c.entry_of.result c.name_of.result.now c.ids.result.now inv.writes (sym (length-take-le index all inv.within)) names_told ids_told c.entry_of.ensures name own c.put.ensures c.lay.ensures c.lay-in-attributes.ensures);
     }
