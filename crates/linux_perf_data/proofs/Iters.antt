@@ -131,19 +131,19 @@ module _ {R : Type 0} (seen : R → State) where
       (piece_next old new head t (marker_piece old.endian (bound_of seen old) t.piece t.is_record kind) more rest attrs rs e (subst (λ a. ToComeOf new rest a rs e) same come))
 
   -- a record as the layout and as the code have it
-  same_record : (old new : PerfRecordIter R) (head : PerfEventHeader) (found : Found) (t : TookPiece seen old head new) → head.type_ ≢ 68 → FindsRecord new.known old.offset old.round head new.body.items found → (attrs : List Attribute) → Knows new.endian new.known attrs
-      → handed_at old.endian old.offset old.round attrs t.piece ≡ found_with found new.endian new.body.items
-  same_record old new head found t other finds attrs k =
+  same_record : (old new : PerfRecordIter R) (head : PerfEventHeader) (found : Found) (known : Known) (t : TookPiece seen old head new) → head.type_ ≢ 68 → FindsRecord new.known old.offset old.round head new.body.items found known → (attrs : List Attribute)
+      → Knows new.endian new.known attrs → handed_at old.endian old.offset old.round attrs t.piece ≡ found_with known found new.endian new.body.items
+  same_record old new head found known t other finds attrs k =
       let with' : Endianness → ℕ → ℕ → List ℕ → Handed = λ o kind misc body. handed_with o old.offset old.round attrs kind misc body in
       let p = t.piece in
       ap (λ n. with' old.endian n (misc_of old.endian p) (drop 8 p)) t.kind ∙ ap (λ m. with' old.endian head.type_ m (drop 8 p)) t.misc ∙ ap (λ b. with' old.endian head.type_ head.misc b) (sym (t.held other))
       ∙ ap (λ o. with' o head.type_ head.misc new.body.items) (sym t.same.order) ∙ sym (finds.is new.endian attrs k)
 
-  record_next : (old new : PerfRecordIter R) (head : PerfEventHeader) (found : Found) (t : TookPiece seen old head new) → IsPiece old.endian (bound_of seen old) t.piece → head.type_ ≢ 68 → FindsRecord new.known old.offset old.round head new.body.items found
+  record_next : (old new : PerfRecordIter R) (head : PerfEventHeader) (found : Found) (known : Known) (t : TookPiece seen old head new) → IsPiece old.endian (bound_of seen old) t.piece → head.type_ ≢ 68 → FindsRecord new.known old.offset old.round head new.body.items found known
       → Begins (bound_of seen old) old.offset → (rest : List ℕ) (attrs : List Attribute) → Knows new.endian new.known attrs → (rs : List Handed) (e : End) → ToComeOf new rest (attrs ++ brought_by old new head t) rs e
-      → ToComeOf old (t.piece ++ rest) attrs (found_with found new.endian new.body.items ∷ rs) e
-  record_next old new head found t is other finds more rest attrs k rs e come =
-      subst (λ h. ToComeOf old (t.piece ++ rest) attrs (h ∷ rs) e) (same_record old new head found t other finds attrs k)
+      → ToComeOf old (t.piece ++ rest) attrs (found_with known found new.endian new.body.items ∷ rs) e
+  record_next old new head found known t is other finds more rest attrs k rs e come =
+      subst (λ h. ToComeOf old (t.piece ++ rest) attrs (h ∷ rs) e) (same_record old new head found known t other finds attrs k)
       (subst (λ b. ToComeOf old (t.piece ++ rest) attrs (if b then rs else handed_at old.endian old.offset old.round attrs t.piece ∷ rs) e) (ne_eqb head.type_ 68 other) (piece_next old new head t is more rest attrs rs e come))
 
   come_after : (piece new : PerfRecordIter R) → IsAfter seen piece new → (bytes : List ℕ) (attrs : List Attribute) (rs : List Handed) (e : End) → ToComeOf new bytes attrs rs e → ToComeOf piece bytes attrs rs e
@@ -220,7 +220,7 @@ module _ {R : Type 0} (seen : R → State) where
 
   -- `piece` is the iterator that took the record's piece, and `new` is the same, after the record was found and taken in
   pub hands_out : (old now piece new : PerfRecordIter R) (file file' : PerfFile) (head : PerfEventHeader) (found : Found) → Idles old now → TookPiece seen now head piece → head.type_ ≢ 68 → Begins (bound_of seen now) now.offset
-      → TookRecord seen piece file now.offset now.round head found new file' → HandsOut seen old file (found_with found new.endian new.body.items) new file'
+      → TookRecord seen piece file now.offset now.round head found new file' → HandsOut seen old file (found_with new.known found new.endian new.body.items) new file'
   hands_out old now piece new file file' head found i t other more took =
       let after = took.after in
       let finds = took.finds in
@@ -229,11 +229,11 @@ module _ {R : Type 0} (seen : R → State) where
       let same : SameInput seen old new = record { order = after.order ∙ same_piece.order; bound = ap bound_in after.input ∙ same_piece.bound } in
       let least = record_least now.endian t.piece t.is_record in
       let split : take 8 t.piece ++ new.body.items ≡ t.piece = ap (λ b. take 8 t.piece ++ b) held ∙ take-append-drop 8 t.piece in
-      let h = found_with found new.endian new.body.items in
+      let h = found_with new.known found new.endian new.body.items in
       let brings : attributes_of old.endian (bound_of seen old) h.kind h.body ≡ brought_by now piece head t = same_brought old now piece head i t other h.kind h.body finds.kind after.body in
       let knows_piece = λ (attrs : List Attribute) (k : Knows old.endian old.known attrs). still_knows old piece attrs same_piece (t.known ∙ i.known) k in
       let all : Gave (view seen old) (i.markers ++ t.piece) (view seen new) = subst (λ s. Gave (view seen old) (i.markers ++ t.piece) s) (sym (view_after piece new after)) (gave_more _ _ _ i.markers t.piece i.gave t.gave) in
-      let same_found : found_with found piece.endian piece.body.items ≡ h = ap (λ o. found_with found o piece.body.items) (sym after.order) ∙ ap (found_with found new.endian) (sym after.body) in
+      let same_found : found_with new.known found piece.endian piece.body.items ≡ h = ap (λ o. found_with new.known found o piece.body.items) (sym after.order) ∙ ap (found_with new.known found new.endian) (sym after.body) in
       record {
         ran = i.ran;
         runs = took.running ∙ t.running ∙ i.runs;
@@ -246,7 +246,7 @@ module _ {R : Type 0} (seen : R → State) where
             (λ rest c. subst (λ l. ToComeOf old l attrs (h ∷ rs) e) (sym (append_assoc i.markers t.piece rest))
             (i.before (t.piece ++ rest) attrs (h ∷ rs) e
             (subst (λ x. ToComeOf now (t.piece ++ rest) attrs (x ∷ rs) e) same_found
-            (record_next now piece head found t (record_piece now piece new file file' now.offset now.round head found t other took) other finds more rest attrs (knows_piece attrs k) rs e
+            (record_next now piece head found new.known t (record_piece now piece new file file' now.offset now.round head found t other took) other finds more rest attrs (knows_piece attrs k) rs e
             (come_after piece new after rest (attrs ++ brought_by now piece head t) rs e (subst (λ l. ToComeOf new rest (attrs ++ l) rs e) brings c))))))
             come;
         own = λ pipe metadata attrs k.

@@ -17,7 +17,7 @@ use Rattle.linux_perf_data.specs.Described.{attribute_by, attributes_by, all_pla
 use Rattle.linux_perf_data.specs.IdTable.{found}
 use Rattle.linux_perf_data.specs.Pairs.{last_listing}
 use Rattle.linux_perf_data.specs.Indices.{TableBelow}
-use Rattle.linux_perf_data.specs.Known.{Knows}
+use Rattle.linux_perf_data.specs.Known.{Knows, event_at}
 use Rattle.linux_perf_data.proofs.Ids.{greatest_listed, listed_within}
 
 -- one identifier's answer is put, and a cache still tells what holds of each answer
@@ -51,14 +51,14 @@ first_more [] d some is = absurd (omega (arith, some))
 first_more (x ∷ ds) d some is = ap (λ y. attribute_by y ∷ attributes_by ds) (sym is)
 
 place_there : (order : Endianness) (attrs : List Attribute) (n i : ℕ) (d : RecordParseInfo) → i < length attrs
-    → option_map {U = Event} (λ a. record { index = n; places = places_of a.attr order }) (slice_get attrs i) ≡ Some (record { index = n; places = get_or (all_places order attrs) i d })
+    → option_map {U = Event} (λ a. record { index = n; places = places_of a.attr order }) (slice_get attrs i) ≡ Some (record { index = n; places = unwrap_or (slice_get (all_places order attrs) i) d })
 place_there order [] n i d inside = absurd (omega (arith, inside))
 place_there order (a ∷ attrs) n zero d inside = refl
 place_there order (a ∷ attrs) n (suc i) d inside = place_there order attrs n i d (omega (arith, inside))
 
 -- a record of the kernel has the attribute of this index, with its places
 event_there : (order : Endianness) (attrs : List Attribute) (kind : ℕ) (body : List ℕ) (i : ℕ) (d : RecordParseInfo) → kind < 64 → index_of order attrs kind body ≡ i → i < length attrs
-    → event_of order attrs kind body ≡ Some (record { index = i; places = get_or (all_places order attrs) i d })
+    → event_of order attrs kind body ≡ Some (record { index = i; places = unwrap_or (slice_get (all_places order attrs) i) d })
 event_there order attrs kind body i d kernel at inside =
     cond-true (nat_lt kind 64) (option_map {U = Event} (λ a. record { index = index_of order attrs kind body; places = places_of a.attr order }) (slice_get attrs (index_of order attrs kind body))) None (lt-ltb kind 64 kernel)
     ∙ ap (λ n. option_map {U = Event} (λ a. record { index = n; places = places_of a.attr order }) (slice_get attrs n)) at ∙ place_there order attrs i i d inside
@@ -68,17 +68,53 @@ index_several : (order : Endianness) (first : Attribute) (more : List Attribute)
 index_several order first [] kind body id several is = absurd (several refl)
 index_several order first (b ∷ rest) kind body id several is = ap (λ o. greatest_or_first o (first ∷ b ∷ rest)) is
 
+index_one : (order : Endianness) (first : Attribute) (more : List Attribute) (kind : ℕ) (body : List ℕ) → length (first ∷ more) ≡ 1 → index_of order (first ∷ more) kind body ≡ 0
+index_one order first [] kind body one = refl
+index_one order first (b ∷ rest) kind body one = absurd (omega (arith, one))
+
+index_without : (order : Endianness) (first : Attribute) (more : List Attribute) (kind : ℕ) (body : List ℕ) → identifier_of order (id_places_of first.attr) kind body ≡ None → index_of order (first ∷ more) kind body ≡ 0
+index_without order first [] kind body is = refl
+index_without order first (b ∷ rest) kind body is = ap (λ o. greatest_or_first o (first ∷ b ∷ rest)) is
+
+-- the attribute of this index, as it is known
+event_known : (order : Endianness) (k : Known) (attrs : List Attribute) (kind : ℕ) (body : List ℕ) (i : ℕ) → Knows order k attrs → kind < 64 → index_of order attrs kind body ≡ i → i < length k.places.items
+    → event_of order attrs kind body ≡ Some (event_at k i)
+event_known order k attrs kind body i knows kernel at inside =
+    let count : length k.places.items ≡ length attrs = ap length knows.places ∙ all_counted order attrs in
+    event_there order attrs kind body i k.first kernel at (omega (arith, inside, count))
+    ∙ ap (λ l. Some (record { index = i; places = unwrap_or (slice_get l i) k.first })) (sym knows.places)
+
+places_some : (order : Endianness) (k : Known) (attrs : List Attribute) → Knows order k attrs → 0 < length k.places.items
+places_some order k attrs knows = (let count = ap length knows.places ∙ all_counted order attrs ∙ ap length knows.are in omega (arith, count))
+
+-- of one attribute, that one
+pub told_one : (order : Endianness) (k : Known) (attrs : List Attribute) (kind : ℕ) (body : List ℕ) → Knows order k attrs → kind < 64 → length k.places.items ≡ 1 → event_of order attrs kind body ≡ Some (event_at k 0)
+told_one order k attrs kind body knows kernel one =
+    let count : length k.places.items ≡ length (knows.first ∷ knows.more) = ap length knows.places ∙ all_counted order attrs ∙ ap length knows.are in
+    let at : index_of order attrs kind body ≡ 0 = ap (λ l. index_of order l kind body) knows.are ∙ index_one order knows.first knows.more kind body (sym count ∙ one) in
+    event_known order k attrs kind body 0 knows kernel at (places_some order k attrs knows)
+
+-- where no identifier is told, the first
+pub told_first : (order : Endianness) (k : Known) (attrs : List Attribute) (kind : ℕ) (body : List ℕ) → Knows order k attrs → kind < 64 → identifier_of k.first.endian k.first.id_parse_info kind body ≡ None → event_of order attrs kind body ≡ Some (event_at k 0)
+told_first order k attrs kind body knows kernel is =
+    let none : identifier_of order (id_places_of knows.first.attr) kind body ≡ None = ap (λ p. identifier_of p.endian p.id_parse_info kind body) (sym knows.front) ∙ is in
+    let at : index_of order attrs kind body ≡ 0 = ap (λ l. index_of order l kind body) knows.are ∙ index_without order knows.first knows.more kind body none in
+    event_known order k attrs kind body 0 knows kernel at (places_some order k attrs knows)
+
 -- of several attributes, that of the identifier
-pub told_event : (order : Endianness) (k : Known) (attrs : List Attribute) (kind : ℕ) (body : List ℕ) (id i : ℕ) (places : RecordParseInfo) → Knows order k attrs → kind < 64 → length k.places.items ≢ 1
-    → identifier_of k.first.endian k.first.id_parse_info kind body ≡ Some id → i ≡ greatest id 0 0 attrs → i < length k.places.items → places ≡ get_or k.places.items i places
-    → event_of order attrs kind body ≡ Some (record { index = i; places = places })
-told_event order k attrs kind body id i places knows kernel several is answer inside there =
+pub told_event : (order : Endianness) (k : Known) (attrs : List Attribute) (kind : ℕ) (body : List ℕ) (id i : ℕ) → Knows order k attrs → kind < 64 → length k.places.items ≢ 1
+    → identifier_of k.first.endian k.first.id_parse_info kind body ≡ Some id → i ≡ greatest id 0 0 attrs → i < length k.places.items → event_of order attrs kind body ≡ Some (event_at k i)
+told_event order k attrs kind body id i knows kernel several is answer inside =
     let count : length k.places.items ≡ length attrs = ap length knows.places ∙ all_counted order attrs in
     let id_is : identifier_of order (id_places_of knows.first.attr) kind body ≡ Some id = ap (λ p. identifier_of p.endian p.id_parse_info kind body) (sym knows.front) ∙ is in
     let at : index_of order (knows.first ∷ knows.more) kind body ≡ i =
     index_several order knows.first knows.more kind body id (λ one. several (count ∙ ap length knows.are ∙ one)) id_is ∙ ap (greatest id 0 0) (sym knows.are) ∙ sym answer in
-    event_there order attrs kind body i places kernel (ap (λ l. index_of order l kind body) knows.are ∙ at) (omega (arith, inside, count))
-    ∙ sym (ap (λ p. Some (record { index = i; places = p })) (there ∙ ap (λ l. get_or l i places) knows.places))
+    event_known order k attrs kind body i knows kernel (ap (λ l. index_of order l kind body) knows.are ∙ at) inside
+
+-- what is known of the attributes' places alone tells an event
+pub event_same : (old new : Known) (i : ℕ) → new.places ≡ old.places → new.first ≡ old.first → event_at old i ≡ event_at new i
+event_same old new i places first =
+    ap (λ v. record { index = i; places = unwrap_or (slice_get v.items i) old.first }) (sym places) ∙ ap (λ f. record { index = i; places = unwrap_or (slice_get new.places.items i) f }) (sym first)
 
 -- the table's indices are those of attributes
 pub table_below : (t : IdTable) (attrs : List Attribute) (n : ℕ) → length attrs ≡ n → ((id : ℕ) → found t id ≡ last_listing id 0 attrs) → TableBelow t n

@@ -16,16 +16,18 @@ use Rattle.perfdata_sections.specs.EventDesc.{NoEventDesc}
 use Rattle.perfdata_sections.proofs.EventFronts.{told_or_refused}
 use Rattle.linux_perf_data.specs.declared.iter.PerfRecordIter.{PerfRecordIter}
 use Rattle.linux_perf_data.specs.declared.iter.Found.{Found}
+use Rattle.linux_perf_data.specs.declared.iter.Writer.{Writer}
+use Rattle.linux_perf_data.specs.declared.iter.Writer.TheVariants.{Kernel, Tool}
 use Rattle.linux_perf_data.specs.declared.known.Known.{Known}
 use Rattle.linux_perf_data.specs.declared.perf_file.PerfFile.{PerfFile}
-use Rattle.linux_perf_data.specs.Attribute.{Attribute, HoldsAttribute}
-use Rattle.linux_perf_data.specs.Known.{Knows, StillKnows}
-use Rattle.linux_perf_data.specs.Layout.{Bound, IsRecord, IsPiece, Fronts, Fault, bad_metadata, cut_metadata, small_attribute, bad_names, unruly, FaultAt, kind_of, attributes_of}
+use Rattle.linux_perf_data.specs.Attribute.{Attribute, Event, HoldsAttribute}
+use Rattle.linux_perf_data.specs.Known.{Knows, StillKnows, places_at}
+use Rattle.linux_perf_data.specs.Layout.{Bound, Handed, IsRecord, IsPiece, Fronts, Fault, bad_metadata, cut_metadata, small_attribute, bad_names, unruly, FaultAt, kind_of, attributes_of}
 use Rattle.linux_perf_data.specs.Names.{TellsNames, Named, event_desc, feature_of}
 use Rattle.linux_perf_data.specs.PerfFile.{descriptions_of, data_of}
 use Rattle.linux_perf_data.specs.Late.{IsMetadata, FileTook, HasContents, SameCount, TookIn, Declined, TakesNot, Passed}
 use Rattle.linux_perf_data.specs.Piece.{Answers, WantsMemory}
-use Rattle.linux_perf_data.specs.Iter.{bound_of, IsAfter, FindsRecord, TookRecord, DeclinedRecord}
+use Rattle.linux_perf_data.specs.Iter.{bound_of, event_by, index_by, kind_by, order_by, IsAfter, FindsRecord, TookRecord, DeclinedRecord}
 use Rattle.linux_perf_data.proofs.Heads.{extent_plain}
 
 -- an EVENT_DESC that was taken in can be read
@@ -132,23 +134,50 @@ wants_memory order kind p is same contents =
       size = omega (arith, long, left, some);
     }
 
+plain_kernel : (kind : ℕ) → kind < 64 → ¬ IsMetadata kind
+plain_kernel kind kernel (inl is) = absurd (omega (arith, kernel, is))
+plain_kernel kind kernel (inr is) = absurd (omega (arith, kernel, is))
+
+-- a record's event and order stay where what is known stays, or where no kernel wrote it
+same_event : (k k' : Known) (w : Writer) → ((i : ℕ) → w ≡ Kernel i → k' ≡ k) → event_by (places_at k' (index_by w)) w ≡ event_by (places_at k (index_by w)) w
+same_event k k' (Kernel i) same = ap (λ x. Some (record { index = i; places = places_at x i })) (same i refl)
+same_event k k' (Tool t) same = refl
+
+same_order : (k k' : Known) (w : Writer) (order : Endianness) → ((i : ℕ) → w ≡ Kernel i → k' ≡ k) → order_by (places_at k' (index_by w)) w order ≡ order_by (places_at k (index_by w)) w order
+same_order k k' (Kernel i) order same = ap (λ x. (places_at x i).endian) (same i refl)
+same_order k k' (Tool t) order same = refl
+
+-- a record that was found is still so after metadata was taken in
+finds_later : (old known new : Known) (offset round : ℕ) (head : PerfEventHeader) (body : List ℕ) (found : Found) → (head.type_ < 64 → new ≡ known) → FindsRecord old offset round head body found known → FindsRecord old offset round head body found new
+finds_later old known new offset round head body found stays finds =
+    let same = λ (i : ℕ) (is : found.writer ≡ Kernel i). stays (finds.kernel i is) in
+    let with' : Endianness → Option Event → List ℕ → Handed = λ o e b. record { offset = found.place.offset; round = found.place.round; kind = kind_by found.writer found.record_type.0; misc = found.misc; order = o; body = b; event = e; time = found.place.timestamp } in
+    record {
+      place = finds.place;
+      kind = finds.kind;
+      kernel = finds.kernel;
+      is = λ order attrs k.
+          ap (λ o. with' o (event_by (places_at new (index_by found.writer)) found.writer) body) (same_order known new found.writer order same)
+          ∙ ap (λ e. with' (order_by (places_at known (index_by found.writer)) found.writer order) e body) (same_event known new found.writer same) ∙ finds.is order attrs k;
+    }
+
 module _ {R : Type 0} (seen : R → State) where
   -- a pipe's record was taken in
   pub took_record : (old new : PerfRecordIter R) (file file' : PerfFile) (offset round : ℕ) (head : PerfEventHeader) (found : Found) (known : Known) (body : List ℕ) → body ≡ old.body.items → bound_of seen old ≡ None
-      → FindsRecord old.known offset round head body found → StillKnows old.known known → TookIn old.endian known file head.type_ body new.known file' → ((¬ IsMetadata head.type_) → file' ≡ file) → IsAfter seen old new → new.stage ≡ old.stage
+      → FindsRecord old.known offset round head body found known → StillKnows old.known known → TookIn old.endian known file head.type_ body new.known file' → ((¬ IsMetadata head.type_) → (new.known ≡ known) × (file' ≡ file)) → IsAfter seen old new → new.stage ≡ old.stage
       → TookRecord seen old file offset round head found new file'
   took_record old new file file' offset round head found known body is pipe finds learns took others after running =
       let took' : TookIn old.endian known file head.type_ old.body.items new.known file' = subst (λ b. TookIn old.endian known file head.type_ b new.known file') is took in
       record {
         after = after;
         running = running;
-        finds = subst (λ b. FindsRecord old.known offset round head b found) is finds;
+        finds = subst (λ b. FindsRecord old.known offset round head b found new.known) is (finds_later old.known known new.known offset round head body found (λ kernel. (others (plain_kernel head.type_ kernel)).0) finds);
         knows = λ attrs k. subst (λ b. Knows old.endian new.known (attrs ++ attributes_of old.endian b head.type_ old.body.items)) (sym pipe) (took'.knows attrs (learns old.endian attrs k));
         attribute = λ _ kind. took'.attribute kind;
         feature = λ _ kind. took'.feature kind;
         count = λ _ metadata attrs k. took'.count metadata attrs (learns old.endian attrs k);
         took = subst (λ b. FileTook old.endian b head.type_ old.body.items file file') (sym pipe) took'.took;
-        other = λ why. elim why [ inl file ↦ absurd (file pipe) | inr isnt ↦ others isnt ];
+        other = λ why. elim why [ inl file ↦ absurd (file pipe) | inr isnt ↦ (others isnt).1 ];
       }
 
   -- what isn't taken in at what is known now wasn't at what was known before

@@ -5,6 +5,7 @@ use Rattle.perfdata_base.specs.Numbers.{number_in}
 use Rattle.perfdata_base.specs.Raw.{bytes_of}
 use Rattle.perfdata_base.specs.declared.raw.Endianness.{Endianness}
 use Rattle.perfdata_base.specs.declared.event.PerfEventHeader.{PerfEventHeader}
+use Rattle.perfdata_base.specs.declared.place.RecordParseInfo.{RecordParseInfo}
 use Rattle.perfdata_sections.specs.declared.error.Error.{Error}
 use Rattle.perfdata_sections.specs.declared.error.Error.TheVariants as error
 use Rattle.perfdata_records.specs.declared.record.PerfFileRecord.{PerfFileRecord}
@@ -25,7 +26,7 @@ use Rattle.linux_perf_data.specs.Input.{KeepsNone, bound_in, view_in}
 use Rattle.linux_perf_data.specs.Late.{HasContents, IsMetadata, FileTook, Passed, SameFile, TakesNot, SameCount}
 use Rattle.linux_perf_data.specs.Names.{event_desc}
 use Rattle.linux_perf_data.specs.PerfFile.{descriptions_of, data_of}
-use Rattle.linux_perf_data.specs.Known.{Knows, event_found}
+use Rattle.linux_perf_data.specs.Known.{Knows, places_at}
 use Rattle.linux_perf_data.specs.Layout.{Bound, Begins, IsEnd, IsRecord, AreMarkers, kind_of, misc_of, Handed, End, whole, faulty, Fault, ToCome, handed_with, attributes_of, brought}
 use Rattle.linux_perf_data.specs.Pauses.{PausesNext}
 use Rattle.linux_perf_data.specs.Piece.{RefusedAt, CameWithin, CutAt, CutBehindHead, Answers, SourceOwes, WantsMemory}
@@ -53,36 +54,46 @@ handed_of p (UserRecord r) = record {
   time = p.timestamp;
 }
 
-abbrev pub event_by : Writer → Option Event
-event_by (Kernel e) = Some (event_found e)
-event_by (Tool t) = None
+-- the attribute of a record; 0 where a tool wrote it
+abbrev pub index_by : Writer → ℕ
+index_by (Kernel index) = index
+index_by (Tool t) = 0
+
+abbrev pub event_by : RecordParseInfo → Writer → Option Event
+event_by places (Kernel index) = Some (record { index = index; places = places })
+event_by places (Tool t) = None
 
 abbrev pub kind_by : Writer → ℕ → ℕ
-kind_by (Kernel e) kind = kind
+kind_by (Kernel index) kind = kind
 kind_by (Tool t) kind = type_of t
 
-abbrev pub order_by : Writer → Endianness → Endianness
-order_by (Kernel e) order = e.places.endian
-order_by (Tool t) order = order
+abbrev pub order_by : RecordParseInfo → Writer → Endianness → Endianness
+order_by places (Kernel index) order = places.endian
+order_by places (Tool t) order = order
 
--- a record that was found, with the order of its input and the body that is held
-abbrev pub found_with : Found → Endianness → List ℕ → Handed
-found_with f order body = record {
+-- a record that was found, with the places of its attribute, the order of its input and the body that is held
+abbrev pub found_at : RecordParseInfo → Found → Endianness → List ℕ → Handed
+found_at places f order body = record {
   offset = f.place.offset;
   round = f.place.round;
   kind = kind_by f.writer f.record_type.0;
   misc = f.misc;
-  order = order_by f.writer order;
+  order = order_by places f.writer order;
   body = body;
-  event = event_by f.writer;
+  event = event_by places f.writer;
   time = f.place.timestamp;
 }
 
--- the record of a head that isn't a marker's is found as the attributes tell
-pub record FindsRecord (known : Known) (offset round : ℕ) (head : PerfEventHeader) (body : List ℕ) (found : Found) : Type 0 where
+-- the same, by what is known of the attributes
+abbrev pub found_with : Known → Found → Endianness → List ℕ → Handed
+found_with known f order body = found_at (places_at known (index_by f.writer)) f order body
+
+-- the record of a head that isn't a marker's is found as the attributes tell, by what is known of them then
+pub record FindsRecord (old : Known) (offset round : ℕ) (head : PerfEventHeader) (body : List ℕ) (found : Found) (new : Known) : Type 0 where
   pub place : found.place.offset ≡ offset
   pub kind : kind_by found.writer found.record_type.0 ≡ head.type_
-  pub is : (order : Endianness) (attrs : List Attribute) → Knows order known attrs → found_with found order body ≡ handed_with order offset round attrs head.type_ head.misc body
+  pub kernel : (index : ℕ) → found.writer ≡ Kernel index → head.type_ < 64
+  pub is : (order : Endianness) (attrs : List Attribute) → Knows order old attrs → found_with new found order body ≡ handed_with order offset round attrs head.type_ head.misc body
 
 -- a record may begin here
 abbrev pub MayBegin : Bound → ℕ → Bool → Type 0
@@ -166,7 +177,7 @@ module _ {R : Type 0} (seen : R → State) where
   pub record TookRecord (old : PerfRecordIter R) (file : PerfFile) (offset round : ℕ) (head : PerfEventHeader) (found : Found) (new : PerfRecordIter R) (file' : PerfFile) : Type 0 where
     pub after : IsAfter old new
     pub running : new.stage ≡ old.stage
-    pub finds : FindsRecord old.known offset round head old.body.items found
+    pub finds : FindsRecord old.known offset round head old.body.items found new.known
     pub knows : (attrs : List Attribute) → Knows old.endian old.known attrs → Knows old.endian new.known (attrs ++ attributes_of old.endian (bound_of old) head.type_ old.body.items)
     pub attribute : bound_of old ≡ None → head.type_ ≡ 64 → HoldsAttribute old.endian old.body.items
     pub feature : bound_of old ≡ None → head.type_ ≡ 80 → 8 ≤ length old.body.items
@@ -299,7 +310,7 @@ module _ {R : Type 0} (seen : R → State) where
     pub kept : SameFile file file'
 
   abbrev pub Advances : PerfRecordIter R → PerfFile → Result (Option Found) Error → PerfRecordIter R → PerfFile → Type 0
-  Advances old file (Ok (Some f)) new file' = HandsOut old file (found_with f new.endian new.body.items) new file'
+  Advances old file (Ok (Some f)) new file' = HandsOut old file (found_with new.known f new.endian new.body.items) new file'
   Advances old file (Ok None) new file' = AtEnd old file new file'
   Advances old file (Err e) new file' = Refuses old file e new file'
 

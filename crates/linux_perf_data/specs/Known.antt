@@ -1,14 +1,14 @@
 -- What an iterator keeps of the attributes that its input has.
-use Rattle.std.specs.Prelude.{◌≡◌, ◌⊎◌, ℕ, ◌<◌, List, [], ◌∷◌, ◌++◌, Some, Result, Ok, Err}
+use Rattle.std.specs.Prelude.{◌≡◌, ◌⊎◌, ℕ, ◌<◌, List, [], ◌∷◌, ◌++◌, slice_get, Some, Result, Ok, Err}
 use Rattle.std.specs.Option.{unwrap_or}
 use Rattle.perfdata_base.specs.Place.{places_of}
 use Rattle.perfdata_base.specs.IdCache.{cached}
 use Rattle.perfdata_base.specs.declared.attr.PerfEventAttr.{PerfEventAttr}
+use Rattle.perfdata_base.specs.declared.place.RecordParseInfo.{RecordParseInfo}
 use Rattle.perfdata_base.specs.declared.raw.Endianness.{Endianness}
 use Rattle.perfdata_sections.specs.declared.error.Error.{Error}
 use Rattle.perfdata_sections.specs.declared.error.Error.TheVariants.{Memory}
 use Rattle.linux_perf_data.specs.declared.known.Known.{Known}
-use Rattle.linux_perf_data.specs.declared.known.FoundEvent.{FoundEvent}
 use Rattle.linux_perf_data.specs.Attribute.{Attribute, Breach, Breaks, Event, Rule, greatest, event_of}
 use Rattle.linux_perf_data.specs.Described.{all_places}
 use Rattle.linux_perf_data.specs.IdTable.{found}
@@ -33,16 +33,20 @@ abbrev pub KnowsAll : Endianness → List Attribute → Result Known Error → T
 KnowsAll order attrs (Ok k) = Knows order k attrs
 KnowsAll order attrs (Err e) = e ≡ Memory
 
-abbrev pub event_found : FoundEvent → Event
-event_found e = record { index = e.index; places = e.places }
+-- where the numbers of the records of the attribute with this index stand
+abbrev pub places_at : Known → ℕ → RecordParseInfo
+places_at k index = unwrap_or (slice_get k.places.items index) k.first
+
+abbrev pub event_at : Known → ℕ → Event
+event_at k index = record { index = index; places = places_at k index }
 
 -- the index that is told of an identifier is the one that the attributes give
 abbrev pub TellsIndex : Known → ℕ → ℕ → Type 0
 TellsIndex k id index = (order : Endianness) (attrs : List Attribute) → Knows order k attrs → index ≡ greatest id 0 0 attrs
 
--- the attribute that is told of a kernel record is the one that the attributes give
-abbrev pub TellsEvent : Known → ℕ → List ℕ → FoundEvent → Type 0
-TellsEvent k kind body found = (order : Endianness) (attrs : List Attribute) → Knows order k attrs → kind < 64 → event_of order attrs kind body ≡ Some (event_found found)
+-- the attribute whose index is told of a kernel record is the one that the attributes give, and its places are known then
+abbrev pub TellsEvent : Known → ℕ → List ℕ → ℕ → Known → Type 0
+TellsEvent old kind body index new = (order : Endianness) (attrs : List Attribute) → Knows order old attrs → kind < 64 → event_of order attrs kind body ≡ Some (event_at new index)
 
 -- all that was known is known still
 abbrev pub StillKnows : Known → Known → Type 0

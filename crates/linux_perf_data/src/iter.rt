@@ -5,11 +5,12 @@ ghost use Rattle.linux_perf_data.specs.Pauses.{PausesNext};
 
 use crate::at_hand::{holds_record, keeps_none};
 use crate::input::{Input, cut};
-use crate::known::{FoundEvent, Known};
+use crate::known::Known;
 use crate::late::take_in;
 use crate::perf_file::PerfFile;
 use crate::piece::{HEAD, end_of, pass_body, read_content, read_head};
 use perfdata_base::event::{PerfEventHeader, RawEventRecord, RecordType};
+use perfdata_base::place::RecordParseInfo;
 use perfdata_base::raw::{Endianness, RawData};
 use perfdata_base::source::Source;
 use perfdata_parts::constants::PERF_RECORD_FINISHED_ROUND;
@@ -35,10 +36,10 @@ pub(crate) enum Stage {
     Ended,
 }
 
-// Who wrote a record: the kernel, for an event, or a tool.
+// Who wrote a record: the kernel, for the attribute with this index, or a tool.
 #[derive(Clone, Copy)]
 pub(crate) enum Writer {
-    Kernel(FoundEvent),
+    Kernel(usize),
     Tool(UserRecordType),
 }
 
@@ -52,21 +53,21 @@ pub(crate) struct Found {
 }
 
 impl Found {
-    ghost use Rattle.linux_perf_data.specs.Iter.{handed_of, found_with, FindsRecord};
+    ghost use Rattle.linux_perf_data.specs.Iter.{handed_of, found_at, index_by, FindsRecord};
     ghost use Rattle.linux_perf_data.specs.Known.{StillKnows};
 
     // The record of this head, with this body, at this place.
     fn at(known: &mut Known, body: &[u8], offset: u64, round: u64, head: PerfEventHeader) -> Found
-        ensures finds { FindsRecord known.old offset round head body.now result }
+        ensures finds { FindsRecord known.old offset round head body.now result known.new }
         ensures knows { StillKnows known.old known.new }
     {
         let record_type = RecordType(head.type_);
         let (writer, timestamp) = match UserRecordType::try_from(record_type) {
             Some(user_type) => (Writer::Tool(user_type), None),
             None => {
-                let event = known.event_of(record_type, body);
-                let time = event.places.time_of(record_type, body);
-                (Writer::Kernel(event), time)
+                let index = known.attribute_of(record_type, body);
+                let time = known.places_of(index).time_of(record_type, body);
+                (Writer::Kernel(index), time)
             }
         };
         Found {
@@ -81,18 +82,33 @@ impl Found {
         }
     }
 
-    // The record with its body.
-    fn with_body<'a>(self, endian: Endianness, body: RawData<'a>) -> PerfFileRecord<'a>
-        ensures { handed_of self.place result ≡ found_with self endian (bytes_of body.entry) }
+    // The index of its attribute; 0 where a tool wrote it.
+    fn index(self) -> usize
+        ensures { result ≡ index_by self.writer }
     {
         match self.writer {
-            Writer::Kernel(event) => PerfFileRecord::EventRecord {
-                attr_index: event.index,
+            Writer::Kernel(index) => index,
+            Writer::Tool(_) => 0,
+        }
+    }
+
+    // The record with the places of its attribute, and its body.
+    fn with_body<'a>(
+        self,
+        places: RecordParseInfo,
+        endian: Endianness,
+        body: RawData<'a>,
+    ) -> PerfFileRecord<'a>
+        ensures { handed_of self.place result ≡ found_at places self endian (bytes_of body.entry) }
+    {
+        match self.writer {
+            Writer::Kernel(index) => PerfFileRecord::EventRecord {
+                attr_index: index,
                 event: RawEventRecord {
                     record_type: self.record_type,
                     misc: self.misc,
                     body,
-                    parse_info: event.places,
+                    parse_info: places,
                 },
             },
             Writer::Tool(record_type) => PerfFileRecord::UserRecord(RawUserRecord {
@@ -334,8 +350,9 @@ impl<R: Source> PerfRecordIter<R> {
         match self.advance(perf_file) {
             Ok(Some(found)) => {
                 let endian = self.endian;
+                let places = *self.known.places_of(found.index());
                 let body = RawData::Single(self.body.as_slice());
-                Ok(Some((found.place, found.with_body(endian, body))))
+                Ok(Some((found.place, found.with_body(places, endian, body))))
             }
             Ok(None) => Ok(None),
             Err(error) => Err(error),

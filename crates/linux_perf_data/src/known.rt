@@ -14,13 +14,6 @@ use perfdata_parts::error::Error;
 use perfdata_parts::feature_sections::AttributeDescription;
 use std::alloc::Global;
 
-/// The attribute of a kernel record, and where its numbers stand.
-#[derive(Clone, Copy)]
-pub(crate) struct FoundEvent {
-    pub(crate) index: usize,
-    pub(crate) places: RecordParseInfo,
-}
-
 // What an iterator keeps of the attributes: where their records' numbers stand, which of them an identifier tells, and
 // what it takes to see whether one more keeps the rule.
 #[derive(Drop)]
@@ -56,7 +49,7 @@ fn places_by(
 }
 
 impl Known {
-    ghost use Rattle.linux_perf_data.specs.Known.{Adds, ChecksMore, KnowsAll, StillKnows, TellsEvent, TellsIndex};
+    ghost use Rattle.linux_perf_data.specs.Known.{Adds, ChecksMore, KnowsAll, StillKnows, TellsEvent, TellsIndex, places_at};
 
     // What is kept of attributes that keep the rule.
     pub(crate) fn new(
@@ -149,30 +142,28 @@ impl Known {
         }
     }
 
-    // The attribute of a kernel record with this body.
-    pub(crate) fn event_of(&mut self, record_type: RecordType, body: &[u8]) -> FoundEvent
-        ensures tells { TellsEvent self.old record_type.0 body.now result }
+    // The index of the attribute of a kernel record with this body.
+    pub(crate) fn attribute_of(&mut self, record_type: RecordType, body: &[u8]) -> usize
+        ensures tells { TellsEvent self.old record_type.0 body.now result self.new }
         ensures knows { StillKnows self.old self.new }
     {
         if self.places.len() == 1 {
-            return FoundEvent {
-                index: 0,
-                places: self.first,
-            };
+            return 0;
         }
         let ids = self.first.id_parse_info;
         match ids.identifier_of(self.first.endian, record_type, body) {
-            Some(id) => {
-                let index = self.index_of(id);
-                FoundEvent {
-                    index,
-                    places: self.places[index],
-                }
-            }
-            None => FoundEvent {
-                index: 0,
-                places: self.first,
-            },
+            Some(id) => self.index_of(id),
+            None => 0,
+        }
+    }
+
+    // Where the numbers of the records of the attribute with this index stand.
+    pub(crate) fn places_of(&self, index: usize) -> &RecordParseInfo
+        ensures { result.now ≡ places_at self.now index }
+    {
+        match self.places.as_slice().get(index) {
+            Some(places) => places,
+            None => &self.first,
         }
     }
 
