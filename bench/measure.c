@@ -1,9 +1,11 @@
-// Runs a command and prints how many microseconds it took and its peak memory in KiB, on standard error.
+// Runs a command and prints how many microseconds it took, its peak memory in KiB and how many microseconds of processor time, on standard error.
 #include <stdio.h>
 #include <sys/resource.h>
 #include <sys/wait.h>
 #include <time.h>
 #include <unistd.h>
+
+static long micros_of(struct timeval time) { return time.tv_sec * 1000000L + time.tv_usec; }
 
 int main(int argc, char **argv) {
     struct timespec begin, end;
@@ -19,6 +21,6 @@ int main(int argc, char **argv) {
     if (child < 0 || wait4(child, &status, 0, &used) != child) return 1;
     clock_gettime(CLOCK_MONOTONIC, &end);
     long micros = (end.tv_sec - begin.tv_sec) * 1000000L + (end.tv_nsec - begin.tv_nsec) / 1000;
-    fprintf(stderr, "%ld %ld\n", micros, used.ru_maxrss);
+    fprintf(stderr, "%ld %ld %ld\n", micros, used.ru_maxrss, micros_of(used.ru_utime) + micros_of(used.ru_stime));
     return WIFEXITED(status) ? WEXITSTATUS(status) : 1;
 }
