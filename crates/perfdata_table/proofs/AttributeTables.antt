@@ -1,5 +1,5 @@
 -- What is told of attributes, one after another.
-use Rattle.std.proofs.Common.{◌≡◌, ◌≢◌, ℕ, suc, ◌+◌, ◌<◌, ◌≤◌, ◌++◌, List, [], ◌∷◌, length, take, drop, refl, sym, ap, ◌∙◌, subst, arith, inl, inr, length-append, Some, get_or}
+use Rattle.std.proofs.Common.{◌≡◌, ◌≢◌, ℕ, zero, suc, ◌+◌, ◌<◌, ◌++◌, List, [], ◌∷◌, length, take, drop, refl, sym, ap, ◌∙◌, subst, arith, inl, inr, length-append, Some, get_or}
 use Rattle.std.specs.Prelude.{IfSome, IsTrue, flat_map}
 use Rattle.std.proofs.lemmas.List.{append-nil, take-append-drop, length-take-le}
 use Rattle.std.proofs.lemmas.Grind.{flat_map-append, take_at_read}
@@ -15,7 +15,7 @@ use Rattle.linux_perf_data.specs.Opened.{Opens, OpensFile}
 use Rattle.linux_perf_data.specs.OpenedPipe.{OpensPipe}
 use Rattle.linux_perf_data.specs.PerfFile.{descriptions_of}
 use Rattle.linux_perf_data.specs.PipeOpen.{StopsPipe}
-use Rattle.perfdata_table.specs.Attributes.{FileAttributes, PipeAttributes, TellsAttributes, Writes, all_ids, attribute_at, attributes_at, name_bytes, names_in, no_totals}
+use Rattle.perfdata_table.specs.Attributes.{FileAttributes, IsUncounted, PipeAttributes, TellsAttributes, Writes, all_ids, attribute_at, attributes_at, name_bytes, names_in, no_totals}
 use Rattle.perfdata_table.specs.Over.{OneMore, lay_behind, over}
 use Rattle.perfdata_table.specs.Status.{status_by}
 use Rattle.perfdata_table.specs.Table.{at_start}
@@ -81,18 +81,24 @@ ids_more told d = ap length (flat_more ids_in told d) ∙ length-append (all_ids
 pub told_front : (all : List AttributeDescription) (index : ℕ) (d : AttributeDescription) → index < length all → d ≡ get_or all index d → take (index + 1) all ≡ take index all ++ d ∷ []
 told_front all index d inside is = (take_at_read all index d inside).1 ∙ ap (λ e. take index all ++ e ∷ []) (sym is)
 
--- a front of them is told, where the rest can't be counted
-pub tells_front : (all : List AttributeDescription) (status : ℕ) (entries entries' : List Attribute) (names ids names' ids' : List ℕ) (index name_place ids_place : ℕ) → index ≤ length all → name_place ≡ length (names_in (take index all)) → ids_place ≡ length (all_ids (take index all))
+-- the next of them begins what isn't told
+told_rest : (all : List AttributeDescription) (index : ℕ) (d : AttributeDescription) → index < length all → d ≡ get_or all index d → drop index all ≡ d ∷ drop (suc index) all
+told_rest [] index d inside is = absurd (omega (arith, inside))
+told_rest (x ∷ all) zero d inside is = ap (λ e. e ∷ all) (sym is)
+told_rest (x ∷ all) (suc index) d inside is = told_rest all index d (omega (arith, inside)) is
+
+-- a front of them is told, where the next can't be counted
+pub tells_front : (all : List AttributeDescription) (status : ℕ) (entries entries' : List Attribute) (names ids names' ids' : List ℕ) (index name_place ids_place : ℕ) (d : AttributeDescription) → index < length all → d ≡ get_or all index d → IsUncounted name_place ids_place d → name_place ≡ length (names_in (take index all)) → ids_place ≡ length (all_ids (take index all))
     → Writes (take index all) entries names ids entries' names' ids' → TellsAttributes all status entries names ids (record { attributes = index; names = name_place; ids = ids_place; status = 1 }) entries' names' ids'
-tells_front all status entries entries' names ids names' ids' index name_place ids_place within names_counted ids_counted w = record {
+tells_front all status entries entries' names ids names' ids' index name_place ids_place d within is uncounted names_counted ids_counted w = record {
   told = take index all;
   more = drop index all;
   cut = sym (take-append-drop index all);
-  count = sym (length-take-le index all within);
+  count = sym (length-take-le index all (omega (arith, within)));
   names_count = names_counted;
   ids_count = ids_counted;
   writes = w;
-  ends = inr refl;
+  ends = inr (refl, (d, (drop (suc index) all, told_rest all index d within is, uncounted)));
 }
 
 pub file_attributes_told : (bytes : List ℕ) (old : State) → old.place ≡ Some (at_start bytes) → {R : Type 0} (seen : R → State) (file : PerfFile) (it : PerfRecordIter R) → Opens seen old file it

@@ -1,5 +1,5 @@
 -- What is told of attributes, with their names and ids.
-use Rattle.std.specs.Prelude.{◌≡◌, ◌⊎◌, ℕ, ◌+◌, List, [], ◌∷◌, ◌++◌, length, flat_map, Option, None, Some}
+use Rattle.std.specs.Prelude.{◌≡◌, ◌⊎◌, ℕ, ◌+◌, ◌^◌, ◌≤◌, List, [], ◌∷◌, ◌++◌, length, flat_map, Option, None, Some}
 use Rattle.perfdata_base.specs.declared.header.PerfHeader.{PerfHeader}
 use Rattle.perfdata_sections.specs.AttributeDescription.{attr_in, ids_in, name_in}
 use Rattle.perfdata_sections.specs.declared.feature_sections.AttributeDescription.{AttributeDescription}
@@ -79,8 +79,22 @@ pub record Writes (told : List AttributeDescription) (entries : List Attribute) 
   pub names_are : names' ≡ over (names_in told) names
   pub ids_are : ids' ≡ over (all_ids told) ids
 
--- These attributes were told and counted: all, and this is the status; or the first of them, and their names or ids are more than numbers
--- of 64 bits count, as in no memory.
+-- a sum; none where a number of 64 bits doesn't hold it
+abbrev pub Sums : ℕ → ℕ → Option ℕ → Type 0
+Sums a b (Some n) = n ≡ a + b
+Sums a b None = 2 ^ 64 ≤ a + b
+
+-- the name of an attribute behind so many bytes, or its ids behind so many, are more than numbers of 64 bits count
+abbrev pub IsUncounted : ℕ → ℕ → AttributeDescription → Type 0
+IsUncounted names ids d = (2 ^ 64 ≤ names + length (name_bytes d)) ⊎ (2 ^ 64 ≤ ids + length (ids_in d))
+
+-- where the name and the ids of an attribute end behind so many bytes and so many ids
+abbrev pub EndsOf : AttributeDescription → ℕ → ℕ → Option (ℕ × ℕ) → Type 0
+EndsOf d names ids (Some ends) = (ends.0 ≡ names + length (name_bytes d)) × (ends.1 ≡ ids + length (ids_in d))
+EndsOf d names ids None = IsUncounted names ids d
+
+-- These attributes were told and counted: all, and this is the status; or the first of them, and names or ids with those of the next are
+-- more than numbers of 64 bits count, as in no memory.
 pub record TellsAttributes (all : List AttributeDescription) (status : ℕ) (entries : List Attribute) (names ids : List ℕ) (totals : Totals) (entries' : List Attribute) (names' ids' : List ℕ) : Type 0 where
   pub told : List AttributeDescription
   pub more : List AttributeDescription
@@ -89,7 +103,8 @@ pub record TellsAttributes (all : List AttributeDescription) (status : ℕ) (ent
   pub names_count : totals.names ≡ length (names_in told)
   pub ids_count : totals.ids ≡ length (all_ids told)
   pub writes : Writes told entries names ids entries' names' ids'
-  pub ends : ((more ≡ []) × (totals.status ≡ status)) ⊎ (totals.status ≡ 1)
+  pub ends : ((more ≡ []) × (totals.status ≡ status))
+      ⊎ ((totals.status ≡ 1) × ((d : AttributeDescription) × ((rest : List AttributeDescription) × (more ≡ d ∷ rest) × IsUncounted totals.names totals.ids d)))
 
 abbrev pub no_totals : ℕ → Totals
 no_totals status = record { attributes = 0; names = 0; ids = 0; status = status }

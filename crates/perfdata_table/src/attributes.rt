@@ -1,7 +1,6 @@
 //! The attributes of a file or a pipe, with their names and their ids.
-ghost use Rattle.std.specs.Prelude.{◌≡◌, ◌+◌, IfSome, length};
-ghost use Rattle.perfdata_sections.specs.AttributeDescription.{ids_in};
-ghost use Rattle.perfdata_table.specs.Attributes.{FileAttributes, PipeAttributes, TellsAttributes, attribute_at, has_name_in, name_bytes, no_totals};
+ghost use Rattle.std.specs.Prelude.{◌≡◌};
+ghost use Rattle.perfdata_table.specs.Attributes.{EndsOf, FileAttributes, PipeAttributes, Sums, TellsAttributes, attribute_at, has_name_in, name_bytes, no_totals};
 
 use crate::entry::{count, lay, put};
 use crate::records::{status_of_end, walk};
@@ -139,7 +138,7 @@ fn entry_of(of: &AttributeDescription, name_place: u64, ids_place: u64) -> Attri
 
 // The sum, where a number of 64 bits holds it.
 fn plus(a: u64, b: u64) -> Option<u64>
-    ensures { IfSome result (λ n. n ≡ a + b) }
+    ensures { Sums a b result }
 {
     if a > u64::MAX - b {
         return None;
@@ -149,7 +148,7 @@ fn plus(a: u64, b: u64) -> Option<u64>
 
 // Where the name and the ids of an attribute end, in front of which so many bytes and so many ids stand, where numbers of 64 bits hold both.
 fn ends_of(of: &AttributeDescription, name_place: u64, ids_place: u64) -> Option<(u64, u64)>
-    ensures { IfSome result (λ ends. (ends.0 ≡ name_place + length (name_bytes of.now)) × (ends.1 ≡ ids_place + length (ids_in of.now))) }
+    ensures { EndsOf of.now name_place ids_place result }
 {
     let names_end = plus(name_place, name_of(of).len() as u64)?;
     let ids_end = plus(ids_place, of.ids().len() as u64)?;
@@ -171,13 +170,16 @@ fn tell(
     let mut ids_place = 0u64;
     'attributes: while index < all.len() {
         let of = &all[index];
-        let Some((names_end, ids_end)) = ends_of(of, name_place, ids_place) else {
-            return Totals {
-                attributes: index as u64,
-                names: name_place,
-                ids: ids_place,
-                status: MEMORY,
-            };
+        let (names_end, ids_end) = match ends_of(of, name_place, ids_place) {
+            Some(ends) => ends,
+            None => {
+                return Totals {
+                    attributes: index as u64,
+                    names: name_place,
+                    ids: ids_place,
+                    status: MEMORY,
+                };
+            }
         };
         put(
             entries,

@@ -4,10 +4,10 @@ use Rattle.perfdata_table.specs.Attributes.{Writes, all_ids, names_in}
 use Rattle.perfdata_table.proofs.AttributeTables.{ids_more, names_more, tells_front, told_front, writes_more}
 use Rattle.perfdata_table.proofs.attributes.tell.Goals as goal
 
-pub returns-in_default : goal.returns-in_default
-returns-in_default c =
+pub returns-in-None : goal.returns-in-None
+returns-in-None c =
     let inv = c.attributes.invariant in
-    tells_front c.args.all.now c.args.status c.args.entries.now c.attributes.entries c.args.names.now c.args.ids.now c.attributes.names c.attributes.ids c.attributes.index c.attributes.name_place c.attributes.ids_place inv.within inv.names_count inv.ids_count inv.writes
+    tells_front c.args.all.now c.args.status c.args.entries.now c.attributes.entries c.args.names.now c.args.ids.now c.attributes.names c.attributes.ids c.attributes.index c.attributes.name_place c.attributes.ids_place c.index-all-index.result c.attributes-test.true c.index-all-index.is c.in-None.ensures inv.names_count inv.ids_count inv.writes
 
 pub attributes-preserved : goal.attributes-preserved
 attributes-preserved c =
