@@ -170,6 +170,7 @@ impl Line {
 #[cfg(test)]
 mod tests {
     use super::*;
+    use crate::tests::compare::check;
     use std::test::Fail;
 
     const NONE: Fields = Fields {
@@ -227,10 +228,10 @@ mod tests {
             ),
         ];
         let mut line = Line::new();
-        assert!(rt; holds(&line, b""));
+        check(&rt, holds(&line, b""));
         for (fields, text) in cases {
             line.set_record(fields);
-            assert!(rt; holds(&line, text));
+            check(&rt, holds(&line, text));
         }
         Ok(())
     }
@@ -239,14 +240,15 @@ mod tests {
     fn writes_jit_lines(rt: HostRuntime) -> Result<(), Fail> {
         let most = u64::MAX;
         let mut line = Line::new();
-        assert!(rt;
+        check(
+            &rt,
             is_jit(
                 &mut line,
                 (most, 1_000, u32::MAX, most),
-                b"18446744073709551615 1000 4294967295 18446744073709551615\n"
-            )
+                b"18446744073709551615 1000 4294967295 18446744073709551615\n",
+            ),
         );
-        assert!(rt; is_jit(&mut line, (40, 0, 3, 16), b"40 0 3 16\n"));
+        check(&rt, is_jit(&mut line, (40, 0, 3, 16), b"40 0 3 16\n"));
         Ok(())
     }
 
@@ -262,7 +264,7 @@ mod tests {
             ),
         ];
         for (records, text) in cases {
-            assert!(rt; holds(&Line::of_fault(records), text));
+            check(&rt, holds(&Line::of_fault(records), text));
         }
         Ok(())
     }

@@ -255,6 +255,7 @@ pub fn settle<W: Write>(listed: Result<u64, ListFault>, out: &mut LineBuffer<W>)
 mod tests {
     use super::*;
     use crate::output::write_line;
+    use crate::tests::compare::check;
     use std::io::ErrorKind;
     use std::test::Fail;
 
@@ -278,8 +279,8 @@ mod tests {
             let mut out = LineBuffer::new(rt.alloc(), Vec::new(rt.alloc()))?;
             write_line(&mut out, b"one\n")?;
             write_line(&mut out, b"two\n")?;
-            assert!(rt; settle(listed, &mut out) == answer);
-            assert!(rt; out.lines_left() == lines);
+            check(&rt, settle(listed, &mut out) == answer);
+            check(&rt, out.lines_left() == lines);
         }
         Ok(())
     }
@@ -290,7 +291,7 @@ mod tests {
         let mut out = LineBuffer::new(rt.alloc(), room.as_mut_slice())?;
         write_line(&mut out, b"one\n")?;
         write_line(&mut out, b"two\n")?;
-        assert!(rt; settle(Ok(2), &mut out) == Err(1));
+        check(&rt, settle(Ok(2), &mut out) == Err(1));
         Ok(())
     }
 }

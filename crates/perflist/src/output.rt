@@ -239,6 +239,7 @@ impl<W: Write> Holding for LineBuffer<W> {
 #[cfg(test)]
 mod tests {
     use super::*;
+    use crate::tests::compare::{check, check_at};
     use std::test::Fail;
 
     /// Takes at most `most` bytes a call, and fails, or takes none, once `room` bytes are in.
@@ -308,9 +309,9 @@ mod tests {
         for (most, room, fault, taken, calls, kind) in cases {
             let mut out = Narrow::new(rt.alloc(), most, room, fault);
             let written = write_line(&mut out, line);
-            assert!(rt; kind_of(written) == kind, "{most} {room}");
-            assert!(rt; out.taken.as_slice() == &line[..taken], "{most} {room}");
-            assert!(rt; out.calls == calls, "{most} {room}");
+            check_at(&rt, &(most, room), kind_of(written) == kind);
+            check_at(&rt, &(most, room), out.taken.as_slice() == &line[..taken]);
+            check_at(&rt, &(most, room), out.calls == calls);
         }
         Ok(())
     }
@@ -319,17 +320,23 @@ mod tests {
     fn finishes(rt: HostRuntime) -> Result<(), Fail> {
         let full = Some(ErrorKind::StorageFull);
         let mut out = Narrow::new(rt.alloc(), 9, 100, None);
-        assert!(rt; finish(Ok(7), &mut out)? == 0);
-        assert!(rt; out.taken.is_empty());
-        assert!(rt; finish(Err(7), &mut out)? == 2);
-        assert!(rt; out.taken.as_slice() == b"perflist: fault after 7 records\n".as_slice());
+        check(&rt, finish(Ok(7), &mut out)? == 0);
+        check(&rt, out.taken.is_empty());
+        check(&rt, finish(Err(7), &mut out)? == 2);
+        check(
+            &rt,
+            out.taken.as_slice() == b"perflist: fault after 7 records\n".as_slice(),
+        );
 
         let mut short = Narrow::new(rt.alloc(), 9, 12, full);
-        assert!(rt; kind_of(finish(Err(7), &mut short)) == full);
-        assert!(rt; short.taken.as_slice() == b"perflist: fa".as_slice());
+        check(&rt, kind_of(finish(Err(7), &mut short)) == full);
+        check(&rt, short.taken.as_slice() == b"perflist: fa".as_slice());
 
         let mut none = Narrow::new(rt.alloc(), 9, 0, None);
-        assert!(rt; kind_of(finish(Err(7), &mut none)) == Some(ErrorKind::WriteZero));
+        check(
+            &rt,
+            kind_of(finish(Err(7), &mut none)) == Some(ErrorKind::WriteZero),
+        );
         Ok(())
     }
 
@@ -344,11 +351,11 @@ mod tests {
             for _ in 0..10 {
                 write_line(&mut out, b"abc\n")?;
             }
-            assert!(rt; out.lines_left() == 0, "{room}");
+            check_at(&rt, &room, out.lines_left() == 0);
             let flushed = out.flush();
-            assert!(rt; flushed.is_ok() == (room >= 40), "{room}");
-            assert!(rt; out.lines_left() == lines, "{room}");
-            assert!(rt; out.inner.taken.len() == room.min(40), "{room}");
+            check_at(&rt, &room, flushed.is_ok() == (room >= 40));
+            check_at(&rt, &room, out.lines_left() == lines);
+            check_at(&rt, &room, out.inner.taken.len() == room.min(40));
         }
         Ok(())
     }
@@ -360,10 +367,10 @@ mod tests {
         let inner = Narrow::new(rt.alloc(), 1_000_000, 100_000, None);
         let mut out = LineBuffer::new(rt.alloc(), inner)?;
         let written = write_line(&mut out, many.as_slice());
-        assert!(rt; kind_of(written) == Some(ErrorKind::WriteZero));
-        assert!(rt; out.lines_left() == 100_000 / 16);
-        assert!(rt; out.inner.taken.len() == 100_000);
-        assert!(rt; many.as_slice().starts_with(out.inner.taken.as_slice()));
+        check(&rt, kind_of(written) == Some(ErrorKind::WriteZero));
+        check(&rt, out.lines_left() == 100_000 / 16);
+        check(&rt, out.inner.taken.len() == 100_000);
+        check(&rt, many.as_slice().starts_with(out.inner.taken.as_slice()));
         Ok(())
     }
 }

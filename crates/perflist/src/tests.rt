@@ -4,6 +4,7 @@ ghost use Rattle.std.specs.Prelude.{[]};
 mod attributes;
 mod build_ids;
 mod code_size;
+pub mod compare;
 mod constants;
 mod example;
 mod features;
@@ -18,6 +19,7 @@ mod slow;
 
 use crate::list::{ListCause, ListFault, list_file, settle};
 use crate::output::{Holding, LineBuffer, finish};
+use compare::{check, same, same_at};
 use image::{Image, Part};
 use linux_perf_data::source::{Counted, PlacedSource};
 use linux_perf_data::{Endianness, Error, PerfFileReader, ReadError};
@@ -122,13 +124,14 @@ fn lists<C: PlacedSource + Drop>(
 ) {
     let mut out: Vec<u8> = Vec::new(rt.alloc());
     let listed = list_file(rt.alloc(), source, &mut out);
-    assert_eq!(rt; end_of(&listed), end, "{name}, {way}");
-    assert_eq!(rt;
-        lines_of(&listed),
-        wanted.lines().count() as u64,
-        "{name}, {way}"
+    same_at(rt, &(name, way), &end_of(&listed), &end);
+    same_at(
+        rt,
+        &(name, way),
+        &lines_of(&listed),
+        &(wanted.lines().count() as u64),
     );
-    assert_eq!(rt; out.as_slice(), wanted.as_bytes(), "{name}, {way}");
+    same_at(rt, &(name, way), &out.as_slice(), &wanted.as_bytes());
 }
 
 /// Lists a file in three ways.
@@ -157,7 +160,7 @@ fn opens(
 ) -> Result<(), Fail> {
     shows(rt, name, file, wanted, end)?;
     let (text, plain) = slow::lines_of(rt.alloc(), file)?;
-    assert_eq!(rt; (text.as_str(), plain), (wanted, end), "{name}, plain");
+    same_at(rt, &name, &(text.as_str(), plain), &(wanted, end));
     Ok(())
 }
 
@@ -205,7 +208,7 @@ fn patched(
 fn two_samples_and_a_marker(rt: HostRuntime) -> Result<(), Fail> {
     for endian in [Endianness::LittleEndian, Endianness::BigEndian] {
         let image = Image::first(rt.alloc(), endian)?;
-        assert_eq!(rt; image.bytes.len(), 208);
+        same(&rt, &image.bytes.len(), &208);
         opens(&rt, "first", &image.bytes, FIRST, End::Whole)?;
     }
     let zeros = [0u8; 104];
@@ -441,7 +444,7 @@ fn ends(
             Ok(None) => End::Whole,
             Err(error) => end_of_error(&error),
         };
-        assert_eq!(rt; came, *end);
+        same(rt, &came, end);
     }
     Ok(())
 }
@@ -460,13 +463,13 @@ fn what_a_file_says_of_itself(rt: HostRuntime) -> Result<(), Fail> {
     for endian in [Endianness::LittleEndian, Endianness::BigEndian] {
         let image = Image::first(rt.alloc(), endian)?;
         let reader = PerfFileReader::parse_file(rt.alloc(), Cursor::new(image.bytes.as_slice()))?;
-        assert_eq!(rt; reader.perf_file.endian(), endian);
-        assert!(rt; reader.perf_file.features().is_empty());
+        same(&rt, &reader.perf_file.endian(), &endian);
+        check(&rt, reader.perf_file.features().is_empty());
         let attributes = reader.perf_file.event_attributes();
-        assert_eq!(rt; attributes.len(), 1);
-        assert_eq!(rt; attributes[0].attributes().sample_format.0, 4);
-        assert!(rt; attributes[0].name().is_none());
-        assert!(rt; attributes[0].ids().is_empty());
+        same(&rt, &attributes.len(), &1);
+        same(&rt, &attributes[0].attributes().sample_format.0, &4);
+        check(&rt, attributes[0].name().is_none());
+        check(&rt, attributes[0].ids().is_empty());
     }
     Ok(())
 }
@@ -482,8 +485,8 @@ fn ends_with(
     let mut err: Vec<u8> = Vec::new(rt.alloc());
     let listed = list_file(rt.alloc(), Cursor::new(file), &mut out);
     let outcome = settle(listed, &mut out);
-    assert_eq!(rt; finish(outcome, &mut err)?, status);
-    assert_eq!(rt; err.as_slice(), line.as_bytes());
+    same(rt, &finish(outcome, &mut err)?, &status);
+    same(rt, &err.as_slice(), &line.as_bytes());
     Ok(())
 }
 

@@ -1,5 +1,5 @@
 //! Attributes of each size: their fields, in both orders, and which sizes are refused.
-use crate::helpers::by_kind;
+use crate::helpers::{by_kind, same, same_at};
 use bitflags::Flags;
 use byteorder::{BigEndian, LittleEndian};
 use perfdata_base::attr::{AttrFlags, PerfEventAttr, SampleFormat};
@@ -56,24 +56,26 @@ fn reads_each_field(rt: HostRuntime) -> Result<(), Fail> {
     let bytes = attribute(144);
     let mut rest = &bytes[..];
     let (attr, own) = PerfEventAttr::parse_from::<_, LittleEndian>(&mut rest)?;
-    assert_eq!(rt; own, 144);
-    assert_eq!(rt; rest, [144, 145, 146, 147, 148, 149].as_slice());
+    same(&rt, &own, &144);
+    same(&rt, &rest, &[144, 145, 146, 147, 148, 149].as_slice());
     let (halves, words) = fields(&attr);
-    assert_eq!(rt;
-        halves,
-        [
+    same(
+        &rt,
+        &halves,
+        &[
             0x0302_0100,
             144,
             0x3332_3130,
             0x3736_3534,
             0x5b5a_5958,
             0x6b6a_6968,
-            0x7372_7170
-        ]
+            0x7372_7170,
+        ],
     );
-    assert_eq!(rt;
-        words,
-        [
+    same(
+        &rt,
+        &words,
+        &[
             0x0f0e_0d0c_0b0a_0908,
             0x1716_1514_1312_1110,
             0x1f1e_1d1c_1b1a_1918,
@@ -85,10 +87,10 @@ fn reads_each_field(rt: HostRuntime) -> Result<(), Fail> {
             0x5756_5554_5352_5150,
             0x6766_6564_6362_6160,
             0x7f7e_7d7c_7b7a_7978,
-            0x8786_8584_8382_8180
-        ]
+            0x8786_8584_8382_8180,
+        ],
     );
-    assert_eq!(rt; (attr.clockid, attr.sample_max_stack), (-1, 0x6d6c));
+    same(&rt, &(attr.clockid, attr.sample_max_stack), &(-1, 0x6d6c));
     Ok(())
 }
 
@@ -97,9 +99,10 @@ fn reads_big_endian(rt: HostRuntime) -> Result<(), Fail> {
     let mut bytes = attribute(0);
     bytes[7] = 64;
     let (attr, own) = PerfEventAttr::parse::<_, BigEndian>(&bytes[..])?;
-    assert_eq!(rt;
-        (own, attr.type_, attr.config, attr.bp_type),
-        (64, 0x0001_0203, 0x0809_0a0b_0c0d_0e0f, 0x3435_3637)
+    same(
+        &rt,
+        &(own, attr.type_, attr.config, attr.bp_type),
+        &(64, 0x0001_0203, 0x0809_0a0b_0c0d_0e0f, 0x3435_3637),
     );
     Ok(())
 }
@@ -122,10 +125,11 @@ fn takes_zero_beyond_its_own_size(rt: HostRuntime) -> Result<(), Fail> {
         let (attr, told) = PerfEventAttr::parse_from::<_, LittleEndian>(&mut rest)?;
         let sizes = (told, attr.size as u64, rest.len());
         let configs = (attr.config1, attr.config2);
-        assert_eq!(rt;
-            (sizes, configs, attr.branch_sample_type, attr.clockid),
-            ((own, own, left), (CONFIG1, config2), branch, 0),
-            "at {size}"
+        same_at(
+            &rt,
+            &size,
+            &(sizes, configs, attr.branch_sample_type, attr.clockid),
+            &((own, own, left), (CONFIG1, config2), branch, 0),
         );
     }
     Ok(())
@@ -144,14 +148,14 @@ fn refuses_small_sizes_and_missing_bytes(rt: HostRuntime) {
     ] {
         let bytes = attribute(size);
         let parsed = PerfEventAttr::parse::<_, LittleEndian>(&bytes[..count]);
-        assert_eq!(rt; by_kind(parsed).err(), Some(kind), "{size} in {count}");
+        same_at(&rt, &(size, count), &by_kind(parsed).err(), &Some(kind));
     }
 }
 
 #[test]
 fn keeps_all_bits(rt: HostRuntime) {
     let format = SampleFormat::from_bits_retain(0x8001_0204);
-    assert_eq!(rt; format.bits(), 0x8001_0204);
+    same(&rt, &format.bits(), &0x8001_0204);
     for (flag, held) in [
         (SampleFormat::TIME, true),
         (SampleFormat::STREAM_ID, true),
@@ -162,11 +166,12 @@ fn keeps_all_bits(rt: HostRuntime) {
         (SampleFormat::ID, false),
         (SampleFormat::CPU, false),
     ] {
-        assert_eq!(rt; format.contains(flag), held, "{flag:?}");
+        same_at(&rt, &flag, &format.contains(flag), &held);
     }
     let flags = AttrFlags::from_bits_retain(0x8004_0000);
-    assert_eq!(rt;
-        (flags.bits(), flags.contains(AttrFlags::SAMPLE_ID_ALL)),
-        (0x8004_0000, true)
+    same(
+        &rt,
+        &(flags.bits(), flags.contains(AttrFlags::SAMPLE_ID_ALL)),
+        &(0x8004_0000, true),
     );
 }

@@ -1,4 +1,5 @@
 //! What a reader behind a buffer is asked for, and what is taken from the buffer.
+use crate::helpers::{same, same_at};
 use perfdata_base::source::{CountedBuffer, PlacedSource, Source};
 use std::alloc::Global;
 use std::io::{BufReader, Cursor, Error, Read, Seek, SeekFrom};
@@ -84,7 +85,7 @@ fn seeks_only_elsewhere(rt: HostRuntime) -> Result<(), Fail> {
         ),
     ] {
         let came = asked(rt.alloc(), &places, &wanted)?;
-        assert_eq!(rt; came, Some((reads, seeks)), "{wanted:?}");
+        same_at(&rt, &wanted, &came, &Some((reads, seeks)));
     }
     Ok(())
 }
@@ -95,17 +96,17 @@ fn takes_what_is_at_hand(rt: HostRuntime) -> Result<(), Fail> {
     let reader = BufReader::with_capacity(rt.alloc(), 8, Cursor::new(bytes.as_slice()))?;
     let mut source = CountedBuffer::new(reader);
     let mut place = [0u8; 2];
-    assert_eq!(rt; source.at_hand(), [].as_slice());
-    assert_eq!(rt; source.take_at_hand(&mut place), false);
-    assert_eq!(rt; source.read_front(&mut place)?, 2);
-    assert_eq!(rt; source.at_hand(), [2, 3, 4, 5, 6, 7].as_slice());
-    assert_eq!(rt; source.take_at_hand(&mut place), true);
-    assert_eq!(rt; place, [2, 3]);
+    same(&rt, &source.at_hand(), &[].as_slice());
+    same(&rt, &source.take_at_hand(&mut place), &false);
+    same(&rt, &source.read_front(&mut place)?, &2);
+    same(&rt, &source.at_hand(), &[2, 3, 4, 5, 6, 7].as_slice());
+    same(&rt, &source.take_at_hand(&mut place), &true);
+    same(&rt, &place, &[2, 3]);
     let mut buffer = Vec::from_array(rt.alloc(), [9])?;
-    assert_eq!(rt; source.append_at_hand(&mut buffer, 5)?, false);
-    assert_eq!(rt; source.append_at_hand(&mut buffer, 3)?, true);
-    assert_eq!(rt; buffer.as_slice(), [9, 4, 5, 6].as_slice());
-    assert_eq!(rt; source.at_hand(), [7].as_slice());
-    assert_eq!(rt; source.seek_to(SeekFrom::Current(0))?, 7);
+    same(&rt, &source.append_at_hand(&mut buffer, 5)?, &false);
+    same(&rt, &source.append_at_hand(&mut buffer, 3)?, &true);
+    same(&rt, &buffer.as_slice(), &[9, 4, 5, 6].as_slice());
+    same(&rt, &source.at_hand(), &[7].as_slice());
+    same(&rt, &source.seek_to(SeekFrom::Current(0))?, &7);
     Ok(())
 }

@@ -1,5 +1,5 @@
 //! Heads of records, types of users' records, and modes of processors.
-use crate::helpers::by_kind;
+use crate::helpers::{by_kind, same, same_at};
 use byteorder::{BigEndian, LittleEndian};
 use perfdata_base::event::{CpuMode, PerfEventHeader, RecordType};
 use std::io::ErrorKind;
@@ -11,15 +11,17 @@ const HEAD: [u8; 10] = [9, 0, 0, 1, 2, 3, 0x10, 0x20, 0xaa, 0xbb];
 fn reads_a_head(rt: HostRuntime) -> Result<(), Fail> {
     let mut source = &HEAD[..];
     let head = PerfEventHeader::parse_from::<_, LittleEndian>(&mut source)?;
-    assert_eq!(rt;
-        (head.type_, head.misc, head.size),
-        (0x0100_0009, 0x0302, 0x2010)
+    same(
+        &rt,
+        &(head.type_, head.misc, head.size),
+        &(0x0100_0009, 0x0302, 0x2010),
     );
-    assert_eq!(rt; source, [0xaa, 0xbb].as_slice());
+    same(&rt, &source, &[0xaa, 0xbb].as_slice());
     let head = PerfEventHeader::parse::<_, BigEndian>(&HEAD[..])?;
-    assert_eq!(rt;
-        (head.type_, head.misc, head.size),
-        (0x0900_0001, 0x0203, 0x1020)
+    same(
+        &rt,
+        &(head.type_, head.misc, head.size),
+        &(0x0900_0001, 0x0203, 0x1020),
     );
     Ok(())
 }
@@ -27,7 +29,7 @@ fn reads_a_head(rt: HostRuntime) -> Result<(), Fail> {
 #[test]
 fn is_short_below_eight_bytes(rt: HostRuntime) {
     let parsed = PerfEventHeader::parse::<_, LittleEndian>(&HEAD[..7]);
-    assert_eq!(rt; by_kind(parsed).err(), Some(ErrorKind::UnexpectedEof));
+    same(&rt, &by_kind(parsed).err(), &Some(ErrorKind::UnexpectedEof));
 }
 
 #[test]
@@ -40,13 +42,14 @@ fn user_types_begin_at_64(rt: HostRuntime) {
         (u32::MAX, true),
     ] {
         let record_type = RecordType(number);
-        assert_eq!(rt;
-            (record_type.is_user_type(), record_type.is_builtin_type()),
-            (user, !user),
-            "at {number}"
+        same_at(
+            &rt,
+            &number,
+            &(record_type.is_user_type(), record_type.is_builtin_type()),
+            &(user, !user),
         );
     }
-    assert_eq!(rt; RecordType::SAMPLE, RecordType(9));
+    same(&rt, &RecordType::SAMPLE, &RecordType(9));
 }
 
 #[test]
@@ -63,6 +66,6 @@ fn modes_are_the_lowest_three_bits(rt: HostRuntime) {
         (8, CpuMode::Unknown),
         (0x8002, CpuMode::User),
     ] {
-        assert_eq!(rt; CpuMode::from_misc(misc), mode, "at {misc}");
+        same_at(&rt, &misc, &CpuMode::from_misc(misc), &mode);
     }
 }

@@ -1,4 +1,5 @@
 //! Features: their names, and the members of a set.
+use crate::helpers::{check, same, same_at};
 use perfdata_base::features::{Feature, FeatureSet};
 use std::alloc::Global;
 use std::test::Fail;
@@ -50,7 +51,7 @@ fn shows_names(rt: HostRuntime) -> Result<(), Fail> {
         let feature = Feature(number);
         let text = format!(in rt.alloc(); "{feature}")?;
         let debug = format!(in rt.alloc(); "{feature:?}")?;
-        assert_eq!(rt; (text.as_str(), debug.as_str()), (name, name));
+        same(&rt, &(text.as_str(), debug.as_str()), &(name, name));
     }
     Ok(())
 }
@@ -71,29 +72,31 @@ fn goes_over_members(rt: HostRuntime) -> Result<(), Fail> {
         members.next(),
         members.next(),
     ];
-    assert_eq!(rt;
-        four,
-        [
+    same(
+        &rt,
+        &four,
+        &[
             Some(Feature::HOSTNAME),
             Some(Feature::SIMPLEPERF_FILE),
             None,
-            None
-        ]
+            None,
+        ],
     );
     let (count, empty, debug) = described(rt.alloc(), &set)?;
-    assert_eq!(rt;
-        (count, empty, debug.as_str()),
-        (2, false, "{HOSTNAME, SIMPLEPERF_FILE}")
+    same(
+        &rt,
+        &(count, empty, debug.as_str()),
+        &(2, false, "{HOSTNAME, SIMPLEPERF_FILE}"),
     );
     let ends = FeatureSet([1, 0, 0, 1 << 63]);
-    assert!(rt; ends.iter().eq([Feature(0), Feature(255)]));
+    check(&rt, ends.iter().eq([Feature(0), Feature(255)]));
     for (set, feature, held) in [
         (set, Feature::HOSTNAME, true),
         (set, Feature::OSRELEASE, false),
         (set, Feature(300), false),
         (ends, Feature(256), false),
     ] {
-        assert_eq!(rt; set.has_feature(feature), held, "{feature}");
+        same_at(&rt, &feature, &set.has_feature(feature), &held);
     }
     Ok(())
 }
@@ -102,8 +105,8 @@ fn goes_over_members(rt: HostRuntime) -> Result<(), Fail> {
 fn is_empty_without_a_bit(rt: HostRuntime) -> Result<(), Fail> {
     let none = FeatureSet([0; 4]);
     let (count, empty, debug) = described(rt.alloc(), &none)?;
-    assert_eq!(rt; (count, empty, debug.as_str()), (0, true, "{}"));
-    assert_eq!(rt; none.iter().next(), None);
-    assert!(rt; !FeatureSet([0, 0, 0, 1]).is_empty());
+    same(&rt, &(count, empty, debug.as_str()), &(0, true, "{}"));
+    same(&rt, &none.iter().next(), &None);
+    check(&rt, !FeatureSet([0, 0, 0, 1]).is_empty());
     Ok(())
 }

@@ -1,5 +1,5 @@
 //! Headers of files: their fields, in both orders, and what is refused.
-use crate::helpers::by_kind;
+use crate::helpers::{by_kind, same, same_at};
 use perfdata_base::header::PerfHeader;
 use std::io::{Cursor, ErrorKind};
 use std::test::Fail;
@@ -38,11 +38,17 @@ fn reads_each_field(rt: HostRuntime) -> Result<(), Fail> {
     let mut cursor = Cursor::new(&bytes[..]);
     let header = PerfHeader::parse_from(&mut cursor)?;
     let at = cursor.position();
-    assert_eq!(rt; at, 112, "bytes behind the known ones are passed over");
-    assert_eq!(rt; header.magic, [b'P', 1, 2, 3, 4, 5, 6, 7]);
-    assert_eq!(rt;
-        numbers(&header),
-        [
+    same_at(
+        &rt,
+        &"bytes behind the known ones are passed over",
+        &at,
+        &112,
+    );
+    same(&rt, &header.magic, &[b'P', 1, 2, 3, 4, 5, 6, 7]);
+    same(
+        &rt,
+        &numbers(&header),
+        &[
             112,
             0x1716_1514_1312_1110,
             0x1f1e_1d1c_1b1a_1918,
@@ -54,8 +60,8 @@ fn reads_each_field(rt: HostRuntime) -> Result<(), Fail> {
             0x4f4e_4d4c_4b4a_4948,
             0x5756_5554_5352_5150,
             0x5f5e_5d5c_5b5a_5958,
-            0x6766_6564_6362_6160
-        ]
+            0x6766_6564_6362_6160,
+        ],
     );
     Ok(())
 }
@@ -66,17 +72,18 @@ fn reads_big_endian(rt: HostRuntime) -> Result<(), Fail> {
     let mut cursor = Cursor::new(&bytes[..]);
     let header = PerfHeader::parse_from(&mut cursor)?;
     let at = cursor.position();
-    assert_eq!(rt; at, 104, "a smaller size changes nothing");
-    assert_eq!(rt;
-        (
+    same_at(&rt, &"a smaller size changes nothing", &at, &104);
+    same(
+        &rt,
+        &(
             header.header_size,
             header.attr_size,
-            header.attr_section.offset
+            header.attr_section.offset,
         ),
-        (64, 0x1011_1213_1415_1617, 0x1819_1a1b_1c1d_1e1f)
+        &(64, 0x1011_1213_1415_1617, 0x1819_1a1b_1c1d_1e1f),
     );
     let header = PerfHeader::parse(Cursor::new(&bytes[..]))?;
-    assert_eq!(rt; header.features.0[3], 0x6061_6263_6465_6667);
+    same(&rt, &header.features.0[3], &0x6061_6263_6465_6667);
     Ok(())
 }
 
@@ -93,6 +100,6 @@ fn refuses_missing_bytes_and_far_ends(rt: HostRuntime) {
     ] {
         let bytes = header(b'P', size);
         let parsed = PerfHeader::parse(Cursor::new(&bytes[..count]));
-        assert_eq!(rt; by_kind(parsed).err(), kind, "{size:?} in {count}");
+        same_at(&rt, &(size, count), &by_kind(parsed).err(), &kind);
     }
 }

@@ -1,5 +1,5 @@
 //! Headers of pipes, whole, with bytes behind them, and cut.
-use crate::helpers::by_kind;
+use crate::helpers::{by_kind, same};
 use perfdata_base::header::PerfPipeHeader;
 use std::io::ErrorKind;
 use std::test::Fail;
@@ -18,18 +18,20 @@ fn reads_pipe_headers(rt: HostRuntime) -> Result<(), Fail> {
     ] {
         let mut source = &bytes[..];
         let (_, whole) = PerfPipeHeader::parse_front(&mut source)?;
-        assert_eq!(rt; (whole, source.len()), (left > 0, left));
+        same(&rt, &(whole, source.len()), &(left > 0, left));
         let mut source = &bytes[..];
         let header = PerfPipeHeader::parse_from(&mut source)?;
-        assert_eq!(rt;
-            (header.size, header.magic[0], source.len()),
-            (size, first, left)
+        same(
+            &rt,
+            &(header.size, header.magic[0], source.len()),
+            &(size, first, left),
         );
     }
     let cut = b"PERFILE2\x10\0\0\0\0\0\0".as_slice();
-    assert_eq!(rt;
-        by_kind(PerfPipeHeader::parse(cut)).err(),
-        Some(ErrorKind::UnexpectedEof)
+    same(
+        &rt,
+        &by_kind(PerfPipeHeader::parse(cut)).err(),
+        &Some(ErrorKind::UnexpectedEof),
     );
     Ok(())
 }

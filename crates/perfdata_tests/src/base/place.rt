@@ -1,5 +1,6 @@
 //! Where times and identifiers stand by a format, and the words that are read there.
 use super::raw::split;
+use crate::helpers::{same, same_at};
 use byteorder::{BigEndian, LittleEndian};
 use perfdata_base::attr::{AttrFlags, PerfEventAttr, SampleFormat};
 use perfdata_base::event::RecordType;
@@ -52,13 +53,14 @@ fn places_follow_the_format(rt: HostRuntime) {
     ] {
         let info = places(format, flags);
         let found = info.id_parse_info;
-        assert_eq!(rt;
-            [
+        same_at(
+            &rt,
+            &format,
+            &[
                 (found.sample_id_from_start, found.other_id_from_end),
-                (info.sample_time_from_start, info.other_time_from_end)
+                (info.sample_time_from_start, info.other_time_from_end),
             ],
-            [id, time],
-            "at {format}"
+            &[id, time],
         );
     }
 }
@@ -104,10 +106,11 @@ fn numbers_stand_at_their_places(rt: HostRuntime) {
         (9, 23, None, Some(7)),
         (64, 24, None, None),
     ] {
-        assert_eq!(rt;
-            told(&info, RecordType(kind), &body[..len]),
-            ([time; 3], [id; 5]),
-            "at {kind}, {len}"
+        same_at(
+            &rt,
+            &(kind, len),
+            &told(&info, RecordType(kind), &body[..len]),
+            &([time; 3], [id; 5]),
         );
     }
 }
@@ -118,20 +121,21 @@ fn the_order_is_the_type_parameter(rt: HostRuntime) {
     let raw = RawData::Single(&body);
     let info = places(4, 0x40000);
     let sample = RecordType::SAMPLE;
-    assert_eq!(rt;
-        [
+    same(
+        &rt,
+        &[
             get_record_timestamp::<BigEndian>(sample, raw, &info),
             get_record_timestamp::<BigEndian>(RecordType(1), raw, &info),
             get_record_identifier::<BigEndian>(sample, raw, false),
             get_record_identifier::<BigEndian>(RecordType(1), raw, false),
-            info.time_of(sample, &body)
+            info.time_of(sample, &body),
         ],
-        [
+        &[
             Some(258),
             Some(258),
             Some(258),
             None,
-            Some(0x0201_0000_0000_0000)
-        ]
+            Some(0x0201_0000_0000_0000),
+        ],
     );
 }

@@ -1,4 +1,5 @@
 //! Bytes in one piece and in two: each call answers the same wherever they are split.
+use crate::helpers::{check, same, same_at};
 use byteorder::{BigEndian, LittleEndian};
 use perfdata_base::order::{read_u16, read_u32, read_u64};
 use perfdata_base::raw::{Endianness, RawData};
@@ -38,15 +39,11 @@ fn compared(data: RawData<'_>) -> (bool, [bool; 2], usize, bool) {
 fn one_value_wherever_it_is_split(rt: HostRuntime) -> Result<(), Fail> {
     for at in 0..6usize {
         let data = split(&FIVE, at);
-        assert_eq!(rt;
-            compared(data),
-            (true, [false; 2], 5, false),
-            "split at {at}"
-        );
+        same_at(&rt, &at, &compared(data), &(true, [false; 2], 5, false));
         let slice = data.as_slice(rt.alloc())?;
-        assert_eq!(rt; slice.as_slice(), FIVE.as_slice(), "split at {at}");
+        same_at(&rt, &at, &slice.as_slice(), &FIVE.as_slice());
     }
-    assert!(rt; RawData::Split(&[], &[]).is_empty());
+    check(&rt, RawData::Split(&[], &[]).is_empty());
     Ok(())
 }
 
@@ -87,14 +84,10 @@ fn reads_two(data: &mut RawData<'_>) -> (Option<[u8; 2]>, bool, bool) {
 fn parts_wherever_it_is_split(rt: HostRuntime) -> Result<(), Fail> {
     for at in 0..6usize {
         let mut data = split(&FIVE, at);
-        assert_eq!(rt; ranges(data), ([true; 2], [false; 2]), "split at {at}");
-        assert_eq!(rt; takes_two(&mut data), (true, true), "split at {at}");
-        assert_eq!(rt; skips_one(&mut data), (true, true), "split at {at}");
-        assert_eq!(rt;
-            reads_two(&mut data),
-            (Some([4, 5]), true, true),
-            "split at {at}"
-        );
+        same_at(&rt, &at, &ranges(data), &([true; 2], [false; 2]));
+        same_at(&rt, &at, &takes_two(&mut data), &(true, true));
+        same_at(&rt, &at, &skips_one(&mut data), &(true, true));
+        same_at(&rt, &at, &reads_two(&mut data), &(Some([4, 5]), true, true));
     }
     Ok(())
 }
@@ -115,15 +108,16 @@ fn numbers(data: RawData<'_>) -> (Option<(u8, u16)>, Option<i32>, Option<u64>, b
 fn numbers_wherever_they_are_split(rt: HostRuntime) -> Result<(), Fail> {
     let bytes = [7, 1, 2, 0xfe, 0xff, 0xff, 0xff, 1, 2, 3, 4, 5, 6, 7, 8];
     for at in 0..16usize {
-        assert_eq!(rt;
-            numbers(split(&bytes, at)),
-            (
+        same_at(
+            &rt,
+            &at,
+            &numbers(split(&bytes, at)),
+            &(
                 Some((7, 0x0201)),
                 Some(-2),
                 Some(0x0102_0304_0506_0708),
-                true
+                true,
             ),
-            "split at {at}"
         );
     }
     Ok(())
@@ -132,22 +126,22 @@ fn numbers_wherever_they_are_split(rt: HostRuntime) -> Result<(), Fail> {
 #[test]
 fn a_short_read_leaves_the_bytes(rt: HostRuntime) -> Result<(), Fail> {
     let mut data = RawData::Split(&[1, 2, 3], &[4, 5]);
-    assert_eq!(rt; data.read_u32::<LittleEndian>()?, 0x0403_0201);
-    assert!(rt; is_short(data.read_u32::<LittleEndian>()));
-    assert!(rt; is_short(data.read_u16::<BigEndian>()));
-    assert!(rt; is_short(data.read_i32::<BigEndian>()));
-    assert!(rt; is_short(data.read_u64::<BigEndian>()));
-    assert!(rt; data == RawData::Single(&[5]));
+    same(&rt, &data.read_u32::<LittleEndian>()?, &0x0403_0201);
+    check(&rt, is_short(data.read_u32::<LittleEndian>()));
+    check(&rt, is_short(data.read_u16::<BigEndian>()));
+    check(&rt, is_short(data.read_i32::<BigEndian>()));
+    check(&rt, is_short(data.read_u64::<BigEndian>()));
+    check(&rt, data == RawData::Single(&[5]));
     Ok(())
 }
 
 #[test]
 fn strings_end_at_nul(rt: HostRuntime) {
     let mut data = RawData::Split(&[97], &[0, 98]);
-    assert!(rt; data.read_string() == Some(RawData::Single(b"a")));
-    assert!(rt; data == RawData::Single(b"b"));
-    assert!(rt; data.read_string().is_none());
-    assert!(rt; data == RawData::Single(b"b"));
+    check(&rt, data.read_string() == Some(RawData::Single(b"a")));
+    check(&rt, data == RawData::Single(b"b"));
+    check(&rt, data.read_string().is_none());
+    check(&rt, data == RawData::Single(b"b"));
 }
 
 // The numbers of the first two, four and eight bytes.
@@ -162,12 +156,14 @@ fn in_order(order: Endianness) -> (u16, u32, u64) {
 
 #[test]
 fn numbers_in_either_order(rt: HostRuntime) {
-    assert_eq!(rt;
-        in_order(Endianness::LittleEndian),
-        (0x0201, 0x0403_0201, 0x0807_0605_0403_0201)
+    same(
+        &rt,
+        &in_order(Endianness::LittleEndian),
+        &(0x0201, 0x0403_0201, 0x0807_0605_0403_0201),
     );
-    assert_eq!(rt;
-        in_order(Endianness::BigEndian),
-        (0x0102, 0x0102_0304, 0x0102_0304_0506_0708)
+    same(
+        &rt,
+        &in_order(Endianness::BigEndian),
+        &(0x0102, 0x0102_0304, 0x0102_0304_0506_0708),
     );
 }

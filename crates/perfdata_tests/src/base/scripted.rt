@@ -1,5 +1,6 @@
 //! The source that follows a script.
 use crate::base::source::reads;
+use crate::helpers::{same, same_at};
 use perfdata_base::source::{PlacedSource, Script, Step};
 use std::io::{ErrorKind, SeekFrom};
 use std::test::Fail;
@@ -31,15 +32,15 @@ fn follows_its_steps(rt: HostRuntime) -> Result<(), Fail> {
         (Some(5), *b"12345"),
         (Some(1), *b"6\0\0\0\0"),
     ] {
-        assert_eq!(rt; five(&mut source), read);
+        same(&rt, &five(&mut source), &read);
     }
     for (to, at) in [
         (SeekFrom::End(0), Some(7)),
         (SeekFrom::Start(0), None),
         (SeekFrom::Start(2), Some(2)),
     ] {
-        assert_eq!(rt; source.seek_to(to).ok(), at, "{to:?}");
+        same_at(&rt, &to, &source.seek_to(to).ok(), &at);
     }
-    assert_eq!(rt; five(&mut source), (Some(5), *b"23456"));
+    same(&rt, &five(&mut source), &(Some(5), *b"23456"));
     Ok(())
 }

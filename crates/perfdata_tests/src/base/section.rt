@@ -1,5 +1,5 @@
 //! Entries of sections, in both orders, and cut.
-use crate::helpers::by_kind;
+use crate::helpers::{by_kind, same};
 use byteorder::{BigEndian, LittleEndian};
 use perfdata_base::section::PerfFileSection;
 use std::io::ErrorKind;
@@ -11,12 +11,17 @@ const ENTRY: [u8; 18] = [1, 2, 3, 4, 5, 6, 7, 8, 9, 0, 0, 0, 0, 0, 0, 0, 0xaa, 0
 fn reads_an_entry(rt: HostRuntime) -> Result<(), Fail> {
     let mut source = &ENTRY[..];
     let entry = PerfFileSection::parse_from::<_, LittleEndian>(&mut source)?;
-    assert_eq!(rt; (entry.offset, entry.size), (0x0807_0605_0403_0201, 9));
-    assert_eq!(rt; source, [0xaa, 0xbb].as_slice());
+    same(
+        &rt,
+        &(entry.offset, entry.size),
+        &(0x0807_0605_0403_0201, 9),
+    );
+    same(&rt, &source, &[0xaa, 0xbb].as_slice());
     let entry = PerfFileSection::parse::<_, BigEndian>(&ENTRY[..])?;
-    assert_eq!(rt;
-        (entry.offset, entry.size),
-        (0x0102_0304_0506_0708, 0x0900_0000_0000_0000)
+    same(
+        &rt,
+        &(entry.offset, entry.size),
+        &(0x0102_0304_0506_0708, 0x0900_0000_0000_0000),
     );
     Ok(())
 }
@@ -24,5 +29,5 @@ fn reads_an_entry(rt: HostRuntime) -> Result<(), Fail> {
 #[test]
 fn is_short_below_sixteen_bytes(rt: HostRuntime) {
     let parsed = PerfFileSection::parse::<_, LittleEndian>(&ENTRY[..15]);
-    assert_eq!(rt; by_kind(parsed).err(), Some(ErrorKind::UnexpectedEof));
+    same(&rt, &by_kind(parsed).err(), &Some(ErrorKind::UnexpectedEof));
 }

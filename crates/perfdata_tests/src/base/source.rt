@@ -2,7 +2,7 @@
 ghost use Rattle.std.specs.Prelude.{◌≡◌, ◌<◌, ℕ, length, Some, IfNone, IfSome};
 ghost use Rattle.perfdata_base.specs.Source.{Rose};
 
-use crate::helpers::by_kind;
+use crate::helpers::{by_kind, same, same_at};
 use perfdata_base::raw::RawData;
 use perfdata_base::source::{
     Counted, CountedBuffer, PlacedSource, Source, append, fill, pass_over, read_all, skip_all,
@@ -52,27 +52,27 @@ impl Read for Faulty {
 // Takes the bytes 0 to 2, and passes over one.
 fn takes_front<S: Source>(rt: &impl Abort, source: &mut S) {
     let mut place = [0u8; 3];
-    assert_eq!(rt; by_kind(fill(source, &mut place)), Ok(3));
-    assert_eq!(rt; place, *b"012");
-    assert_eq!(rt; by_kind(pass_over(source, 1)), Ok(1));
+    same(rt, &by_kind(fill(source, &mut place)), &Ok(3));
+    same(rt, &place, b"012");
+    same(rt, &by_kind(pass_over(source, 1)), &Ok(1));
 }
 
 // Passes over one byte, and fills all but the first of a place.
 fn takes_middle<S: Source>(rt: &impl Abort, source: &mut S) {
     let mut place = *b"012";
-    assert_eq!(rt; by_kind(skip_all(source, 1)), Ok(()));
-    assert_eq!(rt; by_kind(read_all(source, &mut place[1..])), Ok(()));
-    assert_eq!(rt; place, *b"078");
+    same(rt, &by_kind(skip_all(source, 1)), &Ok(()));
+    same(rt, &by_kind(read_all(source, &mut place[1..])), &Ok(()));
+    same(rt, &place, b"078");
 }
 
 // Asks for more where no byte is left.
 fn takes_none<S: Source>(rt: &impl Abort, source: &mut S) {
     let mut place = [0u8; 3];
-    assert_eq!(rt; by_kind(fill(source, &mut place)), Ok(0));
-    assert_eq!(rt; by_kind(pass_over(source, 600)), Ok(0));
+    same(rt, &by_kind(fill(source, &mut place)), &Ok(0));
+    same(rt, &by_kind(pass_over(source, 600)), &Ok(0));
     let short = Err(ErrorKind::UnexpectedEof);
-    assert_eq!(rt; by_kind(read_all(source, &mut place)), short);
-    assert_eq!(rt; by_kind(skip_all(source, 1)), short);
+    same(rt, &by_kind(read_all(source, &mut place)), &short);
+    same(rt, &by_kind(skip_all(source, 1)), &short);
 }
 
 // Takes ten bytes by each helper in turn, and asks each for more than there are.
@@ -80,11 +80,11 @@ fn takes_ten<S: Source + Drop>(rt: &(impl Abort + AllocGlobal), mut source: S) -
     let source = &mut source;
     takes_front(rt, source);
     let mut buffer = Vec::new(rt.alloc());
-    assert_eq!(rt; append(source, &mut buffer, 2)?, 2);
-    assert_eq!(rt; buffer.as_slice(), b"45".as_slice());
+    same(rt, &append(source, &mut buffer, 2)?, &2);
+    same(rt, &buffer.as_slice(), &b"45".as_slice());
     takes_middle(rt, source);
-    assert_eq!(rt; append(source, &mut buffer, 5000)?, 1);
-    assert_eq!(rt; buffer.as_slice(), b"459".as_slice());
+    same(rt, &append(source, &mut buffer, 5000)?, &1);
+    same(rt, &buffer.as_slice(), &b"459".as_slice());
     takes_none(rt, source);
     Ok(())
 }
@@ -127,7 +127,7 @@ fn seeks<S: PlacedSource + Drop>(rt: &impl Abort, mut source: S) -> Result<(), F
         (SeekFrom::Start(u64::MAX), Some(u64::MAX), None),
         (SeekFrom::Current(1), None, None),
     ] {
-        assert_eq!(rt; goes(&mut source, to)?, (at, byte), "{to:?}");
+        same_at(rt, &to, &goes(&mut source, to)?, &(at, byte));
     }
     Ok(())
 }
@@ -151,9 +151,9 @@ fn repeats(kind: ErrorKind, faults: u32) -> (Result<usize, ErrorKind>, [u8; 2]) 
 
 #[test]
 fn repeats_interrupted_reads(rt: HostRuntime) -> Result<(), Fail> {
-    assert_eq!(rt; repeats(ErrorKind::Interrupted, 16), (Ok(2), *b"ab"));
+    same(&rt, &repeats(ErrorKind::Interrupted, 16), &(Ok(2), *b"ab"));
     for (kind, faults) in [(ErrorKind::Interrupted, 17), (ErrorKind::TimedOut, 1)] {
-        assert_eq!(rt; repeats(kind, faults).0, Err(kind));
+        same(&rt, &repeats(kind, faults).0, &Err(kind));
     }
     Ok(())
 }
@@ -177,8 +177,8 @@ fn counts_faults_and_pauses(rt: HostRuntime) -> Result<(), Fail> {
     let mut source = Counted::new(Faulty::new(ErrorKind::Other, 1));
     let mut place = [0u8; 1];
     for came in [None, Some(1), None, Some(1), None, Some(0)] {
-        assert_eq!(rt; reads(&mut source, &mut place), came);
+        same(&rt, &reads(&mut source, &mut place), &came);
     }
-    assert_eq!(rt; source.read_front(&mut [])?, 0);
+    same(&rt, &source.read_front(&mut [])?, &0);
     Ok(())
 }

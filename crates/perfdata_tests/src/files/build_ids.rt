@@ -1,5 +1,5 @@
 //! Entries of build ids, taken one by one off a reader that is lent.
-use crate::helpers::joined;
+use crate::helpers::{joined, same};
 use byteorder::LittleEndian;
 use linux_perf_data::build_id_event::BuildIdEvent;
 use std::alloc::Global;
@@ -28,7 +28,7 @@ fn entries_of_a_lent_reader(rt: HostRuntime) -> Result<(), Fail> {
     let content = joined(rt.alloc(), &entry(b"/a/x\0"), &entry(b"/a/y\0"))?;
     let mut left = content.as_slice();
     for (path, behind) in [(b"/a/x", 41usize), (b"/a/y", 0)] {
-        assert_eq!(rt; take(rt.alloc(), &mut left, path), (true, behind));
+        same(&rt, &take(rt.alloc(), &mut left, path), &(true, behind));
     }
     Ok(())
 }

@@ -1,5 +1,6 @@
 //! Which attribute samples belong to, by the lists of identifiers.
 use super::stream::{indices_of, pipe, pipe_answers, push_identified, push_sample};
+use crate::helpers::same;
 use std::alloc::{AllocError, Global};
 use std::test::Fail;
 
@@ -36,7 +37,11 @@ fn finds_the_last_index(rt: HostRuntime) -> Result<(), Fail> {
     let lists: [&[u64]; 3] = [&[70, 5, u64::MAX, 0], &[6, 5], &[5, 0]];
     let samples = [0, 1, 5, 6, 70, 71, u64::MAX];
     let indices = indices(rt.alloc(), &lists, &[], &samples)?;
-    assert_eq!(rt; indices.as_slice(), [0, 3, 0, 3, 2, 1, 0, 1].as_slice());
+    same(
+        &rt,
+        &indices.as_slice(),
+        &[0, 3, 0, 3, 2, 1, 0, 1].as_slice(),
+    );
     Ok(())
 }
 
@@ -46,6 +51,10 @@ fn inserts(rt: HostRuntime) -> Result<(), Fail> {
     let lists: [&[u64]; 4] = [&[70, 5, u64::MAX, 0, 5], &[], &[6, 5], &[5, 0, 71]];
     let samples = [0, 1, 5, 6, 70, 71, 72, u64::MAX];
     let indices = indices(rt.alloc(), &[], &lists, &samples)?;
-    assert_eq!(rt; indices.as_slice(), [0, 4, 0, 4, 3, 1, 4, 0, 1].as_slice());
+    same(
+        &rt,
+        &indices.as_slice(),
+        &[0, 4, 0, 4, 3, 1, 4, 0, 1].as_slice(),
+    );
     Ok(())
 }

@@ -1,5 +1,6 @@
 //! The records of a file and of a pipe, with their places, and what is refused.
 use super::stream::{Answer, file, file_answers, pipe, pipe_answers, push_attribute};
+use crate::helpers::{check, same, same_at};
 use counted::count_records;
 use linux_perf_data::RecordPlace;
 use linux_perf_data::source::{Counted, Script, Step};
@@ -81,7 +82,7 @@ fn of_pipe(alloc: Global, first: &[u8], behind: &[u8], count: usize) -> Result<V
 #[test]
 fn hands_out_records_with_their_places(rt: HostRuntime) -> Result<(), Fail> {
     let answers = of_file(rt.alloc(), &RECORDS, 107, 5)?;
-    assert_eq!(rt; answers.as_slice(), ANSWERS.as_slice());
+    same(&rt, &answers.as_slice(), &ANSWERS.as_slice());
     Ok(())
 }
 
@@ -103,7 +104,7 @@ fn refuses_what_is_no_record(rt: HostRuntime) -> Result<(), Fail> {
         let answers = of_file(rt.alloc(), bytes, 200, 3)?;
         let failed = Answer::Refused("failed");
         let wanted = [Answer::Refused(fault), failed, failed];
-        assert_eq!(rt; answers.as_slice(), wanted.as_slice());
+        same(&rt, &answers.as_slice(), &wanted.as_slice());
     }
     Ok(())
 }
@@ -112,7 +113,7 @@ fn refuses_what_is_no_record(rt: HostRuntime) -> Result<(), Fail> {
 #[test]
 fn hands_out_records_of_a_pipe(rt: HostRuntime) -> Result<(), Fail> {
     let answers = of_pipe(rt.alloc(), &RECORDS, &[], 5)?;
-    assert_eq!(rt; answers.as_slice(), ANSWERS.as_slice());
+    same(&rt, &answers.as_slice(), &ANSWERS.as_slice());
     Ok(())
 }
 
@@ -143,10 +144,11 @@ fn ends_a_pipe_where_a_record_is_cut(rt: HostRuntime) -> Result<(), Fail> {
     ] {
         let got = of_pipe(rt.alloc(), &RECORDS[..24], bytes, 3)?;
         let [second, third] = answers;
-        assert_eq!(rt;
-            got.as_slice(),
-            [SAMPLE, second, third].as_slice(),
-            "{bytes:?}"
+        same_at(
+            &rt,
+            &bytes,
+            &got.as_slice(),
+            &[SAMPLE, second, third].as_slice(),
         );
     }
     Ok(())
@@ -173,7 +175,7 @@ fn pausing(alloc: Global, before: usize, count: usize) -> Result<Vec<Answer>, Fa
 fn ends_a_pipe_that_pauses(rt: HostRuntime) -> Result<(), Fail> {
     let answers = pausing(rt.alloc(), 132, 3)?;
     let wanted = [SAMPLE, Answer::Nothing, Answer::Nothing];
-    assert_eq!(rt; answers.as_slice(), wanted.as_slice());
+    same(&rt, &answers.as_slice(), &wanted.as_slice());
     Ok(())
 }
 
@@ -188,7 +190,10 @@ fn counts_the_records_of_a_file(rt: HostRuntime) -> Result<(), Fail> {
     ];
     for (records, size, count) in cases {
         let bytes = file(rt.alloc(), &ATTRIBUTE, records, size)?;
-        assert!(rt; count_records(rt.alloc(), bytes.as_slice()).ok() == count);
+        check(
+            &rt,
+            count_records(rt.alloc(), bytes.as_slice()).ok() == count,
+        );
     }
     Ok(())
 }

@@ -3,6 +3,7 @@ use super::stream::{
     Answer, IDENTIFIER, described, indices_of, pipe, pipe_answers, push_attribute, push_identified,
     push_sample,
 };
+use crate::helpers::{same, same_at};
 use std::alloc::Global;
 use std::test::Fail;
 
@@ -30,7 +31,7 @@ fn tells_attributes_that_come_later(rt: HostRuntime) -> Result<(), Fail> {
     let lists: [&[u64]; 4] = [&[9, 7], &[71, 7], &[], &[9]];
     let indices = indices(rt.alloc(), &lists)?;
     let wanted = [0, 1, 1, 0, 2, 1, 2, 2, 1, 2, 2, 4, 2];
-    assert_eq!(rt; indices.as_slice(), wanted.as_slice());
+    same(&rt, &indices.as_slice(), &wanted.as_slice());
     Ok(())
 }
 
@@ -98,7 +99,7 @@ fn names_the_first_breach(rt: HostRuntime) -> Result<(), Fail> {
         (ID, ID, (0, false), (2, Some(Answer::Lacks(0)))),
     ] {
         let got = breach_of(rt.alloc(), first, second, third)?;
-        assert_eq!(rt; got, breach, "of {first} and {second}");
+        same_at(&rt, &(first, second), &got, &breach);
     }
     Ok(())
 }

@@ -1,5 +1,5 @@
 //! Jitdump files whose source fails, pauses or grows at each place in turn.
-use crate::helpers::by_kind;
+use crate::helpers::{by_kind, same, same_at};
 use crate::jit::jitdump_reader::{Answer, FILE, LOAD, head_of_size, next, passed_over};
 use perfdata_base::source::{Script, Step};
 use perfdata_jit::{JitDumpError, JitDumpReader};
@@ -88,7 +88,7 @@ fn a_stop_at_each_read_behind_the_header(rt: HostRuntime) -> Result<(), Fail> {
             ] {
                 let source = stopping(rt.alloc(), at, stop)?;
                 let came = two_answers(rt.alloc(), source, size);
-                assert_eq!(rt; came, promised(size, at, stop), "{size} {at} {stop:?}");
+                same_at(&rt, &(size, at, stop), &came, &promised(size, at, stop));
             }
         }
     }
@@ -108,10 +108,10 @@ fn each_seek_of_passing_over_fails(rt: HostRuntime) -> Result<(), Fail> {
     ] {
         for seek in 0..3u64 {
             let came = passed_over(rt.alloc(), shown, &[], &[seek])?;
-            assert_eq!(rt; came, refused, "{shown} {seek}");
+            same_at(&rt, &(shown, seek), &came, &refused);
         }
         let came = passed_over(rt.alloc(), shown, &[], &[3])?;
-        assert_eq!(rt; came, whole, "{shown}");
+        same_at(&rt, &shown, &came, &whole);
     }
     Ok(())
 }
@@ -134,7 +134,7 @@ fn a_size_below_the_head_is_not_passed_over(rt: HostRuntime) -> Result<(), Fail>
     for size in 0..16u32 {
         let invalid = Some(ErrorKind::InvalidData);
         let came = too_small(rt.alloc(), size)?;
-        assert_eq!(rt; came, ([invalid, invalid], 40, Some(size)));
+        same(&rt, &came, &([invalid, invalid], 40, Some(size)));
     }
     Ok(())
 }

@@ -1,5 +1,5 @@
 //! Faults inside the messages of a simpleperf file, each by its name.
-use crate::helpers::{by_kind, joined};
+use crate::helpers::{by_kind, joined, same, same_at};
 use crate::simpleperf::file_record::fault_of;
 use crate::simpleperf::sections::{Answer, answer_of};
 use byteorder::LittleEndian;
@@ -21,10 +21,11 @@ fn faults_inside_inner_messages(rt: HostRuntime) -> Result<(), Fail> {
     ] {
         let section = joined(rt.alloc(), &[length, 0, 0, 0], bytes)?;
         let read = parse_file2_section(rt.alloc(), &section, Endianness::LittleEndian);
-        assert_eq!(rt;
-            (fault_of(rt.alloc(), bytes), answer_of(read, (0, 0))),
-            (Some(fault), Answer::Message(fault)),
-            "{bytes:?}"
+        same_at(
+            &rt,
+            &bytes,
+            &(fault_of(rt.alloc(), bytes), answer_of(read, (0, 0))),
+            &(Some(fault), Answer::Message(fault)),
         );
     }
     Ok(())
@@ -40,7 +41,7 @@ const NAMED: [u8; 36] = [
 fn a_symbol_of_an_older_record_whose_name_is_no_text(rt: HostRuntime) {
     let invalid = ErrorKind::InvalidData;
     let alone = SimpleperfFileRecord::decode_v1::<LittleEndian>(rt.alloc(), &NAMED[4..]);
-    assert_eq!(rt; by_kind(alone).err(), Some(invalid));
+    same(&rt, &by_kind(alone).err(), &Some(invalid));
     let read = parse_file_section(rt.alloc(), &NAMED, Endianness::LittleEndian);
-    assert_eq!(rt; answer_of(read, (0, 0)), Answer::Record(invalid));
+    same(&rt, &answer_of(read, (0, 0)), &Answer::Record(invalid));
 }

@@ -1,4 +1,5 @@
 //! Parsers that take their source by value take its bytes and no more, and no place is gone to that can't be one.
+use crate::helpers::same_at;
 use crate::parts::event_types::two_entries;
 use byteorder::{BigEndian, LittleEndian};
 use perfdata_base::attr::PerfEventAttr;
@@ -77,11 +78,12 @@ fn parts_take_their_own_bytes(rt: HostRuntime) {
             let mut cursor = Cursor::new(&bytes[..]);
             cursor.set_position(3);
             let second = is_parsed(part, is_little, &mut cursor);
-            assert_eq!(rt; (first, second), (true, true), "{part:?} {is_little}");
-            assert_eq!(rt;
-                (rest.len(), cursor.position()),
-                (197 - taken, 3 + taken as u64),
-                "{part:?} {is_little}"
+            same_at(&rt, &(part, is_little), &(first, second), &(true, true));
+            same_at(
+                &rt,
+                &(part, is_little),
+                &(rest.len(), cursor.position()),
+                &(197 - taken, 3 + taken as u64),
             );
         }
     }
@@ -95,10 +97,11 @@ fn a_header_takes_its_own_bytes(rt: HostRuntime) {
             let mut cursor = Cursor::new(&bytes[..]);
             cursor.set_position(3);
             let parsed = PerfHeader::parse(&mut cursor).is_ok();
-            assert_eq!(rt;
-                (parsed, cursor.position()),
-                (true, 3 + taken),
-                "{size} {is_little}"
+            same_at(
+                &rt,
+                &(size, is_little),
+                &(parsed, cursor.position()),
+                &(true, 3 + taken),
             );
         }
     }
@@ -200,7 +203,7 @@ fn ids_past_every_place_are_refused_untouched(rt: HostRuntime) {
         (u64::MAX, (Err(true), (0, 80, false))),
         (u64::MAX - 7, (Err(true), (0, 80, false))),
     ] {
-        assert_eq!(rt; noted(rt.alloc(), offset, None), wanted, "{offset}");
+        same_at(&rt, &offset, &noted(rt.alloc(), offset, None), &wanted);
     }
 }
 
@@ -214,7 +217,7 @@ fn ids_of_named_events_past_every_place_are_refused_untouched(rt: HostRuntime) -
         (u64::MAX - 7, (Err(true), (0, 80, false))),
     ] {
         let came = noted(rt.alloc(), offset, Some(slice::from_ref(&event)));
-        assert_eq!(rt; came, wanted, "{offset}");
+        same_at(&rt, &offset, &came, &wanted);
     }
     Ok(())
 }

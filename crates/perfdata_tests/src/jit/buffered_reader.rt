@@ -1,4 +1,5 @@
 //! The buffered reader: parts that run over the buffer's end, and bytes that are passed over.
+use crate::helpers::{check_at, same, same_at};
 use perfdata_base::raw::RawData;
 use perfdata_jit::{BufferedReader, ReadExactOrUntilEof};
 use std::io::Cursor;
@@ -13,7 +14,7 @@ fn a_part_runs_over_the_end(rt: HostRuntime) -> Result<(), Fail> {
     let mut buffer = Vec::new(rt.alloc());
     buffer.resize(6, 0)?;
     let came = source.read_exact_or_until_eof(&mut buffer[..2])?;
-    assert_eq!(rt; came, 2);
+    same(&rt, &came, &2);
     let mut reader = BufferedReader::new_with_partially_read_buffer(
         rt.alloc(),
         source,
@@ -32,7 +33,7 @@ fn a_part_runs_over_the_end(rt: HostRuntime) -> Result<(), Fail> {
             (None, None) => true,
             _ => false,
         };
-        assert!(rt; is_part, "{count}");
+        check_at(&rt, &count, is_part);
     }
     Ok(())
 }
@@ -51,7 +52,7 @@ fn passes_over_bytes(rt: HostRuntime) -> Result<(), Fail> {
         0,
     );
     for (count, passed) in [(7, true), (3, false), (2, true), (1, false)] {
-        assert_eq!(rt; reader.skip_bytes(count)?, passed, "{count}");
+        same_at(&rt, &count, &reader.skip_bytes(count)?, &passed);
     }
     Ok(())
 }

@@ -1,4 +1,5 @@
 //! The texts of errors.
+use crate::helpers::same;
 use perfdata_jit::JitDumpError;
 use std::io::{Error, ErrorKind};
 use std::test::Fail;
@@ -33,7 +34,7 @@ fn shows_why(rt: HostRuntime) -> Result<(), Fail> {
         ),
     ] {
         let shown = format!(in rt.alloc(); "{error}")?;
-        assert_eq!(rt; shown.as_str(), text);
+        same(&rt, &shown.as_str(), &text);
     }
     Ok(())
 }

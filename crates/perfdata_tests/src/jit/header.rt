@@ -1,4 +1,5 @@
 //! Headers of jitdump files, wherever they are split, and the first reason why there is none.
+use crate::helpers::{same, same_at};
 use crate::jit::jitdump_reader::FILE;
 use byteorder::LittleEndian;
 use perfdata_base::raw::RawData;
@@ -68,10 +69,10 @@ fn reads_each_field_wherever_it_is_split(rt: HostRuntime) {
     for at in 0..41usize {
         let (front, back) = FILE[..40].split_at(at);
         let got = parse(RawData::Split(front, back));
-        assert_eq!(rt; got, Ok(wanted), "split at {at}");
+        same_at(&rt, &at, &got, &Ok(wanted));
     }
     let wanted = ([0x4a, 0x69, 0x54, 0x44], (1, 40), (2, 4), (5, 6));
-    assert_eq!(rt; parse(RawData::Single(&BIG)), Ok(wanted));
+    same(&rt, &parse(RawData::Single(&BIG)), &Ok(wanted));
 }
 
 #[test]
@@ -87,18 +88,26 @@ fn refuses_by_the_first_reason(rt: HostRuntime) {
         (8, 39, 40, Refusal::Size(39)),
     ] {
         let got = changed(at, byte, count);
-        assert_eq!(rt; got, Err(refusal), "{byte} at {at}, cut to {count}");
+        same_at(&rt, &(byte, at, count), &got, &Err(refusal));
     }
     let wanted = ([0x44, 0x54, 0x69, 0x4a], (9, 40), (62, 7), (5, 0));
-    assert_eq!(rt; changed(4, 9, 40), Ok(wanted));
+    same(&rt, &changed(4, 9, 40), &Ok(wanted));
     let elf = [0x7f, 0x45, 0x4c, 0x46];
-    assert_eq!(rt; parse(RawData::Single(&elf)), Err(Refusal::Magic(elf)));
+    same(
+        &rt,
+        &parse(RawData::Single(&elf)),
+        &Err(Refusal::Magic(elf)),
+    );
 }
 
 #[test]
 fn takes_small_headers_behind_the_magic(rt: HostRuntime) {
     let mut bytes = FILE;
     bytes[8] = 39;
-    assert_eq!(rt; behind_magic(&bytes[4..40]), Ok((39, 5)));
-    assert_eq!(rt; behind_magic(&bytes[4..39]), Err(ErrorKind::UnexpectedEof));
+    same(&rt, &behind_magic(&bytes[4..40]), &Ok((39, 5)));
+    same(
+        &rt,
+        &behind_magic(&bytes[4..39]),
+        &Err(ErrorKind::UnexpectedEof),
+    );
 }

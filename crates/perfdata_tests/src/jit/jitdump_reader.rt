@@ -1,5 +1,5 @@
 //! The reader, over sources that show their bytes bit by bit, pause, fail and grow.
-use crate::helpers::{by_kind, joined};
+use crate::helpers::{by_kind, check, joined, same, same_at};
 use perfdata_base::raw::RawData;
 use perfdata_base::source::{Script, Source, Step};
 use perfdata_jit::{
@@ -140,7 +140,7 @@ fn loses_nothing_where_the_file_grows_by_a_byte(rt: HostRuntime) -> Result<(), F
             }
             wanted.push((LOAD, 102))?;
             let came = answers(rt.alloc(), source, 40, wanted.len())?;
-            assert_eq!(rt; came.as_slice(), wanted.as_slice(), "at {at}");
+            same_at(&rt, &at, &came.as_slice(), &wanted.as_slice());
         }
     }
     Ok(())
@@ -161,7 +161,7 @@ fn an_opening_answers_a_fault_at_once(rt: HostRuntime) -> Result<(), Fail> {
     for at in 0..40usize {
         for kind in [ErrorKind::Interrupted, ErrorKind::TimedOut] {
             let fault = fault_of_opening(rt.alloc(), at, kind)?;
-            assert_eq!(rt; fault, Some(kind), "at {at}");
+            same_at(&rt, &at, &fault, &Some(kind));
         }
     }
     Ok(())
@@ -184,7 +184,7 @@ fn a_cut_file_waits(rt: HostRuntime) {
         } else {
             Ok((Answer::Nothing, 40))
         };
-        assert_eq!(rt; first_answer(rt.alloc(), &FILE[..cut]), wanted, "at {cut}");
+        same_at(&rt, &cut, &first_answer(rt.alloc(), &FILE[..cut]), &wanted);
     }
 }
 
@@ -219,12 +219,13 @@ fn next_code<R: Source>(
 #[test]
 fn tells_of_the_next_record(rt: HostRuntime) -> Result<(), Fail> {
     let mut reader = JitDumpReader::new(rt.alloc(), &FILE[..])?;
-    assert_eq!(rt; reader.header().pid, 7);
-    assert_eq!(rt; by_kind(reader.next_record_timestamp()), Ok(Some(9)));
-    assert_eq!(rt; type_and_size(&mut reader), Some((0, 62)));
-    assert_eq!(rt;
-        next_code(rt.alloc(), &mut reader),
-        (LOAD, Some((60, true)))
+    same(&rt, &reader.header().pid, &7);
+    same(&rt, &by_kind(reader.next_record_timestamp()), &Ok(Some(9)));
+    same(&rt, &type_and_size(&mut reader), &Some((0, 62)));
+    same(
+        &rt,
+        &next_code(rt.alloc(), &mut reader),
+        &(LOAD, Some((60, true))),
     );
     Ok(())
 }
@@ -234,11 +235,12 @@ fn a_record_comes_in_single_bytes(rt: HostRuntime) -> Result<(), Fail> {
     let steps = bytes_then(rt.alloc(), 102, Step::Pause)?;
     let source = script(rt.alloc(), 102, steps)?;
     let mut reader = opened(rt.alloc(), source, 40)?;
-    assert_eq!(rt;
-        next_code(rt.alloc(), &mut reader),
-        (LOAD, Some((60, true)))
+    same(
+        &rt,
+        &next_code(rt.alloc(), &mut reader),
+        &(LOAD, Some((60, true))),
     );
-    assert_eq!(rt; reader.next_record_offset(), 102);
+    same(&rt, &reader.next_record_offset(), &102);
     Ok(())
 }
 
@@ -259,7 +261,7 @@ fn next_pieces<R: Source>(reader: &mut JitDumpReader<R>) -> Option<(bool, usize,
 #[test]
 fn a_body_may_lie_in_two_pieces(rt: HostRuntime) -> Result<(), Fail> {
     let mut reader = opened(rt.alloc(), &FILE[..], 64)?;
-    assert_eq!(rt; next_pieces(&mut reader), Some((true, 8, 38)));
+    same(&rt, &next_pieces(&mut reader), &Some((true, 8, 38)));
     Ok(())
 }
 
@@ -273,9 +275,9 @@ fn records_begin_behind_the_whole_header(rt: HostRuntime) -> Result<(), Fail> {
     bytes.extend_from_slice(&[0xee; 8])?;
     bytes.extend_from_slice(&FILE[40..])?;
     let mut reader = opened(rt.alloc(), bytes.as_slice(), 64)?;
-    assert_eq!(rt; reader.next_record_offset(), 48);
+    same(&rt, &reader.next_record_offset(), &48);
     let wanted = (Answer::Record((48, 9, 0, 62), true), 110);
-    assert_eq!(rt; next(&mut reader), wanted);
+    same(&rt, &next(&mut reader), &wanted);
     Ok(())
 }
 
@@ -308,10 +310,10 @@ fn refuses_a_size_below_the_head(rt: HostRuntime) -> Result<(), Fail> {
     for size in 0..16u32 {
         let invalid = (Answer::Refused(ErrorKind::InvalidData), 40);
         let got = answers_of_size(rt.alloc(), size)?;
-        assert_eq!(rt; got, ([invalid, invalid], Some((0, size))));
+        same(&rt, &got, &([invalid, invalid], Some((0, size))));
     }
     let got = answer_of_greatest(rt.alloc(), &[], 40)?;
-    assert_eq!(rt; got, (Answer::Nothing, false, 40));
+    same(&rt, &got, &(Answer::Nothing, false, 40));
     Ok(())
 }
 
@@ -321,7 +323,7 @@ fn neither_gives_nor_passes_over_a_record_longer_than_its_file(
 ) -> Result<(), Fail> {
     for size in [40usize, 4096] {
         let got = answer_of_greatest(rt.alloc(), &FILE[56..], size)?;
-        assert_eq!(rt; got, (Answer::Nothing, false, 40), "{size}");
+        same_at(&rt, &size, &got, &(Answer::Nothing, false, 40));
     }
     Ok(())
 }
@@ -372,13 +374,13 @@ fn waits_for_a_record_longer_than_any_file(rt: HostRuntime) -> Result<(), Fail> 
     for (size, pauses) in [(Some(40usize), 1usize), (None, 2)] {
         let mut reader = waiting(rt.alloc(), size, pauses)?;
         for call in 0..3u32 {
-            assert_eq!(rt; next(&mut reader), (Answer::Nothing, 40), "call {call}");
-            assert_eq!(rt; by_kind(reader.next_record_timestamp()), Ok(Some(9)));
+            same_at(&rt, &call, &next(&mut reader), &(Answer::Nothing, 40));
+            same(&rt, &by_kind(reader.next_record_timestamp()), &Ok(Some(9)));
         }
     }
     for size in [40usize, 4096] {
         let got = parts_of_greatest(rt.alloc(), size)?;
-        assert_eq!(rt; got, ([Some(40), Some(16), None, None, None], true));
+        same(&rt, &got, &([Some(40), Some(16), None, None, None], true));
     }
     Ok(())
 }
@@ -387,11 +389,11 @@ fn waits_for_a_record_longer_than_any_file(rt: HostRuntime) -> Result<(), Fail> 
 fn passes_over_records(rt: HostRuntime) -> Result<(), Fail> {
     let bytes = joined(rt.alloc(), &FILE, &CLOSE)?;
     let mut reader = opened(rt.alloc(), Cursor::new(bytes), 4096)?;
-    assert!(rt; reader.skip_next_record()?);
+    check(&rt, reader.skip_next_record()?);
     let wanted = (Answer::Record((102, 11, 3, 16), false), 118);
-    assert_eq!(rt; next(&mut reader), wanted);
-    assert!(rt; !reader.skip_next_record()?);
-    assert_eq!(rt; next(&mut reader), (Answer::Nothing, 118));
+    same(&rt, &next(&mut reader), &wanted);
+    check(&rt, !reader.skip_next_record()?);
+    same(&rt, &next(&mut reader), &(Answer::Nothing, 118));
     Ok(())
 }
 
@@ -425,16 +427,16 @@ fn passes_over_what_is_shown_alone(rt: HostRuntime) -> Result<(), Fail> {
     let steps = [Step::Give(40), Step::Give(20), Step::Grow(80)];
     let came = passed_over(rt.alloc(), 60, &steps, &[])?;
     let record = (Answer::Record((40, 9, 0, 100), false), 140);
-    assert_eq!(rt; came, ((Ok(false), 40), Ok(Some(9)), record));
+    same(&rt, &came, &((Ok(false), 40), Ok(Some(9)), record));
     let other = ErrorKind::Other;
     let refused = ((Err(other), 40), Err(other), (Answer::Refused(other), 40));
     for failing in 0..3u64 {
         let came = passed_over(rt.alloc(), 140, &[], &[failing])?;
-        assert_eq!(rt; came, refused, "{failing}");
+        same_at(&rt, &failing, &came, &refused);
     }
     let came = passed_over(rt.alloc(), 140, &[], &[3])?;
     let whole = ((Ok(true), 140), Ok(None), (Answer::Nothing, 140));
-    assert_eq!(rt; came, whole);
+    same(&rt, &came, &whole);
     Ok(())
 }
 
@@ -457,6 +459,6 @@ fn ten_records_go_round_the_ring(rt: HostRuntime) -> Result<(), Fail> {
     }
     wanted.push((Answer::Nothing, 660))?;
     let came = answers(rt.alloc(), ten_records(rt.alloc())?, 64, 11)?;
-    assert_eq!(rt; came.as_slice(), wanted.as_slice());
+    same(&rt, &came.as_slice(), &wanted.as_slice());
     Ok(())
 }

@@ -1,5 +1,5 @@
 //! Heads of records, the numbers of types, and each record in the form that its type has.
-use crate::helpers::by_kind;
+use crate::helpers::{by_kind, same, same_at};
 use crate::jit::jitdump_reader::FILE;
 use byteorder::LittleEndian;
 use perfdata_base::raw::{Endianness, RawData};
@@ -72,11 +72,15 @@ fn reads_heads(rt: HostRuntime) -> Result<(), Fail> {
     ] {
         let wanted = (JitDumpRecordType::JIT_CODE_LOAD, 62, 9);
         let head = JitDumpRecordHeader::parse(order, RawData::Single(bytes))?;
-        assert_eq!(rt; (head.record_type, head.total_size, head.timestamp), wanted);
+        same(
+            &rt,
+            &(head.record_type, head.total_size, head.timestamp),
+            &wanted,
+        );
     }
     let cut = RawData::Single(&FILE[40..55]);
     let parsed = JitDumpRecordHeader::parse_impl::<LittleEndian>(cut);
-    assert_eq!(rt; by_kind(parsed).err(), Some(ErrorKind::UnexpectedEof));
+    same(&rt, &by_kind(parsed).err(), &Some(ErrorKind::UnexpectedEof));
     Ok(())
 }
 
@@ -89,9 +93,10 @@ fn types_have_their_numbers(rt: HostRuntime) {
         (3, JitDumpRecordType::JIT_CODE_CLOSE),
         (4, JitDumpRecordType::JIT_CODE_UNWINDING_INFO),
     ] {
-        assert_eq!(rt;
-            (JitDumpRecordType(number), kind < JitDumpRecordType(5)),
-            (kind, true)
+        same(
+            &rt,
+            &(JitDumpRecordType(number), kind < JitDumpRecordType(5)),
+            &(kind, true),
         );
     }
 }
@@ -101,7 +106,7 @@ fn parses_by_type(rt: HostRuntime) {
     for at in 0..47usize {
         let (front, back) = FILE[56..].split_at(at);
         let got = parse(rt.alloc(), 0, RawData::Split(front, back));
-        assert_eq!(rt; got, Ok(Parsed::Load(true)), "split at {at}");
+        same_at(&rt, &at, &got, &Ok(Parsed::Load(true)));
     }
     for (kind, wanted) in [
         (2, Err(ErrorKind::UnexpectedEof)),
@@ -111,6 +116,6 @@ fn parses_by_type(rt: HostRuntime) {
         (5, Ok(Parsed::Other(46))),
     ] {
         let got = parse(rt.alloc(), kind, RawData::Single(&FILE[56..]));
-        assert_eq!(rt; got, wanted, "of type {kind}");
+        same_at(&rt, &kind, &got, &wanted);
     }
 }

@@ -1,5 +1,5 @@
 //! The bodies of records: their fields, what is refused, and the entry of an address.
-use crate::helpers::by_kind;
+use crate::helpers::{by_kind, same, same_at};
 use crate::jit::jitdump_reader::FILE;
 use byteorder::{ByteOrder, LittleEndian};
 use perfdata_base::raw::{Endianness, RawData};
@@ -19,15 +19,16 @@ fn loads_are_short_without_code_or_nul(rt: HostRuntime) -> Result<(), Fail> {
     nameless[56 + 43] = b'o';
     for bytes in [&more[56..], &nameless[56..], &FILE[56..95]] {
         let load = JitCodeLoadRecord::parse(Endianness::LittleEndian, RawData::Single(bytes));
-        assert_eq!(rt;
-            by_kind(load).err(),
-            Some(ErrorKind::UnexpectedEof),
-            "{bytes:?}"
+        same_at(
+            &rt,
+            &bytes,
+            &by_kind(load).err(),
+            &Some(ErrorKind::UnexpectedEof),
         );
     }
     let load = JitCodeLoadRecord::parse_impl::<LittleEndian>(RawData::Single(&FILE[56..]))?;
-    assert_eq!(rt; load.code_bytes.len(), 2);
-    assert_eq!(rt; JitCodeLoadRecord::NAME_OFFSET_FROM_RECORD_START, 56);
+    same(&rt, &load.code_bytes.len(), &2);
+    same(&rt, &JitCodeLoadRecord::NAME_OFFSET_FROM_RECORD_START, &56);
     Ok(())
 }
 
@@ -53,8 +54,8 @@ const MOVE: [u8; 49] = [
 
 #[test]
 fn reads_moves(rt: HostRuntime) {
-    assert_eq!(rt; big_move(&MOVE), Ok(((1, 2, 3), (4, 5), (6, 7))));
-    assert_eq!(rt; big_move(&MOVE[..47]), Err(ErrorKind::UnexpectedEof));
+    same(&rt, &big_move(&MOVE), &Ok(((1, 2, 3), (4, 5), (6, 7))));
+    same(&rt, &big_move(&MOVE[..47]), &Err(ErrorKind::UnexpectedEof));
 }
 
 // Debug info for the address 0x10 that counts so many entries and has one, for 0x20, line 3, column 4 and `a.js`.
@@ -88,12 +89,12 @@ fn reads_debug_info(rt: HostRuntime) {
     for at in 0..38usize {
         let (front, back) = body.split_at(at);
         let got = info_of(rt.alloc(), RawData::Split(front, back));
-        assert_eq!(rt; got, Ok((0x10, 1, true)), "split at {at}");
+        same_at(&rt, &at, &got, &Ok((0x10, 1, true)));
     }
     for (count, held) in [(u64::MAX, 37usize), (2, 37), (1, 36), (1, 31), (1, 15)] {
         let body = debug_info(count);
         let got = info_of(rt.alloc(), RawData::Single(&body[..held]));
-        assert_eq!(rt; got, Err(ErrorKind::UnexpectedEof), "{count} in {held}");
+        same_at(&rt, &(count, held), &got, &Err(ErrorKind::UnexpectedEof));
     }
 }
 
@@ -123,12 +124,13 @@ fn unwinding_of(bytes: &[u8]) -> Result<(u64, bool, bool), ErrorKind> {
 #[test]
 fn reads_unwinding_info(rt: HostRuntime) {
     let body = unwinding(1);
-    assert_eq!(rt; unwinding_of(&body), Ok((2, true, true)));
+    same(&rt, &unwinding_of(&body), &Ok((2, true, true)));
     for bytes in [&unwinding(3)[..], &body[..23], &body[..25]] {
-        assert_eq!(rt;
-            unwinding_of(bytes),
-            Err(ErrorKind::UnexpectedEof),
-            "{bytes:?}"
+        same_at(
+            &rt,
+            &bytes,
+            &unwinding_of(bytes),
+            &Err(ErrorKind::UnexpectedEof),
         );
     }
 }
@@ -164,7 +166,7 @@ fn looked_up(info: &JitCodeDebugInfoRecord<'_>, addr: u64) -> Option<u64> {
 #[test]
 fn looks_up_the_entry_of_an_address(rt: HostRuntime) -> Result<(), Fail> {
     let none = with_entries(rt.alloc(), &[])?;
-    assert_eq!(rt; looked_up(&none, u64::MAX), None);
+    same(&rt, &looked_up(&none, u64::MAX), &None);
     let info = with_entries(rt.alloc(), &[0x10, 0x20])?;
     for (addr, found) in [
         (0x0f, None),
@@ -173,7 +175,7 @@ fn looks_up_the_entry_of_an_address(rt: HostRuntime) -> Result<(), Fail> {
         (0x20, Some(0x20)),
         (u64::MAX, Some(0x20)),
     ] {
-        assert_eq!(rt; looked_up(&info, addr), found);
+        same(&rt, &looked_up(&info, addr), &found);
     }
     Ok(())
 }

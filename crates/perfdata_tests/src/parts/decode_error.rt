@@ -1,4 +1,5 @@
 //! The texts of the errors of protobuf messages.
+use crate::helpers::same;
 use perfdata_parts::decode_error::DecodeError;
 use std::test::Fail;
 
@@ -15,7 +16,7 @@ fn shows_its_name(rt: HostRuntime) -> Result<(), Fail> {
         (DecodeError::Memory, "Memory"),
     ] {
         let shown = format!(in rt.alloc(); "{error}")?;
-        assert_eq!(rt; shown.as_str(), name);
+        same(&rt, &shown.as_str(), &name);
     }
     Ok(())
 }

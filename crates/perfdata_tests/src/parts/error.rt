@@ -1,4 +1,5 @@
 //! The texts of errors, and what they are made of.
+use crate::helpers::{check, same};
 use perfdata_parts::decode_error::DecodeError;
 use perfdata_parts::error::{Error, ReadError, short, unsupported};
 use std::alloc::{AllocError, AllocFailed};
@@ -9,7 +10,7 @@ use std::test::Fail;
 
 fn shows(rt: &(impl Abort + AllocGlobal), error: Error, text: &str) -> Result<(), Fail> {
     let shown = format!(in rt.alloc(); "{error}")?;
-    assert_eq!(rt; shown.as_str(), text);
+    same(rt, &shown.as_str(), &text);
     Ok(())
 }
 
@@ -179,12 +180,12 @@ fn is_utf8_fault(bytes: &[u8]) -> bool {
 #[test]
 fn comes_from_other_errors(rt: HostRuntime) {
     let part = Error::from(ReadError::NrCpus);
-    assert!(rt; matches!(part, Error::Read(ReadError::NrCpus)));
+    check(&rt, matches!(part, Error::Read(ReadError::NrCpus)));
     let fault = Error::from(io::Error::from(ErrorKind::OutOfMemory));
-    assert!(rt; is_io_of(fault, ErrorKind::OutOfMemory));
-    assert!(rt; is_utf8_fault(b"\xff"));
-    assert!(rt; matches!(Error::from(AllocError), Error::Memory));
+    check(&rt, is_io_of(fault, ErrorKind::OutOfMemory));
+    check(&rt, is_utf8_fault(b"\xff"));
+    check(&rt, matches!(Error::from(AllocError), Error::Memory));
     let failed = Error::from(AllocFailed { value: 7u8 });
-    assert!(rt; matches!(failed, Error::Memory));
-    assert!(rt; is_io_of(unsupported(), ErrorKind::Unsupported));
+    check(&rt, matches!(failed, Error::Memory));
+    check(&rt, is_io_of(unsupported(), ErrorKind::Unsupported));
 }

@@ -1,4 +1,5 @@
 //! The section EVENT_DESC: its events, in both orders, and what is refused.
+use crate::helpers::{same, same_at};
 use crate::parts::refused::Refused;
 use byteorder::{BigEndian, LittleEndian};
 use perfdata_parts::feature_sections::AttributeDescription;
@@ -45,10 +46,11 @@ fn reads_an_event(rt: HostRuntime) -> Result<(), Fail> {
         rt.alloc(),
         &mut cursor,
     )?;
-    assert_eq!(rt; cursor.position(), 90);
-    assert_eq!(rt;
-        [told(&all, 0, Some("c")), told(&all, 1, None)],
-        [Some((64, 4, true, [Some(5), None])), None]
+    same(&rt, &cursor.position(), &90);
+    same(
+        &rt,
+        &[told(&all, 0, Some("c")), told(&all, 1, None)],
+        &[Some((64, 4, true, [Some(5), None])), None],
     );
     Ok(())
 }
@@ -66,9 +68,10 @@ fn goes_on_at_the_end_of_the_frame(rt: HostRuntime) -> Result<(), Fail> {
     let mut cursor = Cursor::new(&bytes[..]);
     cursor.set_position(1);
     let all = AttributeDescription::parse_event_desc_section::<_, BigEndian>(rt.alloc(), cursor)?;
-    assert_eq!(rt;
-        [told(&all, 0, None), told(&all, 1, None)],
-        [Some((64, 0, true, [None; 2])), None]
+    same(
+        &rt,
+        &[told(&all, 0, None), told(&all, 1, None)],
+        &[Some((64, 0, true, [None; 2])), None],
     );
     Ok(())
 }
@@ -84,13 +87,13 @@ fn refusal(rt: &(impl Abort + AllocGlobal), bytes: &[u8]) -> Refused {
 fn refuses_frames(rt: HostRuntime) {
     let mut narrow = one_event();
     narrow[4] = 56;
-    assert_eq!(rt; refusal(&rt, &narrow), Refused::Sizes(64, 56));
+    same(&rt, &refusal(&rt, &narrow), &Refused::Sizes(64, 56));
     let mut small = one_event();
     small[12] = 63;
     let mut many = one_event();
     many[..4].copy_from_slice(&[0xff; 4]);
     for bytes in [small, many] {
-        assert_eq!(rt; refusal(&rt, &bytes), Refused::Attribute);
+        same(&rt, &refusal(&rt, &bytes), &Refused::Attribute);
     }
 }
 
@@ -98,9 +101,9 @@ fn refuses_frames(rt: HostRuntime) {
 fn is_short_where_bytes_are_missing(rt: HostRuntime) {
     let bytes = one_event();
     for held in [7, 75, 79, 81, 89] {
-        assert_eq!(rt; refusal(&rt, &bytes[..held]), Refused::Short, "with {held}");
+        same_at(&rt, &held, &refusal(&rt, &bytes[..held]), &Refused::Short);
     }
     let mut wide = one_event();
     wide[4] = 200;
-    assert_eq!(rt; refusal(&rt, &wide), Refused::Short);
+    same(&rt, &refusal(&rt, &wide), &Refused::Short);
 }

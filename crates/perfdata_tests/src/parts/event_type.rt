@@ -1,4 +1,5 @@
 //! Event types hold what they are made of.
+use crate::helpers::same;
 use perfdata_parts::event_type::SimplePerfEventType;
 use std::test::Fail;
 
@@ -6,9 +7,10 @@ use std::test::Fail;
 fn holds_what_it_is_made_of(rt: HostRuntime) -> Result<(), Fail> {
     let name = String::from_str(rt.alloc(), "cpu-clock")?;
     let event = SimplePerfEventType::new(name, 1, 2);
-    assert_eq!(rt;
-        (event.name.as_str(), event.type_, event.config),
-        ("cpu-clock", 1, 2)
+    same(
+        &rt,
+        &(event.name.as_str(), event.type_, event.config),
+        &("cpu-clock", 1, 2),
     );
     Ok(())
 }

@@ -1,4 +1,5 @@
 //! The section of event types: its entries with their ids, and what is refused.
+use crate::helpers::{same, same_at};
 use crate::parts::refused::Refused;
 use byteorder::LittleEndian;
 use perfdata_base::section::PerfFileSection;
@@ -63,13 +64,14 @@ fn reads_entries_and_their_ids(rt: HostRuntime) -> Result<(), Fail> {
         size: 239,
     };
     let all = parsed(rt.alloc(), &two_entries(), &section, 64)?;
-    assert_eq!(rt;
-        [told(&all, 0), told(&all, 1), told(&all, 2)],
-        [
+    same(
+        &rt,
+        &[told(&all, 0), told(&all, 1), told(&all, 2)],
+        &[
             Some((1, false, [Some(5), None, None])),
             Some((2, false, [Some(6), Some(7), None])),
-            None
-        ]
+            None,
+        ],
     );
     Ok(())
 }
@@ -97,16 +99,22 @@ fn far_ids(own: u8) -> [u8; 192] {
 fn refuses_sections_that_end_too_far(rt: HostRuntime) {
     let bytes = two_entries();
     for (offset, attr_size) in [(0, u64::MAX - 15), (u64::MAX - 159, 64)] {
-        assert_eq!(rt;
-            refusal(&rt, &bytes, offset, 160, attr_size),
-            Refused::Attribute
+        same(
+            &rt,
+            &refusal(&rt, &bytes, offset, 160, attr_size),
+            &Refused::Attribute,
         );
     }
-    assert_eq!(rt; refusal(&rt, &far_ids(64), 0, 160, 64), Refused::Attribute);
-    assert_eq!(rt;
-        refusal(&rt, &far_ids(65), 0, 160, 64),
-        Refused::Sizes(65, 64),
-        "all entries are read before any ids"
+    same(
+        &rt,
+        &refusal(&rt, &far_ids(64), 0, 160, 64),
+        &Refused::Attribute,
+    );
+    same_at(
+        &rt,
+        &"all entries are read before any ids",
+        &refusal(&rt, &far_ids(65), 0, 160, 64),
+        &Refused::Sizes(65, 64),
     );
 }
 
@@ -114,10 +122,11 @@ fn refuses_sections_that_end_too_far(rt: HostRuntime) {
 fn is_short_where_bytes_are_missing(rt: HostRuntime) {
     let bytes = two_entries();
     for held in [159, 167, 183] {
-        assert_eq!(rt;
-            refusal(&rt, &bytes[..held], 0, 160, 64),
-            Refused::Short,
-            "with {held}"
+        same_at(
+            &rt,
+            &held,
+            &refusal(&rt, &bytes[..held], 0, 160, 64),
+            &Refused::Short,
         );
     }
 }
@@ -126,10 +135,11 @@ fn is_short_where_bytes_are_missing(rt: HostRuntime) {
 fn refuses_an_attribute_that_is_cut(rt: HostRuntime) {
     let bytes = two_entries();
     for held in [63, 143] {
-        assert_eq!(rt;
-            refusal(&rt, &bytes[..held], 0, 160, 64),
-            Refused::Attribute,
-            "with {held}"
+        same_at(
+            &rt,
+            &held,
+            &refusal(&rt, &bytes[..held], 0, 160, 64),
+            &Refused::Attribute,
         );
     }
 }

@@ -1,4 +1,5 @@
 //! The attribute section: its frames, and what is refused.
+use crate::helpers::{same, same_at};
 use crate::parts::refused::Refused;
 use byteorder::{BigEndian, LittleEndian};
 use perfdata_base::attr::PerfEventAttr;
@@ -49,9 +50,10 @@ fn reads_frames(rt: HostRuntime) -> Result<(), Fail> {
     let bytes = two_frames();
     let mut cursor = Cursor::new(&bytes[..]);
     let all = parsed(rt.alloc(), &mut cursor, 8, 145, 72)?;
-    assert_eq!(rt;
-        [told(&all, 0), told(&all, 1), told(&all, 2)],
-        [Some((64, 5, false, 0)), Some((64, 6, false, 0)), None]
+    same(
+        &rt,
+        &[told(&all, 0), told(&all, 1), told(&all, 2)],
+        &[Some((64, 5, false, 0)), Some((64, 6, false, 0)), None],
     );
     // no byte, at the last place
     let section = PerfFileSection {
@@ -64,7 +66,7 @@ fn reads_frames(rt: HostRuntime) -> Result<(), Fail> {
         &section,
         72,
     )?;
-    assert_eq!(rt; none.len(), 0);
+    same(&rt, &none.len(), &0);
     Ok(())
 }
 
@@ -93,9 +95,10 @@ fn reads_as_many_fields_as_the_size_tells(rt: HostRuntime) -> Result<(), Fail> {
         let mut bytes = [7u8; 136];
         bytes[4..8].copy_from_slice(&[told, 0, 0, 0]);
         let all = parsed(rt.alloc(), Cursor::new(&bytes[..]), 0, 136, 136)?;
-        assert_eq!(rt;
-            first(&all),
-            Some((1, own, [SEVENS, config2, config3, config3]))
+        same(
+            &rt,
+            &first(&all),
+            &Some((1, own, [SEVENS, config2, config3, config3])),
         );
     }
     Ok(())
@@ -123,15 +126,16 @@ fn refuses_frames(rt: HostRuntime) {
         (144, 200, 64, 64, Refused::Attribute),
     ] {
         let cut = Cursor::new(&bytes[..held]);
-        assert_eq!(rt;
-            refusal(&rt, cut, offset, size, attr_size),
-            refused,
-            "{held}, {offset}, {attr_size}"
+        same_at(
+            &rt,
+            &(held, offset, attr_size),
+            &refusal(&rt, cut, offset, size, attr_size),
+            &refused,
         );
     }
     bytes[12] = 63;
     let small = Cursor::new(&bytes[..]);
-    assert_eq!(rt; refusal(&rt, small, 8, 64, 64), Refused::Attribute);
+    same(&rt, &refusal(&rt, small, 8, 64, 64), &Refused::Attribute);
 }
 
 // Fails at each read, and at each seek or at none.
@@ -160,7 +164,7 @@ impl Seek for Broken {
 fn tells_read_faults_from_seek_faults(rt: HostRuntime) {
     for (seeks, refused) in [(true, Refused::Attribute), (false, Refused::Broken)] {
         let source = Counted::new(Broken { seeks });
-        assert_eq!(rt; refusal(&rt, source, 0, 64, 64), refused);
+        same(&rt, &refusal(&rt, source, 0, 64, 64), &refused);
     }
 }
 
@@ -172,7 +176,7 @@ fn tells_a_name(rt: HostRuntime) -> Result<(), Fail> {
         name: Some(String::from_str(rt.alloc(), "cycles")?),
         event_ids: Vec::from_array(rt.alloc(), [7, 8])?,
     };
-    assert_eq!(rt; description.name(), Some("cycles"));
-    assert_eq!(rt; description.ids(), [7, 8].as_slice());
+    same(&rt, &description.name(), &Some("cycles"));
+    same(&rt, &description.ids(), &[7, 8].as_slice());
     Ok(())
 }

@@ -1,5 +1,5 @@
 //! Sections of numbers: processors, times, compression and clocks.
-use crate::helpers::by_kind;
+use crate::helpers::{by_kind, same, same_at};
 use byteorder::{BigEndian, LittleEndian};
 use perfdata_parts::feature_sections::{ClockData, CompressionInfo, NrCpus, SampleTimeRange};
 use std::io::ErrorKind;
@@ -24,20 +24,22 @@ fn clock(bytes: &[u8]) -> (Result<(u32, u64, u64), ErrorKind>, &[u8]) {
 #[test]
 fn reads_numbers(rt: HostRuntime) -> Result<(), Fail> {
     let cpus = NrCpus::parse::<_, LittleEndian>(&COUNTING[..])?;
-    assert_eq!(rt; (cpus.nr_cpus_available, cpus.nr_cpus_online), (1, 2));
+    same(&rt, &(cpus.nr_cpus_available, cpus.nr_cpus_online), &(1, 2));
     let cpus = NrCpus::parse::<_, BigEndian>(&COUNTING[..])?;
-    assert_eq!(rt; cpus.nr_cpus_online, 0x0200_0000);
+    same(&rt, &cpus.nr_cpus_online, &0x0200_0000);
     let times = SampleTimeRange::parse::<_, LittleEndian>(&COUNTING[..])?;
-    assert_eq!(rt;
-        (times.first_sample_time, times.last_sample_time),
-        (0x2_0000_0001, 0x4_0000_0003)
+    same(
+        &rt,
+        &(times.first_sample_time, times.last_sample_time),
+        &(0x2_0000_0001, 0x4_0000_0003),
     );
     let info = CompressionInfo::parse::<_, LittleEndian>(&COUNTING[..])?;
-    assert_eq!(rt; (info.version, info.type_, info.level), (1, 2, 3));
-    assert_eq!(rt; (info.ratio, info.mmap_len), (4, 5));
-    assert_eq!(rt;
-        clock(&COUNTING),
-        (Ok((2, 0x4_0000_0003, 0x6_0000_0005)), [7].as_slice())
+    same(&rt, &(info.version, info.type_, info.level), &(1, 2, 3));
+    same(&rt, &(info.ratio, info.mmap_len), &(4, 5));
+    same(
+        &rt,
+        &clock(&COUNTING),
+        &(Ok((2, 0x4_0000_0003, 0x6_0000_0005)), [7].as_slice()),
     );
     Ok(())
 }
@@ -46,22 +48,23 @@ fn reads_numbers(rt: HostRuntime) -> Result<(), Fail> {
 fn is_short_where_bytes_are_missing(rt: HostRuntime) {
     let short = Some(ErrorKind::UnexpectedEof);
     let cpus = NrCpus::parse::<_, LittleEndian>(&COUNTING[..7]);
-    assert_eq!(rt; by_kind(cpus).err(), short);
+    same(&rt, &by_kind(cpus).err(), &short);
     let times = SampleTimeRange::parse::<_, LittleEndian>(&COUNTING[..15]);
-    assert_eq!(rt; by_kind(times).err(), short);
+    same(&rt, &by_kind(times).err(), &short);
     let info = CompressionInfo::parse::<_, LittleEndian>(&COUNTING[..19]);
-    assert_eq!(rt; by_kind(info).err(), short);
+    same(&rt, &by_kind(info).err(), &short);
     for held in [3usize, 4, 23] {
         let clock = ClockData::parse::<_, LittleEndian>(&COUNTING[..held]);
-        assert_eq!(rt; by_kind(clock).err(), short, "with {held}");
+        same_at(&rt, &held, &by_kind(clock).err(), &short);
     }
 }
 
 #[test]
 fn refuses_another_version_of_clock_data(rt: HostRuntime) {
-    assert_eq!(rt;
-        clock(&[2, 0, 0, 0, 9]),
-        (Err(ErrorKind::InvalidData), [9].as_slice()),
-        "the rest isn't read"
+    same_at(
+        &rt,
+        &"the rest isn't read",
+        &clock(&[2, 0, 0, 0, 9]),
+        &(Err(ErrorKind::InvalidData), [9].as_slice()),
     );
 }

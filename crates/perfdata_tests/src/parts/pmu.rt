@@ -1,5 +1,5 @@
 //! PMU mappings: the names that are kept, and units that are missing.
-use crate::helpers::by_kind;
+use crate::helpers::{by_kind, same, same_at};
 use byteorder::LittleEndian;
 use perfdata_parts::feature_sections::PmuMappings;
 use std::alloc::Global;
@@ -27,9 +27,10 @@ fn told(all: &PmuMappings, index: usize, expected: &str) -> Option<(u32, bool)> 
 #[test]
 fn keeps_the_last_names_ascending(rt: HostRuntime) -> Result<(), Fail> {
     let all = parsed(rt.alloc(), &units(4))?;
-    assert_eq!(rt;
-        [told(&all, 0, "a"), told(&all, 1, "c"), told(&all, 2, "")],
-        [Some((2, true)), Some((7, true)), None]
+    same(
+        &rt,
+        &[told(&all, 0, "a"), told(&all, 1, "c"), told(&all, 2, "")],
+        &[Some((2, true)), Some((7, true)), None],
     );
     Ok(())
 }
@@ -37,10 +38,11 @@ fn keeps_the_last_names_ascending(rt: HostRuntime) -> Result<(), Fail> {
 #[test]
 fn is_short_where_units_are_missing(rt: HostRuntime) {
     for (count, held) in [(5, 40usize), (4, 39), (4, 35), (4, 3)] {
-        assert_eq!(rt;
-            by_kind(parsed(rt.alloc(), &units(count)[..held])).err(),
-            Some(ErrorKind::UnexpectedEof),
-            "{count} in {held}"
+        same_at(
+            &rt,
+            &(count, held),
+            &by_kind(parsed(rt.alloc(), &units(count)[..held])).err(),
+            &Some(ErrorKind::UnexpectedEof),
         );
     }
 }

@@ -1,4 +1,5 @@
 //! The attribute section of simpleperf, with names by event types.
+use crate::helpers::same;
 use crate::parts::event_types::two_entries;
 use crate::parts::refused::Refused;
 use byteorder::LittleEndian;
@@ -38,18 +39,20 @@ fn told(all: &[AttributeDescription], index: usize, name: Option<&str>) -> Optio
 fn names_events_by_their_types(rt: HostRuntime) -> Result<(), Fail> {
     let name = String::from_str(rt.alloc(), "cpu-clock")?;
     let all = named(rt.alloc(), name, 80)?;
-    assert_eq!(rt;
-        [
+    same(
+        &rt,
+        &[
             told(&all, 0, Some("cpu-clock")),
             told(&all, 1, None),
-            told(&all, 2, None)
+            told(&all, 2, None),
         ],
-        [Some((true, true)), Some((true, true)), None]
+        &[Some((true, true)), Some((true, true)), None],
     );
     let name = String::from_str(rt.alloc(), "cpu-clock")?;
-    assert_eq!(rt;
-        Refused::of(named(rt.alloc(), name, 15)),
-        Refused::Attribute
+    same(
+        &rt,
+        &Refused::of(named(rt.alloc(), name, 15)),
+        &Refused::Attribute,
     );
     Ok(())
 }

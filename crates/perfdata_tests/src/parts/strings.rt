@@ -1,5 +1,5 @@
 //! Strings of sections, up to their first NUL, and cut.
-use crate::helpers::by_kind;
+use crate::helpers::{by_kind, same, same_at};
 use byteorder::{BigEndian, LittleEndian};
 use perfdata_parts::feature_sections::{HeaderString, before_nul};
 use std::alloc::Global;
@@ -15,14 +15,14 @@ fn reads_texts(rt: HostRuntime) -> Result<(), Fail> {
     let bytes = [5, 0, 0, 0, b'a', b'b', 0, b'c', b'd', 7];
     let mut source = &bytes[..];
     let text = HeaderString::read_from::<_, LittleEndian>(rt.alloc(), &mut source)?;
-    assert_eq!(rt; text.as_deref(), Some("ab"));
-    assert_eq!(rt; source.len(), 1, "all of the string is taken");
+    same(&rt, &text.as_deref(), &Some("ab"));
+    same_at(&rt, &"all of the string is taken", &source.len(), &1);
     let text = big_endian(rt.alloc(), &[0, 0, 0, 2, b'a', b'b'])?;
-    assert_eq!(rt; text.as_deref(), Some("ab"));
+    same(&rt, &text.as_deref(), &Some("ab"));
     let text = big_endian(rt.alloc(), &[0; 4])?;
-    assert_eq!(rt; text.as_deref(), Some(""));
+    same(&rt, &text.as_deref(), &Some(""));
     let text = big_endian(rt.alloc(), &[0, 0, 0, 1, 0xff])?;
-    assert_eq!(rt; text.as_deref(), None);
+    same(&rt, &text.as_deref(), &None);
     Ok(())
 }
 
@@ -31,10 +31,11 @@ fn is_short_where_bytes_are_missing(rt: HostRuntime) {
     let bytes = [6, 0, 0, 0, b'a', b'b', 0, b'c', b'd'];
     for held in [0usize, 3, 4, 9] {
         let parsed = HeaderString::parse::<_, LittleEndian>(rt.alloc(), &bytes[..held]);
-        assert_eq!(rt;
-            by_kind(parsed).err(),
-            Some(ErrorKind::UnexpectedEof),
-            "with {held}"
+        same_at(
+            &rt,
+            &held,
+            &by_kind(parsed).err(),
+            &Some(ErrorKind::UnexpectedEof),
         );
     }
 }
@@ -46,6 +47,6 @@ fn cuts_at_the_first_nul(rt: HostRuntime) {
         (b"ab", b"ab"),
         (b"\0", b""),
     ] {
-        assert_eq!(rt; before_nul(bytes), front);
+        same(&rt, &before_nul(bytes), &front);
     }
 }

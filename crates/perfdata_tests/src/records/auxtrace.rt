@@ -1,5 +1,5 @@
 //! Auxiliary traces, wherever they are split, in both orders, and what is refused.
-use crate::helpers::by_kind;
+use crate::helpers::{by_kind, check_at, same, same_at};
 use byteorder::{BigEndian, LittleEndian};
 use perfdata_base::raw::{FileOrder, RawData};
 use perfdata_parts::auxtrace::Auxtrace;
@@ -37,10 +37,10 @@ fn parses_wherever_it_is_split(rt: HostRuntime) {
     let body = &BODY[..41];
     let wanted = Some(((1, 0, 0x428_492a_cdf9), (8, 0x247a, 8)));
     let told = numbers_of::<LittleEndian>(RawData::Single(body), &[0]);
-    assert_eq!(rt; told, wanted);
+    same(&rt, &told, &wanted);
     for at in 0..42usize {
         let (front, back) = body.split_at(at);
-        assert!(rt; is_same(front, back, body), "split at {at}");
+        check_at(&rt, &at, is_same(front, back, body));
     }
 }
 
@@ -61,7 +61,7 @@ fn parses_big_endian(rt: HostRuntime) {
     body[41] = 9;
     let wanted = Some(((2, 3, 4), (5, 6, 7)));
     let told = numbers_of::<BigEndian>(RawData::Single(&body), &[0, 9]);
-    assert_eq!(rt; told, wanted);
+    same(&rt, &told, &wanted);
 }
 
 #[test]
@@ -75,7 +75,7 @@ fn refuses_other_lengths(rt: HostRuntime) {
         for at in 0..count + 1 {
             let (front, back) = BODY[..count].split_at(at);
             let parsed = Auxtrace::parse::<LittleEndian>(RawData::Split(front, back));
-            assert_eq!(rt; by_kind(parsed).err(), Some(kind), "{count} split at {at}");
+            same_at(&rt, &(count, at), &by_kind(parsed).err(), &Some(kind));
         }
     }
 }

@@ -1,5 +1,5 @@
 //! Entries of build ids: the length of an id, what an entry's size tells, and what is cut.
-use crate::helpers::joined;
+use crate::helpers::{check, check_at, joined, same, same_at};
 use byteorder::{BigEndian, LittleEndian};
 use perfdata_parts::build_id_event::BuildIdEvent;
 use std::alloc::Global;
@@ -92,10 +92,10 @@ fn tells_the_length_of_a_build_id(rt: HostRuntime) {
         let told = little(rt.alloc(), &front(misc, 36, id));
         let wanted = id.get(..length).unwrap_or(&[]);
         let is_wanted = is_told(&told, ((67, misc, 36), -1), wanted, b"");
-        assert!(rt; is_wanted, "{misc} {place} {byte}");
+        check_at(&rt, &(misc, place, byte), is_wanted);
     }
     let told = little(rt.alloc(), &front(2, 10, [0; 24]));
-    assert!(rt; is_told(&told, ((67, 2, 10), -1), b"", b""));
+    check(&rt, is_told(&told, ((67, 2, 10), -1), b"", b""));
 }
 
 #[test]
@@ -105,9 +105,9 @@ fn reads_zeros_of_a_size_below_36_as_empty(rt: HostRuntime) {
     bytes[..8].copy_from_slice(&[67, 0, 0, 0, 2, 0, 10, 0]);
     let numbers = ((67, 2, 10), 0);
     let (told, left) = from_kept(rt.alloc(), &bytes);
-    assert_eq!(rt; (is_told(&told, numbers, b"", b""), left), (true, 0));
+    same(&rt, &(is_told(&told, numbers, b"", b""), left), &(true, 0));
     let told = little(rt.alloc(), &bytes);
-    assert!(rt; is_told(&told, numbers, b"", b""));
+    check(&rt, is_told(&told, numbers, b"", b""));
 }
 
 #[test]
@@ -123,10 +123,11 @@ fn reads_as_much_as_the_size_says(rt: HostRuntime) -> Result<(), Fail> {
         let bytes = joined(rt.alloc(), &front(2, size, id), b"/a\0/b\0")?;
         let (told, left) = from_kept(rt.alloc(), &bytes);
         let is_wanted = is_told(&told, ((67, 2, size), -1), &id[..20], path);
-        assert_eq!(rt;
-            (is_wanted, left.wrapping_add(taken)),
-            (true, 42),
-            "of size {size}"
+        same_at(
+            &rt,
+            &size,
+            &(is_wanted, left.wrapping_add(taken)),
+            &(true, 42),
         );
     }
     Ok(())
@@ -141,10 +142,10 @@ fn is_short_where_bytes_are_missing(rt: HostRuntime) -> Result<(), Fail> {
     for held in [0usize, 7, 35, 36, 37] {
         let part = bytes.get(..held).unwrap_or(&[]);
         let got = big(rt.alloc(), part);
-        assert!(rt; matches!(got, Err(ErrorKind::UnexpectedEof)), "with {held}");
+        check_at(&rt, &held, matches!(got, Err(ErrorKind::UnexpectedEof)));
     }
     let whole = big(rt.alloc(), &bytes).ok();
     let numbers = ((0x4300_0000, 0x200, 38), -1);
-    assert!(rt; is_told(&whole, numbers, &[1; 20], b"/a"));
+    check(&rt, is_told(&whole, numbers, &[1; 20], b"/a"));
     Ok(())
 }

@@ -1,4 +1,5 @@
 //! Keys of mapped objects: each kind of path in each mode, and which keys are equal.
+use crate::helpers::{check_at, same_at};
 use perfdata_base::event::CpuMode;
 use perfdata_parts::dso_key::DsoKey;
 use std::alloc::{AllocError, Global};
@@ -121,7 +122,7 @@ fn detects_each_path_in_each_mode(rt: HostRuntime) -> Result<(), Fail> {
     for (path, letters, module, file) in ROWS {
         for (mode, wanted) in MODES.iter().zip(letters) {
             let detected = is_detected(rt.alloc(), *mode, wanted, (path, module, file))?;
-            assert!(rt; detected, "{path:?} in {mode:?}");
+            check_at(&rt, &(path, mode), detected);
         }
     }
     Ok(())
@@ -147,7 +148,7 @@ fn equal_keys_hash_equally(rt: HostRuntime) -> Result<(), Fail> {
             (Some(key), Some(other)) => Some((*key == *other, hash(key) == hash(other))),
             _ => None,
         };
-        assert_eq!(rt; compared, Some((equal, equal)), "{path:?}");
+        same_at(&rt, &path, &compared, &Some((equal, equal)));
     }
     Ok(())
 }

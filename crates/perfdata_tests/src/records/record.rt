@@ -1,4 +1,5 @@
 //! Types of users' records: their constants, numbers and texts.
+use crate::helpers::{same, same_at};
 use perfdata_base::event::RecordType;
 use perfdata_parts::constants::*;
 use perfdata_parts::record::UserRecordType;
@@ -204,7 +205,7 @@ fn tells_user_types(rt: HostRuntime) {
             Some(user) => Some((user.record_type().0, RecordType::from(user).0)),
             None => None,
         };
-        assert_eq!(rt; numbers, told, "at {number}");
+        same_at(&rt, &number, &numbers, &told);
     }
 }
 
@@ -213,7 +214,7 @@ fn names_the_constants(rt: HostRuntime) -> Result<(), Fail> {
     for row in &ROWS {
         let (user, constant, number, text) = *row;
         let belongs = belongs(rt.alloc(), user, number, text)?;
-        assert_eq!(rt; (constant, belongs), (number, true), "{text}");
+        same_at(&rt, &text, &(constant, belongs), &(number, true));
     }
     Ok(())
 }
@@ -231,7 +232,7 @@ fn shows_other_types_by_number(rt: HostRuntime) -> Result<(), Fail> {
             return Err(Fail::from("no user's type"));
         };
         let shown = format!(in rt.alloc(); "{user:?}")?;
-        assert_eq!(rt; shown.as_str(), text);
+        same(&rt, &shown.as_str(), &text);
     }
     Ok(())
 }

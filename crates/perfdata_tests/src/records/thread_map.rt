@@ -1,5 +1,5 @@
 //! Thread maps, wherever they are split, in both orders, and what is refused.
-use crate::helpers::by_kind;
+use crate::helpers::{by_kind, same, same_at};
 use byteorder::{BigEndian, ByteOrder, LittleEndian};
 use perfdata_base::raw::{FileOrder, RawData};
 use perfdata_parts::thread_map::ThreadMap;
@@ -76,12 +76,12 @@ fn in_order(map: &Result<ThreadMap<'_>, ErrorKind>) -> usize {
 fn gives_each_thread_wherever_it_is_split(rt: HostRuntime) {
     let body = twelve(12);
     let whole = parsed::<LittleEndian>(RawData::Single(&body));
-    assert_eq!(rt; lengths(&whole), Some((false, 12, 12)));
-    assert_eq!(rt; nth(&whole, 8, &[]), Some(95167));
+    same(&rt, &lengths(&whole), &Some((false, 12, 12)));
+    same(&rt, &nth(&whole, 8, &[]), &Some(95167));
     for at in 0..297usize {
         let (front, back) = body.split_at(at);
         let map = parsed::<LittleEndian>(RawData::Split(front, back));
-        assert_eq!(rt; (in_order(&map), map == whole), (12, true), "split at {at}");
+        same_at(&rt, &at, &(in_order(&map), map == whole), &(12, true));
     }
 }
 
@@ -89,12 +89,17 @@ fn gives_each_thread_wherever_it_is_split(rt: HostRuntime) {
 fn passes_over_what_follows(rt: HostRuntime) {
     let body = twelve(11);
     let map = parsed::<LittleEndian>(RawData::Single(&body));
-    assert_eq!(rt;
-        (lengths(&map), last(&map)),
-        (Some((false, 11, 11)), Some(95173))
+    same(
+        &rt,
+        &(lengths(&map), last(&map)),
+        &(Some((false, 11, 11)), Some(95173)),
     );
     let none = parsed::<BigEndian>(RawData::Single(&[0; 30]));
-    assert_eq!(rt; (lengths(&none), last(&none)), (Some((true, 0, 0)), None));
+    same(
+        &rt,
+        &(lengths(&none), last(&none)),
+        &(Some((true, 0, 0)), None),
+    );
 }
 
 // One thread, in each order, with these sixteen bytes of name.
@@ -120,9 +125,9 @@ fn cuts_names_at_nul(rt: HostRuntime) {
         let (first, second) = named(name);
         let wanted = (Some((false, 1, 1)), Some(542_572));
         let map = parsed::<LittleEndian>(RawData::Single(&first));
-        assert_eq!(rt; (lengths(&map), nth(&map, 0, shown)), wanted);
+        same(&rt, &(lengths(&map), nth(&map, 0, shown)), &wanted);
         let map = parsed::<BigEndian>(RawData::Single(&second));
-        assert_eq!(rt; (lengths(&map), nth(&map, 0, shown)), wanted);
+        same(&rt, &(lengths(&map), nth(&map, 0, shown)), &wanted);
     }
 }
 
@@ -141,7 +146,7 @@ fn refuses_bad_counts(rt: HostRuntime) {
         for at in 0..held + 1 {
             let (front, back) = body[..held].split_at(at);
             let got = parsed::<LittleEndian>(RawData::Split(front, back)).err();
-            assert_eq!(rt; got, Some(kind), "{count} split at {at}");
+            same_at(&rt, &(count, at), &got, &Some(kind));
         }
     }
 }

@@ -1,6 +1,6 @@
 //! Users' records in the form that their type has, wherever they are split, and what is refused.
 use super::auxtrace::BODY;
-use crate::helpers::by_kind;
+use crate::helpers::{by_kind, check, check_at, same, same_at};
 use byteorder::{BigEndian, ByteOrder, LittleEndian};
 use perfdata_base::features::Feature;
 use perfdata_base::raw::{Endianness, FileOrder, RawData};
@@ -60,7 +60,7 @@ fn parses_an_attribute_wherever_it_is_split(rt: HostRuntime) {
     for (held, ids) in [(64usize, &[][..]), (72, &[5]), (80, &[5, 6])] {
         for at in 0..held + 1 {
             let (front, back) = bytes[..held].split_at(at);
-            assert!(rt; has_ids(rt.alloc(), front, back, ids), "split at {at}");
+            check_at(&rt, &at, has_ids(rt.alloc(), front, back, ids));
         }
     }
 }
@@ -81,7 +81,7 @@ fn refuses_an_attribute(rt: HostRuntime) {
         for at in 0..held + 1 {
             let (front, back) = bytes[..held].split_at(at);
             let got = attribute_of(rt.alloc(), front, back).err();
-            assert_eq!(rt; got, Some(kind), "{held} split at {at}");
+            same_at(&rt, &(held, at), &got, &Some(kind));
         }
     }
 }
@@ -91,17 +91,18 @@ fn parses_a_feature_wherever_it_is_split(rt: HostRuntime) {
     for at in 0..10usize {
         let (front, back) = FEATURE.split_at(at);
         let got = feature_in::<LittleEndian>(rt.alloc(), RawData::Split(front, back));
-        assert!(rt;
+        check_at(
+            &rt,
+            &at,
             matches!(&got, Ok((3, bytes)) if bytes.as_slice() == [0x61].as_slice()),
-            "split at {at}"
         );
     }
     let mut swapped = [0; 8];
     BigEndian::write_u64(&mut swapped, 0x1_0000_0003);
     let got = feature_in::<BigEndian>(rt.alloc(), RawData::Single(&swapped));
-    assert!(rt; matches!(&got, Ok((3, bytes)) if bytes.is_empty()));
+    check(&rt, matches!(&got, Ok((3, bytes)) if bytes.is_empty()));
     let cut = feature_in::<LittleEndian>(rt.alloc(), RawData::Single(&FEATURE[..7])).err();
-    assert_eq!(rt; cut, Some(ErrorKind::UnexpectedEof));
+    same(&rt, &cut, &Some(ErrorKind::UnexpectedEof));
 }
 
 fn parse<'a>(
@@ -168,11 +169,7 @@ fn parses_by_type_wherever_it_is_split(rt: HostRuntime) {
         ),
     ] {
         for at in 0..82usize {
-            assert_eq!(rt;
-                split(rt.alloc(), kind, body, at),
-                Some(told),
-                "split at {at}"
-            );
+            same_at(&rt, &at, &split(rt.alloc(), kind, body, at), &Some(told));
         }
     }
 }
@@ -195,7 +192,7 @@ fn leaves_other_types(rt: HostRuntime) {
         UserRecordType::PERF_TIME_CONV,
         UserRecordType::SIMPLEPERF_DSO,
     ] {
-        assert!(rt; stays(rt.alloc(), kind, body), "{kind:?}");
+        check_at(&rt, &kind, stays(rt.alloc(), kind, body));
     }
 }
 
@@ -224,6 +221,6 @@ fn parses_in_the_order_of_the_file(rt: HostRuntime) {
         (Endianness::LittleEndian, Err(ErrorKind::UnexpectedEof)),
     ] {
         let got = first_thread(rt.alloc(), endian, RawData::Single(&body));
-        assert_eq!(rt; got, told);
+        same(&rt, &got, &told);
     }
 }

@@ -1,4 +1,5 @@
 //! The event types that meta info tells, line by line.
+use crate::helpers::{check_at, same_at};
 use perfdata_parts::simpleperf::{SimplePerfEventType, get_event_types};
 use std::alloc::{AllocError, Global};
 use std::collections::{HashMap, TryReserveError};
@@ -45,7 +46,7 @@ fn tells_the_events_of_the_lines(rt: HostRuntime) -> Result<(), Fail> {
     ] {
         let found = events_of(rt.alloc(), "event_type_info", text)?;
         let wanted = Some((expected.len(), true));
-        assert_eq!(rt; compare(&found, expected), wanted, "{text}");
+        same_at(&rt, &text, &compare(&found, expected), &wanted);
     }
     Ok(())
 }
@@ -68,7 +69,7 @@ fn tells_none_where_a_line_lacks_a_part(rt: HostRuntime) -> Result<(), Fail> {
         ("Event_type_info", "a,0,2"),
     ] {
         let found = events_of(rt.alloc(), key, text)?;
-        assert!(rt; found.is_none(), "{text}");
+        check_at(&rt, &text, found.is_none());
     }
     Ok(())
 }

@@ -1,5 +1,6 @@
 //! Sections of protobuf messages, and what is cut in them.
 use super::sections::{Answer, answer_of, repeated};
+use crate::helpers::{same, same_at};
 use perfdata_base::raw::Endianness;
 use perfdata_parts::decode_error::DecodeError;
 use perfdata_parts::simpleperf::parse_file2_section;
@@ -24,7 +25,11 @@ fn reads_each_message(rt: HostRuntime) -> Result<(), Fail> {
         for count in 1..3usize {
             let bytes = repeated(rt.alloc(), &section(length), count)?;
             let read = parse_file2_section(rt.alloc(), &bytes, endian);
-            assert_eq!(rt; answer_of(read, (2, 128)), Answer::Records(count, count));
+            same(
+                &rt,
+                &answer_of(read, (2, 128)),
+                &Answer::Records(count, count),
+            );
         }
     }
     Ok(())
@@ -39,6 +44,6 @@ fn refuses_what_is_cut(rt: HostRuntime) {
         (&[], Answer::Records(0, 0)),
     ] {
         let read = parse_file2_section(rt.alloc(), bytes, Endianness::LittleEndian);
-        assert_eq!(rt; answer_of(read, (2, 128)), wanted, "{bytes:?}");
+        same_at(&rt, &bytes, &answer_of(read, (2, 128)), &wanted);
     }
 }

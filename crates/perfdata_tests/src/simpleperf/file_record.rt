@@ -1,5 +1,5 @@
 //! Protobuf messages: their fields, the value that counts, and each fault.
-use crate::helpers::joined;
+use crate::helpers::{check, check_at, joined, same, same_at};
 use perfdata_parts::decode_error::DecodeError;
 use perfdata_parts::simpleperf::{
     SimpleperfDexFileInfo, SimpleperfElfFileInfo, SimpleperfFileRecord, SimpleperfKernelModuleInfo,
@@ -99,7 +99,7 @@ fn decodes_fields(rt: HostRuntime) -> Result<(), Fail> {
         (longer.as_slice(), ("a", 2, 128), Info::Elf(7)),
     ] {
         let decoded = decodes(rt.alloc(), bytes, numbers, info)?;
-        assert!(rt; decoded, "{bytes:?}");
+        check_at(&rt, &bytes, decoded);
     }
     Ok(())
 }
@@ -122,7 +122,7 @@ fn of_symbols(alloc: Global, symbols: &[(u64, u32, &str)]) -> Result<SimpleperfF
 fn decodes_symbols(rt: HostRuntime) -> Result<(), Fail> {
     let expected = of_symbols(rt.alloc(), &[(16, 3, "b"), (0, 0, "")])?;
     let bytes = [0x22, 7, 8, 16, 0x10, 3, 0x1a, 1, b'b', 0x22, 0];
-    assert!(rt; is_decoded(rt.alloc(), &bytes, &expected));
+    check(&rt, is_decoded(rt.alloc(), &bytes, &expected));
     Ok(())
 }
 
@@ -147,9 +147,9 @@ fn merges_or_replaces_what_is_known_by_type(rt: HostRuntime) -> Result<(), Fail>
         (&[0x32, 2, 8, 7, 0x3a, 0], Info::Module),
     ] {
         let decoded = decodes(rt.alloc(), bytes, ("", 0, 0), info)?;
-        assert!(rt; decoded, "{bytes:?}");
+        check_at(&rt, &bytes, decoded);
     }
-    assert_eq!(rt; offsets_of_defaults()?, (0, 0));
+    same(&rt, &offsets_of_defaults()?, &(0, 0));
     Ok(())
 }
 
@@ -167,7 +167,7 @@ fn answers_the_first_fault(rt: HostRuntime) {
         (&[0x44][..], DecodeError::Group),
         (&[0x0a, 1, 0xff][..], DecodeError::Utf8),
     ] {
-        assert_eq!(rt; fault_of(rt.alloc(), bytes), Some(fault), "{bytes:?}");
+        same_at(&rt, &bytes, &fault_of(rt.alloc(), bytes), &Some(fault));
     }
 }
 
@@ -178,19 +178,19 @@ fn is_truncated_where_fields_are_cut(rt: HostRuntime) {
             0 | 3 | 5 | 8 | 10 | 16 => None,
             _ => Some(DecodeError::Truncated),
         };
-        assert_eq!(rt;
-            fault_of(rt.alloc(), &RECORD[..held]),
-            fault,
-            "{held} bytes"
-        );
+        same_at(&rt, &held, &fault_of(rt.alloc(), &RECORD[..held]), &fault);
     }
 }
 
 #[test]
 fn passes_over_a_hundred_groups(rt: HostRuntime) -> Result<(), Fail> {
     let bytes = joined(rt.alloc(), &[0x43; 100], &[0x44; 100])?;
-    assert!(rt; decodes(rt.alloc(), &bytes, ("", 0, 0), Info::Nothing)?);
+    check(&rt, decodes(rt.alloc(), &bytes, ("", 0, 0), Info::Nothing)?);
     let deeper = joined(rt.alloc(), &[0x43; 101], &[0x44; 101])?;
-    assert_eq!(rt; fault_of(rt.alloc(), &deeper), Some(DecodeError::Depth));
+    same(
+        &rt,
+        &fault_of(rt.alloc(), &deeper),
+        &Some(DecodeError::Depth),
+    );
     Ok(())
 }

@@ -1,5 +1,6 @@
 //! Sections of the older file records, and what is cut in them.
 use super::sections::{Answer, answer_of, repeated};
+use crate::helpers::{same, same_at};
 use perfdata_base::raw::Endianness;
 use perfdata_parts::simpleperf::parse_file_section;
 use std::io::ErrorKind;
@@ -22,10 +23,14 @@ fn reads_each_record(rt: HostRuntime) -> Result<(), Fail> {
     for count in 0..3usize {
         let bytes = repeated(rt.alloc(), &section(18), count)?;
         let read = parse_file_section(rt.alloc(), &bytes, Endianness::LittleEndian);
-        assert_eq!(rt; answer_of(read, (2, 16)), Answer::Records(count, count));
+        same(
+            &rt,
+            &answer_of(read, (2, 16)),
+            &Answer::Records(count, count),
+        );
     }
     let read = parse_file_section(rt.alloc(), &BIG, Endianness::BigEndian);
-    assert_eq!(rt; answer_of(read, (4, 16)), Answer::Records(1, 1));
+    same(&rt, &answer_of(read, (4, 16)), &Answer::Records(1, 1));
     Ok(())
 }
 
@@ -44,6 +49,6 @@ fn refuses_what_is_cut(rt: HostRuntime) {
         ),
     ] {
         let read = parse_file_section(rt.alloc(), bytes, Endianness::LittleEndian);
-        assert_eq!(rt; answer_of(read, (2, 16)), wanted, "{bytes:?}");
+        same_at(&rt, &bytes, &answer_of(read, (2, 16)), &wanted);
     }
 }

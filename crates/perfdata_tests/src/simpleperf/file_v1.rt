@@ -1,5 +1,5 @@
 //! The older file records: each type, in both orders, and what is refused.
-use crate::helpers::by_kind;
+use crate::helpers::{by_kind, same, same_at};
 use byteorder::{BigEndian, LittleEndian};
 use perfdata_parts::simpleperf::{SimpleperfFileRecord, SimpleperfTypeSpecificInfo};
 use std::alloc::Global;
@@ -43,7 +43,7 @@ fn takes_a_missing_offset_for_the_greatest(rt: HostRuntime) {
         (4, Ok(Some((4, 16, 0, None)))),
         (5, Ok(Some((5, 16, 0, None)))),
     ] {
-        assert_eq!(rt; little(rt.alloc(), &head(type_, 0)), wanted);
+        same(&rt, &little(rt.alloc(), &head(type_, 0)), &wanted);
     }
 }
 
@@ -79,7 +79,7 @@ fn reads_symbols_and_offsets(rt: HostRuntime) {
             18 | 36 | 37 => Err(ErrorKind::InvalidData),
             _ => Err(ErrorKind::UnexpectedEof),
         };
-        assert_eq!(rt; reads_dex(rt.alloc(), &DEX[..held]), wanted, "{held}");
+        same_at(&rt, &held, &reads_dex(rt.alloc(), &DEX[..held]), &wanted);
     }
 }
 
@@ -94,6 +94,6 @@ fn refuses_what_cannot_be(rt: HostRuntime) {
         (b"\xff\0\x02\0\0\0", ErrorKind::InvalidData),
         (b"a\0\x02\0\0\0", ErrorKind::UnexpectedEof),
     ] {
-        assert_eq!(rt; little(rt.alloc(), bytes).err(), Some(kind), "{bytes:?}");
+        same_at(&rt, &bytes, &little(rt.alloc(), bytes).err(), &Some(kind));
     }
 }

@@ -1,4 +1,5 @@
 //! Meta info: the pairs of its pieces, and texts that aren't UTF-8.
+use crate::helpers::same_at;
 use perfdata_parts::error::Error;
 use perfdata_parts::simpleperf::parse_meta_info_map;
 use std::alloc::Global;
@@ -23,13 +24,13 @@ fn pairs_the_pieces_between_nuls(rt: HostRuntime) {
         (b"", "a", (0, None)),
         (b"a", "a", (0, None)),
     ] {
-        assert_eq!(rt; told(rt.alloc(), bytes, key), Ok(wanted), "{bytes:?}");
+        same_at(&rt, &bytes, &told(rt.alloc(), bytes, key), &Ok(wanted));
     }
 }
 
 #[test]
 fn refuses_other_texts(rt: HostRuntime) {
     for bytes in [b"\xff\0b\0c".as_slice(), b"a\0\xff\0c", b"a\0b\0c\0\xff"] {
-        assert_eq!(rt; told(rt.alloc(), bytes, "a"), Err(true), "{bytes:?}");
+        same_at(&rt, &bytes, &told(rt.alloc(), bytes, "a"), &Err(true));
     }
 }

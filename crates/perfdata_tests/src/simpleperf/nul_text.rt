@@ -1,5 +1,5 @@
 //! Texts up to a NUL, taken off the front.
-use crate::helpers::by_kind;
+use crate::helpers::{by_kind, same_at};
 use perfdata_parts::simpleperf::SliceReadStringExt;
 use std::io::ErrorKind;
 
@@ -14,6 +14,11 @@ fn takes_texts_off_the_front(rt: HostRuntime) {
     ] {
         let mut rest = bytes;
         let got = by_kind(rest.read_nul_terminated_str());
-        assert_eq!(rt; (got, rest), (wanted, left), "a refusal takes nothing");
+        same_at(
+            &rt,
+            &"a refusal takes nothing",
+            &(got, rest),
+            &(wanted, left),
+        );
     }
 }

@@ -1,6 +1,7 @@
 //! The cases of several attributes, told by event types, by EVENT_DESC and by the attribute section.
 use super::image::Image;
 use super::{End, FIRST, opens, pipe, shows};
+use crate::tests::compare::same;
 use linux_perf_data::{Endianness, PerfFileReader};
 use std::alloc::{AllocError, Global};
 use std::io::Cursor;
@@ -60,7 +61,7 @@ const BY_IDS: &str = "0 0 7 1 9 0 16\n24 0 8 0 9 0 16\n48 0 1 0 9 0 16\n";
 #[test]
 fn identifiers_tell_attributes(rt: HostRuntime) -> Result<(), Fail> {
     let image = file(rt.alloc(), &EVENTS)?;
-    assert_eq!(rt; image.bytes.len(), 352);
+    same(&rt, &image.bytes.len(), &352);
     let mut shared = EVENTS;
     shared.ids_at = [(264, 8), (264, 8)];
     let mut zero = EVENTS;
@@ -138,9 +139,9 @@ fn event_desc_tells_attributes(rt: HostRuntime) -> Result<(), Fail> {
     opens(&rt, "EVENT_DESC", &image.bytes, line, End::Whole)?;
     let reader = PerfFileReader::parse_file(rt.alloc(), Cursor::new(image.bytes.as_slice()))?;
     let attributes = reader.perf_file.event_attributes();
-    assert_eq!(rt; attributes.len(), 1);
-    assert_eq!(rt; attributes[0].name(), Some("c"));
-    assert_eq!(rt; attributes[0].ids(), [5].as_slice());
+    same(&rt, &attributes.len(), &1);
+    same(&rt, &attributes[0].name(), &Some("c"));
+    same(&rt, &attributes[0].ids(), &[5].as_slice());
     Ok(())
 }
 

@@ -1,5 +1,6 @@
 //! The cases of build ids.
 use super::features::{ORDERS, opened, with_section};
+use crate::tests::compare::{same, same_at};
 use linux_perf_data::event::CpuMode;
 use linux_perf_data::{DsoInfo, DsoKey, Endianness, Feature};
 use std::alloc::{AllocError, Global};
@@ -53,15 +54,15 @@ fn has_one(
     path: &[u8],
     build_id: &[u8],
 ) -> Result<(), Fail> {
-    assert_eq!(rt; ids.len(), 1);
+    same(rt, &ids.len(), &1);
     let Some(key) = DsoKey::detect(rt.alloc(), path, mode)? else {
         return Err(Fail::from("no key"));
     };
     let Some(info) = ids.get(&key) else {
         return Err(Fail::from("no build id"));
     };
-    assert_eq!(rt; info.path.as_slice(), path);
-    assert_eq!(rt; info.build_id.as_slice(), build_id);
+    same(rt, &info.path.as_slice(), &path);
+    same(rt, &info.build_id.as_slice(), &build_id);
     Ok(())
 }
 
@@ -84,11 +85,11 @@ fn the_last_entry_of_a_key(rt: HostRuntime) -> Result<(), Fail> {
 fn entries_of_other_kinds(rt: HostRuntime) -> Result<(), Fail> {
     let endian = Endianness::LittleEndian;
     let none = ids(rt.alloc(), endian, &[])?;
-    assert_eq!(rt; none.len(), 0);
+    same(&rt, &none.len(), &0);
     let mut content = Vec::new(rt.alloc());
     push(&mut content, endian, (0, 41), 1, b"/a/x\0")?;
     let found = ids(rt.alloc(), endian, content.as_slice())?;
-    assert_eq!(rt; found.len(), 0, "no mode");
+    same_at(&rt, &"no mode", &found.len(), &0);
     let mut content = Vec::new(rt.alloc());
     push(&mut content, endian, (1, 54), 1, b"[kernel.kallsyms]\0")?;
     let found = ids(rt.alloc(), endian, content.as_slice())?;
@@ -103,7 +104,7 @@ fn entries_of_other_kinds(rt: HostRuntime) -> Result<(), Fail> {
     push(&mut content, endian, (2, u16::MAX), 1, b"")?;
     push(&mut content, endian, (2, 41), 1, b"/a/x\0")?;
     let found = ids(rt.alloc(), endian, content.as_slice())?;
-    assert_eq!(rt; found.len(), 1, "after an entry cut");
+    same_at(&rt, &"after an entry cut", &found.len(), &1);
     let mut content = Vec::new(rt.alloc());
     push(&mut content, endian, (2, 10), 0, b"")?;
     let found = ids(rt.alloc(), endian, content.as_slice())?;
@@ -123,6 +124,6 @@ fn no_section_of_build_ids(rt: HostRuntime) -> Result<(), Fail> {
         &[0; 4],
     )?;
     let file = opened(rt.alloc(), &image)?;
-    assert_eq!(rt; file.build_ids(rt.alloc())?.len(), 0);
+    same(&rt, &file.build_ids(rt.alloc())?.len(), &0);
     Ok(())
 }

@@ -1,4 +1,5 @@
 //! The numbers behind names that no section of the tests shows.
+use crate::tests::compare::same;
 use linux_perf_data::Feature;
 use linux_perf_data::feature_sections::{ClockData, CompressionInfo};
 use linux_perf_data::simpleperf_dso_type::{
@@ -46,7 +47,7 @@ fn numbers_of_features(rt: HostRuntime) {
         (Feature::SIMPLEPERF_DEBUG_UNWIND_FILE, 131),
         (Feature::SIMPLEPERF_FILE2, 132),
     ] {
-        assert_eq!(rt; feature.0, number);
+        same(&rt, &feature.0, &number);
     }
 }
 
@@ -60,10 +61,11 @@ fn numbers_of_sections(rt: HostRuntime) {
         DSO_SYMBOL_MAP_FILE,
         DSO_UNKNOWN_FILE,
     ];
-    assert_eq!(rt; kinds, [0, 1, 2, 3, 4, 5]);
-    assert_eq!(rt; CompressionInfo::ZSTD_TYPE, 1);
-    assert_eq!(rt;
-        (CompressionInfo::STRUCT_SIZE, ClockData::STRUCT_SIZE),
-        (20, 24)
+    same(&rt, &kinds, &[0, 1, 2, 3, 4, 5]);
+    same(&rt, &CompressionInfo::ZSTD_TYPE, &1);
+    same(
+        &rt,
+        &(CompressionInfo::STRUCT_SIZE, ClockData::STRUCT_SIZE),
+        &(20, 24),
     );
 }

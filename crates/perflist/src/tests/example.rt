@@ -1,4 +1,5 @@
 //! What the library examples of README count, of a pipe too.
+use crate::tests::compare::same;
 use linux_perf_data::source::{Counted, Source};
 use linux_perf_data::{Error, PerfFileReader, PerfFileRecord};
 use std::alloc::Global;
@@ -42,15 +43,15 @@ use std::test::Fail;
 fn the_example_counts_samples(rt: HostRuntime) -> Result<(), Fail> {
     let image = Image::first(rt.alloc(), Endianness::LittleEndian)?;
     let file = BufReader::new(rt.alloc(), Cursor::new(image.bytes.as_slice()))?;
-    assert_eq!(rt; samples_of_file(rt.alloc(), file)?, 2);
+    same(&rt, &samples_of_file(rt.alloc(), file)?, &2);
     let image = little(rt.alloc(), &LATE)?;
     let pipe = BufReader::new(rt.alloc(), image.bytes.as_slice())?;
-    assert_eq!(rt; samples_of_pipe(rt.alloc(), pipe)?, 2);
+    same(&rt, &samples_of_pipe(rt.alloc(), pipe)?, &2);
     Ok(())
 }
 
 #[test]
 fn the_example_sums_code(rt: HostRuntime) -> Result<(), Fail> {
-    assert_eq!(rt; code_size(rt.alloc(), Cursor::new(&FILE[..]))?, 2);
+    same(&rt, &code_size(rt.alloc(), Cursor::new(&FILE[..]))?, &2);
     Ok(())
 }

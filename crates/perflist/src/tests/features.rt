@@ -1,6 +1,7 @@
 //! The cases of features and their sections.
 use super::image::Image;
 use super::{End, FIRST, opens, shows};
+use crate::tests::compare::{check, same, same_at};
 use linux_perf_data::feature_sections::PmuMappings;
 use linux_perf_data::{Endianness, Error, Feature, PerfFile, PerfFileReader};
 use std::alloc::{AllocError, Global};
@@ -84,20 +85,24 @@ fn a_file_with_a_host_name(rt: HostRuntime) -> Result<(), Fail> {
         Feature::HOSTNAME,
         HOST,
     )?;
-    assert_eq!(rt; image.bytes.len(), 233);
+    same(&rt, &image.bytes.len(), &233);
     opens(&rt, "a host name", &image.bytes, FIRST, End::Whole)
 }
 
 #[test]
 fn what_a_file_says_with_a_host_name(rt: HostRuntime) -> Result<(), Fail> {
     let file = little(rt.alloc(), Feature::HOSTNAME, HOST)?;
-    assert_eq!(rt; file.features().len(), 1);
-    assert!(rt; file.features().has_feature(Feature::HOSTNAME));
-    assert!(rt; matches!(file.hostname(), Ok(Some("ab"))));
-    assert!(rt; matches!(file.os_release(), Ok(None)));
-    assert!(rt; !file.is_stats());
-    assert_eq!(rt; file.feature_section_data(Feature::HOSTNAME), Some(HOST));
-    assert_eq!(rt; file.feature_section_data(Feature::OSRELEASE), None);
+    same(&rt, &file.features().len(), &1);
+    check(&rt, file.features().has_feature(Feature::HOSTNAME));
+    check(&rt, matches!(file.hostname(), Ok(Some("ab"))));
+    check(&rt, matches!(file.os_release(), Ok(None)));
+    check(&rt, !file.is_stats());
+    same(
+        &rt,
+        &file.feature_section_data(Feature::HOSTNAME),
+        &Some(HOST),
+    );
+    same(&rt, &file.feature_section_data(Feature::OSRELEASE), &None);
     Ok(())
 }
 
@@ -137,7 +142,7 @@ fn a_section_of_the_whole_file(rt: HostRuntime) -> Result<(), Fail> {
     opens(&rt, "the whole file", &image.bytes, FIRST, End::Whole)?;
     let whole = opened(rt.alloc(), &image)?;
     let data = whole.feature_section_data(Feature::HOSTNAME);
-    assert_eq!(rt; data, Some(image.bytes.as_slice()));
+    same(&rt, &data, &Some(image.bytes.as_slice()));
     Ok(())
 }
 
@@ -146,7 +151,7 @@ fn an_empty_section_far_away(rt: HostRuntime) -> Result<(), Fail> {
     let image = with_entries(rt.alloc(), &[(u64::MAX, 0)], HOST)?;
     let none = opened(rt.alloc(), &image)?;
     let data = none.feature_section_data(Feature::HOSTNAME);
-    assert_eq!(rt; data, Some(&[] as &[u8]));
+    same(&rt, &data, &Some(&[] as &[u8]));
     Ok(())
 }
 
@@ -177,12 +182,13 @@ fn many_features(rt: HostRuntime) -> Result<(), Fail> {
             (200, &[2, 3]),
         ] {
             let found = file.feature_section_data(Feature(number));
-            assert_eq!(rt; found, Some(wanted), "of {number}");
+            same_at(&rt, &number, &found, &Some(wanted));
         }
-        assert!(rt;
+        check(
+            &rt,
             file.features()
                 .iter()
-                .eq([Feature(3), Feature(127), Feature(200)])
+                .eq([Feature(3), Feature(127), Feature(200)]),
         );
     }
     Ok(())
@@ -271,7 +277,10 @@ fn tells(
 ) -> Result<(), Fail> {
     let image = with_section(rt.alloc(), endian, text.feature(), content)?;
     let file = opened(rt.alloc(), &image)?;
-    assert!(rt; matches!(text.of(&file), Ok(Some(told)) if told == wanted));
+    check(
+        rt,
+        matches!(text.of(&file), Ok(Some(told)) if told == wanted),
+    );
     Ok(())
 }
 
@@ -290,7 +299,7 @@ fn texts_in_both_orders(rt: HostRuntime) -> Result<(), Fail> {
             tells(&rt, endian, text, &content.bytes, "x86_64")?;
         }
         let image = with_section(rt.alloc(), endian, Feature::STAT, &[])?;
-        assert!(rt; opened(rt.alloc(), &image)?.is_stats());
+        check(&rt, opened(rt.alloc(), &image)?.is_stats());
     }
     Ok(())
 }
@@ -307,7 +316,7 @@ fn texts_that_are_none(rt: HostRuntime) -> Result<(), Fail> {
         (Text::Version, &[1, 0, 0, 0, 0xff], Refusal::Utf8),
     ] {
         let file = little(rt.alloc(), text.feature(), content)?;
-        assert_eq!(rt; refused(text.of(&file)), wanted);
+        same(&rt, &refused(text.of(&file)), &wanted);
     }
     Ok(())
 }
@@ -317,7 +326,10 @@ fn words_of_a_command_line(rt: HostRuntime) -> Result<(), Fail> {
     let words = [2, 0, 0, 0, 1, 0, 0, 0, b'a', 1, 0, 0, 0, b'b'];
     let file = little(rt.alloc(), Feature::CMDLINE, &words)?;
     let line = file.cmdline(rt.alloc())?;
-    assert!(rt; matches!(&line, Some(line) if line.as_slice() == ["a", "b"].as_slice()));
+    check(
+        &rt,
+        matches!(&line, Some(line) if line.as_slice() == ["a", "b"].as_slice()),
+    );
     Ok(())
 }
 
@@ -329,7 +341,7 @@ fn a_command_line_that_is_none(rt: HostRuntime) -> Result<(), Fail> {
         (&[0; 3], Refusal::NoCount),
     ] {
         let file = little(rt.alloc(), Feature::CMDLINE, content)?;
-        assert_eq!(rt; refused(file.cmdline(rt.alloc())), wanted);
+        same(&rt, &refused(file.cmdline(rt.alloc())), &wanted);
     }
     Ok(())
 }
@@ -386,7 +398,7 @@ fn sections_that_end_early(rt: HostRuntime) -> Result<(), Fail> {
         (Numbers::Units, &[5, 0, 0, 0], Refusal::Short),
     ] {
         let file = little(rt.alloc(), numbers.feature(), content)?;
-        assert_eq!(rt; numbers.refusal(rt.alloc(), &file), wanted);
+        same(&rt, &numbers.refusal(rt.alloc(), &file), &wanted);
     }
     Ok(())
 }
@@ -418,9 +430,12 @@ const WORDS: [(u64, u32); 5] = [(1, 4), (2, 4), (3, 4), (4, 4), (5, 4)];
 fn memory_and_frequency(rt: HostRuntime) -> Result<(), Fail> {
     for endian in ORDERS {
         let file = told(rt.alloc(), endian, Feature::TOTAL_MEM, &LONGS)?;
-        assert!(rt; matches!(file.total_mem(), Ok(Some(0x1_0000_0005))));
+        check(&rt, matches!(file.total_mem(), Ok(Some(0x1_0000_0005))));
         let file = told(rt.alloc(), endian, Feature::CLOCKID, &LONGS)?;
-        assert!(rt; matches!(file.clock_frequency(), Ok(Some(0x1_0000_0005))));
+        check(
+            &rt,
+            matches!(file.clock_frequency(), Ok(Some(0x1_0000_0005))),
+        );
     }
     Ok(())
 }
@@ -429,12 +444,14 @@ fn memory_and_frequency(rt: HostRuntime) -> Result<(), Fail> {
 fn times_and_cpus(rt: HostRuntime) -> Result<(), Fail> {
     for endian in ORDERS {
         let file = told(rt.alloc(), endian, Feature::SAMPLE_TIME, &LONGS)?;
-        assert!(rt;
-            matches!(file.sample_time_range(), Ok(Some(times)) if times.first_sample_time == 0x1_0000_0005 && times.last_sample_time == 0x2_0000_0003)
+        check(
+            &rt,
+            matches!(file.sample_time_range(), Ok(Some(times)) if times.first_sample_time == 0x1_0000_0005 && times.last_sample_time == 0x2_0000_0003),
         );
         let file = told(rt.alloc(), endian, Feature::NRCPUS, &WORDS)?;
-        assert!(rt;
-            matches!(file.nr_cpus(), Ok(Some(cpus)) if cpus.nr_cpus_available == 1 && cpus.nr_cpus_online == 2)
+        check(
+            &rt,
+            matches!(file.nr_cpus(), Ok(Some(cpus)) if cpus.nr_cpus_available == 1 && cpus.nr_cpus_online == 2),
         );
     }
     Ok(())
@@ -447,8 +464,8 @@ fn compression_in_both_orders(rt: HostRuntime) -> Result<(), Fail> {
         let Ok(Some(info)) = file.compression_info() else {
             return Err(Fail::from("no compression"));
         };
-        assert_eq!(rt; (info.version, info.type_, info.level), (1, 2, 3));
-        assert_eq!(rt; (info.ratio, info.mmap_len), (4, 5));
+        same(&rt, &(info.version, info.type_, info.level), &(1, 2, 3));
+        same(&rt, &(info.ratio, info.mmap_len), &(4, 5));
     }
     Ok(())
 }
@@ -461,9 +478,9 @@ fn clock_in_both_orders(rt: HostRuntime) -> Result<(), Fail> {
         let Ok(Some(clock)) = file.clock_data() else {
             return Err(Fail::from("no clock"));
         };
-        assert_eq!(rt; clock.clockid, 4);
-        assert_eq!(rt; clock.wall_clock_ns, 9);
-        assert_eq!(rt; clock.clockid_time_ns, 0x3_0000_0001);
+        same(&rt, &clock.clockid, &4);
+        same(&rt, &clock.wall_clock_ns, &9);
+        same(&rt, &clock.clockid_time_ns, &0x3_0000_0001);
     }
     Ok(())
 }
@@ -483,11 +500,12 @@ fn units(alloc: Global, endian: Endianness) -> Result<Image, AllocError> {
 fn are_two(rt: &impl Abort, units: &PmuMappings) {
     let mut names = units.0.iter();
     for wanted in [(2, "a"), (7, "c")] {
-        assert!(rt;
-            matches!(names.next(), Some((number, name)) if (*number, name.as_str()) == wanted)
+        check(
+            rt,
+            matches!(names.next(), Some((number, name)) if (*number, name.as_str()) == wanted),
         );
     }
-    assert!(rt; names.next().is_none());
+    check(rt, names.next().is_none());
 }
 
 #[test]

@@ -7,6 +7,7 @@ mod writers;
 
 use super::image::{Image, Part};
 use super::pipe::{scripted, steps_of};
+use crate::tests::compare::same_at;
 use linux_perf_data::raw::RawData;
 use linux_perf_data::source::{PlacedSource, Script, Source, Step};
 use linux_perf_data::{Endianness, Error, PerfFileReader, PerfFileRecord, ReadError, RecordPlace};
@@ -371,10 +372,11 @@ fn holds(
 ) -> Result<(), Fail> {
     let wanted = answers_to(rt.alloc(), promise)?;
     let (answers, untouched) = came;
-    assert_eq!(rt;
-        (answers.as_slice(), untouched),
-        (wanted.as_slice(), true),
-        "{name} at {at}"
+    same_at(
+        rt,
+        &(name, at),
+        &(answers.as_slice(), untouched),
+        &(wanted.as_slice(), true),
     );
     Ok(())
 }

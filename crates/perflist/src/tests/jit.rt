@@ -1,6 +1,7 @@
 //! The cases of jitdump files.
 use crate::jit::list_jit;
 use crate::list::{ListCause, ListFault};
+use crate::tests::compare::{check, same};
 use crate::tests::pipe::scripted;
 use linux_perf_data::source::{Counted, Source, Step};
 use std::alloc::Global;
@@ -86,7 +87,7 @@ fn lists<R: Source + Drop>(
     wanted: &[u8],
 ) {
     let (came, told, out) = listed(rt.alloc(), source);
-    assert_eq!(rt; (came, told, out.as_slice()), (end, lines, wanted));
+    same(rt, &(came, told, out.as_slice()), &(end, lines, wanted));
 }
 
 #[test]
@@ -117,7 +118,7 @@ fn lists_what_is_whole(rt: HostRuntime) -> Result<(), Fail> {
     ];
     for (shown, end, lines, wanted) in cases {
         let front = FILE.get(..shown);
-        assert!(rt; front.is_some());
+        check(&rt, front.is_some());
         lists(&rt, front.unwrap_or(&[]), end, lines, wanted);
     }
     let mut bytes = FILE;

@@ -3,6 +3,7 @@ use super::image::Part;
 use super::pipe::{TWO, described, first_name, little, opened, piped, reads, shows};
 use super::simpleperf::{EVENT, recorded};
 use super::{End, end_of_error, ends, made, reads as reads_file};
+use crate::tests::compare::{check, same};
 use linux_perf_data::source::Source;
 use linux_perf_data::{
     Endianness, Error, PerfFile, PerfFileReader, PerfFileRecord, PerfRecordIter,
@@ -153,7 +154,7 @@ fn answers<R: Source>(
     wanted: &[Answer],
 ) {
     for answer in wanted {
-        assert_eq!(rt; asked(records, file), *answer);
+        same(rt, &asked(records, file), answer);
     }
 }
 
@@ -175,11 +176,11 @@ fn come<R: Source + Drop>(
 fn attributes_as_they_come(rt: HostRuntime) -> Result<(), Fail> {
     let image = little(rt.alloc(), &LATE)?;
     let reader = opened(rt.alloc(), image.bytes.as_slice())?;
-    assert_eq!(rt; reader.perf_file.event_attributes().len(), 1);
+    same(&rt, &reader.perf_file.event_attributes().len(), &1);
     let wanted: [Answer; 4] = [(Ok(true), 1), (Ok(true), 2), (Ok(true), 2), (Ok(false), 2)];
     let file = come(&rt, reader, &wanted);
     let second = file.event_attributes().get(1);
-    assert_eq!(rt; second.map(|one| one.ids()), Some([6].as_slice()));
+    same(&rt, &second.map(|one| one.ids()), &Some([6].as_slice()));
     Ok(())
 }
 
@@ -244,7 +245,7 @@ fn is_foreign(
     let mut records = reader.record_iter;
     let mut own = reader.perf_file;
     let mut foreign = opened(rt.alloc(), other)?.perf_file;
-    assert_eq!(rt; next_told(&mut records, &mut foreign)?, Some(first));
+    same(rt, &next_told(&mut records, &mut foreign)?, &Some(first));
     let refused: [Answer; 1] = [(Err(End::Foreign), 2)];
     answers(rt, &mut records, &mut foreign, &refused);
     let failed: [Answer; 1] = [(Err(End::Failed), 1)];
@@ -280,7 +281,7 @@ fn keeps_name(rt: &(impl Abort + AllocGlobal), bytes: &[u8], other: &[u8]) -> Re
         (Err(End::Failed), 1),
     ];
     let foreign = come(rt, reader, &wanted);
-    assert_eq!(rt; first_name(&foreign), Some("c"));
+    same(rt, &first_name(&foreign), &Some("c"));
     Ok(())
 }
 
@@ -299,9 +300,9 @@ fn names_are_given_anew(rt: HostRuntime) -> Result<(), Fail> {
     let image = little(rt.alloc(), &LATE)?;
     let mut records = opened(rt.alloc(), image.bytes.as_slice())?.record_iter;
     answers(&rt, &mut records, &mut file, &[(Ok(true), 1)]);
-    assert_eq!(rt; first_name(&file), Some("cpu-clock"));
+    same(&rt, &first_name(&file), &Some("cpu-clock"));
     answers(&rt, &mut records, &mut file, &[(Ok(true), 2)]);
-    assert!(rt; !has_name(&file));
+    check(&rt, !has_name(&file));
     Ok(())
 }
 
@@ -336,9 +337,9 @@ fn late_features(rt: HostRuntime) -> Result<(), Fail> {
         record_iter: mut records,
     } = opened(rt.alloc(), image.bytes.as_slice())?;
     answers(&rt, &mut records, &mut file, &[(Ok(true), 1)]);
-    assert_eq!(rt; has_host(&file, None)?, (true, 0, true));
+    same(&rt, &has_host(&file, None)?, &(true, 0, true));
     answers(&rt, &mut records, &mut file, &[(Ok(true), 1)]);
-    assert_eq!(rt; has_host(&file, Some("a"))?, (false, 1, true));
+    same(&rt, &has_host(&file, Some("a"))?, &(false, 1, true));
     Ok(())
 }
 
@@ -351,8 +352,8 @@ fn names_of(
     let image = little(rt.alloc(), parts)?;
     let file = at_end(opened(rt.alloc(), image.bytes.as_slice())?, parts.len())?;
     let attributes = file.event_attributes();
-    assert_eq!(rt; attributes.len(), 2);
-    assert_eq!(rt; [attributes[0].name(), attributes[1].name()], wanted);
+    same(rt, &attributes.len(), &2);
+    same(rt, &[attributes[0].name(), attributes[1].name()], &wanted);
     Ok(())
 }
 

@@ -5,6 +5,7 @@ use super::slow::events::Event;
 use super::slow::pipe::{Pipe, pipe_of};
 use super::{End, end_of, slow};
 use crate::list::list_file;
+use crate::tests::compare::{check_at, same, same_at};
 use linux_perf_data::{AttributeDescription, Endianness, Feature, PerfFile, PerfFileReader};
 use std::alloc::{AllocError, Global};
 use std::io::Cursor;
@@ -181,12 +182,13 @@ fn same_file(
         let data = pipe.data(rt.alloc(), number as u64)?;
         let has = data.is_some() && number < 256;
         let feature = Feature(number);
-        assert_eq!(rt;
-            (
+        same(
+            rt,
+            &(
                 file.feature_section_data(feature),
-                file.features().has_feature(feature)
+                file.features().has_feature(feature),
             ),
-            (data, has)
+            &(data, has),
         );
     }
     Ok(())
@@ -194,15 +196,16 @@ fn same_file(
 
 /// The attributes are those that the plain program found.
 fn same_events(rt: &impl Abort, attributes: &[AttributeDescription], events: &[Event]) {
-    assert_eq!(rt; attributes.len(), events.len());
+    same(rt, &attributes.len(), &events.len());
     for (attribute, event) in attributes.iter().zip(events.iter()) {
         let found = attribute.attributes();
         let name = event.name.as_ref().map(|name| name.as_slice());
-        assert_eq!(rt;
-            (found.sample_format.0, found.flags.0, attribute.ids()),
-            (event.format, event.flags, event.ids.as_slice())
+        same(
+            rt,
+            &(found.sample_format.0, found.flags.0, attribute.ids()),
+            &(event.format, event.flags, event.ids.as_slice()),
         );
-        assert_eq!(rt; attribute.name().map(|name| name.as_bytes()), name);
+        same(rt, &attribute.name().map(|name| name.as_bytes()), &name);
     }
 }
 
@@ -240,10 +243,11 @@ fn agree(rt: &(impl Abort + AllocGlobal), bytes: &[u8]) -> Result<bool, Fail> {
 /// Compares the end and the lines of a pipe with what the plain program found.
 fn comes_to(rt: &(impl Abort + AllocGlobal), bytes: &[u8], lines: &str, end: End) {
     let (came, _, out) = listed(rt.alloc(), bytes);
-    assert_eq!(rt;
-        (came, out.as_slice()),
-        (end, lines.as_bytes()),
-        "{bytes:?}"
+    same_at(
+        rt,
+        &bytes,
+        &(came, out.as_slice()),
+        &(end, lines.as_bytes()),
     );
 }
 
@@ -257,7 +261,7 @@ fn both_programs_list_pipes(rt: HostRuntime) -> Result<(), Fail> {
             opened = opened.saturating_add(1);
         }
     }
-    assert!(rt; opened > 400, "{opened}");
+    check_at(&rt, &opened, opened > 400);
     Ok(())
 }
 
@@ -298,11 +302,15 @@ fn both_programs_list_files(rt: HostRuntime) -> Result<(), Fail> {
         let (lines, end) = slow::lines_of(rt.alloc(), &image.bytes)?;
         let mut out: Vec<u8> = Vec::new(rt.alloc());
         let listed = list_file(rt.alloc(), Cursor::new(image.bytes.as_slice()), &mut out);
-        assert_eq!(rt; (end_of(&listed), out.as_slice()), (end, lines.as_bytes()));
+        same(
+            &rt,
+            &(end_of(&listed), out.as_slice()),
+            &(end, lines.as_bytes()),
+        );
         if end == End::Whole {
             whole = whole.saturating_add(1);
         }
     }
-    assert!(rt; whole > 400, "{whole}");
+    check_at(&rt, &whole, whole > 400);
     Ok(())
 }

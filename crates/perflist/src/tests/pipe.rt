@@ -3,6 +3,7 @@ use super::image::{Image, Part};
 use super::late::has_host;
 use super::{End, FIRST, end_of, end_of_error, lines_of, lists};
 use crate::list::list_pipe;
+use crate::tests::compare::{check, check_at, same, same_at};
 use linux_perf_data::source::{Counted, Script, Source, Step};
 use linux_perf_data::{Endianness, Feature, PerfFile, PerfFileReader, SimpleperfFileRecord};
 use std::alloc::{AllocError, Global};
@@ -57,10 +58,11 @@ fn pipes<R: Source + Drop>(
 ) {
     let (came, told, out) = listed(rt.alloc(), source);
     let lines = wanted.lines().count() as u64;
-    assert_eq!(rt;
-        (came, told, out.as_slice()),
-        (end, lines, wanted.as_bytes()),
-        "{name}, {way}"
+    same_at(
+        rt,
+        &(name, way),
+        &(came, told, out.as_slice()),
+        &(end, lines, wanted.as_bytes()),
     );
 }
 
@@ -137,7 +139,7 @@ fn lines_of_pipes(rt: HostRuntime) -> Result<(), Fail> {
     for endian in [Endianness::LittleEndian, Endianness::BigEndian] {
         let _ = reads_in(&rt, "two attributes", endian, &TWO, TWO_LINES)?;
         let long = reads_in(&rt, "a trace", endian, &TRACED, TRACED_LINES)?;
-        assert_eq!(rt; long, 153);
+        same(&rt, &long, &153);
     }
     reads(
         &rt,
@@ -235,7 +237,7 @@ fn is_cut(rt: &(impl Abort + AllocGlobal), bytes: &[u8], length: usize) -> Resul
         136 => (End::Whole, "", End::Data),
         _ => (End::Whole, TRACE_LINE, End::Whole),
     };
-    assert_eq!(rt; opening_of(rt, cut), opening, "{name}");
+    same_at(rt, &name, &opening_of(rt, cut), &opening);
     shows(rt, &name, cut, lines, end)
 }
 
@@ -268,7 +270,7 @@ fn has_records<R: Source + Drop>(reader: PerfFileReader<R>, count: usize) -> Res
 fn left_after(rt: &(impl Abort + AllocGlobal), bytes: &[u8], calls: usize) -> Result<usize, Fail> {
     let mut rest = bytes;
     let came = has_records(opened(rt.alloc(), &mut rest)?, calls)?;
-    assert!(rt; came);
+    check(rt, came);
     Ok(rest.len())
 }
 
@@ -276,7 +278,7 @@ fn left_after(rt: &(impl Abort + AllocGlobal), bytes: &[u8], calls: usize) -> Re
 fn nothing_is_read_ahead(rt: HostRuntime) -> Result<(), Fail> {
     let image = little(rt.alloc(), &TRACED)?;
     for (calls, left) in [(0usize, 57usize), (1, 16), (2, 0)] {
-        assert_eq!(rt; left_after(&rt, &image.bytes, calls)?, left, "{calls}");
+        same_at(&rt, &calls, &left_after(&rt, &image.bytes, calls)?, &left);
     }
     Ok(())
 }
@@ -318,11 +320,11 @@ const TWO_NAMES: [Part<'_>; 3] = [
 fn features_of_pipes(rt: HostRuntime) -> Result<(), Fail> {
     reads(&rt, "feature 300", &FEATURE_300, LINE, End::Whole)?;
     let file = told(rt.alloc(), &FEATURE_300)?;
-    assert!(rt; file.features().is_empty(), "no set has it");
+    check_at(&rt, &"no set has it", file.features().is_empty());
     let data = file.feature_section_data(Feature(300));
-    assert_eq!(rt; data, Some(b"a".as_slice()));
+    same(&rt, &data, &Some(b"a".as_slice()));
     let file = told(rt.alloc(), &TWO_NAMES)?;
-    assert_eq!(rt; has_host(&file, Some("b"))?, (false, 1, true));
+    same(&rt, &has_host(&file, Some("b"))?, &(false, 1, true));
     let cut = [PLAIN, Part::Head(80, 0, 12), Part::Filled(0, 4)];
     reads(&rt, "a cut number", &cut, "", End::Short)
 }
@@ -362,7 +364,7 @@ fn the_first_description_names(rt: HostRuntime) -> Result<(), Fail> {
             Part::Attribute(4, 0, &[5]),
         ];
         let file = told(rt.alloc(), &parts)?;
-        assert_eq!(rt; first_name(&file), name, "{letters:?}");
+        same_at(&rt, &letters, &first_name(&file), &name);
     }
     Ok(())
 }
@@ -387,15 +389,19 @@ fn is_named(
     reads(rt, "EVENT_DESC", &parts, LINE, End::Whole)?;
     let file = told(rt.alloc(), &parts)?;
     let attributes = file.event_attributes();
-    assert_eq!(rt; attributes.len(), 1);
-    assert_eq!(rt; (attributes[0].ids(), attributes[0].name()), (ids, name));
+    same(rt, &attributes.len(), &1);
+    same(
+        rt,
+        &(attributes[0].ids(), attributes[0].name()),
+        &(ids, name),
+    );
     Ok(())
 }
 
 #[test]
 fn event_desc_names_attributes(rt: HostRuntime) -> Result<(), Fail> {
     let events = described(rt.alloc(), Endianness::LittleEndian, 64)?;
-    assert_eq!(rt; events.bytes.len(), 90);
+    same(&rt, &events.bytes.len(), &90);
     is_named(&rt, &events.bytes, &[5], Some("c"))?;
     is_named(&rt, &events.bytes, &[6], None)?;
     let small = described(rt.alloc(), Endianness::LittleEndian, 56)?;
@@ -411,7 +417,7 @@ fn symbol_tables_of_pipes(rt: HostRuntime) -> Result<(), Fail> {
     ] {
         let file = told(rt.alloc(), &[PLAIN, Part::Feature(feature, content)])?;
         let tables = file.simpleperf_symbol_tables(rt.alloc())?;
-        assert!(rt; are_one(&tables, "a", address), "{feature}");
+        check_at(&rt, &feature, are_one(&tables, "a", address));
     }
     Ok(())
 }

@@ -2,6 +2,7 @@
 use super::features::little;
 use super::image::Image;
 use super::{End, shows};
+use crate::tests::compare::{check, same};
 use linux_perf_data::{Feature, PerfFileReader};
 use std::alloc::{AllocError, Global};
 use std::io::Cursor;
@@ -26,16 +27,20 @@ fn symbol_tables_of_either_section(rt: HostRuntime) -> Result<(), Fail> {
     ] {
         let file = little(rt.alloc(), feature, content)?;
         let tables = file.simpleperf_symbol_tables(rt.alloc())?;
-        assert!(rt; matches!(&tables, Some(records) if records.len() == 1));
+        check(&rt, matches!(&tables, Some(records) if records.len() == 1));
         for records in &tables {
             for record in records {
-                assert_eq!(rt; (record.path.as_str(), record.min_vaddr), ("a", address));
+                same(
+                    &rt,
+                    &(record.path.as_str(), record.min_vaddr),
+                    &("a", address),
+                );
             }
         }
     }
     let file = little(rt.alloc(), Feature::ARCH, &[0; 4])?;
-    assert!(rt; file.simpleperf_symbol_tables(rt.alloc())?.is_none());
-    assert!(rt; file.simpleperf_meta_info(rt.alloc())?.is_none());
+    check(&rt, file.simpleperf_symbol_tables(rt.alloc())?.is_none());
+    check(&rt, file.simpleperf_meta_info(rt.alloc())?.is_none());
     Ok(())
 }
 
@@ -74,21 +79,22 @@ fn meta_info_names_attributes(rt: HostRuntime) -> Result<(), Fail> {
         ("no room for ids", 15, EVENT, "", End::Attribute),
     ] {
         let image = recorded(rt.alloc(), attr_size, meta_info)?;
-        assert_eq!(rt; image.bytes.len(), 254);
+        same(&rt, &image.bytes.len(), &254);
         shows(&rt, name, &image.bytes, wanted, end)?;
     }
     let image = recorded(rt.alloc(), 80, EVENT)?;
     let reader = PerfFileReader::parse_file(rt.alloc(), Cursor::new(image.bytes.as_slice()))?;
     let attributes = reader.perf_file.event_attributes();
-    assert_eq!(rt; attributes.len(), 1);
-    assert_eq!(rt; attributes[0].name(), Some("cpu-clock"));
-    assert_eq!(rt; attributes[0].ids(), [5].as_slice());
+    same(&rt, &attributes.len(), &1);
+    same(&rt, &attributes[0].name(), &Some("cpu-clock"));
+    same(&rt, &attributes[0].ids(), &[5].as_slice());
     let told = reader.perf_file.simpleperf_meta_info(rt.alloc())?;
-    assert!(rt; matches!(&told, Some(pairs) if pairs.len() == 1));
+    check(&rt, matches!(&told, Some(pairs) if pairs.len() == 1));
     for pairs in &told {
-        assert_eq!(rt;
-            pairs.get("event_type_info").copied(),
-            Some("cpu-clock,1,0")
+        same(
+            &rt,
+            &pairs.get("event_type_info").copied(),
+            &Some("cpu-clock,1,0"),
         );
     }
     Ok(())

@@ -5,6 +5,7 @@ use super::{
     DATA, FILE_RECORDS, PIPE_RECORDS, Promise, Refusal, ends, fails, file_holds, first, of_first,
     pipe_holds, traced,
 };
+use crate::tests::compare::same;
 use linux_perf_data::source::Step;
 use std::io::ErrorKind;
 use std::test::Fail;
@@ -12,7 +13,7 @@ use std::test::Fail;
 #[test]
 fn a_fault_at_each_read_of_a_file(rt: HostRuntime) -> Result<(), Fail> {
     let image = first(rt.alloc())?;
-    assert_eq!(rt; image.bytes.len(), 208);
+    same(&rt, &image.bytes.len(), &208);
     for kind in [ErrorKind::Other, ErrorKind::TimedOut] {
         for at in 0..208usize {
             let stop = (at, Step::Fault(kind));
@@ -41,7 +42,7 @@ fn a_fault_at_each_read_of_a_marker(rt: HostRuntime) -> Result<(), Fail> {
         Part::Sample(10),
     ];
     let image = made(rt.alloc(), (48, 4, 0), &parts)?;
-    assert_eq!(rt; image.bytes.len(), 216);
+    same(&rt, &image.bytes.len(), &216);
     for at in 184..216usize {
         let stop = (at, Step::Fault(ErrorKind::Other));
         file_holds(&rt, &image.bytes, stop, of_marked(at))?;
@@ -82,7 +83,7 @@ fn a_fault_at_each_read_of_a_pipe(rt: HostRuntime) -> Result<(), Fail> {
         }
     }
     let image = traced(rt.alloc(), 4)?;
-    assert_eq!(rt; image.bytes.len(), 157);
+    same(&rt, &image.bytes.len(), &157);
     for at in 16..20usize {
         let stop = (at, Step::Fault(ErrorKind::TimedOut));
         let refused = Promise::Unopened(Refusal::Io(ErrorKind::TimedOut));

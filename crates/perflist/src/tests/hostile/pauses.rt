@@ -3,6 +3,7 @@ use super::super::jit::FILE;
 use super::super::pipe::scripted;
 use super::{Promise, Refusal, file_holds, first, of_cut_pipe, of_first, pipe_holds, traced};
 use crate::jit::list_jit;
+use crate::tests::compare::same;
 use linux_perf_data::source::Step;
 use std::io::ErrorKind;
 use std::test::Fail;
@@ -20,7 +21,7 @@ fn a_pause_at_each_read_of_a_file(rt: HostRuntime) -> Result<(), Fail> {
 #[test]
 fn a_pause_at_each_read_of_a_pipe(rt: HostRuntime) -> Result<(), Fail> {
     let image = traced(rt.alloc(), 0)?;
-    assert_eq!(rt; image.bytes.len(), 153);
+    same(&rt, &image.bytes.len(), &153);
     for at in 0..154usize {
         pipe_holds(&rt, &image.bytes, (at, Step::Pause), of_cut_pipe(at))?;
     }
@@ -39,6 +40,6 @@ fn a_listing_ends_at_a_pause(rt: HostRuntime) -> Result<(), Fail> {
     let source = scripted(rt.alloc(), &FILE, Vec::from_array(rt.alloc(), steps)?)?;
     let mut out: Vec<u8> = Vec::new(rt.alloc());
     let lines = list_jit(rt.alloc(), source, &mut out).ok();
-    assert_eq!(rt; lines, Some(1));
+    same(&rt, &lines, &Some(1));
     Ok(())
 }

@@ -4,6 +4,7 @@ use super::super::features::with_section;
 use super::super::image::Image;
 use super::super::simpleperf::{EVENT, recorded};
 use super::{Answer, Refusal, first, of_file};
+use crate::tests::compare::{same, same_at};
 use linux_perf_data::source::{PlacedSource, Script};
 use linux_perf_data::{Endianness, Feature};
 use std::alloc::{AllocError, Global};
@@ -59,9 +60,9 @@ fn each_seek_of_an_opening_fails(rt: HostRuntime) -> Result<(), Fail> {
         // the table, the meta info, one attribute with an entry and ids, the data
         (recorded(rt.alloc(), 80, EVENT)?, 254, 6),
     ] {
-        assert_eq!(rt; image.bytes.len(), length);
+        same(&rt, &image.bytes.len(), &length);
         let came = refusing_seeks(rt.alloc(), &image.bytes)?;
-        assert_eq!(rt; came, (wanted, true), "{length}");
+        same_at(&rt, &length, &came, &(wanted, true));
     }
     Ok(())
 }

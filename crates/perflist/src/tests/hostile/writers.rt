@@ -8,6 +8,7 @@ use super::{first, traced};
 use crate::jit::list_jit;
 use crate::list::{list_file, list_pipe};
 use crate::output::{Holding, LineBuffer, write_line};
+use crate::tests::compare::{same, same_at};
 use linux_perf_data::Endianness;
 use linux_perf_data::source::{Script, Source};
 use std::alloc::{AllocError, Global};
@@ -142,10 +143,11 @@ fn a_writer_takes_each_front(rt: HostRuntime) -> Result<(), Fail> {
                 let whole = room == text.len();
                 let end = if whole { End::Whole } else { End::Write(kind) };
                 let came = listed(rt.alloc(), input, &bytes, (room, fault));
-                assert_eq!(rt;
-                    (came.0, came.1.as_slice()),
-                    ((end, lines_in(front)), front),
-                    "{input:?} {room}"
+                same_at(
+                    &rt,
+                    &(input, room),
+                    &(came.0, came.1.as_slice()),
+                    &((end, lines_in(front)), front),
                 );
             }
         }
@@ -160,10 +162,11 @@ fn a_writer_takes_twenty_bytes(rt: HostRuntime) -> Result<(), Fail> {
     let full = ErrorKind::StorageFull;
     for (input, bytes) in [(Input::File, &file.bytes), (Input::Pipe, &pipe.bytes)] {
         let (end, taken) = listed(rt.alloc(), input, bytes, (20, Some(full)));
-        assert_eq!(rt;
-            (end, taken.len()),
-            ((End::Write(full), 1), 20),
-            "{input:?}"
+        same_at(
+            &rt,
+            &input,
+            &(end, taken.len()),
+            &((End::Write(full), 1), 20),
         );
     }
     Ok(())
@@ -187,7 +190,7 @@ fn flushed(alloc: Global, room: usize) -> Result<(bool, u64, usize), Fail> {
 #[test]
 fn a_line_buffer_flushes_what_stands_behind_it(rt: HostRuntime) -> Result<(), Fail> {
     for (room, wanted) in [(4usize, (true, 1u64, 4usize)), (3, (false, 0, 3))] {
-        assert_eq!(rt; flushed(rt.alloc(), room)?, wanted);
+        same(&rt, &flushed(rt.alloc(), room)?, &wanted);
     }
     Ok(())
 }
@@ -208,15 +211,16 @@ fn let_go_by<R: Source + Drop>(alloc: Global, source: R) -> (u64, (End, u64)) {
 fn lines_leave_before_the_pipe_may_wait(rt: HostRuntime) -> Result<(), Fail> {
     let bytes = bytes_of(rt.alloc(), Input::Pipe)?;
     // before the first record, whose head is kept, and before the end
-    assert_eq!(rt;
-        let_go_by(rt.alloc(), bytes.as_slice()),
-        (2, (End::Whole, 2))
+    same(
+        &rt,
+        &let_go_by(rt.alloc(), bytes.as_slice()),
+        &(2, (End::Whole, 2)),
     );
     // before each record and the end, of a source that shows nothing
     let shown = bytes.len();
     let none = Vec::new(rt.alloc());
     let source = Script::new(bytes, shown, none, Vec::new(rt.alloc()));
-    assert_eq!(rt; let_go_by(rt.alloc(), source), (3, (End::Whole, 2)));
+    same(&rt, &let_go_by(rt.alloc(), source), &(3, (End::Whole, 2)));
     Ok(())
 }
 
@@ -241,11 +245,12 @@ fn lines_that_may_not_leave_end_the_listing(rt: HostRuntime) -> Result<(), Fail>
     ] {
         let bytes = bytes_of(rt.alloc(), Input::Pipe)?;
         let came = held_back(rt.alloc(), bytes.as_slice(), goes);
-        assert_eq!(rt; came.0, end, "{goes}");
-        assert_eq!(rt;
-            came.1.as_slice(),
-            text.get(..length).unwrap_or(&[]),
-            "{goes}"
+        same_at(&rt, &goes, &came.0, &end);
+        same_at(
+            &rt,
+            &goes,
+            &came.1.as_slice(),
+            &text.get(..length).unwrap_or(&[]),
         );
     }
     Ok(())
