@@ -1,3 +1,4 @@
+use Rattle.std.proofs.Common.{}
 use Rattle.perfdata_records.specs.BuildId.{build_id_in}
 use Rattle.linux_perf_data.proofs.EntryRuns.{run_more}
 use Rattle.linux_perf_data.proofs.build_ids.build_ids.Goals as goal

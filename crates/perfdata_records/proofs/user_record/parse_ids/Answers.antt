@@ -1,4 +1,4 @@
-use Rattle.std.proofs.Common.{length, length-drop, ap, ◌∙◌, ◌++◌, ◌∷◌, [], arith}
+use Rattle.std.proofs.Common.{rules, length, length-drop, ap, ◌∙◌, ◌++◌, ◌∷◌, [], arith}
 use Rattle.perfdata_base.specs.Raw.{bytes_of}
 use Rattle.perfdata_records.proofs.Ids.{ids_more}
 use Rattle.perfdata_records.proofs.user_record.parse_ids.Goals as goal
@@ -12,3 +12,6 @@ ids-preserved g c =
       kept.1,
       omega (arith, kept.2, ap length taken.left, length-drop 8 (bytes_of c.ids.rest)),
     )
+
+pub ids-init : goal.ids-init
+ids-init g c = search rules

@@ -1,4 +1,4 @@
-use Rattle.std.proofs.Common.{arith, refl, subst, [], ◌∙◌}
+use Rattle.std.proofs.Common.{rules, arith, refl, subst, [], ◌∙◌}
 use Rattle.perfdata_base.proofs.Gives.{gave_none}
 use Rattle.linux_perf_data.specs.Iter.{view, bound_of, TookRecord, DeclinedRecord}
 use Rattle.linux_perf_data.proofs.Cuts.{some_piece, no_piece}
@@ -106,3 +106,6 @@ returns-clause-advances g c =
       first = λ _. section_ends seen c.args.self.now c.pieces.self _ i.idles c.pieces-test.ensures (record { source = refl; input = refl; body = refl }) refl;
       untouched = i.file;
     }
+
+pub returns-in-Failed-clause-advances : goal.returns-in-Failed-clause-advances
+returns-in-Failed-clause-advances g c = search rules

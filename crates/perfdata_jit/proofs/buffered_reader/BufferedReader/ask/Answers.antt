@@ -1,4 +1,4 @@
-use Rattle.std.proofs.Common.{◌<◌, ◌++◌, refl, arith, ap, ◌∙◌, length, length-append}
+use Rattle.std.proofs.Common.{rules, ◌<◌, ◌++◌, refl, arith, ap, ◌∙◌, length, length-append}
 use Rattle.perfdata_base.proofs.Gives.{gave_none_later}
 use Rattle.perfdata_jit.specs.BufferedReader.{held_in}
 use Rattle.perfdata_jit.proofs.Keeping.{keeps_more}
@@ -44,3 +44,9 @@ reads-preserved g c =
       fits = λ le. omega (arith, at.fits le, read.overflow, room.fits (omega (arith, held, le, at.keeps.size)));
       spared = λ le. read.room ∙ room.spared (omega (arith, held, le, at.keeps.size)) ∙ at.spared le;
     }
+
+pub returns-in-Err-fill : goal.returns-in-Err-fill
+returns-in-Err-fill g c = search rules
+
+pub returns-in-Err : goal.returns-in-Err
+returns-in-Err g c = search rules

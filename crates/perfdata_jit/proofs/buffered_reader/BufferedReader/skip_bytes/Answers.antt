@@ -1,4 +1,4 @@
-use Rattle.std.proofs.Common.{arith, ◌≡◌, ◌++◌, ◌∙◌, [], sym, ap, refl, take, length-append, append-nil, length-take-le}
+use Rattle.std.proofs.Common.{rules, arith, ◌≡◌, ◌++◌, ◌∙◌, [], sym, ap, refl, take, length-append, append-nil, length-take-le}
 use Rattle.std.proofs.lemmas.List.{take-append-drop}
 use Rattle.perfdata_base.proofs.Gives.{prepend_more}
 use Rattle.perfdata_base.specs.Source.{prepend}
@@ -51,3 +51,6 @@ returns-in-Ok-true g c =
       found = c.in-Ok.ensures.ok;
       finds = c.in-Ok.ensures.ok;
     }
+
+pub returns-in-Err-pass_by_seek : goal.returns-in-Err-pass_by_seek
+returns-in-Err-pass_by_seek g c = search rules

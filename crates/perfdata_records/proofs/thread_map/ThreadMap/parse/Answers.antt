@@ -1,4 +1,4 @@
-use Rattle.std.proofs.Common.{◌*◌, length, take, arith, ap, sym, ◌∙◌}
+use Rattle.std.proofs.Common.{rules, ◌*◌, length, take, arith, ap, sym, ◌∙◌}
 use Rattle.perfdata_base.specs.Raw.{bytes_of}
 use Rattle.perfdata_base.specs.Numbers.{number_in}
 use Rattle.std.proofs.lemmas.List.{length-take-le}
@@ -24,3 +24,6 @@ invariant_of-result g c =
     let cut = c.in_ok-entries.ensures in
     let enough = cut.taken.enough in
     record { whole = whole_entries c.in_ok-count.count (bytes_of c.in_ok-entries.entries) (ap length cut.prefix ∙ length-take-le _ _ enough ∙ c.in-Some.ensures.1) }
+
+pub returns-in_default-clause-refused : goal.returns-in_default-clause-refused
+returns-in_default-clause-refused g c = search rules

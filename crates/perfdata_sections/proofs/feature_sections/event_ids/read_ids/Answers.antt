@@ -22,3 +22,9 @@ ids-preserved g c =
       pauses = search rules;
       lent = search rules;
     }
+
+pub ids-init : goal.ids-init
+ids-init g c = search rules
+
+pub returns-clause-reads : goal.returns-clause-reads
+returns-clause-reads g c = search rules

@@ -1,0 +1,5 @@
+use Rattle.std.proofs.Common.{rules}
+use Rattle.perfdata_base.proofs.section.PerfFileSection.parse_from.Goals as goal
+
+pub returns-clause-parses : goal.returns-clause-parses
+returns-clause-parses g c = search rules
