@@ -24,7 +24,7 @@ pub invariant_of-result-clause-events : goal.invariant_of-result-clause-events
 invariant_of-result-clause-events c = table_events c.in-Ok.told (data_in c.args.metadata.sections 12) (subst (IsTable c.in-Ok.told) c.section_of-event_desc.ensures c.in-Ok.ensures.3)
 
 pub returns-in-Err : goal.returns-in-Err
-returns-in-Err c = λ other. names_stop c.args.endian c.args.metadata _ c.in-Err.error (let few = not_none _ (sym c.if-is_empty.false ∙ c.is_empty.ensures) in let long = c.args.metadata.attributes.ok in omega (arith, few, long)) c.section_of-event_desc.ensures c.in-Err.ensures.1 other
+returns-in-Err c = λ other. names_stop c.args.endian c.args.metadata _ c.in-Err.error (let few = not_none c.args.metadata.attributes.len (sym c.if-is_empty.false ∙ c.is_empty.ensures) in let long = c.args.metadata.attributes.ok in omega (arith, few, long)) c.section_of-event_desc.ensures c.in-Err.ensures.1 other
 
 pub returns-in-Err-check_rule : goal.returns-in-Err-check_rule
 returns-in-Err-check_rule c = λ _.
@@ -48,6 +48,6 @@ returns c =
       sections = λ n. refl;
       features = refl;
       named = names_kept order _ _ _ new c.section_of-event_desc.ensures items c.in-Ok.ensures.0;
-      some = (let few = not_none _ (sym c.if-is_empty.false ∙ c.is_empty.ensures) in let there = m.attributes.ok in omega (arith, few, there, long, ap length items));
+      some = (let few = not_none c.args.metadata.attributes.len (sym c.if-is_empty.false ∙ c.is_empty.ensures) in let there = m.attributes.ok in omega (arith, few, there, long, ap length items));
       rule = subst Rule (ap attributes_by (c.deref.ensures.value ∙ items) ∙ same) c.in-Ok-check_rule.ensures;
     }
