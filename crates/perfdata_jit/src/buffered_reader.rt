@@ -1,5 +1,5 @@
 //! Parts of a source's bytes, lent from two buffers.
-ghost use Rattle.std.specs.Prelude.{◌≡◌, ◌<◌, ◌≤◌, IfErr, OnOk, length, take, slice_range, true, false, vec_len};
+ghost use Rattle.std.specs.Prelude.{◌≡◌, ◌↔◌, ◌<◌, ◌≤◌, IfErr, IsTrue, OnOk, length, take, slice_range, true, false, vec_len};
 ghost use Rattle.std.specs.Borrow.{sem};
 ghost use Rattle.std.specs.Io.BufRead.{Rests};
 ghost use Rattle.std.specs.IoError.{error_kind};
@@ -61,6 +61,13 @@ impl<R: Source> BufferedReader<R> {
             return Err(Error::from(ErrorKind::Other));
         }
         Ok(())
+    }
+
+    // Whether so many bytes are held.
+    pub(crate) fn holds(&self, count: usize) -> bool
+        ensures { IsTrue result ↔ count ≤ length (held_in self.now) }
+    {
+        count <= self.held.len()
     }
 
     // Reads until so many bytes are held, and says whether they are.

@@ -1,5 +1,5 @@
 //! Reads the records of a jitdump, also while it grows.
-ghost use Rattle.std.specs.Prelude.{◌≡◌, false, length, vec_len};
+ghost use Rattle.std.specs.Prelude.{◌≡◌, ◌↔◌, ◌≤◌, IsTrue, false, length, vec_len};
 ghost use Rattle.std.specs.Borrow.{sem};
 ghost use Rattle.std.specs.Io.BufRead.{Rests};
 ghost use Rattle.perfdata_jit.specs.Answer.{IsHeld, head_in};
@@ -143,6 +143,25 @@ impl<R: Source> JitDumpReader<R> {
         ensures { result ≡ jit_offset self.now }
     {
         self.offset // the same while the record's head is kept
+    }
+
+    /// Whether so many bytes of the records to come are buffered: a call whose part ends within them doesn't read.
+    ///
+    /// The first 16 bytes are the next record's header, by which [`JitDumpReader::next_record_header`] then tells the size of
+    /// that record.
+    pub fn has_buffered(&self, count: usize) -> bool
+        ensures { IsTrue result ↔ count ≤ length (jit_held self.now) }
+    {
+        match self.head {
+            Some(head) => {
+                let head = copy_of(&head);
+                if count <= head.len() {
+                    return true;
+                }
+                self.reader.holds(count - head.len())
+            }
+            None => self.reader.holds(count),
+        }
     }
 
     // The bytes of the next head, which is kept.

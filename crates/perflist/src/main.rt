@@ -1,18 +1,13 @@
 //! Lists the records of a `perf.data` file, of a pipe, or of a jitdump file, one line a record.
 #![tactic(auto)]
 
-mod jit;
-mod laws;
-mod line;
-mod list;
-mod output;
-#[cfg(test)]
-mod tests;
+mod dump;
 
-use jit::list_jit;
-use linux_perf_data::source::CountedBuffer;
-use list::{list_file, list_pipe, settle};
-use output::{LineBuffer, finish, write_line};
+use dump::Dump;
+use linux_perf_data::source::{Counted, CountedBuffer};
+use perfdata_listing::{
+    LineBuffer, finish, list_file, list_live_jit, list_live_pipe, settle, write_line,
+};
 use std::env::Args;
 use std::fs::File;
 use std::io::{BufReader, ErrorKind, Write};
@@ -97,19 +92,22 @@ fn list_input(rt: &HostRuntime) -> Result<u64, u64> {
     let Ok(mut out) = LineBuffer::new(rt.alloc(), rt.stdout()) else {
         return Err(0);
     };
-    let listed = list_pipe(rt.alloc(), CountedBuffer::new(input), &mut out);
+    let listed = list_live_pipe(rt.alloc(), CountedBuffer::new(input), &mut out);
     settle(listed, &mut out)
 }
 
-/// Lists a jitdump file in the same way.
+/// Lists a jitdump in the same way: a file, or a pipe that a path names.
 fn list_jit_path(rt: &HostRuntime, path: &str) -> Result<u64, u64> {
-    let Some(file) = open(rt, path) else {
+    let Ok(file) = File::open(rt, path) else {
+        return Err(0);
+    };
+    let Ok(dump) = Dump::new(rt.alloc(), file) else {
         return Err(0);
     };
     let Ok(mut out) = LineBuffer::new(rt.alloc(), rt.stdout()) else {
         return Err(0);
     };
-    let listed = list_jit(rt.alloc(), file, &mut out);
+    let listed = list_live_jit(rt.alloc(), Counted::new(dump), &mut out);
     settle(listed, &mut out)
 }
 

@@ -18,6 +18,31 @@ pub enum Step {
     Grow(usize),
 }
 
+// The seeks that fail, by their numbers.
+#[derive(Drop)]
+enum SeekErrors {
+    // With an error of kind `Other`.
+    Other(Vec<u64>),
+    Kinds(Vec<(u64, ErrorKind)>),
+}
+
+impl SeekErrors {
+    // The kind of error that the seek of this number fails with.
+    fn kind_of(&self, number: u64) -> Option<ErrorKind> {
+        match self {
+            SeekErrors::Other(numbers) => numbers.contains(&number).then_some(ErrorKind::Other),
+            SeekErrors::Kinds(errors) => {
+                for (failing, kind) in errors {
+                    if *failing == number {
+                        return Some(*kind);
+                    }
+                }
+                None
+            }
+        }
+    }
+}
+
 /// A source for tests, of which a front is shown and grows, and whose reads and seeks give, pause and fail as a script
 /// says.
 ///
@@ -29,7 +54,7 @@ pub struct Script {
     at: u64,
     steps: Vec<Step>,
     taken: usize,
-    seek_faults: Vec<u64>,
+    seek_errors: SeekErrors,
     seeks: u64,
     faults: u64,
     pauses: u64,
@@ -46,6 +71,28 @@ impl Script {
     pub fn new(bytes: Vec<u8>, shown: usize, steps: Vec<Step>, seek_faults: Vec<u64>) -> Script
         ensures { scripted result ≡ starts bytes.items }
     {
+        Script::failing(bytes, shown, steps, SeekErrors::Other(seek_faults))
+    }
+
+    /// A source of these bytes, of which the first so many are shown, at most all.
+    ///
+    /// A seek fails where its number is in `seek_errors`, with an error of the kind beside the number; the first seek has
+    /// number 0. If a number is there twice, its first kind counts.
+    pub fn with_seek_errors(
+        bytes: Vec<u8>,
+        shown: usize,
+        steps: Vec<Step>,
+        seek_errors: Vec<(u64, ErrorKind)>,
+    ) -> Script
+        ensures { scripted result ≡ starts bytes.items }
+    {
+        Script::failing(bytes, shown, steps, SeekErrors::Kinds(seek_errors))
+    }
+
+    // A source of these bytes, whose seeks fail as `seek_errors` says.
+    fn failing(bytes: Vec<u8>, shown: usize, steps: Vec<Step>, seek_errors: SeekErrors) -> Script
+        ensures { scripted result ≡ starts bytes.items }
+    {
         let shown = shown.min(bytes.len());
         Script {
             bytes,
@@ -53,7 +100,7 @@ impl Script {
             at: 0,
             steps,
             taken: 0,
-            seek_faults,
+            seek_errors,
             seeks: 0,
             faults: 0,
             pauses: 0,
@@ -115,9 +162,9 @@ impl PlacedSource for Script {
         let at = self.at;
         let number = self.seeks;
         self.seeks = self.seeks.saturating_add(1);
-        if self.seek_faults.contains(&number) {
+        if let Some(kind) = self.seek_errors.kind_of(number) {
             self.faults = self.faults.saturating_add(1);
-            return Err(Error::from(ErrorKind::Other));
+            return Err(Error::from(kind));
         }
         let mut shown = Cursor::new(&self.bytes[..self.shown]);
         shown.set_position(at);

@@ -4,9 +4,9 @@ use Rattle.perfdata_base.proofs.source.scripted.ScriptPlacedSource.seek_to.Goals
 pub returns-in-Ok-clause-seeks : goal.returns-in-Ok-clause-seeks
 returns-in-Ok-clause-seeks c =
     let s = c.args.self.now in
-    sought_shown s.bytes.items s.shown s.at c.in-Ok.at s.faults s.pauses c.args.to _ (rw (c.set_position.ensures.inner, c.set_position.ensures.position, c.new-shown.ensures.inner, c.deref-2.ensures.value) at c.in-Ok.ensures.seeks)
+    sought_shown s.bytes.items s.shown s.at c.in-Ok.at s.faults s.pauses c.args.to _ (rw (c.set_position.ensures.inner, c.set_position.ensures.position, c.new-shown.ensures.inner, c.deref.ensures.value) at c.in-Ok.ensures.seeks)
 
 pub returns-in-Err-clause-seeks : goal.returns-in-Err-clause-seeks
 returns-in-Err-clause-seeks c =
     let s = c.args.self.now in
-    refused_shown s.bytes.items s.shown s.at s.faults s.pauses c.args.to _ (rw (c.set_position.ensures.inner, c.set_position.ensures.position, c.new-shown.ensures.inner, c.deref-2.ensures.value) at c.in-Err.ensures.seeks.1)
+    refused_shown s.bytes.items s.shown s.at s.faults s.pauses c.args.to _ (rw (c.set_position.ensures.inner, c.set_position.ensures.position, c.new-shown.ensures.inner, c.deref.ensures.value) at c.in-Err.ensures.seeks.1)

@@ -1,9 +1,0 @@
-//! The tests of what simpleperf adds to a file.
-mod event_types;
-mod file2;
-pub(crate) mod file_record;
-mod file_section;
-mod file_v1;
-mod meta_info;
-mod nul_text;
-pub(crate) mod sections;

@@ -1,5 +1,0 @@
-use Rattle.perflist.proofs.JitListings.{listed_jit}
-use Rattle.perflist.proofs.jit.list_jit.Goals as goal
-
-pub returns-in-Ok : goal.returns-in-Ok
-returns-in-Ok g c = listed_jit g.R.Source.seen c.args.source c.in-Ok.reader c.in-Ok.ensures _ _ _ _ c.list_jit_records.ensures

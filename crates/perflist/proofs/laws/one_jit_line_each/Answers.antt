@@ -1,5 +1,0 @@
-use Rattle.perflist.proofs.JitListings.{newlines_pieces}
-use Rattle.perflist.proofs.laws.one_jit_line_each.Goals as goal
-
-pub returns : goal.returns
-returns c = newlines_pieces

@@ -1,6 +1,0 @@
-use Rattle.std.proofs.Common.{◌≡◌, take}
-use Rattle.perflist.specs.Output.{newlines}
-use Rattle.perflist.proofs.output.few_newlines.Given as goal
-
-abbrev pub invariant-bytes : goal.invariant-bytes
-invariant-bytes l = l.lines ≡ newlines (take l.byte-index l.bytes)

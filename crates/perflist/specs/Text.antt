@@ -1,7 +1,0 @@
--- The text that a line holds.
-use Rattle.std.specs.Prelude.{ℕ, List, drop}
-use Rattle.perflist.specs.declared.line.Line.{Line}
-
--- the bytes from its start on
-abbrev pub text_of : Line → List ℕ
-text_of line = drop line.start line.bytes

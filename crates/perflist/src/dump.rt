@@ -1,0 +1,64 @@
+//! A jitdump that may come through a pipe: opening it waits for its header and for nothing after it.
+use linux_perf_data::jitdump::{JitDumpError, JitDumpHeader};
+use linux_perf_data::raw::RawData;
+use std::alloc::Global;
+use std::io::{self, Read};
+
+/// How many bytes are read in search of a header's end: as many as a reader of a jitdump fills at its opening, where its
+/// caller doesn't choose. A longer header is refused, as `list_jit` refuses it.
+const HEADER_LIMIT: usize = 4096;
+
+/// A jitdump whose header was read already: a reader is given the header, then one empty read, and then what follows.
+#[derive(Drop)]
+pub struct Dump<R> {
+    header: Vec<u8>,
+    given: usize,
+    is_header_given: bool,
+    rest: R,
+}
+
+/// Whether these bytes hold a header, or can't begin one.
+fn ends_header(bytes: &[u8]) -> bool {
+    match JitDumpHeader::parse(RawData::Single(bytes)) {
+        Err(JitDumpError::NotEnoughBytesForHeader) => false,
+        _ => true,
+    }
+}
+
+impl<R: Read + Drop> Dump<R> {
+    /// Reads the header, or what there is of it, byte by byte.
+    pub fn new(alloc: Global, mut rest: R) -> io::Result<Dump<R>> {
+        let mut header = Vec::new(alloc);
+        for _ in 0..HEADER_LIMIT {
+            if ends_header(&header) {
+                break;
+            }
+            let mut byte = [0];
+            if rest.read(&mut byte)? == 0 {
+                break;
+            }
+            header.push(byte[0])?;
+        }
+        Ok(Dump {
+            header,
+            given: 0,
+            is_header_given: false,
+            rest,
+        })
+    }
+}
+
+impl<R: Read> Read for Dump<R> {
+    fn read(&mut self, buf: &mut [u8]) -> io::Result<usize> {
+        if self.is_header_given {
+            return self.rest.read(buf);
+        }
+        let mut unread = self.header.get(self.given..).unwrap_or(&[]);
+        let count = unread.read(buf)?;
+        self.given = self.given.saturating_add(count);
+        if count == 0 && !buf.is_empty() {
+            self.is_header_given = true;
+        }
+        Ok(count)
+    }
+}

@@ -1,0 +1,101 @@
+//! Parsers that take their source by value consume their own bytes and no more.
+use crate::compare::same_at;
+use byteorder::{BigEndian, LittleEndian};
+use perfdata_base::attr::PerfEventAttr;
+use perfdata_base::event::PerfEventHeader;
+use perfdata_base::header::{PerfHeader, PerfPipeHeader};
+use perfdata_base::section::PerfFileSection;
+use perfdata_base::source::Source;
+use std::io::Cursor;
+
+/// What is parsed.
+#[derive(Clone, Copy, Debug)]
+enum Part {
+    Head,
+    Entry,
+    Attribute,
+    PipeHeader,
+}
+
+/// Whether a part is parsed from a source.
+fn is_parsed<R: Source + Drop>(part: Part, is_little: bool, source: R) -> bool {
+    match (part, is_little) {
+        (Part::Head, true) => PerfEventHeader::parse::<R, LittleEndian>(source).is_ok(),
+        (Part::Head, false) => PerfEventHeader::parse::<R, BigEndian>(source).is_ok(),
+        (Part::Entry, true) => PerfFileSection::parse::<R, LittleEndian>(source).is_ok(),
+        (Part::Entry, false) => PerfFileSection::parse::<R, BigEndian>(source).is_ok(),
+        (Part::Attribute, true) => PerfEventAttr::parse::<R, LittleEndian>(source).is_ok(),
+        (Part::Attribute, false) => PerfEventAttr::parse::<R, BigEndian>(source).is_ok(),
+        (Part::PipeHeader, _) => PerfPipeHeader::parse(source).is_ok(),
+    }
+}
+
+// 200 bytes: at 3 an attribute whose own size is this, in an order.
+fn attribute(size: u8, is_little: bool) -> [u8; 200] {
+    let mut bytes = [0; 200];
+    if is_little {
+        bytes[7] = size;
+    } else {
+        bytes[10] = size;
+    }
+    bytes
+}
+
+// At 3 a header of a pipe or of a file that tells this size.
+fn header(size: u8, is_little: bool) -> [u8; 200] {
+    let mut bytes = [0; 200];
+    if is_little {
+        bytes[3..11].copy_from_slice(b"PERFILE2");
+        bytes[11] = size;
+    } else {
+        bytes[3..11].copy_from_slice(b"2ELIFREP");
+        bytes[18] = size;
+    }
+    bytes
+}
+
+#[test]
+fn parts_take_their_own_bytes(rt: HostRuntime) {
+    for is_little in [true, false] {
+        for (part, bytes, taken) in [
+            (Part::Head, attribute(0, is_little), 8usize),
+            (Part::Entry, attribute(0, is_little), 16),
+            (Part::Attribute, attribute(0, is_little), 64),
+            (Part::Attribute, attribute(64, is_little), 64),
+            (Part::Attribute, attribute(136, is_little), 136),
+            (Part::PipeHeader, header(16, is_little), 16),
+            (Part::PipeHeader, header(20, is_little), 20),
+        ] {
+            let mut rest = &bytes[3..];
+            let first = is_parsed(part, is_little, &mut rest);
+            let mut cursor = Cursor::new(&bytes[..]);
+            cursor.set_position(3);
+            let second = is_parsed(part, is_little, &mut cursor);
+            same_at(&rt, &(part, is_little), &(first, second), &(true, true));
+            same_at(
+                &rt,
+                &(part, is_little),
+                &(rest.len(), cursor.position()),
+                &(197 - taken, 3 + taken as u64),
+            );
+        }
+    }
+}
+
+#[test]
+fn a_header_takes_its_own_bytes(rt: HostRuntime) {
+    for is_little in [true, false] {
+        for (size, taken) in [(0u8, 104u64), (104, 104), (112, 112)] {
+            let bytes = header(size, is_little);
+            let mut cursor = Cursor::new(&bytes[..]);
+            cursor.set_position(3);
+            let parsed = PerfHeader::parse(&mut cursor).is_ok();
+            same_at(
+                &rt,
+                &(size, is_little),
+                &(parsed, cursor.position()),
+                &(true, 3 + taken),
+            );
+        }
+    }
+}

@@ -1,0 +1,112 @@
+//! Features: their names, and the members of a set.
+use crate::compare::{check, same, same_at};
+use perfdata_base::features::{Feature, FeatureSet};
+use std::alloc::Global;
+use std::test::Fail;
+
+const NAMES: [(u32, &str); 38] = [
+    (0, "Unknown Feature 0"),
+    (1, "TRACING_DATA"),
+    (2, "BUILD_ID"),
+    (3, "HOSTNAME"),
+    (4, "OSRELEASE"),
+    (5, "VERSION"),
+    (6, "ARCH"),
+    (7, "NRCPUS"),
+    (8, "CPUDESC"),
+    (9, "CPUID"),
+    (10, "TOTAL_MEM"),
+    (11, "CMDLINE"),
+    (12, "EVENT_DESC"),
+    (13, "CPU_TOPOLOGY"),
+    (14, "NUMA_TOPOLOGY"),
+    (15, "BRANCH_STACK"),
+    (16, "PMU_MAPPINGS"),
+    (17, "GROUP_DESC"),
+    (18, "AUXTRACE"),
+    (19, "STAT"),
+    (20, "CACHE"),
+    (21, "SAMPLE_TIME"),
+    (22, "SAMPLE_TOPOLOGY"),
+    (23, "CLOCKID"),
+    (24, "DIR_FORMAT"),
+    (25, "BPF_PROG_INFO"),
+    (26, "BPF_BTF"),
+    (27, "COMPRESSED"),
+    (28, "CPU_PMU_CAPS"),
+    (29, "CLOCK_DATA"),
+    (30, "HYBRID_TOPOLOGY"),
+    (31, "HYBRID_CPU_PMU_CAPS"),
+    (128, "SIMPLEPERF_FILE"),
+    (129, "SIMPLEPERF_META_INFO"),
+    (130, "SIMPLEPERF_DEBUG_UNWIND"),
+    (131, "SIMPLEPERF_DEBUG_UNWIND_FILE"),
+    (132, "SIMPLEPERF_FILE2"),
+    (300, "Unknown Feature 300"),
+];
+
+#[test]
+fn shows_names(rt: HostRuntime) -> Result<(), Fail> {
+    for (number, name) in NAMES {
+        let feature = Feature(number);
+        let text = format!(in rt.alloc(); "{feature}")?;
+        let debug = format!(in rt.alloc(); "{feature:?}")?;
+        same(&rt, &(text.as_str(), debug.as_str()), &(name, name));
+    }
+    Ok(())
+}
+
+// How many there are, whether there is none, and the debug form.
+fn described(alloc: Global, set: &FeatureSet) -> Result<(usize, bool, String), Fail> {
+    let debug = format!(in alloc; "{set:?}")?;
+    Ok((set.len(), set.is_empty(), debug))
+}
+
+#[test]
+fn goes_over_members(rt: HostRuntime) -> Result<(), Fail> {
+    let set = FeatureSet([8, 0, 1, 0]);
+    let mut members = set.iter();
+    let four = [
+        members.next(),
+        members.next(),
+        members.next(),
+        members.next(),
+    ];
+    same(
+        &rt,
+        &four,
+        &[
+            Some(Feature::HOSTNAME),
+            Some(Feature::SIMPLEPERF_FILE),
+            None,
+            None,
+        ],
+    );
+    let (count, empty, debug) = described(rt.alloc(), &set)?;
+    same(
+        &rt,
+        &(count, empty, debug.as_str()),
+        &(2, false, "{HOSTNAME, SIMPLEPERF_FILE}"),
+    );
+    let ends = FeatureSet([1, 0, 0, 1 << 63]);
+    check(&rt, ends.iter().eq([Feature(0), Feature(255)]));
+    for (set, feature, held) in [
+        (set, Feature::HOSTNAME, true),
+        (set, Feature::OSRELEASE, false),
+        (set, Feature(300), false),
+        (ends, Feature(256), false),
+    ] {
+        same_at(&rt, &feature, &set.has_feature(feature), &held);
+    }
+    Ok(())
+}
+
+#[test]
+fn is_empty_without_a_bit(rt: HostRuntime) -> Result<(), Fail> {
+    let none = FeatureSet([0; 4]);
+    let (count, empty, debug) = described(rt.alloc(), &none)?;
+    same(&rt, &(count, empty, debug.as_str()), &(0, true, "{}"));
+    same(&rt, &none.iter().next(), &None);
+    check(&rt, !FeatureSet([0, 0, 0, 1]).is_empty());
+    Ok(())
+}

@@ -1,0 +1,106 @@
+//! Headers of files: their fields, in both orders, and what is refused.
+use crate::compare::{same, same_at};
+use perfdata_base::header::PerfHeader;
+use std::io::{Cursor, ErrorKind};
+use std::test::Fail;
+use test_support::values::by_kind;
+
+// Bytes each of which is its index, but for this first byte and these of the header's size.
+fn header(first: u8, size: [u8; 8]) -> [u8; 120] {
+    let mut bytes = [0u8; 120];
+    for (index, byte) in bytes.iter_mut().enumerate() {
+        *byte = index as u8;
+    }
+    bytes[0] = first;
+    bytes[8..16].copy_from_slice(&size);
+    bytes
+}
+
+fn numbers(header: &PerfHeader) -> [u64; 12] {
+    [
+        header.header_size,
+        header.attr_size,
+        header.attr_section.offset,
+        header.attr_section.size,
+        header.data_section.offset,
+        header.data_section.size,
+        header.event_types_section.offset,
+        header.event_types_section.size,
+        header.features.0[0],
+        header.features.0[1],
+        header.features.0[2],
+        header.features.0[3],
+    ]
+}
+
+#[test]
+fn reads_each_field(rt: HostRuntime) -> Result<(), Fail> {
+    let bytes = header(b'P', [112, 0, 0, 0, 0, 0, 0, 0]);
+    let mut cursor = Cursor::new(&bytes[..]);
+    let header = PerfHeader::parse_from(&mut cursor)?;
+    let at = cursor.position();
+    same_at(
+        &rt,
+        &"bytes behind the known ones are passed over",
+        &at,
+        &112,
+    );
+    same(&rt, &header.magic, &[b'P', 1, 2, 3, 4, 5, 6, 7]);
+    same(
+        &rt,
+        &numbers(&header),
+        &[
+            112,
+            0x1716_1514_1312_1110,
+            0x1f1e_1d1c_1b1a_1918,
+            0x2726_2524_2322_2120,
+            0x2f2e_2d2c_2b2a_2928,
+            0x3736_3534_3332_3130,
+            0x3f3e_3d3c_3b3a_3938,
+            0x4746_4544_4342_4140,
+            0x4f4e_4d4c_4b4a_4948,
+            0x5756_5554_5352_5150,
+            0x5f5e_5d5c_5b5a_5958,
+            0x6766_6564_6362_6160,
+        ],
+    );
+    Ok(())
+}
+
+#[test]
+fn reads_big_endian(rt: HostRuntime) -> Result<(), Fail> {
+    let bytes = header(b'2', [0, 0, 0, 0, 0, 0, 0, 64]);
+    let mut cursor = Cursor::new(&bytes[..]);
+    let header = PerfHeader::parse_from(&mut cursor)?;
+    let at = cursor.position();
+    same_at(&rt, &"a smaller size changes nothing", &at, &104);
+    same(
+        &rt,
+        &(
+            header.header_size,
+            header.attr_size,
+            header.attr_section.offset,
+        ),
+        &(64, 0x1011_1213_1415_1617, 0x1819_1a1b_1c1d_1e1f),
+    );
+    let header = PerfHeader::parse(Cursor::new(&bytes[..]))?;
+    same(&rt, &header.features.0[3], &0x6061_6263_6465_6667);
+    Ok(())
+}
+
+#[test]
+fn refuses_missing_bytes_and_far_ends(rt: HostRuntime) {
+    let far = [255u8; 8];
+    let first_far = [104, 0, 0, 0, 0, 0, 0, 128];
+    let last_near = [103, 0, 0, 0, 0, 0, 0, 128];
+    for (size, count, kind) in [
+        (far, 103usize, Some(ErrorKind::UnexpectedEof)),
+        (far, 104, Some(ErrorKind::InvalidInput)),
+        (first_far, 104, Some(ErrorKind::InvalidInput)),
+        (last_near, 120, None),
+    ] {
+        let bytes = header(b'P', size);
+        let parsed = PerfHeader::parse(Cursor::new(&bytes[..count]));
+        same_at(&rt, &(size, count), &by_kind(parsed).err(), &kind);
+    }
+}

@@ -1,0 +1,28 @@
+//! The cache of identifiers, where two share a slot.
+use crate::compare::{same, same_at};
+use perfdata_base::place::IdCache;
+
+// Of two identifiers of one slot the later stays, and an empty slot answers for none.
+#[test]
+fn keeps_the_last_of_a_slot(rt: HostRuntime) {
+    let mut cache = IdCache::new();
+    same(&rt, &cache.get(0), &None);
+    cache.put(1, 0);
+    same(&rt, &cache.get(1), &Some(0));
+    cache.put(65, 1);
+    cache.put(u64::MAX, 3);
+    for (id, index) in [
+        (0, None),
+        (1, None),
+        (65, Some(1)),
+        (129, None),
+        (63, None),
+        (u64::MAX, Some(3)),
+    ] {
+        same_at(&rt, &id, &cache.get(id), &index);
+    }
+    cache.clear();
+    for id in [0, 65, u64::MAX] {
+        same_at(&rt, &id, &cache.get(id), &None);
+    }
+}

@@ -1,0 +1,38 @@
+//! Headers of pipes, whole, with bytes behind them, and cut.
+use crate::compare::same;
+use perfdata_base::header::PerfPipeHeader;
+use std::io::ErrorKind;
+use std::test::Fail;
+use test_support::values::by_kind;
+
+#[test]
+fn reads_pipe_headers(rt: HostRuntime) -> Result<(), Fail> {
+    let little = *b"PERFILE2\x14\0\0\0\0\0\0\0abcdef";
+    let big = *b"2ELIFREP\0\0\0\0\0\0\0\x10abcdef";
+    let small = *b"PERFILE2\x08\0\0\0\0\0\0\0abcdef";
+    let far = *b"PERFILE2\xff\xff\xff\xff\xff\xff\xff\xffabcdef";
+    for (bytes, first, size, left) in [
+        (little, b'P', 20u64, 2usize),
+        (big, b'2', 16, 6),
+        (small, b'P', 8, 6),
+        (far, b'P', u64::MAX, 0),
+    ] {
+        let mut source = &bytes[..];
+        let (_, whole) = PerfPipeHeader::parse_front(&mut source)?;
+        same(&rt, &(whole, source.len()), &(left > 0, left));
+        let mut source = &bytes[..];
+        let header = PerfPipeHeader::parse_from(&mut source)?;
+        same(
+            &rt,
+            &(header.size, header.magic[0], source.len()),
+            &(size, first, left),
+        );
+    }
+    let cut = b"PERFILE2\x10\0\0\0\0\0\0".as_slice();
+    same(
+        &rt,
+        &by_kind(PerfPipeHeader::parse(cut)).err(),
+        &Some(ErrorKind::UnexpectedEof),
+    );
+    Ok(())
+}

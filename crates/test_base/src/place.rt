@@ -1,0 +1,141 @@
+//! Where times and identifiers stand by a format, and the words that are read there.
+use super::raw::split;
+use crate::compare::{same, same_at};
+use byteorder::{BigEndian, LittleEndian};
+use perfdata_base::attr::{AttrFlags, PerfEventAttr, SampleFormat};
+use perfdata_base::event::RecordType;
+use perfdata_base::place::{
+    RecordParseInfo, get_record_id, get_record_identifier, get_record_timestamp,
+};
+use perfdata_base::raw::{Endianness, RawData};
+
+// The places of an attribute of this format and these flags.
+fn places(sample_format: u64, flags: u64) -> RecordParseInfo {
+    let attr = PerfEventAttr {
+        type_: 0,
+        size: 64,
+        config: 0,
+        period_or_freq: 0,
+        sample_format: SampleFormat(sample_format),
+        read_format: 0,
+        flags: AttrFlags(flags),
+        wakeup: 0,
+        bp_type: 0,
+        config1: 0,
+        config2: 0,
+        branch_sample_type: 0,
+        sample_regs_user: 0,
+        sample_stack_user: 0,
+        clockid: 0,
+        sample_regs_intr: 0,
+        aux_watermark: 0,
+        sample_max_stack: 0,
+        aux_sample_size: 0,
+        sig_data: 0,
+        config3: 0,
+    };
+    RecordParseInfo::new(&attr, Endianness::LittleEndian)
+}
+
+// Formats and flags, with the places of the identifier and of the time, each in a sample from the start and in
+// another record from the end.
+#[test]
+fn places_follow_the_format(rt: HostRuntime) {
+    for (format, flags, id, time) in [
+        (4, 0, (None, None), (Some(0), None)),
+        (0x10006, 0x40000, (Some(0), Some(8)), (Some(16), Some(16))),
+        (0x46, 0x40000, (Some(16), Some(8)), (Some(8), Some(16))),
+        (0x46, 0, (Some(16), None), (Some(8), None)),
+        (0x102cf, 0x40000, (Some(0), Some(8)), (Some(24), Some(40))),
+        (0x10044, 0x40000, (Some(0), Some(8)), (Some(8), Some(24))),
+        (0x2c8, 0x40000, (Some(8), Some(24)), (None, None)),
+        (0, 0x40000, (None, None), (None, None)),
+    ] {
+        let info = places(format, flags);
+        let found = info.id_parse_info;
+        same_at(
+            &rt,
+            &format,
+            &[
+                (found.sample_id_from_start, found.other_id_from_end),
+                (info.sample_time_from_start, info.other_time_from_end),
+            ],
+            &[id, time],
+        );
+    }
+}
+
+// The time of a record as each call tells it, and its identifier.
+fn told(
+    info: &RecordParseInfo,
+    record_type: RecordType,
+    body: &[u8],
+) -> ([Option<u64>; 3], [Option<u64>; 5]) {
+    let single = RawData::Single(body);
+    let pieces = split(body, 5);
+    let id = &info.id_parse_info;
+    (
+        [
+            info.time_of(record_type, body),
+            get_record_timestamp::<LittleEndian>(record_type, single, info),
+            get_record_timestamp::<LittleEndian>(record_type, pieces, info),
+        ],
+        [
+            id.identifier_of(Endianness::LittleEndian, record_type, body),
+            get_record_id::<LittleEndian>(record_type, single, id),
+            get_record_id::<LittleEndian>(record_type, pieces, id),
+            get_record_identifier::<LittleEndian>(record_type, single, true),
+            get_record_identifier::<LittleEndian>(record_type, pieces, true),
+        ],
+    )
+}
+
+// The words TID, TIME and IDENTIFIER (or in a sample IDENTIFIER, TID and TIME) in three words of eight bytes.
+#[test]
+fn numbers_stand_at_their_places(rt: HostRuntime) {
+    let mut body = [0u8; 24];
+    body[0] = 7;
+    body[8] = 33;
+    body[16] = 9;
+    let info = places(0x10006, 0x40000);
+    for (kind, len, time, id) in [
+        (3, 24, Some(33), Some(9)),
+        (3, 15, None, Some(33 << 8)),
+        (3, 7, None, None),
+        (9, 24, Some(9), Some(7)),
+        (9, 23, None, Some(7)),
+        (64, 24, None, None),
+    ] {
+        same_at(
+            &rt,
+            &(kind, len),
+            &told(&info, RecordType(kind), &body[..len]),
+            &([time; 3], [id; 5]),
+        );
+    }
+}
+
+#[test]
+fn the_order_is_the_type_parameter(rt: HostRuntime) {
+    let body = [0, 0, 0, 0, 0, 0, 1, 2];
+    let raw = RawData::Single(&body);
+    let info = places(4, 0x40000);
+    let sample = RecordType::SAMPLE;
+    same(
+        &rt,
+        &[
+            get_record_timestamp::<BigEndian>(sample, raw, &info),
+            get_record_timestamp::<BigEndian>(RecordType(1), raw, &info),
+            get_record_identifier::<BigEndian>(sample, raw, false),
+            get_record_identifier::<BigEndian>(RecordType(1), raw, false),
+            info.time_of(sample, &body),
+        ],
+        &[
+            Some(258),
+            Some(258),
+            Some(258),
+            None,
+            Some(0x0201_0000_0000_0000),
+        ],
+    );
+}

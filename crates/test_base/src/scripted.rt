@@ -1,0 +1,46 @@
+//! The source that follows a script.
+use crate::compare::{same, same_at};
+use crate::source::reads;
+use perfdata_base::source::{PlacedSource, Script, Step};
+use std::io::{ErrorKind, SeekFrom};
+use std::test::Fail;
+
+// One read into a place of five bytes: how many came, and the place.
+fn five(source: &mut Script) -> (Option<usize>, [u8; 5]) {
+    let mut place = [0u8; 5];
+    (reads(source, &mut place), place)
+}
+
+#[test]
+fn follows_its_steps(rt: HostRuntime) -> Result<(), Fail> {
+    // ten bytes of which four are shown, whose second seek fails
+    let steps = [
+        Step::Give(1),
+        Step::Pause,
+        Step::Fault(ErrorKind::TimedOut),
+        Step::Grow(3),
+        Step::Give(9),
+    ];
+    let steps = Vec::from_array(rt.alloc(), steps)?;
+    let seek_faults = Vec::from_array(rt.alloc(), [1])?;
+    let bytes = b"0123456789".to_vec(rt.alloc())?;
+    let mut source = Script::new(bytes, 4, steps, seek_faults);
+    for read in [
+        (Some(1), *b"0\0\0\0\0"),
+        (Some(0), [0; 5]),
+        (None, [0; 5]),
+        (Some(5), *b"12345"),
+        (Some(1), *b"6\0\0\0\0"),
+    ] {
+        same(&rt, &five(&mut source), &read);
+    }
+    for (to, at) in [
+        (SeekFrom::End(0), Some(7)),
+        (SeekFrom::Start(0), None),
+        (SeekFrom::Start(2), Some(2)),
+    ] {
+        same_at(&rt, &to, &source.seek_to(to).ok(), &at);
+    }
+    same(&rt, &five(&mut source), &(Some(5), *b"23456"));
+    Ok(())
+}

@@ -1,0 +1,130 @@
+//! Build ids.
+use crate::compare::{same, same_at};
+use crate::features::{ORDERS, opened};
+use linux_perf_data::event::CpuMode;
+use linux_perf_data::{DsoInfo, DsoKey, Endianness, Feature};
+use std::alloc::{AllocError, Global};
+use std::collections::HashMap;
+use std::process::Abort;
+use std::test::Fail;
+use test_support::recordings::with_section;
+
+/// Appends an entry of a misc and a size, with one byte of build id and these bytes after the 36.
+fn push(
+    bytes: &mut Vec<u8>,
+    endian: Endianness,
+    numbers: (u16, u16),
+    id: u8,
+    path: &[u8],
+) -> Result<(), AllocError> {
+    let (misc, size) = numbers;
+    match endian {
+        Endianness::LittleEndian => {
+            bytes.extend_from_slice(&67u32.to_le_bytes())?;
+            bytes.extend_from_slice(&misc.to_le_bytes())?;
+            bytes.extend_from_slice(&size.to_le_bytes())?;
+        }
+        Endianness::BigEndian => {
+            bytes.extend_from_slice(&67u32.to_be_bytes())?;
+            bytes.extend_from_slice(&misc.to_be_bytes())?;
+            bytes.extend_from_slice(&size.to_be_bytes())?;
+        }
+    }
+    bytes.extend_from_slice(&[0xff; 4])?;
+    bytes.push(id).map_err(|_| AllocError)?;
+    bytes.extend_from_slice(&[0; 23])?;
+    bytes.extend_from_slice(path)
+}
+
+/// The build ids of a file whose section holds these bytes.
+fn ids(
+    alloc: Global,
+    endian: Endianness,
+    content: &[u8],
+) -> Result<HashMap<DsoKey, DsoInfo>, Fail> {
+    let image = with_section(alloc, endian, Feature::BUILD_ID, content)?;
+    let file = opened(alloc, &image)?;
+    Ok(file.build_ids(alloc)?)
+}
+
+/// Asserts that the map has this path and build id for the path's key, and nothing else.
+fn has_one(
+    rt: &(impl Abort + AllocGlobal),
+    ids: &HashMap<DsoKey, DsoInfo>,
+    mode: CpuMode,
+    path: &[u8],
+    build_id: &[u8],
+) -> Result<(), Fail> {
+    same(rt, &ids.len(), &1);
+    let Some(key) = DsoKey::detect(rt.alloc(), path, mode)? else {
+        return Err(Fail::from("no key"));
+    };
+    let Some(info) = ids.get(&key) else {
+        return Err(Fail::from("no build id"));
+    };
+    same(rt, &info.path.as_slice(), &path);
+    same(rt, &info.build_id.as_slice(), &build_id);
+    Ok(())
+}
+
+#[test]
+fn the_last_entry_of_a_key(rt: HostRuntime) -> Result<(), Fail> {
+    for endian in ORDERS {
+        let mut content = Vec::new(rt.alloc());
+        push(&mut content, endian, (2, 41), 1, b"/a/x\0")?;
+        push(&mut content, endian, (2, 41), 2, b"/a/x\0")?;
+        let found = ids(rt.alloc(), endian, content.as_slice())?;
+        has_one(&rt, &found, CpuMode::User, b"/a/x", &[2, 0, 0, 0])?;
+        content.extend_from_slice(&[9; 35])?;
+        let found = ids(rt.alloc(), endian, content.as_slice())?;
+        has_one(&rt, &found, CpuMode::User, b"/a/x", &[2, 0, 0, 0])?;
+    }
+    Ok(())
+}
+
+#[test]
+fn entries_of_other_kinds(rt: HostRuntime) -> Result<(), Fail> {
+    let endian = Endianness::LittleEndian;
+    let none = ids(rt.alloc(), endian, &[])?;
+    same(&rt, &none.len(), &0);
+    let mut content = Vec::new(rt.alloc());
+    push(&mut content, endian, (0, 41), 1, b"/a/x\0")?;
+    let found = ids(rt.alloc(), endian, content.as_slice())?;
+    same_at(&rt, &"no mode", &found.len(), &0);
+    let mut content = Vec::new(rt.alloc());
+    push(&mut content, endian, (1, 54), 1, b"[kernel.kallsyms]\0")?;
+    let found = ids(rt.alloc(), endian, content.as_slice())?;
+    has_one(
+        &rt,
+        &found,
+        CpuMode::Kernel,
+        b"[kernel.kallsyms]",
+        &[1, 0, 0, 0],
+    )?;
+    // an entry that isn't whole ends the list
+    push(&mut content, endian, (2, u16::MAX), 1, b"")?;
+    push(&mut content, endian, (2, 41), 1, b"/a/x\0")?;
+    let found = ids(rt.alloc(), endian, content.as_slice())?;
+    same_at(&rt, &"after an entry cut", &found.len(), &1);
+    let mut content = Vec::new(rt.alloc());
+    push(&mut content, endian, (2, 10), 0, b"")?;
+    let found = ids(rt.alloc(), endian, content.as_slice())?;
+    has_one(&rt, &found, CpuMode::User, b"", b"")?;
+    let mut zeros = [0; 36];
+    zeros[..8].copy_from_slice(&[67, 0, 0, 0, 2, 0, 10, 0]);
+    let found = ids(rt.alloc(), endian, &zeros)?;
+    has_one(&rt, &found, CpuMode::User, b"", b"")
+}
+
+#[test]
+fn no_section_of_build_ids(rt: HostRuntime) -> Result<(), Fail> {
+    let image = with_section(
+        rt.alloc(),
+        Endianness::LittleEndian,
+        Feature::HOSTNAME,
+        &[0; 4],
+    )?;
+    let file = opened(rt.alloc(), &image)?;
+    same(&rt, &file.build_ids(rt.alloc())?.len(), &0);
+    Ok(())
+}

@@ -1,0 +1,11 @@
+//! The tests of what a file says of itself: its features, build ids, symbol tables and meta info.
+#![tactic(auto)]
+
+#[cfg(test)]
+mod build_ids;
+#[cfg(test)]
+mod compare;
+#[cfg(test)]
+mod features;
+#[cfg(test)]
+mod simpleperf;

@@ -1,0 +1,58 @@
+//! The buffered reader: parts that run over the buffer's end, and bytes that are skipped.
+use crate::compare::{check_at, same, same_at};
+use perfdata_base::raw::RawData;
+use perfdata_jit::{BufferedReader, ReadExactOrUntilEof};
+use std::io::Cursor;
+use std::test::Fail;
+
+const BYTES: &[u8] = b"123456789";
+
+#[test]
+fn a_part_runs_over_the_end(rt: HostRuntime) -> Result<(), Fail> {
+    // a buffer of six bytes, into which two were read, of which one is consumed
+    let mut source = Cursor::new(BYTES);
+    let mut buffer = Vec::new(rt.alloc());
+    buffer.resize(6, 0)?;
+    let came = source.read_exact_or_until_eof(&mut buffer[..2])?;
+    same(&rt, &came, &2);
+    let mut reader = BufferedReader::new_with_partially_read_buffer(
+        rt.alloc(),
+        source,
+        buffer,
+        1,
+        2,
+    );
+    for (count, part) in [
+        (3, Some(b"234".as_slice())),
+        (4, Some(b"5678")),
+        (2, None),
+        (1, Some(b"9")),
+    ] {
+        let is_part = match (reader.consume_data(count)?, part) {
+            (Some(data), Some(bytes)) => data == RawData::Single(bytes),
+            (None, None) => true,
+            _ => false,
+        };
+        check_at(&rt, &count, is_part);
+    }
+    Ok(())
+}
+
+#[test]
+fn passes_over_bytes(rt: HostRuntime) -> Result<(), Fail> {
+    // a buffer of four bytes, none of which is read
+    let mut buffer = Vec::new(rt.alloc());
+    buffer.resize(4, 0)?;
+    let source = Cursor::new(BYTES);
+    let mut reader = BufferedReader::new_with_partially_read_buffer(
+        rt.alloc(),
+        source,
+        buffer,
+        0,
+        0,
+    );
+    for (count, skipped) in [(7, true), (3, false), (2, true), (1, false)] {
+        same_at(&rt, &count, &reader.skip_bytes(count)?, &skipped);
+    }
+    Ok(())
+}

@@ -1,0 +1,113 @@
+//! Headers of jitdump files, wherever they are split, and the first reason why there is none.
+use crate::compare::{same, same_at};
+use byteorder::LittleEndian;
+use perfdata_base::raw::RawData;
+use perfdata_jit::{JitDumpError, JitDumpHeader};
+use std::io::ErrorKind;
+use test_support::recordings::JITDUMP;
+
+// Of version 1 and 40 bytes, with other numbers all different.
+const BIG: [u8; 40] = [
+    0x4a, 0x69, 0x54, 0x44, 0, 0, 0, 1, 0, 0, 0, 40, 0, 0, 0, 2, 0, 0, 0, 3, 0, 0, 0, 4, 0, 0, 0,
+    0, 0, 0, 0, 5, 0, 0, 0, 0, 0, 0, 0, 6,
+];
+
+// The magic, the version and the size, the machine and the process, the time and the flags.
+type Fields = ([u8; 4], (u32, u32), (u32, u32), (u64, u64));
+
+fn fields_of(header: &JitDumpHeader) -> Fields {
+    (
+        header.magic,
+        (header.version, header.total_size),
+        (header.elf_machine_arch, header.pid),
+        (header.timestamp, header.flags),
+    )
+}
+
+#[derive(Clone, Copy, Debug, PartialEq, Eq)]
+enum HeaderError {
+    NotEnoughBytes,
+    Size(u32),
+    Magic([u8; 4]),
+    Other,
+}
+
+fn parse(bytes: RawData<'_>) -> Result<Fields, HeaderError> {
+    match JitDumpHeader::parse(bytes) {
+        Ok(header) => Ok(fields_of(&header)),
+        Err(JitDumpError::NotEnoughBytesForHeader) => Err(HeaderError::NotEnoughBytes),
+        Err(JitDumpError::InvalidHeaderSize(size)) => Err(HeaderError::Size(size)),
+        Err(JitDumpError::InvalidMagicBytes(magic)) => Err(HeaderError::Magic(magic)),
+        Err(_) => Err(HeaderError::Other),
+    }
+}
+
+// The file's first bytes, so many, with a byte changed.
+fn changed(at: usize, byte: u8, count: usize) -> Result<Fields, HeaderError> {
+    let mut bytes = JITDUMP;
+    if let Some(slot) = bytes.get_mut(at) {
+        *slot = byte;
+    }
+    match bytes.get(..count) {
+        Some(front) => parse(RawData::Single(front)),
+        None => Err(HeaderError::Other),
+    }
+}
+
+// The size and the time of the header after its magic.
+fn after_magic(after: &[u8]) -> Result<(u32, u64), ErrorKind> {
+    let magic = [0x44, 0x54, 0x69, 0x4a];
+    match JitDumpHeader::parse_after_magic::<LittleEndian>(magic, RawData::Single(after)) {
+        Ok(header) => Ok((header.total_size, header.timestamp)),
+        Err(error) => Err(error.kind()),
+    }
+}
+
+#[test]
+fn reads_each_field_wherever_it_is_split(rt: HostRuntime) {
+    let wanted = ([0x44, 0x54, 0x69, 0x4a], (1, 40), (62, 7), (5, 0));
+    for at in 0..41usize {
+        let (front, back) = JITDUMP[..40].split_at(at);
+        let got = parse(RawData::Split(front, back));
+        same_at(&rt, &at, &got, &Ok(wanted));
+    }
+    let wanted = ([0x4a, 0x69, 0x54, 0x44], (1, 40), (2, 4), (5, 6));
+    same(&rt, &parse(RawData::Single(&BIG)), &Ok(wanted));
+}
+
+#[test]
+fn the_first_error_counts(rt: HostRuntime) {
+    for (at, byte, count, error) in [
+        (4usize, 1u8, 3usize, HeaderError::NotEnoughBytes),
+        (4, 1, 4, HeaderError::NotEnoughBytes),
+        (4, 1, 39, HeaderError::NotEnoughBytes),
+        (8, 39, 39, HeaderError::NotEnoughBytes),
+        (8, 41, 40, HeaderError::NotEnoughBytes),
+        (8, 0, 40, HeaderError::Size(0)),
+        (8, 3, 40, HeaderError::Size(3)),
+        (8, 39, 40, HeaderError::Size(39)),
+    ] {
+        let got = changed(at, byte, count);
+        same_at(&rt, &(byte, at, count), &got, &Err(error));
+    }
+    let wanted = ([0x44, 0x54, 0x69, 0x4a], (9, 40), (62, 7), (5, 0));
+    same(&rt, &changed(4, 9, 40), &Ok(wanted));
+    let elf = [0x7f, 0x45, 0x4c, 0x46];
+    same(
+        &rt,
+        &parse(RawData::Single(&elf)),
+        &Err(HeaderError::Magic(elf)),
+    );
+}
+
+#[test]
+fn reads_small_headers_after_the_magic(rt: HostRuntime) {
+    let mut bytes = JITDUMP;
+    bytes[8] = 39;
+    same(&rt, &after_magic(&bytes[4..40]), &Ok((39, 5)));
+    same(
+        &rt,
+        &after_magic(&bytes[4..39]),
+        &Err(ErrorKind::UnexpectedEof),
+    );
+}

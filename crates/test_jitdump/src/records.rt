@@ -1,0 +1,201 @@
+//! The bodies of records: their fields, errors, and the entry of an address.
+use crate::compare::{same, same_at};
+use byteorder::{ByteOrder, LittleEndian};
+use perfdata_base::raw::{Endianness, RawData};
+use perfdata_jit::{
+    JitCodeDebugInfoEntry, JitCodeDebugInfoRecord, JitCodeLoadRecord, JitCodeMoveRecord,
+    JitCodeUnwindingInfoRecord,
+};
+use std::alloc::{AllocError, Global};
+use std::io::ErrorKind;
+use std::test::Fail;
+use test_support::recordings::JITDUMP;
+use test_support::values::by_kind;
+
+// The file, whose record counts a byte of code more than it has.
+pub fn with_code_missing() -> [u8; 118] {
+    let mut bytes = JITDUMP;
+    bytes[56 + 24] = 3;
+    bytes
+}
+
+// The file, whose record has no NUL after the name.
+pub fn without_nul() -> [u8; 118] {
+    let mut bytes = JITDUMP;
+    bytes[56 + 43] = b'o';
+    bytes
+}
+
+#[test]
+fn loads_are_short_without_code_or_nul(rt: HostRuntime) -> Result<(), Fail> {
+    let (more, nameless) = (with_code_missing(), without_nul());
+    for bytes in [&more[56..102], &nameless[56..102], &JITDUMP[56..95]] {
+        let load = JitCodeLoadRecord::parse(Endianness::LittleEndian, RawData::Single(bytes));
+        same_at(
+            &rt,
+            &bytes,
+            &by_kind(load).err(),
+            &Some(ErrorKind::UnexpectedEof),
+        );
+    }
+    let load = JitCodeLoadRecord::parse_impl::<LittleEndian>(RawData::Single(&JITDUMP[56..102]))?;
+    same(&rt, &load.code_bytes.len(), &2);
+    same(&rt, &JitCodeLoadRecord::NAME_OFFSET_FROM_RECORD_START, &56);
+    Ok(())
+}
+
+// The process, the thread and the mapping, the old and the new address, the size and the index.
+type Move = ((u32, u32, u64), (u64, u64), (u64, u64));
+
+fn big_move(bytes: &[u8]) -> Result<Move, ErrorKind> {
+    match JitCodeMoveRecord::parse(Endianness::BigEndian, RawData::Single(bytes)) {
+        Ok(moved) => Ok((
+            (moved.pid, moved.tid, moved.vma),
+            (moved.old_code_addr, moved.new_code_addr),
+            (moved.code_size, moved.code_index),
+        )),
+        Err(error) => Err(error.kind()),
+    }
+}
+
+// A process and a thread, a mapping, the old and the new address, the size and the index, and a byte after them.
+const MOVE: [u8; 49] = [
+    0, 0, 0, 1, 0, 0, 0, 2, 0, 0, 0, 0, 0, 0, 0, 3, 0, 0, 0, 0, 0, 0, 0, 4, 0, 0, 0, 0, 0, 0, 0, 5,
+    0, 0, 0, 0, 0, 0, 0, 6, 0, 0, 0, 0, 0, 0, 0, 7, 0,
+];
+
+#[test]
+fn reads_moves(rt: HostRuntime) {
+    same(&rt, &big_move(&MOVE), &Ok(((1, 2, 3), (4, 5), (6, 7))));
+    same(&rt, &big_move(&MOVE[..47]), &Err(ErrorKind::UnexpectedEof));
+}
+
+// Debug info for the address 0x10 that counts so many entries and has one, for 0x20, line 3, column 4 and `a.js`.
+pub fn debug_info(count: u64) -> [u8; 37] {
+    let mut body = [0; 37];
+    LittleEndian::write_u64(&mut body, 0x10);
+    LittleEndian::write_u64(&mut body[8..], count);
+    LittleEndian::write_u64(&mut body[16..], 0x20);
+    LittleEndian::write_u32(&mut body[24..], 3);
+    LittleEndian::write_u32(&mut body[28..], 4);
+    body[32..36].copy_from_slice(b"a.js");
+    body
+}
+
+// The address, how many entries there are, and whether the first is that entry.
+pub fn values_of_info(info: &JitCodeDebugInfoRecord<'_>) -> (u64, usize, bool) {
+    let is_expected = match info.entries.first() {
+        Some(entry) => {
+            let path = entry.file_path == RawData::Single(b"a.js");
+            (entry.code_addr, entry.line, entry.column, path) == (0x20, 3, 4, true)
+        }
+        None => false,
+    };
+    (info.code_addr, info.entries.len(), is_expected)
+}
+
+fn info_of(alloc: Global, body: RawData<'_>) -> Result<(u64, usize, bool), ErrorKind> {
+    let info = by_kind(JitCodeDebugInfoRecord::parse(alloc, Endianness::LittleEndian, body))?;
+    Ok(values_of_info(&info))
+}
+
+#[test]
+fn reads_debug_info(rt: HostRuntime) {
+    let body = debug_info(1);
+    for at in 0..38usize {
+        let (front, back) = body.split_at(at);
+        let got = info_of(rt.alloc(), RawData::Split(front, back));
+        same_at(&rt, &at, &got, &Ok((0x10, 1, true)));
+    }
+    for (count, held) in [(u64::MAX, 37usize), (2, 37), (1, 36), (1, 31), (1, 15)] {
+        let body = debug_info(count);
+        let got = info_of(rt.alloc(), RawData::Single(&body[..held]));
+        same_at(&rt, &(count, held), &got, &Err(ErrorKind::UnexpectedEof));
+    }
+}
+
+// Unwinding info for two bytes of data and two mapped, with an index of so many.
+pub fn unwinding(index: u8) -> [u8; 26] {
+    let mut body = [0; 26];
+    body[0] = 2;
+    body[8] = index;
+    body[16] = 2;
+    body[24] = 0xaa;
+    body[25] = 0xbb;
+    body
+}
+
+// How many bytes are mapped, and whether the index is 0xaa and the data 0xbb.
+pub fn values_of_unwinding(info: &JitCodeUnwindingInfoRecord<'_>) -> (u64, bool, bool) {
+    (
+        info.mapped_size,
+        info.eh_frame_hdr == RawData::Single(&[0xaa]),
+        info.eh_frame == RawData::Single(&[0xbb]),
+    )
+}
+
+fn unwinding_of(bytes: &[u8]) -> Result<(u64, bool, bool), ErrorKind> {
+    match JitCodeUnwindingInfoRecord::parse(Endianness::LittleEndian, RawData::Single(bytes)) {
+        Ok(read) => Ok(values_of_unwinding(&read)),
+        Err(error) => Err(error.kind()),
+    }
+}
+
+#[test]
+fn reads_unwinding_info(rt: HostRuntime) {
+    let body = unwinding(1);
+    same(&rt, &unwinding_of(&body), &Ok((2, true, true)));
+    for bytes in [&unwinding(3)[..], &body[..23], &body[..25]] {
+        same_at(
+            &rt,
+            &bytes,
+            &unwinding_of(bytes),
+            &Err(ErrorKind::UnexpectedEof),
+        );
+    }
+}
+
+// Debug info with entries for these addresses.
+fn with_entries(
+    alloc: Global,
+    addresses: &[u64],
+) -> Result<JitCodeDebugInfoRecord<'static>, AllocError> {
+    let mut entries = Vec::new(alloc);
+    for code_addr in addresses {
+        entries.push(JitCodeDebugInfoEntry {
+            code_addr: *code_addr,
+            line: 1,
+            column: 0,
+            file_path: RawData::Single(b""),
+        })?;
+    }
+    Ok(JitCodeDebugInfoRecord {
+        code_addr: 0,
+        entries,
+    })
+}
+
+// The address of the entry of an address.
+fn looked_up(info: &JitCodeDebugInfoRecord<'_>, addr: u64) -> Option<u64> {
+    match info.lookup(addr) {
+        Some(entry) => Some(entry.code_addr),
+        None => None,
+    }
+}
+
+#[test]
+fn looks_up_the_entry_of_an_address(rt: HostRuntime) -> Result<(), Fail> {
+    let none = with_entries(rt.alloc(), &[])?;
+    same(&rt, &looked_up(&none, u64::MAX), &None);
+    let info = with_entries(rt.alloc(), &[0x10, 0x20])?;
+    for (addr, found) in [
+        (0x0f, None),
+        (0x10, Some(0x10)),
+        (0x1f, Some(0x10)),
+        (0x20, Some(0x20)),
+        (u64::MAX, Some(0x20)),
+    ] {
+        same(&rt, &looked_up(&info, addr), &found);
+    }
+    Ok(())
+}

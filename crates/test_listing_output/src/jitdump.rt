@@ -1,0 +1,151 @@
+//! Listings of jitdump files.
+use crate::compare::{check, same};
+use linux_perf_data::source::{Counted, Source, Step};
+use perfdata_listing::jit::list_jit;
+use perfdata_listing::list::{ListCause, ListFault};
+use std::alloc::Global;
+use std::io::{Cursor, ErrorKind};
+use std::process::Abort;
+use std::test::Fail;
+use test_support::recordings::JITDUMP;
+use test_support::sources::scripted;
+
+const FIRST: &[u8] = b"40 9 0 62\n";
+
+const LINES: &[u8] = b"40 9 0 62\n102 11 3 16\n";
+
+/// Of what node 20.20 wrote by `--perf-prof`: the header, its first record (of unwinding), and the smallest of debug info and
+/// of code, cut out at their boundaries.
+const NODE: [u8; 369] = [
+    68, 84, 105, 74, 1, 0, 0, 0, 40, 0, 0, 0, 62, 0, 0, 0, 239, 190, 173, 222, 13, 106, 0, 0, 214,
+    11, 75, 21, 221, 96, 6, 0, 0, 0, 0, 0, 0, 0, 0, 0, 4, 0, 0, 0, 64, 0, 0, 0, 22, 195, 80, 160,
+    184, 2, 0, 0, 20, 0, 0, 0, 0, 0, 0, 0, 20, 0, 0, 0, 0, 0, 0, 0, 0, 0, 0, 0, 0, 0, 0, 0, 1, 27,
+    3, 59, 0, 0, 0, 0, 0, 0, 0, 0, 0, 0, 0, 0, 0, 0, 0, 0, 0, 0, 0, 0, 2, 0, 0, 0, 128, 0, 0, 0,
+    227, 245, 116, 164, 184, 2, 0, 0, 128, 97, 124, 211, 35, 127, 0, 0, 3, 0, 0, 0, 0, 0, 0, 0,
+    192, 97, 124, 211, 35, 127, 0, 0, 1, 0, 0, 0, 22, 0, 0, 0, 41, 246, 3, 0, 0, 0, 0, 0, 217, 128,
+    169, 39, 122, 88, 31, 0, 194, 97, 124, 211, 35, 127, 0, 0, 1, 0, 0, 0, 31, 0, 0, 0, 41, 246, 3,
+    0, 0, 0, 0, 0, 217, 128, 169, 39, 122, 88, 31, 0, 197, 97, 124, 211, 35, 127, 0, 0, 1, 0, 0, 0,
+    35, 0, 0, 0, 41, 246, 3, 0, 0, 0, 0, 0, 217, 128, 169, 39, 122, 88, 31, 0, 0, 0, 0, 0, 137, 0,
+    0, 0, 228, 248, 116, 164, 184, 2, 0, 0, 13, 106, 0, 0, 13, 106, 0, 0, 128, 97, 124, 211, 35,
+    127, 0, 0, 128, 97, 124, 211, 35, 127, 0, 0, 52, 0, 0, 0, 0, 0, 0, 0, 150, 8, 0, 0, 0, 0, 0, 0,
+    74, 83, 58, 94, 97, 100, 100, 32, 47, 116, 109, 112, 47, 106, 105, 116, 47, 104, 111, 116, 46,
+    106, 115, 58, 49, 58, 49, 51, 0, 51, 219, 73, 188, 129, 178, 252, 197, 234, 56, 0, 0, 232, 175,
+    102, 228, 31, 72, 139, 69, 32, 72, 139, 85, 24, 51, 219, 232, 224, 43, 234, 31, 187, 3, 0, 0,
+    0, 72, 199, 193, 250, 255, 255, 255, 233, 15, 105, 228, 31, 204, 204, 204,
+];
+
+const NODE_LINES: &[u8] =
+    b"40 2991986885398 4 64\n104 2992056366563 2 128\n232 2992056367332 0 137\n";
+
+/// How a listing ends.
+#[derive(Clone, Copy, Debug, PartialEq, Eq)]
+pub enum End {
+    Whole,
+    Unopened,
+    Read(ErrorKind),
+    Write(ErrorKind),
+    Other,
+}
+
+// How it ended, and how many lines it counts.
+pub fn end_of(listed: Result<u64, ListFault>) -> (End, u64) {
+    match listed {
+        Ok(lines) => (End::Whole, lines),
+        Err(fault) => {
+            let end = match fault.cause {
+                ListCause::Jit(_) => End::Unopened,
+                ListCause::Read(error) => End::Read(error.kind()),
+                ListCause::Write(error) => End::Write(error.kind()),
+                ListCause::Perf(_) => End::Other,
+            };
+            (end, fault.lines)
+        }
+    }
+}
+
+// How the listing of a jitdump file ends, how many lines it counts, and the lines.
+fn listed<R: Source + Drop>(alloc: Global, source: R) -> (End, u64, Vec<u8>) {
+    let mut out: Vec<u8> = Vec::new(alloc);
+    let (end, lines) = end_of(list_jit(alloc, source, &mut out));
+    (end, lines, out)
+}
+
+/// Lists a jitdump file from a source, and compares the end, the number of lines and the lines with what is wanted.
+fn lists<R: Source + Drop>(
+    rt: &(impl Abort + AllocGlobal),
+    source: R,
+    end: End,
+    lines: u64,
+    wanted: &[u8],
+) {
+    let (came, counted, out) = listed(rt.alloc(), source);
+    same(rt, &(came, counted, out.as_slice()), &(end, lines, wanted));
+}
+
+#[test]
+fn lists_a_jitdump_file(rt: HostRuntime) -> Result<(), Fail> {
+    lists(&rt, JITDUMP.as_slice(), End::Whole, 2, LINES);
+    let file = Counted::new(Cursor::new(JITDUMP.as_slice()));
+    lists(&rt, file, End::Whole, 2, LINES);
+    Ok(())
+}
+
+#[test]
+fn lists_what_node_wrote(rt: HostRuntime) -> Result<(), Fail> {
+    lists(&rt, NODE.as_slice(), End::Whole, 3, NODE_LINES);
+    Ok(())
+}
+
+#[test]
+fn lists_what_is_whole(rt: HostRuntime) -> Result<(), Fail> {
+    // how many bytes there are, how it ends, how many lines it counts, and which
+    let cases: [(usize, End, u64, &[u8]); 7] = [
+        (0, End::Unopened, 0, b""),
+        (39, End::Unopened, 0, b""),
+        (40, End::Whole, 0, b""),
+        (101, End::Whole, 0, b""),
+        (102, End::Whole, 1, FIRST),
+        (117, End::Whole, 1, FIRST),
+        (118, End::Whole, 2, LINES),
+    ];
+    for (shown, end, lines, wanted) in cases {
+        let prefix = JITDUMP.get(..shown);
+        check(&rt, prefix.is_some());
+        lists(&rt, prefix.unwrap_or(&[]), end, lines, wanted);
+    }
+    let mut bytes = JITDUMP;
+    bytes[106] = 15;
+    let bytes = bytes.as_slice();
+    lists(&rt, bytes, End::Read(ErrorKind::InvalidData), 1, FIRST);
+    Ok(())
+}
+
+#[test]
+fn lists_lines_before_an_error(rt: HostRuntime) -> Result<(), Fail> {
+    let error = Step::Fault(ErrorKind::TimedOut);
+    let failed = End::Read(ErrorKind::TimedOut);
+    let cases: [(&[Step], End, &[u8]); 4] = [
+        (&[Step::Give(39), error], End::Unopened, b""),
+        (&[Step::Give(40), Step::Pause, error], failed, b""),
+        (&[Step::Give(102), Step::Pause, error], failed, FIRST),
+        (&[Step::Give(110), Step::Pause, error], failed, FIRST),
+    ];
+    for (steps, end, wanted) in cases {
+        let lines = if wanted.is_empty() { 0 } else { 1 };
+        let steps = Vec::from_slice(rt.alloc(), steps)?;
+        let source = scripted(rt.alloc(), &JITDUMP, steps)?;
+        lists(&rt, source, end, lines, wanted);
+    }
+    Ok(())
+}
+
+#[test]
+fn a_listing_ends_at_an_empty_read(rt: HostRuntime) -> Result<(), Fail> {
+    // the first record comes whole
+    let steps = [Step::Give(102), Step::Pause, Step::Pause];
+    let source = scripted(rt.alloc(), &JITDUMP, Vec::from_array(rt.alloc(), steps)?)?;
+    let mut out: Vec<u8> = Vec::new(rt.alloc());
+    let lines = list_jit(rt.alloc(), source, &mut out).ok();
+    same(&rt, &lines, &Some(1));
+    Ok(())
+}

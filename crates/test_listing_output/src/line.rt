@@ -1,0 +1,100 @@
+//! Lines as text.
+use crate::compare::check;
+use perfdata_listing::line::{Fields, Line};
+use std::test::Fail;
+
+const NONE: Fields = Fields {
+    offset: 0,
+    round: 0,
+    time: None,
+    attr: None,
+    kind: 0,
+    misc: 0,
+    body_length: 0,
+};
+
+fn holds(line: &Line, text: &[u8]) -> bool {
+    line.as_bytes() == text
+}
+
+fn is_jit(line: &mut Line, numbers: (u64, u64, u32, u64), text: &[u8]) -> bool {
+    let (offset, time, kind, size) = numbers;
+    line.set_jit_record(offset, time, kind, size);
+    holds(line, text)
+}
+
+#[test]
+fn writes_lines(rt: HostRuntime) -> Result<(), Fail> {
+    let sample = Fields {
+        offset: 104,
+        round: 3,
+        time: Some(1_000_200_030_004),
+        attr: Some(0),
+        kind: 9,
+        misc: 2,
+        body_length: 40,
+    };
+    let longest = Fields {
+        offset: u64::MAX,
+        round: u64::MAX,
+        time: Some(u64::MAX),
+        attr: Some(u64::MAX),
+        kind: u32::MAX,
+        misc: u16::MAX,
+        body_length: u64::MAX,
+    };
+    let of_tool = Fields {
+        kind: 73,
+        body_length: 10_000,
+        ..NONE
+    };
+    let cases: [(Fields, &[u8]); 4] = [
+        (NONE, b"0 0 - - 0 0 0\n"),
+        (sample, b"104 3 1000200030004 0 9 2 40\n"),
+        (of_tool, b"0 0 - - 73 0 10000\n"),
+        (
+            longest,
+            b"18446744073709551615 18446744073709551615 18446744073709551615 18446744073709551615 4294967295 65535 18446744073709551615\n",
+        ),
+    ];
+    let mut line = Line::new();
+    check(&rt, holds(&line, b""));
+    for (fields, text) in cases {
+        line.set_record(fields);
+        check(&rt, holds(&line, text));
+    }
+    Ok(())
+}
+
+#[test]
+fn writes_jit_lines(rt: HostRuntime) -> Result<(), Fail> {
+    let most = u64::MAX;
+    let mut line = Line::new();
+    check(
+        &rt,
+        is_jit(
+            &mut line,
+            (most, 1_000, u32::MAX, most),
+            b"18446744073709551615 1000 4294967295 18446744073709551615\n",
+        ),
+    );
+    check(&rt, is_jit(&mut line, (40, 0, 3, 16), b"40 0 3 16\n"));
+    Ok(())
+}
+
+#[test]
+fn writes_error_lines(rt: HostRuntime) -> Result<(), Fail> {
+    let cases: [(u64, &[u8]); 4] = [
+        (0, b"perflist: fault after 0 records\n"),
+        (1, b"perflist: fault after 1 records\n"),
+        (12_345, b"perflist: fault after 12345 records\n"),
+        (
+            u64::MAX,
+            b"perflist: fault after 18446744073709551615 records\n",
+        ),
+    ];
+    for (records, text) in cases {
+        check(&rt, holds(&Line::of_fault(records), text));
+    }
+    Ok(())
+}

@@ -1,0 +1,48 @@
+//! What a listing returns once its last lines are flushed.
+use crate::compare::check;
+use linux_perf_data::Error;
+use perfdata_listing::list::{ListCause, ListFault, settle};
+use perfdata_listing::output::{LineBuffer, write_line};
+use std::io;
+use std::io::ErrorKind;
+use std::test::Fail;
+
+fn stopped_by(cause: ListCause) -> Result<u64, ListFault> {
+    Err(ListFault { lines: 2, cause })
+}
+
+fn error() -> io::Error {
+    io::Error::from(ErrorKind::StorageFull)
+}
+
+#[test]
+fn settles(rt: HostRuntime) -> Result<(), Fail> {
+    // what the listing came to, what is answered where the writer takes two lines, and how many of them it has
+    let cases = [
+        (Ok(2), Ok(2), 2),
+        (stopped_by(ListCause::Perf(Error::Failed)), Err(2), 2),
+    ];
+    for (listed, answer, lines) in cases {
+        let mut out = LineBuffer::new(rt.alloc(), Vec::new(rt.alloc()))?;
+        write_line(&mut out, b"one\n")?;
+        write_line(&mut out, b"two\n")?;
+        check(&rt, settle(listed, &mut out) == answer);
+        check(&rt, out.lines_left() == lines);
+    }
+    Ok(())
+}
+
+#[test]
+fn settles_where_the_last_flush_fails(rt: HostRuntime) -> Result<(), Fail> {
+    let mut capacity = [0u8; 6];
+    let mut out = LineBuffer::new(rt.alloc(), capacity.as_mut_slice())?;
+    write_line(&mut out, b"one\n")?;
+    write_line(&mut out, b"two\n")?;
+    check(&rt, settle(Ok(2), &mut out) == Err(1));
+    // a writer that has failed isn't asked again
+    check(
+        &rt,
+        settle(stopped_by(ListCause::Write(error())), &mut out) == Err(1),
+    );
+    Ok(())
+}

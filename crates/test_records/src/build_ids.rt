@@ -1,0 +1,35 @@
+//! Entries of build ids, taken one by one off a reader that is lent.
+use crate::compare::same;
+use byteorder::LittleEndian;
+use linux_perf_data::build_id_event::BuildIdEvent;
+use std::alloc::Global;
+use std::test::Fail;
+use test_support::values::joined;
+
+// An entry of 41 bytes, with a path of five.
+fn entry(path: &[u8; 5]) -> [u8; 41] {
+    let mut bytes = [0; 41];
+    bytes[..8].copy_from_slice(&[67, 0, 0, 0, 2, 0, 41, 0]);
+    bytes[36..].copy_from_slice(path);
+    bytes
+}
+
+// Whether the entry at the start of a lent reader has this path, and how many bytes are left then.
+fn take(alloc: Global, left: &mut &[u8], path: &[u8]) -> (bool, usize) {
+    let is_path = match BuildIdEvent::parse::<_, LittleEndian>(alloc, &mut *left) {
+        Ok(entry) => entry.file_path.as_slice() == path,
+        Err(_) => false,
+    };
+    (is_path, left.len())
+}
+
+// A reader that is lent returns entry by entry, and no byte after one is consumed.
+#[test]
+fn entries_of_a_lent_reader(rt: HostRuntime) -> Result<(), Fail> {
+    let content = joined(rt.alloc(), &entry(b"/a/x\0"), &entry(b"/a/y\0"))?;
+    let mut left = content.as_slice();
+    for (path, after) in [(b"/a/x", 41usize), (b"/a/y", 0)] {
+        same(&rt, &take(rt.alloc(), &mut left, path), &(true, after));
+    }
+    Ok(())
+}

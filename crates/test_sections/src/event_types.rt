@@ -1,0 +1,145 @@
+//! The section of event types: its entries with their ids, and what is refused.
+use crate::compare::{same, same_at};
+use byteorder::LittleEndian;
+use perfdata_base::section::PerfFileSection;
+use perfdata_parts::error::Error;
+use perfdata_parts::feature_sections::AttributeDescription;
+use std::alloc::Global;
+use std::io::Cursor;
+use std::process::Abort;
+use std::test::Fail;
+use test_support::error_key::{ATTRIBUTE, ErrorKey, SHORT};
+
+// Two entries of 80 bytes, whose attributes have 64 and the configs 1 and 2. The ids of the first are the 8 bytes at
+// 160, those of the second the 23 from 168 on.
+pub fn two_entries() -> [u8; 192] {
+    let mut bytes = [0; 192];
+    bytes[4] = 64;
+    bytes[8] = 1;
+    bytes[64] = 160;
+    bytes[72] = 8;
+    bytes[84] = 64;
+    bytes[88] = 2;
+    bytes[144] = 168;
+    bytes[152] = 23;
+    bytes[160] = 5;
+    bytes[168] = 6;
+    bytes[176] = 7;
+    bytes
+}
+
+fn parsed(
+    alloc: Global,
+    bytes: &[u8],
+    section: &PerfFileSection,
+    attr_size: u64,
+) -> Result<Vec<AttributeDescription>, Error> {
+    AttributeDescription::parse_event_types_section::<_, LittleEndian>(
+        alloc,
+        Cursor::new(bytes),
+        section,
+        attr_size,
+    )
+}
+
+// The config of the attribute at an index, whether it has a name, and its first three ids.
+fn told(all: &[AttributeDescription], index: usize) -> Option<(u64, bool, [Option<u64>; 3])> {
+    let description = all.get(index)?;
+    let ids = description.ids();
+    Some((
+        description.attributes().config,
+        description.name().is_some(),
+        [
+            ids.get(0).copied(),
+            ids.get(1).copied(),
+            ids.get(2).copied(),
+        ],
+    ))
+}
+
+#[test]
+fn reads_entries_and_their_ids(rt: HostRuntime) -> Result<(), Fail> {
+    let section = PerfFileSection {
+        offset: 0,
+        size: 239,
+    };
+    let all = parsed(rt.alloc(), &two_entries(), &section, 64)?;
+    same(
+        &rt,
+        &[told(&all, 0), told(&all, 1), told(&all, 2)],
+        &[
+            Some((1, false, [Some(5), None, None])),
+            Some((2, false, [Some(6), Some(7), None])),
+            None,
+        ],
+    );
+    Ok(())
+}
+
+fn refusal(
+    rt: &(impl Abort + AllocGlobal),
+    bytes: &[u8],
+    offset: u64,
+    size: u64,
+    attr_size: u64,
+) -> Option<ErrorKey> {
+    let section = PerfFileSection { offset, size };
+    ErrorKey::of_answer(parsed(rt.alloc(), bytes, &section, attr_size))
+}
+
+// The same, with ids of the first at the last place, and with this own size of the second.
+fn far_ids(own: u8) -> [u8; 192] {
+    let mut bytes = two_entries();
+    bytes[64..72].copy_from_slice(&[0xff; 8]);
+    bytes[84] = own;
+    bytes
+}
+
+#[test]
+fn refuses_sections_that_end_too_far(rt: HostRuntime) {
+    let bytes = two_entries();
+    for (offset, attr_size) in [(0, u64::MAX - 15), (u64::MAX - 159, 64)] {
+        same(
+            &rt,
+            &refusal(&rt, &bytes, offset, 160, attr_size),
+            &Some(ATTRIBUTE),
+        );
+    }
+    same(
+        &rt,
+        &refusal(&rt, &far_ids(64), 0, 160, 64),
+        &Some(ATTRIBUTE),
+    );
+    same_at(
+        &rt,
+        &"all entries are read before any ids",
+        &refusal(&rt, &far_ids(65), 0, 160, 64),
+        &Some(ErrorKey::InconsistentAttributeSizes(65, 64)),
+    );
+}
+
+#[test]
+fn is_short_where_bytes_are_missing(rt: HostRuntime) {
+    let bytes = two_entries();
+    for held in [159, 167, 183] {
+        same_at(
+            &rt,
+            &held,
+            &refusal(&rt, &bytes[..held], 0, 160, 64),
+            &Some(SHORT),
+        );
+    }
+}
+
+#[test]
+fn refuses_an_attribute_that_is_cut(rt: HostRuntime) {
+    let bytes = two_entries();
+    for held in [63, 143] {
+        same_at(
+            &rt,
+            &held,
+            &refusal(&rt, &bytes[..held], 0, 160, 64),
+            &Some(ATTRIBUTE),
+        );
+    }
+}

@@ -1,0 +1,10 @@
+//! The tests of what simpleperf adds to a file.
+mod event_types;
+mod file2;
+mod file_record;
+mod file_section;
+mod file_v1;
+mod messages;
+mod meta_info;
+mod nul_text;
+mod sections;

@@ -1,0 +1,197 @@
+//! Protobuf messages: their fields, the value that counts, and each fault.
+use crate::compare::{check, check_at, same, same_at};
+use perfdata_parts::decode_error::DecodeError;
+use perfdata_parts::simpleperf::{
+    SimpleperfDexFileInfo, SimpleperfElfFileInfo, SimpleperfFileRecord, SimpleperfKernelModuleInfo,
+    SimpleperfSymbol, SimpleperfTypeSpecificInfo,
+};
+use std::alloc::{AllocError, Global};
+use std::test::Fail;
+use test_support::values::joined;
+
+// A path, a type, an address, an unknown field, and DEX offsets packed and single.
+const RECORD: [u8; 20] = [
+    0x0a, 1, b'a', 0x10, 2, 0x18, 0x80, 1, 0x40, 5, 0x2a, 4, 0x0a, 2, 1, 2, 0x2a, 2, 8, 3,
+];
+
+// What is wanted of the info.
+#[derive(Clone, Copy)]
+enum Info<'a> {
+    Nothing,
+    Dex(&'a [u64]),
+    Elf(u64),
+    Module,
+}
+
+// The record of this path, type, address and info, without symbols.
+fn record(
+    alloc: Global,
+    numbers: (&str, u32, u64),
+    info: Info<'_>,
+) -> Result<SimpleperfFileRecord, AllocError> {
+    let (path, type_, min_vaddr) = numbers;
+    let path = String::from_str(alloc, path)?;
+    let type_specific_msg = match info {
+        Info::Nothing => None,
+        Info::Dex(offsets) => {
+            let dex_file_offset = Vec::from_slice(alloc, offsets)?;
+            let info = SimpleperfDexFileInfo { dex_file_offset };
+            Some(SimpleperfTypeSpecificInfo::SimpleperfDexFileInfo(info))
+        }
+        Info::Elf(file_offset_of_min_vaddr) => {
+            let info = SimpleperfElfFileInfo {
+                file_offset_of_min_vaddr,
+            };
+            Some(SimpleperfTypeSpecificInfo::ElfFile(info))
+        }
+        Info::Module => {
+            let info = SimpleperfKernelModuleInfo::default();
+            Some(SimpleperfTypeSpecificInfo::KernelModule(info))
+        }
+    };
+    Ok(SimpleperfFileRecord {
+        path,
+        type_,
+        min_vaddr,
+        symbol: Vec::new(alloc),
+        type_specific_msg,
+    })
+}
+
+// Whether the bytes are decoded to this record.
+fn is_decoded(alloc: Global, bytes: &[u8], expected: &SimpleperfFileRecord) -> bool {
+    match SimpleperfFileRecord::decode(alloc, bytes) {
+        Ok(record) => record == *expected,
+        Err(_) => false,
+    }
+}
+
+// Whether the bytes are decoded to a record without symbols.
+fn decodes(
+    alloc: Global,
+    bytes: &[u8],
+    numbers: (&str, u32, u64),
+    info: Info<'_>,
+) -> Result<bool, AllocError> {
+    let expected = record(alloc, numbers, info)?;
+    Ok(is_decoded(alloc, bytes, &expected))
+}
+
+// Why the bytes aren't decoded.
+pub fn fault_of(alloc: Global, bytes: &[u8]) -> Option<DecodeError> {
+    match SimpleperfFileRecord::decode(alloc, bytes) {
+        Ok(_) => None,
+        Err(fault) => Some(fault),
+    }
+}
+
+#[test]
+fn decodes_fields(rt: HostRuntime) -> Result<(), Fail> {
+    let longer = joined(rt.alloc(), &RECORD, &[0x32, 2, 8, 7])?;
+    for (bytes, numbers, info) in [
+        (&[][..], ("", 0, 0), Info::Nothing),
+        (&[0x10, 1, 0x10, 2], ("", 2, 0), Info::Nothing),
+        (
+            &[0x10, 0xff, 0xff, 0xff, 0xff, 0x1f],
+            ("", 4294967295, 0),
+            Info::Nothing,
+        ),
+        (&RECORD, ("a", 2, 128), Info::Dex(&[1, 2, 3])),
+        (longer.as_slice(), ("a", 2, 128), Info::Elf(7)),
+    ] {
+        let decoded = decodes(rt.alloc(), bytes, numbers, info)?;
+        check_at(&rt, &bytes, decoded);
+    }
+    Ok(())
+}
+
+// A record of nothing but these symbols.
+fn of_symbols(alloc: Global, symbols: &[(u64, u32, &str)]) -> Result<SimpleperfFileRecord, Fail> {
+    let mut record = record(alloc, ("", 0, 0), Info::Nothing)?;
+    for (vaddr, len, name) in symbols {
+        let name = String::from_str(alloc, name)?;
+        record.symbol.push(SimpleperfSymbol {
+            vaddr: *vaddr,
+            len: *len,
+            name,
+        })?;
+    }
+    Ok(record)
+}
+
+#[test]
+fn decodes_symbols(rt: HostRuntime) -> Result<(), Fail> {
+    let expected = of_symbols(rt.alloc(), &[(16, 3, "b"), (0, 0, "")])?;
+    let bytes = [0x22, 7, 8, 16, 0x10, 3, 0x1a, 1, b'b', 0x22, 0];
+    check(&rt, is_decoded(rt.alloc(), &bytes, &expected));
+    Ok(())
+}
+
+// The offsets of copies of the infos that have nothing.
+fn offsets_of_defaults() -> Result<(u64, u64), AllocError> {
+    let module = SimpleperfKernelModuleInfo::default().clone()?;
+    let elf = SimpleperfElfFileInfo::default().clone()?;
+    Ok((
+        module.memory_offset_of_min_vaddr,
+        elf.file_offset_of_min_vaddr,
+    ))
+}
+
+#[test]
+fn merges_or_replaces_what_is_known_by_type(rt: HostRuntime) -> Result<(), Fail> {
+    for (bytes, info) in [
+        (
+            &[0x2a, 2, 8, 1, 0x32, 2, 8, 7, 0x2a, 2, 8, 3][..],
+            Info::Dex(&[3]),
+        ),
+        (&[0x2a, 2, 8, 1, 0x32, 2, 8, 7, 0x32, 0], Info::Elf(7)),
+        (&[0x32, 2, 8, 7, 0x3a, 0], Info::Module),
+    ] {
+        let decoded = decodes(rt.alloc(), bytes, ("", 0, 0), info)?;
+        check_at(&rt, &bytes, decoded);
+    }
+    same(&rt, &offsets_of_defaults()?, &(0, 0));
+    Ok(())
+}
+
+#[test]
+fn answers_the_first_fault(rt: HostRuntime) {
+    for (bytes, fault) in [
+        (&[0x80][..], DecodeError::Truncated),
+        (
+            &[0xff, 0xff, 0xff, 0xff, 0xff, 0xff, 0xff, 0xff, 0xff, 2][..],
+            DecodeError::Varint,
+        ),
+        (&[7][..], DecodeError::WireType),
+        (&[2, 0][..], DecodeError::Key),
+        (&[8, 1][..], DecodeError::WireType),
+        (&[0x44][..], DecodeError::Group),
+        (&[0x0a, 1, 0xff][..], DecodeError::Utf8),
+    ] {
+        same_at(&rt, &bytes, &fault_of(rt.alloc(), bytes), &Some(fault));
+    }
+}
+
+#[test]
+fn is_truncated_where_fields_are_cut(rt: HostRuntime) {
+    for held in 0..20usize {
+        let fault = match held {
+            0 | 3 | 5 | 8 | 10 | 16 => None,
+            _ => Some(DecodeError::Truncated),
+        };
+        same_at(&rt, &held, &fault_of(rt.alloc(), &RECORD[..held]), &fault);
+    }
+}
+
+#[test]
+fn passes_over_a_hundred_groups(rt: HostRuntime) -> Result<(), Fail> {
+    let bytes = joined(rt.alloc(), &[0x43; 100], &[0x44; 100])?;
+    check(&rt, decodes(rt.alloc(), &bytes, ("", 0, 0), Info::Nothing)?);
+    let deeper = joined(rt.alloc(), &[0x43; 101], &[0x44; 101])?;
+    same(
+        &rt,
+        &fault_of(rt.alloc(), &deeper),
+        &Some(DecodeError::Depth),
+    );
+    Ok(())
+}

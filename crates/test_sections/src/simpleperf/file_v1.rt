@@ -1,0 +1,100 @@
+//! The older file records: each type, in both orders, and what is refused.
+use crate::compare::{same, same_at};
+use byteorder::{BigEndian, LittleEndian};
+use perfdata_parts::simpleperf::{SimpleperfFileRecord, SimpleperfTypeSpecificInfo};
+use std::alloc::Global;
+use std::io::ErrorKind;
+use test_support::values::by_kind;
+
+// Path `a`, a type, address 16, a count of symbols.
+fn head(type_: u8, count: u8) -> [u8; 18] {
+    [
+        b'a', 0, type_, 0, 0, 0, 16, 0, 0, 0, 0, 0, 0, 0, count, 0, 0, 0,
+    ]
+}
+
+// The type by the info, if one is there, and its number.
+type Offset = Option<(u32, u64)>;
+
+// What is read, if its path is `a`: type, address, count of symbols, and the info's number.
+fn little(alloc: Global, bytes: &[u8]) -> Result<Option<(u32, u64, usize, Offset)>, ErrorKind> {
+    let record = by_kind(SimpleperfFileRecord::decode_v1::<LittleEndian>(alloc, bytes))?;
+    if record.path.as_str() != "a" {
+        return Ok(None);
+    }
+    let offset = match &record.type_specific_msg {
+        Some(SimpleperfTypeSpecificInfo::ElfFile(info)) => {
+            Some((2, info.file_offset_of_min_vaddr))
+        }
+        Some(SimpleperfTypeSpecificInfo::KernelModule(info)) => {
+            Some((1, info.memory_offset_of_min_vaddr))
+        }
+        _ => None,
+    };
+    Ok(Some((record.type_, record.min_vaddr, record.symbol.len(), offset)))
+}
+
+#[test]
+fn takes_a_missing_offset_for_the_greatest(rt: HostRuntime) {
+    for (type_, wanted) in [
+        (0u8, Ok(Some((0, 16, 0, None)))),
+        (1, Ok(Some((1, 16, 0, Some((1, u64::MAX)))))),
+        (2, Ok(Some((2, 16, 0, Some((2, u64::MAX)))))),
+        (3, Err(ErrorKind::UnexpectedEof)),
+        (4, Ok(Some((4, 16, 0, None)))),
+        (5, Ok(Some((5, 16, 0, None)))),
+    ] {
+        same(&rt, &little(rt.alloc(), &head(type_, 0)), &wanted);
+    }
+}
+
+// Path `b`, type 3, address 1, a symbol `c` at 2 of length 3, the offsets 4 and 5; in big-endian order.
+const DEX: [u8; 52] = [
+    b'b', 0, 0, 0, 0, 3, 0, 0, 0, 0, 0, 0, 0, 1, 0, 0, 0, 1, 0, 0, 0, 0, 0, 0, 0, 2, 0, 0, 0, 3,
+    b'c', 0, 0, 0, 0, 2, 0, 0, 0, 0, 0, 0, 0, 4, 0, 0, 0, 0, 0, 0, 0, 5,
+];
+
+// Whether what is read is what DEX says.
+fn reads_dex(alloc: Global, bytes: &[u8]) -> Result<bool, ErrorKind> {
+    let record = by_kind(SimpleperfFileRecord::decode_v1::<BigEndian>(alloc, bytes))?;
+    let told = (record.path.as_str(), record.type_, record.min_vaddr);
+    let is_symbol = match record.symbol.as_slice() {
+        [symbol] => (symbol.vaddr, symbol.len, symbol.name.as_str()) == (2, 3, "c"),
+        _ => false,
+    };
+    let are_offsets = match &record.type_specific_msg {
+        Some(SimpleperfTypeSpecificInfo::SimpleperfDexFileInfo(dex)) => {
+            dex.dex_file_offset.as_slice() == [4, 5].as_slice()
+        }
+        _ => false,
+    };
+    Ok((told, is_symbol, are_offsets) == (("b", 3, 1), true, true))
+}
+
+#[test]
+fn reads_symbols_and_offsets(rt: HostRuntime) {
+    for held in 0..53usize {
+        // a count above the bytes that are left is told before those are found to be cut
+        let wanted = match held {
+            52 => Ok(true),
+            18 | 36 | 37 => Err(ErrorKind::InvalidData),
+            _ => Err(ErrorKind::UnexpectedEof),
+        };
+        same_at(&rt, &held, &reads_dex(rt.alloc(), &DEX[..held]), &wanted);
+    }
+}
+
+#[test]
+fn refuses_what_cannot_be(rt: HostRuntime) {
+    let mut longer = [0; 19];
+    longer[..18].copy_from_slice(&head(2, 0));
+    for (bytes, kind) in [
+        (&longer[..], ErrorKind::UnexpectedEof),
+        (&head(6, 0), ErrorKind::InvalidData),
+        (&head(2, 1), ErrorKind::InvalidData),
+        (b"\xff\0\x02\0\0\0", ErrorKind::InvalidData),
+        (b"a\0\x02\0\0\0", ErrorKind::UnexpectedEof),
+    ] {
+        same_at(&rt, &bytes, &little(rt.alloc(), bytes).err(), &Some(kind));
+    }
+}

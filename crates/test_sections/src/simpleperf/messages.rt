@@ -1,0 +1,56 @@
+//! Faults inside the messages of a simpleperf file, each by its name.
+use crate::compare::{same, same_at};
+use crate::simpleperf::file_record::fault_of;
+use crate::simpleperf::sections::answer_of;
+use byteorder::LittleEndian;
+use perfdata_base::raw::Endianness;
+use perfdata_parts::protobuf::DecodeError;
+use perfdata_parts::simpleperf::{SimpleperfFileRecord, parse_file_section, parse_file2_section};
+use std::io::ErrorKind;
+use std::test::Fail;
+use test_support::error_key::ErrorKey;
+use test_support::values::{by_kind, joined};
+
+#[test]
+fn faults_inside_inner_messages(rt: HostRuntime) -> Result<(), Fail> {
+    for (bytes, length, fault) in [
+        (&[0x22, 3, 0x1a, 1, 0xff][..], 5u8, DecodeError::Utf8),
+        (&[0x22, 1, 0x80], 3, DecodeError::Truncated),
+        (&[0x2a, 3, 0x0a, 1, 0x80], 5, DecodeError::Truncated),
+        (&[0x2a, 1, 7], 3, DecodeError::WireType),
+        (&[0x32, 1, 7], 3, DecodeError::WireType),
+        (&[0x3a, 1, 7], 3, DecodeError::WireType),
+    ] {
+        let section = joined(rt.alloc(), &[length, 0, 0, 0], bytes)?;
+        let read = parse_file2_section(rt.alloc(), &section, Endianness::LittleEndian);
+        same_at(
+            &rt,
+            &bytes,
+            &(fault_of(rt.alloc(), bytes), answer_of(read, (0, 0))),
+            &(
+                Some(fault),
+                Err(ErrorKey::ProtobufParsingSimpleperfFileSection(fault)),
+            ),
+        );
+    }
+    Ok(())
+}
+
+// A length of 32, and an older record of path `a`, type 0, address 16 and one symbol at 2 of length 3, whose name is no text.
+const NAMED: [u8; 36] = [
+    32, 0, 0, 0, b'a', 0, 0, 0, 0, 0, 16, 0, 0, 0, 0, 0, 0, 0, 1, 0, 0, 0, 2, 0, 0, 0, 0, 0, 0, 0,
+    3, 0, 0, 0, 0xff, 0,
+];
+
+#[test]
+fn a_symbol_of_an_older_record_whose_name_is_no_text(rt: HostRuntime) {
+    let invalid = ErrorKind::InvalidData;
+    let alone = SimpleperfFileRecord::decode_v1::<LittleEndian>(rt.alloc(), &NAMED[4..]);
+    same(&rt, &by_kind(alone).err(), &Some(invalid));
+    let read = parse_file_section(rt.alloc(), &NAMED, Endianness::LittleEndian);
+    same(
+        &rt,
+        &answer_of(read, (0, 0)),
+        &Err(ErrorKey::ParsingSimpleperfFileV1Section(invalid)),
+    );
+}

@@ -1,0 +1,36 @@
+//! Meta info: the pairs of its pieces, and texts that aren't UTF-8.
+use crate::compare::same_at;
+use perfdata_parts::error::Error;
+use perfdata_parts::simpleperf::parse_meta_info_map;
+use std::alloc::Global;
+
+// How many pairs there are and the value of a key; or whether the refusal is that a text isn't UTF-8.
+fn told<'a>(alloc: Global, bytes: &'a [u8], key: &str) -> Result<(usize, Option<&'a str>), bool> {
+    match parse_meta_info_map(alloc, bytes) {
+        Ok(map) => Ok((map.len(), map.get(key).copied())),
+        Err(error) => Err(matches!(error, Error::StringUtf8)),
+    }
+}
+
+#[test]
+fn pairs_the_pieces_between_nuls(rt: HostRuntime) {
+    for (bytes, key, wanted) in [
+        (b"a\0b\0c".as_slice(), "a", (1usize, Some("b"))),
+        (b"a\0b\0c\0", "c", (2, Some(""))),
+        (b"a\0b\0\xff", "a", (1, Some("b"))),
+        (b"a\0b\0\0d\0a\0e\0", "a", (2, Some("e"))),
+        (b"a\0b\0\0d\0a\0e\0", "", (2, Some("d"))),
+        (b"a\0", "a", (1, Some(""))),
+        (b"", "a", (0, None)),
+        (b"a", "a", (0, None)),
+    ] {
+        same_at(&rt, &bytes, &told(rt.alloc(), bytes, key), &Ok(wanted));
+    }
+}
+
+#[test]
+fn refuses_other_texts(rt: HostRuntime) {
+    for bytes in [b"\xff\0b\0c".as_slice(), b"a\0\xff\0c", b"a\0b\0c\0\xff"] {
+        same_at(&rt, &bytes, &told(rt.alloc(), bytes, "a"), &Err(true));
+    }
+}

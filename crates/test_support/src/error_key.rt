@@ -1,0 +1,86 @@
+//! Errors in a form that can be compared.
+use perfdata_sections::decode_error::DecodeError;
+use perfdata_sections::error::{Error, ReadError};
+use std::io::ErrorKind;
+
+/// An error, with the kind of an I/O error in its place, and without the bytes of a magic.
+#[derive(Clone, Copy, Debug, PartialEq, Eq)]
+pub enum ErrorKey {
+    IoError(ErrorKind),
+    Read(ReadError),
+    UnrecognizedMagicValue,
+    SectionSizeTooBig,
+    NoAttributes,
+    InconsistentAttributeSizes(u64, u64),
+    NoIdentifierDespiteMultiEvent(usize),
+    InconsistentSampleIdAllWithMultiEvent(usize),
+    NotEnoughSpaceForStringLen,
+    NotEnoughSpaceForStringListLen,
+    FeatureSectionTooSmall,
+    NoEventTypesInSimpleperfMetaInfo,
+    ProtobufParsingSimpleperfFileSection(DecodeError),
+    ParsingSimpleperfFileV1Section(ErrorKind),
+    StringLengthTooLong,
+    StringListLengthBiggerThanUsize,
+    StringLengthBiggerThanUsize,
+    StringUtf8,
+    InvalidPerfEventSize,
+    Failed,
+    Memory,
+}
+
+/// Bytes are missing, where no part is named.
+pub const SHORT: ErrorKey = ErrorKey::IoError(ErrorKind::UnexpectedEof);
+
+/// An attribute can't be read.
+pub const ATTRIBUTE: ErrorKey = ErrorKey::Read(ReadError::PerfEventAttr);
+
+/// The data of a record can't be read.
+pub const DATA: ErrorKey = ErrorKey::Read(ReadError::PerfEventData);
+
+impl ErrorKey {
+    /// The key of an error.
+    pub fn of(error: &Error) -> ErrorKey {
+        match error {
+            Error::IoError(error) => ErrorKey::IoError(error.kind()),
+            Error::Read(part) => ErrorKey::Read(*part),
+            Error::UnrecognizedMagicValue(_) => ErrorKey::UnrecognizedMagicValue,
+            Error::SectionSizeTooBig => ErrorKey::SectionSizeTooBig,
+            Error::NoAttributes => ErrorKey::NoAttributes,
+            Error::InconsistentAttributeSizes(own, frame) => {
+                ErrorKey::InconsistentAttributeSizes(*own, *frame)
+            }
+            Error::NoIdentifierDespiteMultiEvent(index) => {
+                ErrorKey::NoIdentifierDespiteMultiEvent(*index)
+            }
+            Error::InconsistentSampleIdAllWithMultiEvent(index) => {
+                ErrorKey::InconsistentSampleIdAllWithMultiEvent(*index)
+            }
+            Error::NotEnoughSpaceForStringLen => ErrorKey::NotEnoughSpaceForStringLen,
+            Error::NotEnoughSpaceForStringListLen => ErrorKey::NotEnoughSpaceForStringListLen,
+            Error::FeatureSectionTooSmall => ErrorKey::FeatureSectionTooSmall,
+            Error::NoEventTypesInSimpleperfMetaInfo => ErrorKey::NoEventTypesInSimpleperfMetaInfo,
+            Error::ProtobufParsingSimpleperfFileSection(error) => {
+                ErrorKey::ProtobufParsingSimpleperfFileSection(*error)
+            }
+            Error::ParsingSimpleperfFileV1Section(error) => {
+                ErrorKey::ParsingSimpleperfFileV1Section(error.kind())
+            }
+            Error::StringLengthTooLong => ErrorKey::StringLengthTooLong,
+            Error::StringListLengthBiggerThanUsize => ErrorKey::StringListLengthBiggerThanUsize,
+            Error::StringLengthBiggerThanUsize => ErrorKey::StringLengthBiggerThanUsize,
+            Error::StringUtf8 => ErrorKey::StringUtf8,
+            Error::InvalidPerfEventSize => ErrorKey::InvalidPerfEventSize,
+            Error::Failed => ErrorKey::Failed,
+            Error::Memory => ErrorKey::Memory,
+        }
+    }
+
+    /// The key of an answer's error, where it is one.
+    pub fn of_answer<T: Drop>(answer: Result<T, Error>) -> Option<ErrorKey> {
+        match answer {
+            Ok(_) => None,
+            Err(error) => Some(ErrorKey::of(&error)),
+        }
+    }
+}
