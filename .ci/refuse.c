@@ -1,5 +1,5 @@
-/* Stands before malloc, calloc and realloc (LD_PRELOAD) and refuses the request of number REFUSE_AT, the first being 1, and
-   with REFUSE_ALL set every later one too. The first refusal is told by one byte on the descriptor REFUSE_TOLD. */
+/* Replaces malloc, calloc and realloc (LD_PRELOAD). The allocation with number REFUSE_AT fails, where the first has number 1. If
+   REFUSE_ALL is set, every later allocation fails too. The first failure writes one byte to the descriptor REFUSE_TOLD. */
 #include <errno.h>
 #include <stddef.h>
 #include <stdlib.h>
@@ -12,7 +12,7 @@ void *__libc_realloc(void *, size_t);
 static unsigned long requests, refused_at;
 static int all, told = -1;
 
-/* Before this ran, requests are the loader's and the C library's own: they are neither counted nor refused. */
+/* Allocations before this call are those of the loader and the C library. They aren't counted and don't fail. */
 __attribute__((constructor)) static void begin(void)
 {
     const char *at = getenv("REFUSE_AT"), *descriptor = getenv("REFUSE_TOLD");

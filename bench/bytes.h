@@ -1,4 +1,4 @@
-// Little-endian numbers in bytes, numbers as text, and random numbers that are the same at each run.
+// Little-endian numbers in bytes, numbers as text, and random numbers that are the same in each run.
 #ifndef BYTES_H
 #define BYTES_H
 #include <inttypes.h>
@@ -14,7 +14,7 @@ static inline uint64_t get(const unsigned char *at, int count) {
     return value;
 }
 
-// Writes a number and a byte behind it.
+// Writes a number and a byte after it.
 static inline char *put_number(char *at, uint64_t number, char behind) {
     char digits[20];
     int count = 0;

@@ -1,19 +1,19 @@
-// Writes the files that `run` times, of about as many bytes as asked: `generate KIND PATH SIZE`. The same bytes come out at each
-// run. KIND is
+// Writes the files that `run` times, of about the requested number of bytes: `generate KIND PATH SIZE`. Each run writes the same
+// bytes. KIND is
 //   one          a perf.data file with one attribute whose records have TIME, and records of mixed kinds and sizes
 //   small        the same with samples of 32 bytes
-//   events       one with eight attributes and their identifiers, laid out as perf record does: ids, attributes, records, EVENT_DESC
-//   pipe         the records of `one` as a stream
-//   pipe-events  the records of `events` as a stream
-//   late         a stream that begins with one attribute and in which SIZE more come, a sample behind each
-//   late-named   the same with an EVENT_DESC behind the first attribute
+//   events       one with eight attributes and their identifiers, in the layout of perf record: ids, attributes, records, EVENT_DESC
+//   pipe         the records of `one` as a pipe
+//   pipe-events  the records of `events` as a pipe
+//   late         a pipe that begins with one attribute and contains SIZE late ones, with a sample after each
+//   late-named   the same with an EVENT_DESC after the first attribute
 //   described    the same with an EVENT_DESC of a tenth as many descriptions, at most 779, that name them
 //   opening      those attributes and that EVENT_DESC before the first sample
-//   ids-up, ids-down            a stream in which SIZE identifiers come late, ascending or descending, 8,000 a record
-//   single-up, single-down      one a record
+//   ids-up, ids-down            a pipe with SIZE late identifiers, ascending or descending, 8,000 in each record
+//   single-up, single-down      the same, one in each record
 //   attributes   a file with SIZE attributes in its attribute section, and one sample
-//   types        a file with SIZE event types and an identifier of each, and one sample
-//   pmu          a file with SIZE PMU mappings, whose numbers fall, and one sample
+//   types        a file with SIZE event types, an identifier for each, and one sample
+//   pmu          a file with SIZE PMU mappings, whose numbers decrease, and one sample
 //   jit          a jitdump of loads, moves and debug info
 //   jit-one      a jitdump of one load of SIZE bytes
 #include "bytes.h"
@@ -59,7 +59,7 @@ static void put_attribute(unsigned char *at, size_t size, uint64_t type, uint64_
 
 static uint64_t clock_of(uint64_t number, uint64_t *state) { return 1000000000000u + number * 1000 + next(state) % 1000; }
 
-// One record; its time rises slowly.
+// Writes one record. Its time increases slowly.
 static size_t put_record(unsigned char *at, uint64_t number, uint64_t *state) {
     static const int kinds[16] = {SAMPLE, SAMPLE, SAMPLE, MMAP, SAMPLE, SAMPLE, LOST, SAMPLE, SAMPLE, COMM, SAMPLE, SAMPLE, SAMPLE, THREAD_MAP, SAMPLE, SAMPLE};
     uint64_t time = clock_of(number, state);
@@ -77,14 +77,14 @@ static size_t put_record(unsigned char *at, uint64_t number, uint64_t *state) {
 // The identifier of an event on a CPU, as the kernel counts them: event by event, with gaps.
 static uint64_t id_of(int event, int cpu) { return 4000 + 97 * (uint64_t)event + 5 * (uint64_t)cpu; }
 
-// One record, of an event on a CPU; a sample begins with its identifier, all others end with theirs.
+// Writes one record of an event on a CPU. A sample begins with its identifier, all other records end with theirs.
 static size_t put_event_record(unsigned char *at, uint64_t number, uint64_t *state) {
     static const int kinds[16] = {SAMPLE, SAMPLE, SAMPLE, SAMPLE, SAMPLE, MMAP2, SAMPLE, SAMPLE, SAMPLE, COMM, SAMPLE, SAMPLE, MMAP, SAMPLE, SAMPLE, SAMPLE};
     if (number % ROUND == ROUND - 1) return put_head(at, FINISHED_ROUND, 0, 8);
     uint64_t time = clock_of(number, state);
     int kind = kinds[next(state) % 16], event = (int)(next(state) % EVENTS), cpu = (int)(next(state) % CPUS);
     uint64_t id = id_of(event, cpu);
-    // the least body, and what a call chain or a name adds
+    // the minimum body size, and the size that a call chain or a name adds
     size_t body = (kind == SAMPLE ? 48 : 64) + 8 * (next(state) % 13);
     put_head(at, kind, kind == SAMPLE ? 2 : 0, 8 + body);
     for (size_t i = 0; i < body; i += 8) put(at + 8 + i, next(state) * 2654435761u, 8);
@@ -191,14 +191,14 @@ static void write_events(uint64_t wanted) {
     }
 }
 
-// ---- streams
+// ---- pipes
 
 static void write_pipe_header(void) {
     write_bytes("PERFILE2", 8);
     write_number(16, 8);
 }
 
-// A record that tells an attribute, with its identifiers.
+// A record that contains an attribute with its identifiers.
 static void write_attribute(size_t size, uint64_t type, uint64_t flags, const uint64_t *ids, size_t count) {
     unsigned char record[8 + PERF_ATTRIBUTE];
     put_head(record, ATTR, 0, 8 + size + 8 * count);
@@ -213,7 +213,7 @@ static void write_pipe(uint64_t wanted) {
     write_records(put_record, wanted);
 }
 
-// A record that tells an EVENT_DESC.
+// A record that contains an EVENT_DESC.
 static void write_description_record(void) {
     unsigned char head[8];
     put_head(head, FEATURE, 0, 16 + DESCRIPTIONS);
@@ -233,7 +233,7 @@ static void write_pipe_events(uint64_t wanted) {
     write_records(put_event_record, wanted);
 }
 
-// A sample of an identifier, at a time of its own.
+// A sample with this identifier and this time.
 static void write_sample(uint64_t id, uint64_t time) {
     unsigned char sample[24];
     put_head(sample, SAMPLE, 2, sizeof sample);
@@ -255,7 +255,7 @@ static void write_late(uint64_t count) { write_attributes(count, 0); }
 
 static void write_late_named(uint64_t count) { write_attributes(count, 1); }
 
-// A record that tells an EVENT_DESC of so many events, whose first identifiers are 1, 2 and so on.
+// A record that contains an EVENT_DESC of that many events, whose first identifiers are 1, 2 and so on.
 static void write_short_descriptions(uint64_t count) {
     enum { DESCRIPTION = ATTRIBUTE + 4 + 4 + 4 + 8 };
     unsigned char head[8], attribute[ATTRIBUTE];
@@ -293,7 +293,7 @@ static void write_opening(uint64_t count) {
     write_sample(count, 2000);
 }
 
-// Late attributes with so many identifiers each, which rise or fall from record to record and within each.
+// Late attributes with that many identifiers each, which increase or decrease from record to record and within each.
 static void write_ids(uint64_t count, uint64_t each, int is_falling) {
     static uint64_t ids[8000];
     uint64_t first = 1;
@@ -316,7 +316,7 @@ static void write_single_up(uint64_t count) { write_ids(count, 1, 0); }
 
 static void write_single_down(uint64_t count) { write_ids(count, 1, 1); }
 
-// A file with so many attributes, in the attribute section, or in that of the event types with an identifier each.
+// A file with that many attributes, in the attribute section, or in the event types section with an identifier each.
 static void write_section(uint64_t count, int has_ids) {
     unsigned char attribute[ATTRIBUTE];
     uint64_t entry = ATTRIBUTE + (has_ids ? 16 : 0), ids = HEADER + entry * count, records = ids + (has_ids ? 8 * count : 0);
@@ -366,7 +366,7 @@ static size_t put_jit_head(unsigned char *at, uint64_t kind, size_t size, uint64
     return size;
 }
 
-// A load of 100 to 20,000 bytes, small ones more often.
+// A load record of 100 to 20,000 bytes. Small ones are more frequent.
 static size_t put_load(unsigned char *at, uint64_t number, uint64_t *state) {
     size_t most = 100 + 19900 / (1 + next(state) % 10), size = 100 + next(state) % (most - 99);
     char name[44];

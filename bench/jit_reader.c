@@ -1,5 +1,5 @@
-// A plain reader of jitdump files with little-endian numbers: it reads each record's head and body, and prints the line
-// `OFFSET TIME TYPE SIZE`, up to the first record that isn't whole.
+// A simple reader of jitdump files with little-endian numbers. It reads the header and the body of each record, and prints the line
+// `OFFSET TIME TYPE SIZE`, up to the first truncated record.
 #include "bytes.h"
 #include "stream.h"
 #include <fcntl.h>

@@ -1,4 +1,4 @@
-// Runs a command and prints how many microseconds it took, its peak memory in KiB and how many microseconds of processor time, on standard error.
+// Runs a command and prints to standard error its duration in microseconds, its peak memory in KiB and its processor time in microseconds.
 #include <stdio.h>
 #include <sys/resource.h>
 #include <sys/wait.h>

@@ -1,6 +1,6 @@
-// A plain reader of perf.data: `reader file PATH` or `reader pipe` for a stream on standard input, both with little-endian
-// numbers. It reads each record's head and body, and prints the record's line. Attributes come from EVENT_DESC or are the one of
-// the attribute section, or come as records in a stream; the identifiers stand in an array in ascending order.
+// A simple reader of perf.data: `reader file PATH`, or `reader pipe` for a pipe on standard input, both with little-endian numbers.
+// It reads the header and the body of each record, and prints the record's line. The attributes are those of EVENT_DESC, or the one of
+// the attribute section, or those of records in a pipe. The identifiers are in an array in ascending order.
 #include "bytes.h"
 #include "stream.h"
 #include <fcntl.h>
@@ -15,7 +15,7 @@ typedef struct { uint64_t id, index; } Pair;
 static Pair *pairs;
 static size_t count_pairs, room_pairs;
 static uint64_t count_attributes;
-// where the words of a record stand, in bytes, or -1
+// the offsets of a record's u64 fields in bytes, or -1
 static long time_in_sample, id_in_sample, time_from_end, id_from_end;
 
 static int is_set(uint64_t bits, int bit) { return bits >> bit & 1; }
@@ -42,7 +42,7 @@ static void take_places(uint64_t type, uint64_t flags) {
     id_from_end = !is_all ? -1 : of_identifier ? 8 : of_id ? 8 * (1 + back) : -1;
 }
 
-// How many pairs have a smaller identifier.
+// Returns the number of pairs with a smaller identifier.
 static size_t rank_of(uint64_t id) {
     size_t from = 0, to = count_pairs;
     while (from < to) {
@@ -95,7 +95,7 @@ static void read_descriptions(void) {
     }
 }
 
-// Reads what stands before the records, and says how many bytes of records there are.
+// Reads the bytes before the records, and returns the size of the records in bytes.
 static uint64_t open_file(void) {
     unsigned char header[104], attribute[64];
     read_exactly(header, sizeof header);
@@ -116,7 +116,7 @@ static uint64_t open_file(void) {
     return size;
 }
 
-// An attribute that came as a record.
+// Reads an attribute from a record.
 static void take_record(const unsigned char *body, size_t length) {
     if (length < 64) fail();
     uint64_t size = get(body + 4, 4);
@@ -126,7 +126,7 @@ static void take_record(const unsigned char *body, size_t length) {
     for (size_t at = size; at + 8 <= length; at += 8) put_id(get(body + at, 8), index);
 }
 
-// Takes the records that a stream begins with, and leaves the head of the first other one.
+// Reads the metadata records at the start of a pipe, and the header of the first other record into `head`.
 static int open_pipe(unsigned char *head, unsigned char *body) {
     read_exactly(head, 8);
     if (memcmp(head, "PERFILE2", 8)) fail();

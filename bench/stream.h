@@ -1,4 +1,4 @@
-// An input and an output with a buffer of 64 KiB each, by read(2) and write(2), whose short copies stand in line.
+// An input and an output with a buffer of 64 KiB each, over read(2) and write(2). Short copies are inlined.
 #ifndef STREAM_H
 #define STREAM_H
 #include <errno.h>
@@ -49,7 +49,7 @@ static size_t take_more(Input *in, unsigned char *place, size_t count) {
     return taken;
 }
 
-// Takes so many bytes, fewer only at the input's end.
+// Reads `count` bytes, or fewer if the input ends, and returns their number.
 static inline size_t take(Input *in, void *place, size_t count) {
     if (in->to - in->from < count) return take_more(in, place, count);
     memcpy(place, in->bytes + in->from, count);
@@ -66,7 +66,7 @@ static void flush(Output *out) {
     out->used = 0;
 }
 
-// Room for so many bytes.
+// Returns the unused part of the buffer, with capacity for `count` bytes.
 static inline char *room_for(Output *out, size_t count) {
     if (BUFFER - out->used < count) flush(out);
     return out->bytes + out->used;
@@ -74,7 +74,7 @@ static inline char *room_for(Output *out, size_t count) {
 
 static inline void filled_up_to(Output *out, const char *end) { out->used = (size_t)(end - out->bytes); }
 
-// The place counts from the input's first byte.
+// Seeks to an offset from the input's first byte.
 static int go_to(Input *in, uint64_t place) {
     in->from = in->to = 0;
     return lseek(in->file, (off_t)place, SEEK_SET) < 0;

@@ -1,5 +1,5 @@
-// A walk over a perf.data file with little-endian numbers that is mapped: `walk library PATH` fills an array by the library, `walk own PATH`
-// by a plain loop over the records' heads, which knows neither time nor attribute. Both print how many records there are.
+// A walk over a mapped perf.data file with little-endian numbers: `walk library PATH` fills an array by the library, `walk own PATH` by
+// a simple loop over the record headers, which determines neither time nor attribute. Both print the number of records.
 #include "dewikura.h"
 #include <fcntl.h>
 #include <inttypes.h>
@@ -45,7 +45,7 @@ int main(int count, char **words) {
     if (file < 0 || fstat(file, &told)) return 1;
     size_t length = (size_t)told.st_size, room = length / 8;
     const uint8_t *bytes = mmap(NULL, length, PROT_READ, MAP_PRIVATE, file, 0);
-    // (pages of the array that no record is written into are never there)
+    // (the pages of the array that contain no record are never allocated)
     struct dw_record *records = mmap(NULL, room * sizeof *records, PROT_READ | PROT_WRITE, MAP_PRIVATE | MAP_ANONYMOUS | MAP_NORESERVE, -1, 0);
     uint64_t total = 0;
     if (bytes == MAP_FAILED || records == MAP_FAILED) return 1;

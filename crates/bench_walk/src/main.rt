@@ -1,5 +1,5 @@
-//! Counts records, for `bench/run`: `walk file PATH`, `walk pipe` and `walk jit PATH` those of an input as perflist reads it, and
-//! `walk paused PATH PAUSES` those of a jitdump that comes in pieces, with a pause behind each.
+//! Counts records, for `bench/run`. `walk file PATH`, `walk pipe` and `walk jit PATH` count those of an input as perflist
+//! reads it. `walk paused PATH PAUSES` counts those of a jitdump that arrives in parts, with a pause after each.
 #![tactic(auto)]
 
 use linux_perf_data::jitdump::JitDumpReader;
@@ -10,11 +10,11 @@ use std::fs::File;
 use std::io::{self, BufReader};
 use std::{env, fs};
 
-/// What is read at once.
+/// The size of an input buffer in bytes.
 const BUFFER: usize = 65536;
 
-/// The records of a file or a pipe.
-fn records<R: Source + Drop>(reader: PerfFileReader<R>) -> Result<u64, Error> {
+/// Counts the records of a file or a pipe.
+fn count_records<R: Source + Drop>(reader: PerfFileReader<R>) -> Result<u64, Error> {
     let mut perf_file = reader.perf_file;
     let mut records = reader.record_iter;
     let mut count = 0u64;
@@ -27,8 +27,11 @@ fn records<R: Source + Drop>(reader: PerfFileReader<R>) -> Result<u64, Error> {
     Ok(count)
 }
 
-/// The records of a jitdump, whose reader is asked on behind so many answers that one isn't there whole.
-fn jit_records<R: Source + Drop>(mut reader: JitDumpReader<R>, pauses: u64) -> io::Result<u64> {
+/// Counts the records of a jitdump. Counting continues after the first `pauses` results of `Ok(None)`.
+fn count_jit_records<R: Source + Drop>(
+    mut reader: JitDumpReader<R>,
+    pauses: u64,
+) -> io::Result<u64> {
     let mut count = 0u64;
     let mut left = pauses;
     for _ in 0..u64::MAX {
@@ -43,8 +46,8 @@ fn jit_records<R: Source + Drop>(mut reader: JitDumpReader<R>, pauses: u64) -> i
     Ok(count)
 }
 
-/// A source that gives these bytes in so many pieces of about one size, with a pause behind each.
-fn paused(alloc: Global, bytes: Vec<u8>, pauses: u64) -> Result<Script, AllocError> {
+/// A source of these bytes in `pauses` parts of about equal size, with a pause after each.
+fn script_with_pauses(alloc: Global, bytes: Vec<u8>, pauses: u64) -> Result<Script, AllocError> {
     let piece = bytes.len() as u64 / pauses.max(1) + 1;
     let mut steps = Vec::new(alloc);
     for _ in 0..pauses {
@@ -55,7 +58,7 @@ fn paused(alloc: Global, bytes: Vec<u8>, pauses: u64) -> Result<Script, AllocErr
     Ok(Script::new(bytes, shown, steps, Vec::new(alloc)))
 }
 
-/// A file, read in large pieces.
+/// Opens a file with a large buffer.
 fn open(rt: &HostRuntime, path: &str) -> io::Result<CountedBuffer<File>> {
     let file = File::open(rt, path)?;
     Ok(CountedBuffer::new(BufReader::with_capacity(rt.alloc(), BUFFER, file)?))
@@ -70,16 +73,16 @@ fn main(rt: HostRuntime) -> anyhow::Result<()> {
     let word = word.as_ref().map_or("", |word| word.as_str());
     let path = path.as_ref().map_or("", |path| path.as_str());
     let count = match word {
-        "file" => records(PerfFileReader::parse_file(alloc, open(&rt, path)?)?)?,
+        "file" => count_records(PerfFileReader::parse_file(alloc, open(&rt, path)?)?)?,
         "pipe" => {
             let input = BufReader::with_capacity(alloc, BUFFER, rt.stdin())?;
-            records(PerfFileReader::parse_pipe(alloc, CountedBuffer::new(input))?)?
+            count_records(PerfFileReader::parse_pipe(alloc, CountedBuffer::new(input))?)?
         }
-        "jit" => jit_records(JitDumpReader::new(alloc, open(&rt, path)?)?, 0)?,
+        "jit" => count_jit_records(JitDumpReader::new(alloc, open(&rt, path)?)?, 0)?,
         _ => {
             let pauses = pauses.map_or(Ok(0), |pauses| pauses.parse::<u64>())?;
-            let source = paused(alloc, fs::read(&rt, path)?, pauses)?;
-            jit_records(JitDumpReader::new(alloc, source)?, pauses)?
+            let source = script_with_pauses(alloc, fs::read(&rt, path)?, pauses)?;
+            count_jit_records(JitDumpReader::new(alloc, source)?, pauses)?
         }
     };
     println!(rt; "{count} records")?;

@@ -1,2 +1,2 @@
--- What contracts cite.
-pub mod Orders
+-- The modules that contracts use.
+pub mod Endian

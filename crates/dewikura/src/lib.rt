@@ -1,34 +1,34 @@
-//! The calls of `perfdata_table` for C, one export for each; `include/dewikura.h` declares them.
+//! C exports of the calls of `perfdata_arrays`; `include/dewikura.h` declares them.
 #![tactic(auto)]
 
 ghost use Rattle.std.specs.Prelude.{◌≡◌};
-ghost use Rattle.perfdata_table.specs.Attributes.{FileAttributes, PipeAttributes};
-ghost use Rattle.perfdata_table.specs.BuildIds.{BuildIdTold};
-ghost use Rattle.perfdata_table.specs.Features.{FileFeature, PipeFeature};
-ghost use Rattle.perfdata_table.specs.Jit.{HeaderTold, JitTold, LoadTold};
-ghost use Rattle.perfdata_table.specs.Table.{FileTold, PipeTold};
-ghost use Rattle.dewikura.specs.Orders.{order_told};
+ghost use Rattle.perfdata_arrays.specs.Attrs.{ReadsFileAttrs, ReadsPipeAttrs};
+ghost use Rattle.perfdata_arrays.specs.BuildIds.{ReadsBuildId};
+ghost use Rattle.perfdata_arrays.specs.Features.{ReadsFileFeature, ReadsPipeFeature};
+ghost use Rattle.perfdata_arrays.specs.Jit.{ReadsJitHeader, ReadsJitRecords, ReadsJitLoad};
+ghost use Rattle.perfdata_arrays.specs.Records.{ReadsFileRecords, ReadsPipeRecords};
+ghost use Rattle.dewikura.specs.Endian.{endian_from};
 
 use linux_perf_data::Endianness;
-use perfdata_table::attributes::{Attribute, Totals};
-use perfdata_table::build_ids::BuildId;
-use perfdata_table::entry::Record;
-use perfdata_table::jit::{JitHeader, JitLoad, JitRecord};
-use perfdata_table::{attributes, build_ids, features, jit, records};
+use perfdata_arrays::attrs::{Attr, AttrTotals};
+use perfdata_arrays::build_ids::BuildId;
+use perfdata_arrays::jit::{JitHeader, JitLoad, JitRecord};
+use perfdata_arrays::record::Record;
+use perfdata_arrays::{attrs, build_ids, features, jit, records};
 use std::alloc::Global;
 
-// The order of numbers: little-endian for 0, and big-endian for all else.
-fn order_of(big_endian: u32) -> Endianness
-    ensures { result ≡ order_told big_endian }
+// The byte order is little-endian for 0 and big-endian for all other values.
+fn endian_of(is_big_endian: u32) -> Endianness
+    ensures { result ≡ endian_from is_big_endian }
 {
-    if big_endian == 0 {
+    if is_big_endian == 0 {
         Endianness::LittleEndian
     } else {
         Endianness::BigEndian
     }
 }
 
-/// The records of a file, as by `file_records`.
+/// Reads the records of a perf.data file, as `records::file_records` does.
 #[unsafe(no_mangle)]
 pub extern "C" fn dewikura_file_records(
     alloc: Global,
@@ -37,14 +37,14 @@ pub extern "C" fn dewikura_file_records(
     entries: &mut [Record],
     total: &mut u64,
 ) -> u32
-    ensures { FileTold bytes.now first entries.old (record { records = total.new; status = result }) entries.new }
+    ensures { ReadsFileRecords bytes.now first entries.old (record { count = total.new; status = result }) entries.new }
 {
-    let told = records::file_records(alloc, bytes, first, entries);
-    *total = told.records;
-    told.status
+    let written = records::file_records(alloc, bytes, first, entries);
+    *total = written.count;
+    written.status
 }
 
-/// The records of a pipe, as by `pipe_records`.
+/// Reads the records of a perf.data pipe, as `records::pipe_records` does.
 #[unsafe(no_mangle)]
 pub extern "C" fn dewikura_pipe_records(
     alloc: Global,
@@ -53,14 +53,14 @@ pub extern "C" fn dewikura_pipe_records(
     entries: &mut [Record],
     total: &mut u64,
 ) -> u32
-    ensures { PipeTold bytes.now first entries.old (record { records = total.new; status = result }) entries.new }
+    ensures { ReadsPipeRecords bytes.now first entries.old (record { count = total.new; status = result }) entries.new }
 {
-    let told = records::pipe_records(alloc, bytes, first, entries);
-    *total = told.records;
-    told.status
+    let written = records::pipe_records(alloc, bytes, first, entries);
+    *total = written.count;
+    written.status
 }
 
-/// The bytes of a feature of a file, as by `file_feature`.
+/// Reads the bytes of a feature of a perf.data file, as `features::file_feature` does.
 #[unsafe(no_mangle)]
 pub extern "C" fn dewikura_file_feature(
     alloc: Global,
@@ -70,15 +70,15 @@ pub extern "C" fn dewikura_file_feature(
     has: &mut u8,
     size: &mut u64,
 ) -> u32
-    ensures { FileFeature bytes.now feature place.old (record { bytes = size.new; has = has.new; status = result }) place.new }
+    ensures { ReadsFileFeature bytes.now feature place.old (record { size = size.new; is_present = has.new; status = result }) place.new }
 {
-    let told = features::file_feature(alloc, bytes, feature, place);
-    *has = told.has;
-    *size = told.bytes;
-    told.status
+    let written = features::file_feature(alloc, bytes, feature, place);
+    *has = written.is_present;
+    *size = written.size;
+    written.status
 }
 
-/// The bytes of a feature of a pipe, as by `pipe_feature`.
+/// Reads the bytes of a feature of a perf.data pipe, as `features::pipe_feature` does.
 #[unsafe(no_mangle)]
 pub extern "C" fn dewikura_pipe_feature(
     alloc: Global,
@@ -88,71 +88,71 @@ pub extern "C" fn dewikura_pipe_feature(
     has: &mut u8,
     size: &mut u64,
 ) -> u32
-    ensures { PipeFeature bytes.now feature place.old (record { bytes = size.new; has = has.new; status = result }) place.new }
+    ensures { ReadsPipeFeature bytes.now feature place.old (record { size = size.new; is_present = has.new; status = result }) place.new }
 {
-    let told = features::pipe_feature(alloc, bytes, feature, place);
-    *has = told.has;
-    *size = told.bytes;
-    told.status
+    let written = features::pipe_feature(alloc, bytes, feature, place);
+    *has = written.is_present;
+    *size = written.size;
+    written.status
 }
 
-/// The attributes of a file, as by `file_attributes`.
+/// Reads the attributes of a perf.data file, as `file_attrs` does.
 #[unsafe(no_mangle)]
 pub extern "C" fn dewikura_file_attributes(
     alloc: Global,
     bytes: &[u8],
-    entries: &mut [Attribute],
+    entries: &mut [Attr],
     names: &mut [u8],
     ids: &mut [u64],
-    totals: &mut Totals,
+    totals: &mut AttrTotals,
 ) -> u32
-    ensures told { FileAttributes bytes.now entries.old names.old ids.old totals.new entries.new names.new ids.new }
+    ensures writes { ReadsFileAttrs bytes.now entries.old names.old ids.old totals.new entries.new names.new ids.new }
     ensures status { result ≡ totals.new.status }
 {
-    *totals = attributes::file_attributes(alloc, bytes, entries, names, ids);
+    *totals = attrs::file_attrs(alloc, bytes, entries, names, ids);
     totals.status
 }
 
-/// The attributes of a pipe, as by `pipe_attributes`.
+/// Reads the attributes of a perf.data pipe, as `pipe_attrs` does.
 #[unsafe(no_mangle)]
 pub extern "C" fn dewikura_pipe_attributes(
     alloc: Global,
     bytes: &[u8],
-    entries: &mut [Attribute],
+    entries: &mut [Attr],
     names: &mut [u8],
     ids: &mut [u64],
-    totals: &mut Totals,
+    totals: &mut AttrTotals,
 ) -> u32
-    ensures told { PipeAttributes bytes.now entries.old names.old ids.old totals.new entries.new names.new ids.new }
+    ensures writes { ReadsPipeAttrs bytes.now entries.old names.old ids.old totals.new entries.new names.new ids.new }
     ensures status { result ≡ totals.new.status }
 {
-    *totals = attributes::pipe_attributes(alloc, bytes, entries, names, ids);
+    *totals = attrs::pipe_attrs(alloc, bytes, entries, names, ids);
     totals.status
 }
 
-/// An entry of the section BUILD_ID, as by `build_id`.
+/// Reads an entry of a BUILD_ID section, as `build_id_at` does.
 #[unsafe(no_mangle)]
 pub extern "C" fn dewikura_build_id(
     alloc: Global,
     section: &[u8],
-    big_endian: u32,
+    is_big_endian: u32,
     at: u64,
     entry: &mut BuildId,
 ) -> u32
-    ensures { BuildIdTold (order_told big_endian) section.now at entry.old result entry.new }
+    ensures { ReadsBuildId (endian_from is_big_endian) section.now at entry.old result entry.new }
 {
-    build_ids::build_id(alloc, order_of(big_endian), section, at, entry)
+    build_ids::build_id_at(alloc, endian_of(is_big_endian), section, at, entry)
 }
 
-/// The header of a jitdump, as by `jit_header`.
+/// Reads the header of a jitdump, as `jit::jit_header` does.
 #[unsafe(no_mangle)]
 pub extern "C" fn dewikura_jit_header(bytes: &[u8], header: &mut JitHeader) -> u32
-    ensures { HeaderTold bytes.now header.old result header.new }
+    ensures { ReadsJitHeader bytes.now header.old result header.new }
 {
     jit::jit_header(bytes, header)
 }
 
-/// The records of a jitdump, as by `jit_records`.
+/// Reads the records of a jitdump, as `jit::jit_records` does.
 #[unsafe(no_mangle)]
 pub extern "C" fn dewikura_jit_records(
     bytes: &[u8],
@@ -161,18 +161,18 @@ pub extern "C" fn dewikura_jit_records(
     count: &mut u64,
     next: &mut u64,
 ) -> u32
-    ensures { JitTold bytes.now from entries.old (record { records = count.new; next = next.new; status = result }) entries.new }
+    ensures { ReadsJitRecords bytes.now from entries.old (record { count = count.new; next_offset = next.new; status = result }) entries.new }
 {
-    let told = jit::jit_records(bytes, from, entries);
-    *count = told.records;
-    *next = told.next;
-    told.status
+    let written = jit::jit_records(bytes, from, entries);
+    *count = written.count;
+    *next = written.next_offset;
+    written.status
 }
 
-/// What a load record of a jitdump says, as by `jit_load`.
+/// Reads a load record of a jitdump, as `jit::jit_load` does.
 #[unsafe(no_mangle)]
 pub extern "C" fn dewikura_jit_load(bytes: &[u8], at: u64, load: &mut JitLoad) -> u32
-    ensures { LoadTold bytes.now at load.old result load.new }
+    ensures { ReadsJitLoad bytes.now at load.old result load.new }
 {
     jit::jit_load(bytes, at, load)
 }

@@ -1,4 +1,4 @@
-//! Counts the samples of the perf.data files that its words name.
+//! Counts the samples of the perf.data files in its arguments.
 #![tactic(auto)]
 
 use linux_perf_data::source::{Counted, Source};
@@ -7,7 +7,7 @@ use std::env;
 use std::fs::File;
 use std::io::BufReader;
 
-fn samples<R: Source + Drop>(reader: PerfFileReader<R>) -> Result<u64, Error> {
+fn count_samples<R: Source + Drop>(reader: PerfFileReader<R>) -> Result<u64, Error> {
     let mut perf_file = reader.perf_file;
     let mut records = reader.record_iter;
     let mut count = 0u64;
@@ -28,7 +28,7 @@ fn main(rt: HostRuntime) -> anyhow::Result<()> {
     for path in env::args(&rt)?.skip(1) {
         let file = BufReader::new(rt.alloc(), File::open(&rt, path.as_str())?)?;
         let reader = PerfFileReader::parse_file(rt.alloc(), Counted::new(file))?;
-        println!(rt; "{path}: {} samples", samples(reader)?)?;
+        println!(rt; "{path}: {} samples", count_samples(reader)?)?;
     }
     Ok(())
 }

@@ -1,2 +1,2 @@
--- What contracts cite.
-pub mod Counting
+-- The specifications that contracts use.
+pub mod RecordCount

@@ -1,22 +1,22 @@
-//! A caller of the library from outside: it counts the records of a file in memory, and proves by the library's public names alone that
-//! its count is the number of records that the file's layout has.
+//! A formally verified program that uses the library: it counts the records of a file in memory. It proves from the
+//! library's public specifications alone that its count is the number of records in the file's layout.
 #![tactic(auto)]
 
 ghost use Rattle.std.specs.Prelude.{IfOk};
-ghost use Rattle.counted.specs.Counting.{HasRecords};
+ghost use Rattle.example_proved_count.specs.RecordCount.{HasRecordCount};
 
 use linux_perf_data::{Error, PerfFileReader, laws};
 use std::alloc::Global;
 use std::io::Cursor;
 
-/// How many records a perf.data file has, markers not counted: those that its layout has, where it is whole.
+/// Returns the number of records in the layout of a perf.data file, without round markers, if the layout is complete.
 ///
-/// Where the file doesn't open, its layout has a fault, or memory runs out, it is that refusal.
+/// Fails if the file doesn't open, its layout has an error, or an allocation fails.
 pub fn count_records(alloc: Global, bytes: &[u8]) -> Result<u64, Error>
-    ensures { IfOk result (λ count. HasRecords bytes.now count) }
+    ensures { IfOk result (λ count. HasRecordCount bytes.now count) }
 {
-    laws::several_calls::<Cursor<&[u8]>>();
-    laws::a_reading::<Cursor<&[u8]>>();
+    laws::consecutive_calls::<Cursor<&[u8]>>();
+    laws::file_reading::<Cursor<&[u8]>>();
     let reader = PerfFileReader::parse_file(alloc, Cursor::new(bytes))?;
     let mut file = reader.perf_file;
     let mut iter = reader.record_iter;

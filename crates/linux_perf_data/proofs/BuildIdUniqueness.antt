@@ -1,4 +1,4 @@
--- That a section of build ids is cut into entries in one way.
+-- A section of build IDs has one division into entries.
 use Rattle.std.proofs.Common.{◌≡◌, ℕ, zero, suc, ◌+◌, ◌-◌, ◌<◌, ◌++◌, IsTrue, true, false, Bool, List, [], ◌∷◌, length, take, drop, nat_eq, refl, sym, ap, ◌∙◌, subst, arith, append_assoc, append-nil, length-append}
 use Rattle.std.specs.List.{ends_with}
 use Rattle.std.proofs.lemmas.Bool.{false≢true}
@@ -6,14 +6,14 @@ use Rattle.std.proofs.lemmas.Bool.Decides.{Decides-eqb}
 use Rattle.std.proofs.lemmas.List.{append_cancel_left, append_cancel_right}
 use Rattle.std.proofs.lemmas.Slice.Eq.{ends_is}
 use Rattle.std.proofs.Math.Seq.{take-append_seam}
-use Rattle.perfdata_base.specs.Numbers.{number_in}
-use Rattle.perfdata_base.specs.Place.{is_set}
+use Rattle.perfdata_base.specs.Endian.{number_in}
+use Rattle.perfdata_base.specs.ParseInfo.{is_set}
 use Rattle.perfdata_base.proofs.Numbers.{number_drop_front}
 use Rattle.perfdata_base.specs.declared.raw.Endianness.{Endianness}
-use Rattle.perfdata_records.specs.BuildId.{BuildId, zero_group, zero_groups, IsIdIn, IsEntry, IsCutEntry, entry_size}
-use Rattle.linux_perf_data.specs.BuildIds.{BeginsWith, AreEntries}
+use Rattle.perfdata_records.specs.BuildIdEvent.{BuildIdEntry, zero_group, zero_groups, IsBuildIdIn, IsBuildIdEntry, IsTruncatedBuildIdEntry, entry_size}
+use Rattle.linux_perf_data.specs.BuildIds.{BeginsWithEntries, AreBuildIdEntries}
 
--- a group in front of groups is one behind them
+-- a zero group commutes with zero groups
 turned : (n : ℕ) → zero_groups n ++ zero_group ≡ zero_group ++ zero_groups n
 turned zero = refl
 turned (suc n) = append_assoc zero_group (zero_groups n) zero_group ∙ ap (λ l. zero_group ++ l) (turned n)
@@ -21,7 +21,7 @@ turned (suc n) = append_assoc zero_group (zero_groups n) zero_group ∙ ap (λ l
 behind_group : (id : List ℕ) (n : ℕ) → id ++ zero_groups (suc n) ≡ (id ++ zero_groups n) ++ zero_group
 behind_group id n = ap (λ l. id ++ l) (sym (turned n)) ∙ sym (append_assoc id (zero_groups n) zero_group)
 
--- bytes that end in a group are not trimmed
+-- an ID that ends in a zero group isn't trimmed
 not_whole : (id jd : List ℕ) (n : ℕ) → (¬ IsTrue (ends_with nat_eq id zero_group)) → id ++ [] ≡ jd ++ zero_groups (suc n) → ⊥
 not_whole id jd n whole same = whole ((ends_is Decides-eqb id zero_group (ends_with nat_eq id zero_group) refl).1 (jd ++ zero_groups n) (sym (append-nil id) ∙ same ∙ behind_group jd n))
 
@@ -32,54 +32,54 @@ trimmed_once (suc m) zero id jd p q same = absurd (not_whole jd id m q (sym same
 trimmed_once (suc m) (suc n) id jd p q same =
     trimmed_once m n id jd p q (append_cancel_right (id ++ zero_groups m) (jd ++ zero_groups n) zero_group (sym (behind_group id m) ∙ same ∙ behind_group jd n))
 
--- the bytes for a build id hold one
-id_by : (b : Bool) (misc : ℕ) (xs id jd : List ℕ) → is_set misc 15 ≡ b → IsIdIn misc xs id → IsIdIn misc xs jd → id ≡ jd
-id_by true misc xs id jd set p q = p.told set ∙ sym (q.told set)
+-- the bytes reserved for a build ID contain one build ID
+id_by : (b : Bool) (misc : ℕ) (xs id jd : List ℕ) → is_set misc 15 ≡ b → IsBuildIdIn misc xs id → IsBuildIdIn misc xs jd → id ≡ jd
+id_by true misc xs id jd set p q = p.explicit_length set ∙ sym (q.explicit_length set)
 id_by false misc xs id jd unset p q =
     let isnt : ¬ IsTrue (is_set misc 15) = λ set. absurd (false≢true (sym unset ∙ set)) in
-    let s = p.untold isnt in
-    let t = q.untold isnt in
-    trimmed_once s.groups t.groups id jd s.whole t.whole (sym s.cut ∙ t.cut)
+    let s = p.zeros_trimmed isnt in
+    let t = q.zeros_trimmed isnt in
+    trimmed_once s.groups t.groups id jd s.fully_trimmed t.fully_trimmed (sym s.split ∙ t.split)
 
 module _ (order : Endianness) where
-  entry_once : (xs : List ℕ) (e f : BuildId) → IsEntry (number_in order) xs e → IsEntry (number_in order) xs f → e ≡ f
+  entry_once : (xs : List ℕ) (e f : BuildIdEntry) → IsBuildIdEntry (number_in order) xs e → IsBuildIdEntry (number_in order) xs f → e ≡ f
   entry_once xs e f p q = λ i. record {
     header = (p.header ∙ sym q.header) i;
     pid = (p.pid ∙ sym q.pid) i;
-    id = id_by (is_set (number_in order 2 (drop 4 xs)) 15) (number_in order 2 (drop 4 xs)) (take 24 (drop 12 xs)) e.id f.id refl p.id q.id i;
+    build_id = id_by (is_set (number_in order 2 (drop 4 xs)) 15) (number_in order 2 (drop 4 xs)) (take 24 (drop 12 xs)) e.build_id f.build_id refl p.build_id q.build_id i;
     path = (p.path ∙ sym q.path) i;
   }
 
-  -- an entry's bytes say how many they are, whatever stands behind them
-  size_told : (xs first behind : List ℕ) (e : BuildId) → xs ≡ first ++ behind → IsEntry (number_in order) first e → length first ≡ entry_size (number_in order) xs
+  -- the bytes of an entry determine its size, whatever follows it
+  size_told : (xs first behind : List ℕ) (e : BuildIdEntry) → xs ≡ first ++ behind → IsBuildIdEntry (number_in order) first e → length first ≡ entry_size (number_in order) xs
   size_told xs first behind e cut is =
-      is.long ∙ ap (λ n. 36 + (n - 36)) (sym (number_drop_front order 2 6 first behind (let head = is.head in omega arith)) ∙ ap (λ l. number_in order 2 (drop 6 l)) (sym cut))
+      is.exact_len ∙ ap (λ n. 36 + (n - 36)) (sym (number_drop_front order 2 6 first behind (let head = is.has_fixed_part in omega arith)) ∙ ap (λ l. number_in order 2 (drop 6 l)) (sym cut))
 
-  -- so fronts that are entries are the same
-  front_once : (xs first behind one rest : List ℕ) (e f : BuildId) → xs ≡ first ++ behind → IsEntry (number_in order) first e → xs ≡ one ++ rest → IsEntry (number_in order) one f → (first ≡ one) × (behind ≡ rest)
+  -- two entries at the start of the same bytes have the same bytes
+  front_once : (xs first behind one rest : List ℕ) (e f : BuildIdEntry) → xs ≡ first ++ behind → IsBuildIdEntry (number_in order) first e → xs ≡ one ++ rest → IsBuildIdEntry (number_in order) one f → (first ≡ one) × (behind ≡ rest)
   front_once xs first behind one rest e f cut is cut' is' =
       let long : length first ≡ length one = size_told xs first behind e cut is ∙ sym (size_told xs one rest f cut' is') in
       let same : first ≡ one = sym (take-append_seam first behind) ∙ ap (take (length first)) (sym cut ∙ cut') ∙ ap (λ n. take n (one ++ rest)) long ∙ take-append_seam one rest in
       (same, append_cancel_left first behind rest (sym cut ∙ cut' ∙ ap (λ l. l ++ rest) (sym same)))
 
-  -- nor are they cut
-  not_cut : (xs first behind : List ℕ) (e : BuildId) → xs ≡ first ++ behind → IsEntry (number_in order) first e → IsCutEntry (number_in order) xs → ⊥
+  -- an entry isn't a truncated entry
+  not_cut : (xs first behind : List ℕ) (e : BuildIdEntry) → xs ≡ first ++ behind → IsBuildIdEntry (number_in order) first e → IsTruncatedBuildIdEntry (number_in order) xs → ⊥
   not_cut xs first behind e cut is few =
       let long = size_told xs first behind e cut is in
-      let head = is.head in
+      let head = is.has_fixed_part in
       let all : length xs ≡ length first + length behind = ap length cut ∙ length-append first behind in
       let less : length xs < entry_size (number_in order) xs = few (omega (arith, all, head)) in
       omega (arith, less, long, all)
 
-  begins_once : (xs : List ℕ) (es fs : List BuildId) (r s : List ℕ) → BeginsWith order xs es r → IsCutEntry (number_in order) r → BeginsWith order xs fs s → IsCutEntry (number_in order) s → es ≡ fs
+  begins_once : (xs : List ℕ) (es fs : List BuildIdEntry) (r s : List ℕ) → BeginsWithEntries order xs es r → IsTruncatedBuildIdEntry (number_in order) r → BeginsWithEntries order xs fs s → IsTruncatedBuildIdEntry (number_in order) s → es ≡ fs
   begins_once xs [] [] r s p cut q cut' = refl
-  begins_once xs [] (f ∷ fs) r s p cut (first, behind, is, entry, more) cut' = absurd (not_cut xs first behind f is entry (subst (IsCutEntry (number_in order)) (sym p) cut))
-  begins_once xs (e ∷ es) [] r s (first, behind, is, entry, more) cut q cut' = absurd (not_cut xs first behind e is entry (subst (IsCutEntry (number_in order)) (sym q) cut'))
+  begins_once xs [] (f ∷ fs) r s p cut (first, behind, is, entry, more) cut' = absurd (not_cut xs first behind f is entry (subst (IsTruncatedBuildIdEntry (number_in order)) (sym p) cut))
+  begins_once xs (e ∷ es) [] r s (first, behind, is, entry, more) cut q cut' = absurd (not_cut xs first behind e is entry (subst (IsTruncatedBuildIdEntry (number_in order)) (sym q) cut'))
   begins_once xs (e ∷ es) (f ∷ fs) r s (first, behind, is, entry, more) cut (one, rest, is', entry', more') cut' =
       let same = front_once xs first behind one rest e f is entry is' entry' in
-      let head : e ≡ f = entry_once one e f (subst (λ l. IsEntry (number_in order) l e) same.0 entry) entry' in
-      let tail : es ≡ fs = begins_once rest es fs r s (subst (λ l. BeginsWith order l es r) same.1 more) cut more' cut' in
+      let head : e ≡ f = entry_once one e f (subst (λ l. IsBuildIdEntry (number_in order) l e) same.0 entry) entry' in
+      let tail : es ≡ fs = begins_once rest es fs r s (subst (λ l. BeginsWithEntries order l es r) same.1 more) cut more' cut' in
       ap (λ d. d ∷ es) head ∙ ap (λ l. f ∷ l) tail
 
-  pub entries_once : (xs : List ℕ) (es fs : List BuildId) → AreEntries order xs es → AreEntries order xs fs → es ≡ fs
+  pub entries_once : (xs : List ℕ) (es fs : List BuildIdEntry) → AreBuildIdEntries order xs es → AreBuildIdEntries order xs fs → es ≡ fs
   entries_once xs es fs (r, begins, cut) (s, begins', cut') = begins_once xs es fs r s begins cut begins' cut'

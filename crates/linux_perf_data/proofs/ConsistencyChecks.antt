@@ -1,4 +1,4 @@
--- How a look at one attribute after the other comes to what holds of all of them.
+-- Lemmas that check attributes one after another and conclude a fact about all of them.
 use Rattle.std.proofs.Common.{◌≡◌, ◌≢◌, ℕ, zero, suc, ◌+◌, ◌<◌, ◌≤◌, ◌++◌, List, [], ◌∷◌, Bool, true, false, length, get_or, take, drop, All, refl, sym, ap, ◌∙◌, subst, arith, take-append-drop, drop-cons, not, eq-eqb, eqb-true, Option, None, Some}
 use Rattle.std.specs.Prelude.{◌&&◌, nat_eq, Result, Ok, Err}
 use Rattle.std.specs.Option.{option_eq}
@@ -6,14 +6,14 @@ use Rattle.std.proofs.lemmas.Bool.{true≢false, false≢true}
 use Rattle.perfdata_base.specs.declared.place.RecordIdParseInfo.{RecordIdParseInfo}
 use Rattle.std.proofs.lemmas.List.{take_more, map_push, map-append, length-take-le}
 use Rattle.std.proofs.lemmas.List.Elements.{All-head, All-tail, All-push, All-cons}
-use Rattle.perfdata_base.specs.Place.{id_places_of}
+use Rattle.perfdata_base.specs.ParseInfo.{id_parse_info_of}
 use Rattle.perfdata_sections.specs.declared.feature_sections.AttributeDescription.{AttributeDescription}
 use Rattle.perfdata_sections.specs.declared.error.Error.{Error}
-use Rattle.linux_perf_data.specs.Attribute.{Attribute, Rule, Conforms, BreaksAt}
-use Rattle.linux_perf_data.specs.Described.{attribute_by, attributes_by}
-use Rattle.linux_perf_data.specs.Rules.{SamePlaces, ChecksEach, ChecksRule}
-use Rattle.linux_perf_data.proofs.Rules.{conforming_rule, agreed}
-use Rattle.linux_perf_data.proofs.KnownIds.{described_counted}
+use Rattle.linux_perf_data.specs.Attribute.{Attribute, AreConsistent, ConformsTo, FirstNonconformingAt}
+use Rattle.linux_perf_data.specs.Descriptions.{described_attribute, described_attributes}
+use Rattle.linux_perf_data.specs.Consistency.{SameIdOffsets, ChecksEach, ChecksConsistency}
+use Rattle.linux_perf_data.proofs.ConsistencyLemmas.{conforming_is_consistent, agreed}
+use Rattle.linux_perf_data.proofs.LookupIds.{described_counted}
 
 take_past : {X : Type 0} (xs : List X) (i : ℕ) → length xs ≤ i → take i xs ≡ xs
 take_past [] zero done = refl
@@ -21,60 +21,60 @@ take_past [] (suc i) done = refl
 take_past (x ∷ xs) zero done = absurd (omega (arith, done))
 take_past (x ∷ xs) (suc i) done = ap (λ l. x ∷ l) (take_past xs i (omega (arith, done)))
 
--- one attribute more
-pub all_more : (P : Attribute → Type 0) (ds : List AttributeDescription) (i : ℕ) (d : AttributeDescription) → i < length ds → d ≡ get_or ds i d → P (attribute_by d)
-    → All P (attributes_by (take i ds)) → All P (attributes_by (take (i + 1) ds))
+-- one more attribute
+pub all_more : (P : Attribute → Type 0) (ds : List AttributeDescription) (i : ℕ) (d : AttributeDescription) → i < length ds → d ≡ get_or ds i d → P (described_attribute d)
+    → All P (described_attributes (take i ds)) → All P (described_attributes (take (i + 1) ds))
 all_more P ds i d inside is one all =
     let more : take (i + 1) ds ≡ take i ds ++ d ∷ [] = take_more ds i d inside ∙ ap (λ x. take i ds ++ x ∷ []) (sym is) in
-    subst (All P) (sym (ap attributes_by more ∙ map_push attribute_by (take i ds) d)) (All-push P (attributes_by (take i ds)) (attribute_by d) all one)
+    subst (All P) (sym (ap described_attributes more ∙ map_push described_attribute (take i ds) d)) (All-push P (described_attributes (take i ds)) (described_attribute d) all one)
 
--- what holds of all holds of each
-pub one_of_all : (P : Attribute → Type 0) (ds : List AttributeDescription) (i : ℕ) (d : AttributeDescription) → i < length ds → d ≡ get_or ds i d → All P (attributes_by ds) → P (attribute_by d)
+-- what holds for all attributes holds for each
+pub one_of_all : (P : Attribute → Type 0) (ds : List AttributeDescription) (i : ℕ) (d : AttributeDescription) → i < length ds → d ≡ get_or ds i d → All P (described_attributes ds) → P (described_attribute d)
 one_of_all P [] i d inside is all = absurd (omega (arith, inside))
-one_of_all P (x ∷ ds) zero d inside is all = subst P (ap attribute_by (sym is)) (All-head P (attribute_by x) (attributes_by ds) all)
-one_of_all P (x ∷ ds) (suc i) d inside is all = one_of_all P ds i d (omega (arith, inside)) is (All-tail P (attribute_by x) (attributes_by ds) all)
+one_of_all P (x ∷ ds) zero d inside is all = subst P (ap described_attribute (sym is)) (All-head P (described_attribute x) (described_attributes ds) all)
+one_of_all P (x ∷ ds) (suc i) d inside is all = one_of_all P ds i d (omega (arith, inside)) is (All-tail P (described_attribute x) (described_attributes ds) all)
 
--- the first that breaks the rule
-pub breaks_here : (first : Attribute) (ds : List AttributeDescription) (i : ℕ) (d : AttributeDescription) (Why : Attribute → Type 0) → i < length ds → d ≡ get_or ds i d → All (Conforms first) (attributes_by (take i ds)) → Why (attribute_by d)
-    → BreaksAt first (attributes_by ds) i Why
-breaks_here first ds i d Why inside is before why =
+-- the first attribute that is inconsistent
+pub inconsistent_here : (first : Attribute) (ds : List AttributeDescription) (i : ℕ) (d : AttributeDescription) (Why : Attribute → Type 0) → i < length ds → d ≡ get_or ds i d → All (ConformsTo first) (described_attributes (take i ds)) → Why (described_attribute d)
+    → FirstNonconformingAt first (described_attributes ds) i Why
+inconsistent_here first ds i d Why inside is before why =
     let next : suc i ≡ i + 1 = omega arith in
     let split : drop i ds ≡ d ∷ drop (i + 1) ds = drop-cons ds i d inside ∙ ap (λ x. x ∷ drop (suc i) ds) (sym is) ∙ ap (λ n. d ∷ drop n ds) next in
     let within : i ≤ length ds = omega (arith, inside) in
     record {
-      front = attributes_by (take i ds);
-      at = attribute_by d;
-      back = attributes_by (drop (i + 1) ds);
-      are = ap attributes_by (sym (take-append-drop i ds) ∙ ap (λ l. take i ds ++ l) split) ∙ map-append attribute_by (take i ds) (d ∷ drop (i + 1) ds);
-      place = described_counted (take i ds) ∙ length-take-le i ds within;
-      before = before;
-      why = why;
+      earlier = described_attributes (take i ds);
+      attribute = described_attribute d;
+      later = described_attributes (drop (i + 1) ds);
+      elements = ap described_attributes (sym (take-append-drop i ds) ∙ ap (λ l. take i ds ++ l) split) ∙ map-append described_attribute (take i ds) (d ∷ drop (i + 1) ds);
+      index_matches = described_counted (take i ds) ∙ length-take-le i ds within;
+      earlier_conform = before;
+      cause = why;
     }
 
--- the places agree with the first attribute's own
-pub agreeing_rule : (ds : List AttributeDescription) (d : AttributeDescription) → 0 < length ds → d ≡ get_or ds 0 d → SamePlaces (attribute_by d) (attributes_by ds) → Rule (attributes_by ds)
-agreeing_rule [] d some is same = tt
-agreeing_rule (x ∷ ds) d some is same =
-    let P = λ (b : Attribute). id_places_of b.attr ≡ id_places_of (attribute_by x).attr in
-    All-tail P (attribute_by x) (attributes_by ds) (subst (λ y. SamePlaces (attribute_by y) (attributes_by (x ∷ ds))) is same)
+-- attributes whose ID offsets agree with those of the first are consistent
+pub agreeing_is_consistent : (ds : List AttributeDescription) (d : AttributeDescription) → 0 < length ds → d ≡ get_or ds 0 d → SameIdOffsets (described_attribute d) (described_attributes ds) → AreConsistent (described_attributes ds)
+agreeing_is_consistent [] d some is same = tt
+agreeing_is_consistent (x ∷ ds) d some is same =
+    let P = λ (b : Attribute). id_parse_info_of b.attr ≡ id_parse_info_of (described_attribute x).attr in
+    All-tail P (described_attribute x) (described_attributes ds) (subst (λ y. SameIdOffsets (described_attribute y) (described_attributes (x ∷ ds))) is same)
 
-rule_agreeing : (x : AttributeDescription) (ds : List AttributeDescription) → Rule (attributes_by (x ∷ ds)) → SamePlaces (attribute_by x) (attributes_by (x ∷ ds))
-rule_agreeing x ds rule = All-cons (λ b. id_places_of b.attr ≡ id_places_of (attribute_by x).attr) (attribute_by x) (attributes_by ds) refl rule
+rule_agreeing : (x : AttributeDescription) (ds : List AttributeDescription) → AreConsistent (described_attributes (x ∷ ds)) → SameIdOffsets (described_attribute x) (described_attributes (x ∷ ds))
+rule_agreeing x ds rule = All-cons (λ b. id_parse_info_of b.attr ≡ id_parse_info_of (described_attribute x).attr) (described_attribute x) (described_attributes ds) refl rule
 
--- Where they don't, a look at each attribute finds a breach: there would be none only if they did.
-pub disagreeing_rule : {A : Type 0} (ds : List AttributeDescription) (d : AttributeDescription) (r : Result A Error) → 0 < length ds → d ≡ get_or ds 0 d → (¬ SamePlaces (attribute_by d) (attributes_by ds)) → ChecksEach (attribute_by d) (attributes_by ds) r
-    → ChecksRule (attributes_by ds) r
-disagreeing_rule [] d (Ok _) some is apart each = tt
-disagreeing_rule [] d (Err e) some is apart each = absurd (omega (arith, some))
-disagreeing_rule (x ∷ ds) d (Ok _) some is apart each = conforming_rule (attribute_by x) (attributes_by ds) (subst (λ y. All (Conforms (attribute_by y)) (attributes_by (x ∷ ds))) is each)
-disagreeing_rule {A = A} (x ∷ ds) d (Err e) some is apart each =
-    let here = subst (λ y. ChecksEach {A = A} (attribute_by y) (attributes_by (x ∷ ds)) (Err e)) is each in
-    (here.0, ((λ rule. apart (subst (λ y. SamePlaces (attribute_by y) (attributes_by (x ∷ ds))) (sym is) (rule_agreeing x ds rule))), here.1), here.2)
+-- If the ID offsets disagree, the check of each attribute finds an inconsistency. Otherwise they would agree.
+pub disagreeing_is_inconsistent : {A : Type 0} (ds : List AttributeDescription) (d : AttributeDescription) (r : Result A Error) → 0 < length ds → d ≡ get_or ds 0 d → (¬ SameIdOffsets (described_attribute d) (described_attributes ds)) → ChecksEach (described_attribute d) (described_attributes ds) r
+    → ChecksConsistency (described_attributes ds) r
+disagreeing_is_inconsistent [] d (Ok _) some is apart each = tt
+disagreeing_is_inconsistent [] d (Err e) some is apart each = absurd (omega (arith, some))
+disagreeing_is_inconsistent (x ∷ ds) d (Ok _) some is apart each = conforming_is_consistent (described_attribute x) (described_attributes ds) (subst (λ y. All (ConformsTo (described_attribute y)) (described_attributes (x ∷ ds))) is each)
+disagreeing_is_inconsistent {A = A} (x ∷ ds) d (Err e) some is apart each =
+    let here = subst (λ y. ChecksEach {A = A} (described_attribute y) (described_attributes (x ∷ ds)) (Err e)) is each in
+    (here.0, ((λ rule. apart (subst (λ y. SameIdOffsets (described_attribute y) (described_attributes (x ∷ ds))) (sym is) (rule_agreeing x ds rule))), here.1), here.2)
 
-pub all_taken : (P : Attribute → Type 0) (ds : List AttributeDescription) (i : ℕ) → length ds ≤ i → All P (attributes_by (take i ds)) → All P (attributes_by ds)
-all_taken P ds i done all = subst (λ l. All P (attributes_by l)) (take_past ds i done) all
+pub all_taken : (P : Attribute → Type 0) (ds : List AttributeDescription) (i : ℕ) → length ds ≤ i → All P (described_attributes (take i ds)) → All P (described_attributes ds)
+all_taken P ds i done all = subst (λ l. All P (described_attributes l)) (take_past ds i done) all
 
--- What a test of two places tells.
+-- A successful comparison of two offsets makes them equal.
 
 same_options : (p q : Option ℕ) → option_eq nat_eq p q ≡ true → p ≡ q
 same_options None None e = refl
@@ -91,13 +91,13 @@ both_true true true e = (refl, refl)
 both_true true false e = absurd (true≢false e)
 both_true false b e = absurd (true≢false e)
 
-pub places_equal : (p q : RecordIdParseInfo) → not (option_eq nat_eq p.sample_id_from_start q.sample_id_from_start && option_eq nat_eq p.other_id_from_end q.other_id_from_end) ≡ false → p ≡ q
-places_equal p q e =
+pub offsets_equal : (p q : RecordIdParseInfo) → not (option_eq nat_eq p.sample_id_from_start q.sample_id_from_start && option_eq nat_eq p.other_id_from_end q.other_id_from_end) ≡ false → p ≡ q
+offsets_equal p q e =
     let both = both_true (option_eq nat_eq p.sample_id_from_start q.sample_id_from_start) (option_eq nat_eq p.other_id_from_end q.other_id_from_end) e in
     agreed p q (same_options p.sample_id_from_start q.sample_id_from_start both.0) (same_options p.other_id_from_end q.other_id_from_end both.1)
 
-pub places_apart : (p q : RecordIdParseInfo) → not (option_eq nat_eq p.sample_id_from_start q.sample_id_from_start && option_eq nat_eq p.other_id_from_end q.other_id_from_end) ≡ true → p ≢ q
-places_apart p q e same =
+pub offsets_apart : (p q : RecordIdParseInfo) → not (option_eq nat_eq p.sample_id_from_start q.sample_id_from_start && option_eq nat_eq p.other_id_from_end q.other_id_from_end) ≡ true → p ≢ q
+offsets_apart p q e same =
     let starts : option_eq nat_eq p.sample_id_from_start q.sample_id_from_start ≡ true = ap (λ r. option_eq nat_eq p.sample_id_from_start r.sample_id_from_start) (sym same) ∙ own_options p.sample_id_from_start in
     let ends : option_eq nat_eq p.other_id_from_end q.other_id_from_end ≡ true = ap (λ r. option_eq nat_eq p.other_id_from_end r.other_id_from_end) (sym same) ∙ own_options p.other_id_from_end in
     false≢true (sym (ap (λ b. not (b && true)) starts) ∙ sym (ap (λ b. not (option_eq nat_eq p.sample_id_from_start q.sample_id_from_start && b)) ends) ∙ e)

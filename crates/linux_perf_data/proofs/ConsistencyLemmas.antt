@@ -1,85 +1,85 @@
--- The rule of attributes: closed under fronts, decided, and broken at one place at most.
+-- Attribute consistency is closed under prefixes and decidable, and an inconsistency is unique.
 use Rattle.std.proofs.Common.{◌≡◌, ◌≢◌, ◌==◌, ℕ, suc, ◌+◌, ◌-◌, ◌*◌, ◌++◌, List, [], ◌∷◌, Bool, true, false, cond, not, nat_lt, length, drop, get_or, filter, option_map, All, refl, sym, ap, ◌∙◌, subst, arith, inl, inr}
 use Rattle.std.specs.Prelude.{◌⊎◌, if◌then◌else◌, Option, None, Some}
 use Rattle.std.specs.List.{position_or_len}
 use Rattle.std.proofs.Math.Seq.{take-append_seam}
 use Rattle.std.proofs.lemmas.Bool.{cases_eq, cases_lt, cases_Bool, cond-true, cond-false, lt-ltb, le-ltb, true≢false, false≢true}
 use Rattle.std.proofs.lemmas.List.Elements.{All-nil, All-cons, All-head, All-tail, All-take, All-weaker}
-use Rattle.perfdata_base.specs.Place.{is_set, sample_words, trailing_words, from_start, from_end, identifier_word, id_places_of}
+use Rattle.perfdata_base.specs.ParseInfo.{is_set, sample_words, trailing_words, offset_from_start, offset_from_end, identifier_word, id_parse_info_of}
 use Rattle.perfdata_base.specs.declared.attr.PerfEventAttr.{PerfEventAttr}
 use Rattle.perfdata_base.specs.declared.place.RecordIdParseInfo.{RecordIdParseInfo}
-use Rattle.linux_perf_data.specs.Attribute.{Attribute, Rule, Breach, lacks_identifier, differs_about_trailing, has_identifier, has_trailing, Conforms, BreaksAt, BreachOf, Breaks}
+use Rattle.linux_perf_data.specs.Attribute.{Attribute, AreConsistent, Inconsistency, missing_identifier, sample_id_all_differs, has_identifier, has_sample_id_all, ConformsTo, FirstNonconformingAt, FirstInconsistency, AreInconsistent}
 
--- a front of attributes that keep the rule keeps it
-pub rule_front : (fs bs : List Attribute) → Rule (fs ++ bs) → Rule fs
-rule_front [] bs rule = tt
-rule_front (a ∷ fs) bs rule =
-    let Same = λ (b : Attribute). id_places_of b.attr ≡ id_places_of a.attr in
+-- a prefix of consistent attributes is consistent
+pub consistent_prefix : (fs bs : List Attribute) → AreConsistent (fs ++ bs) → AreConsistent fs
+consistent_prefix [] bs rule = tt
+consistent_prefix (a ∷ fs) bs rule =
+    let Same = λ (b : Attribute). id_parse_info_of b.attr ≡ id_parse_info_of a.attr in
     subst (All Same) (take-append_seam fs bs) (All-take Same (length fs) (fs ++ bs) rule)
 
-pub rule_unbroken : (attrs : List Attribute) (b : Breach) → Rule attrs → Breaks attrs b → ⊥
-rule_unbroken [] b rule breaks = breaks
-rule_unbroken (a ∷ more) b rule breaks = breaks.0 rule
+pub consistent_not_inconsistent : (attrs : List Attribute) (b : Inconsistency) → AreConsistent attrs → AreInconsistent attrs b → ⊥
+consistent_not_inconsistent [] b rule breaks = breaks
+consistent_not_inconsistent (a ∷ more) b rule breaks = breaks.0 rule
 
--- The first attribute that doesn't conform is one.
+-- The first attribute that doesn't conform is unique.
 
-pub head_same : {X : Type 0} (x y : X) (xs ys : List X) → x ∷ xs ≡ y ∷ ys → x ≡ y
-head_same x y xs ys e = ap (λ l. get_or l 0 x) e
+pub first_same : {X : Type 0} (x y : X) (xs ys : List X) → x ∷ xs ≡ y ∷ ys → x ≡ y
+first_same x y xs ys e = ap (λ l. get_or l 0 x) e
 
 pub tail_same : {X : Type 0} (x y : X) (xs ys : List X) → x ∷ xs ≡ y ∷ ys → xs ≡ ys
 tail_same x y xs ys e = ap (drop 1) e
 
 first_one : (P : Attribute → Type 0) (front front' back back' : List Attribute) (at at' : Attribute) → front ++ at ∷ back ≡ front' ++ at' ∷ back'
     → All P front → All P front' → ¬ P at → ¬ P at' → (length front ≡ length front') × (at ≡ at')
-first_one P [] [] back back' at at' e before before' bad bad' = (refl, head_same at at' back back' e)
+first_one P [] [] back back' at at' e before before' bad bad' = (refl, first_same at at' back back' e)
 first_one P [] (x ∷ xs) back back' at at' e before before' bad bad' =
-    absurd (bad (subst P (sym (head_same at x back (xs ++ at' ∷ back') e)) (All-head P x xs before')))
+    absurd (bad (subst P (sym (first_same at x back (xs ++ at' ∷ back') e)) (All-head P x xs before')))
 first_one P (x ∷ xs) [] back back' at at' e before before' bad bad' =
-    absurd (bad' (subst P (head_same x at' (xs ++ at ∷ back) back' e) (All-head P x xs before)))
+    absurd (bad' (subst P (first_same x at' (xs ++ at ∷ back) back' e) (All-head P x xs before)))
 first_one P (x ∷ xs) (y ∷ ys) back back' at at' e before before' bad bad' =
     let r = first_one P xs ys back back' at at' (tail_same x y (xs ++ at ∷ back) (ys ++ at' ∷ back') e) (All-tail P x xs before) (All-tail P y ys before') bad bad' in
     (ap suc r.0, r.1)
 
-breaks_one : (first : Attribute) (attrs : List Attribute) (i j : ℕ) (V W : Attribute → Type 0) → ((a : Attribute) → V a → ¬ Conforms first a) → ((a : Attribute) → W a → ¬ Conforms first a)
-    → (x : BreaksAt first attrs i V) → (y : BreaksAt first attrs j W) → (i ≡ j) × (x.at ≡ y.at)
+breaks_one : (first : Attribute) (attrs : List Attribute) (i j : ℕ) (V W : Attribute → Type 0) → ((a : Attribute) → V a → ¬ ConformsTo first a) → ((a : Attribute) → W a → ¬ ConformsTo first a)
+    → (x : FirstNonconformingAt first attrs i V) → (y : FirstNonconformingAt first attrs j W) → (i ≡ j) × (x.attribute ≡ y.attribute)
 breaks_one first attrs i j V W v w x y =
-    let r = first_one (Conforms first) x.front y.front x.back y.back x.at y.at (sym x.are ∙ y.are) x.before y.before (v x.at x.why) (w y.at y.why) in
-    (sym x.place ∙ r.0 ∙ y.place, r.1)
+    let r = first_one (ConformsTo first) x.earlier y.earlier x.later y.later x.attribute y.attribute (sym x.elements ∙ y.elements) x.earlier_conform y.earlier_conform (v x.attribute x.cause) (w y.attribute y.cause) in
+    (sym x.index_matches ∙ r.0 ∙ y.index_matches, r.1)
 
 abbrev Lacks : Attribute → Type 0
 Lacks a = has_identifier a ≡ false
 
 abbrev Differs : Attribute → Attribute → Type 0
-Differs first a = (has_identifier a ≡ true) × (has_trailing a ≢ has_trailing first)
+Differs first a = (has_identifier a ≡ true) × (has_sample_id_all a ≢ has_sample_id_all first)
 
-lacks_not : (first a : Attribute) → Lacks a → ¬ Conforms first a
+lacks_not : (first a : Attribute) → Lacks a → ¬ ConformsTo first a
 lacks_not first a lacks conforms = true≢false (sym conforms.0 ∙ lacks)
 
-differs_not : (first a : Attribute) → Differs first a → ¬ Conforms first a
+differs_not : (first a : Attribute) → Differs first a → ¬ ConformsTo first a
 differs_not first a differs conforms = differs.1 conforms.1
 
-breach_of_one : (first : Attribute) (attrs : List Attribute) (b c : Breach) → BreachOf first attrs b → BreachOf first attrs c → b ≡ c
-breach_of_one first attrs (lacks_identifier i) (lacks_identifier j) x y =
-    ap lacks_identifier (breaks_one first attrs i j Lacks Lacks (lacks_not first) (lacks_not first) x y).0
-breach_of_one first attrs (lacks_identifier i) (differs_about_trailing j) x y =
+breach_of_one : (first : Attribute) (attrs : List Attribute) (b c : Inconsistency) → FirstInconsistency first attrs b → FirstInconsistency first attrs c → b ≡ c
+breach_of_one first attrs (missing_identifier i) (missing_identifier j) x y =
+    ap missing_identifier (breaks_one first attrs i j Lacks Lacks (lacks_not first) (lacks_not first) x y).0
+breach_of_one first attrs (missing_identifier i) (sample_id_all_differs j) x y =
     let r = breaks_one first attrs i j Lacks (Differs first) (lacks_not first) (differs_not first) x y in
-    absurd (true≢false (sym (y.why.0) ∙ ap has_identifier (sym r.1) ∙ x.why))
-breach_of_one first attrs (differs_about_trailing i) (lacks_identifier j) x y =
+    absurd (true≢false (sym (y.cause.0) ∙ ap has_identifier (sym r.1) ∙ x.cause))
+breach_of_one first attrs (sample_id_all_differs i) (missing_identifier j) x y =
     let r = breaks_one first attrs i j (Differs first) Lacks (differs_not first) (lacks_not first) x y in
-    absurd (true≢false (sym (x.why.0) ∙ ap has_identifier r.1 ∙ y.why))
-breach_of_one first attrs (differs_about_trailing i) (differs_about_trailing j) x y =
-    ap differs_about_trailing (breaks_one first attrs i j (Differs first) (Differs first) (differs_not first) (differs_not first) x y).0
+    absurd (true≢false (sym (x.cause.0) ∙ ap has_identifier r.1 ∙ y.cause))
+breach_of_one first attrs (sample_id_all_differs i) (sample_id_all_differs j) x y =
+    ap sample_id_all_differs (breaks_one first attrs i j (Differs first) (Differs first) (differs_not first) (differs_not first) x y).0
 
--- the breach of attributes is one
-pub breach_one : (attrs : List Attribute) (b c : Breach) → Breaks attrs b → Breaks attrs c → b ≡ c
-breach_one [] b c x y = absurd x
-breach_one (a ∷ more) b c x y = breach_of_one a (a ∷ more) b c x.1 y.1
+-- the inconsistency of attributes is unique
+pub inconsistency_is_unique : (attrs : List Attribute) (b c : Inconsistency) → AreInconsistent attrs b → AreInconsistent attrs c → b ≡ c
+inconsistency_is_unique [] b c x y = absurd x
+inconsistency_is_unique (a ∷ more) b c x y = breach_of_one a (a ∷ more) b c x.1 y.1
 
--- Where all records have IDENTIFIER, their identifiers stand at the body's start, and eight bytes before its end where
--- trailing words are told.
+-- If all records have IDENTIFIER, their identifiers are at the start of the body, and eight bytes before its end if the sample_id
+-- fields are present.
 
 abbrev TellsEight : List ℕ → Type 0
-TellsEight words = from_end words 16 ≡ Some 8
+TellsEight words = offset_from_end words 16 ≡ Some 8
 
 none_or_some : (n : ℕ) → ◌≡◌ {A = Option ℕ} None (Some n) → ⊥
 none_or_some n e = cc
@@ -112,44 +112,44 @@ trailing_told : (format : ℕ) → is_set format 16 ≡ true → TellsEight (fil
 trailing_told format is =
     kept_word (is_set format 1) 1 _ refl (kept_word (is_set format 2) 2 _ refl (kept_word (is_set format 6) 6 _ refl (kept_word (is_set format 9) 9 _ refl (kept_word (is_set format 7) 7 _ refl (last_word (is_set format 16) is)))))
 
-end_told : (t : Bool) (words : List ℕ) → TellsEight words → from_end (if t then words else []) 16 ≡ (if t then Some 8 else None)
+end_told : (t : Bool) (words : List ℕ) → TellsEight words → offset_from_end (if t then words else []) 16 ≡ (if t then Some 8 else None)
 end_told true words told = told
 end_told false words told = refl
 
-start_here : (words : List ℕ) → from_start (16 ∷ words) 16 ≡ Some 0
+start_here : (words : List ℕ) → offset_from_start (16 ∷ words) 16 ≡ Some 0
 start_here words = ap (option_map (λ i. 8 * i)) (cond-true (nat_lt 0 (suc (length words))) (Some 0) None (lt-ltb 0 (suc (length words)) (omega arith)))
 
-start_told : (b : Bool) (words : List ℕ) → b ≡ true → from_start (cond b (16 ∷ words) words) 16 ≡ Some 0
-start_told b words is = subst (λ c. from_start (cond c (16 ∷ words) words) 16 ≡ Some 0) (sym is) (start_here words)
+start_told : (b : Bool) (words : List ℕ) → b ≡ true → offset_from_start (cond b (16 ∷ words) words) 16 ≡ Some 0
+start_told b words is = subst (λ c. offset_from_start (cond c (16 ∷ words) words) 16 ≡ Some 0) (sym is) (start_here words)
 
 word_told : (b : Bool) → b ≡ true → ◌≡◌ {A = ℕ} (if b then 16 else 6) 16
 word_told b is = ap (λ c. if c then 16 else 6) is
 
-abbrev pub told_places : Bool → RecordIdParseInfo
-told_places trailing = record { sample_id_from_start = Some 0; other_id_from_end = if trailing then Some 8 else None }
+abbrev pub word_list_offsets : Bool → RecordIdParseInfo
+word_list_offsets trailing = record { sample_id_from_start = Some 0; other_id_from_end = if trailing then Some 8 else None }
 
-pub places_told : (a : PerfEventAttr) → is_set a.sample_format.0 16 ≡ true → id_places_of a ≡ told_places (is_set a.flags.0 18)
-places_told a is =
+pub offsets_word_list : (a : PerfEventAttr) → is_set a.sample_format.0 16 ≡ true → id_parse_info_of a ≡ word_list_offsets (is_set a.flags.0 18)
+offsets_word_list a is =
     let format = a.sample_format.0 in
     let trailing = trailing_words format a.flags.0 in
-    let start : from_start (sample_words format) (identifier_word format) ≡ Some 0 =
-    ap (from_start (sample_words format)) (word_told (is_set format 16) is) ∙ start_told (is_set format 16) (filter (is_set format) (0 ∷ 1 ∷ 2 ∷ 3 ∷ 6 ∷ [])) is in
-    let back : from_end trailing (identifier_word format) ≡ (if is_set a.flags.0 18 then Some 8 else None) =
-    ap (from_end trailing) (word_told (is_set format 16) is) ∙ end_told (is_set a.flags.0 18) (filter (is_set format) (1 ∷ 2 ∷ 6 ∷ 9 ∷ 7 ∷ 16 ∷ [])) (trailing_told format is) in
-    let first : id_places_of a ≡ record { sample_id_from_start = Some 0; other_id_from_end = from_end trailing (identifier_word format) } =
-    ap (λ x. record { sample_id_from_start = x; other_id_from_end = from_end trailing (identifier_word format) }) start in
+    let start : offset_from_start (sample_words format) (identifier_word format) ≡ Some 0 =
+    ap (offset_from_start (sample_words format)) (word_told (is_set format 16) is) ∙ start_told (is_set format 16) (filter (is_set format) (0 ∷ 1 ∷ 2 ∷ 3 ∷ 6 ∷ [])) is in
+    let back : offset_from_end trailing (identifier_word format) ≡ (if is_set a.flags.0 18 then Some 8 else None) =
+    ap (offset_from_end trailing) (word_told (is_set format 16) is) ∙ end_told (is_set a.flags.0 18) (filter (is_set format) (1 ∷ 2 ∷ 6 ∷ 9 ∷ 7 ∷ 16 ∷ [])) (trailing_told format is) in
+    let first : id_parse_info_of a ≡ record { sample_id_from_start = Some 0; other_id_from_end = offset_from_end trailing (identifier_word format) } =
+    ap (λ x. record { sample_id_from_start = x; other_id_from_end = offset_from_end trailing (identifier_word format) }) start in
     first ∙ ap (λ x. record { sample_id_from_start = Some 0; other_id_from_end = x }) back
 
-pub same_places : (first a : Attribute) → has_identifier first ≡ true → Conforms first a → id_places_of a.attr ≡ id_places_of first.attr
-same_places first a has conforms = places_told a.attr conforms.0 ∙ ap told_places conforms.1 ∙ sym (places_told first.attr has)
+pub same_offsets : (first a : Attribute) → has_identifier first ≡ true → ConformsTo first a → id_parse_info_of a.attr ≡ id_parse_info_of first.attr
+same_offsets first a has conforms = offsets_word_list a.attr conforms.0 ∙ ap word_list_offsets conforms.1 ∙ sym (offsets_word_list first.attr has)
 
--- attributes that all conform keep the rule
-pub conforming_rule : (a : Attribute) (more : List Attribute) → All (Conforms a) (a ∷ more) → Rule (a ∷ more)
-conforming_rule a more all =
-    let has = (All-head (Conforms a) a more all).0 in
-    All-weaker (Conforms a) (λ b. id_places_of b.attr ≡ id_places_of a.attr) (λ b conforms. same_places a b has conforms) more (All-tail (Conforms a) a more all)
+-- attributes that all conform are consistent
+pub conforming_is_consistent : (a : Attribute) (more : List Attribute) → All (ConformsTo a) (a ∷ more) → AreConsistent (a ∷ more)
+conforming_is_consistent a more all =
+    let has = (All-head (ConformsTo a) a more all).0 in
+    All-weaker (ConformsTo a) (λ b. id_parse_info_of b.attr ≡ id_parse_info_of a.attr) (λ b conforms. same_offsets a b has conforms) more (All-tail (ConformsTo a) a more all)
 
--- Whether attributes keep the rule is decided, and those that break it have a first that does.
+-- Consistency is decidable, and inconsistent attributes have a first one that doesn't conform.
 
 same_or_not : (p q : Option ℕ) → (p ≡ q) ⊎ (p ≢ q)
 same_or_not None None = inl refl
@@ -187,48 +187,48 @@ same_bits true false = inr true≢false
 same_bits false true = inr false≢true
 same_bits false false = inl refl
 
-conforms_or : (first a : Attribute) → Conforms first a ⊎ (Lacks a ⊎ Differs first a)
+conforms_or : (first a : Attribute) → ConformsTo first a ⊎ (Lacks a ⊎ Differs first a)
 conforms_or first a = elim (cases_Bool (has_identifier a)) [
   | inr lacks ↦ inr (inl lacks)
-  | inl has ↦ elim (same_bits (has_trailing a) (has_trailing first)) [ inl same ↦ inl (has, same) | inr differs ↦ inr (inr (has, differs)) ]
+  | inl has ↦ elim (same_bits (has_sample_id_all a) (has_sample_id_all first)) [ inl same ↦ inl (has, same) | inr differs ↦ inr (inr (has, differs)) ]
 ]
 
-later_breach : (first a : Attribute) (attrs : List Attribute) (i : ℕ) (W : Attribute → Type 0) → Conforms first a → BreaksAt first attrs i W → BreaksAt first (a ∷ attrs) (suc i) W
+later_breach : (first a : Attribute) (attrs : List Attribute) (i : ℕ) (W : Attribute → Type 0) → ConformsTo first a → FirstNonconformingAt first attrs i W → FirstNonconformingAt first (a ∷ attrs) (suc i) W
 later_breach first a attrs i W conforms breaks = record {
-  front = a ∷ breaks.front;
-  at = breaks.at;
-  back = breaks.back;
-  are = ap (λ l. a ∷ l) breaks.are;
-  place = ap suc breaks.place;
-  before = All-cons (Conforms first) a breaks.front conforms breaks.before;
-  why = breaks.why;
+  earlier = a ∷ breaks.earlier;
+  attribute = breaks.attribute;
+  later = breaks.later;
+  elements = ap (λ l. a ∷ l) breaks.elements;
+  index_matches = ap suc breaks.index_matches;
+  earlier_conform = All-cons (ConformsTo first) a breaks.earlier conforms breaks.earlier_conform;
+  cause = breaks.cause;
 }
 
-first_breach : (first a : Attribute) (attrs : List Attribute) (W : Attribute → Type 0) → W a → BreaksAt first (a ∷ attrs) 0 W
-first_breach first a attrs W why = record { front = []; at = a; back = attrs; are = refl; place = refl; before = All-nil (Conforms first); why = why }
+first_breach : (first a : Attribute) (attrs : List Attribute) (W : Attribute → Type 0) → W a → FirstNonconformingAt first (a ∷ attrs) 0 W
+first_breach first a attrs W why = record { earlier = []; attribute = a; later = attrs; elements = refl; index_matches = refl; earlier_conform = All-nil (ConformsTo first); cause = why }
 
-later : (first a : Attribute) (attrs : List Attribute) (b : Breach) → Conforms first a → BreachOf first attrs b → (c : Breach) × BreachOf first (a ∷ attrs) c
-later first a attrs (lacks_identifier i) conforms breaks = (lacks_identifier (suc i), later_breach first a attrs i Lacks conforms breaks)
-later first a attrs (differs_about_trailing i) conforms breaks = (differs_about_trailing (suc i), later_breach first a attrs i (Differs first) conforms breaks)
+later : (first a : Attribute) (attrs : List Attribute) (b : Inconsistency) → ConformsTo first a → FirstInconsistency first attrs b → (c : Inconsistency) × FirstInconsistency first (a ∷ attrs) c
+later first a attrs (missing_identifier i) conforms breaks = (missing_identifier (suc i), later_breach first a attrs i Lacks conforms breaks)
+later first a attrs (sample_id_all_differs i) conforms breaks = (sample_id_all_differs (suc i), later_breach first a attrs i (Differs first) conforms breaks)
 
-find_breach : (first : Attribute) (attrs : List Attribute) → All (Conforms first) attrs ⊎ ((b : Breach) × BreachOf first attrs b)
-find_breach first [] = inl (All-nil (Conforms first))
+find_breach : (first : Attribute) (attrs : List Attribute) → All (ConformsTo first) attrs ⊎ ((b : Inconsistency) × FirstInconsistency first attrs b)
+find_breach first [] = inl (All-nil (ConformsTo first))
 find_breach first (a ∷ attrs) = elim (conforms_or first a) [
-  | inr (inl lacks) ↦ inr (lacks_identifier 0, first_breach first a attrs Lacks lacks)
-  | inr (inr differs) ↦ inr (differs_about_trailing 0, first_breach first a attrs (Differs first) differs)
+  | inr (inl lacks) ↦ inr (missing_identifier 0, first_breach first a attrs Lacks lacks)
+  | inr (inr differs) ↦ inr (sample_id_all_differs 0, first_breach first a attrs (Differs first) differs)
   | inl conforms ↦ elim (find_breach first attrs) [
-    | inl all ↦ inl (All-cons (Conforms first) a attrs conforms all)
+    | inl all ↦ inl (All-cons (ConformsTo first) a attrs conforms all)
     | inr found ↦ inr (later first a attrs found.0 conforms found.1)
   ]
 ]
 
--- attributes keep the rule or break it
-pub rule_or_breach : (attrs : List Attribute) → Rule attrs ⊎ ((b : Breach) × Breaks attrs b)
-rule_or_breach [] = inl tt
-rule_or_breach (a ∷ more) = elim (all_or_not (λ b. id_places_of b.attr ≡ id_places_of a.attr) (λ b. agree_or_not (id_places_of b.attr) (id_places_of a.attr)) more) [
+-- attributes are consistent or inconsistent
+pub consistent_or_not : (attrs : List Attribute) → AreConsistent attrs ⊎ ((b : Inconsistency) × AreInconsistent attrs b)
+consistent_or_not [] = inl tt
+consistent_or_not (a ∷ more) = elim (all_or_not (λ b. id_parse_info_of b.attr ≡ id_parse_info_of a.attr) (λ b. agree_or_not (id_parse_info_of b.attr) (id_parse_info_of a.attr)) more) [
   | inl rule ↦ inl rule
   | inr broken ↦ elim (find_breach a (a ∷ more)) [
-    | inl all ↦ absurd (broken (conforming_rule a more all))
+    | inl all ↦ absurd (broken (conforming_is_consistent a more all))
     | inr found ↦ inr (found.0, (broken, found.1))
   ]
 ]

@@ -1,37 +1,37 @@
--- Two refusals of one file have one cause: what an opening meets first is one thing.
+-- Two errors of one file have the same cause, because the first error of an opening is unique.
 use Rattle.std.proofs.Common.{◌≡◌, ℕ, ◌+◌, ◌-◌, ◌*◌, ◌<◌, List, [], ◌∷◌, ◌++◌, length, drop, refl, sym, ap, ◌∙◌, subst, inl, inr, arith, Option, None, Some}
 use Rattle.std.proofs.lemmas.Bool.{cases_lt}
-use Rattle.perfdata_base.specs.Numbers.{number_in}
+use Rattle.perfdata_base.specs.Endian.{number_in}
 use Rattle.perfdata_base.specs.declared.section.PerfFileSection.{PerfFileSection}
 use Rattle.perfdata_base.specs.declared.raw.Endianness.{Endianness}
 use Rattle.perfdata_base.specs.declared.header.PerfHeader.{PerfHeader}
 use Rattle.perfdata_base.proofs.Numbers.{in_reads_first}
 use Rattle.perfdata_sections.specs.AttributeDescription.{attr_in, ids_in}
-use Rattle.perfdata_sections.specs.Attributes.{IsNoFrame, IsDescribed}
-use Rattle.perfdata_sections.specs.EventTypes.{name_at, IsEntry, IsNoEntry, IsNoIds, Given, NoEntries, StopsAtEntry, StopsAtIds}
-use Rattle.perfdata_sections.specs.Run.{Run}
+use Rattle.perfdata_sections.specs.AttrFrames.{IsFrameError, IsPlainDescription}
+use Rattle.perfdata_sections.specs.EventTypes.{type_name_at, IsEventTypeEntry, IsEventTypeEntryError, IsSectionIdsError, AreEntryDescriptions, IsEntriesError, ErrorAtEntry, ErrorAtIds}
+use Rattle.perfdata_sections.specs.Items.{ItemsAt}
 use Rattle.perfdata_sections.specs.declared.feature_sections.AttributeDescription.{AttributeDescription}
 use Rattle.perfdata_sections.specs.declared.error.Error.{Error}
 use Rattle.perfdata_sections.specs.declared.error.Error.TheVariants.{StringUtf8, NoEventTypesInSimpleperfMetaInfo}
-use Rattle.perfdata_sections.proofs.EventRefusals.{Alike, frame_refused, desc_refused}
-use Rattle.linux_perf_data.specs.Attribute.{Breaks}
-use Rattle.linux_perf_data.specs.AttributeSources.{NamesNone, StopsAtSections, StopsAtSection, StopsWith}
-use Rattle.linux_perf_data.specs.Described.{attributes_by}
-use Rattle.linux_perf_data.specs.Laws.{SameCause, OneRefusalOfFile}
-use Rattle.linux_perf_data.specs.Open.{section_data, StopsAtAttributes, StopsBehind}
-use Rattle.linux_perf_data.specs.Rules.{error_of_breach}
-use Rattle.linux_perf_data.proofs.FileStands.{Entry, run_at, run_one, frame_stands, entry_one, entry_stands, ids_stand, names_stand, with_alike, with_stands, holds_or_lacks, header_one, cut_header, far_header, other_magic}
-use Rattle.linux_perf_data.proofs.OneOpening.{same_order}
-use Rattle.linux_perf_data.proofs.Rules.{breach_one, head_same, tail_same}
+use Rattle.perfdata_sections.proofs.EventErrors.{Alike, frame_error, desc_error}
+use Rattle.linux_perf_data.specs.Attribute.{AreInconsistent}
+use Rattle.linux_perf_data.specs.AttributeSources.{IsMetaInfoError, IsSectionsError, IsAttrSectionError, IsSourcesErrorWith}
+use Rattle.linux_perf_data.specs.Descriptions.{described_attributes}
+use Rattle.linux_perf_data.specs.Laws.{SameCause, FileErrorIsUnique}
+use Rattle.linux_perf_data.specs.FileOpening.{section_data, IsAttributesError, IsErrorAfterHeader}
+use Rattle.linux_perf_data.specs.Consistency.{error_of_inconsistency}
+use Rattle.linux_perf_data.proofs.DescribedFiles.{Entry, run_at, run_one, frame_stands, entry_one, entry_stands, ids_stand, names_stand, with_alike, with_stands, holds_or_lacks, header_one, truncated_header_fails, far_header_fails, unknown_magic_fails}
+use Rattle.linux_perf_data.proofs.PipeOpeningUniqueness.{same_order}
+use Rattle.linux_perf_data.proofs.ConsistencyLemmas.{inconsistency_is_unique, first_same, tail_same}
 
--- ---- things one behind another
+-- ---- consecutive items
 
--- Behind each of two runs none stands: then they are of one length, and it is one place.
+-- If no item follows either of two runs, the runs have the same length and end at the same offset.
 module _ {D : Type 0} (IsOne : List ℕ → D → Type 0) (step : ℕ) (all : List ℕ) (IsNot : Error → List ℕ → Type 0) (apart : (e : Error) (xs : List ℕ) (d : D) → IsOne xs d → IsNot e xs → ⊥) where
-  run_goes_on : (e : Error) (at n : ℕ) (ds : List D) → Run IsOne step all at ds → n < length ds → IsNot e (drop (at + n * step) all) → ⊥
+  run_goes_on : (e : Error) (at n : ℕ) (ds : List D) → ItemsAt IsOne step all at ds → n < length ds → IsNot e (drop (at + n * step) all) → ⊥
   run_goes_on e at n ds run few none = let here = run_at IsOne step all n at ds run few in apart e (drop (at + n * step) all) here.0 here.1 none
 
-  run_refused : (e f : Error) (at : ℕ) (ds es : List D) → Run IsOne step all at ds → Run IsOne step all at es → IsNot e (drop (at + length ds * step) all) → IsNot f (drop (at + length es * step) all)
+  run_refused : (e f : Error) (at : ℕ) (ds es : List D) → ItemsAt IsOne step all at ds → ItemsAt IsOne step all at es → IsNot e (drop (at + length ds * step) all) → IsNot f (drop (at + length es * step) all)
       → ((xs : List ℕ) → IsNot e xs → IsNot f xs → Alike e f) → Alike e f
   run_refused e f at ds es x y none none' alike = elim (cases_lt (length ds) (length es)) [
     | inl few ↦ absurd (run_goes_on e at (length ds) es y few none)
@@ -46,67 +46,67 @@ module _ {D : Type 0} (IsOne : List ℕ → D → Type 0) (step : ℕ) (all : Li
 module _ (number : ℕ → List ℕ → ℕ) where
   -- ---- entries
 
-  entry_refused : (size : ℕ) (e f : Error) (xs : List ℕ) → IsNoEntry number size e xs → IsNoEntry number size f xs → Alike e f
-  entry_refused size e f xs (inl x) (inl y) = inl (frame_refused number size e f xs x y)
+  entry_refused : (size : ℕ) (e f : Error) (xs : List ℕ) → IsEventTypeEntryError number size e xs → IsEventTypeEntryError number size f xs → Alike e f
+  entry_refused size e f xs (inl x) (inl y) = inl (frame_error number size e f xs x y)
   entry_refused size e f xs (inl x) (inr (framed, short, few)) = absurd (frame_stands number size e xs framed.0 framed.1 x)
   entry_refused size e f xs (inr (framed, short, few)) (inl y) = absurd (frame_stands number size f xs framed.0 framed.1 y)
   entry_refused size e f xs (inr (framed, short, few)) (inr (framed', short', few')) = inr (short, short')
 
-  ids_refused : (e f : Error) (s : PerfFileSection) (all : List ℕ) → IsNoIds number e s all → IsNoIds number f s all → Alike e f
+  ids_refused : (e f : Error) (s : PerfFileSection) (all : List ℕ) → IsSectionIdsError number e s all → IsSectionIdsError number f s all → Alike e f
   ids_refused e f s all (inl (far, read)) (inl (far', read')) = inl (read ∙ sym read')
   ids_refused e f s all (inl (far, read)) (inr (near, short, few)) = absurd (omega (arith, far, near))
   ids_refused e f s all (inr (near, short, few)) (inl (far, read)) = absurd (omega (arith, far, near))
   ids_refused e f s all (inr (near, short, few)) (inr (near', short', few')) = inr (short, short')
 
   module _ (all : List ℕ) (names others : ℕ → Option (List ℕ)) where
-    -- of entries that are described one by one, the first whose ids aren't there is one
-    given_refused : (e f : Error) (i : ℕ) (xs ys ws zs : List Entry) (x y : Entry) (ds es : List AttributeDescription) → xs ++ x ∷ ws ≡ ys ++ y ∷ zs → Given number (Some all) names i xs ds → Given number (Some all) others i ys es
-        → IsNoIds number e x.ids all → IsNoIds number f y.ids all → Alike e f
+    -- The first entry whose IDs are out of bounds is unique.
+    given_refused : (e f : Error) (i : ℕ) (xs ys ws zs : List Entry) (x y : Entry) (ds es : List AttributeDescription) → xs ++ x ∷ ws ≡ ys ++ y ∷ zs → AreEntryDescriptions number (Some all) names i xs ds → AreEntryDescriptions number (Some all) others i ys es
+        → IsSectionIdsError number e x.ids all → IsSectionIdsError number f y.ids all → Alike e f
     given_refused e f i [] [] ws zs x y ds es same given given' none none' =
-        ids_refused e f y.ids all (subst (λ (t : Entry). IsNoIds number e t.ids all) (head_same x y ws zs same) none) none'
+        ids_refused e f y.ids all (subst (λ (t : Entry). IsSectionIdsError number e t.ids all) (first_same x y ws zs same) none) none'
     given_refused e f i [] (t ∷ ys) ws zs x y ds [] same given given' none none' = absurd given'
     given_refused e f i [] (t ∷ ys) ws zs x y ds (d ∷ es) same given (is, more) none none' =
-        absurd (ids_stand number e t.ids all (ids_in d) is.ids (subst (λ (t : Entry). IsNoIds number e t.ids all) (head_same x t ws (ys ++ y ∷ zs) same) none))
+        absurd (ids_stand number e t.ids all (ids_in d) is.ids (subst (λ (t : Entry). IsSectionIdsError number e t.ids all) (first_same x t ws (ys ++ y ∷ zs) same) none))
     given_refused e f i (t ∷ xs) [] ws zs x y [] es same given given' none none' = absurd given
     given_refused e f i (t ∷ xs) [] ws zs x y (d ∷ ds) es same (is, more) given' none none' =
-        absurd (ids_stand number f t.ids all (ids_in d) is.ids (subst (λ (t : Entry). IsNoIds number f t.ids all) (sym (head_same t y (xs ++ x ∷ ws) zs same)) none'))
+        absurd (ids_stand number f t.ids all (ids_in d) is.ids (subst (λ (t : Entry). IsSectionIdsError number f t.ids all) (sym (first_same t y (xs ++ x ∷ ws) zs same)) none'))
     given_refused e f i (s ∷ xs) (t ∷ ys) ws zs x y [] es same given given' none none' = absurd given
     given_refused e f i (s ∷ xs) (t ∷ ys) ws zs x y (d ∷ ds) [] same given given' none none' = absurd given'
     given_refused e f i (s ∷ xs) (t ∷ ys) ws zs x y (c ∷ ds) (d ∷ es) same (is, more) (is', more') none none' =
         given_refused e f (i + 1) xs ys ws zs x y ds es (tail_same s t (xs ++ x ∷ ws) (ys ++ y ∷ zs) same) more more' none none'
 
   module _ (all : List ℕ) (size : ℕ) (section : PerfFileSection) where
-    -- where all entries stand, none is refused
-    entries_or_cut : (names others : ℕ → Option (List ℕ)) (e f : Error) → StopsAtEntry number size names section e all → StopsAtIds number size others section f all → ⊥
+    -- an error at the IDs of entries excludes an error at an entry, because all entries are complete
+    entries_or_cut : (names others : ℕ → Option (List ℕ)) (e f : Error) → ErrorAtEntry number size names section e all → ErrorAtIds number size others section f all → ⊥
     entries_or_cut names others e f s t =
-        let few = s.few in
-        let count = t.run.count in
-        let here = run_at (IsEntry number size) (size + 16) all (length s.before) section.offset t.entries t.run.each (omega (arith, few, count)) in
-        entry_stands number size e (drop (section.offset + length s.before * (size + 16)) all) here.0 here.1 s.here
+        let few = s.too_few in
+        let count = t.entries_match.count in
+        let here = run_at (IsEventTypeEntry number size) (size + 16) all (length s.before) section.offset t.entries t.entries_match.items_match (omega (arith, few, count)) in
+        entry_stands number size e (drop (section.offset + length s.before * (size + 16)) all) here.0 here.1 s.error_here
 
-    entries_refused : (names others : ℕ → Option (List ℕ)) (e f : Error) → NoEntries number size names section e all → NoEntries number size others section f all → Alike e f
+    entries_refused : (names others : ℕ → Option (List ℕ)) (e f : Error) → IsEntriesError number size names section e all → IsEntriesError number size others section f all → Alike e f
     entries_refused names others e f (inl s) (inl t) =
-        run_refused (IsEntry number size) (size + 16) all (IsNoEntry number size) (entry_stands number size) e f section.offset s.before t.before s.each t.each s.here t.here (entry_refused size e f)
+        run_refused (IsEventTypeEntry number size) (size + 16) all (IsEventTypeEntryError number size) (entry_stands number size) e f section.offset s.before t.before s.items_match t.items_match s.error_here t.error_here (entry_refused size e f)
     entries_refused names others e f (inl s) (inr t) = absurd (entries_or_cut names others e f s t)
     entries_refused names others e f (inr s) (inl t) = absurd (entries_or_cut others names f e t s)
     entries_refused names others e f (inr s) (inr t) =
-        let same : s.entries ≡ t.entries = run_one (IsEntry number size) (size + 16) all (entry_one number size) section.offset s.entries t.entries (s.run.count ∙ sym t.run.count) s.run.each t.run.each in
-        let cut = sym s.stops.are ∙ same ∙ t.stops.are in
-        given_refused all names others e f 0 s.stops.before t.stops.before s.stops.after t.stops.after s.stops.next t.stops.next s.stops.ds t.stops.ds cut s.stops.given t.stops.given s.stops.here t.stops.here
+        let same : s.entries ≡ t.entries = run_one (IsEventTypeEntry number size) (size + 16) all (entry_one number size) section.offset s.entries t.entries (s.entries_match.count ∙ sym t.entries_match.count) s.entries_match.items_match t.entries_match.items_match in
+        let cut = sym s.error.elements ∙ same ∙ t.error.elements in
+        given_refused all names others e f 0 s.error.before t.error.before s.error.after t.error.after s.error.failing_entry t.error.failing_entry s.error.descriptions t.error.descriptions cut s.error.descriptions_match t.error.descriptions_match s.error.error_here t.error.error_here
 
 -- ---- meta info
 
-texts_refused : (info : List ℕ) (f : Error) → NamesNone info StringUtf8 → NamesNone info f → (let e : Error = StringUtf8 in e) ≡ f
+texts_refused : (info : List ℕ) (f : Error) → IsMetaInfoError info StringUtf8 → IsMetaInfoError info f → (let e : Error = StringUtf8 in e) ≡ f
 texts_refused info StringUtf8 x y = refl
 texts_refused info NoEventTypesInSimpleperfMetaInfo x (texts, none) = absurd (x texts)
 texts_refused info _ x y = absurd y
 
-types_refused : (info : List ℕ) (f : Error) → NamesNone info NoEventTypesInSimpleperfMetaInfo → NamesNone info f → (let e : Error = NoEventTypesInSimpleperfMetaInfo in e) ≡ f
+types_refused : (info : List ℕ) (f : Error) → IsMetaInfoError info NoEventTypesInSimpleperfMetaInfo → IsMetaInfoError info f → (let e : Error = NoEventTypesInSimpleperfMetaInfo in e) ≡ f
 types_refused info StringUtf8 (texts, none) y = absurd (y texts)
 types_refused info NoEventTypesInSimpleperfMetaInfo x y = refl
 types_refused info _ x y = absurd y
 
-names_refused : (info : List ℕ) (e f : Error) → NamesNone info e → NamesNone info f → e ≡ f
+names_refused : (info : List ℕ) (e f : Error) → IsMetaInfoError info e → IsMetaInfoError info f → e ≡ f
 names_refused info StringUtf8 f x y = texts_refused info f x y
 names_refused info NoEventTypesInSimpleperfMetaInfo f x y = types_refused info f x y
 names_refused info _ f x y = absurd x
@@ -114,7 +114,7 @@ names_refused info _ f x y = absurd x
 module _ (order : Endianness) (h : PerfHeader) (all : List ℕ) where
   -- ---- attributes
 
-  section_refused : (info : Option (List ℕ)) (e f : Error) → StopsAtSection order h info all e → StopsAtSection order h info all f → Alike e f
+  section_refused : (info : Option (List ℕ)) (e f : Error) → IsAttrSectionError order h info all e → IsAttrSectionError order h info all f → Alike e f
   section_refused (Some info) e f (inl x) (inl y) = inl (names_refused info e f x y)
   section_refused (Some info) e f (inl x) (inr (types, names, y)) = absurd (names_stand info e types names x)
   section_refused (Some info) e f (inr (types, names, x)) (inl y) = absurd (names_stand info f types names y)
@@ -125,48 +125,48 @@ module _ (order : Endianness) (h : PerfHeader) (all : List ℕ) where
   section_refused (Some info) e f (inr (types, names, inr (room, inl (far, read)))) (inr (others, names', inr (room', inr (can, y)))) = absurd (can far)
   section_refused (Some info) e f (inr (types, names, inr (room, inr (can, x)))) (inr (others, names', inr (room', inl (far, read)))) = absurd (can far)
   section_refused (Some info) e f (inr (types, names, inr (room, inr (can, x)))) (inr (others, names', inr (room', inr (can', y)))) =
-      entries_refused (number_in order) all (h.attr_size - 16) h.attr_section (name_at types) (name_at others) e f x y
+      entries_refused (number_in order) all (h.attr_size - 16) h.attr_section (type_name_at types) (type_name_at others) e f x y
   section_refused None e f (inl (far, read)) (inl (far', read')) = inl (read ∙ sym read')
   section_refused None e f (inl (far, read)) (inr (can, y)) = absurd (can far)
   section_refused None e f (inr (can, x)) (inl (far, read)) = absurd (can far)
   section_refused None e f (inr (can, x)) (inr (can', y)) =
-      run_refused (IsDescribed (number_in order) h.attr_size) h.attr_size all (IsNoFrame (number_in order) h.attr_size) (λ e xs d is none. frame_stands (number_in order) h.attr_size e xs (attr_in d) is.framed none) e f h.attr_section.offset x.before y.before x.each y.each x.here y.here
-      (λ xs none none'. inl (frame_refused (number_in order) h.attr_size e f xs none none'))
+      run_refused (IsPlainDescription (number_in order) h.attr_size) h.attr_size all (IsFrameError (number_in order) h.attr_size) (λ e xs d is none. frame_stands (number_in order) h.attr_size e xs (attr_in d) is.attr_in_frame none) e f h.attr_section.offset x.before y.before x.items_match y.items_match x.error_here y.error_here
+      (λ xs none none'. inl (frame_error (number_in order) h.attr_size e f xs none none'))
 
-  sections_refused : (info : Option (List ℕ)) (e f : Error) → StopsAtSections order h info all e → StopsAtSections order h info all f → Alike e f
+  sections_refused : (info : Option (List ℕ)) (e f : Error) → IsSectionsError order h info all e → IsSectionsError order h info all f → Alike e f
   sections_refused info e f (inl (some, inl (far, read))) (inl (some', inl (far', read'))) = inl (read ∙ sym read')
   sections_refused info e f (inl (some, inl (far, read))) (inl (some', inr (can, y))) = absurd (can far)
   sections_refused info e f (inl (some, inr (can, x))) (inl (some', inl (far, read))) = absurd (can far)
-  sections_refused info e f (inl (some, inr (can, x))) (inl (some', inr (can', y))) = entries_refused (number_in order) all h.attr_size h.event_types_section (name_at []) (name_at []) e f x y
+  sections_refused info e f (inl (some, inr (can, x))) (inl (some', inr (can', y))) = entries_refused (number_in order) all h.attr_size h.event_types_section (type_name_at []) (type_name_at []) e f x y
   sections_refused info e f (inl (some, x)) (inr (none, y)) = absurd (some none)
   sections_refused info e f (inr (none, x)) (inl (some, y)) = absurd (some none)
   sections_refused info e f (inr (none, x)) (inr (none', y)) = section_refused info e f x y
 
-  with_refused : (desc info : Option (List ℕ)) (e f : Error) → StopsWith order h desc info all e → StopsWith order h desc info all f → Alike e f
-  with_refused (Some desc) info e f x y = desc_refused (number_in order) (in_reads_first order) e f desc x y
+  with_refused : (desc info : Option (List ℕ)) (e f : Error) → IsSourcesErrorWith order h desc info all e → IsSourcesErrorWith order h desc info all f → Alike e f
+  with_refused (Some desc) info e f x y = desc_error (number_in order) (in_reads_first order) e f desc x y
   with_refused None info e f x y = sections_refused info e f x y
 
-  -- ---- what stands behind a header
+  -- ---- after a header
 
-  attributes_refused : (e f : Error) → StopsAtAttributes order h all e → StopsAtAttributes order h all f → Alike e f
+  attributes_refused : (e f : Error) → IsAttributesError order h all e → IsAttributesError order h all f → Alike e f
   attributes_refused e f (inl x) (inl y) = with_refused (section_data order h all 12) (section_data order h all 129) e f x y
   attributes_refused e f (inl x) (inr (inl (is, none))) = absurd (with_stands order h all (section_data order h all 12) (section_data order h all 129) e [] none x)
-  attributes_refused e f (inl x) (inr (inr unruly)) = absurd (with_stands order h all (section_data order h all 12) (section_data order h all 129) e unruly.ds unruly.described x)
+  attributes_refused e f (inl x) (inr (inr unruly)) = absurd (with_stands order h all (section_data order h all 12) (section_data order h all 129) e unruly.descriptions unruly.attributes_match x)
   attributes_refused e f (inr (inl (is, none))) (inl y) = absurd (with_stands order h all (section_data order h all 12) (section_data order h all 129) f [] none y)
   attributes_refused e f (inr (inl (is, none))) (inr (inl (is', none'))) = inl (is ∙ sym is')
   attributes_refused e f (inr (inl (is, none))) (inr (inr unruly)) =
-      let same : attributes_by unruly.ds ≡ [] = with_alike order h all (section_data order h all 12) (section_data order h all 129) unruly.ds [] unruly.described none in
-      absurd (subst (λ l. Breaks l unruly.breach) same unruly.breaks)
-  attributes_refused e f (inr (inr unruly)) (inl y) = absurd (with_stands order h all (section_data order h all 12) (section_data order h all 129) f unruly.ds unruly.described y)
+      let same : described_attributes unruly.descriptions ≡ [] = with_alike order h all (section_data order h all 12) (section_data order h all 129) unruly.descriptions [] unruly.attributes_match none in
+      absurd (subst (λ l. AreInconsistent l unruly.inconsistency) same unruly.is_inconsistent)
+  attributes_refused e f (inr (inr unruly)) (inl y) = absurd (with_stands order h all (section_data order h all 12) (section_data order h all 129) f unruly.descriptions unruly.attributes_match y)
   attributes_refused e f (inr (inr unruly)) (inr (inl (is, none))) =
-      let same : attributes_by unruly.ds ≡ [] = with_alike order h all (section_data order h all 12) (section_data order h all 129) unruly.ds [] unruly.described none in
-      absurd (subst (λ l. Breaks l unruly.breach) same unruly.breaks)
+      let same : described_attributes unruly.descriptions ≡ [] = with_alike order h all (section_data order h all 12) (section_data order h all 129) unruly.descriptions [] unruly.attributes_match none in
+      absurd (subst (λ l. AreInconsistent l unruly.inconsistency) same unruly.is_inconsistent)
   attributes_refused e f (inr (inr x)) (inr (inr y)) =
-      let same : attributes_by x.ds ≡ attributes_by y.ds = with_alike order h all (section_data order h all 12) (section_data order h all 129) x.ds y.ds x.described y.described in
-      let breach : x.breach ≡ y.breach = breach_one (attributes_by y.ds) x.breach y.breach (subst (λ l. Breaks l x.breach) same x.breaks) y.breaks in
-      inl (x.is ∙ ap error_of_breach breach ∙ sym y.is)
+      let same : described_attributes x.descriptions ≡ described_attributes y.descriptions = with_alike order h all (section_data order h all 12) (section_data order h all 129) x.descriptions y.descriptions x.attributes_match y.attributes_match in
+      let breach : x.inconsistency ≡ y.inconsistency = inconsistency_is_unique (described_attributes y.descriptions) x.inconsistency y.inconsistency (subst (λ l. AreInconsistent l x.inconsistency) same x.is_inconsistent) y.is_inconsistent in
+      inl (x.matches ∙ ap error_of_inconsistency breach ∙ sym y.matches)
 
-  behind_refused : (e f : Error) → StopsBehind order h all e → StopsBehind order h all f → Alike e f
+  behind_refused : (e f : Error) → IsErrorAfterHeader order h all e → IsErrorAfterHeader order h all f → Alike e f
   behind_refused e f (inl (read, far)) (inl (read', far')) = inl (read ∙ sym read')
   behind_refused e f (inl (read, far)) (inr (inl (short, near, lacks))) = absurd (omega (arith, far, near))
   behind_refused e f (inl (read, far)) (inr (inr (near, holds, y))) = absurd (omega (arith, far, near))
@@ -183,15 +183,15 @@ pub same_cause : (e f : Error) → Alike e f → SameCause e f
 same_cause e f (inl same) = inl same
 same_cause e f (inr short) = inr (inl short)
 
-pub one_refusal : OneRefusalOfFile
-one_refusal p e f (inl (short, few)) y = inr (inl (short, (cut_header p few).0 f y))
-one_refusal p e f (inr (inl (h, has, (far, invalid)))) y = inr (inr (inl (invalid, (far_header p h has far).0 f y)))
-one_refusal p e f (inr (inr (inl (h, (has, near, unknown, is))))) y = inl (is ∙ sym ((other_magic p h has near unknown).0 f y))
-one_refusal p e f (inr (inr (inr x))) (inl (short, few)) = inr (inl ((cut_header p few).0 e (inr (inr (inr x))), short))
-one_refusal p e f (inr (inr (inr x))) (inr (inl (h, has, (far, invalid)))) = inr (inr (inl ((far_header p h has far).0 e (inr (inr (inr x))), invalid)))
-one_refusal p e f (inr (inr (inr x))) (inr (inr (inl (h, (has, near, unknown, is))))) = inl ((other_magic p h has near unknown).0 e (inr (inr (inr x))) ∙ sym is)
-one_refusal p e f (inr (inr (inr (order, (h, is, x))))) (inr (inr (inr (order', (i, is', y))))) =
-    let same = header_one p h i is.has is'.has in
+pub opening_error_is_unique : FileErrorIsUnique
+opening_error_is_unique p e f (inl (short, few)) y = inr (inl (short, (truncated_header_fails p few).0 f y))
+opening_error_is_unique p e f (inr (inl (h, has, (far, invalid)))) y = inr (inr (inl (invalid, (far_header_fails p h has far).0 f y)))
+opening_error_is_unique p e f (inr (inr (inl (h, (has, near, unknown, is))))) y = inl (is ∙ sym ((unknown_magic_fails p h has near unknown).0 f y))
+opening_error_is_unique p e f (inr (inr (inr x))) (inl (short, few)) = inr (inl ((truncated_header_fails p few).0 e (inr (inr (inr x))), short))
+opening_error_is_unique p e f (inr (inr (inr x))) (inr (inl (h, has, (far, invalid)))) = inr (inr (inl ((far_header_fails p h has far).0 e (inr (inr (inr x))), invalid)))
+opening_error_is_unique p e f (inr (inr (inr x))) (inr (inr (inl (h, (has, near, unknown, is))))) = inl ((unknown_magic_fails p h has near unknown).0 e (inr (inr (inr x))) ∙ sym is)
+opening_error_is_unique p e f (inr (inr (inr (order, (h, is, x))))) (inr (inr (inr (order', (i, is', y))))) =
+    let same = header_one p h i is.has_header is'.has_header in
     let orders : order ≡ order' = same_order order order' (sym is.magic ∙ ap (λ k. k.magic) same ∙ is'.magic) in
-    let here : StopsBehind order' i p.all e = subst (λ k. StopsBehind order' k p.all e) same (subst (λ o. StopsBehind o h p.all e) orders x) in
-    same_cause e f (behind_refused order' i p.all e f here y)
+    let here : IsErrorAfterHeader order' i p.all_bytes e = subst (λ k. IsErrorAfterHeader order' k p.all_bytes e) same (subst (λ o. IsErrorAfterHeader o h p.all_bytes e) orders x) in
+    same_cause e f (behind_refused order' i p.all_bytes e f here y)

@@ -1,83 +1,83 @@
--- How what a header says and what its section holds come to an opening, or to the reason why there is none.
+-- The header of a file and its sections determine an opening, or the error.
 use Rattle.std.proofs.Common.{◌≡◌, ◌≢◌, ℕ, ◌<◌, ◌≤◌, ◌++◌, List, [], ◌∷◌, length, take, drop, refl, sym, ap, ◌∙◌, subst, arith, inl, inr, length-append, Option, None, Some}
 use Rattle.std.specs.Prelude.{◌⊎◌, Result, Ok, Err, IfSome, Vec}
 use Rattle.std.specs.declared.io.Error.{Error as IoErrorValue}
 use Rattle.std.specs.declared.alloc.Global.{Global}
 use Rattle.std.proofs.Math.Seq.{take-append_seam}
-use Rattle.perfdata_base.specs.Source.{State, Place, IsPlaced, Stood, Failed, CutShort, put_at, all_of, behind, prepend}
-use Rattle.perfdata_base.proofs.Cut.{stood_more, failed_after_stood, paused_after_stood, none_or_paused, all_came}
-use Rattle.perfdata_base.specs.Header.{header_of, Begins, TookHeader, NotPassed, RefusedHeader}
+use Rattle.perfdata_base.specs.Source.{State, Position, RemainsFromPosition, AfterSeek, SourceFailed, ReadExactError, at_offset, all_bytes_of, remaining_from, prepend}
+use Rattle.perfdata_base.proofs.ReadErrors.{after_seek_more, failed_after_seek, paused_after_seek, none_or_paused, all_read}
+use Rattle.perfdata_base.specs.Header.{file_header_of, BeginsWithFileHeader, FileHeaderParsed, ExtraSkipError, FileHeaderParseError}
 use Rattle.perfdata_base.specs.declared.raw.Endianness.{Endianness}
 use Rattle.perfdata_base.specs.declared.header.PerfHeader.{PerfHeader}
-use Rattle.linux_perf_data.specs.Attribute.{Breach, Breaks, Rule}
-use Rattle.linux_perf_data.specs.Described.{attributes_by}
-use Rattle.linux_perf_data.specs.Rules.{error_of_breach}
-use Rattle.linux_perf_data.specs.AttributeSources.{Told, told_by, DescribesFrom, StopsFrom, ReadsAttributes}
-use Rattle.linux_perf_data.proofs.Attributes.{if_more, if_both}
+use Rattle.linux_perf_data.specs.Attribute.{Inconsistency, AreInconsistent, AreConsistent}
+use Rattle.linux_perf_data.specs.Descriptions.{described_attributes}
+use Rattle.linux_perf_data.specs.Consistency.{error_of_inconsistency}
+use Rattle.linux_perf_data.specs.AttributeSources.{KnownSections, known_sections, DescribesFrom, IsSourcesError, ReadsAttributes}
+use Rattle.linux_perf_data.proofs.FileAttributes.{if_more, if_both}
 use Rattle.perfdata_sections.specs.declared.feature_sections.AttributeDescription.{AttributeDescription}
 use Rattle.perfdata_sections.specs.declared.error.Error.{Error}
 use Rattle.perfdata_sections.specs.declared.error.Error.TheVariants.{IoError, NoAttributes, UnrecognizedMagicValue}
 use Rattle.indexmap.specs.IndexMap.{IndexMap}
 use Rattle.perfdata_base.specs.Features.{features_of}
 use Rattle.perfdata_base.specs.declared.features.Feature.{Feature}
-use Rattle.perfdata_sections.specs.Error.{IsShort, IsIo}
-use Rattle.linux_perf_data.specs.Sections.{ReadsSections, LacksSections, SourceOwesBytes, data_in}
-use Rattle.linux_perf_data.specs.declared.opening.Opening.{Opening}
-use Rattle.linux_perf_data.specs.Open.{EndsNear, table_place, HoldsSections, section_data, told_of, DescribesAttributes, StopsAtAttributes, RefusedBehind, StopsBehind, SourceOwesOpening, HasHeader, StopsFile, RefusedFile, ReadFile, OpenedAt, ReadBehind, ReadsBehind, ReadsFile, magic_of}
+use Rattle.perfdata_sections.specs.Error.{IsUnexpectedEof, IsIoError}
+use Rattle.linux_perf_data.specs.FeatureData.{ReadsFeatures, SectionsTruncated, SourceErrorInBytes, feature_data_of}
+use Rattle.linux_perf_data.specs.declared.file.opening.FileOpening.{FileOpening}
+use Rattle.linux_perf_data.specs.FileOpening.{DataEndFitsU64, table_offset, HoldsSections, section_data, attribute_sources_of, DescribesAttributes, IsAttributesError, OpenAfterHeaderError, IsErrorAfterHeader, SourceErrorInOpening, HasHeader, IsFileError, FileOpenError, FileOpened, OpenedFileAt, OpenedAfterHeader, OpensAfterHeader, OpensPerfFile, magic_of}
 
--- what all bytes show, where they stay the same
-shown_before : (a b : State) (P : List ℕ → Type 0) → Stood a b → IfSome (all_of b.place) P → IfSome (all_of a.place) P
-shown_before a b P stood shown = subst (λ o. IfSome o P) stood.all shown
+-- a property of all bytes holds before a seek if it holds after
+shown_before : (a b : State) (P : List ℕ → Type 0) → AfterSeek a b → IfSome (all_bytes_of b.position) P → IfSome (all_bytes_of a.position) P
+shown_before a b P stood shown = subst (λ o. IfSome o P) stood.all_bytes shown
 
-later_owes : (a b c : State) (e : Error) → Stood a b → SourceOwesOpening b e c → SourceOwesOpening a e c
-later_owes a b c e stood (inl (is, failed)) = inl (is, failed_after_stood a b c stood failed)
-later_owes a b c e stood (inr (inl (is, paused))) = inr (inl (is, paused_after_stood a b c stood paused))
-later_owes a b c e stood (inr (inr (is, inl failed))) = inr (inr (is, inl (failed_after_stood a b c stood failed)))
-later_owes a b c e stood (inr (inr (is, inr paused))) = inr (inr (is, inr (paused_after_stood a b c stood paused)))
+later_owes : (a b c : State) (e : Error) → AfterSeek a b → SourceErrorInOpening b e c → SourceErrorInOpening a e c
+later_owes a b c e stood (inl (is, failed)) = inl (is, failed_after_seek a b c stood failed)
+later_owes a b c e stood (inr (inl (is, paused))) = inr (inl (is, paused_after_seek a b c stood paused))
+later_owes a b c e stood (inr (inr (is, inl failed))) = inr (inr (is, inl (failed_after_seek a b c stood failed)))
+later_owes a b c e stood (inr (inr (is, inr paused))) = inr (inr (is, inr (paused_after_seek a b c stood paused)))
 
-bytes_owe : (a b : State) (e : Error) → SourceOwesBytes a e b → SourceOwesOpening a e b
+bytes_owe : (a b : State) (e : Error) → SourceErrorInBytes a e b → SourceErrorInOpening a e b
 bytes_owe a b e (inl io) = inl io
 bytes_owe a b e (inr short) = inr (inl short)
 
--- the sections of the features weren't read
-pub sections_refused : (order : Endianness) (h : PerfHeader) (a b : State) (S : Type 0) (e : Error) → EndsNear h
-    → ReadsSections {S = S} order (table_place h) (features_of h.features) a (Err e) b → RefusedBehind order h a e b
-sections_refused order h a b S e near refused = record {
-  stood = refused.0;
-  why = λ m. elim (refused.1 m) [
-    | inl lacks ↦ inl (if_more (all_of a.place) (λ all. IsShort e × LacksSections order all (table_place h) (features_of h.features)) (λ all. StopsBehind order h all e) (λ all here. inr (inl (here.0, near, here.1))) lacks)
+-- reading the feature sections fails
+pub sections_error : (order : Endianness) (h : PerfHeader) (a b : State) (S : Type 0) (e : Error) → DataEndFitsU64 h
+    → ReadsFeatures {S = S} order (table_offset h) (features_of h.features) a (Err e) b → OpenAfterHeaderError order h a e b
+sections_error order h a b S e near refused = record {
+  after_seek = refused.0;
+  cause = λ m. elim (refused.1 m) [
+    | inl lacks ↦ inl (if_more (all_bytes_of a.position) (λ all. IsUnexpectedEof e × SectionsTruncated order all (table_offset h) (features_of h.features)) (λ all. IsErrorAfterHeader order h all e) (λ all here. inr (inl (here.0, near, here.1))) lacks)
     | inr owes ↦ inr (bytes_owe a b e owes)
   ];
 }
 
--- what was read before attributes are looked for: the sections, and among them EVENT_DESC
-pub told_both : (d d' i i' : Option (List ℕ)) → d ≡ d' → i ≡ i' → told_by d i ≡ told_by d' i'
-told_both d d' i i' x y = ap (λ o. told_by o i) x ∙ ap (told_by d') y
+-- the sections that are read before the attributes, EVENT_DESC among them
+pub sources_both : (d d' i i' : Option (List ℕ)) → d ≡ d' → i ≡ i' → known_sections d i ≡ known_sections d' i'
+sources_both d d' i i' x y = ap (λ o. known_sections o i) x ∙ ap (known_sections d') y
 
-pub record HasRead (order : Endianness) (h : PerfHeader) (a b : State) (told : Told) : Type 0 where
-  pub stood : Stood a b
-  pub holds : IfSome (all_of a.place) (λ all. HoldsSections order h all × (told ≡ told_of order h all))
+pub record HasRead (order : Endianness) (h : PerfHeader) (a b : State) (told : KnownSections) : Type 0 where
+  pub stood : AfterSeek a b
+  pub holds : IfSome (all_bytes_of a.position) (λ all. HoldsSections order h all × (told ≡ attribute_sources_of order h all))
 
-pub has_read : {S : Type 0} (order : Endianness) (h : PerfHeader) (a b : State) (m : IndexMap Feature (Vec ℕ Global) S) (told : Told) → told ≡ told_by (data_in m 12) (data_in m 129)
-    → ReadsSections order (table_place h) (features_of h.features) a (Ok m) b → HasRead order h a b told
+pub has_read : {S : Type 0} (order : Endianness) (h : PerfHeader) (a b : State) (m : IndexMap Feature (Vec ℕ Global) S) (told : KnownSections) → told ≡ known_sections (feature_data_of m 12) (feature_data_of m 129)
+    → ReadsFeatures order (table_offset h) (features_of h.features) a (Ok m) b → HasRead order h a b told
 has_read order h a b m told is read = record {
   stood = read.0;
-  holds = if_more (all_of a.place) (λ all. HoldsSections order h all × ((n : ℕ) → data_in m n ≡ section_data order h all n)) (λ all. HoldsSections order h all × (told ≡ told_of order h all)) (λ all both. (both.0, is ∙ ap (λ d. told_by d (data_in m 129)) (both.1 12) ∙ ap (told_by (section_data order h all 12)) (both.1 129))) read.1;
+  holds = if_more (all_bytes_of a.position) (λ all. HoldsSections order h all × ((n : ℕ) → feature_data_of m n ≡ section_data order h all n)) (λ all. HoldsSections order h all × (told ≡ attribute_sources_of order h all)) (λ all both. (both.0, is ∙ ap (λ d. known_sections d (feature_data_of m 129)) (both.1 12) ∙ ap (known_sections (section_data order h all 12)) (both.1 129))) read.1;
 }
 
--- what stops behind the sections stops behind the header
-at_attributes : (order : Endianness) (h : PerfHeader) (a b : State) (told : Told) (e : Error) (P : Told → List ℕ → Type 0) → EndsNear h → HasRead order h a b told → ((all : List ℕ) → P (told_of order h all) all → StopsAtAttributes order h all e)
-    → IfSome (all_of b.place) (P told) → IfSome (all_of a.place) (λ all. StopsBehind order h all e)
+-- an error after the sections is an error after the header
+at_attributes : (order : Endianness) (h : PerfHeader) (a b : State) (told : KnownSections) (e : Error) (P : KnownSections → List ℕ → Type 0) → DataEndFitsU64 h → HasRead order h a b told → ((all : List ℕ) → P (attribute_sources_of order h all) all → IsAttributesError order h all e)
+    → IfSome (all_bytes_of b.position) (P told) → IfSome (all_bytes_of a.position) (λ all. IsErrorAfterHeader order h all e)
 at_attributes order h a b told e P near read stops shown =
-    if_both (all_of a.place) (λ all. HoldsSections order h all × (told ≡ told_of order h all)) (P told) (λ all. StopsBehind order h all e)
+    if_both (all_bytes_of a.position) (λ all. HoldsSections order h all × (told ≡ attribute_sources_of order h all)) (P told) (λ all. IsErrorAfterHeader order h all e)
     (λ all has here. inr (inr (near, has.0, stops all (subst (λ d. P d all) has.1 here)))) read.holds (shown_before a b (P told) read.stood shown)
 
--- the attributes weren't read
-pub attributes_refused : (order : Endianness) (h : PerfHeader) (a b c : State) (told : Told) (e : Error) → EndsNear h → HasRead order h a b told → ReadsAttributes order h told b (Err e) c → RefusedBehind order h a e c
-attributes_refused order h a b c told e near read (stood, why) = record {
-  stood = stood_more a b c read.stood stood;
-  why = λ m. elim (why m) [
-    | inl shown ↦ inl (at_attributes order h a b told e (λ d all. StopsFrom order h d all e) near read (λ all stops. inl stops) shown)
+-- reading the attributes fails
+pub attributes_error : (order : Endianness) (h : PerfHeader) (a b c : State) (told : KnownSections) (e : Error) → DataEndFitsU64 h → HasRead order h a b told → ReadsAttributes order h told b (Err e) c → OpenAfterHeaderError order h a e c
+attributes_error order h a b c told e near read (stood, why) = record {
+  after_seek = after_seek_more a b c read.stood stood;
+  cause = λ m. elim (why m) [
+    | inl shown ↦ inl (at_attributes order h a b told e (λ d all. IsSourcesError order h d all e) near read (λ all stops. inl stops) shown)
     | inr owes ↦ inr (later_owes a b c e read.stood owes)
   ];
 }
@@ -86,160 +86,160 @@ items_none : {X : Type 0} (xs : List X) → length xs ≡ 0 → xs ≡ []
 items_none [] none = refl
 items_none (x ∷ xs) none = absurd (omega (arith, none))
 
--- there are none
-pub attributes_none : (order : Endianness) (h : PerfHeader) (a b c : State) (told : Told) (v : Vec AttributeDescription Global) → EndsNear h → HasRead order h a b told → ReadsAttributes order h told b (Ok v) c → length v.items ≡ 0
-    → RefusedBehind order h a NoAttributes c
+-- the file has no attributes
+pub attributes_none : (order : Endianness) (h : PerfHeader) (a b c : State) (told : KnownSections) (v : Vec AttributeDescription Global) → DataEndFitsU64 h → HasRead order h a b told → ReadsAttributes order h told b (Ok v) c → length v.items ≡ 0
+    → OpenAfterHeaderError order h a NoAttributes c
 attributes_none order h a b c told v near read (stood, is) none = record {
-  stood = stood_more a b c read.stood stood;
-  why = λ _. inl (at_attributes order h a b told NoAttributes (λ d all. DescribesFrom order h d all v.items) near read
-      (λ all described. inr (inl (refl, subst (DescribesFrom order h (told_of order h all) all) (items_none v.items none) described))) is);
+  after_seek = after_seek_more a b c read.stood stood;
+  cause = λ _. inl (at_attributes order h a b told NoAttributes (λ d all. DescribesFrom order h d all v.items) near read
+      (λ all described. inr (inl (refl, subst (DescribesFrom order h (attribute_sources_of order h all) all) (items_none v.items none) described))) is);
 }
 
--- they break their rule
-pub attributes_unruly : (order : Endianness) (h : PerfHeader) (a b c : State) (told : Told) (v : Vec AttributeDescription Global) (e : Error) → EndsNear h → HasRead order h a b told → ReadsAttributes order h told b (Ok v) c
-    → (breach : Breach) × Breaks (attributes_by v.items) breach × (e ≡ error_of_breach breach) → RefusedBehind order h a e c
-attributes_unruly order h a b c told v e near read (stood, is) (breach, breaks, tells) = record {
-  stood = stood_more a b c read.stood stood;
-  why = λ _. inl (at_attributes order h a b told e (λ d all. DescribesFrom order h d all v.items) near read
-      (λ all described. inr (inr (record { ds = v.items; described = described; breach = breach; breaks = breaks; is = tells }))) is);
+-- the attributes are inconsistent
+pub attributes_inconsistent : (order : Endianness) (h : PerfHeader) (a b c : State) (told : KnownSections) (v : Vec AttributeDescription Global) (e : Error) → DataEndFitsU64 h → HasRead order h a b told → ReadsAttributes order h told b (Ok v) c
+    → (breach : Inconsistency) × AreInconsistent (described_attributes v.items) breach × (e ≡ error_of_inconsistency breach) → OpenAfterHeaderError order h a e c
+attributes_inconsistent order h a b c told v e near read (stood, is) (breach, breaks, tells) = record {
+  after_seek = after_seek_more a b c read.stood stood;
+  cause = λ _. inl (at_attributes order h a b told e (λ d all. DescribesFrom order h d all v.items) near read
+      (λ all described. inr (inr (record { descriptions = v.items; attributes_match = described; inconsistency = breach; is_inconsistent = breaks; matches = tells }))) is);
 }
 
 some_length : {X : Type 0} (xs : List X) → length xs ≢ 0 → 0 < length xs
 some_length [] none = absurd (none refl)
 some_length (x ∷ xs) some = omega arith
 
--- a place that is sought is the same among the same bytes
-put_same : (n : ℕ) (o o' : Option Place) → all_of o' ≡ all_of o → put_at n o' ≡ put_at n o
+-- an offset in the same bytes is the same position
+put_same : (n : ℕ) (o o' : Option Position) → all_bytes_of o' ≡ all_bytes_of o → at_offset n o' ≡ at_offset n o
 put_same n None None same = refl
 put_same n None (Some p) same = cc
 put_same n (Some p) None same = cc
-put_same n (Some p) (Some q) same = let all : q.all ≡ p.all = cc in ap (λ l. Some (record { all = l; at = n })) all
+put_same n (Some p) (Some q) same = let all : q.all_bytes ≡ p.all_bytes = cc in ap (λ l. Some (record { all_bytes = l; offset = n })) all
 
--- the source couldn't go to the records
-pub records_refused : (order : Endianness) (h : PerfHeader) (a b c d : State) (told : Told) (v : Vec AttributeDescription Global) (e : Error) → HasRead order h a b told → ReadsAttributes order h told b (Ok v) c → Stood c d × IsIo e × Failed c d
-    → RefusedBehind order h a e d
-records_refused order h a b c d told v e read (stood_b, described) (stood, io, failed) =
-    let stood_c = stood_more a b c read.stood stood_b in record {
-      stood = stood_more a c d stood_c stood;
-      why = λ _. inr (inl (io, failed_after_stood a c d stood_c failed));
+-- the seek to the records fails
+pub records_error : (order : Endianness) (h : PerfHeader) (a b c d : State) (told : KnownSections) (v : Vec AttributeDescription Global) (e : Error) → HasRead order h a b told → ReadsAttributes order h told b (Ok v) c → AfterSeek c d × IsIoError e × SourceFailed c d
+    → OpenAfterHeaderError order h a e d
+records_error order h a b c d told v e read (stood_b, described) (stood, io, failed) =
+    let stood_c = after_seek_more a b c read.stood stood_b in record {
+      after_seek = after_seek_more a c d stood_c stood;
+      cause = λ _. inr (inl (io, failed_after_seek a c d stood_c failed));
     }
 
--- the opening holds what the header and its sections say
-pub behind_read : (order : Endianness) (h : PerfHeader) (a b c d : State) (told : Told) (opening : Opening) → EndsNear h → opening.endian ≡ order → opening.features ≡ h.features → opening.size ≡ h.data_section.size
-    → HasRead order h a b told → ReadsSections order (table_place h) (features_of h.features) a (Ok opening.sections) b → ReadsAttributes order h told b (Ok opening.attributes) c → length opening.attributes.items ≢ 0
-    → Rule (attributes_by opening.attributes.items) → Stood c d × (d.place ≡ put_at h.data_section.offset c.place) → ReadBehind order h a opening d
-behind_read order h a b c d told opening near endian features size read sections (stood_b, described) some rule (stood, place) =
-    let stood_c = stood_more a b c sections.0 stood_b in record {
+-- the opening holds the values of the header and its sections
+pub after_read : (order : Endianness) (h : PerfHeader) (a b c d : State) (told : KnownSections) (opening : FileOpening) → DataEndFitsU64 h → opening.endian ≡ order → opening.features ≡ h.features → opening.data_size ≡ h.data_section.size
+    → HasRead order h a b told → ReadsFeatures order (table_offset h) (features_of h.features) a (Ok opening.sections) b → ReadsAttributes order h told b (Ok opening.attributes) c → length opening.attributes.items ≢ 0
+    → AreConsistent (described_attributes opening.attributes.items) → AfterSeek c d × (d.position ≡ at_offset h.data_section.offset c.position) → OpenedAfterHeader order h a opening d
+after_read order h a b c d told opening near endian features size read sections (stood_b, described) some rule (stood, place) =
+    let stood_c = after_seek_more a b c sections.0 stood_b in record {
       endian = endian;
-      near = near;
+      end_fits = near;
       features = features;
-      size = size;
-      some = some_length opening.attributes.items some;
-      rule = rule;
-      stood = stood_more a c d stood_c stood;
-      place = place ∙ put_same h.data_section.offset a.place c.place stood_c.all;
+      data_size = size;
+      nonempty = some_length opening.attributes.items some;
+      consistent = rule;
+      after_seek = after_seek_more a c d stood_c stood;
+      position = place ∙ put_same h.data_section.offset a.position c.position stood_c.all_bytes;
       sections = sections.1;
-      attributes = if_both (all_of a.place) (λ all. HoldsSections order h all × (told ≡ told_of order h all)) (λ all. DescribesFrom order h told all opening.attributes.items) (λ all. DescribesAttributes order h all opening.attributes.items)
+      attributes = if_both (all_bytes_of a.position) (λ all. HoldsSections order h all × (told ≡ attribute_sources_of order h all)) (λ all. DescribesFrom order h told all opening.attributes.items) (λ all. DescribesAttributes order h all opening.attributes.items)
           (λ all has is. subst (λ o. DescribesFrom order h o all opening.attributes.items) has.1 is) read.holds (shown_before a b (λ all. DescribesFrom order h told all opening.attributes.items) sections.0 described);
     }
 
--- what the first 104 bytes from a place on are, where these come first there
-front_there : (p : Place) (bytes : List ℕ) (rest : Option (List ℕ)) → length bytes ≡ 104 → Some (drop p.at p.all) ≡ prepend bytes rest → (104 ≤ length (drop p.at p.all)) × (bytes ≡ take 104 (drop p.at p.all))
+-- the first 104 bytes from a position on are the bytes read there
+front_there : (p : Position) (bytes : List ℕ) (rest : Option (List ℕ)) → length bytes ≡ 104 → Some (drop p.offset p.all_bytes) ≡ prepend bytes rest → (104 ≤ length (drop p.offset p.all_bytes)) × (bytes ≡ take 104 (drop p.offset p.all_bytes))
 front_there p bytes None long came = cc
 front_there p bytes (Some rest) long came =
-    let all : drop p.at p.all ≡ bytes ++ rest = cc in (
+    let all : drop p.offset p.all_bytes ≡ bytes ++ rest = cc in (
       omega (arith, ap length all, length-append bytes rest, long),
       sym (take-append_seam bytes rest) ∙ ap (λ n. take n (bytes ++ rest)) long ∙ ap (take 104) (sym all),
     )
 
-has_header : (a : State) (p : Place) (h : PerfHeader) → IsPlaced a → a.place ≡ Some p → Begins a h → HasHeader p h
+has_header : (a : State) (p : Position) (h : PerfHeader) → RemainsFromPosition a → a.position ≡ Some p → BeginsWithFileHeader a h → HasHeader p h
 has_header a p h placed is begins =
-    let there = front_there p begins.bytes begins.rest begins.long (sym (ap behind is) ∙ sym placed ∙ begins.came) in
-    record { there = there.0; is = begins.is ∙ ap header_of there.1 }
+    let there = front_there p begins.bytes begins.rest begins.exact_len (sym (ap remaining_from is) ∙ sym placed ∙ begins.prefix_of_remaining) in
+    record { complete = there.0; matches = begins.matches ∙ ap file_header_of there.1 }
 
--- the place of a source that is told shows this
-place_shows : (a : State) (P : Place → Type 0) → ((p : Place) → a.place ≡ Some p → P p) → IfSome a.place P
+-- a property of a source's position, if the position is known
+place_shows : (a : State) (P : Position → Type 0) → ((p : Position) → a.position ≡ Some p → P p) → IfSome a.position P
 place_shows a P each =
-    let go : (o : Option Place) → a.place ≡ o → IfSome o P = λ o. elim o as (λ o. a.place ≡ o → IfSome o P) [ None ↦ (λ _. tt) | Some p ↦ (λ is. each p is) ] in
-    go a.place refl
+    let go : (o : Option Position) → a.position ≡ o → IfSome o P = λ o. elim o as (λ o. a.position ≡ o → IfSome o P) [ None ↦ (λ _. tt) | Some p ↦ (λ is. each p is) ] in
+    go a.position refl
 
--- a header was cut: the bytes from the place on are too few, or the source failed or paused
-header_short : (a b : State) (e : IoErrorValue) → IsPlaced a → CutShort a 104 e b → IfSome a.place (λ p. StopsFile p (IoError e)) ⊎ SourceOwesOpening a (IoError e) b
-header_short a b e placed cut = elim cut.why [
+-- The header is truncated: too few bytes follow the position, or the source fails or pauses.
+header_short : (a b : State) (e : IoErrorValue) → RemainsFromPosition a → ReadExactError a 104 e b → IfSome a.position (λ p. IsFileError p (IoError e)) ⊎ SourceErrorInOpening a (IoError e) b
+header_short a b e placed cut = elim cut.cause [
   | inl (kind, none) ↦ elim (none_or_paused a b none) [
-    | inl all ↦ inl (place_shows a (λ p. StopsFile p (IoError e)) (λ p is.
-        let same : Some (drop p.at p.all) ≡ Some cut.part = sym (ap behind is) ∙ sym placed ∙ all_came a b cut.part cut.gave all in
-        let few : length (drop p.at p.all) ≡ length cut.part = cc in
-        let less = cut.less in
+    | inl all ↦ inl (place_shows a (λ p. IsFileError p (IoError e)) (λ p is.
+        let same : Some (drop p.offset p.all_bytes) ≡ Some cut.consumed_bytes = sym (ap remaining_from is) ∙ sym placed ∙ all_read a b cut.consumed_bytes cut.consumes all in
+        let few : length (drop p.offset p.all_bytes) ≡ length cut.consumed_bytes = cc in
+        let less = cut.too_few in
         inl (kind, omega (arith, few, less))))
     | inr paused ↦ inr (inr (inl (kind, paused)))
   ]
   | inr failed ↦ inr (inl (tt, failed))
 ]
 
--- the bytes behind the first 104 weren't passed over
-header_stuck : (a b : State) (e : IoErrorValue) → IsPlaced a → NotPassed a e b → IfSome a.place (λ p. StopsFile p (IoError e)) ⊎ SourceOwesOpening a (IoError e) b
-header_stuck a b e placed stuck = elim stuck.why [
-  | inl (far, kind, stands) ↦ inl (place_shows a (λ p. StopsFile p (IoError e)) (λ p is. inr (inl (stuck.header, has_header a p stuck.header placed is stuck.begins, (far, kind)))))
+-- skipping the header bytes after the first 104 fails
+header_stuck : (a b : State) (e : IoErrorValue) → RemainsFromPosition a → ExtraSkipError a e b → IfSome a.position (λ p. IsFileError p (IoError e)) ⊎ SourceErrorInOpening a (IoError e) b
+header_stuck a b e placed stuck = elim stuck.cause [
+  | inl (far, kind, stands) ↦ inl (place_shows a (λ p. IsFileError p (IoError e)) (λ p is. inr (inl (stuck.header, has_header a p stuck.header placed is stuck.file_header, (far, kind)))))
   | inr (near, failed) ↦ inr (inl (tt, failed))
 ]
 
--- there is no header
-pub header_refused : (a b : State) (e : IoErrorValue) → IsPlaced a → RefusedHeader a e b → RefusedFile a (IoError e) b
-header_refused a b e placed refused = record {
-  stood = refused.stood;
-  why = λ _. elim refused.why [ inl cut ↦ header_short a b e placed cut | inr stuck ↦ header_stuck a b e placed stuck ];
+-- parsing the header fails
+pub header_error : (a b : State) (e : IoErrorValue) → RemainsFromPosition a → FileHeaderParseError a e b → FileOpenError a (IoError e) b
+header_error a b e placed refused = record {
+  after_seek = refused.after_seek;
+  cause = λ _. elim refused.cause [ inl cut ↦ header_short a b e placed cut | inr stuck ↦ header_stuck a b e placed stuck ];
 }
 
--- its magic is no file's
-pub magic_refused : (a b : State) (h : PerfHeader) (e : Error) → IsPlaced a → TookHeader a h b → (e ≡ UnrecognizedMagicValue h.magic) × ((order : Endianness) → h.magic ≢ magic_of order) → RefusedFile a e b
-magic_refused a b h e placed took why = record {
-  stood = took.stood;
-  why = λ _. inl (place_shows a (λ p. StopsFile p e) (λ p is. inr (inr (inl (h, (has_header a p h placed is took.begins, took.near, why.1, why.0))))));
+-- the magic isn't that of a file
+pub magic_error : (a b : State) (h : PerfHeader) (e : Error) → RemainsFromPosition a → FileHeaderParsed a h b → (e ≡ UnrecognizedMagicValue h.magic) × ((order : Endianness) → h.magic ≢ magic_of order) → FileOpenError a e b
+magic_error a b h e placed took why = record {
+  after_seek = took.after_seek;
+  cause = λ _. inl (place_shows a (λ p. IsFileError p e) (λ p is. inr (inr (inl (h, (has_header a p h placed is took.file_header, took.extra_fits, why.1, why.0))))));
 }
 
-all_there : (a b : State) (p : Place) → Stood a b → a.place ≡ Some p → all_of b.place ≡ Some p.all
-all_there a b p stood is = stood.all ∙ ap all_of is
+all_there : (a b : State) (p : Position) → AfterSeek a b → a.position ≡ Some p → all_bytes_of b.position ≡ Some p.all_bytes
+all_there a b p stood is = stood.all_bytes ∙ ap all_bytes_of is
 
-place_put : (n : ℕ) (o : Option Place) (p : Place) → all_of o ≡ Some p.all → put_at n o ≡ Some (record { all = p.all; at = n })
+place_put : (n : ℕ) (o : Option Position) (p : Position) → all_bytes_of o ≡ Some p.all_bytes → at_offset n o ≡ Some (record { all_bytes = p.all_bytes; offset = n })
 place_put n None p is = cc
-place_put n (Some q) p is = let same : q.all ≡ p.all = cc in ap (λ l. Some (record { all = l; at = n })) same
+place_put n (Some q) p is = let same : q.all_bytes ≡ p.all_bytes = cc in ap (λ l. Some (record { all_bytes = l; offset = n })) same
 
--- what stands behind a header is what the file says
-pub behind_header : (a b c : State) (order : Endianness) (h : PerfHeader) (opening : Opening) → IsPlaced a → TookHeader a h b → h.magic ≡ magic_of order → ReadBehind order h b opening c → ReadFile a opening c
-behind_header a b c order h opening placed took magic read = record {
-  some = read.some;
-  rule = read.rule;
-  stood = stood_more a b c took.stood read.stood;
-  opened = place_shows a (λ p. OpenedAt p opening c) (λ p is.
-      let there = all_there a b p took.stood is in
-      let shown_at : HoldsSections order h p.all × ((n : ℕ) → data_in opening.sections n ≡ section_data order h p.all n) =
-      subst (λ o. IfSome o (λ all. HoldsSections order h all × ((n : ℕ) → data_in opening.sections n ≡ section_data order h all n))) there read.sections in
+-- what is opened after the header is the file's description
+pub after_header : (a b c : State) (order : Endianness) (h : PerfHeader) (opening : FileOpening) → RemainsFromPosition a → FileHeaderParsed a h b → h.magic ≡ magic_of order → OpenedAfterHeader order h b opening c → FileOpened a opening c
+after_header a b c order h opening placed took magic read = record {
+  nonempty = read.nonempty;
+  consistent = read.consistent;
+  after_seek = after_seek_more a b c took.after_seek read.after_seek;
+  file_opened = place_shows a (λ p. OpenedFileAt p opening c) (λ p is.
+      let there = all_there a b p took.after_seek is in
+      let shown_at : HoldsSections order h p.all_bytes × ((n : ℕ) → feature_data_of opening.sections n ≡ section_data order h p.all_bytes n) =
+      subst (λ o. IfSome o (λ all. HoldsSections order h all × ((n : ℕ) → feature_data_of opening.sections n ≡ section_data order h all n))) there read.sections in
       record {
         header = h;
-        is = record { has = has_header a p h placed is took.begins; passes = took.near; magic = magic ∙ ap magic_of (sym read.endian) };
-        near = read.near;
+        matches = record { has_header = has_header a p h placed is took.file_header; can_skip_extra = took.extra_fits; magic = magic ∙ ap magic_of (sym read.endian) };
+        end_fits = read.end_fits;
         features = read.features;
-        size = read.size;
-        holds = subst (λ o. HoldsSections o h p.all) (sym read.endian) (shown_at.0);
-        sections = subst (λ o. (n : ℕ) → data_in opening.sections n ≡ section_data o h p.all n) (sym read.endian) shown_at.1;
+        data_size = read.data_size;
+        sections_complete = subst (λ o. HoldsSections o h p.all_bytes) (sym read.endian) (shown_at.0);
+        sections = subst (λ o. (n : ℕ) → feature_data_of opening.sections n ≡ section_data o h p.all_bytes n) (sym read.endian) shown_at.1;
         attributes = subst (λ o. IfSome o (λ all. DescribesAttributes opening.endian h all opening.attributes.items)) there
-            (subst (λ o. IfSome (all_of b.place) (λ all. DescribesAttributes o h all opening.attributes.items)) (sym read.endian) read.attributes);
-        place = read.place ∙ place_put h.data_section.offset b.place p there;
+            (subst (λ o. IfSome (all_bytes_of b.position) (λ all. DescribesAttributes o h all opening.attributes.items)) (sym read.endian) read.attributes);
+        position = read.position ∙ place_put h.data_section.offset b.position p there;
       });
 }
 
-pub behind_refused : (a b c : State) (order : Endianness) (h : PerfHeader) (e : Error) → IsPlaced a → TookHeader a h b → h.magic ≡ magic_of order → RefusedBehind order h b e c → RefusedFile a e c
-behind_refused a b c order h e placed took magic refused = record {
-  stood = stood_more a b c took.stood refused.stood;
-  why = λ m. elim (refused.why m) [
-    | inl shown ↦ inl (place_shows a (λ p. StopsFile p e) (λ p is.
-        let stops : IfSome (Some p.all) (λ all. StopsBehind order h all e) = subst (λ o. IfSome o (λ all. StopsBehind order h all e)) (all_there a b p took.stood is) shown in
-        inr (inr (inr (order, (h, record { has = has_header a p h placed is took.begins; passes = took.near; magic = magic }, stops))))))
-    | inr owes ↦ inr (later_owes a b c e took.stood owes)
+pub after_error : (a b c : State) (order : Endianness) (h : PerfHeader) (e : Error) → RemainsFromPosition a → FileHeaderParsed a h b → h.magic ≡ magic_of order → OpenAfterHeaderError order h b e c → FileOpenError a e c
+after_error a b c order h e placed took magic refused = record {
+  after_seek = after_seek_more a b c took.after_seek refused.after_seek;
+  cause = λ m. elim (refused.cause m) [
+    | inl shown ↦ inl (place_shows a (λ p. IsFileError p e) (λ p is.
+        let stops : IfSome (Some p.all_bytes) (λ all. IsErrorAfterHeader order h all e) = subst (λ o. IfSome o (λ all. IsErrorAfterHeader order h all e)) (all_there a b p took.after_seek is) shown in
+        inr (inr (inr (order, (h, record { has_header = has_header a p h placed is took.file_header; can_skip_extra = took.extra_fits; magic = magic }, stops))))))
+    | inr owes ↦ inr (later_owes a b c e took.after_seek owes)
   ];
 }
 
-pub behind_file : (a b c : State) (order : Endianness) (h : PerfHeader) (r : Result Opening Error) → IsPlaced a → TookHeader a h b → h.magic ≡ magic_of order → ReadsBehind order h b r c → ReadsFile a r c
-behind_file a b c order h (Ok opening) placed took magic reads = behind_header a b c order h opening placed took magic reads
-behind_file a b c order h (Err e) placed took magic reads = behind_refused a b c order h e placed took magic reads
+pub after_file : (a b c : State) (order : Endianness) (h : PerfHeader) (r : Result FileOpening Error) → RemainsFromPosition a → FileHeaderParsed a h b → h.magic ≡ magic_of order → OpensAfterHeader order h b r c → OpensPerfFile a r c
+after_file a b c order h (Ok opening) placed took magic reads = after_header a b c order h opening placed took magic reads
+after_file a b c order h (Err e) placed took magic reads = after_error a b c order h e placed took magic reads

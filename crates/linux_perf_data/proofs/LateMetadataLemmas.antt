@@ -1,113 +1,113 @@
--- How a late record of metadata comes to what a `PerfFile` holds.
+-- The effect of a late metadata record on a `PerfFile`.
 use Rattle.std.proofs.Common.{◌≡◌, ◌≢◌, ℕ, List, [], ◌∷◌, ◌++◌, length, drop, refl, sym, ap, ◌∙◌, subst, arith, inl, inr, append-nil, false, ◌==◌, None, Some}
 use Rattle.std.specs.Prelude.{◌⊎◌, cond, nat_eq, Result, Ok, Err, vec_len}
 use Rattle.std.specs.Map.{update_all}
 use Rattle.std.proofs.lemmas.Bool.{ne_eqb}
 use Rattle.std.proofs.lemmas.List.{length-map}
-use Rattle.perfdata_base.specs.Place.{places_of}
+use Rattle.perfdata_base.specs.ParseInfo.{parse_info_of}
 use Rattle.perfdata_base.specs.Features.{HasFeature}
 use Rattle.perfdata_base.specs.declared.attr.PerfEventAttr.{PerfEventAttr}
 use Rattle.perfdata_base.specs.declared.features.FeatureSet.{FeatureSet}
 use Rattle.perfdata_sections.specs.Error.{IsInvalidInput}
-use Rattle.linux_perf_data.specs.Layout.{attributes_of}
-use Rattle.perfdata_base.specs.Numbers.{number_in}
+use Rattle.linux_perf_data.specs.Layout.{attributes_in_record}
+use Rattle.perfdata_base.specs.Endian.{number_in}
 use Rattle.perfdata_base.specs.declared.raw.Endianness.{Endianness}
-use Rattle.perfdata_sections.specs.EventDesc.{NoEventDesc}
+use Rattle.perfdata_sections.specs.EventDesc.{IsEventDescError}
 use Rattle.perfdata_sections.specs.declared.feature_sections.AttributeDescription.{AttributeDescription}
 use Rattle.perfdata_sections.specs.declared.error.Error.{Error}
 use Rattle.perfdata_sections.specs.declared.error.Error.TheVariants.{Memory, Failed}
-use Rattle.linux_perf_data.specs.declared.known.Known.{Known}
+use Rattle.linux_perf_data.specs.declared.attributes.lookup.AttributeLookup.{AttributeLookup}
 use Rattle.linux_perf_data.specs.declared.perf_file.PerfFile.{PerfFile}
-use Rattle.linux_perf_data.specs.Attribute.{Attribute, HoldsAttribute, attribute_in, Breach, Breaks, lacks_identifier, differs_about_trailing}
-use Rattle.linux_perf_data.specs.Described.{attribute_by, attributes_by}
-use Rattle.linux_perf_data.specs.Known.{Knows}
-use Rattle.linux_perf_data.specs.Late.{SameFile, IsMetadata, SameCount, Spoils, TakesIn, brings_features}
-use Rattle.linux_perf_data.specs.LateParts.{FindsNames, FitsNaming, NoAttribute, PutsAttribute, TookAttribute, TakesAttribute, TakesFeature, table_behind}
-use Rattle.linux_perf_data.specs.NameTable.{IsOf, IsTable, name_by, names_by}
-use Rattle.linux_perf_data.specs.Names.{CanName, Named, event_desc}
-use Rattle.linux_perf_data.specs.PerfFile.{descriptions_of, features_of, data_of, attributes_of_file}
-use Rattle.linux_perf_data.specs.Rules.{error_of_breach}
-use Rattle.linux_perf_data.specs.declared.late.Naming.{Naming}
-use Rattle.linux_perf_data.specs.declared.late.Naming.TheVariants.{Own, OfAll}
+use Rattle.linux_perf_data.specs.Attribute.{Attribute, HoldsAttribute, attribute_in, Inconsistency, AreInconsistent, missing_identifier, sample_id_all_differs}
+use Rattle.linux_perf_data.specs.Descriptions.{described_attribute, described_attributes}
+use Rattle.linux_perf_data.specs.AttributeLookup.{Represents}
+use Rattle.linux_perf_data.specs.LateMetadata.{SamePerfFile, IsMetadataType, SameAttributeCount, IsMetadataError, AppliesMetadata, features_in_record}
+use Rattle.linux_perf_data.specs.LateSteps.{FindsLateNames, AreLateNamesFor, IsAttributeError, PushesAttribute, AttributeApplied, AppliesAttribute, AppliesFeature, name_table_after}
+use Rattle.linux_perf_data.specs.NameTable.{HasTableWithEndian, IsTableOf, name_from_table, names_from_table}
+use Rattle.linux_perf_data.specs.Names.{IsReadableOrAbsent, NamedByEventDesc, event_desc}
+use Rattle.linux_perf_data.specs.PerfFile.{descriptions_of_file, features_of_file, feature_data_in_file, attributes_of_file}
+use Rattle.linux_perf_data.specs.Consistency.{error_of_inconsistency}
+use Rattle.linux_perf_data.specs.declared.pipe.late_metadata.LateNames.{LateNames}
+use Rattle.linux_perf_data.specs.declared.pipe.late_metadata.LateNames.TheVariants.{Single, All}
 use Rattle.linux_perf_data.proofs.NameTables.{named_by_kept, named_can, table_can}
 
 -- ---- an attribute
 
--- the names that a late attribute comes with stay as room is made for it
-pub fits_room : (file room : PerfFile) (ids own : List ℕ) (naming : Naming) → SameFile file room → room.told ≡ file.told → own ≡ ids → FitsNaming file ids naming → FitsNaming room own naming
-fits_room file room ids own (Own name) same kept is (t, there, its) = (t, kept ∙ there, its ∙ ap (name_by t) (sym is))
-fits_room file room ids own (OfAll table names name) same kept is f = record {
-  is = subst (IsTable table) (sym (same.kept event_desc)) f.is;
-  others = f.others ∙ ap (names_by table) (sym same.descriptions);
-  its = f.its ∙ ap (name_by table) (sym is);
+-- reserving memory for a late attribute leaves its names unchanged
+pub fits_room : (file room : PerfFile) (ids own : List ℕ) (naming : LateNames) → SamePerfFile file room → room.name_table ≡ file.name_table → own ≡ ids → AreLateNamesFor file ids naming → AreLateNamesFor room own naming
+fits_room file room ids own (Single name) same kept is (t, there, its) = (t, kept ∙ there, its ∙ ap (name_from_table t) (sym is))
+fits_room file room ids own (All table names name) same kept is f = record {
+  matches = subst (IsTableOf table) (sym (same.feature_data event_desc)) f.matches;
+  other_names = f.other_names ∙ ap (names_from_table table) (sym same.descriptions);
+  own_name = f.own_name ∙ ap (name_from_table table) (sym is);
 }
 
-behind_room : (file room : PerfFile) (naming : Naming) → room.told ≡ file.told → table_behind room naming ≡ table_behind file naming
-behind_room file room (Own name) kept = kept
-behind_room file room (OfAll table names name) kept = refl
+behind_room : (file room : PerfFile) (naming : LateNames) → room.name_table ≡ file.name_table → name_table_after room naming ≡ name_table_after file naming
+behind_room file room (Single name) kept = kept
+behind_room file room (All table names name) kept = refl
 
--- the attributes of a `PerfFile` that keeps a table have their names
-named_of : (order : Endianness) (file : PerfFile) → IsOf order file.told → Named order (data_of file event_desc) (descriptions_of file)
-named_of order file is = named_by_kept order file.told (data_of file event_desc) (descriptions_of file) is file.names file.none file.can file.events
+-- the attributes of a `PerfFile` that keeps a name table have their names
+named_of : (order : Endianness) (file : PerfFile) → HasTableWithEndian order file.name_table → NamedByEventDesc order (feature_data_in_file file event_desc) (descriptions_of_file file)
+named_of order file is = named_by_kept order file.name_table (feature_data_in_file file event_desc) (descriptions_of_file file) is file.names_match_table file.empty_without_event_desc file.table_readable file.table_events_match
 
--- an EVENT_DESC that gives names can be read
-pub found_can : (order : Endianness) (file : PerfFile) (ids : List ℕ) (naming : Naming) → FindsNames order file ids (Ok naming) → CanName order (data_of file event_desc)
-found_can order file ids (Own name) (fits, is) = named_can order (data_of file event_desc) (descriptions_of file) (named_of order file is)
-found_can order file ids (OfAll table names name) (fits, is) = table_can order table (data_of file event_desc) is fits.is
+-- an EVENT_DESC that contains names is readable
+pub found_can : (order : Endianness) (file : PerfFile) (ids : List ℕ) (naming : LateNames) → FindsLateNames order file ids (Ok naming) → IsReadableOrAbsent order (feature_data_in_file file event_desc)
+found_can order file ids (Single name) (fits, is) = named_can order (feature_data_in_file file event_desc) (descriptions_of_file file) (named_of order file is)
+found_can order file ids (All table names name) (fits, is) = table_can order table (feature_data_in_file file event_desc) is fits.matches
 
-pub took_attribute : (order : Endianness) (known known' : Known) (file room new : PerfFile) (body : List ℕ) (a : Attribute) (d : AttributeDescription) (naming : Naming) (ids : List ℕ) → HoldsAttribute order body → a ≡ attribute_in order body
-    → FindsNames order file ids (Ok naming) → SameFile file room → room.told ≡ file.told → ((attrs : List Attribute) → Knows order known attrs → Knows order known' (attrs ++ a ∷ [])) → attribute_by d ≡ a
-    → PutsAttribute room (attribute_by d) naming new → TookAttribute order known file body known' new
-took_attribute order known known' file room new body a d naming ids holds is found same kept knows one put =
-    let attrs : attributes_of_file new ≡ attributes_of_file file ++ a ∷ [] = put.attributes ∙ ap (λ l. l ++ attribute_by d ∷ []) (ap attributes_by same.descriptions) ∙ ap (λ b. attributes_of_file file ++ b ∷ []) one in
-    let bytes : (n : ℕ) → data_of new n ≡ data_of file n = λ n. put.sections.kept n ∙ same.kept n in
-    let table : new.told ≡ table_behind file naming = put.table_kept ∙ behind_room file room naming kept in
-    let have : Named order (data_of new event_desc) (descriptions_of new) = named_of order new (subst (IsOf order) (sym table) found.1) in record {
-      holds = holds;
-      knows = λ all k. subst (λ b. Knows order known' (all ++ b ∷ [])) is (knows all k);
+pub attribute_applied : (order : Endianness) (known known' : AttributeLookup) (file room new : PerfFile) (body : List ℕ) (a : Attribute) (d : AttributeDescription) (naming : LateNames) (ids : List ℕ) → HoldsAttribute order body → a ≡ attribute_in order body
+    → FindsLateNames order file ids (Ok naming) → SamePerfFile file room → room.name_table ≡ file.name_table → ((attrs : List Attribute) → Represents order known attrs → Represents order known' (attrs ++ a ∷ [])) → described_attribute d ≡ a
+    → PushesAttribute room (described_attribute d) naming new → AttributeApplied order known file body known' new
+attribute_applied order known known' file room new body a d naming ids holds is found same kept knows one put =
+    let attrs : attributes_of_file new ≡ attributes_of_file file ++ a ∷ [] = put.attributes ∙ ap (λ l. l ++ described_attribute d ∷ []) (ap described_attributes same.descriptions) ∙ ap (λ b. attributes_of_file file ++ b ∷ []) one in
+    let bytes : (n : ℕ) → feature_data_in_file new n ≡ feature_data_in_file file n = λ n. put.sections.feature_data n ∙ same.feature_data n in
+    let table : new.name_table ≡ name_table_after file naming = put.name_table ∙ behind_room file room naming kept in
+    let have : NamedByEventDesc order (feature_data_in_file new event_desc) (descriptions_of_file new) = named_of order new (subst (HasTableWithEndian order) (sym table) found.1) in record {
+      valid_attribute = holds;
+      represents = λ all k. subst (λ b. Represents order known' (all ++ b ∷ [])) is (knows all k);
       sections = record {
-        stays = put.sections.stays ∙ same.stays;
+        same_endian = put.sections.same_endian ∙ same.same_endian;
         features = put.sections.features ∙ same.features;
-        kept = bytes;
+        feature_data = bytes;
       };
       attributes = attrs ∙ ap (λ b. attributes_of_file file ++ b ∷ []) is;
-      named = subst (λ o. Named order o (descriptions_of new)) (bytes event_desc) have;
+      names_match = subst (λ o. NamedByEventDesc order o (descriptions_of_file new)) (bytes event_desc) have;
     }
 
--- it breaks the rule, or memory ran out
+-- the late attribute is inconsistent, or memory runs out
 abbrev with_ids : PerfEventAttr → List ℕ → Attribute
 with_ids attr ids = record { attr = attr; ids = ids }
 
-pub added_not : (order : Endianness) (known : Known) (file : PerfFile) (body : List ℕ) (attr : PerfEventAttr) (own told ids : List ℕ) (naming : Naming) (e : Error) → HoldsAttribute order body → own ≡ told → with_ids attr told ≡ attribute_in order body
-    → FindsNames order file ids (Ok naming) → (e ≡ Memory) ⊎ ((b : Breach) × (e ≡ error_of_breach b) × ((attrs : List Attribute) → Knows order known attrs → Breaks (attrs ++ with_ids attr own ∷ []) b))
-    → (e ≡ Memory → HoldsAttribute order body) × (e ≢ Memory → NoAttribute order known file body e)
+pub added_not : (order : Endianness) (known : AttributeLookup) (file : PerfFile) (body : List ℕ) (attr : PerfEventAttr) (own told ids : List ℕ) (naming : LateNames) (e : Error) → HoldsAttribute order body → own ≡ told → with_ids attr told ≡ attribute_in order body
+    → FindsLateNames order file ids (Ok naming) → (e ≡ Memory) ⊎ ((b : Inconsistency) × (e ≡ error_of_inconsistency b) × ((attrs : List Attribute) → Represents order known attrs → AreInconsistent (attrs ++ with_ids attr own ∷ []) b))
+    → (e ≡ Memory → HoldsAttribute order body) × (e ≢ Memory → IsAttributeError order known file body e)
 added_not order known file body attr own told ids naming e holds same is found why = (
   λ _. holds,
   λ other. elim why [
     | inl memory ↦ absurd (other memory)
     | inr (b, breach, breaks) ↦
         let all : with_ids attr own ≡ attribute_in order body = ap (with_ids attr) same ∙ is in
-        inr (inr (b, holds, found_can order file ids naming found, breach, λ attrs k. subst (λ a. Breaks (attrs ++ a ∷ []) b) all (breaks attrs k)))
+        inr (inr (b, holds, found_can order file ids naming found, breach, λ attrs k. subst (λ a. AreInconsistent (attrs ++ a ∷ []) b) all (breaks attrs k)))
   ],
 )
 
 -- ---- an attribute or a feature, as a record of its type
 
-spoils_unfailed : (order : Endianness) (kind : ℕ) (body : List ℕ) (e : Error) → Spoils order kind body e → e ≢ Failed
-spoils_unfailed order kind body e spoils f = elim (subst (Spoils order kind body) f spoils) [
+spoils_unfailed : (order : Endianness) (kind : ℕ) (body : List ℕ) (e : Error) → IsMetadataError order kind body e → e ≢ Failed
+spoils_unfailed order kind body e spoils f = elim (subst (IsMetadataError order kind body) f spoils) [
   | inl short ↦ absurd short.0
   | inr small ↦ absurd small.0
 ]
 
-desc_unfailed : (order : Endianness) (bytes : List ℕ) (e : Error) → NoEventDesc (number_in order) e bytes → e ≢ Failed
-desc_unfailed order bytes e none f = elim (subst (λ t. NoEventDesc (number_in order) t bytes) f none) [
+desc_unfailed : (order : Endianness) (bytes : List ℕ) (e : Error) → IsEventDescError (number_in order) e bytes → e ≢ Failed
+desc_unfailed order bytes e none f = elim (subst (λ t. IsEventDescError (number_in order) t bytes) f none) [
   | inl short ↦ absurd short.0
-  | inr stops ↦ elim stops.here [ inl frame ↦ absurd frame | inr tail ↦ absurd tail.1 ]
+  | inr stops ↦ elim stops.error_here [ inl frame ↦ absurd frame | inr tail ↦ absurd tail.1 ]
 ]
 
-breach_unfailed : (b : Breach) (e : Error) → e ≡ error_of_breach b → e ≢ Failed
-breach_unfailed (lacks_identifier i) e is f = cc
-breach_unfailed (differs_about_trailing i) e is f = cc
+breach_unfailed : (b : Inconsistency) (e : Error) → e ≡ error_of_inconsistency b → e ≢ Failed
+breach_unfailed (missing_identifier i) e is f = cc
+breach_unfailed (sample_id_all_differs i) e is f = cc
 
 memory_unfailed : (e : Error) → e ≡ Memory → e ≢ Failed
 memory_unfailed e is f = cc
@@ -115,49 +115,49 @@ memory_unfailed e is f = cc
 unfailed : (e : Error) → (e ≢ Memory → e ≢ Failed) → e ≢ Failed
 unfailed e other f = other (λ m. memory_unfailed e m f) f
 
--- the features of a file that has those of another
+-- a file with the features of another has the same features
 same_features : (old new : FeatureSet) (n : ℕ) → new ≡ old → HasFeature new n → HasFeature old n
 same_features old new n same has = subst (λ set. HasFeature set n) same has
 
-same_count : (order : Endianness) (known : Known) (file : PerfFile) → vec_len file.attributes ≡ vec_len known.places → SameCount order known file
+same_count : (order : Endianness) (known : AttributeLookup) (file : PerfFile) → vec_len file.attributes ≡ vec_len known.parse_infos → SameAttributeCount order known file
 same_count order known file counted attrs k =
     let there = file.attributes.ok in
-    let here = known.places.ok in
-    let places = ap length k.places in
-    let all = length-map attrs (λ a. places_of a.attr order) in
+    let here = known.parse_infos.ok in
+    let places = ap length k.parse_infos in
+    let all = length-map attrs (λ a. parse_info_of a.attr order) in
     omega (arith, there, here, places, all, counted)
 
-attribute_at : {A : Type 0} (order : Endianness) (known known' : Known) (file new : PerfFile) (body : List ℕ) (r : Result A Error) → SameCount order known file → TakesAttribute order known file body r known' new → TakesIn order known file 64 body r known' new
+attribute_at : {A : Type 0} (order : Endianness) (known known' : AttributeLookup) (file new : PerfFile) (body : List ℕ) (r : Result A Error) → SameAttributeCount order known file → AppliesAttribute order known file body r known' new → AppliesMetadata order known file 64 body r known' new
 attribute_at order known known' file new body (Ok _) count t = record {
-  count = λ _. count;
-  attribute = λ _. t.holds;
-  feature = λ k. absurd (omega (arith, k));
-  knows = t.knows;
-  took = record {
-    stays = t.sections.stays;
+  same_attribute_count = λ _. count;
+  valid_attribute = λ _. t.valid_attribute;
+  valid_feature = λ k. absurd (omega (arith, k));
+  represents = t.represents;
+  file_updates = record {
+    same_endian = t.sections.same_endian;
     attributes = t.attributes;
-    kept = t.sections.kept;
+    feature_data = t.sections.feature_data;
     features = λ n. (
-      λ has. inl (same_features (features_of file) (features_of new) n t.sections.features has),
+      λ has. inl (same_features (features_of_file file) (features_of_file new) n t.sections.features has),
       λ either. elim either [
-        | inl has ↦ same_features (features_of new) (features_of file) n (sym t.sections.features) has
+        | inl has ↦ same_features (features_of_file new) (features_of_file file) n (sym t.sections.features) has
         | inr (low, none, k, is) ↦ absurd (omega (arith, k))
       ],
     );
-    named = λ _. subst (λ desc. Named order desc (descriptions_of new)) (sym (t.sections.kept event_desc)) t.named;
-    unnamed = λ none. absurd (none (inl refl));
+    names_match = λ _. subst (λ desc. NamedByEventDesc order desc (descriptions_of_file new)) (sym (t.sections.feature_data event_desc)) t.names_match;
+    if_not_renamed = λ none. absurd (none (inl refl));
   };
 }
 attribute_at order known known' file new body (Err e) count (same, memory, why) = record {
-  same = same;
-  metadata = inl refl;
-  unfailed = unfailed e (λ m. elim (why m) [
+  same_file = same;
+  metadata_type = inl refl;
+  not_failed = unfailed e (λ m. elim (why m) [
     | inl spoils ↦ spoils_unfailed order 64 body e spoils
     | inr (inl (holds, (bytes, there, none))) ↦ desc_unfailed order bytes e none
     | inr (inr (b, holds, can, is, breaks)) ↦ breach_unfailed b e is
   ]);
-  memory = λ m. (count, inl (refl, memory m));
-  why = λ m. inr (
+  if_out_of_memory = λ m. (count, inl (refl, memory m));
+  cause = λ m. inr (
     count,
     elim (why m) [
       | inl spoils ↦ inl spoils
@@ -167,41 +167,41 @@ attribute_at order known known' file new body (Err e) count (same, memory, why) 
   );
 }
 
-pub attribute_taken : {A : Type 0} (order : Endianness) (known known' : Known) (file new : PerfFile) (kind : ℕ) (body : List ℕ) (r : Result A Error) → kind ≡ 64 → vec_len file.attributes ≡ vec_len known.places → TakesAttribute order known file body r known' new → TakesIn order known file kind body r known' new
-attribute_taken {A = A} order known known' file new kind body r is counted takes = subst (λ k. TakesIn order {A = A} known file k body r known' new) (sym is) (attribute_at order known known' file new body r (same_count order known file counted) takes)
+pub attribute_taken : {A : Type 0} (order : Endianness) (known known' : AttributeLookup) (file new : PerfFile) (kind : ℕ) (body : List ℕ) (r : Result A Error) → kind ≡ 64 → vec_len file.attributes ≡ vec_len known.parse_infos → AppliesAttribute order known file body r known' new → AppliesMetadata order known file kind body r known' new
+attribute_taken {A = A} order known known' file new kind body r is counted takes = subst (λ k. AppliesMetadata order {A = A} known file k body r known' new) (sym is) (attribute_at order known known' file new body r (same_count order known file counted) takes)
 
-feature_at : {A : Type 0} (order : Endianness) (known : Known) (file new : PerfFile) (body : List ℕ) (r : Result A Error) → SameCount order known file → TakesFeature order file body r new → TakesIn order known file 80 body r known new
+feature_at : {A : Type 0} (order : Endianness) (known : AttributeLookup) (file new : PerfFile) (body : List ℕ) (r : Result A Error) → SameAttributeCount order known file → AppliesFeature order file body r new → AppliesMetadata order known file 80 body r known new
 feature_at order known file new body (Ok _) count t = record {
-  count = λ _. count;
-  attribute = λ k. absurd (omega (arith, k));
-  feature = λ _. t.there;
-  knows = λ attrs k. subst (Knows order known) (sym (append-nil attrs)) k;
-  took = record {
-    stays = t.put.stays;
+  same_attribute_count = λ _. count;
+  valid_attribute = λ k. absurd (omega (arith, k));
+  valid_feature = λ _. t.complete;
+  represents = λ attrs k. subst (Represents order known) (sym (append-nil attrs)) k;
+  file_updates = record {
+    same_endian = t.feature_replaced.same_endian;
     attributes = t.attributes ∙ sym (append-nil (attributes_of_file file));
-    kept = t.put.kept;
+    feature_data = t.feature_replaced.feature_data;
     features = λ n. (
-      λ has. elim ((t.put.features n).0 has) [ inl before ↦ inl before | inr (low, is) ↦ inr (low, refl, refl, is) ],
-      λ either. (t.put.features n).1 (elim either [ inl before ↦ inl before | inr (low, none, k, is) ↦ inr (low, is) ]),
+      λ has. elim ((t.feature_replaced.features n).0 has) [ inl before ↦ inl before | inr (low, is) ↦ inr (low, refl, refl, is) ],
+      λ either. (t.feature_replaced.features n).1 (elim either [ inl before ↦ inl before | inr (low, none, k, is) ↦ inr (low, is) ]),
     );
-    named = λ gives. elim gives [
+    names_match = λ gives. elim gives [
       | inl k ↦ absurd (omega (arith, k))
       | inr (k, desc) ↦
-          let there : data_of new event_desc ≡ Some (drop 8 body) = t.put.kept event_desc ∙ ap (λ f. cond (nat_eq f event_desc) (Some (drop 8 body)) (data_of file event_desc)) desc in
-          subst (λ o. Named order o (descriptions_of new)) (sym there) (t.named desc)
+          let there : feature_data_in_file new event_desc ≡ Some (drop 8 body) = t.feature_replaced.feature_data event_desc ∙ ap (λ f. cond (nat_eq f event_desc) (Some (drop 8 body)) (feature_data_in_file file event_desc)) desc in
+          subst (λ o. NamedByEventDesc order o (descriptions_of_file new)) (sym there) (t.names_match desc)
     ];
-    unnamed = λ none. t.others (λ desc. none (inr (refl, desc)));
+    if_not_renamed = λ none. t.if_other_feature (λ desc. none (inr (refl, desc)));
   };
 }
 feature_at order known file new body (Err e) count (same, memory, why) = record {
-  same = same;
-  metadata = inr refl;
-  unfailed = unfailed e (λ m. elim (why m) [
+  same_file = same;
+  metadata_type = inr refl;
+  not_failed = unfailed e (λ m. elim (why m) [
     | inl spoils ↦ spoils_unfailed order 80 body e spoils
     | inr (there, desc, none) ↦ desc_unfailed order (drop 8 body) e none
   ]);
-  memory = λ m. (count, inr (refl, memory m));
-  why = λ m. inr (
+  if_out_of_memory = λ m. (count, inr (refl, memory m));
+  cause = λ m. inr (
     count,
     elim (why m) [
       | inl spoils ↦ inl spoils
@@ -210,47 +210,47 @@ feature_at order known file new body (Err e) count (same, memory, why) = record 
   );
 }
 
-pub feature_taken : {A : Type 0} (order : Endianness) (known : Known) (file new : PerfFile) (kind : ℕ) (body : List ℕ) (r : Result A Error) → kind ≡ 80 → vec_len file.attributes ≡ vec_len known.places → TakesFeature order file body r new → TakesIn order known file kind body r known new
-feature_taken {A = A} order known file new kind body r is counted takes = subst (λ k. TakesIn order {A = A} known file k body r known new) (sym is) (feature_at order known file new body r (same_count order known file counted) takes)
+pub feature_taken : {A : Type 0} (order : Endianness) (known : AttributeLookup) (file new : PerfFile) (kind : ℕ) (body : List ℕ) (r : Result A Error) → kind ≡ 80 → vec_len file.attributes ≡ vec_len known.parse_infos → AppliesFeature order file body r new → AppliesMetadata order known file kind body r known new
+feature_taken {A = A} order known file new kind body r is counted takes = subst (λ k. AppliesMetadata order {A = A} known file k body r known new) (sym is) (feature_at order known file new body r (same_count order known file counted) takes)
 
 -- ---- neither
 
--- a `PerfFile` with another count of attributes than those that are known
-pub foreign_refused : (A : Type 0) (order : Endianness) (known : Known) (file : PerfFile) (kind : ℕ) (body : List ℕ) (e : Error) → IsMetadata kind → IsInvalidInput e → vec_len file.attributes ≢ vec_len known.places
-    → TakesIn order {A = A} known file kind body (Err e) known file
-foreign_refused A order known file kind body e metadata is apart = record {
-  same = record { stays = refl; descriptions = refl; features = refl; kept = λ n. refl };
-  metadata = metadata;
-  unfailed = λ f. subst IsInvalidInput f is;
-  memory = λ m. absurd (subst IsInvalidInput m is);
-  why = λ m. inl (
+-- a `PerfFile` whose number of attributes isn't that of the lookup
+pub mismatch_rejected : (A : Type 0) (order : Endianness) (known : AttributeLookup) (file : PerfFile) (kind : ℕ) (body : List ℕ) (e : Error) → IsMetadataType kind → IsInvalidInput e → vec_len file.attributes ≢ vec_len known.parse_infos
+    → AppliesMetadata order {A = A} known file kind body (Err e) known file
+mismatch_rejected A order known file kind body e metadata is apart = record {
+  same_file = record { same_endian = refl; descriptions = refl; features = refl; feature_data = λ n. refl };
+  metadata_type = metadata;
+  not_failed = λ f. subst IsInvalidInput f is;
+  if_out_of_memory = λ m. absurd (subst IsInvalidInput m is);
+  cause = λ m. inl (
     is,
     λ attrs k same.
         let there = file.attributes.ok in
-        let here = known.places.ok in
-        let places = ap length k.places in
-        let all = length-map attrs (λ a. places_of a.attr order) in
+        let here = known.parse_infos.ok in
+        let places = ap length k.parse_infos in
+        let all = length-map attrs (λ a. parse_info_of a.attr order) in
         apart (omega (arith, there, here, places, all, same)),
   );
 }
 
--- any other record
-pub nothing_taken : {A : Type 0} (order : Endianness) (known : Known) (file : PerfFile) (kind : ℕ) (body : List ℕ) (r : A) → (¬ IsMetadata kind) → TakesIn order {A = A} known file kind body (Ok r) known file
+-- a record of any other type
+pub nothing_taken : {A : Type 0} (order : Endianness) (known : AttributeLookup) (file : PerfFile) (kind : ℕ) (body : List ℕ) (r : A) → (¬ IsMetadataType kind) → AppliesMetadata order {A = A} known file kind body (Ok r) known file
 nothing_taken order known file kind body r other =
     let no_attribute : (kind == 64) ≡ false = ne_eqb kind 64 (λ k. other (inl k)) in
     let no_feature : (kind == 80) ≡ false = ne_eqb kind 80 (λ k. other (inr k)) in
-    let none : attributes_of order None kind body ≡ [] = rw no_attribute refl in
-    let nothing : brings_features order None kind body ≡ [] = rw no_feature refl in record {
-      count = λ metadata. absurd (other metadata);
-      attribute = λ k. absurd (other (inl k));
-      feature = λ k. absurd (other (inr k));
-      knows = λ attrs k. subst (Knows order known) (sym (ap (λ l. attrs ++ l) none ∙ append-nil attrs)) k;
-      took = record {
-        stays = refl;
+    let none : attributes_in_record order None kind body ≡ [] = rw no_attribute refl in
+    let nothing : features_in_record order None kind body ≡ [] = rw no_feature refl in record {
+      same_attribute_count = λ metadata. absurd (other metadata);
+      valid_attribute = λ k. absurd (other (inl k));
+      valid_feature = λ k. absurd (other (inr k));
+      represents = λ attrs k. subst (Represents order known) (sym (ap (λ l. attrs ++ l) none ∙ append-nil attrs)) k;
+      file_updates = record {
+        same_endian = refl;
         attributes = sym (ap (λ l. attributes_of_file file ++ l) none ∙ append-nil (attributes_of_file file));
-        kept = λ n. sym (ap (λ l. update_all nat_eq (data_of file) l n) nothing);
+        feature_data = λ n. sym (ap (λ l. update_all nat_eq (feature_data_in_file file) l n) nothing);
         features = λ n. (λ has. inl has, λ either. elim either [ inl has ↦ has | inr (low, none, k, is) ↦ absurd (other (inr k)) ]);
-        named = λ gives. absurd (other (elim gives [ inl k ↦ inl k | inr put ↦ inr put.0 ]));
-        unnamed = λ _. refl;
+        names_match = λ gives. absurd (other (elim gives [ inl k ↦ inl k | inr put ↦ inr put.0 ]));
+        if_not_renamed = λ _. refl;
       };
     }

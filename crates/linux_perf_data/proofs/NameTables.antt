@@ -1,4 +1,4 @@
--- How a table of names comes to the names that descriptions give, and attributes to those of a table.
+-- A name table represents the names of descriptions, and attributes have the names of a table.
 use Rattle.std.proofs.Common.{◌≡◌, ◌==◌, ℕ, suc, ◌+◌, ◌<◌, ◌≤◌, Bool, true, false, List, [], ◌∷◌, ◌++◌, length, get_or, drop, refl, sym, ap, ◌∙◌, subst, arith, inl, inr, eq-eqb, Option, None, Some}
 use Rattle.std.specs.Prelude.{cond, if◌then◌else◌, nat_eq, Vec}
 use Rattle.std.specs.BTreeMap.{BTreeMap, get, is_at}
@@ -11,23 +11,23 @@ use Rattle.std.proofs.lemmas.List.Elements.{All-push}
 use Rattle.std.proofs.lemmas.List.{at_drop_all, at_drop_more, nil_from_length}
 use Rattle.std.specs.declared.alloc.Global.{Global}
 use Rattle.indexmap.specs.IndexMap.{IndexMap, get as index_get}
-use Rattle.perfdata_base.specs.Numbers.{number_in}
+use Rattle.perfdata_base.specs.Endian.{number_in}
 use Rattle.perfdata_base.proofs.Numbers.{in_reads_first}
 use Rattle.perfdata_base.specs.declared.features.Feature.{Feature}
 use Rattle.perfdata_base.specs.declared.raw.Endianness.{Endianness}
 use Rattle.perfdata_sections.specs.AttributeDescription.{events_in, ids_in, name_in}
-use Rattle.perfdata_sections.specs.EventDesc.{DescribesByEventDesc, TellsByEventDesc}
+use Rattle.perfdata_sections.specs.EventDesc.{DescribesByEventDesc, BeginsWithEventDesc}
 use Rattle.perfdata_sections.specs.declared.feature_sections.AttributeDescription.{AttributeDescription}
-use Rattle.perfdata_sections.proofs.EventFronts.{told_one, told_or_not}
-use Rattle.linux_perf_data.specs.FirstIds.{FindsFirst, PutsFirst, first_at}
-use Rattle.linux_perf_data.specs.NameTable.{IsOf, IsTable, KeepsEvents, KeepsNames, KeepsEmpty, KeepsRead}
-use Rattle.linux_perf_data.specs.Names.{CanName, Named, NamedBy, name_for, same_first}
-use Rattle.linux_perf_data.specs.Sections.{data_in}
-use Rattle.linux_perf_data.specs.declared.name_table.NameTable.{NameTable}
-use Rattle.linux_perf_data.proofs.NamesTold.{described_tells}
-use Rattle.linux_perf_data.proofs.Tables.{data_put}
+use Rattle.perfdata_sections.proofs.EventPrefixes.{event_desc_is_unique, event_desc_or_not}
+use Rattle.linux_perf_data.specs.FirstIds.{IndexesFirstIds, InsertsFirstId, first_index_with_id}
+use Rattle.linux_perf_data.specs.NameTable.{HasTableWithEndian, IsTableOf, TableHasEvents, TableNamesAll, TableEmptyWithoutEventDesc, TableIsReadable}
+use Rattle.linux_perf_data.specs.Names.{IsReadableOrAbsent, NamedByEventDesc, NamedBy, name_by_first_id, same_first_id}
+use Rattle.linux_perf_data.specs.FeatureData.{feature_data_of}
+use Rattle.linux_perf_data.specs.declared.attributes.name_table.NameTable.{NameTable}
+use Rattle.linux_perf_data.proofs.EventDescNames.{described_is_readable}
+use Rattle.linux_perf_data.proofs.FeatureTables.{data_put}
 
--- ---- a map by numbers
+-- ---- a map with numbers as keys
 
 pub at_is : (x y : ℕ) → is_at (nat_cmp x) y ≡ (x == y)
 at_is x y = elim (cases_order x y) [
@@ -36,12 +36,12 @@ at_is x y = elim (cases_order x y) [
   | inr (inr more) ↦ ap is_eq (sym (nat_cmp_is x y Greater more)) ∙ sym (ne_eqb x y (λ e. omega (arith, more, e)))
 ]
 
--- ---- the first description of an id
+-- ---- the first description of an ID
 
--- those from an index on are found
+-- the descriptions from an index on are in the map
 pub record PutFrom (first : BTreeMap ℕ ℕ) (told : List AttributeDescription) (index : ℕ) : Type 0 where
   pub within : index ≤ length told
-  pub finds : (id : ℕ) → get nat_cmp first id ≡ first_at id index (drop index told)
+  pub finds : (id : ℕ) → get nat_cmp first id ≡ first_index_with_id id index (drop index told)
 
 nothing_there : (first : BTreeMap ℕ ℕ) → first.entries ≡ [] → (id : ℕ) → get nat_cmp first id ≡ None
 nothing_there first none id = ap (λ (es : List (ℕ × ℕ)). lookup (is_at (nat_cmp id)) es) none
@@ -49,191 +49,191 @@ nothing_there first none id = ap (λ (es : List (ℕ × ℕ)). lookup (is_at (na
 pub put_none : (first : BTreeMap ℕ ℕ) (told : List AttributeDescription) → first.entries ≡ [] → PutFrom first told (length told)
 put_none first told none = record {
   within = omega arith;
-  finds = λ id. nothing_there first none id ∙ sym (at_drop_all (first_at id (length told)) told (length told) (omega arith));
+  finds = λ id. nothing_there first none id ∙ sym (at_drop_all (first_index_with_id id (length told)) told (length told) (omega arith));
 }
 
-pub put_more : (old new : BTreeMap ℕ ℕ) (told : List AttributeDescription) (index before : ℕ) (d : AttributeDescription) → before ≡ index + 1 → d ≡ get_or told index d → PutsFirst old (ids_in d) index new → PutFrom old told before → PutFrom new told index
+pub put_more : (old new : BTreeMap ℕ ℕ) (told : List AttributeDescription) (index before : ℕ) (d : AttributeDescription) → before ≡ index + 1 → d ≡ get_or told index d → InsertsFirstId old (ids_in d) index new → PutFrom old told before → PutFrom new told index
 put_more old new told index before d next is puts p =
     let within = p.within in
     let there : index < length told = omega (arith, within, next) in
-    let finds : (id : ℕ) → get nat_cmp old id ≡ first_at id (index + 1) (drop (index + 1) told) = λ id. p.finds id ∙ ap (λ n. first_at id n (drop n told)) next in record {
+    let finds : (id : ℕ) → get nat_cmp old id ≡ first_index_with_id id (index + 1) (drop (index + 1) told) = λ id. p.finds id ∙ ap (λ n. first_index_with_id id n (drop n told)) next in record {
       within = omega (arith, within, next);
       finds = λ id.
-          puts id ∙ ap (λ o. if same_first (ids_in d) (id ∷ []) then Some index else o) (finds id)
-          ∙ sym (at_drop_more (first_at id index) told index d there ∙ sym (ap (λ x. first_at id index (x ∷ drop (index + 1) told)) is));
+          puts id ∙ ap (λ o. if same_first_id (ids_in d) (id ∷ []) then Some index else o) (finds id)
+          ∙ sym (at_drop_more (first_index_with_id id index) told index d there ∙ sym (ap (λ x. first_index_with_id id index (x ∷ drop (index + 1) told)) is));
     }
 
-pub put_all : (first : BTreeMap ℕ ℕ) (told : List AttributeDescription) (index : ℕ) → index ≡ 0 → PutFrom first told index → FindsFirst first told
-put_all first told index none p = λ id. p.finds id ∙ ap (λ n. first_at id n (drop n told)) none
+pub put_all : (first : BTreeMap ℕ ℕ) (told : List AttributeDescription) (index : ℕ) → index ≡ 0 → PutFrom first told index → IndexesFirstIds first told
+put_all first told index none p = λ id. p.finds id ∙ ap (λ n. first_index_with_id id n (drop n told)) none
 
-pub nothing_first : (first : BTreeMap ℕ ℕ) (told : List AttributeDescription) → first.entries ≡ [] → told ≡ [] → FindsFirst first told
-nothing_first first told none empty = λ id. nothing_there first none id ∙ sym (ap (first_at id 0) empty)
+pub nothing_first : (first : BTreeMap ℕ ℕ) (told : List AttributeDescription) → first.entries ≡ [] → told ≡ [] → IndexesFirstIds first told
+nothing_first first told none empty = λ id. nothing_there first none id ∙ sym (ap (first_index_with_id id 0) empty)
 
 -- ---- its name
 
-first_only : (xs : List ℕ) (id : ℕ) (rest : List ℕ) → same_first xs (id ∷ rest) ≡ same_first xs (id ∷ [])
+first_only : (xs : List ℕ) (id : ℕ) (rest : List ℕ) → same_first_id xs (id ∷ rest) ≡ same_first_id xs (id ∷ [])
 first_only [] id rest = refl
 first_only (x ∷ xs) id rest = refl
 
-no_first : (xs : List ℕ) → same_first xs [] ≡ false
+no_first : (xs : List ℕ) → same_first_id xs [] ≡ false
 no_first [] = refl
 no_first (x ∷ xs) = refl
 
-pub no_ids : (told : List AttributeDescription) → name_for told [] ≡ None
+pub no_ids : (told : List AttributeDescription) → name_by_first_id told [] ≡ None
 no_ids [] = refl
-no_ids (d ∷ ds) = ap (λ b. if b then name_in d else name_for ds []) (no_first (ids_in d)) ∙ no_ids ds
+no_ids (d ∷ ds) = ap (λ b. if b then name_in d else name_by_first_id ds []) (no_first (ids_in d)) ∙ no_ids ds
 
 pub record FoundAt (id i k : ℕ) (rest : List ℕ) (ds : List AttributeDescription) : Type 0 where
   pub at : ℕ
   pub is : k ≡ i + at
   pub there : at < length ds
-  pub name : (d : AttributeDescription) → name_for ds (id ∷ rest) ≡ name_in (get_or ds at d)
+  pub name : (d : AttributeDescription) → name_by_first_id ds (id ∷ rest) ≡ name_in (get_or ds at d)
 
-found_at : (id i : ℕ) (rest : List ℕ) (ds : List AttributeDescription) (k : ℕ) → first_at id i ds ≡ Some k → FoundAt id i k rest ds
+found_at : (id i : ℕ) (rest : List ℕ) (ds : List AttributeDescription) (k : ℕ) → first_index_with_id id i ds ≡ Some k → FoundAt id i k rest ds
 found_at id i rest [] k is = absurd cc
-found_at id i rest (d ∷ ds) k is = elim (cases_Bool (same_first (ids_in d) (id ∷ []))) [
+found_at id i rest (d ∷ ds) k is = elim (cases_Bool (same_first_id (ids_in d) (id ∷ []))) [
   | inl same ↦
-      let here : Some i ≡ Some k = sym (ap (λ b. if b then Some i else first_at id (i + 1) ds) same) ∙ is in
+      let here : Some i ≡ Some k = sym (ap (λ b. if b then Some i else first_index_with_id id (i + 1) ds) same) ∙ is in
       let own : i ≡ k = cc in record {
         at = 0;
         is = omega (arith, own);
         there = omega arith;
-        name = λ x. ap (λ b. if b then name_in d else name_for ds (id ∷ rest)) (first_only (ids_in d) id rest ∙ same);
+        name = λ x. ap (λ b. if b then name_in d else name_by_first_id ds (id ∷ rest)) (first_only (ids_in d) id rest ∙ same);
       }
   | inr other ↦
-      let later : first_at id (i + 1) ds ≡ Some k = sym (ap (λ b. if b then Some i else first_at id (i + 1) ds) other) ∙ is in
+      let later : first_index_with_id id (i + 1) ds ≡ Some k = sym (ap (λ b. if b then Some i else first_index_with_id id (i + 1) ds) other) ∙ is in
       let f = found_at id (i + 1) rest ds k later in
       let there = f.there in
       let own = f.is in record {
         at = suc f.at;
         is = omega (arith, own);
         there = omega (arith, there);
-        name = λ x. ap (λ b. if b then name_in d else name_for ds (id ∷ rest)) (first_only (ids_in d) id rest ∙ other) ∙ f.name x;
+        name = λ x. ap (λ b. if b then name_in d else name_by_first_id ds (id ∷ rest)) (first_only (ids_in d) id rest ∙ other) ∙ f.name x;
       }
 ]
 
-not_found : (id i : ℕ) (rest : List ℕ) (ds : List AttributeDescription) → first_at id i ds ≡ None → name_for ds (id ∷ rest) ≡ None
+not_found : (id i : ℕ) (rest : List ℕ) (ds : List AttributeDescription) → first_index_with_id id i ds ≡ None → name_by_first_id ds (id ∷ rest) ≡ None
 not_found id i rest [] is = refl
-not_found id i rest (d ∷ ds) is = elim (cases_Bool (same_first (ids_in d) (id ∷ []))) [
-  | inl same ↦ absurd (let here : Some i ≡ None = sym (ap (λ b. if b then Some i else first_at id (i + 1) ds) same) ∙ is in cc)
+not_found id i rest (d ∷ ds) is = elim (cases_Bool (same_first_id (ids_in d) (id ∷ []))) [
+  | inl same ↦ absurd (let here : Some i ≡ None = sym (ap (λ b. if b then Some i else first_index_with_id id (i + 1) ds) same) ∙ is in cc)
   | inr other ↦
-      let later : first_at id (i + 1) ds ≡ None = sym (ap (λ b. if b then Some i else first_at id (i + 1) ds) other) ∙ is in
-      ap (λ b. if b then name_in d else name_for ds (id ∷ rest)) (first_only (ids_in d) id rest ∙ other) ∙ not_found id (i + 1) rest ds later
+      let later : first_index_with_id id (i + 1) ds ≡ None = sym (ap (λ b. if b then Some i else first_index_with_id id (i + 1) ds) other) ∙ is in
+      ap (λ b. if b then name_in d else name_by_first_id ds (id ∷ rest)) (first_only (ids_in d) id rest ∙ other) ∙ not_found id (i + 1) rest ds later
 ]
 
 first_of : (l : List ℕ) → 0 < length l → get_or l 0 0 ∷ drop 1 l ≡ l
 first_of [] some = absurd (omega (arith, some))
 first_of (x ∷ xs) some = refl
 
-module _ (first : BTreeMap ℕ ℕ) (told : List AttributeDescription) (ids : List ℕ) (finds : FindsFirst first told) (some : 0 < length ids) where
-  -- the index that stands under the first of some ids is that of a description, whose name they have
+module _ (first : BTreeMap ℕ ℕ) (told : List AttributeDescription) (ids : List ℕ) (finds : IndexesFirstIds first told) (some : 0 < length ids) where
+  -- the index of the first ID is that of a description, whose name applies
   index_found : (k : ℕ) → Some k ≡ get nat_cmp first (get_or ids 0 0) → FoundAt (get_or ids 0 0) 0 k (drop 1 ids) told
   index_found k there = found_at (get_or ids 0 0) 0 (drop 1 ids) told k (sym (there ∙ finds (get_or ids 0 0)))
 
   pub index_within : (k : ℕ) → Some k ≡ get nat_cmp first (get_or ids 0 0) → k < length told
   index_within k there = (let f = index_found k there in let at = f.is in let low = f.there in omega (arith, at, low))
 
-  pub name_found : (k : ℕ) (d : AttributeDescription) → Some k ≡ get nat_cmp first (get_or ids 0 0) → name_in (get_or told k d) ≡ name_for told ids
+  pub name_found : (k : ℕ) (d : AttributeDescription) → Some k ≡ get nat_cmp first (get_or ids 0 0) → name_in (get_or told k d) ≡ name_by_first_id told ids
   name_found k d there =
       let f = index_found k there in
       let at = f.is in
       let same : k ≡ f.at = omega (arith, at) in
-      ap (λ n. name_in (get_or told n d)) same ∙ sym (f.name d) ∙ ap (name_for told) (first_of ids some)
+      ap (λ n. name_in (get_or told n d)) same ∙ sym (f.name d) ∙ ap (name_by_first_id told) (first_of ids some)
 
-  pub name_missed : None ≡ get nat_cmp first (get_or ids 0 0) → None ≡ name_for told ids
-  name_missed none = sym (not_found (get_or ids 0 0) 0 (drop 1 ids) told (sym (none ∙ finds (get_or ids 0 0)))) ∙ ap (name_for told) (first_of ids some)
+  pub name_missed : None ≡ get nat_cmp first (get_or ids 0 0) → None ≡ name_by_first_id told ids
+  name_missed none = sym (not_found (get_or ids 0 0) 0 (drop 1 ids) told (sym (none ∙ finds (get_or ids 0 0)))) ∙ ap (name_by_first_id told) (first_of ids some)
 
 -- ---- a table that is kept
 
 one : {A : Type 0} (x y : A) → Some x ≡ Some y → x ≡ y
 one x y same = cc
 
-module _ (t : NameTable) (desc : Option (List ℕ)) (is : IsTable t desc) where
-  described : (bytes : List ℕ) (other : NameTable) → Some t ≡ Some other → desc ≡ Some bytes → DescribesByEventDesc (number_in other.endian) bytes other.told.items
+module _ (t : NameTable) (desc : Option (List ℕ)) (is : IsTableOf t desc) where
+  described : (bytes : List ℕ) (other : NameTable) → Some t ≡ Some other → desc ≡ Some bytes → DescribesByEventDesc (number_in other.endian) bytes other.events.items
   described bytes other same there =
-      let own : IsTable t (Some bytes) = subst (IsTable t) there is in
-      subst (λ (o : NameTable). IsTable o (Some bytes)) (one t other same) own
+      let own : IsTableOf t (Some bytes) = subst (IsTableOf t) there is in
+      subst (λ (o : NameTable). IsTableOf o (Some bytes)) (one t other same) own
 
-  pub table_none : KeepsEmpty (Some t) desc
+  pub table_none : TableEmptyWithoutEventDesc (Some t) desc
   table_none other same none =
-      let own : IsTable t None = subst (IsTable t) none is in
-      let empty : IsTable other None = subst (λ (o : NameTable). IsTable o None) (one t other same) own in
+      let own : IsTableOf t None = subst (IsTableOf t) none is in
+      let empty : IsTableOf other None = subst (λ (o : NameTable). IsTableOf o None) (one t other same) own in
       ap length empty
 
-  pub table_some : KeepsRead (Some t) desc
-  table_some other bytes same there unread = unread (described_tells other.endian bytes other.told.items (described bytes other same there))
+  pub table_some : TableIsReadable (Some t) desc
+  table_some other bytes same there unread = unread (described_is_readable other.endian bytes other.events.items (described bytes other same there))
 
-  pub table_events : KeepsEvents (Some t) desc
-  table_events other bytes es same there tells = told_one (number_in other.endian) (in_reads_first other.endian) bytes (events_in other.told.items) es (described bytes other same there) tells
+  pub table_events : TableHasEvents (Some t) desc
+  table_events other bytes es same there tells = event_desc_is_unique (number_in other.endian) (in_reads_first other.endian) bytes (events_in other.events.items) es (described bytes other same there) tells
 
-pub table_names : (t : NameTable) (ds : List AttributeDescription) → NamedBy t.told.items ds → KeepsNames (Some t) ds
-table_names t ds named other same = subst (λ (o : NameTable). NamedBy o.told.items ds) (one t other same) named
+pub table_names : (t : NameTable) (ds : List AttributeDescription) → NamedBy t.events.items ds → TableNamesAll (Some t) ds
+table_names t ds named other same = subst (λ (o : NameTable). NamedBy o.events.items ds) (one t other same) named
 
--- and one of a `PerfFile` whose EVENT_DESC stays
+-- the table of a `PerfFile` whose EVENT_DESC is unchanged
 module _ (kept : Option NameTable) (old new : Option (List ℕ)) (stays : (t : NameTable) → kept ≡ Some t → new ≡ old) where
-  pub stays_none : KeepsEmpty kept old → KeepsEmpty kept new
+  pub stays_none : TableEmptyWithoutEventDesc kept old → TableEmptyWithoutEventDesc kept new
   stays_none before t same none = before t same (sym (stays t same) ∙ none)
 
-  pub stays_some : KeepsRead kept old → KeepsRead kept new
+  pub stays_some : TableIsReadable kept old → TableIsReadable kept new
   stays_some before t bytes same there = before t bytes same (sym (stays t same) ∙ there)
 
-  pub stays_events : KeepsEvents kept old → KeepsEvents kept new
+  pub stays_events : TableHasEvents kept old → TableHasEvents kept new
   stays_events before t bytes es same there tells = before t bytes es same (sym (stays t same) ∙ there) tells
 
 none_kept : (t : NameTable) → None ≡ Some t → ⊥
 none_kept t e = cc
 
--- and where none is kept nothing is to be known
-pub no_names : (ds : List AttributeDescription) → KeepsNames None ds
+-- without a table there is nothing to show
+pub no_names : (ds : List AttributeDescription) → TableNamesAll None ds
 no_names ds t same = absurd (none_kept t same)
 
-pub no_none : (desc : Option (List ℕ)) → KeepsEmpty None desc
+pub no_none : (desc : Option (List ℕ)) → TableEmptyWithoutEventDesc None desc
 no_none desc t same = absurd (none_kept t same)
 
-pub no_some : (desc : Option (List ℕ)) → KeepsRead None desc
+pub no_some : (desc : Option (List ℕ)) → TableIsReadable None desc
 no_some desc t bytes same = absurd (none_kept t same)
 
-pub no_events : (desc : Option (List ℕ)) → KeepsEvents None desc
+pub no_events : (desc : Option (List ℕ)) → TableHasEvents None desc
 no_events desc t bytes es same = absurd (none_kept t same)
 
--- another feature's data leave it
+-- the data of another feature leave the table valid
 pub put_stays : {S : Type 0} (kept : Option NameTable) (m new : IndexMap Feature (Vec ℕ Global) S) (k : Feature) (v : Vec ℕ Global) → (k.0 ≡ 12 → kept ≡ None)
-    → ((q : Feature) → index_get (λ f g. nat_eq f.0 g.0) new q ≡ cond (nat_eq k.0 q.0) (Some v) (index_get (λ f g. nat_eq f.0 g.0) m q)) → (t : NameTable) → kept ≡ Some t → data_in new 12 ≡ data_in m 12
+    → ((q : Feature) → index_get (λ f g. nat_eq f.0 g.0) new q ≡ cond (nat_eq k.0 q.0) (Some v) (index_get (λ f g. nat_eq f.0 g.0) m q)) → (t : NameTable) → kept ≡ Some t → feature_data_of new 12 ≡ feature_data_of m 12
 put_stays kept m new k v other puts t same = elim (cases_eq k.0 12) [
   | inl is ↦ absurd (none_kept t (sym (other is) ∙ same))
-  | inr apart ↦ data_put m new k v puts 12 ∙ ap (λ b. cond b (Some v.items) (data_in m 12)) (ne_eqb k.0 12 apart)
+  | inr apart ↦ data_put m new k v puts 12 ∙ ap (λ b. cond b (Some v.items) (feature_data_of m 12)) (ne_eqb k.0 12 apart)
 ]
 
--- ---- one attribute more
+-- ---- one more attribute
 
-pub pushed_named : (told : List AttributeDescription) (b : Bool) (before items ds : List AttributeDescription) (d : AttributeDescription) → items ≡ (if b then before ++ d ∷ [] else before) → before ≡ ds → NamedBy told ds → name_in d ≡ name_for told (ids_in d) → NamedBy told items
-pushed_named told true before items ds d is same named own = subst (NamedBy told) (sym (is ∙ ap (λ l. l ++ d ∷ []) same)) (All-push (λ x. name_in x ≡ name_for told (ids_in x)) ds d named own)
+pub pushed_named : (told : List AttributeDescription) (b : Bool) (before items ds : List AttributeDescription) (d : AttributeDescription) → items ≡ (if b then before ++ d ∷ [] else before) → before ≡ ds → NamedBy told ds → name_in d ≡ name_by_first_id told (ids_in d) → NamedBy told items
+pushed_named told true before items ds d is same named own = subst (NamedBy told) (sym (is ∙ ap (λ l. l ++ d ∷ []) same)) (All-push (λ x. name_in x ≡ name_by_first_id told (ids_in x)) ds d named own)
 pushed_named told false before items ds d is same named own = subst (NamedBy told) (sym (is ∙ same)) named
 
--- ---- what is known of a table shows the names of the attributes
+-- ---- the facts of a table determine the names of the attributes
 
-pub named_by_kept : (order : Endianness) (kept : Option NameTable) (desc : Option (List ℕ)) (ds : List AttributeDescription) → IsOf order kept → KeepsNames kept ds → KeepsEmpty kept desc → KeepsRead kept desc → KeepsEvents kept desc → Named order desc ds
+pub named_by_kept : (order : Endianness) (kept : Option NameTable) (desc : Option (List ℕ)) (ds : List AttributeDescription) → HasTableWithEndian order kept → TableNamesAll kept ds → TableEmptyWithoutEventDesc kept desc → TableIsReadable kept desc → TableHasEvents kept desc → NamedByEventDesc order desc ds
 named_by_kept order None desc ds is names none some events = absurd is
 named_by_kept order (Some t) None ds is names none some events =
-    let empty : t.told.items ≡ [] = nil_from_length t.told.items (none t refl refl) in
+    let empty : t.events.items ≡ [] = nil_from_length t.events.items (none t refl refl) in
     subst (λ told. NamedBy told ds) empty (names t refl)
-named_by_kept order (Some t) (Some bytes) ds is names none some events = elim (told_or_not (number_in t.endian) (in_reads_first t.endian) bytes) [
+named_by_kept order (Some t) (Some bytes) ds is names none some events = elim (event_desc_or_not (number_in t.endian) (in_reads_first t.endian) bytes) [
   | inl (es, tells) ↦
-      let own : DescribesByEventDesc (number_in t.endian) bytes t.told.items = subst (TellsByEventDesc (number_in t.endian) bytes) (sym (events t bytes es refl refl tells)) tells in
-      (t.told.items, subst (λ o. DescribesByEventDesc (number_in o) bytes t.told.items) is own, names t refl)
+      let own : DescribesByEventDesc (number_in t.endian) bytes t.events.items = subst (BeginsWithEventDesc (number_in t.endian) bytes) (sym (events t bytes es refl refl tells)) tells in
+      (t.events.items, subst (λ o. DescribesByEventDesc (number_in o) bytes t.events.items) is own, names t refl)
   | inr unread ↦ absurd (some t bytes refl refl unread)
 ]
 
--- and that EVENT_DESC can be read
-pub table_can : (order : Endianness) (t : NameTable) (desc : Option (List ℕ)) → t.endian ≡ order → IsTable t desc → CanName order desc
+-- the EVENT_DESC of a table is readable
+pub table_can : (order : Endianness) (t : NameTable) (desc : Option (List ℕ)) → t.endian ≡ order → IsTableOf t desc → IsReadableOrAbsent order desc
 table_can order t None is table = tt
-table_can order t (Some bytes) is table = described_tells order bytes t.told.items (subst (λ o. DescribesByEventDesc (number_in o) bytes t.told.items) is table)
+table_can order t (Some bytes) is table = described_is_readable order bytes t.events.items (subst (λ o. DescribesByEventDesc (number_in o) bytes t.events.items) is table)
 
-pub named_can : (order : Endianness) (desc : Option (List ℕ)) (ds : List AttributeDescription) → Named order desc ds → CanName order desc
+pub named_can : (order : Endianness) (desc : Option (List ℕ)) (ds : List AttributeDescription) → NamedByEventDesc order desc ds → IsReadableOrAbsent order desc
 named_can order None ds named = tt
-named_can order (Some bytes) ds (told, is, names) = described_tells order bytes told is
+named_can order (Some bytes) ds (told, is, names) = described_is_readable order bytes told is
 
--- a table that is made of EVENT_DESC, by which attributes are named
-pub named_by_table : (order : Endianness) (t : NameTable) (desc : Option (List ℕ)) (ds : List AttributeDescription) → t.endian ≡ order → IsTable t desc → NamedBy t.told.items ds → Named order desc ds
+-- a table built from EVENT_DESC, from which attributes have their names
+pub named_by_table : (order : Endianness) (t : NameTable) (desc : Option (List ℕ)) (ds : List AttributeDescription) → t.endian ≡ order → IsTableOf t desc → NamedBy t.events.items ds → NamedByEventDesc order desc ds
 named_by_table order t None ds is table named = subst (λ told. NamedBy told ds) table named
-named_by_table order t (Some bytes) ds is table named = (t.told.items, subst (λ o. DescribesByEventDesc (number_in o) bytes t.told.items) is table, named)
+named_by_table order t (Some bytes) ds is table named = (t.events.items, subst (λ o. DescribesByEventDesc (number_in o) bytes t.events.items) is table, named)

@@ -1,4 +1,4 @@
--- How attributes come to their names, one after the other.
+-- Attributes are named one after another.
 use Rattle.std.proofs.Common.{◌≡◌, ℕ, zero, suc, ◌+◌, ◌<◌, List, [], ◌∷◌, ◌++◌, length, get_or, set, take, drop, refl, sym, ap, ◌∙◌, subst, arith, Option}
 use Rattle.std.specs.Prelude.{map, All, String, string_bytes}
 use Rattle.std.specs.Option.{option_map}
@@ -8,10 +8,10 @@ use Rattle.std.proofs.lemmas.List.Elements.{All-nil, All-cons}
 use Rattle.perfdata_sections.specs.AttributeDescription.{attr_in, name_in, ids_in}
 use Rattle.perfdata_sections.specs.declared.feature_sections.AttributeDescription.{AttributeDescription}
 use Rattle.linux_perf_data.specs.Attribute.{Attribute}
-use Rattle.linux_perf_data.specs.Described.{attribute_by, attributes_by}
-use Rattle.linux_perf_data.specs.Names.{names_in, texts_of}
+use Rattle.linux_perf_data.specs.Descriptions.{described_attribute, described_attributes}
+use Rattle.linux_perf_data.specs.Names.{names_in, name_bytes_of}
 
--- ---- one attribute more that has another name
+-- ---- one more renamed attribute
 
 set_same : {A B : Type 0} (f : A → B) (xs : List A) (i : ℕ) (y : A) → f y ≡ f (get_or xs i y) → map f (set xs i y) ≡ map f xs
 set_same f [] i y is = refl
@@ -19,24 +19,24 @@ set_same f (x ∷ xs) zero y is = ap (λ b. b ∷ map f xs) is
 set_same f (x ∷ xs) (suc i) y is = ap (λ l. f x ∷ l) (set_same f xs i y is)
 
 module _ (ds : List AttributeDescription) (i : ℕ) (old new : AttributeDescription) (there : i < length ds) where
-  -- its attribute and its ids stay
-  pub renamed : attr_in new ≡ attr_in (get_or ds i old) → ids_in new ≡ ids_in (get_or ds i old) → attributes_by (set ds i new) ≡ attributes_by ds
+  -- its attribute and its IDs are unchanged
+  pub renamed : attr_in new ≡ attr_in (get_or ds i old) → ids_in new ≡ ids_in (get_or ds i old) → described_attributes (set ds i new) ≡ described_attributes ds
   renamed attr ids =
-      let one : attribute_by new ≡ attribute_by (get_or ds i old) = cc in
-      set_same attribute_by ds i new (one ∙ ap attribute_by (get_or_default ds i old new there))
+      let one : described_attribute new ≡ described_attribute (get_or ds i old) = cc in
+      set_same described_attribute ds i new (one ∙ ap described_attribute (get_or_default ds i old new there))
 
   -- it has the name at its index
-  pub named_more : (names left : List (Option (String Global))) (n : Option (String Global)) → i < length names → names_in (take i ds) ≡ texts_of (take i names) → drop i left ≡ drop i names
-      → n ≡ get_or left i n → name_in new ≡ option_map string_bytes n → names_in (take (i + 1) (set ds i new)) ≡ texts_of (take (i + 1) names)
+  pub named_more : (names left : List (Option (String Global))) (n : Option (String Global)) → i < length names → names_in (take i ds) ≡ name_bytes_of (take i names) → drop i left ≡ drop i names
+      → n ≡ get_or left i n → name_in new ≡ option_map string_bytes n → names_in (take (i + 1) (set ds i new)) ≡ name_bytes_of (take (i + 1) names)
   named_more names left n within before same is one =
       let none : i + 0 ≡ i = omega arith in
       let at : get_or left (i + 0) n ≡ get_or names (i + 0) n = sym (get_or-drop i left 0 n) ∙ ap (λ l. get_or l 0 n) same ∙ get_or-drop i names 0 n in
       let here : get_or names i n ≡ n = sym (is ∙ (subst (λ k. get_or left k n ≡ get_or names k n) none at)) in
       ap names_in (take_more_set ds i new there) ∙ map_push name_in (take i ds) new
-      ∙ ap (λ l. l ++ name_in new ∷ []) before ∙ ap (λ x. texts_of (take i names) ++ x ∷ []) (one ∙ ap (λ m. option_map string_bytes m) (sym here))
-      ∙ sym (ap texts_of (take_more names i n within) ∙ map_push (λ name. option_map string_bytes name) (take i names) (get_or names i n))
+      ∙ ap (λ l. l ++ name_in new ∷ []) before ∙ ap (λ x. name_bytes_of (take i names) ++ x ∷ []) (one ∙ ap (λ m. option_map string_bytes m) (sym here))
+      ∙ sym (ap name_bytes_of (take_more names i n within) ∙ map_push (λ name. option_map string_bytes name) (take i names) (get_or names i n))
 
--- the names behind it are left
+-- the names after it are unchanged
 pub left_more : {A : Type 0} (names left : List A) (i : ℕ) (x : A) → drop i left ≡ drop i names → drop (i + 1) (set left i x) ≡ drop (i + 1) names
 left_more names left i x same = drop-set-lt (i + 1) left i x (omega arith) ∙ sym (drop-drop 1 i left) ∙ ap (λ l. drop 1 l) same ∙ drop-drop 1 i names
 
@@ -49,11 +49,11 @@ all_by_map f g (x ∷ xs) same =
     let later : map f xs ≡ map g xs = cc in
     All-cons (λ x. f x ≡ g x) x xs here (all_by_map f g xs later)
 
-pub by_attributes : (f : List ℕ → Option (List ℕ)) (ds : List AttributeDescription) → map (λ d. f (ids_in d)) ds ≡ map (λ (a : Attribute). f a.ids) (attributes_by ds)
+pub by_attributes : (f : List ℕ → Option (List ℕ)) (ds : List AttributeDescription) → map (λ d. f (ids_in d)) ds ≡ map (λ (a : Attribute). f a.ids) (described_attributes ds)
 by_attributes f [] = refl
 by_attributes f (d ∷ ds) = ap (λ l. f (ids_in d) ∷ l) (by_attributes f ds)
 
--- attributes that have the names that were told by their ids
-pub named_by : (f : List ℕ → Option (List ℕ)) (ds new : List AttributeDescription) → names_in new ≡ map (λ d. f (ids_in d)) ds → attributes_by new ≡ attributes_by ds → All (λ d. name_in d ≡ f (ids_in d)) new
+-- attributes have the names that their IDs map to
+pub named_by : (f : List ℕ → Option (List ℕ)) (ds new : List AttributeDescription) → names_in new ≡ map (λ d. f (ids_in d)) ds → described_attributes new ≡ described_attributes ds → All (λ d. name_in d ≡ f (ids_in d)) new
 named_by f ds new names same = all_by_map name_in (λ d. f (ids_in d)) new
     (names ∙ by_attributes f ds ∙ ap (map (λ (a : Attribute). f a.ids)) (sym same) ∙ sym (by_attributes f new))

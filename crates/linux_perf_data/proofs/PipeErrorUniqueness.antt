@@ -1,98 +1,98 @@
--- Two refusals of one pipe have one cause: what an opening meets first is one thing.
+-- Two errors of one pipe have the same cause, because the first error of an opening is unique.
 use Rattle.std.proofs.Common.{◌≡◌, ℕ, ◌+◌, ◌-◌, ◌^◌, ◌<◌, ◌≤◌, List, [], ◌∷◌, ◌++◌, length, take, drop, refl, sym, ap, ◌∙◌, subst, inl, inr, arith, length-append, append_assoc, None}
 use Rattle.std.specs.Prelude.{◌⊎◌, All}
 use Rattle.std.specs.List.{concat}
 use Rattle.std.proofs.lemmas.List.Elements.{All-head, All-tail}
-use Rattle.perfdata_base.specs.Numbers.{number_in}
+use Rattle.perfdata_base.specs.Endian.{number_in}
 use Rattle.perfdata_base.specs.declared.raw.Endianness.{Endianness}
 use Rattle.perfdata_base.proofs.Numbers.{in_reads_first}
-use Rattle.perfdata_sections.specs.EventDesc.{NoEventDesc}
+use Rattle.perfdata_sections.specs.EventDesc.{IsEventDescError}
 use Rattle.perfdata_sections.specs.declared.error.Error.{Error}
-use Rattle.perfdata_sections.proofs.EventRefusals.{desc_refused}
-use Rattle.linux_perf_data.specs.Attribute.{Breaks}
-use Rattle.linux_perf_data.specs.Late.{Spoils}
-use Rattle.linux_perf_data.specs.Laws.{SameCause, OneRefusalOfPipe}
-use Rattle.linux_perf_data.specs.Layout.{Fronts, attributes_in, kind_of, size_of}
-use Rattle.linux_perf_data.specs.Open.{magic_of}
-use Rattle.linux_perf_data.specs.PipeOpen.{IsPipeHeader, IsMetadataRecord, EndsMetadata, StopsRecord, StopsTold, StopsMetadata, StopsBehindHeader}
-use Rattle.linux_perf_data.specs.Rules.{error_of_breach}
-use Rattle.linux_perf_data.proofs.Heads.{size_front, size_in_extent, record_least, same_front}
-use Rattle.linux_perf_data.proofs.NamesTold.{refused_tells}
-use Rattle.linux_perf_data.proofs.OneFileRefusal.{same_cause}
-use Rattle.linux_perf_data.proofs.OneOpening.{Next, end_stands, next_stands, next_goes_on, same_order, header_long, header_magic, header_size, same_cut}
-use Rattle.linux_perf_data.proofs.Rules.{breach_one}
-use Rattle.linux_perf_data.proofs.Stands.{cut_or_small}
+use Rattle.perfdata_sections.proofs.EventErrors.{desc_error}
+use Rattle.linux_perf_data.specs.Attribute.{AreInconsistent}
+use Rattle.linux_perf_data.specs.LateMetadata.{IsMetadataError}
+use Rattle.linux_perf_data.specs.Laws.{SameCause, PipeErrorIsUnique}
+use Rattle.linux_perf_data.specs.Layout.{StartsWithRecord, attributes_in_records, record_type_of, record_size_of}
+use Rattle.linux_perf_data.specs.FileOpening.{magic_of}
+use Rattle.linux_perf_data.specs.PipeOpening.{IsPipeHeader, IsMetadataRecord, EndsMetadata, IsMetadataRecordError, IsMetadataListError, IsMetadataReadError, IsErrorAfterPipeHeader}
+use Rattle.linux_perf_data.specs.Consistency.{error_of_inconsistency}
+use Rattle.linux_perf_data.proofs.RecordHeaders.{size_front, size_in_total_size, record_least, same_front}
+use Rattle.linux_perf_data.proofs.EventDescNames.{error_or_readable}
+use Rattle.linux_perf_data.proofs.FileErrorUniqueness.{same_cause}
+use Rattle.linux_perf_data.proofs.PipeOpeningUniqueness.{Next, end_stands, next_stands, next_goes_on, same_order, header_long, header_magic, header_size, same_split}
+use Rattle.linux_perf_data.proofs.ConsistencyLemmas.{inconsistency_is_unique}
+use Rattle.linux_perf_data.proofs.RecordsOrErrors.{truncated_or_small}
 
 module _ (order : Endianness) where
-  -- ---- what stands behind records of metadata
+  -- ---- after metadata records
 
-  spoils_refused : (kind : ℕ) (body : List ℕ) (e f : Error) → Spoils order kind body e → Spoils order kind body f → SameCause e f
+  spoils_refused : (kind : ℕ) (body : List ℕ) (e f : Error) → IsMetadataError order kind body e → IsMetadataError order kind body f → SameCause e f
   spoils_refused kind body e f (inl (short, why)) (inl (short', why')) = inr (inl (short, short'))
-  spoils_refused kind body e f (inl (short, inl (is, cut))) (inr (invalid, is', small)) = absurd (cut_or_small order body cut small)
+  spoils_refused kind body e f (inl (short, inl (is, cut))) (inr (invalid, is', small)) = absurd (truncated_or_small order body cut small)
   spoils_refused kind body e f (inl (short, inr (is, few))) (inr (invalid, is', small)) = absurd (omega (arith, is, is'))
-  spoils_refused kind body e f (inr (invalid, is, small)) (inl (short, inl (is', cut))) = absurd (cut_or_small order body cut small)
+  spoils_refused kind body e f (inr (invalid, is, small)) (inl (short, inl (is', cut))) = absurd (truncated_or_small order body cut small)
   spoils_refused kind body e f (inr (invalid, is, small)) (inl (short, inr (is', few))) = absurd (omega (arith, is, is'))
   spoils_refused kind body e f (inr (invalid, is, small)) (inr (invalid', is', small')) = inr (inr (inr (invalid, invalid')))
 
-  -- where a whole record stands, all that its head counts does
+  -- a complete record contains all bytes that its record header counts
   pub record Counted (offset : ℕ) (behind : List ℕ) : Type 0 where
-    pub least : 8 ≤ size_of order behind
-    pub near : offset + size_of order behind < 2 ^ 64
-    pub there : size_of order behind ≤ length behind
+    pub least : 8 ≤ record_size_of order behind
+    pub near : offset + record_size_of order behind < 2 ^ 64
+    pub there : record_size_of order behind ≤ length behind
 
-  front_counted : (offset : ℕ) (behind p : List ℕ) → Fronts order offset behind p → Counted offset behind
+  front_counted : (offset : ℕ) (behind p : List ℕ) → StartsWithRecord order offset behind p → Counted offset behind
   front_counted offset behind p fronts =
       let head = record_least order p fronts.is_record in
-      let size : size_of order behind ≡ size_of order p = ap (size_of order) fronts.cut ∙ size_front order p fronts.behind head in
-      let least = fronts.is_record.least in
-      let long = fronts.is_record.long in
-      let fits = fronts.fits in
-      let inside = size_in_extent order p in
-      let whole = ap length fronts.cut in
+      let size : record_size_of order behind ≡ record_size_of order p = ap (record_size_of order) fronts.split ∙ size_front order p fronts.after_record head in
+      let least = fronts.is_record.min_size in
+      let long = fronts.is_record.exact_len in
+      let fits = fronts.end_fits in
+      let inside = size_in_total_size order p in
+      let whole = ap length fronts.split in
       record {
         least = omega (arith, size, least);
         near = omega (arith, size, long, inside, fits);
-        there = omega (arith, size, long, inside, whole, length-append p fronts.behind);
+        there = omega (arith, size, long, inside, whole, length-append p fronts.after_record);
       }
 
-  record_refused : (offset : ℕ) (behind : List ℕ) (e f : Error) → StopsRecord order offset behind e → StopsRecord order offset behind f → SameCause e f
+  record_refused : (offset : ℕ) (behind : List ℕ) (e f : Error) → IsMetadataRecordError order offset behind e → IsMetadataRecordError order offset behind f → SameCause e f
   record_refused offset behind e f (inl (is, head, small)) (inl (is', head', small')) = inl (is ∙ sym is')
   record_refused offset behind e f (inl (is, head, small)) (inr (inl (is', kind, head', least, far))) = absurd (omega (arith, small, least))
-  record_refused offset behind e f (inl (is, head, small)) (inr (inr (inl (short, kind, head', few)))) = let least = head'.least in absurd (omega (arith, small, least))
+  record_refused offset behind e f (inl (is, head, small)) (inr (inr (inl (short, kind, head', few)))) = let least = head'.min_size in absurd (omega (arith, small, least))
   record_refused offset behind e f (inl (is, head, small)) (inr (inr (inr (p, fronts, spoils)))) = let least = (front_counted offset behind p fronts).least in absurd (omega (arith, small, least))
   record_refused offset behind e f (inr (inl (is, kind, head, least, far))) (inl (is', head', small)) = absurd (omega (arith, small, least))
   record_refused offset behind e f (inr (inl (is, kind, head, least, far))) (inr (inl (is', kind', head', least', far'))) = inl (is ∙ sym is')
-  record_refused offset behind e f (inr (inl (is, kind, head, least, far))) (inr (inr (inl (short, kind', head', few)))) = let near = head'.near in absurd (omega (arith, far, near))
+  record_refused offset behind e f (inr (inl (is, kind, head, least, far))) (inr (inr (inl (short, kind', head', few)))) = let near = head'.end_fits in absurd (omega (arith, far, near))
   record_refused offset behind e f (inr (inl (is, kind, head, least, far))) (inr (inr (inr (p, fronts, spoils)))) = let near = (front_counted offset behind p fronts).near in absurd (omega (arith, far, near))
-  record_refused offset behind e f (inr (inr (inl (short, kind, head, few)))) (inl (is, head', small)) = let least = head.least in absurd (omega (arith, small, least))
-  record_refused offset behind e f (inr (inr (inl (short, kind, head, few)))) (inr (inl (is, kind', head', least, far))) = let near = head.near in absurd (omega (arith, far, near))
+  record_refused offset behind e f (inr (inr (inl (short, kind, head, few)))) (inl (is, head', small)) = let least = head.min_size in absurd (omega (arith, small, least))
+  record_refused offset behind e f (inr (inr (inl (short, kind, head, few)))) (inr (inl (is, kind', head', least, far))) = let near = head.end_fits in absurd (omega (arith, far, near))
   record_refused offset behind e f (inr (inr (inl (short, kind, head, few)))) (inr (inr (inl (short', kind', head', few')))) = inr (inl (short, short'))
   record_refused offset behind e f (inr (inr (inl (short, kind, head, few)))) (inr (inr (inr (p, fronts, spoils)))) = let there = (front_counted offset behind p fronts).there in absurd (omega (arith, few, there))
   record_refused offset behind e f (inr (inr (inr (p, fronts, spoils)))) (inl (is, head, small)) = let least = (front_counted offset behind p fronts).least in absurd (omega (arith, small, least))
   record_refused offset behind e f (inr (inr (inr (p, fronts, spoils)))) (inr (inl (is, kind, head, least, far))) = let near = (front_counted offset behind p fronts).near in absurd (omega (arith, far, near))
   record_refused offset behind e f (inr (inr (inr (p, fronts, spoils)))) (inr (inr (inl (short, kind, head, few)))) = let there = (front_counted offset behind p fronts).there in absurd (omega (arith, few, there))
   record_refused offset behind e f (inr (inr (inr (p, fronts, spoils)))) (inr (inr (inr (q, fronts', spoils')))) =
-      let same = (same_front order p q fronts.behind fronts'.behind fronts.is_record fronts'.is_record (sym fronts.cut ∙ fronts'.cut)).0 in
-      spoils_refused (kind_of order q) (drop 8 q) e f (subst (λ r. Spoils order (kind_of order r) (drop 8 r) e) same spoils) spoils'
+      let same = (same_front order p q fronts.after_record fronts'.after_record fronts.is_record fronts'.is_record (sym fronts.split ∙ fronts'.split)).0 in
+      spoils_refused (record_type_of order q) (drop 8 q) e f (subst (λ r. IsMetadataError order (record_type_of order r) (drop 8 r) e) same spoils) spoils'
 
-  told_refused : (ps : List (List ℕ)) (e f : Error) → StopsTold order ps e → StopsTold order ps f → SameCause e f
+  told_refused : (ps : List (List ℕ)) (e f : Error) → IsMetadataListError order ps e → IsMetadataListError order ps f → SameCause e f
   told_refused ps e f (inl (is, none)) (inl (is', none')) = inl (is ∙ sym is')
   told_refused ps e f (inl (is, none)) (inr (inl (bytes, some, told, refused))) = absurd (some none)
-  told_refused ps e f (inl (is, none)) (inr (inr (b, tells, breaks, is'))) = absurd (subst (λ l. Breaks l b) none breaks)
+  told_refused ps e f (inl (is, none)) (inr (inr (b, tells, breaks, is'))) = absurd (subst (λ l. AreInconsistent l b) none breaks)
   told_refused ps e f (inr (inl (bytes, some, told, refused))) (inl (is, none)) = absurd (some none)
   told_refused ps e f (inr (inl (bytes, some, told, refused))) (inr (inl (others, some', told', refused'))) =
       let both = sym told ∙ told' in
       let same : bytes ≡ others = cc in
-      same_cause e f (desc_refused (number_in order) (in_reads_first order) e f others (subst (λ l. NoEventDesc (number_in order) e l) same refused) refused')
-  told_refused ps e f (inr (inl (bytes, some, told, refused))) (inr (inr (b, tells, breaks, is))) = absurd (refused_tells order e bytes refused (tells bytes told))
-  told_refused ps e f (inr (inr (b, tells, breaks, is))) (inl (is', none)) = absurd (subst (λ l. Breaks l b) none breaks)
-  told_refused ps e f (inr (inr (b, tells, breaks, is))) (inr (inl (bytes, some, told, refused))) = absurd (refused_tells order f bytes refused (tells bytes told))
+      same_cause e f (desc_error (number_in order) (in_reads_first order) e f others (subst (λ l. IsEventDescError (number_in order) e l) same refused) refused')
+  told_refused ps e f (inr (inl (bytes, some, told, refused))) (inr (inr (b, tells, breaks, is))) = absurd (error_or_readable order e bytes refused (tells bytes told))
+  told_refused ps e f (inr (inr (b, tells, breaks, is))) (inl (is', none)) = absurd (subst (λ l. AreInconsistent l b) none breaks)
+  told_refused ps e f (inr (inr (b, tells, breaks, is))) (inr (inl (bytes, some, told, refused))) = absurd (error_or_readable order f bytes refused (tells bytes told))
   told_refused ps e f (inr (inr (b, tells, breaks, is))) (inr (inr (c, tells', breaks', is'))) =
-      inl (is ∙ ap error_of_breach (breach_one (attributes_in order None ps) b c breaks breaks') ∙ sym is')
+      inl (is ∙ ap error_of_inconsistency (inconsistency_is_unique (attributes_in_records order None ps) b c breaks breaks') ∙ sym is')
 
-  -- ---- two runs of records of metadata
+  -- ---- two runs of metadata records
 
-  -- they are the same, or behind one of them another record of metadata stands
+  -- the runs are equal, or another metadata record follows one of them
   runs_meet : (offset : ℕ) (ps qs : List (List ℕ)) (behind later : List ℕ) → All (IsMetadataRecord order) ps → All (IsMetadataRecord order) qs → offset + length (concat ps) < 2 ^ 64 → offset + length (concat qs) < 2 ^ 64
       → concat ps ++ behind ≡ concat qs ++ later → ((ps ≡ qs) × (behind ≡ later)) ⊎ (Next order (offset + length (concat ps)) behind ⊎ Next order (offset + length (concat qs)) later)
   runs_meet offset [] [] behind later x y fits fits' same = inl (refl, same)
@@ -128,9 +128,9 @@ module _ (order : Endianness) where
         | inr (inr next) ↦ inr (inr (subst (λ o. Next order o later) sum' next))
       ]
 
-  -- what stands behind them is refused, or what they tell
+  -- the bytes after them have an error, or their metadata has
   abbrev Stops : List (List ℕ) → List ℕ → Error → Type 0
-  Stops ps behind e = StopsRecord order (length (concat ps)) behind e ⊎ (EndsMetadata order behind × StopsTold order ps e)
+  Stops ps behind e = IsMetadataRecordError order (length (concat ps)) behind e ⊎ (EndsMetadata order behind × IsMetadataListError order ps e)
 
   next_or_stops : (ps : List (List ℕ)) (behind : List ℕ) (e : Error) → Next order (0 + length (concat ps)) behind → Stops ps behind e → ⊥
   next_or_stops ps behind e next stops =
@@ -147,72 +147,72 @@ module _ (order : Endianness) where
   stops_refused ps behind e f (inr (ends, x)) (inl y) = absurd (end_stands order (length (concat ps)) behind f ends y)
   stops_refused ps behind e f (inr (ends, x)) (inr (ends', y)) = told_refused ps e f x y
 
-  metadata_refused : (rest : List ℕ) (e f : Error) → StopsMetadata order rest e → StopsMetadata order rest f → SameCause e f
+  metadata_refused : (rest : List ℕ) (e f : Error) → IsMetadataReadError order rest e → IsMetadataReadError order rest f → SameCause e f
   metadata_refused rest e f x y =
-      let fits = x.are.fits in
-      let fits' = y.are.fits in
-      elim (runs_meet 0 x.pieces y.pieces x.behind y.behind x.are.are y.are.are (omega (arith, fits)) (omega (arith, fits')) (sym x.cut ∙ y.cut)) as (λ _. SameCause e f) [
+      let fits = x.elements.size_fits in
+      let fits' = y.elements.size_fits in
+      elim (runs_meet 0 x.raw_records y.raw_records x.after_records y.after_records x.elements.elements y.elements.elements (omega (arith, fits)) (omega (arith, fits')) (sym x.split ∙ y.split)) as (λ _. SameCause e f) [
         | inl both ↦
-            let here : Stops y.pieces y.behind e = subst (λ l. Stops y.pieces l e) both.1 (subst (λ ps. Stops ps x.behind e) both.0 x.why) in
-            stops_refused y.pieces y.behind e f here y.why
-        | inr (inl next) ↦ absurd (next_or_stops x.pieces x.behind e next x.why)
-        | inr (inr next) ↦ absurd (next_or_stops y.pieces y.behind f next y.why)
+            let here : Stops y.raw_records y.after_records e = subst (λ l. Stops y.raw_records l e) both.1 (subst (λ ps. Stops ps x.after_records e) both.0 x.cause) in
+            stops_refused y.raw_records y.after_records e f here y.cause
+        | inr (inl next) ↦ absurd (next_or_stops x.raw_records x.after_records e next x.cause)
+        | inr (inr next) ↦ absurd (next_or_stops y.raw_records y.after_records f next y.cause)
       ]
 
 -- ---- the pipe
 
--- what bytes show that begin with a header
+-- the facts about bytes that begin with a header
 pub record Headed (order : Endianness) (bytes : List ℕ) : Type 0 where
   pub long : 16 ≤ length bytes
   pub magic : take 8 bytes ≡ magic_of order
   pub there : number_in order 8 (drop 8 bytes) ≤ length bytes
 
-headed : (bytes : List ℕ) (e : Error) → (s : StopsBehindHeader bytes e) → Headed s.order bytes
+headed : (bytes : List ℕ) (e : Error) → (s : IsErrorAfterPipeHeader bytes e) → Headed s.endian bytes
 headed bytes e s =
-    let whole = ap length s.cut in
-    let long = header_long s.order s.header s.is in
-    let size : number_in s.order 8 (drop 8 bytes) ≡ number_in s.order 8 (drop 8 s.header) = ap (λ l. number_in s.order 8 (drop 8 l)) s.cut ∙ header_size s.order s.header s.rest s.is in
-    let counts = s.is.long in
+    let whole = ap length s.split in
+    let long = header_long s.endian s.header s.matches in
+    let size : number_in s.endian 8 (drop 8 bytes) ≡ number_in s.endian 8 (drop 8 s.header) = ap (λ l. number_in s.endian 8 (drop 8 l)) s.split ∙ header_size s.endian s.header s.rest s.matches in
+    let counts = s.matches.exact_len in
     record {
       long = omega (arith, whole, long, length-append s.header s.rest);
-      magic = ap (take 8) s.cut ∙ header_magic s.order s.header s.rest s.is;
+      magic = ap (take 8) s.split ∙ header_magic s.endian s.header s.rest s.matches;
       there = omega (arith, whole, size, counts, length-append s.header s.rest);
     }
 
-early_or_headed : (bytes : List ℕ) (order : Endianness) (e : Error) → take 8 bytes ≡ magic_of order → length bytes < number_in order 8 (drop 8 bytes) → StopsBehindHeader bytes e → ⊥
+early_or_headed : (bytes : List ℕ) (order : Endianness) (e : Error) → take 8 bytes ≡ magic_of order → length bytes < number_in order 8 (drop 8 bytes) → IsErrorAfterPipeHeader bytes e → ⊥
 early_or_headed bytes order e magic few s =
     let h = headed bytes e s in
-    let same : order ≡ s.order = same_order order s.order (sym magic ∙ h.magic) in
-    let cut : length bytes < number_in s.order 8 (drop 8 bytes) = subst (λ o. length bytes < number_in o 8 (drop 8 bytes)) same few in
+    let same : order ≡ s.endian = same_order order s.endian (sym magic ∙ h.magic) in
+    let cut : length bytes < number_in s.endian 8 (drop 8 bytes) = subst (λ o. length bytes < number_in o 8 (drop 8 bytes)) same few in
     let there = h.there in
     omega (arith, cut, there)
 
-header_refused : (bytes : List ℕ) (e f : Error) → StopsBehindHeader bytes e → StopsBehindHeader bytes f → SameCause e f
+header_refused : (bytes : List ℕ) (e f : Error) → IsErrorAfterPipeHeader bytes e → IsErrorAfterPipeHeader bytes f → SameCause e f
 header_refused bytes e f x y =
-    let orders : x.order ≡ y.order = same_order x.order y.order (sym (headed bytes e x).magic ∙ (headed bytes f y).magic) in
-    let is : IsPipeHeader y.order x.header = subst (λ o. IsPipeHeader o x.header) orders x.is in
-    let whole : x.header ++ x.rest ≡ y.header ++ y.rest = sym x.cut ∙ y.cut in
-    let size : number_in y.order 8 (drop 8 x.header) ≡ number_in y.order 8 (drop 8 y.header) =
-    sym (header_size y.order x.header x.rest is) ∙ ap (λ l. number_in y.order 8 (drop 8 l)) whole ∙ header_size y.order y.header y.rest y.is in
-    let long : length x.header ≡ length y.header = is.long ∙ ap (λ n. 16 + (n - 16)) size ∙ sym y.is.long in
-    let cut = same_cut x.header x.rest y.header y.rest long whole in
-    let here : StopsMetadata y.order y.rest e = subst (λ l. StopsMetadata y.order l e) cut.1 (subst (λ o. StopsMetadata o x.rest e) orders x.stops) in
-    metadata_refused y.order y.rest e f here y.stops
+    let orders : x.endian ≡ y.endian = same_order x.endian y.endian (sym (headed bytes e x).magic ∙ (headed bytes f y).magic) in
+    let is : IsPipeHeader y.endian x.header = subst (λ o. IsPipeHeader o x.header) orders x.matches in
+    let whole : x.header ++ x.rest ≡ y.header ++ y.rest = sym x.split ∙ y.split in
+    let size : number_in y.endian 8 (drop 8 x.header) ≡ number_in y.endian 8 (drop 8 y.header) =
+    sym (header_size y.endian x.header x.rest is) ∙ ap (λ l. number_in y.endian 8 (drop 8 l)) whole ∙ header_size y.endian y.header y.rest y.matches in
+    let long : length x.header ≡ length y.header = is.exact_len ∙ ap (λ n. 16 + (n - 16)) size ∙ sym y.matches.exact_len in
+    let cut = same_split x.header x.rest y.header y.rest long whole in
+    let here : IsMetadataReadError y.endian y.rest e = subst (λ l. IsMetadataReadError y.endian l e) cut.1 (subst (λ o. IsMetadataReadError o x.rest e) orders x.metadata_error) in
+    metadata_refused y.endian y.rest e f here y.metadata_error
 
-pub one_refusal : OneRefusalOfPipe
-one_refusal bytes e f (inl (short, few)) (inl (short', few')) = inr (inl (short, short'))
-one_refusal bytes e f (inl (short, few)) (inr (inl (is, long, unknown))) = absurd (omega (arith, few, long))
-one_refusal bytes e f (inl (short, few)) (inr (inr (inl (order, is, long, magic, early)))) = absurd (omega (arith, few, long))
-one_refusal bytes e f (inl (short, few)) (inr (inr (inr y))) = let long = (headed bytes f y).long in absurd (omega (arith, few, long))
-one_refusal bytes e f (inr (inl (is, long, unknown))) (inl (short, few)) = absurd (omega (arith, few, long))
-one_refusal bytes e f (inr (inl (is, long, unknown))) (inr (inl (is', long', unknown'))) = inl (is ∙ sym is')
-one_refusal bytes e f (inr (inl (is, long, unknown))) (inr (inr (inl (order, is', long', magic, early)))) = absurd (unknown order magic)
-one_refusal bytes e f (inr (inl (is, long, unknown))) (inr (inr (inr y))) = absurd (unknown y.order (headed bytes f y).magic)
-one_refusal bytes e f (inr (inr (inl (order, is, long, magic, early)))) (inl (short, few)) = absurd (omega (arith, few, long))
-one_refusal bytes e f (inr (inr (inl (order, is, long, magic, early)))) (inr (inl (is', long', unknown))) = absurd (unknown order magic)
-one_refusal bytes e f (inr (inr (inl (order, is, long, magic, early)))) (inr (inr (inl (order', is', long', magic', early')))) = inl (is ∙ sym is')
-one_refusal bytes e f (inr (inr (inl (order, is, long, magic, early)))) (inr (inr (inr y))) = absurd (early_or_headed bytes order f magic early y)
-one_refusal bytes e f (inr (inr (inr x))) (inl (short, few)) = let long = (headed bytes e x).long in absurd (omega (arith, few, long))
-one_refusal bytes e f (inr (inr (inr x))) (inr (inl (is, long, unknown))) = absurd (unknown x.order (headed bytes e x).magic)
-one_refusal bytes e f (inr (inr (inr x))) (inr (inr (inl (order, is, long, magic, early)))) = absurd (early_or_headed bytes order e magic early x)
-one_refusal bytes e f (inr (inr (inr x))) (inr (inr (inr y))) = header_refused bytes e f x y
+pub opening_error_is_unique : PipeErrorIsUnique
+opening_error_is_unique bytes e f (inl (short, few)) (inl (short', few')) = inr (inl (short, short'))
+opening_error_is_unique bytes e f (inl (short, few)) (inr (inl (is, long, unknown))) = absurd (omega (arith, few, long))
+opening_error_is_unique bytes e f (inl (short, few)) (inr (inr (inl (order, is, long, magic, early)))) = absurd (omega (arith, few, long))
+opening_error_is_unique bytes e f (inl (short, few)) (inr (inr (inr y))) = let long = (headed bytes f y).long in absurd (omega (arith, few, long))
+opening_error_is_unique bytes e f (inr (inl (is, long, unknown))) (inl (short, few)) = absurd (omega (arith, few, long))
+opening_error_is_unique bytes e f (inr (inl (is, long, unknown))) (inr (inl (is', long', unknown'))) = inl (is ∙ sym is')
+opening_error_is_unique bytes e f (inr (inl (is, long, unknown))) (inr (inr (inl (order, is', long', magic, early)))) = absurd (unknown order magic)
+opening_error_is_unique bytes e f (inr (inl (is, long, unknown))) (inr (inr (inr y))) = absurd (unknown y.endian (headed bytes f y).magic)
+opening_error_is_unique bytes e f (inr (inr (inl (order, is, long, magic, early)))) (inl (short, few)) = absurd (omega (arith, few, long))
+opening_error_is_unique bytes e f (inr (inr (inl (order, is, long, magic, early)))) (inr (inl (is', long', unknown))) = absurd (unknown order magic)
+opening_error_is_unique bytes e f (inr (inr (inl (order, is, long, magic, early)))) (inr (inr (inl (order', is', long', magic', early')))) = inl (is ∙ sym is')
+opening_error_is_unique bytes e f (inr (inr (inl (order, is, long, magic, early)))) (inr (inr (inr y))) = absurd (early_or_headed bytes order f magic early y)
+opening_error_is_unique bytes e f (inr (inr (inr x))) (inl (short, few)) = let long = (headed bytes e x).long in absurd (omega (arith, few, long))
+opening_error_is_unique bytes e f (inr (inr (inr x))) (inr (inl (is, long, unknown))) = absurd (unknown x.endian (headed bytes e x).magic)
+opening_error_is_unique bytes e f (inr (inr (inr x))) (inr (inr (inl (order, is, long, magic, early)))) = absurd (early_or_headed bytes order e magic early x)
+opening_error_is_unique bytes e f (inr (inr (inr x))) (inr (inr (inr y))) = header_refused bytes e f x y

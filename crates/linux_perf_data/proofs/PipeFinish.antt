@@ -1,15 +1,15 @@
--- How what records of metadata told comes to an opening, or to the reason why there is none.
+-- Metadata records determine a pipe opening, or the error.
 use Rattle.std.proofs.Common.{◌≡◌, ◌≢◌, ℕ, ◌≤◌, ◌++◌, List, [], ◌∷◌, length, take, drop, refl, sym, ap, ◌∙◌, subst, arith, inl, inr, length-append, append_assoc, eq-eqb, Option, None, Some}
 use Rattle.std.specs.Prelude.{◌==◌, Bool, true, false, Result, Ok, Err}
 use Rattle.std.specs.List.{concat}
 use Rattle.std.proofs.lemmas.Bool.{false≢true}
 use Rattle.std.proofs.lemmas.List.{take-append-le}
 use Rattle.perfdata_base.specs.Source.{State}
-use Rattle.perfdata_base.proofs.Gives.{gave_more}
+use Rattle.perfdata_base.proofs.ConsumedLemmas.{consumed_more}
 use Rattle.perfdata_base.specs.Features.{HasFeature}
-use Rattle.perfdata_base.specs.Header.{order_of}
-use Rattle.perfdata_base.specs.Numbers.{number_in}
-use Rattle.perfdata_base.specs.PipeHeader.{TookPipeFront, pipe_header_of}
+use Rattle.perfdata_base.specs.Header.{endian_by_first_byte}
+use Rattle.perfdata_base.specs.Endian.{number_in}
+use Rattle.perfdata_base.specs.PipeHeader.{PipeHeaderWithExtraParsed, pipe_header_of}
 use Rattle.perfdata_base.specs.declared.header.pipe.PerfPipeHeader.{PerfPipeHeader}
 use Rattle.perfdata_base.specs.declared.raw.Endianness.{Endianness}
 use Rattle.perfdata_base.specs.declared.raw.Endianness.TheVariants.{LittleEndian, BigEndian}
@@ -17,102 +17,102 @@ use Rattle.perfdata_base.proofs.Numbers.{number_drop_front}
 use Rattle.perfdata_sections.specs.declared.error.Error.{Error}
 use Rattle.perfdata_sections.specs.declared.error.Error.TheVariants.{Memory, NoAttributes, UnrecognizedMagicValue}
 use Rattle.perfdata_sections.specs.declared.feature_sections.AttributeDescription.{AttributeDescription}
-use Rattle.linux_perf_data.specs.Attribute.{Breach, Breaks, Rule}
-use Rattle.linux_perf_data.specs.Described.{attributes_by}
-use Rattle.linux_perf_data.specs.Late.{IsMetadata}
-use Rattle.linux_perf_data.specs.Layout.{kind_of, size_of}
-use Rattle.linux_perf_data.specs.NameTable.{RefusesNames}
-use Rattle.linux_perf_data.specs.Names.{CanName, Named, TellsNames, event_desc}
-use Rattle.linux_perf_data.specs.Open.{TellsOrder, magic_of}
-use Rattle.linux_perf_data.specs.PipeOpen.{Ended, HoldsTold, IsPipeHeader, OpenedPipe, ReadsPipe, Refused, StopsMetadata, StopsPipe, StopsTold, TookOpening, Why}
-use Rattle.linux_perf_data.specs.PipeParts.{Finished, Finishes, OpensBehind, StopsFinish, Tells, TookMetadata}
-use Rattle.linux_perf_data.specs.Rules.{error_of_breach}
-use Rattle.linux_perf_data.specs.Sections.{data_in}
-use Rattle.linux_perf_data.specs.declared.pipe_opening.Metadata.{Metadata}
-use Rattle.linux_perf_data.specs.declared.pipe_told.PipeOpening.{PipeOpening}
-use Rattle.linux_perf_data.proofs.Heads.{kind_front, size_front}
+use Rattle.linux_perf_data.specs.Attribute.{Inconsistency, AreInconsistent, AreConsistent}
+use Rattle.linux_perf_data.specs.Descriptions.{described_attributes}
+use Rattle.linux_perf_data.specs.LateMetadata.{IsMetadataType}
+use Rattle.linux_perf_data.specs.Layout.{record_type_of, record_size_of}
+use Rattle.linux_perf_data.specs.NameTable.{IsNamesError}
+use Rattle.linux_perf_data.specs.Names.{IsReadableOrAbsent, NamedByEventDesc, IsReadableEventDesc, event_desc}
+use Rattle.linux_perf_data.specs.FileOpening.{RecognizesMagic, magic_of}
+use Rattle.linux_perf_data.specs.PipeOpening.{MetadataEnded, HoldsPipeMetadata, IsPipeHeader, PipeOpened, OpensPerfPipe, FailsBy, IsMetadataReadError, IsPipeError, IsMetadataListError, OpeningRead, IsErrorCauseFor}
+use Rattle.linux_perf_data.specs.PipeSteps.{OpeningFinished, FinishesOpening, OpensAfterPipeHeader, IsFinishError, HoldsMetadataOf, MetadataRead}
+use Rattle.linux_perf_data.specs.Consistency.{error_of_inconsistency}
+use Rattle.linux_perf_data.specs.FeatureData.{feature_data_of}
+use Rattle.linux_perf_data.specs.declared.pipe.opening.PipeMetadata.{PipeMetadata}
+use Rattle.linux_perf_data.specs.declared.pipe.pipe_opening.PipeOpening.{PipeOpening}
+use Rattle.linux_perf_data.proofs.RecordHeaders.{record_type_front, size_front}
 use Rattle.linux_perf_data.proofs.NameTables.{named_can}
-use Rattle.linux_perf_data.proofs.PipeRefusals.{refused_later, shows}
-use Rattle.linux_perf_data.proofs.PipeRuns.{ended_later}
+use Rattle.linux_perf_data.proofs.PipeErrors.{error_later, shows}
+use Rattle.linux_perf_data.proofs.PipeMetadataRuns.{ended_later}
 
--- the names that attributes were given
-pub names_kept : (order : Endianness) (desc told : Option (List ℕ)) (ds named : List AttributeDescription) → desc ≡ told → ds ≡ named → Named order desc named → Named order told ds
-names_kept order desc told ds named is same names = subst (λ o. Named order o ds) is (subst (Named order desc) (sym same) names)
+-- the names given to the attributes
+pub names_kept : (order : Endianness) (desc told : Option (List ℕ)) (ds named : List AttributeDescription) → desc ≡ told → ds ≡ named → NamedByEventDesc order desc named → NamedByEventDesc order told ds
+names_kept order desc told ds named is same names = subst (λ o. NamedByEventDesc order o ds) is (subst (NamedByEventDesc order desc) (sym same) names)
 
--- ---- why there is no opening
+-- ---- the errors of an opening
 
 pub not_none : (n : ℕ) → false ≡ (n == 0) → n ≢ 0
 not_none n other is = false≢true (other ∙ eq-eqb n 0 is)
 
-some_attributes : (ds : List AttributeDescription) → length ds ≢ 0 → attributes_by ds ≢ []
+some_attributes : (ds : List AttributeDescription) → length ds ≢ 0 → described_attributes ds ≢ []
 some_attributes [] some none = some refl
 some_attributes (d ∷ ds) some none = cc
 
--- EVENT_DESC can't be read
-pub names_stop : (order : Endianness) (m : Metadata) (desc : Option (List ℕ)) (e : Error) → length m.attributes.items ≢ 0 → desc ≡ data_in m.sections event_desc → RefusesNames order desc e → e ≢ Memory → StopsFinish order m e
+-- EVENT_DESC isn't readable
+pub names_stop : (order : Endianness) (m : PipeMetadata) (desc : Option (List ℕ)) (e : Error) → length m.attributes.items ≢ 0 → desc ≡ feature_data_of m.sections event_desc → IsNamesError order desc e → e ≢ Memory → IsFinishError order m e
 names_stop order m None e some is refuses other = absurd (other refuses)
 names_stop order m (Some bytes) e some is refuses other = inr (inl (bytes, some_attributes m.attributes.items some, sym is, refuses other))
 
--- it can, and the rule is broken
-pub rule_stops : (order : Endianness) (m : Metadata) (desc : Option (List ℕ)) (named : List AttributeDescription) (e : Error) → desc ≡ data_in m.sections event_desc → Named order desc named → attributes_by named ≡ attributes_by m.attributes.items
-    → (b : Breach) × Breaks (attributes_by named) b × (e ≡ error_of_breach b) → StopsFinish order m e
-rule_stops order m desc named e is names same (b, breaks, told) =
-    let can : (bytes : List ℕ) → data_in m.sections event_desc ≡ Some bytes → TellsNames order bytes = λ bytes there. subst (CanName order) (is ∙ there) (named_can order desc named names) in
-    inr (inr (b, can, subst (λ l. Breaks l b) same breaks, told))
+-- EVENT_DESC is readable, and the attributes are inconsistent
+pub inconsistency_stops : (order : Endianness) (m : PipeMetadata) (desc : Option (List ℕ)) (named : List AttributeDescription) (e : Error) → desc ≡ feature_data_of m.sections event_desc → NamedByEventDesc order desc named → described_attributes named ≡ described_attributes m.attributes.items
+    → (b : Inconsistency) × AreInconsistent (described_attributes named) b × (e ≡ error_of_inconsistency b) → IsFinishError order m e
+inconsistency_stops order m desc named e is names same (b, breaks, told) =
+    let can : (bytes : List ℕ) → feature_data_of m.sections event_desc ≡ Some bytes → IsReadableEventDesc order bytes = λ bytes there. subst (IsReadableOrAbsent order) (is ∙ there) (named_can order desc named names) in
+    inr (inr (b, can, subst (λ l. AreInconsistent l b) same breaks, told))
 
--- ---- what stands behind a header
+-- ---- after a header
 
-module _ (order : Endianness) (a b : State) (m : Metadata) (head : Option (List ℕ)) where
-  -- it was opened
-  pub opens_behind : (opening : PipeOpening) → (pieces : List (List ℕ)) × TookMetadata order pieces head a b × Tells order pieces m → Finished order m head opening
-      → (pieces : List (List ℕ)) × TookMetadata order pieces opening.head a b × HoldsTold order pieces opening
-  opens_behind opening (pieces, took, tells) f = (
+module _ (order : Endianness) (a b : State) (m : PipeMetadata) (head : Option (List ℕ)) where
+  -- the pipe is opened
+  pub opens_after_header : (opening : PipeOpening) → (pieces : List (List ℕ)) × MetadataRead order pieces head a b × HoldsMetadataOf order pieces m → OpeningFinished order m head opening
+      → (pieces : List (List ℕ)) × MetadataRead order pieces opening.pending_header a b × HoldsPipeMetadata order pieces opening
+  opens_after_header opening (pieces, took, tells) f = (
     pieces,
-    subst (λ h. TookMetadata order pieces h a b) (sym f.head_kept) took,
+    subst (λ h. MetadataRead order pieces h a b) (sym f.pending_header) took,
     record {
       endian = f.endian;
       attributes = f.attributes ∙ tells.attributes;
-      kept = λ n. f.sections n ∙ tells.kept n;
+      feature_data = λ n. f.sections n ∙ tells.feature_data n;
       features = λ n. (
         λ has. (tells.features n).0 (subst (λ s. HasFeature s n) f.features has),
         λ both. subst (λ s. HasFeature s n) (sym f.features) ((tells.features n).1 both),
       );
-      named = subst (λ d. Named order d opening.attributes.items) (tells.kept event_desc) f.named;
-      some = f.some;
-      rule = subst Rule (sym f.attributes) f.rule;
+      names_match = subst (λ d. NamedByEventDesc order d opening.attributes.items) (tells.feature_data event_desc) f.names_match;
+      nonempty = f.nonempty;
+      consistent = subst AreConsistent (sym f.attributes) f.consistent;
     },
   )
 
-  told_stops : (pieces : List (List ℕ)) (e : Error) → Tells order pieces m → StopsFinish order m e → StopsTold order pieces e
+  told_stops : (pieces : List (List ℕ)) (e : Error) → HoldsMetadataOf order pieces m → IsFinishError order m e → IsMetadataListError order pieces e
   told_stops pieces e tells (inl (is, none)) = inl (is, sym tells.attributes ∙ none)
-  told_stops pieces e tells (inr (inl (bytes, some, there, unread))) = inr (inl (bytes, (λ none. some (tells.attributes ∙ none)), sym (tells.kept event_desc) ∙ there, unread))
+  told_stops pieces e tells (inr (inl (bytes, some, there, unread))) = inr (inl (bytes, (λ none. some (tells.attributes ∙ none)), sym (tells.feature_data event_desc) ∙ there, unread))
   told_stops pieces e tells (inr (inr (b, names, breaks, is))) =
-      inr (inr (b, (λ bytes there. names bytes (tells.kept event_desc ∙ there)), subst (λ l. Breaks l b) tells.attributes breaks, is))
+      inr (inr (b, (λ bytes there. names bytes (tells.feature_data event_desc ∙ there)), subst (λ l. AreInconsistent l b) tells.attributes breaks, is))
 
--- what ended the records shows that no more came
-ended_why : (order : Endianness) (a b : State) (pieces : List (List ℕ)) (head : Option (List ℕ)) (e : Error) (t : TookMetadata order pieces head a b) → Ended order head a t.last b → StopsTold order pieces e
-    → Why (StopsMetadata order) a (concat pieces ++ t.last) e b
+-- what ended the metadata records shows that no more follow
+ended_why : (order : Endianness) (a b : State) (pieces : List (List ℕ)) (head : Option (List ℕ)) (e : Error) (t : MetadataRead order pieces head a b) → MetadataEnded order head a t.last_bytes b → IsMetadataListError order pieces e
+    → IsErrorCauseFor (IsMetadataReadError order) a (concat pieces ++ t.last_bytes) e b
 ended_why order a b pieces None e t (less, none) told =
-    inr (inl (none, record { pieces = pieces; behind = t.last; cut = refl; are = t.are; why = inr ((λ long. absurd (omega (arith, long, less))), told) }))
+    inr (inl (none, record { raw_records = pieces; after_records = t.last_bytes; split = refl; elements = t.elements; cause = inr ((λ long. absurd (omega (arith, long, less))), told) }))
 ended_why order a b pieces (Some head) e t (is, eight, least, other) told = inl (λ rest.
-    let long : 8 ≤ length t.last = omega (arith, ap length is, eight) in
-    let size : size_of order (t.last ++ rest) ≡ size_of order head = size_front order t.last rest long ∙ ap (size_of order) is in
-    let kind : kind_of order (t.last ++ rest) ≡ kind_of order head = kind_front order t.last rest long ∙ ap (kind_of order) is in
+    let long : 8 ≤ length t.last_bytes = omega (arith, ap length is, eight) in
+    let size : record_size_of order (t.last_bytes ++ rest) ≡ record_size_of order head = size_front order t.last_bytes rest long ∙ ap (record_size_of order) is in
+    let kind : record_type_of order (t.last_bytes ++ rest) ≡ record_type_of order head = record_type_front order t.last_bytes rest long ∙ ap (record_type_of order) is in
     record {
-      pieces = pieces;
-      behind = t.last ++ rest;
-      cut = append_assoc (concat pieces) t.last rest;
-      are = t.are;
-      why = inr ((λ _. (omega (arith, size, least), λ meta. other (subst IsMetadata kind meta))), told);
+      raw_records = pieces;
+      after_records = t.last_bytes ++ rest;
+      split = append_assoc (concat pieces) t.last_bytes rest;
+      elements = t.elements;
+      cause = inr ((λ _. (omega (arith, size, least), λ meta. other (subst IsMetadataType kind meta))), told);
     })
 
--- it is refused
-pub stops_behind : (order : Endianness) (a b : State) (m : Metadata) (head : Option (List ℕ)) (e : Error) → (pieces : List (List ℕ)) × TookMetadata order pieces head a b × Tells order pieces m
-    → (e ≢ Memory → StopsFinish order m e) → Refused (StopsMetadata order) a e b
-stops_behind order a b m head e (pieces, took, tells) stops = record {
-  came = concat pieces ++ took.last;
-  gave = took.gave;
-  why = λ other. ended_why order a b pieces head e took took.ended (told_stops order a b m head pieces e tells (stops other));
+-- the opening fails
+pub stops_after : (order : Endianness) (a b : State) (m : PipeMetadata) (head : Option (List ℕ)) (e : Error) → (pieces : List (List ℕ)) × MetadataRead order pieces head a b × HoldsMetadataOf order pieces m
+    → (e ≢ Memory → IsFinishError order m e) → FailsBy (IsMetadataReadError order) a e b
+stops_after order a b m head e (pieces, took, tells) stops = record {
+  consumed_bytes = concat pieces ++ took.last_bytes;
+  consumes = took.consumes;
+  cause = λ other. ended_why order a b pieces head e took took.metadata_end (told_stops order a b m head pieces e tells (stops other));
 }
 
 -- ---- the header
@@ -120,21 +120,21 @@ stops_behind order a b m head e (pieces, took, tells) stops = record {
 front_of : (bytes rest : List ℕ) → length bytes ≡ 16 → take 8 (bytes ++ rest) ≡ take 8 bytes
 front_of bytes rest long = take-append-le 8 bytes rest (omega (arith, long))
 
--- its magic is no pipe's
-pub magic_refused : (a b : State) (h : PerfPipeHeader) (e : Error) (whole : Bool) → TookPipeFront a h whole b → TellsOrder h.magic (Err e) → Refused StopsPipe a e b
-magic_refused a b h e whole t (is, none) =
-    let magic : h.magic ≡ take 8 t.bytes = ap (λ x. x.magic) t.is in
-    shows StopsPipe a b (t.bytes ++ t.extra) e t.gave (λ m rest.
-    let same : take 8 ((t.bytes ++ t.extra) ++ rest) ≡ take 8 t.bytes = ap (take 8) (append_assoc t.bytes t.extra rest) ∙ front_of t.bytes (t.extra ++ rest) t.long in
-    let long = t.long in
+-- the magic isn't that of a pipe
+pub magic_error : (a b : State) (h : PerfPipeHeader) (e : Error) (whole : Bool) → PipeHeaderWithExtraParsed a h whole b → RecognizesMagic h.magic (Err e) → FailsBy IsPipeError a e b
+magic_error a b h e whole t (is, none) =
+    let magic : h.magic ≡ take 8 t.bytes = ap (λ x. x.magic) t.matches in
+    shows IsPipeError a b (t.bytes ++ t.extra) e t.consumes (λ m rest.
+    let same : take 8 ((t.bytes ++ t.extra) ++ rest) ≡ take 8 t.bytes = ap (take 8) (append_assoc t.bytes t.extra rest) ∙ front_of t.bytes (t.extra ++ rest) t.exact_len in
+    let long = t.exact_len in
     inr (inl (
       is ∙ ap (λ x. UnrecognizedMagicValue x) (magic ∙ sym same),
       omega (arith, length-append (t.bytes ++ t.extra) rest, length-append t.bytes t.extra, long),
       λ order tells. none order (magic ∙ sym same ∙ tells),
     )))
 
--- the order that its magic tells is the one that its size is read by
-first_of : (order : Endianness) (bytes : List ℕ) → take 8 bytes ≡ magic_of order → order_of bytes ≡ order
+-- the byte order of the magic is the one by which the header size is read
+first_of : (order : Endianness) (bytes : List ℕ) → take 8 bytes ≡ magic_of order → endian_by_first_byte bytes ≡ order
 first_of LittleEndian [] is = absurd cc
 first_of BigEndian [] is = absurd cc
 first_of LittleEndian (x ∷ xs) is =
@@ -150,61 +150,61 @@ size_told order bytes rest h long is tells =
     ∙ sym (ap (λ o. number_in o 8 (drop 8 bytes)) (first_of order bytes (sym (ap (λ x. x.magic) is) ∙ tells)))
     ∙ sym (ap (λ x. x.size) is)
 
--- it ends early, and no attribute is told
-pub front_short : (a b : State) (h : PerfPipeHeader) (order : Endianness) → TookPipeFront a h false b → TellsOrder h.magic (Ok order) → Refused StopsPipe a NoAttributes b
+-- the header is truncated, and the pipe has no attributes
+pub front_short : (a b : State) (h : PerfPipeHeader) (order : Endianness) → PipeHeaderWithExtraParsed a h false b → RecognizesMagic h.magic (Ok order) → FailsBy IsPipeError a NoAttributes b
 front_short a b h order t tells =
-    let long = t.long in
-    let few = t.came.0 in
-    let magic : take 8 (t.bytes ++ t.extra) ≡ magic_of order = front_of t.bytes t.extra t.long ∙ sym (ap (λ x. x.magic) t.is) ∙ tells in
-    let size : number_in order 8 (drop 8 (t.bytes ++ t.extra)) ≡ h.size = size_told order t.bytes t.extra h t.long t.is tells in
+    let long = t.exact_len in
+    let few = t.extra_complete.0 in
+    let magic : take 8 (t.bytes ++ t.extra) ≡ magic_of order = front_of t.bytes t.extra t.exact_len ∙ sym (ap (λ x. x.magic) t.matches) ∙ tells in
+    let size : number_in order 8 (drop 8 (t.bytes ++ t.extra)) ≡ h.size = size_told order t.bytes t.extra h t.exact_len t.matches tells in
     record {
-      came = t.bytes ++ t.extra;
-      gave = t.gave;
-      why = λ m. inr (inl (t.came.1, inr (inr (inl (order, refl, omega (arith, length-append t.bytes t.extra, long), magic, omega (arith, length-append t.bytes t.extra, long, few, size))))));
+      consumed_bytes = t.bytes ++ t.extra;
+      consumes = t.consumes;
+      cause = λ m. inr (inl (t.extra_complete.1, inr (inr (inl (order, refl, omega (arith, length-append t.bytes t.extra, long), magic, omega (arith, length-append t.bytes t.extra, long, few, size))))));
     }
 
--- all of it came
-pub front_whole : (a b : State) (h : PerfPipeHeader) (order : Endianness) (t : TookPipeFront a h true b) → TellsOrder h.magic (Ok order) → IsPipeHeader order (t.bytes ++ t.extra)
+-- the whole header is read
+pub front_whole : (a b : State) (h : PerfPipeHeader) (order : Endianness) (t : PipeHeaderWithExtraParsed a h true b) → RecognizesMagic h.magic (Ok order) → IsPipeHeader order (t.bytes ++ t.extra)
 front_whole a b h order t tells =
-    let long = t.long in
-    let all = t.came in
-    let size : number_in order 8 (drop 8 (t.bytes ++ t.extra)) ≡ h.size = size_told order t.bytes t.extra h t.long t.is tells in
+    let long = t.exact_len in
+    let all = t.extra_complete in
+    let size : number_in order 8 (drop 8 (t.bytes ++ t.extra)) ≡ h.size = size_told order t.bytes t.extra h t.exact_len t.matches tells in
     record {
-      magic = front_of t.bytes t.extra t.long ∙ sym (ap (λ x. x.magic) t.is) ∙ tells;
-      long = omega (arith, length-append t.bytes t.extra, long, all, size);
+      magic = front_of t.bytes t.extra t.exact_len ∙ sym (ap (λ x. x.magic) t.matches) ∙ tells;
+      exact_len = omega (arith, length-append t.bytes t.extra, long, all, size);
     }
 
--- what stands behind it is refused
-pub behind_refused : (a b c : State) (h : PerfPipeHeader) (order : Endianness) (e : Error) → TookPipeFront a h true b → TellsOrder h.magic (Ok order) → Refused (StopsMetadata order) b e c → Refused StopsPipe a e c
-behind_refused a b c h order e t tells r =
+-- an error after the header is an error of the pipe
+pub after_error : (a b c : State) (h : PerfPipeHeader) (order : Endianness) (e : Error) → PipeHeaderWithExtraParsed a h true b → RecognizesMagic h.magic (Ok order) → FailsBy (IsMetadataReadError order) b e c → FailsBy IsPipeError a e c
+after_error a b c h order e t tells r =
     let header = t.bytes ++ t.extra in
-    refused_later (StopsMetadata order) StopsPipe a b c header e t.gave r
-    (λ xs stops. inr (inr (inr (record { order = order; header = header; rest = xs; cut = refl; is = front_whole a b h order t tells; stops = stops }))))
+    error_later (IsMetadataReadError order) IsPipeError a b c header e t.consumes r
+    (λ xs stops. inr (inr (inr (record { endian = order; header = header; rest = xs; split = refl; matches = front_whole a b h order t tells; metadata_error = stops }))))
 
--- what stands behind it was opened
-pub pipe_opened : (a b c : State) (h : PerfPipeHeader) (order : Endianness) (opening : PipeOpening) → TookPipeFront a h true b → TellsOrder h.magic (Ok order)
-    → (pieces : List (List ℕ)) × TookMetadata order pieces opening.head b c × HoldsTold order pieces opening → OpenedPipe a opening c
+-- the pipe is opened after the header
+pub pipe_opened : (a b c : State) (h : PerfPipeHeader) (order : Endianness) (opening : PipeOpening) → PipeHeaderWithExtraParsed a h true b → RecognizesMagic h.magic (Ok order)
+    → (pieces : List (List ℕ)) × MetadataRead order pieces opening.pending_header b c × HoldsPipeMetadata order pieces opening → PipeOpened a opening c
 pipe_opened a b c h order opening t tells (pieces, took, holds) =
     let header = t.bytes ++ t.extra in record {
-      pieces = pieces;
-      took = subst (λ o. TookOpening o pieces opening.head a c) (sym holds.endian) (record {
+      raw_records = pieces;
+      opening_read = subst (λ o. OpeningRead o pieces opening.pending_header a c) (sym holds.endian) (record {
         header = header;
-        last = took.last;
-        is = front_whole a b h order t tells;
-        are = took.are;
-        gave = gave_more a b c header (concat pieces ++ took.last) t.gave took.gave;
-        ended = ended_later order a b c header took.last opening.head t.gave took.ended;
+        last_bytes = took.last_bytes;
+        matches = front_whole a b h order t tells;
+        elements = took.elements;
+        consumes = consumed_more a b c header (concat pieces ++ took.last_bytes) t.consumes took.consumes;
+        metadata_end = ended_later order a b c header took.last_bytes opening.pending_header t.consumes took.metadata_end;
       });
-      holds = subst (λ o. HoldsTold o pieces opening) (sym holds.endian) holds;
+      metadata = subst (λ o. HoldsPipeMetadata o pieces opening) (sym holds.endian) holds;
     }
 
--- ---- what the last calls answer
+-- ---- the results of the last calls
 
-pub behind_done : (order : Endianness) (a b : State) (m : Metadata) (head : Option (List ℕ)) (r : Result PipeOpening Error) → (pieces : List (List ℕ)) × TookMetadata order pieces head a b × Tells order pieces m
-    → Finishes order m head r → OpensBehind order a r b
-behind_done order a b m head (Ok opening) told finished = opens_behind order a b m head opening told finished
-behind_done order a b m head (Err e) told stops = stops_behind order a b m head e told stops
+pub after_done : (order : Endianness) (a b : State) (m : PipeMetadata) (head : Option (List ℕ)) (r : Result PipeOpening Error) → (pieces : List (List ℕ)) × MetadataRead order pieces head a b × HoldsMetadataOf order pieces m
+    → FinishesOpening order m head r → OpensAfterPipeHeader order a r b
+after_done order a b m head (Ok opening) told finished = opens_after_header order a b m head opening told finished
+after_done order a b m head (Err e) told stops = stops_after order a b m head e told stops
 
-pub pipe_done : (a b c : State) (h : PerfPipeHeader) (order : Endianness) (r : Result PipeOpening Error) → TookPipeFront a h true b → TellsOrder h.magic (Ok order) → OpensBehind order b r c → ReadsPipe a r c
+pub pipe_done : (a b c : State) (h : PerfPipeHeader) (order : Endianness) (r : Result PipeOpening Error) → PipeHeaderWithExtraParsed a h true b → RecognizesMagic h.magic (Ok order) → OpensAfterPipeHeader order b r c → OpensPerfPipe a r c
 pipe_done a b c h order (Ok opening) t tells opens = pipe_opened a b c h order opening t tells opens
-pipe_done a b c h order (Err e) t tells refused = behind_refused a b c h order e t tells refused
+pipe_done a b c h order (Err e) t tells refused = after_error a b c h order e t tells refused

@@ -1,75 +1,75 @@
--- Bytes have one opening of a pipe: one run of records of metadata that none follows. And where what they tell opens a pipe,
--- nothing stands in the way.
+-- A pipe has one opening: one run of metadata records that no further one follows. If their metadata opens a pipe, it has no
+-- error.
 use Rattle.std.proofs.Common.{◌≡◌, ℕ, ◌+◌, ◌-◌, ◌^◌, ◌<◌, ◌≤◌, List, [], ◌∷◌, ◌++◌, length, take, drop, refl, sym, ap, ◌∙◌, subst, inl, inr, arith, length-append, append_assoc, None}
 use Rattle.std.specs.Prelude.{◌⊎◌, All}
 use Rattle.std.specs.List.{concat}
 use Rattle.std.proofs.Math.Seq.{drop-append_seam, take-append_seam}
 use Rattle.std.proofs.lemmas.List.{take-append-le}
 use Rattle.std.proofs.lemmas.List.Elements.{All-head, All-tail}
-use Rattle.perfdata_base.specs.Numbers.{number_in}
+use Rattle.perfdata_base.specs.Endian.{number_in}
 use Rattle.perfdata_base.specs.declared.raw.Endianness.{Endianness}
 use Rattle.perfdata_base.specs.declared.raw.Endianness.TheVariants.{LittleEndian, BigEndian}
 use Rattle.perfdata_base.proofs.Numbers.{number_drop_front}
 use Rattle.perfdata_sections.specs.declared.error.Error.{Error}
-use Rattle.linux_perf_data.specs.Late.{IsMetadata, Spoils}
-use Rattle.linux_perf_data.specs.Layout.{attributes_in, kind_of}
-use Rattle.linux_perf_data.specs.Open.{magic_of}
-use Rattle.linux_perf_data.specs.PipeOpen.{IsPipeHeader, IsMetadataRecord, AreMetadata, EndsMetadata, StopsRecord, StopsTold, StopsMetadata, StopsPipe, CanOpen}
-use Rattle.linux_perf_data.proofs.Heads.{kind_front, size_front, size_in_extent, record_least, same_front}
-use Rattle.linux_perf_data.proofs.NamesTold.{refused_tells}
-use Rattle.linux_perf_data.proofs.Rules.{rule_unbroken}
-use Rattle.linux_perf_data.proofs.Stands.{cut_or_held}
+use Rattle.linux_perf_data.specs.LateMetadata.{IsMetadataType, IsMetadataError}
+use Rattle.linux_perf_data.specs.Layout.{attributes_in_records, record_type_of}
+use Rattle.linux_perf_data.specs.FileOpening.{magic_of}
+use Rattle.linux_perf_data.specs.PipeOpening.{IsPipeHeader, IsMetadataRecord, AreMetadata, EndsMetadata, IsMetadataRecordError, IsMetadataListError, IsMetadataReadError, IsPipeError, CanOpenPipe}
+use Rattle.linux_perf_data.proofs.RecordHeaders.{record_type_front, size_front, size_in_total_size, record_least, same_front}
+use Rattle.linux_perf_data.proofs.EventDescNames.{error_or_readable}
+use Rattle.linux_perf_data.proofs.ConsistencyLemmas.{consistent_not_inconsistent}
+use Rattle.linux_perf_data.proofs.RecordsOrErrors.{truncated_or_complete}
 
 module _ (order : Endianness) where
-  -- ---- what stands behind records of metadata
+  -- ---- after metadata records
 
   metadata_goes_on : (p after : List ℕ) → IsMetadataRecord order p → EndsMetadata order (p ++ after) → ⊥
   metadata_goes_on p after is ends =
       let least = record_least order p is.is_record in
-      (ends (omega (arith, least, length-append p after))).1 (subst IsMetadata (sym (kind_front order p after least)) is.kind)
+      (ends (omega (arith, least, length-append p after))).1 (subst IsMetadataType (sym (record_type_front order p after least)) is.record_type)
 
-  spoils_none : (p : List ℕ) (e : Error) → IsMetadataRecord order p → Spoils order (kind_of order p) (drop 8 p) e → ⊥
-  spoils_none p e is (inl (short, inl (kind, cut))) = cut_or_held order (drop 8 p) cut (is.attribute kind)
-  spoils_none p e is (inl (short, inr (kind, few))) = let long = is.feature kind in omega (arith, few, long)
-  spoils_none p e is (inr (invalid, kind, small)) = let least = (is.attribute kind).least in let below = small.1 in omega (arith, least, below)
+  spoils_none : (p : List ℕ) (e : Error) → IsMetadataRecord order p → IsMetadataError order (record_type_of order p) (drop 8 p) e → ⊥
+  spoils_none p e is (inl (short, inl (kind, cut))) = truncated_or_complete order (drop 8 p) cut (is.valid_attribute kind)
+  spoils_none p e is (inl (short, inr (kind, few))) = let long = is.valid_feature kind in omega (arith, few, long)
+  spoils_none p e is (inr (invalid, kind, small)) = let least = (is.valid_attribute kind).min_size in let below = small.1 in omega (arith, least, below)
 
-  spoils_metadata : (kind : ℕ) (body : List ℕ) (e : Error) → Spoils order kind body e → IsMetadata kind
+  spoils_metadata : (kind : ℕ) (body : List ℕ) (e : Error) → IsMetadataError order kind body e → IsMetadataType kind
   spoils_metadata kind body e (inl (short, inl (is, cut))) = inl is
   spoils_metadata kind body e (inl (short, inr (is, few))) = inr is
   spoils_metadata kind body e (inr (invalid, is, small)) = inl is
 
-  -- a record of metadata isn't refused
-  record_stands : (offset : ℕ) (p after : List ℕ) (e : Error) → IsMetadataRecord order p → offset + length p < 2 ^ 64 → StopsRecord order offset (p ++ after) e → ⊥
+  -- a metadata record has no error
+  record_stands : (offset : ℕ) (p after : List ℕ) (e : Error) → IsMetadataRecord order p → offset + length p < 2 ^ 64 → IsMetadataRecordError order offset (p ++ after) e → ⊥
   record_stands offset p after e is fits (inl (error, head, small)) =
       let size = size_front order p after (record_least order p is.is_record) in
-      let least = is.is_record.least in
+      let least = is.is_record.min_size in
       omega (arith, size, least, small)
   record_stands offset p after e is fits (inr (inl (error, kind, head, least, far))) =
       let size = size_front order p after (record_least order p is.is_record) in
-      let long = is.is_record.long in
-      omega (arith, size, far, fits, long, size_in_extent order p)
+      let long = is.is_record.exact_len in
+      omega (arith, size, far, fits, long, size_in_total_size order p)
   record_stands offset p after e is fits (inr (inr (inl (error, kind, head, cut)))) =
       let size = size_front order p after (record_least order p is.is_record) in
-      let long = is.is_record.long in
-      omega (arith, size, cut, long, size_in_extent order p, length-append p after)
+      let long = is.is_record.exact_len in
+      omega (arith, size, cut, long, size_in_total_size order p, length-append p after)
   record_stands offset p after e is fits (inr (inr (inr (q, fronts, spoils)))) =
-      let same = (same_front order q p fronts.behind after fronts.is_record is.is_record (sym fronts.cut)).0 in
-      spoils_none p e is (subst (λ r. Spoils order (kind_of order r) (drop 8 r) e) same spoils)
+      let same = (same_front order q p fronts.after_record after fronts.is_record is.is_record (sym fronts.split)).0 in
+      spoils_none p e is (subst (λ r. IsMetadataError order (record_type_of order r) (drop 8 r) e) same spoils)
 
-  -- nor is what ends them
-  pub end_stands : (offset : ℕ) (behind : List ℕ) (e : Error) → EndsMetadata order behind → StopsRecord order offset behind e → ⊥
+  -- the end of the metadata records has no error
+  pub end_stands : (offset : ℕ) (behind : List ℕ) (e : Error) → EndsMetadata order behind → IsMetadataRecordError order offset behind e → ⊥
   end_stands offset behind e ends (inl (error, head, small)) = let least = (ends head).0 in omega (arith, least, small)
   end_stands offset behind e ends (inr (inl (error, kind, head, least, far))) = (ends head).1 kind
-  end_stands offset behind e ends (inr (inr (inl (error, kind, head, cut)))) = (ends head.head).1 kind
+  end_stands offset behind e ends (inr (inr (inl (error, kind, head, cut)))) = (ends head.complete_header).1 kind
   end_stands offset behind e ends (inr (inr (inr (q, fronts, spoils)))) =
       let least = record_least order q fronts.is_record in
-      let whole = ap length fronts.cut in
-      let kind : kind_of order behind ≡ kind_of order q = ap (kind_of order) fronts.cut ∙ kind_front order q fronts.behind least in
-      (ends (omega (arith, least, whole, length-append q fronts.behind))).1 (subst IsMetadata (sym kind) (spoils_metadata (kind_of order q) (drop 8 q) e spoils))
+      let whole = ap length fronts.split in
+      let kind : record_type_of order behind ≡ record_type_of order q = ap (record_type_of order) fronts.split ∙ record_type_front order q fronts.after_record least in
+      (ends (omega (arith, least, whole, length-append q fronts.after_record))).1 (subst IsMetadataType (sym kind) (spoils_metadata (record_type_of order q) (drop 8 q) e spoils))
 
-  -- ---- two runs of them
+  -- ---- two runs of metadata records
 
-  -- a record of metadata stands at an offset
+  -- a metadata record starts at an offset
   pub record Next (offset : ℕ) (rest : List ℕ) : Type 0 where
     pub first : List ℕ
     pub after : List ℕ
@@ -77,7 +77,7 @@ module _ (order : Endianness) where
     pub is : IsMetadataRecord order first
     pub fits : offset + length first < 2 ^ 64
 
-  -- behind a run that is no longer than the longest either the longest ends too, or a record of metadata stands
+  -- Two runs and their rests are equal, or a metadata record follows the second run.
   abbrev Same : ℕ → List (List ℕ) → List (List ℕ) → List ℕ → List ℕ → Type 0
   Same offset ps qs behind later = ((ps ≡ qs) × (behind ≡ later)) ⊎ Next (offset + length (concat qs)) later
 
@@ -111,37 +111,37 @@ module _ (order : Endianness) where
   pub next_goes_on : (offset : ℕ) (rest : List ℕ) → Next offset rest → EndsMetadata order rest → ⊥
   next_goes_on offset rest next ends = metadata_goes_on next.first next.after next.is (subst (EndsMetadata order) next.cut ends)
 
-  pub next_stands : (offset : ℕ) (rest : List ℕ) (e : Error) → Next offset rest → StopsRecord order offset rest e → ⊥
-  next_stands offset rest e next stops = record_stands offset next.first next.after e next.is next.fits (subst (λ l. StopsRecord order offset l e) next.cut stops)
+  pub next_stands : (offset : ℕ) (rest : List ℕ) (e : Error) → Next offset rest → IsMetadataRecordError order offset rest e → ⊥
+  next_stands offset rest e next stops = record_stands offset next.first next.after e next.is next.fits (subst (λ l. IsMetadataRecordError order offset l e) next.cut stops)
 
-  pub one_opening : (ps qs : List (List ℕ)) (behind later : List ℕ) → AreMetadata order ps → AreMetadata order qs → EndsMetadata order behind → EndsMetadata order later → concat ps ++ behind ≡ concat qs ++ later → (ps ≡ qs) × (behind ≡ later)
-  one_opening ps qs behind later x y ends ends' same =
-      let fits = x.fits in
-      elim (runs_agree 0 ps qs behind later x.are y.are ends (omega (arith, fits)) same) [
+  pub pipe_opening_is_unique : (ps qs : List (List ℕ)) (behind later : List ℕ) → AreMetadata order ps → AreMetadata order qs → EndsMetadata order behind → EndsMetadata order later → concat ps ++ behind ≡ concat qs ++ later → (ps ≡ qs) × (behind ≡ later)
+  pipe_opening_is_unique ps qs behind later x y ends ends' same =
+      let fits = x.size_fits in
+      elim (runs_agree 0 ps qs behind later x.elements y.elements ends (omega (arith, fits)) same) [
         | inl both ↦ both
         | inr next ↦ absurd (next_goes_on (0 + length (concat qs)) later next ends')
       ]
 
-  -- what opens a pipe isn't refused
-  told_stands : (ps : List (List ℕ)) (e : Error) → CanOpen order ps → StopsTold order ps e → ⊥
-  told_stands ps e opens (inl (error, none)) = opens.some none
-  told_stands ps e opens (inr (inl (bytes, some, told, refused))) = refused_tells order e bytes refused (opens.names bytes told)
-  told_stands ps e opens (inr (inr (b, told, breaks, error))) = rule_unbroken (attributes_in order None ps) b opens.rule breaks
+  -- metadata that can open a pipe has no error
+  told_stands : (ps : List (List ℕ)) (e : Error) → CanOpenPipe order ps → IsMetadataListError order ps e → ⊥
+  told_stands ps e opens (inl (error, none)) = opens.nonempty none
+  told_stands ps e opens (inr (inl (bytes, some, told, refused))) = error_or_readable order e bytes refused (opens.event_desc_readable bytes told)
+  told_stands ps e opens (inr (inr (b, told, breaks, error))) = consistent_not_inconsistent (attributes_in_records order None ps) b opens.consistent breaks
 
-  metadata_stands : (ps : List (List ℕ)) (behind : List ℕ) (e : Error) → AreMetadata order ps → EndsMetadata order behind → CanOpen order ps → StopsMetadata order (concat ps ++ behind) e → ⊥
+  metadata_stands : (ps : List (List ℕ)) (behind : List ℕ) (e : Error) → AreMetadata order ps → EndsMetadata order behind → CanOpenPipe order ps → IsMetadataReadError order (concat ps ++ behind) e → ⊥
   metadata_stands ps behind e are ends opens stops =
-      let fits = are.fits in
-      elim (runs_agree 0 ps stops.pieces behind stops.behind are.are stops.are.are ends (omega (arith, fits)) stops.cut) as (λ _. ⊥) [
-        | inl both ↦ elim stops.why as (λ _. ⊥) [
-          | inl here ↦ end_stands (length (concat stops.pieces)) stops.behind e (subst (EndsMetadata order) both.1 ends) here
-          | inr told ↦ told_stands stops.pieces e (subst (CanOpen order) both.0 opens) told.1
+      let fits = are.size_fits in
+      elim (runs_agree 0 ps stops.raw_records behind stops.after_records are.elements stops.elements.elements ends (omega (arith, fits)) stops.split) as (λ _. ⊥) [
+        | inl both ↦ elim stops.cause as (λ _. ⊥) [
+          | inl here ↦ end_stands (length (concat stops.raw_records)) stops.after_records e (subst (EndsMetadata order) both.1 ends) here
+          | inr told ↦ told_stands stops.raw_records e (subst (CanOpenPipe order) both.0 opens) told.1
         ]
         | inr next ↦
-            let z : 0 + length (concat stops.pieces) ≡ length (concat stops.pieces) = omega arith in
-            let near = subst (λ o. Next o stops.behind) z next in
-            elim stops.why as (λ _. ⊥) [
-              | inl here ↦ next_stands (length (concat stops.pieces)) stops.behind e near here
-              | inr told ↦ next_goes_on (length (concat stops.pieces)) stops.behind near told.0
+            let z : 0 + length (concat stops.raw_records) ≡ length (concat stops.raw_records) = omega arith in
+            let near = subst (λ o. Next o stops.after_records) z next in
+            elim stops.cause as (λ _. ⊥) [
+              | inl here ↦ next_stands (length (concat stops.raw_records)) stops.after_records e near here
+              | inr told ↦ next_goes_on (length (concat stops.raw_records)) stops.after_records near told.0
             ]
       ]
 
@@ -158,7 +158,7 @@ same_order LittleEndian BigEndian e = let same : 80 ≡ 50 = ap first_of e in ab
 same_order BigEndian LittleEndian e = let same : 50 ≡ 80 = ap first_of e in absurd (omega (arith, same))
 
 pub header_long : (order : Endianness) (header : List ℕ) → IsPipeHeader order header → 16 ≤ length header
-header_long order header is = let long = is.long in omega (arith, long)
+header_long order header is = let long = is.exact_len in omega (arith, long)
 
 pub header_magic : (order : Endianness) (header rest : List ℕ) → IsPipeHeader order header → take 8 (header ++ rest) ≡ magic_of order
 header_magic order header rest is = take-append-le 8 header rest (omega (arith, header_long order header is)) ∙ is.magic
@@ -166,30 +166,30 @@ header_magic order header rest is = take-append-le 8 header rest (omega (arith, 
 pub header_size : (order : Endianness) (header rest : List ℕ) → IsPipeHeader order header → number_in order 8 (drop 8 (header ++ rest)) ≡ number_in order 8 (drop 8 header)
 header_size order header rest is = number_drop_front order 8 8 header rest (header_long order header is)
 
-pub same_cut : (a b c d : List ℕ) → length a ≡ length c → a ++ b ≡ c ++ d → (a ≡ c) × (b ≡ d)
-same_cut a b c d long same = (
+pub same_split : (a b c d : List ℕ) → length a ≡ length c → a ++ b ≡ c ++ d → (a ≡ c) × (b ≡ d)
+same_split a b c d long same = (
   sym (take-append_seam a b) ∙ ap (take (length a)) same ∙ ap (λ n. take n (c ++ d)) long ∙ take-append_seam c d,
   sym (drop-append_seam a b) ∙ ap (drop (length a)) same ∙ ap (λ n. drop n (c ++ d)) long ∙ drop-append_seam c d,
 )
 
--- bytes that open a pipe are never refused
-pub opening_stands : (order : Endianness) (header : List ℕ) (ps : List (List ℕ)) (behind : List ℕ) (e : Error) → IsPipeHeader order header → AreMetadata order ps → EndsMetadata order behind → CanOpen order ps
-    → StopsPipe (header ++ (concat ps ++ behind)) e → ⊥
-opening_stands order header ps behind e is are ends opens (inl (short, few)) =
+-- bytes that open a pipe have no error
+pub described_pipe_opens : (order : Endianness) (header : List ℕ) (ps : List (List ℕ)) (behind : List ℕ) (e : Error) → IsPipeHeader order header → AreMetadata order ps → EndsMetadata order behind → CanOpenPipe order ps
+    → IsPipeError (header ++ (concat ps ++ behind)) e → ⊥
+described_pipe_opens order header ps behind e is are ends opens (inl (short, few)) =
     omega (arith, few, header_long order header is, length-append header (concat ps ++ behind))
-opening_stands order header ps behind e is are ends opens (inr (inl (error, long, unknown))) = unknown order (header_magic order header (concat ps ++ behind) is)
-opening_stands order header ps behind e is are ends opens (inr (inr (inl (other, error, long, magic, cut)))) =
+described_pipe_opens order header ps behind e is are ends opens (inr (inl (error, long, unknown))) = unknown order (header_magic order header (concat ps ++ behind) is)
+described_pipe_opens order header ps behind e is are ends opens (inr (inr (inl (other, error, long, magic, cut)))) =
     let same : other ≡ order = same_order other order (sym magic ∙ header_magic order header (concat ps ++ behind) is) in
     let few : length (header ++ (concat ps ++ behind)) < number_in order 8 (drop 8 (header ++ (concat ps ++ behind))) = subst (λ o. length (header ++ (concat ps ++ behind)) < number_in o 8 (drop 8 (header ++ (concat ps ++ behind)))) same cut in
     let says = header_size order header (concat ps ++ behind) is in
-    let all = is.long in
+    let all = is.exact_len in
     omega (arith, few, says, all, length-append header (concat ps ++ behind))
-opening_stands order header ps behind e is are ends opens (inr (inr (inr stops))) =
-    let same : stops.order ≡ order = same_order stops.order order (sym (header_magic stops.order stops.header stops.rest stops.is) ∙ ap (take 8) (sym stops.cut) ∙ header_magic order header (concat ps ++ behind) is) in
-    let other : IsPipeHeader order stops.header = subst (λ o. IsPipeHeader o stops.header) same stops.is in
+described_pipe_opens order header ps behind e is are ends opens (inr (inr (inr stops))) =
+    let same : stops.endian ≡ order = same_order stops.endian order (sym (header_magic stops.endian stops.header stops.rest stops.matches) ∙ ap (take 8) (sym stops.split) ∙ header_magic order header (concat ps ++ behind) is) in
+    let other : IsPipeHeader order stops.header = subst (λ o. IsPipeHeader o stops.header) same stops.matches in
     let size : number_in order 8 (drop 8 header) ≡ number_in order 8 (drop 8 stops.header) =
-    sym (header_size order header (concat ps ++ behind) is) ∙ ap (λ l. number_in order 8 (drop 8 l)) stops.cut ∙ header_size order stops.header stops.rest other in
-    let long : length header ≡ length stops.header = is.long ∙ ap (λ n. 16 + (n - 16)) size ∙ sym other.long in
-    let cut = same_cut header (concat ps ++ behind) stops.header stops.rest long stops.cut in
-    let met = subst (λ l. StopsMetadata order l e) (sym cut.1) (subst (λ o. StopsMetadata o stops.rest e) same stops.stops) in
+    sym (header_size order header (concat ps ++ behind) is) ∙ ap (λ l. number_in order 8 (drop 8 l)) stops.split ∙ header_size order stops.header stops.rest other in
+    let long : length header ≡ length stops.header = is.exact_len ∙ ap (λ n. 16 + (n - 16)) size ∙ sym other.exact_len in
+    let cut = same_split header (concat ps ++ behind) stops.header stops.rest long stops.split in
+    let met = subst (λ l. IsMetadataReadError order l e) (sym cut.1) (subst (λ o. IsMetadataReadError o stops.rest e) same stops.metadata_error) in
     metadata_stands order ps behind e are ends opens met

@@ -1,105 +1,105 @@
--- What a source does is what its reader sees of it, where no head is kept.
+-- Without a pending header, the view of a reader is the state of its source.
 use Rattle.std.proofs.Common.{◌≡◌, ◌≢◌, ℕ, List, [], length, refl, sym, ap, ◌∙◌, subst, inl, inr, Option, None, Some}
 use Rattle.std.specs.Prelude.{Bool, true, false, Result, Ok, Err}
-use Rattle.perfdata_base.specs.Source.{State, prepend, Gave, GaveNone, Failed as SourceFailed, Paused}
+use Rattle.perfdata_base.specs.Source.{State, prepend, Consumed, EndedOrPaused, SourceFailed, SourcePaused}
 use Rattle.perfdata_base.specs.declared.raw.Endianness.{Endianness}
 use Rattle.perfdata_base.specs.declared.event.PerfEventHeader.{PerfEventHeader}
 use Rattle.perfdata_sections.specs.declared.error.Error.{Error}
-use Rattle.linux_perf_data.specs.declared.input.Input.{Input}
-use Rattle.linux_perf_data.specs.declared.input.Input.TheVariants.{Section, Pipe}
-use Rattle.linux_perf_data.specs.Input.{KeepsNone, with_front, view_in, CutAnswers, bound_in}
-use Rattle.linux_perf_data.specs.Piece.{TookBytes, TookHead, ReadsHead, PassesBody, HeldPart, Kept, ReadsBody, ReadsContent, EndedIn, FailedIn, CameContent, TookContent, EndedContent, WhyNoContent}
+use Rattle.linux_perf_data.specs.declared.records.input.Input.{Input}
+use Rattle.linux_perf_data.specs.declared.records.input.Input.TheVariants.{Section, Pipe}
+use Rattle.linux_perf_data.specs.Input.{HasNoPendingHeader, with_leading_bytes, input_source_state, AnswersTruncation, section_size_in}
+use Rattle.linux_perf_data.specs.RecordFraming.{BytesRead, RecordHeaderRead, ReadsRecordHeader, SkipsBody, HeldPart, BytesAppended, AppendsExactly, ReadsRecordBody, EndedWithin, FailedWithin, BodyPartlyRead, BodyRead, BodyEnded, BodyErrorCause}
 
 prepend_none : (o : Option (List ℕ)) → prepend [] o ≡ o
 prepend_none None = refl
 prepend_none (Some xs) = refl
 
--- nothing in front
-gave_plain : (a b : State) (x : List ℕ) → Gave a x b → Gave (with_front [] a) x (with_front [] b)
+-- an empty prefix changes nothing
+gave_plain : (a b : State) (x : List ℕ) → Consumed a x b → Consumed (with_leading_bytes [] a) x (with_leading_bytes [] b)
 gave_plain a b x g = record {
   bytes = prepend_none a.bytes ∙ g.bytes ∙ ap (prepend x) (sym (prepend_none b.bytes));
-  place = refl;
-  faults = g.faults;
+  position = refl;
+  errors = g.errors;
   pauses = g.pauses;
-  steady = λ h. let s = g.steady h in record { steady = s.steady; faults = s.faults; pauses = s.pauses };
+  steady = λ h. let s = g.steady h in record { steady = s.steady; errors = s.errors; pauses = s.pauses };
 }
 
-paused_plain : (a b : State) → Paused a b → Paused (with_front [] a) (with_front [] b)
-paused_plain a b p = record { rose = p.rose; unsteady = p.unsteady }
+paused_plain : (a b : State) → SourcePaused a b → SourcePaused (with_leading_bytes [] a) (with_leading_bytes [] b)
+paused_plain a b p = record { count_increases = p.count_increases; not_steady = p.not_steady }
 
-pub gave_in : (i : Input) → KeepsNone i → (a b : State) (x : List ℕ) → Gave a x b → Gave (view_in i a) x (view_in i b)
-gave_in (Section size) none a b x g = g
-gave_in (Pipe None) none a b x g = gave_plain a b x g
-gave_in (Pipe (Some head)) none a b x g = absurd cc
+pub consumed_in : (i : Input) → HasNoPendingHeader i → (a b : State) (x : List ℕ) → Consumed a x b → Consumed (input_source_state i a) x (input_source_state i b)
+consumed_in (Section size) none a b x g = g
+consumed_in (Pipe None) none a b x g = gave_plain a b x g
+consumed_in (Pipe (Some head)) none a b x g = absurd cc
 
-pub failed_in : (i : Input) → KeepsNone i → (a b : State) → SourceFailed a b → SourceFailed (view_in i a) (view_in i b)
+pub failed_in : (i : Input) → HasNoPendingHeader i → (a b : State) → SourceFailed a b → SourceFailed (input_source_state i a) (input_source_state i b)
 failed_in (Section size) none a b f = f
-failed_in (Pipe None) none a b f = record { rose = f.rose; unsteady = f.unsteady }
+failed_in (Pipe None) none a b f = record { count_increases = f.count_increases; not_steady = f.not_steady }
 failed_in (Pipe (Some head)) none a b f = absurd cc
 
-pub gave_none_in : (i : Input) → KeepsNone i → (a b : State) → GaveNone a b → GaveNone (view_in i a) (view_in i b)
-gave_none_in (Section size) none a b g = g
-gave_none_in (Pipe None) none a b g = λ more. paused_plain a b (g (λ e. more (ap (prepend []) e)))
-gave_none_in (Pipe (Some head)) none a b g = absurd cc
+pub consumed_none_in : (i : Input) → HasNoPendingHeader i → (a b : State) → EndedOrPaused a b → EndedOrPaused (input_source_state i a) (input_source_state i b)
+consumed_none_in (Section size) none a b g = g
+consumed_none_in (Pipe None) none a b g = λ more. paused_plain a b (g (λ e. more (ap (prepend []) e)))
+consumed_none_in (Pipe (Some head)) none a b g = absurd cc
 
-module _ (i : Input) (none : KeepsNone i) (a b : State) where
-  pub took_in : (count : ℕ) (x : List ℕ) → TookBytes a count x b → TookBytes (view_in i a) count x (view_in i b)
-  took_in count x t = record { long = t.long; gave = gave_in i none a b x t.gave }
+module _ (i : Input) (none : HasNoPendingHeader i) (a b : State) where
+  pub read_in : (count : ℕ) (x : List ℕ) → BytesRead a count x b → BytesRead (input_source_state i a) count x (input_source_state i b)
+  read_in count x t = record { exact_len = t.exact_len; consumes = consumed_in i none a b x t.consumes }
 
-  pub ended_in : (count : ℕ) → EndedIn a count b → EndedIn (view_in i a) count (view_in i b)
-  ended_in count e = record { part = e.part; less = e.less; gave = gave_in i none a b e.part e.gave; none = gave_none_in i none a b e.none }
+  pub ended_in : (count : ℕ) → EndedWithin a count b → EndedWithin (input_source_state i a) count (input_source_state i b)
+  ended_in count e = record { consumed_bytes = e.consumed_bytes; too_few = e.too_few; consumes = consumed_in i none a b e.consumed_bytes e.consumes; ended_or_paused = consumed_none_in i none a b e.ended_or_paused }
 
-  pub failed_part_in : (count : ℕ) → FailedIn a count b → FailedIn (view_in i a) count (view_in i b)
-  failed_part_in count f = record { part = f.part; less = f.less; gave = gave_in i none a b f.part f.gave; failed = failed_in i none a b f.failed }
+  pub failed_part_in : (count : ℕ) → FailedWithin a count b → FailedWithin (input_source_state i a) count (input_source_state i b)
+  failed_part_in count f = record { consumed_bytes = f.consumed_bytes; too_few = f.too_few; consumes = consumed_in i none a b f.consumed_bytes f.consumes; source_failed = failed_in i none a b f.source_failed }
 
-  pub content_in : (order : Endianness) (head : PerfEventHeader) (end whole : ℕ) (now : List ℕ) → TookContent order a head end whole now b → TookContent order (view_in i a) head end whole now (view_in i b)
-  content_in order head end whole now t = record { gave = gave_in i none a b now t.gave; plain = t.plain; short = t.short; trace = t.trace; fits = t.fits }
+  pub content_in : (order : Endianness) (head : PerfEventHeader) (end whole : ℕ) (now : List ℕ) → BodyRead order a head end whole now b → BodyRead order (input_source_state i a) head end whole now (input_source_state i b)
+  content_in order head end whole now t = record { consumes = consumed_in i none a b now t.consumes; not_compressed = t.not_compressed; if_not_auxtrace = t.if_not_auxtrace; if_auxtrace = t.if_auxtrace; end_fits = t.end_fits }
 
-  pub ended_content_in : (head : PerfEventHeader) (now : List ℕ) → EndedContent a head now b → EndedContent (view_in i a) head now (view_in i b)
-  ended_content_in head now e = record { came = e.came; less = e.less; gave = gave_in i none a b e.came e.gave; none = gave_none_in i none a b e.none; bound = e.bound }
+  pub ended_content_in : (head : PerfEventHeader) (now : List ℕ) → BodyEnded a head now b → BodyEnded (input_source_state i a) head now (input_source_state i b)
+  ended_content_in head now e = record { consumed_bytes = e.consumed_bytes; too_few = e.too_few; consumes = consumed_in i none a b e.consumed_bytes e.consumes; ended_or_paused = consumed_none_in i none a b e.ended_or_paused; buffer_bound = e.buffer_bound }
 
-  why_in : (order : Endianness) (head : PerfEventHeader) (end : ℕ) (e : Error) (came : List ℕ) → WhyNoContent order a head end e b came → WhyNoContent order (view_in i a) head end e (view_in i b) came
+  why_in : (order : Endianness) (head : PerfEventHeader) (end : ℕ) (e : Error) (came : List ℕ) → BodyErrorCause order a head end e b came → BodyErrorCause order (input_source_state i a) head end e (input_source_state i b) came
   why_in order head end e came (inl memory) = inl memory
   why_in order head end e came (inr (inl (is, less, failed))) = inr (inl (is, less, failed_in i none a b failed))
   why_in order head end e came (inr (inr (inl is))) = inr (inr (inl is))
   why_in order head end e came (inr (inr (inr (inl is)))) = inr (inr (inr (inl is)))
   why_in order head end e came (inr (inr (inr (inr (inl is))))) = inr (inr (inr (inr (inl is))))
   why_in order head end e came (inr (inr (inr (inr (inr (is, there, kind, enough, fits, less, inl ended)))))) =
-      inr (inr (inr (inr (inr (is, there, kind, enough, fits, less, inl (gave_none_in i none a b ended))))))
+      inr (inr (inr (inr (inr (is, there, kind, enough, fits, less, inl (consumed_none_in i none a b ended))))))
   why_in order head end e came (inr (inr (inr (inr (inr (is, there, kind, enough, fits, less, inr failed)))))) =
       inr (inr (inr (inr (inr (is, there, kind, enough, fits, less, inr (failed_in i none a b failed))))))
 
-  pub no_content_in : (order : Endianness) (head : PerfEventHeader) (end : ℕ) (e : Error) (now : List ℕ) → CameContent a e now b (WhyNoContent order a head end e b)
-      → CameContent (view_in i a) e now (view_in i b) (WhyNoContent order (view_in i a) head end e (view_in i b))
-  no_content_in order head end e now c = record { came = c.came; gave = gave_in i none a b c.came c.gave; bound = c.bound; why = why_in order head end e c.came c.why }
+  pub no_content_in : (order : Endianness) (head : PerfEventHeader) (end : ℕ) (e : Error) (now : List ℕ) → BodyPartlyRead a e now b (BodyErrorCause order a head end e b)
+      → BodyPartlyRead (input_source_state i a) e now (input_source_state i b) (BodyErrorCause order (input_source_state i a) head end e (input_source_state i b))
+  no_content_in order head end e now c = record { consumed_bytes = c.consumed_bytes; consumes = consumed_in i none a b c.consumed_bytes c.consumes; buffer_bound = c.buffer_bound; cause = why_in order head end e c.consumed_bytes c.cause }
 
--- where a record is cut, a pipe answers the end, and a file the error
-pub cut_by : (i : Input) (e : Error) (r : Result (Option PerfEventHeader) Error) (P : Result (Option PerfEventHeader) Error → Type 0) → CutAnswers i e r → (bound_in i ≡ None → P (Ok None)) → (bound_in i ≢ None → P (Err e)) → P r
-cut_by i e (Ok None) P answers pipe file = pipe answers
-cut_by i e (Ok (Some head)) P answers pipe file = absurd answers
-cut_by i e (Err e') P answers pipe file = subst (λ x. P (Err x)) (sym answers.1) (file answers.0)
+-- a truncated record gives the end in a pipe and the error in a file
+pub truncated_by : (i : Input) (e : Error) (r : Result (Option PerfEventHeader) Error) (P : Result (Option PerfEventHeader) Error → Type 0) → AnswersTruncation i e r → (section_size_in i ≡ None → P (Ok None)) → (section_size_in i ≢ None → P (Err e)) → P r
+truncated_by i e (Ok None) P answers pipe file = pipe answers
+truncated_by i e (Ok (Some head)) P answers pipe file = absurd answers
+truncated_by i e (Err e') P answers pipe file = subst (λ x. P (Err x)) (sym answers.1) (file answers.0)
 
--- what is read, by what was answered
-pub read_true : (a b : State) (held : List ℕ) (count : ℕ) (now : List ℕ) (r : Bool) → r ≡ true → ReadsBody a held count (Ok r) now b → Kept a held count now b
-read_true a b held count now r is reads = subst (λ o. ReadsBody a held count (Ok o) now b) is reads
+-- a read that returns `true` reads all bytes
+pub read_true : (a b : State) (held : List ℕ) (count : ℕ) (now : List ℕ) (r : Bool) → r ≡ true → AppendsExactly a held count (Ok r) now b → BytesAppended a held count now b
+read_true a b held count now r is reads = subst (λ o. AppendsExactly a held count (Ok o) now b) is reads
 
-pub read_false : (a b : State) (held : List ℕ) (count : ℕ) (now : List ℕ) (r : Bool) → r ≡ false → ReadsBody a held count (Ok r) now b → HeldPart a (length held) count (length now) b × GaveNone a b
-read_false a b held count now r is reads = subst (λ o. ReadsBody a held count (Ok o) now b) is reads
+pub read_false : (a b : State) (held : List ℕ) (count : ℕ) (now : List ℕ) (r : Bool) → r ≡ false → AppendsExactly a held count (Ok r) now b → HeldPart a (length held) count (length now) b × EndedOrPaused a b
+read_false a b held count now r is reads = subst (λ o. AppendsExactly a held count (Ok o) now b) is reads
 
-pub pass_true : (a b : State) (count : ℕ) (r : Bool) → r ≡ true → PassesBody a count (Ok r) b → (bytes : List ℕ) × TookBytes a count bytes b
-pass_true a b count r is passes = subst (λ o. PassesBody a count (Ok o) b) is passes
+pub pass_true : (a b : State) (count : ℕ) (r : Bool) → r ≡ true → SkipsBody a count (Ok r) b → (bytes : List ℕ) × BytesRead a count bytes b
+pass_true a b count r is passes = subst (λ o. SkipsBody a count (Ok o) b) is passes
 
-pub pass_false : (a b : State) (count : ℕ) (r : Bool) → r ≡ false → PassesBody a count (Ok r) b → EndedIn a count b
-pass_false a b count r is passes = subst (λ o. PassesBody a count (Ok o) b) is passes
+pub pass_false : (a b : State) (count : ℕ) (r : Bool) → r ≡ false → SkipsBody a count (Ok r) b → EndedWithin a count b
+pass_false a b count r is passes = subst (λ o. SkipsBody a count (Ok o) b) is passes
 
-pub head_some : (order : Endianness) (a b : State) (r : Option PerfEventHeader) (head : PerfEventHeader) → r ≡ Some head → ReadsHead order a (Ok r) b → TookHead order a head b
-head_some order a b r head is reads = subst (λ o. ReadsHead order a (Ok o) b) is reads
+pub header_some : (order : Endianness) (a b : State) (r : Option PerfEventHeader) (head : PerfEventHeader) → r ≡ Some head → ReadsRecordHeader order a (Ok r) b → RecordHeaderRead order a head b
+header_some order a b r head is reads = subst (λ o. ReadsRecordHeader order a (Ok o) b) is reads
 
-pub head_none : (order : Endianness) (a b : State) (r : Option PerfEventHeader) → r ≡ None → ReadsHead order a (Ok r) b → EndedIn a 8 b
-head_none order a b r is reads = subst (λ o. ReadsHead order a (Ok o) b) is reads
+pub header_none : (order : Endianness) (a b : State) (r : Option PerfEventHeader) → r ≡ None → ReadsRecordHeader order a (Ok r) b → EndedWithin a 8 b
+header_none order a b r is reads = subst (λ o. ReadsRecordHeader order a (Ok o) b) is reads
 
-pub content_some : (order : Endianness) (a b : State) (head : PerfEventHeader) (end whole : ℕ) (now : List ℕ) (r : Option ℕ) → r ≡ Some whole → ReadsContent order a head end (Ok r) now b → TookContent order a head end whole now b
-content_some order a b head end whole now r is reads = subst (λ o. ReadsContent order a head end (Ok o) now b) is reads
+pub content_some : (order : Endianness) (a b : State) (head : PerfEventHeader) (end whole : ℕ) (now : List ℕ) (r : Option ℕ) → r ≡ Some whole → ReadsRecordBody order a head end (Ok r) now b → BodyRead order a head end whole now b
+content_some order a b head end whole now r is reads = subst (λ o. ReadsRecordBody order a head end (Ok o) now b) is reads
 
-pub content_none : (order : Endianness) (a b : State) (head : PerfEventHeader) (end : ℕ) (now : List ℕ) (r : Option ℕ) → r ≡ None → ReadsContent order a head end (Ok r) now b → EndedContent a head now b
-content_none order a b head end now r is reads = subst (λ o. ReadsContent order a head end (Ok o) now b) is reads
+pub content_none : (order : Endianness) (a b : State) (head : PerfEventHeader) (end : ℕ) (now : List ℕ) (r : Option ℕ) → r ≡ None → ReadsRecordBody order a head end (Ok r) now b → BodyEnded a head now b
+content_none order a b head end now r is reads = subst (λ o. ReadsRecordBody order a head end (Ok o) now b) is reads

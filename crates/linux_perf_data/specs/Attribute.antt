@@ -1,82 +1,83 @@
--- The attributes of an input, the rule that they keep, and the attribute of a record.
+-- The attributes of an input, their consistency, and the attribute of a record.
 use Rattle.std.specs.Prelude.{◌≡◌, ◌≢◌, ℕ, ◌+◌, ◌==◌, nat_lt, Bool, true, false, List, [], ◌∷◌, ◌++◌, length, slice_get, All, if◌then◌else◌, Option, None, Some}
 use Rattle.std.specs.Option.{option_map}
-use Rattle.perfdata_base.specs.Place.{is_set, id_places_of, places_of, identifier_of, time_of}
+use Rattle.perfdata_base.specs.ParseInfo.{is_set, id_parse_info_of, parse_info_of, identifier_of, time_of}
 use Rattle.perfdata_base.specs.declared.raw.Endianness.{Endianness}
 use Rattle.perfdata_base.specs.declared.place.RecordParseInfo.{RecordParseInfo}
-pub use Rattle.perfdata_records.specs.HeaderAttr.{Attribute, HoldsAttribute, attribute_in, numbers}
+pub use Rattle.perfdata_records.specs.HeaderAttr.{Attribute, HoldsAttribute, attribute_in, u64s_of}
 
--- The rule of attributes: the identifiers of all records stand at the same places.
-abbrev pub Rule : List Attribute → Type 0
-Rule [] = Unit {0}
-Rule (a ∷ more) = All (λ b. id_places_of b.attr ≡ id_places_of a.attr) more
+-- All attributes have the same id parse info: the identifier is at the same offset in all records.
+abbrev pub AreConsistent : List Attribute → Type 0
+AreConsistent [] = Unit {0}
+AreConsistent (a ∷ more) = All (λ b. id_parse_info_of b.attr ≡ id_parse_info_of a.attr) more
 
--- how an attribute breaks the rule: its records lack IDENTIFIER, or it differs from attribute 0 about SAMPLE_ID_ALL
-pub data Breach : Type 0 where
-  lacks_identifier : ℕ → Breach
-  differs_about_trailing : ℕ → Breach
+-- How attributes are inconsistent: the records of an attribute lack IDENTIFIER, or its SAMPLE_ID_ALL differs from that of
+-- attribute 0.
+pub data Inconsistency : Type 0 where
+  missing_identifier : ℕ → Inconsistency
+  sample_id_all_differs : ℕ → Inconsistency
 
 abbrev pub has_identifier : Attribute → Bool
 has_identifier a = is_set a.attr.sample_format.0 16
 
-abbrev pub has_trailing : Attribute → Bool
-has_trailing a = is_set a.attr.flags.0 18
+abbrev pub has_sample_id_all : Attribute → Bool
+has_sample_id_all a = is_set a.attr.flags.0 18
 
--- where the places differ, each attribute has to have IDENTIFIER and attribute 0's SAMPLE_ID_ALL
-abbrev pub Conforms : Attribute → Attribute → Type 0
-Conforms first a = (has_identifier a ≡ true) × (has_trailing a ≡ has_trailing first)
+-- What each attribute must satisfy if the id parse infos differ: it has IDENTIFIER, and its SAMPLE_ID_ALL is that of attribute 0.
+abbrev pub ConformsTo : Attribute → Attribute → Type 0
+ConformsTo first a = (has_identifier a ≡ true) × (has_sample_id_all a ≡ has_sample_id_all first)
 
--- the first attribute that doesn't stands at this index, for this reason
-pub record BreaksAt (first : Attribute) (attrs : List Attribute) (index : ℕ) (Why : Attribute → Type 0) : Type 0 where
-  pub front : List Attribute
-  pub at : Attribute
-  pub back : List Attribute
-  pub are : attrs ≡ front ++ at ∷ back
-  pub place : length front ≡ index
-  pub before : All (Conforms first) front
-  pub why : Why at
+-- The attribute at `index` is the first that doesn't conform to `first`, and `Why` holds for it.
+pub record FirstNonconformingAt (first : Attribute) (attrs : List Attribute) (index : ℕ) (Why : Attribute → Type 0) : Type 0 where
+  pub earlier : List Attribute
+  pub attribute : Attribute
+  pub later : List Attribute
+  pub elements : attrs ≡ earlier ++ attribute ∷ later
+  pub index_matches : length earlier ≡ index
+  pub earlier_conform : All (ConformsTo first) earlier
+  pub cause : Why attribute
 
-abbrev pub BreachOf : Attribute → List Attribute → Breach → Type 0
-BreachOf first attrs (lacks_identifier i) = BreaksAt first attrs i (λ a. has_identifier a ≡ false)
-BreachOf first attrs (differs_about_trailing i) = BreaksAt first attrs i (λ a. (has_identifier a ≡ true) × (has_trailing a ≢ has_trailing first))
+abbrev pub FirstInconsistency : Attribute → List Attribute → Inconsistency → Type 0
+FirstInconsistency first attrs (missing_identifier i) = FirstNonconformingAt first attrs i (λ a. has_identifier a ≡ false)
+FirstInconsistency first attrs (sample_id_all_differs i) = FirstNonconformingAt first attrs i (λ a. (has_identifier a ≡ true) × (has_sample_id_all a ≢ has_sample_id_all first))
 
--- the attributes break the rule, and this is the first of them that does
-abbrev pub Breaks : List Attribute → Breach → Type 0
-Breaks [] b = ⊥
-Breaks (a ∷ more) b = (¬ Rule (a ∷ more)) × BreachOf a (a ∷ more) b
+-- The attributes are inconsistent, and this is the first inconsistency.
+abbrev pub AreInconsistent : List Attribute → Inconsistency → Type 0
+AreInconsistent [] b = ⊥
+AreInconsistent (a ∷ more) b = (¬ AreConsistent (a ∷ more)) × FirstInconsistency a (a ∷ more) b
 
-abbrev pub lists : ℕ → List ℕ → Bool
-lists id [] = false
-lists id (x ∷ xs) = if x == id then true else lists id xs
+abbrev pub lists_id : ℕ → List ℕ → Bool
+lists_id id [] = false
+lists_id id (x ∷ xs) = if x == id then true else lists_id id xs
 
--- the greatest index of an attribute that lists the identifier, the indices beginning at i, or best where none does
-abbrev pub greatest : ℕ → ℕ → ℕ → List Attribute → ℕ
-greatest id i best [] = best
-greatest id i best (a ∷ more) = greatest id (i + 1) (if lists id a.ids then i else best) more
+-- The greatest index of an attribute that lists `id`, where the first attribute has index `i`; `best` if none lists it.
+abbrev pub last_index_listing : ℕ → ℕ → ℕ → List Attribute → ℕ
+last_index_listing id i best [] = best
+last_index_listing id i best (a ∷ more) = last_index_listing id (i + 1) (if lists_id id a.ids then i else best) more
 
-abbrev pub greatest_or_first : Option ℕ → List Attribute → ℕ
-greatest_or_first None attrs = 0
-greatest_or_first (Some id) attrs = greatest id 0 0 attrs
+abbrev pub attr_index_of_id : Option ℕ → List Attribute → ℕ
+attr_index_of_id None attrs = 0
+attr_index_of_id (Some id) attrs = last_index_listing id 0 0 attrs
 
--- The index of the attribute of a kernel record: 0 where there is one attribute; where there are several, the greatest
--- index of one that lists the record's identifier, read at attribute 0's places, or 0 where none does or there is no
--- identifier.
-abbrev pub index_of : Endianness → List Attribute → ℕ → List ℕ → ℕ
-index_of order [] kind body = 0
-index_of order (a ∷ []) kind body = 0
-index_of order (a ∷ b ∷ more) kind body = greatest_or_first (identifier_of order (id_places_of a.attr) kind body) (a ∷ b ∷ more)
+-- The attribute index of a kernel record. It is 0 if there is at most one attribute. If there are several, it is the greatest
+-- index of an attribute that lists the record's identifier, which is read with attribute 0's id parse info. It is 0 if no
+-- attribute lists the identifier or the record has none.
+abbrev pub attr_index_of : Endianness → List Attribute → ℕ → List ℕ → ℕ
+attr_index_of order [] kind body = 0
+attr_index_of order (a ∷ []) kind body = 0
+attr_index_of order (a ∷ b ∷ more) kind body = attr_index_of_id (identifier_of order (id_parse_info_of a.attr) kind body) (a ∷ b ∷ more)
 
--- the attribute of a record, and where its records' numbers stand
-pub record Event : Type 0 where
+-- The attribute index of a record, and the parse info of that attribute's records.
+pub record EventRef : Type 0 where
   pub index : ℕ
-  pub places : RecordParseInfo
+  pub parse_info : RecordParseInfo
 
--- a record of the kernel belongs to an attribute, one of a tool to none
-abbrev pub event_of : Endianness → List Attribute → ℕ → List ℕ → Option Event
+-- A kernel record (type below 64) belongs to an attribute. A tool's record belongs to none.
+abbrev pub event_of : Endianness → List Attribute → ℕ → List ℕ → Option EventRef
 event_of order attrs kind body = if nat_lt kind 64
-    then option_map (λ a. record { index = index_of order attrs kind body; places = places_of a.attr order }) (slice_get attrs (index_of order attrs kind body))
+    then option_map (λ a. record { index = attr_index_of order attrs kind body; parse_info = parse_info_of a.attr order }) (slice_get attrs (attr_index_of order attrs kind body))
     else None
 
-abbrev pub event_time : Option Event → ℕ → List ℕ → Option ℕ
+abbrev pub event_time : Option EventRef → ℕ → List ℕ → Option ℕ
 event_time None kind body = None
-event_time (Some e) kind body = time_of e.places kind body
+event_time (Some e) kind body = time_of e.parse_info kind body

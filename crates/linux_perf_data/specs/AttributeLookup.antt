@@ -1,63 +1,65 @@
--- What an iterator keeps of the attributes that its input has.
+-- The attribute lookup of an iterator.
 use Rattle.std.specs.Prelude.{◌≡◌, ◌⊎◌, ℕ, ◌<◌, List, [], ◌∷◌, ◌++◌, slice_get, Some, Result, Ok, Err}
 use Rattle.std.specs.Option.{unwrap_or}
-use Rattle.perfdata_base.specs.Place.{places_of}
-use Rattle.perfdata_base.specs.IdCache.{cached}
+use Rattle.perfdata_base.specs.ParseInfo.{parse_info_of}
+use Rattle.perfdata_base.specs.IdCache.{cached_index}
 use Rattle.perfdata_base.specs.declared.attr.PerfEventAttr.{PerfEventAttr}
 use Rattle.perfdata_base.specs.declared.place.RecordParseInfo.{RecordParseInfo}
 use Rattle.perfdata_base.specs.declared.raw.Endianness.{Endianness}
 use Rattle.perfdata_sections.specs.declared.error.Error.{Error}
 use Rattle.perfdata_sections.specs.declared.error.Error.TheVariants.{Memory}
-use Rattle.linux_perf_data.specs.declared.known.Known.{Known}
-use Rattle.linux_perf_data.specs.Attribute.{Attribute, Breach, Breaks, Event, Rule, greatest, event_of}
-use Rattle.linux_perf_data.specs.Described.{all_places}
-use Rattle.linux_perf_data.specs.IdTable.{found}
-use Rattle.linux_perf_data.specs.Rules.{error_of_breach, unidentified}
+use Rattle.linux_perf_data.specs.declared.attributes.lookup.AttributeLookup.{AttributeLookup}
+use Rattle.linux_perf_data.specs.Attribute.{Attribute, Inconsistency, AreInconsistent, EventRef, AreConsistent, last_index_listing, event_of}
+use Rattle.linux_perf_data.specs.Descriptions.{parse_infos_of}
+use Rattle.linux_perf_data.specs.IdTable.{id_lookup}
+use Rattle.linux_perf_data.specs.Consistency.{error_of_inconsistency, first_without_identifier}
 
--- An iterator knows these attributes, of which there is one at the least: they keep the rule, the places of their records
--- are kept, and the first that lacks IDENTIFIER, the table tells the attribute of each identifier, and so does each pair
--- of the cache.
-pub record Knows (order : Endianness) (k : Known) (attrs : List Attribute) : Type 0 where
-  pub first : Attribute
-  pub more : List Attribute
-  pub are : attrs ≡ first ∷ more
-  pub rule : Rule attrs
-  pub front : k.first ≡ places_of first.attr order
-  pub places : k.places.items ≡ all_places order attrs
-  pub lacking : k.unidentified ≡ unidentified 0 attrs
-  pub table : (id : ℕ) → unwrap_or (found k.table id) 0 ≡ greatest id 0 0 attrs
-  pub cache : (id i : ℕ) → cached k.cache id ≡ Some i → i ≡ greatest id 0 0 attrs
+-- The lookup represents the attributes `attrs` of the input. There is at least one, and they are consistent. The lookup contains
+-- the parse infos of their records and the index of the first attribute that lacks IDENTIFIER. The table resolves each identifier
+-- to the last attribute that lists it, and so does each entry of the cache.
+pub record Represents (order : Endianness) (k : AttributeLookup) (attrs : List Attribute) : Type 0 where
+  pub first_attribute : Attribute
+  pub other_attributes : List Attribute
+  pub elements : attrs ≡ first_attribute ∷ other_attributes
+  pub consistent : AreConsistent attrs
+  pub first_parse_info : k.first_parse_info ≡ parse_info_of first_attribute.attr order
+  pub parse_infos : k.parse_infos.items ≡ parse_infos_of order attrs
+  pub first_without_identifier : k.first_without_identifier ≡ first_without_identifier 0 attrs
+  pub table : (id : ℕ) → unwrap_or (id_lookup k.table id) 0 ≡ last_index_listing id 0 0 attrs
+  pub cache : (id i : ℕ) → cached_index k.cache id ≡ Some i → i ≡ last_index_listing id 0 0 attrs
 
--- what is made of attributes that keep the rule knows them
-abbrev pub KnowsAll : Endianness → List Attribute → Result Known Error → Type 0
-KnowsAll order attrs (Ok k) = Knows order k attrs
-KnowsAll order attrs (Err e) = e ≡ Memory
+-- Building a lookup succeeds with one that represents the attributes, or fails with `Memory`.
+abbrev pub BuildsLookup : Endianness → List Attribute → Result AttributeLookup Error → Type 0
+BuildsLookup order attrs (Ok k) = Represents order k attrs
+BuildsLookup order attrs (Err e) = e ≡ Memory
 
--- where the numbers of the records of the attribute with this index stand
-abbrev pub places_at : Known → ℕ → RecordParseInfo
-places_at k index = unwrap_or (slice_get k.places.items index) k.first
+-- The parse info of the attribute at `index`; that of attribute 0 if `index` is out of range.
+abbrev pub parse_info_at : AttributeLookup → ℕ → RecordParseInfo
+parse_info_at k index = unwrap_or (slice_get k.parse_infos.items index) k.first_parse_info
 
-abbrev pub event_at : Known → ℕ → Event
-event_at k index = record { index = index; places = places_at k index }
+abbrev pub event_at : AttributeLookup → ℕ → EventRef
+event_at k index = record { index = index; parse_info = parse_info_at k index }
 
--- the index that is told of an identifier is the one that the attributes give
-abbrev pub TellsIndex : Known → ℕ → ℕ → Type 0
-TellsIndex k id index = (order : Endianness) (attrs : List Attribute) → Knows order k attrs → index ≡ greatest id 0 0 attrs
+-- `index` is the attribute index that the represented attributes give for `id`.
+abbrev pub ResolvesId : AttributeLookup → ℕ → ℕ → Type 0
+ResolvesId k id index = (order : Endianness) (attrs : List Attribute) → Represents order k attrs → index ≡ last_index_listing id 0 0 attrs
 
--- the attribute whose index is told of a kernel record is the one that the attributes give, and its places are known then
-abbrev pub TellsEvent : Known → ℕ → List ℕ → ℕ → Known → Type 0
-TellsEvent old kind body index new = (order : Endianness) (attrs : List Attribute) → Knows order old attrs → kind < 64 → event_of order attrs kind body ≡ Some (event_at new index)
+-- `index` is the attribute index that the represented attributes give for a kernel record. The new lookup contains the parse info
+-- of that attribute.
+abbrev pub ResolvesEvent : AttributeLookup → ℕ → List ℕ → ℕ → AttributeLookup → Type 0
+ResolvesEvent old kind body index new = (order : Endianness) (attrs : List Attribute) → Represents order old attrs → kind < 64 → event_of order attrs kind body ≡ Some (event_at new index)
 
--- all that was known is known still
-abbrev pub StillKnows : Known → Known → Type 0
-StillKnows old new = (order : Endianness) (attrs : List Attribute) → Knows order old attrs → Knows order new attrs
+-- The new lookup represents all attributes that the old one represents.
+abbrev pub KeepsAttributes : AttributeLookup → AttributeLookup → Type 0
+KeepsAttributes old new = (order : Endianness) (attrs : List Attribute) → Represents order old attrs → Represents order new attrs
 
--- One attribute more, with whatever identifiers, keeps the rule, or it breaks it, as this error says.
-abbrev pub ChecksMore : {A : Type 0} → Known → PerfEventAttr → Result A Error → Type 0
-ChecksMore k a (Ok _) = (order : Endianness) (ids : List ℕ) (attrs : List Attribute) → Knows order k attrs → Rule (attrs ++ record { attr = a; ids = ids } ∷ [])
-ChecksMore k a (Err e) = (b : Breach) × (e ≡ error_of_breach b) × ((order : Endianness) (ids : List ℕ) (attrs : List Attribute) → Knows order k attrs → Breaks (attrs ++ record { attr = a; ids = ids } ∷ []) b)
+-- Checks whether the attributes stay consistent with one more, whatever identifiers it lists. The error reports the
+-- inconsistency.
+abbrev pub ChecksNextAttribute : {A : Type 0} → AttributeLookup → PerfEventAttr → Result A Error → Type 0
+ChecksNextAttribute k a (Ok _) = (order : Endianness) (ids : List ℕ) (attrs : List Attribute) → Represents order k attrs → AreConsistent (attrs ++ record { attr = a; ids = ids } ∷ [])
+ChecksNextAttribute k a (Err e) = (b : Inconsistency) × (e ≡ error_of_inconsistency b) × ((order : Endianness) (ids : List ℕ) (attrs : List Attribute) → Represents order k attrs → AreInconsistent (attrs ++ record { attr = a; ids = ids } ∷ []) b)
 
--- One attribute more is known, or it breaks the rule, as this error says; or memory ran out.
-abbrev pub Adds : {A : Type 0} → Endianness → Known → Attribute → Result A Error → Known → Type 0
-Adds order old a (Ok _) new = (attrs : List Attribute) → Knows order old attrs → Knows order new (attrs ++ a ∷ [])
-Adds order old a (Err e) new = (e ≡ Memory) ⊎ ((b : Breach) × (e ≡ error_of_breach b) × ((attrs : List Attribute) → Knows order old attrs → Breaks (attrs ++ a ∷ []) b))
+-- Adds one attribute to the lookup. The error is `Memory`, or it reports the inconsistency.
+abbrev pub AddsAttribute : {A : Type 0} → Endianness → AttributeLookup → Attribute → Result A Error → AttributeLookup → Type 0
+AddsAttribute order old a (Ok _) new = (attrs : List Attribute) → Represents order old attrs → Represents order new (attrs ++ a ∷ [])
+AddsAttribute order old a (Err e) new = (e ≡ Memory) ⊎ ((b : Inconsistency) × (e ≡ error_of_inconsistency b) × ((attrs : List Attribute) → Represents order old attrs → AreInconsistent (attrs ++ a ∷ []) b))

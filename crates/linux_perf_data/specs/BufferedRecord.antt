@@ -1,45 +1,45 @@
--- What bytes that are at hand show of the records to come.
+-- What buffered bytes show about the remaining records.
 use Rattle.std.specs.Prelude.{◌≡◌, ◌≢◌, ◌⊎◌, ◌↔◌, ℕ, ◌+◌, ◌≤◌, Bool, IsTrue, List, ◌++◌, length, take, Option, None, Some}
 use Rattle.std.specs.List.{concat}
 use Rattle.perfdata_base.specs.Source.{State}
-use Rattle.perfdata_base.specs.AtHand.{IsFront}
+use Rattle.perfdata_base.specs.Buffered.{IsPrefixOfRemaining}
 use Rattle.perfdata_base.specs.declared.raw.Endianness.{Endianness}
-use Rattle.linux_perf_data.specs.declared.iter.PerfRecordIter.{PerfRecordIter}
-use Rattle.linux_perf_data.specs.declared.iter.Stage.TheVariants.{Running}
-use Rattle.linux_perf_data.specs.Input.{KeepsNone}
-use Rattle.linux_perf_data.specs.Iter.{bound_of}
-use Rattle.linux_perf_data.specs.Layout.{Bound, Begins, IsRecord, Markers, kind_of}
+use Rattle.linux_perf_data.specs.declared.records.iter.PerfRecordIter.{PerfRecordIter}
+use Rattle.linux_perf_data.specs.declared.records.iter.Stage.TheVariants.{Running}
+use Rattle.linux_perf_data.specs.Input.{HasNoPendingHeader}
+use Rattle.linux_perf_data.specs.Iter.{section_size_of}
+use Rattle.linux_perf_data.specs.Layout.{SectionSize, MayStartAt, IsRecord, AreMarkerRecords, record_type_of}
 
--- the length of the whole record that the bytes begin with; none where they begin with none
-abbrev pub WholeAt : Endianness → List ℕ → Option ℕ → Type 0
-WholeAt order bytes (Some n) = (8 ≤ n) × (n ≤ length bytes) × IsRecord order (take n bytes)
-WholeAt order bytes None = (p r : List ℕ) → IsRecord order p → bytes ≢ p ++ r
+-- The total size of the whole record at the start of `bytes`; `None` if no prefix of `bytes` is a record.
+abbrev pub WholeRecordLength : Endianness → List ℕ → Option ℕ → Type 0
+WholeRecordLength order bytes (Some n) = (8 ≤ n) × (n ≤ length bytes) × IsRecord order (take n bytes)
+WholeRecordLength order bytes None = (p r : List ℕ) → IsRecord order p → bytes ≢ p ++ r
 
--- The bytes from an offset on are markers, and behind them a whole record that is none, which begins where one may; and then
--- whatever else.
-pub record ShowsRecord (order : Endianness) (bound : Bound) (offset : ℕ) (bytes : List ℕ) : Type 0 where
+-- From `offset` on, the bytes are markers and then a whole record that isn't a marker and starts where a record may. Any bytes
+-- may follow.
+pub record ContainsNextRecord (order : Endianness) (bound : SectionSize) (offset : ℕ) (bytes : List ℕ) : Type 0 where
   pub markers : List (List ℕ)
-  pub passed : Markers order bound offset markers
-  pub begins : Begins bound (offset + length (concat markers))
-  pub piece : List ℕ
-  pub is_record : IsRecord order piece
-  pub unmarked : kind_of order piece ≢ 68
+  pub valid_markers : AreMarkerRecords order bound offset markers
+  pub may_start : MayStartAt bound (offset + length (concat markers))
+  pub raw_record : List ℕ
+  pub is_record : IsRecord order raw_record
+  pub not_marker : record_type_of order raw_record ≢ 68
   pub rest : List ℕ
-  pub cut : bytes ≡ concat markers ++ (piece ++ rest)
+  pub split : bytes ≡ concat markers ++ (raw_record ++ rest)
 
-module _ {R : Type 0} (seen : R → State) where
-  -- no record may begin where the iterator stands, or it stands behind its last answer
-  abbrev pub IsOver : PerfRecordIter R → Type 0
-  IsOver it = (it.stage ≢ Running) ⊎ (¬ Begins (bound_of seen it) it.offset)
+module _ {R : Type 0} (state : R → State) where
+  -- No record may start at the iterator's offset, or the iterator isn't running.
+  abbrev pub IsFinished : PerfRecordIter R → Type 0
+  IsFinished it = (it.stage ≢ Running) ⊎ (¬ MayStartAt (section_size_of state it) it.offset)
 
-  -- These bytes, which the source holds, show the next record; no head is kept in front of them.
-  pub record HasNext (it : PerfRecordIter R) (hand : List ℕ) : Type 0 where
-    pub unkept : KeepsNone it.input
-    pub shows : ShowsRecord it.endian (bound_of seen it) it.offset hand
+  -- The buffered bytes `hand` contain the next record, and no header is pending before them.
+  pub record BuffersNextRecord (it : PerfRecordIter R) (hand : List ℕ) : Type 0 where
+    pub no_pending_header : HasNoPendingHeader it.input
+    pub contains_next : ContainsNextRecord it.endian (section_size_of state it) it.offset hand
 
-  -- Whether nothing is wanted of the source for the next answer but what it holds.
-  pub record TellsAtHand (it : PerfRecordIter R) (answer : Bool) : Type 0 where
-    pub hand : List ℕ
-    pub front : IsFront (seen it.source) hand
-    pub over : IsOver it → IsTrue answer
-    pub next : ¬ IsOver it → IsTrue answer ↔ HasNext it hand
+  -- Whether the next call needs only the bytes that the source has buffered. The result is true if the iterator is finished.
+  pub record TestsNextBuffered (it : PerfRecordIter R) (answer : Bool) : Type 0 where
+    pub buffered_bytes : List ℕ
+    pub is_prefix : IsPrefixOfRemaining (state it.source) buffered_bytes
+    pub if_finished : IsFinished it → IsTrue answer
+    pub if_not_finished : ¬ IsFinished it → IsTrue answer ↔ BuffersNextRecord it buffered_bytes

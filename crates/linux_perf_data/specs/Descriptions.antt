@@ -1,7 +1,7 @@
--- The attributes that descriptions describe.
+-- The attributes in attribute descriptions.
 use Rattle.std.specs.Prelude.{◌≡◌, List, map, Result, Ok, Err, Vec}
 use Rattle.std.specs.declared.alloc.Global.{Global}
-use Rattle.perfdata_base.specs.Place.{places_of}
+use Rattle.perfdata_base.specs.ParseInfo.{parse_info_of}
 use Rattle.perfdata_base.specs.declared.place.RecordParseInfo.{RecordParseInfo}
 use Rattle.perfdata_base.specs.declared.raw.Endianness.{Endianness}
 use Rattle.perfdata_sections.specs.declared.error.Error.{Error}
@@ -10,17 +10,17 @@ use Rattle.perfdata_sections.specs.declared.feature_sections.AttributeDescriptio
 use Rattle.perfdata_sections.specs.AttributeDescription.{attr_in, ids_in}
 use Rattle.linux_perf_data.specs.Attribute.{Attribute}
 
--- an attribute with the identifiers of its records
-abbrev pub attribute_by : AttributeDescription → Attribute
-attribute_by d = record { attr = attr_in d; ids = ids_in d }
+-- The attribute of a description, with the identifiers of its records.
+abbrev pub described_attribute : AttributeDescription → Attribute
+described_attribute d = record { attr = attr_in d; ids = ids_in d }
 
-abbrev pub attributes_by : List AttributeDescription → List Attribute
-attributes_by ds = map attribute_by ds
+abbrev pub described_attributes : List AttributeDescription → List Attribute
+described_attributes ds = map described_attribute ds
 
--- the places of the records of each attribute
-abbrev pub all_places : Endianness → List Attribute → List RecordParseInfo
-all_places order attrs = map (λ a. places_of a.attr order) attrs
+-- The parse info of each attribute's records.
+abbrev pub parse_infos_of : Endianness → List Attribute → List RecordParseInfo
+parse_infos_of order attrs = map (λ a. parse_info_of a.attr order) attrs
 
-abbrev pub ListsPlaces : Endianness → List Attribute → Result (Vec RecordParseInfo Global) Error → Type 0
-ListsPlaces order attrs (Ok v) = v.items ≡ all_places order attrs
-ListsPlaces order attrs (Err e) = e ≡ Memory
+abbrev pub CollectsParseInfos : Endianness → List Attribute → Result (Vec RecordParseInfo Global) Error → Type 0
+CollectsParseInfos order attrs (Ok v) = v.items ≡ parse_infos_of order attrs
+CollectsParseInfos order attrs (Err e) = e ≡ Memory

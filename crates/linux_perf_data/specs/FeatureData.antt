@@ -1,120 +1,124 @@
--- The sections of a file's features: a table with an entry for each feature, ascending, and the bytes that each entry tells of.
+-- The feature sections of a file: a table with one entry per feature, in ascending order, and the bytes that each entry locates.
 use Rattle.std.specs.Prelude.{◌≡◌, ◌≢◌, ℕ, ◌*◌, ◌<◌, ◌≤◌, ◌++◌, ◌⊎◌, List, [], ◌∷◌, length, take, drop, map, nat_eq, All, Option, None, Result, Ok, Err, IfSome, Vec}
 use Rattle.std.specs.Map.{lookup, update_all}
 use Rattle.std.specs.Option.{option_map}
 use Rattle.std.specs.declared.alloc.Global.{Global}
 use Rattle.indexmap.specs.IndexMap.{IndexMap}
-use Rattle.perfdata_base.specs.Source.{State, Gave, GaveNone, Stood, Failed, Paused, all_of, put_at}
-use Rattle.perfdata_base.specs.Numbers.{number_in}
-use Rattle.perfdata_base.specs.Section.{section_of}
+use Rattle.perfdata_base.specs.Source.{State, Consumed, EndedOrPaused, AfterSeek, SourceFailed, SourcePaused, all_bytes_of, at_offset}
+use Rattle.perfdata_base.specs.Endian.{number_in}
+use Rattle.perfdata_base.specs.Section.{section_entry_of}
 use Rattle.perfdata_base.specs.declared.features.Feature.{Feature}
 use Rattle.perfdata_base.specs.declared.raw.Endianness.{Endianness}
 use Rattle.perfdata_base.specs.declared.section.PerfFileSection.{PerfFileSection}
-use Rattle.perfdata_sections.specs.Error.{IsShort, IsIo}
+use Rattle.perfdata_sections.specs.Error.{IsUnexpectedEof, IsIoError}
 use Rattle.perfdata_sections.specs.declared.error.Error.{Error}
 use Rattle.perfdata_sections.specs.declared.error.Error.TheVariants.{Memory}
 
--- a feature's number, and where its section is
-abbrev pub Entry : Type 0
-Entry = ℕ × PerfFileSection
+-- A feature's number, and the range of its section.
+abbrev pub FeatureEntry : Type 0
+FeatureEntry = ℕ × PerfFileSection
 
--- the entries of these features, of sixteen bytes each, one after the other
-abbrev pub entries_in : Endianness → List ℕ → List ℕ → List Entry
-entries_in order xs [] = []
-entries_in order xs (n ∷ ns) = (n, section_of (number_in order) xs) ∷ entries_in order (drop 16 xs) ns
+-- The table entries of these features, of 16 bytes each, in order.
+abbrev pub feature_entries_in : Endianness → List ℕ → List ℕ → List FeatureEntry
+feature_entries_in order xs [] = []
+feature_entries_in order xs (n ∷ ns) = (n, section_entry_of (number_in order) xs) ∷ feature_entries_in order (drop 16 xs) ns
 
--- all bytes hold those of a section, or lack some
+-- The file contains all bytes of a section, or the section is truncated.
 abbrev pub HoldsSection : List ℕ → PerfFileSection → Type 0
 HoldsSection all s = s.size ≤ length (drop s.offset all)
 
-abbrev pub LacksSection : List ℕ → PerfFileSection → Type 0
-LacksSection all s = length (drop s.offset all) < s.size
+abbrev pub SectionTruncated : List ℕ → PerfFileSection → Type 0
+SectionTruncated all s = length (drop s.offset all) < s.size
 
--- the bytes of a section
-abbrev pub bytes_of_section : List ℕ → PerfFileSection → List ℕ
-bytes_of_section all s = take s.size (drop s.offset all)
+-- The bytes of a section.
+abbrev pub section_bytes : List ℕ → PerfFileSection → List ℕ
+section_bytes all s = take s.size (drop s.offset all)
 
--- the bytes that the entries tell of, for each feature
-abbrev pub sections_by : List ℕ → List Entry → List (ℕ × List ℕ)
-sections_by all es = map (λ e. (e.0, bytes_of_section all e.1)) es
+-- The section bytes of each entry's feature.
+abbrev pub feature_bytes_by : List ℕ → List FeatureEntry → List (ℕ × List ℕ)
+feature_bytes_by all es = map (λ e. (e.0, section_bytes all e.1)) es
 
--- the bytes of a feature among them; each feature has one entry
-abbrev pub data_by : List ℕ → List Entry → ℕ → Option (List ℕ)
-data_by all es = update_all nat_eq (λ _. None) (sections_by all es)
+-- The data of a feature. Each feature has one entry.
+abbrev pub feature_data_by : List ℕ → List FeatureEntry → ℕ → Option (List ℕ)
+feature_data_by all es = update_all nat_eq (λ _. None) (feature_bytes_by all es)
 
--- a section that all bytes lack behind some that they hold
-pub record LacksOne (all : List ℕ) (es : List Entry) : Type 0 where
-  pub before : List Entry
-  pub entry : Entry
-  pub behind : List Entry
-  pub is : es ≡ before ++ entry ∷ behind
-  pub holds : All (λ e. HoldsSection all e.1) before
-  pub lacks : LacksSection all entry.1
+-- The first entry whose section is truncated. The sections of all earlier entries are complete.
+pub record FirstTruncatedSection (all : List ℕ) (es : List FeatureEntry) : Type 0 where
+  pub before : List FeatureEntry
+  pub entry : FeatureEntry
+  pub later : List FeatureEntry
+  pub matches : es ≡ before ++ entry ∷ later
+  pub complete_before : All (λ e. HoldsSection all e.1) before
+  pub is_truncated_here : SectionTruncated all entry.1
 
 module _ (order : Endianness) (all : List ℕ) (at : ℕ) (features : List ℕ) where
-  -- the table from this place on
-  abbrev pub table_of : List Entry
-  table_of = entries_in order (drop at all) features
+  -- The feature table at offset `at`.
+  abbrev pub feature_table_of : List FeatureEntry
+  feature_table_of = feature_entries_in order (drop at all) features
 
-  -- the table is there whole
-  abbrev pub HasTable : Type 0
-  HasTable = 16 * length features ≤ length (drop at all)
+  -- The table is complete.
+  abbrev pub HoldsFeatureTable : Type 0
+  HoldsFeatureTable = 16 * length features ≤ length (drop at all)
 
-  -- and so is each section
-  abbrev pub HasSections : Type 0
-  HasSections = HasTable × All (λ e. HoldsSection all e.1) table_of
+  -- The table is complete, and each section is.
+  abbrev pub HoldsAllSections : Type 0
+  HoldsAllSections = HoldsFeatureTable × All (λ e. HoldsSection all e.1) feature_table_of
 
-  -- the table ends early, or a section does
-  abbrev pub LacksSections : Type 0
-  LacksSections = (length (drop at all) < 16 * length features) ⊎ (HasTable × LacksOne all table_of)
+  -- The table is truncated, or a section is.
+  abbrev pub SectionsTruncated : Type 0
+  SectionsTruncated = (length (drop at all) < 16 * length features) ⊎ (HoldsFeatureTable × FirstTruncatedSection all feature_table_of)
 
--- what the source owes where it failed or paused
-abbrev pub SourceOwesBytes : State → Error → State → Type 0
-SourceOwesBytes old e new = (IsIo e × Failed old new) ⊎ (IsShort e × Paused old new)
+-- The error of a source that failed is an I/O error. That of a source that paused is an unexpected end of file.
+abbrev pub SourceErrorInBytes : State → Error → State → Type 0
+SourceErrorInBytes old e new = (IsIoError e × SourceFailed old new) ⊎ (IsUnexpectedEof e × SourcePaused old new)
 
--- the entries of a table in memory
-abbrev pub entries_of : List (Feature × PerfFileSection) → List Entry
-entries_of es = map (λ e. (e.0.0, e.1)) es
+-- The entries of a parsed table.
+abbrev pub feature_entries_of : List (Feature × PerfFileSection) → List FeatureEntry
+feature_entries_of es = map (λ e. (e.0.0, e.1)) es
 
--- so many entries came, for these features
-pub record TookTable (order : Endianness) (features : List ℕ) (old : State) (es : List Entry) (new : State) : Type 0 where
+-- The whole table was read, with one entry for each feature.
+pub record TableRead (order : Endianness) (features : List ℕ) (old : State) (es : List FeatureEntry) (new : State) : Type 0 where
   pub bytes : List ℕ
-  pub long : length bytes ≡ 16 * length features
-  pub gave : Gave old bytes new
-  pub is : es ≡ entries_in order bytes features
+  pub exact_len : length bytes ≡ 16 * length features
+  pub consumes : Consumed old bytes new
+  pub matches : es ≡ feature_entries_in order bytes features
 
--- some of a table's bytes came, and the table ended early or the source failed, unless there was no memory
-pub record StoppedTable (count : ℕ) (old : State) (e : Error) (new : State) : Type 0 where
+-- A part of the table was read. The cause is an unexpected end or an I/O error. The contract states no cause for a `Memory`
+-- error.
+pub record TableReadError (count : ℕ) (old : State) (e : Error) (new : State) : Type 0 where
   pub bytes : List ℕ
-  pub gave : Gave old bytes new
-  pub why : e ≢ Memory → (length bytes < count) × ((IsShort e × GaveNone old new) ⊎ (IsIo e × Failed old new))
+  pub consumes : Consumed old bytes new
+  pub cause : e ≢ Memory → (length bytes < count) × ((IsUnexpectedEof e × EndedOrPaused old new) ⊎ (IsIoError e × SourceFailed old new))
 
-abbrev pub ReadsTable : Endianness → List ℕ → State → Result (Vec (Feature × PerfFileSection) Global) Error → State → Type 0
-ReadsTable order features old (Ok v) new = TookTable order features old (entries_of v.items) new
-ReadsTable order features old (Err e) new = StoppedTable (16 * length features) old e new
+abbrev pub ReadsFeatureTable : Endianness → List ℕ → State → Result (Vec (Feature × PerfFileSection) Global) Error → State → Type 0
+ReadsFeatureTable order features old (Ok v) new = TableRead order features old (feature_entries_of v.items) new
+ReadsFeatureTable order features old (Err e) new = TableReadError (16 * length features) old e new
 
--- what a reading of one section's bytes does
-abbrev pub ReadsSection : PerfFileSection → State → Result (Vec ℕ Global) Error → State → Type 0
-ReadsSection s old (Ok v) new = Stood old new × IfSome (all_of old.place) (λ all. HoldsSection all s × (v.items ≡ bytes_of_section all s))
-ReadsSection s old (Err e) new = Stood old new × (e ≢ Memory → IfSome (all_of old.place) (λ all. IsShort e × LacksSection all s) ⊎ SourceOwesBytes old e new)
+-- Reads the bytes of one section. It fails if the section is truncated, or with the source error. The contract states no cause
+-- for a `Memory` error.
+abbrev pub ReadsSectionBytes : PerfFileSection → State → Result (Vec ℕ Global) Error → State → Type 0
+ReadsSectionBytes s old (Ok v) new = AfterSeek old new × IfSome (all_bytes_of old.position) (λ all. HoldsSection all s × (v.items ≡ section_bytes all s))
+ReadsSectionBytes s old (Err e) new = AfterSeek old new × (e ≢ Memory → IfSome (all_bytes_of old.position) (λ all. IsUnexpectedEof e × SectionTruncated all s) ⊎ SourceErrorInBytes old e new)
 
--- the bytes of a feature in a map
-abbrev pub data_in : {S : Type 0} → IndexMap Feature (Vec ℕ Global) S → ℕ → Option (List ℕ)
-data_in m n = option_map (λ v. v.items) (lookup (λ f. nat_eq n f.0) m.entries)
+-- The data of feature `n` in the map.
+abbrev pub feature_data_of : {S : Type 0} → IndexMap Feature (Vec ℕ Global) S → ℕ → Option (List ℕ)
+feature_data_of m n = option_map (λ v. v.items) (lookup (λ f. nat_eq n f.0) m.entries)
 
--- what a reading of the bytes that entries tell of does
-abbrev pub ReadsData : {S : Type 0} → List Entry → State → Result (IndexMap Feature (Vec ℕ Global) S) Error → State → Type 0
-ReadsData es old (Ok m) new = Stood old new × IfSome (all_of old.place) (λ all. All (λ e. HoldsSection all e.1) es × ((n : ℕ) → data_in m n ≡ data_by all es n))
-ReadsData es old (Err e) new = Stood old new × (e ≢ Memory → IfSome (all_of old.place) (λ all. IsShort e × LacksOne all es) ⊎ SourceOwesBytes old e new)
+-- Reads the sections of these entries. It fails if one is truncated, or with the source error. The contract states no cause for a
+-- `Memory` error.
+abbrev pub ReadsFeatureData : {S : Type 0} → List FeatureEntry → State → Result (IndexMap Feature (Vec ℕ Global) S) Error → State → Type 0
+ReadsFeatureData es old (Ok m) new = AfterSeek old new × IfSome (all_bytes_of old.position) (λ all. All (λ e. HoldsSection all e.1) es × ((n : ℕ) → feature_data_of m n ≡ feature_data_by all es n))
+ReadsFeatureData es old (Err e) new = AfterSeek old new × (e ≢ Memory → IfSome (all_bytes_of old.position) (λ all. IsUnexpectedEof e × FirstTruncatedSection all es) ⊎ SourceErrorInBytes old e new)
 
--- what a reading of a file's sections does
-abbrev pub ReadsSections : {S : Type 0} → Endianness → ℕ → List ℕ → State → Result (IndexMap Feature (Vec ℕ Global) S) Error → State → Type 0
-ReadsSections order at features old (Ok m) new =
-    Stood old new × IfSome (all_of old.place) (λ all. HasSections order all at features × ((n : ℕ) → data_in m n ≡ data_by all (table_of order all at features) n))
-ReadsSections order at features old (Err e) new =
-    Stood old new × (e ≢ Memory → IfSome (all_of old.place) (λ all. IsShort e × LacksSections order all at features) ⊎ SourceOwesBytes old e new)
+-- Reads the table at offset `at` and the sections of these features. It fails if the table or a section is truncated, or with the
+-- source error. The contract states no cause for a `Memory` error.
+abbrev pub ReadsFeatures : {S : Type 0} → Endianness → ℕ → List ℕ → State → Result (IndexMap Feature (Vec ℕ Global) S) Error → State → Type 0
+ReadsFeatures order at features old (Ok m) new =
+    AfterSeek old new × IfSome (all_bytes_of old.position) (λ all. HoldsAllSections order all at features × ((n : ℕ) → feature_data_of m n ≡ feature_data_by all (feature_table_of order all at features) n))
+ReadsFeatures order at features old (Err e) new =
+    AfterSeek old new × (e ≢ Memory → IfSome (all_bytes_of old.position) (λ all. IsUnexpectedEof e × SectionsTruncated order all at features) ⊎ SourceErrorInBytes old e new)
 
--- a source went to a place from its first byte, or failed
-abbrev pub GoesTo : {A : Type 0} → State → ℕ → Result A Error → State → Type 0
-GoesTo old at (Ok _) new = Stood old new × (new.place ≡ put_at at old.place)
-GoesTo old at (Err e) new = Stood old new × IsIo e × Failed old new
+-- Seeks to the offset `at` from the first byte, or fails with an I/O error.
+abbrev pub SeeksToOffset : {A : Type 0} → State → ℕ → Result A Error → State → Type 0
+SeeksToOffset old at (Ok _) new = AfterSeek old new × (new.position ≡ at_offset at old.position)
+SeeksToOffset old at (Err e) new = AfterSeek old new × IsIoError e × SourceFailed old new

@@ -1,4 +1,4 @@
--- The numbers of features whose data have an accessor (Linux's perf.data format, and simpleperf's); EVENT_DESC has its own module.
+-- The numbers of the features that have an accessor (Linux's perf.data format, and simpleperf's). EVENT_DESC is in `Names`.
 use Rattle.std.specs.Prelude.{ℕ}
 
 abbrev pub build_id : ℕ

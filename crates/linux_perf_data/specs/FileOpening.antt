@@ -1,159 +1,160 @@
--- What a perf.data file says of itself, and what an opening of it meets first.
+-- The metadata of a perf.data file, and the first error in opening it.
 use Rattle.std.specs.Prelude.{◌≡◌, ◌≢◌, ℕ, ◌+◌, ◌^◌, ◌<◌, ◌≤◌, ◌⊎◌, List, [], length, take, drop, codes, Option, Result, Ok, Err, Some, IfSome}
-use Rattle.perfdata_base.specs.Source.{State, Place, Stood, put_at, all_of}
-use Rattle.perfdata_base.specs.Header.{header_of}
+use Rattle.perfdata_base.specs.Source.{State, Position, AfterSeek, at_offset, all_bytes_of}
+use Rattle.perfdata_base.specs.Header.{file_header_of}
 use Rattle.perfdata_base.specs.declared.raw.Endianness.{Endianness}
 use Rattle.perfdata_base.specs.declared.raw.Endianness.TheVariants.{LittleEndian, BigEndian}
 use Rattle.perfdata_base.specs.declared.header.PerfHeader.{PerfHeader}
-use Rattle.perfdata_sections.specs.Error.{IsShort, IsInvalidInput}
-use Rattle.perfdata_sections.specs.Attributes.{OwesAttributes}
+use Rattle.perfdata_sections.specs.Error.{IsUnexpectedEof, IsInvalidInput}
+use Rattle.perfdata_sections.specs.AttrFrames.{IsAttributesSourceError}
 use Rattle.perfdata_sections.specs.declared.feature_sections.AttributeDescription.{AttributeDescription}
 use Rattle.perfdata_sections.specs.declared.error.Error.{Error}
 use Rattle.perfdata_sections.specs.declared.error.Error.TheVariants.{Read, UnrecognizedMagicValue, NoAttributes, Memory}
 use Rattle.perfdata_sections.specs.declared.error.ReadError.TheVariants.{FeatureSection}
 use Rattle.perfdata_base.specs.Features.{features_of}
-use Rattle.linux_perf_data.specs.Attribute.{Breach, Breaks, Rule}
-use Rattle.linux_perf_data.specs.Described.{attributes_by}
-use Rattle.linux_perf_data.specs.Rules.{error_of_breach}
-use Rattle.linux_perf_data.specs.AttributeSources.{Told, told_by, DescribesFrom, StopsFrom}
+use Rattle.linux_perf_data.specs.Attribute.{Inconsistency, AreInconsistent, AreConsistent}
+use Rattle.linux_perf_data.specs.Descriptions.{described_attributes}
+use Rattle.linux_perf_data.specs.Consistency.{error_of_inconsistency}
+use Rattle.linux_perf_data.specs.AttributeSources.{KnownSections, known_sections, DescribesFrom, IsSourcesError}
 use Rattle.linux_perf_data.specs.FeatureNumbers.{simpleperf_meta_info}
 use Rattle.linux_perf_data.specs.Names.{event_desc}
-use Rattle.linux_perf_data.specs.Sections.{HasSections, LacksSections, table_of, data_by, data_in}
-use Rattle.linux_perf_data.specs.declared.opening.Opening.{Opening}
+use Rattle.linux_perf_data.specs.FeatureData.{HoldsAllSections, SectionsTruncated, feature_table_of, feature_data_by, feature_data_of}
+use Rattle.linux_perf_data.specs.declared.file.opening.FileOpening.{FileOpening}
 
--- the magic value of an order of numbers
+-- The magic value of a byte order.
 abbrev pub magic_of : Endianness → List ℕ
 magic_of LittleEndian = codes "PERFILE2"
 magic_of BigEndian = codes "2ELIFREP"
 
-abbrev pub TellsOrder : List ℕ → Result Endianness Error → Type 0
-TellsOrder magic (Ok order) = magic ≡ magic_of order
-TellsOrder magic (Err e) = (e ≡ UnrecognizedMagicValue magic) × ((order : Endianness) → magic ≢ magic_of order)
+abbrev pub RecognizesMagic : List ℕ → Result Endianness Error → Type 0
+RecognizesMagic magic (Ok order) = magic ≡ magic_of order
+RecognizesMagic magic (Err e) = (e ≡ UnrecognizedMagicValue magic) × ((order : Endianness) → magic ≢ magic_of order)
 
--- the header says where the data section ends
-abbrev pub EndsNear : PerfHeader → Type 0
-EndsNear h = h.data_section.offset + h.data_section.size < 2 ^ 64
+-- The end offset of the data section is below 2^64.
+abbrev pub DataEndFitsU64 : PerfHeader → Type 0
+DataEndFitsU64 h = h.data_section.offset + h.data_section.size < 2 ^ 64
 
--- where the table of a file's sections begins: just behind the data section
-abbrev pub table_place : PerfHeader → ℕ
-table_place h = h.data_section.offset + h.data_section.size
+-- The offset of the feature table, which follows the data section.
+abbrev pub table_offset : PerfHeader → ℕ
+table_offset h = h.data_section.offset + h.data_section.size
 
--- all bytes hold the sections of a header's features
+-- The file contains the whole feature table and all sections of the header's features.
 abbrev pub HoldsSections : Endianness → PerfHeader → List ℕ → Type 0
-HoldsSections order h all = HasSections order all (table_place h) (features_of h.features)
+HoldsSections order h all = HoldsAllSections order all (table_offset h) (features_of h.features)
 
--- the bytes of a feature's section
+-- The data of a feature in the file.
 abbrev pub section_data : Endianness → PerfHeader → List ℕ → ℕ → Option (List ℕ)
-section_data order h all = data_by all (table_of order all (table_place h) (features_of h.features))
+section_data order h all = feature_data_by all (feature_table_of order all (table_offset h) (features_of h.features))
 
--- the bytes of the sections EVENT_DESC (12) and SIMPLEPERF_META_INFO (129), where the file has them
-abbrev pub told_of : Endianness → PerfHeader → List ℕ → Told
-told_of order h all = told_by (section_data order h all event_desc) (section_data order h all simpleperf_meta_info)
+-- The bytes of the sections EVENT_DESC (12) and SIMPLEPERF_META_INFO (129), if the file has them.
+abbrev pub attribute_sources_of : Endianness → PerfHeader → List ℕ → KnownSections
+attribute_sources_of order h all = known_sections (section_data order h all event_desc) (section_data order h all simpleperf_meta_info)
 
--- a file's attributes, by the first of their sources that it has
+-- The attributes of a file, from the first source that it has.
 abbrev pub DescribesAttributes : Endianness → PerfHeader → List ℕ → List AttributeDescription → Type 0
-DescribesAttributes order h all ds = DescribesFrom order h (told_of order h all) all ds
+DescribesAttributes order h all ds = DescribesFrom order h (attribute_sources_of order h all) all ds
 
--- the attributes break their rule, as this error says
-pub record BreaksRule (order : Endianness) (h : PerfHeader) (e : Error) (all : List ℕ) : Type 0 where
-  pub ds : List AttributeDescription
-  pub described : DescribesAttributes order h all ds
-  pub breach : Breach
-  pub breaks : Breaks (attributes_by ds) breach
-  pub is : e ≡ error_of_breach breach
+-- The attributes are inconsistent, and `e` reports it.
+pub record InconsistencyError (order : Endianness) (h : PerfHeader) (e : Error) (all : List ℕ) : Type 0 where
+  pub descriptions : List AttributeDescription
+  pub attributes_match : DescribesAttributes order h all descriptions
+  pub inconsistency : Inconsistency
+  pub is_inconsistent : AreInconsistent (described_attributes descriptions) inconsistency
+  pub matches : e ≡ error_of_inconsistency inconsistency
 
--- What an opening meets first behind the sections: the attributes stop; there are none; or they break their rule.
-abbrev pub StopsAtAttributes : Endianness → PerfHeader → List ℕ → Error → Type 0
-StopsAtAttributes order h all e =
-    StopsFrom order h (told_of order h all) all e ⊎ (((e ≡ NoAttributes) × DescribesAttributes order h all []) ⊎ BreaksRule order h e all)
+-- The first error after the feature sections: the attributes are invalid, there are none, or they are inconsistent.
+abbrev pub IsAttributesError : Endianness → PerfHeader → List ℕ → Error → Type 0
+IsAttributesError order h all e =
+    IsSourcesError order h (attribute_sources_of order h all) all e ⊎ (((e ≡ NoAttributes) × DescribesAttributes order h all []) ⊎ InconsistencyError order h e all)
 
--- What an opening meets first behind a header, as all bytes show: the data section ends too far; the table of sections or a
--- section ends early; or what stands in the way of attributes.
-abbrev pub StopsBehind : Endianness → PerfHeader → List ℕ → Error → Type 0
-StopsBehind order h all e =
+-- The first error after the header, as the bytes show it: the end of the data section is 2^64 or more, the feature table or a
+-- section is truncated, or the attributes have an error.
+abbrev pub IsErrorAfterHeader : Endianness → PerfHeader → List ℕ → Error → Type 0
+IsErrorAfterHeader order h all e =
     ((e ≡ Read FeatureSection) × (2 ^ 64 ≤ h.data_section.offset + h.data_section.size))
-    ⊎ ((IsShort e × EndsNear h × LacksSections order all (table_place h) (features_of h.features))
-    ⊎ (EndsNear h × HoldsSections order h all × StopsAtAttributes order h all e))
+    ⊎ ((IsUnexpectedEof e × DataEndFitsU64 h × SectionsTruncated order all (table_offset h) (features_of h.features))
+    ⊎ (DataEndFitsU64 h × HoldsSections order h all × IsAttributesError order h all e))
 
--- what the source owes where it failed or paused: a fault of its own in the header, in sections and of a seek, else the attribute's
-abbrev pub SourceOwesOpening : State → Error → State → Type 0
-SourceOwesOpening old e new = OwesAttributes old e new
+-- The error of a source that failed or paused. In the header, the feature sections and seeks it is an I/O error, or an unexpected
+-- end of file after a pause. In the attributes it may also be `Read(PerfEventAttr)`.
+abbrev pub SourceErrorInOpening : State → Error → State → Type 0
+SourceErrorInOpening old e new = IsAttributesSourceError old e new
 
--- there are attributes, which keep their rule, and the source stands at the first record
-pub record ReadBehind (order : Endianness) (h : PerfHeader) (old : State) (opening : Opening) (new : State) : Type 0 where
+-- The file was opened after its header. It has consistent attributes, at least one, and the source is at the first record.
+pub record OpenedAfterHeader (order : Endianness) (h : PerfHeader) (old : State) (opening : FileOpening) (new : State) : Type 0 where
   pub endian : opening.endian ≡ order
-  pub near : EndsNear h
+  pub end_fits : DataEndFitsU64 h
   pub features : opening.features ≡ h.features
-  pub size : opening.size ≡ h.data_section.size
-  pub some : 0 < length opening.attributes.items
-  pub rule : Rule (attributes_by opening.attributes.items)
-  pub stood : Stood old new
-  pub place : new.place ≡ put_at h.data_section.offset old.place
-  pub sections : IfSome (all_of old.place) (λ all. HoldsSections order h all × ((n : ℕ) → data_in opening.sections n ≡ section_data order h all n))
-  pub attributes : IfSome (all_of old.place) (λ all. DescribesAttributes order h all opening.attributes.items)
+  pub data_size : opening.data_size ≡ h.data_section.size
+  pub nonempty : 0 < length opening.attributes.items
+  pub consistent : AreConsistent (described_attributes opening.attributes.items)
+  pub after_seek : AfterSeek old new
+  pub position : new.position ≡ at_offset h.data_section.offset old.position
+  pub sections : IfSome (all_bytes_of old.position) (λ all. HoldsSections order h all × ((n : ℕ) → feature_data_of opening.sections n ≡ section_data order h all n))
+  pub attributes : IfSome (all_bytes_of old.position) (λ all. DescribesAttributes order h all opening.attributes.items)
 
-pub record RefusedBehind (order : Endianness) (h : PerfHeader) (old : State) (e : Error) (new : State) : Type 0 where
-  pub stood : Stood old new
-  pub why : e ≢ Memory → IfSome (all_of old.place) (λ all. StopsBehind order h all e) ⊎ SourceOwesOpening old e new
+pub record OpenAfterHeaderError (order : Endianness) (h : PerfHeader) (old : State) (e : Error) (new : State) : Type 0 where
+  pub after_seek : AfterSeek old new
+  pub cause : e ≢ Memory → IfSome (all_bytes_of old.position) (λ all. IsErrorAfterHeader order h all e) ⊎ SourceErrorInOpening old e new
 
-abbrev pub ReadsBehind : Endianness → PerfHeader → State → Result Opening Error → State → Type 0
-ReadsBehind order h old (Ok opening) new = ReadBehind order h old opening new
-ReadsBehind order h old (Err e) new = RefusedBehind order h old e new
+abbrev pub OpensAfterHeader : Endianness → PerfHeader → State → Result FileOpening Error → State → Type 0
+OpensAfterHeader order h old (Ok opening) new = OpenedAfterHeader order h old opening new
+OpensAfterHeader order h old (Err e) new = OpenAfterHeaderError order h old e new
 
--- the bytes from a place on begin with this header, of 104 bytes
-pub record HasHeader (p : Place) (h : PerfHeader) : Type 0 where
-  pub there : 104 ≤ length (drop p.at p.all)
-  pub is : h ≡ header_of (take 104 (drop p.at p.all))
+-- The bytes at position `p` start with this header, of 104 bytes.
+pub record HasHeader (p : Position) (h : PerfHeader) : Type 0 where
+  pub complete : 104 ≤ length (drop p.offset p.all_bytes)
+  pub matches : h ≡ file_header_of (take 104 (drop p.offset p.all_bytes))
 
--- the bytes of a header behind its first 104 can be passed over: they are fewer than 2^63
-abbrev pub CanPass : PerfHeader → Type 0
-CanPass h = h.header_size < 104 + 2 ^ 63
+-- The header bytes after the first 104 can be skipped: they are fewer than 2^63.
+abbrev pub CanSkipExtra : PerfHeader → Type 0
+CanSkipExtra h = h.header_size < 104 + 2 ^ 63
 
--- they aren't passed over: they are 2^63 or more
-abbrev pub NotPassed : PerfHeader → Error → Type 0
-NotPassed h e = (104 + 2 ^ 63 ≤ h.header_size) × IsInvalidInput e
+-- The header bytes after the first 104 can't be skipped: they are 2^63 or more, and the error is that of an invalid input.
+abbrev pub IsExtraTooLong : PerfHeader → Error → Type 0
+IsExtraTooLong h e = (104 + 2 ^ 63 ≤ h.header_size) × IsInvalidInput e
 
--- the header of a file whose numbers have this order, which can be passed over
-pub record IsHeader (p : Place) (order : Endianness) (h : PerfHeader) : Type 0 where
-  pub has : HasHeader p h
-  pub passes : CanPass h
+-- The header at `p` is that of a file with this byte order, and its extra bytes can be skipped.
+pub record IsFileHeader (p : Position) (order : Endianness) (h : PerfHeader) : Type 0 where
+  pub has_header : HasHeader p h
+  pub can_skip_extra : CanSkipExtra h
   pub magic : h.magic ≡ magic_of order
 
--- a header that can be passed over, and whose magic is no file's, as this error says
-abbrev pub IsNoFile : Place → PerfHeader → Error → Type 0
-IsNoFile p h e = HasHeader p h × CanPass h × ((order : Endianness) → h.magic ≢ magic_of order) × (e ≡ UnrecognizedMagicValue h.magic)
+-- The header's extra bytes can be skipped, but its magic is that of no file, and `e` contains it.
+abbrev pub IsUnknownMagicError : Position → PerfHeader → Error → Type 0
+IsUnknownMagicError p h e = HasHeader p h × CanSkipExtra h × ((order : Endianness) → h.magic ≢ magic_of order) × (e ≡ UnrecognizedMagicValue h.magic)
 
--- What an opening of a file meets first: the header isn't there whole; the bytes behind its first 104 can't be passed
--- over; its magic is no file's; or what stands behind it.
-abbrev pub StopsFile : Place → Error → Type 0
-StopsFile p e =
-    (IsShort e × (length (drop p.at p.all) < 104))
-    ⊎ (((h : PerfHeader) × HasHeader p h × NotPassed h e)
-    ⊎ (((h : PerfHeader) × IsNoFile p h e)
-    ⊎ ((order : Endianness) × ((h : PerfHeader) × IsHeader p order h × StopsBehind order h p.all e))))
+-- The first error in opening a file: the header is truncated, its bytes after the first 104 can't be skipped, its magic is that
+-- of no file, or there is an error after the header.
+abbrev pub IsFileError : Position → Error → Type 0
+IsFileError p e =
+    (IsUnexpectedEof e × (length (drop p.offset p.all_bytes) < 104))
+    ⊎ (((h : PerfHeader) × HasHeader p h × IsExtraTooLong h e)
+    ⊎ (((h : PerfHeader) × IsUnknownMagicError p h e)
+    ⊎ ((order : Endianness) × ((h : PerfHeader) × IsFileHeader p order h × IsErrorAfterHeader order h p.all_bytes e))))
 
--- The file that begins at a place was opened: its header says what the opening holds, and the source stands at the first record.
-pub record OpenedAt (p : Place) (opening : Opening) (new : State) : Type 0 where
+-- The file at position `p` was opened. The opening contains what its header says, and the source is at the first record.
+pub record OpenedFileAt (p : Position) (opening : FileOpening) (new : State) : Type 0 where
   pub header : PerfHeader
-  pub is : IsHeader p opening.endian header
-  pub near : EndsNear header
+  pub matches : IsFileHeader p opening.endian header
+  pub end_fits : DataEndFitsU64 header
   pub features : opening.features ≡ header.features
-  pub size : opening.size ≡ header.data_section.size
-  pub holds : HoldsSections opening.endian header p.all
-  pub sections : (n : ℕ) → data_in opening.sections n ≡ section_data opening.endian header p.all n
-  pub attributes : DescribesAttributes opening.endian header p.all opening.attributes.items
-  pub place : new.place ≡ Some (record { all = p.all; at = header.data_section.offset })
+  pub data_size : opening.data_size ≡ header.data_section.size
+  pub sections_complete : HoldsSections opening.endian header p.all_bytes
+  pub sections : (n : ℕ) → feature_data_of opening.sections n ≡ section_data opening.endian header p.all_bytes n
+  pub attributes : DescribesAttributes opening.endian header p.all_bytes opening.attributes.items
+  pub position : new.position ≡ Some (record { all_bytes = p.all_bytes; offset = header.data_section.offset })
 
-pub record ReadFile (old : State) (opening : Opening) (new : State) : Type 0 where
-  pub some : 0 < length opening.attributes.items
-  pub rule : Rule (attributes_by opening.attributes.items)
-  pub stood : Stood old new
-  pub opened : IfSome old.place (λ p. OpenedAt p opening new)
+pub record FileOpened (old : State) (opening : FileOpening) (new : State) : Type 0 where
+  pub nonempty : 0 < length opening.attributes.items
+  pub consistent : AreConsistent (described_attributes opening.attributes.items)
+  pub after_seek : AfterSeek old new
+  pub file_opened : IfSome old.position (λ p. OpenedFileAt p opening new)
 
-pub record RefusedFile (old : State) (e : Error) (new : State) : Type 0 where
-  pub stood : Stood old new
-  pub why : e ≢ Memory → IfSome old.place (λ p. StopsFile p e) ⊎ SourceOwesOpening old e new
+pub record FileOpenError (old : State) (e : Error) (new : State) : Type 0 where
+  pub after_seek : AfterSeek old new
+  pub cause : e ≢ Memory → IfSome old.position (λ p. IsFileError p e) ⊎ SourceErrorInOpening old e new
 
-abbrev pub ReadsFile : State → Result Opening Error → State → Type 0
-ReadsFile old (Ok opening) new = ReadFile old opening new
-ReadsFile old (Err e) new = RefusedFile old e new
+abbrev pub OpensPerfFile : State → Result FileOpening Error → State → Type 0
+OpensPerfFile old (Ok opening) new = FileOpened old opening new
+OpensPerfFile old (Err e) new = FileOpenError old e new

@@ -1,123 +1,123 @@
--- A reading as a whole: an opening, the records that were handed out behind it one after another, and what ended them.
+-- Reading a file from start to end: the opening, the records that consecutive calls return, and what ends them.
 use Rattle.std.specs.Prelude.{◌≡◌, ◌≢◌, ◌⊎◌, ℕ, ◌+◌, ◌^◌, ◌<◌, ◌≤◌, List, [], ◌∷◌, ◌++◌, length, drop, Option, None, Some, IfSome, IsTrue}
-use Rattle.perfdata_base.specs.Source.{State, Place, Paused}
+use Rattle.perfdata_base.specs.Source.{State, Position, SourcePaused}
 use Rattle.perfdata_base.specs.declared.raw.Endianness.{Endianness}
 use Rattle.perfdata_base.specs.declared.header.PerfHeader.{PerfHeader}
 use Rattle.perfdata_sections.specs.declared.error.Error.{Error}
 use Rattle.perfdata_sections.specs.declared.error.Error.TheVariants.{Memory}
-use Rattle.linux_perf_data.specs.declared.iter.PerfRecordIter.{PerfRecordIter}
-use Rattle.linux_perf_data.specs.declared.iter.Stage.TheVariants.{Running, Ended}
+use Rattle.linux_perf_data.specs.declared.records.iter.PerfRecordIter.{PerfRecordIter}
+use Rattle.linux_perf_data.specs.declared.records.iter.Stage.TheVariants.{Running, Ended}
 use Rattle.linux_perf_data.specs.declared.perf_file.PerfFile.{PerfFile}
 use Rattle.linux_perf_data.specs.Attribute.{Attribute}
-use Rattle.linux_perf_data.specs.Known.{Knows}
-use Rattle.linux_perf_data.specs.Late.{SameFile}
-use Rattle.linux_perf_data.specs.Layout.{AreMarkers, Bound, Handed, End, whole, faulty, Fault, ToCome}
-use Rattle.linux_perf_data.specs.Names.{CanName, event_desc}
-use Rattle.linux_perf_data.specs.Piece.{Answers, SourceOwes}
-use Rattle.linux_perf_data.specs.Iter.{view, bound_of, RecordsToCome, HandsOut, AtEnd, Refuses}
-use Rattle.linux_perf_data.specs.PerfFile.{order_of_file, attributes_of_file, data_of}
-use Rattle.linux_perf_data.specs.Opened.{Describes, RecordsOf, Opens}
+use Rattle.linux_perf_data.specs.AttributeLookup.{Represents}
+use Rattle.linux_perf_data.specs.LateMetadata.{SamePerfFile}
+use Rattle.linux_perf_data.specs.Layout.{ConsistsOfMarkers, SectionSize, RecordView, LayoutEnd, ends_complete, ends_with_error, LayoutError, RemainingRecords}
+use Rattle.linux_perf_data.specs.Names.{IsReadableOrAbsent, event_desc}
+use Rattle.linux_perf_data.specs.RecordFraming.{IsErrorFor, SourceErrorInRecord}
+use Rattle.linux_perf_data.specs.Iter.{iter_source_state, section_size_of, HasRemainingRecords, ReturnsRecord, ReturnsEnd, ReturnsError}
+use Rattle.linux_perf_data.specs.PerfFile.{endian_of_file, attributes_of_file, feature_data_in_file}
+use Rattle.linux_perf_data.specs.OpenedFile.{DescribesFile, FileRecords, FileParsed}
 
--- the source owes this error, wherever in a record it stopped
-abbrev pub SourceOwesSome : Endianness → Bound → State → Error → State → Type 0
-SourceOwesSome order bound old e new = (came : List ℕ) × SourceOwes order bound old came e new
+-- The source error of a record, after any number of its bytes.
+abbrev pub SourceErrorInSomeRecord : Endianness → SectionSize → State → Error → State → Type 0
+SourceErrorInSomeRecord order bound old e new = (came : List ℕ) × SourceErrorInRecord order bound old came e new
 
--- these records come first, whatever comes behind them
-abbrev pub ComeFirst : (List Handed → End → Type 0) → List Handed → Type 0
-ComeFirst Come records = (more : List Handed) × ((end : End) × Come (records ++ more) end)
+-- These are the first records, whatever follows them.
+abbrev pub AreFirstRecords : (List RecordView → LayoutEnd → Type 0) → List RecordView → Type 0
+AreFirstRecords Come records = (more : List RecordView) × ((end : LayoutEnd) × Come (records ++ more) end)
 
--- where the last of these records ends, which stand behind this offset
-abbrev pub end_of : ℕ → List Handed → ℕ
-end_of offset [] = offset
-end_of offset (h ∷ hs) = end_of (h.offset + 8 + length h.body) hs
+-- The end offset of the last of these records, which start at `offset` or later.
+abbrev pub end_after : ℕ → List RecordView → ℕ
+end_after offset [] = offset
+end_after offset (h ∷ hs) = end_after (h.offset + 8 + length h.body) hs
 
--- an iterator that hasn't failed, at an offset of 64 bits
-pub record IsUnfailed {R : Type 0} (it : PerfRecordIter R) : Type 0 where
+-- The iterator hasn't failed, and its offset fits in 64 bits.
+pub record HasNotFailed {R : Type 0} (it : PerfRecordIter R) : Type 0 where
   pub stage : (it.stage ≡ Running) ⊎ (it.stage ≡ Ended)
-  pub fits : it.offset < 2 ^ 64
+  pub offset_fits : it.offset < 2 ^ 64
 
-module _ {R : Type 0} (seen : R → State) where
-  -- One call behind another, each with the `PerfFile` as the one before left it, handed out these records.
-  abbrev pub HandsOutAll : PerfRecordIter R → PerfFile → List Handed → PerfRecordIter R → PerfFile → Type 0
-  HandsOutAll old file [] now file' = (now ≡ old) × (file' ≡ file)
-  HandsOutAll old file (h ∷ hs) now file' = (next : PerfRecordIter R) × ((taken : PerfFile) × HandsOut seen old file h next taken × HandsOutAll next taken hs now file')
+module _ {R : Type 0} (state : R → State) where
+  -- Consecutive calls returned these records. Each call received the `PerfFile` as the previous one left it.
+  abbrev pub ReturnsRecords : PerfRecordIter R → PerfFile → List RecordView → PerfRecordIter R → PerfFile → Type 0
+  ReturnsRecords old file [] now file' = (now ≡ old) × (file' ≡ file)
+  ReturnsRecords old file (h ∷ hs) now file' = (next : PerfRecordIter R) × ((taken : PerfFile) × ReturnsRecord state old file h next taken × ReturnsRecords next taken hs now file')
 
-  -- A `PerfFile` is the iterator's own: it has the attributes that came, and in a pipe an EVENT_DESC that can be read, if any.
-  pub record IsOwn (it : PerfRecordIter R) (file : PerfFile) : Type 0 where
-    pub knows : Knows it.endian it.known (attributes_of_file file)
-    pub names : bound_of seen it ≡ None → CanName it.endian (data_of file event_desc)
+  -- The `PerfFile` matches the iterator: it has the attributes that were read and, in a pipe, no EVENT_DESC or a readable one.
+  pub record HasMatchingFile (it : PerfRecordIter R) (file : PerfFile) : Type 0 where
+    pub represents : Represents it.endian it.attribute_lookup (attributes_of_file file)
+    pub event_desc_readable : section_size_of state it ≡ None → IsReadableOrAbsent it.endian (feature_data_in_file file event_desc)
 
-  -- these are the first of what is to come
-  abbrev pub AreFirst : PerfRecordIter R → List Handed → Type 0
-  AreFirst old records = (attrs : List Attribute) → Knows old.endian old.known attrs
-      → IfSome (view seen old).bytes (λ bytes. ComeFirst (ToCome old.endian bytes (bound_of seen old) old.offset old.round attrs) records)
+  -- These are the first of the remaining records.
+  abbrev pub AreFirstRemaining : PerfRecordIter R → List RecordView → Type 0
+  AreFirstRemaining old records = (attrs : List Attribute) → Represents old.endian old.attribute_lookup attrs
+      → IfSome (iter_source_state state old).bytes (λ bytes. AreFirstRecords (RemainingRecords old.endian bytes (section_size_of state old) old.offset old.round attrs) records)
 
-  -- the layout is whole behind these records, or, in a pipe, the source paused
-  abbrev pub EndsWhole : PerfRecordIter R → List Handed → PerfRecordIter R → Type 0
-  EndsWhole old records new =
-      ((attrs : List Attribute) → Knows old.endian old.known attrs → RecordsToCome seen old attrs records whole)
-      ⊎ ((bound_of seen old ≡ None) × Paused (view seen old) (view seen new))
+  -- The layout is complete after these records, or, in a pipe, the source paused.
+  abbrev pub EndsComplete : PerfRecordIter R → List RecordView → PerfRecordIter R → Type 0
+  EndsComplete old records new =
+      ((attrs : List Attribute) → Represents old.endian old.attribute_lookup attrs → HasRemainingRecords state old attrs records ends_complete)
+      ⊎ ((section_size_of state old ≡ None) × SourcePaused (iter_source_state state old) (iter_source_state state new))
 
-  -- the layout ends with this fault behind these records, and this is its answer
-  abbrev pub EndsFaulty : PerfRecordIter R → List Handed → Error → Type 0
-  EndsFaulty old records e = IfSome (view seen old).bytes (λ bytes. (f : Fault) × ((attrs : List Attribute) → Knows old.endian old.known attrs
-      → ToCome old.endian bytes (bound_of seen old) old.offset old.round attrs records (faulty f)) × Answers f e)
+  -- The layout ends with an error after these records, and `e` reports it.
+  abbrev pub EndsWithError : PerfRecordIter R → List RecordView → Error → Type 0
+  EndsWithError old records e = IfSome (iter_source_state state old).bytes (λ bytes. (f : LayoutError) × ((attrs : List Attribute) → Represents old.endian old.attribute_lookup attrs
+      → RemainingRecords old.endian bytes (section_size_of state old) old.offset old.round attrs records (ends_with_error f)) × IsErrorFor f e)
 
--- the file that begins at a place has these records first, and they are so
-abbrev pub OfFile : Place → ((List Handed → End → Type 0) → Type 0) → Type 0
-OfFile p P = (file : PerfFile) × ((header : PerfHeader) × Describes p header file × P (RecordsOf p (order_of_file file) header (attributes_of_file file)))
+-- `P` holds for the records of the file at position `p`.
+abbrev pub HoldsForFile : Position → ((List RecordView → LayoutEnd → Type 0) → Type 0) → Type 0
+HoldsForFile p P = (file : PerfFile) × ((header : PerfHeader) × DescribesFile p header file × P (FileRecords p (endian_of_file file) header (attributes_of_file file)))
 
--- the source of a file owes this error
-abbrev pub SourceOwesFile : State → Error → State → Type 0
-SourceOwesFile old e new = (order : Endianness) × ((size : ℕ) × SourceOwesSome order (Some size) old e new)
+-- The source error in a file.
+abbrev pub SourceErrorInFile : State → Error → State → Type 0
+SourceErrorInFile old e new = (order : Endianness) × ((size : ℕ) × SourceErrorInSomeRecord order (Some size) old e new)
 
--- What was handed out of a file that begins at a place are the first of its records, and all bytes behind the last of them are unread.
-pub record ReadSoFar (p : Place) (file : PerfFile) (records : List Handed) (left : Option (List ℕ)) : Type 0 where
+-- The returned records are the first of the file at `p`, and all bytes after the last of them are unread.
+pub record FilePartlyRead (p : Position) (file : PerfFile) (records : List RecordView) (left : Option (List ℕ)) : Type 0 where
   pub header : PerfHeader
-  pub describes : Describes p header file
-  pub first : ComeFirst (RecordsOf p (order_of_file file) header (attributes_of_file file)) records
-  pub unread : left ≡ Some (drop (header.data_section.offset + end_of 0 records) p.all)
+  pub describes : DescribesFile p header file
+  pub first_records : AreFirstRecords (FileRecords p (endian_of_file file) header (attributes_of_file file)) records
+  pub remaining : left ≡ Some (drop (header.data_section.offset + end_after 0 records) p.all_bytes)
 
--- These are all records of the file, whose layout is whole, and all bytes behind its last piece are unread.
-pub record ReadWhole (p : Place) (file : PerfFile) (records : List Handed) (left : Option (List ℕ)) : Type 0 where
+-- These are all records of the file. Its layout is complete, and all bytes after its last raw record are unread.
+pub record FileRead (p : Position) (file : PerfFile) (records : List RecordView) (left : Option (List ℕ)) : Type 0 where
   pub header : PerfHeader
-  pub describes : Describes p header file
-  pub all : RecordsOf p (order_of_file file) header (attributes_of_file file) records whole
-  -- markers fill the section up behind the last record
+  pub describes : DescribesFile p header file
+  pub all_records : FileRecords p (endian_of_file file) header (attributes_of_file file) records ends_complete
+  -- Markers fill the rest of the section after the last record.
   pub markers : List ℕ
-  pub passed : AreMarkers (order_of_file file) (Some header.data_section.size) (end_of 0 records) markers
-  pub past : header.data_section.size ≤ end_of 0 records + length markers
-  pub unread : left ≡ Some (drop (header.data_section.offset + (end_of 0 records + length markers)) p.all)
+  pub valid_markers : ConsistsOfMarkers (endian_of_file file) (Some header.data_section.size) (end_after 0 records) markers
+  pub section_passed : header.data_section.size ≤ end_after 0 records + length markers
+  pub remaining : left ≡ Some (drop (header.data_section.offset + (end_after 0 records + length markers)) p.all_bytes)
 
--- These are all records of the file in front of a fault of its layout, which is answered so.
-pub record ReadToFault (p : Place) (file : PerfFile) (records : List Handed) (e : Error) : Type 0 where
+-- These are all records of the file before its layout error, and `e` reports that error.
+pub record FileReadToError (p : Position) (file : PerfFile) (records : List RecordView) (e : Error) : Type 0 where
   pub header : PerfHeader
-  pub describes : Describes p header file
-  pub fault : Fault
-  pub all : RecordsOf p (order_of_file file) header (attributes_of_file file) records (faulty fault)
-  pub answers : Answers fault e
+  pub describes : DescribesFile p header file
+  pub layout_error : LayoutError
+  pub all_records : FileRecords p (endian_of_file file) header (attributes_of_file file) records (ends_with_error layout_error)
+  pub error_matches : IsErrorFor layout_error e
 
-module _ {R : Type 0} (seen : R → State) where
-  -- no call hands out no record
-  abbrev pub NoCall : Type 0
-  NoCall = (it : PerfRecordIter R) (file : PerfFile) → HandsOutAll seen it file [] it file
+module _ {R : Type 0} (state : R → State) where
+  -- Zero calls return no records.
+  abbrev pub NoCalls : Type 0
+  NoCalls = (it : PerfRecordIter R) (file : PerfFile) → ReturnsRecords state it file [] it file
 
-  -- and one behind others hands out one record more
+  -- One call after others returns one record more.
   abbrev pub OneCallMore : Type 0
-  OneCallMore = (old now new : PerfRecordIter R) (file now_file file' : PerfFile) (records : List Handed) (h : Handed) →
-      HandsOutAll seen old file records now now_file → HandsOut seen now now_file h new file' → HandsOutAll seen old file (records ++ h ∷ []) new file'
+  OneCallMore = (old now new : PerfRecordIter R) (file now_file file' : PerfFile) (records : List RecordView) (h : RecordView) →
+      ReturnsRecords state old file records now now_file → ReturnsRecord state now now_file h new file' → ReturnsRecords state old file (records ++ h ∷ []) new file'
 
-  -- a reading of a file, up to any of its records
-  abbrev pub FileSoFar : Type 0
-  FileSoFar = (p : Place) (old : State) (file file' : PerfFile) (it now : PerfRecordIter R) (records : List Handed) →
-      old.place ≡ Some p → Opens seen old file it → HandsOutAll seen it file records now file' → ReadSoFar p file records (seen now.source).bytes × (file' ≡ file)
+  -- Reading a file up to any of its records.
+  abbrev pub ReadingFilePartly : Type 0
+  ReadingFilePartly = (p : Position) (old : State) (file file' : PerfFile) (it now : PerfRecordIter R) (records : List RecordView) →
+      old.position ≡ Some p → FileParsed state old file it → ReturnsRecords state it file records now file' → FilePartlyRead p file records (state now.source).bytes × (file' ≡ file)
 
-  -- a reading of a file, up to the end that was answered
-  abbrev pub FileWhole : Type 0
-  FileWhole = (p : Place) (old : State) (file now_file file' : PerfFile) (it now new : PerfRecordIter R) (records : List Handed) →
-      old.place ≡ Some p → Opens seen old file it → HandsOutAll seen it file records now now_file → AtEnd seen now now_file new file' → ReadWhole p file records (seen new.source).bytes × (file' ≡ file)
+  -- Reading a file up to its end.
+  abbrev pub ReadingFileToEnd : Type 0
+  ReadingFileToEnd = (p : Position) (old : State) (file now_file file' : PerfFile) (it now new : PerfRecordIter R) (records : List RecordView) →
+      old.position ≡ Some p → FileParsed state old file it → ReturnsRecords state it file records now now_file → ReturnsEnd state now now_file new file' → FileRead p file records (state new.source).bytes × (file' ≡ file)
 
-  -- a reading of a file from a steady source, up to a refusal that isn't want of memory
-  abbrev pub FileToFault : Type 0
-  FileToFault = (p : Place) (old : State) (file now_file file' : PerfFile) (it now new : PerfRecordIter R) (records : List Handed) (e : Error) →
-      old.place ≡ Some p → IsTrue old.steady → Opens seen old file it → HandsOutAll seen it file records now now_file → Refuses seen now now_file e new file' → e ≢ Memory → ReadToFault p file records e × SameFile file file'
+  -- Reading a file from an infallible source up to an error other than `Memory`.
+  abbrev pub ReadingFileToError : Type 0
+  ReadingFileToError = (p : Position) (old : State) (file now_file file' : PerfFile) (it now new : PerfRecordIter R) (records : List RecordView) (e : Error) →
+      old.position ≡ Some p → IsTrue old.steady → FileParsed state old file it → ReturnsRecords state it file records now now_file → ReturnsError state now now_file e new file' → e ≢ Memory → FileReadToError p file records e × SamePerfFile file file'

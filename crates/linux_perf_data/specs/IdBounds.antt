@@ -1,13 +1,13 @@
--- Which indices a table and a cache of identifiers can answer.
+-- Bounds of the indices in an identifier table and an identifier cache.
 use Rattle.std.specs.Prelude.{◌≡◌, ℕ, ◌<◌, Some}
-use Rattle.perfdata_base.specs.IdCache.{cached}
+use Rattle.perfdata_base.specs.IdCache.{cached_index}
 use Rattle.perfdata_base.specs.declared.place.id_cache.IdCache.{IdCache}
-use Rattle.linux_perf_data.specs.declared.id_table.IdTable.{IdTable}
-use Rattle.linux_perf_data.specs.IdTable.{found}
+use Rattle.linux_perf_data.specs.declared.attributes.id_table.IdTable.{IdTable}
+use Rattle.linux_perf_data.specs.IdTable.{id_lookup}
 
--- those below this many
-abbrev pub TableBelow : IdTable → ℕ → Type 0
-TableBelow t n = (id i : ℕ) → found t id ≡ Some i → i < n
+-- All indices are below `n`.
+abbrev pub TableIndicesBelow : IdTable → ℕ → Type 0
+TableIndicesBelow t n = (id i : ℕ) → id_lookup t id ≡ Some i → i < n
 
-abbrev pub CacheBelow : IdCache → ℕ → Type 0
-CacheBelow c n = (id i : ℕ) → cached c id ≡ Some i → i < n
+abbrev pub CacheIndicesBelow : IdCache → ℕ → Type 0
+CacheIndicesBelow c n = (id i : ℕ) → cached_index c id ≡ Some i → i < n

@@ -1,42 +1,42 @@
--- What an iterator reads: a section of a file, or a pipe, whose opening may have kept a head.
+-- The input of an iterator: a section of a file, or a pipe, which may have a pending header.
 use Rattle.std.specs.Prelude.{◌≡◌, ◌≢◌, ℕ, List, [], Option, None, Some, Result, Ok, Err}
 use Rattle.perfdata_base.specs.Source.{State, prepend}
 use Rattle.perfdata_base.specs.declared.event.PerfEventHeader.{PerfEventHeader}
 use Rattle.perfdata_sections.specs.declared.error.Error.{Error}
-use Rattle.linux_perf_data.specs.declared.input.Input.{Input}
-use Rattle.linux_perf_data.specs.declared.input.Input.TheVariants.{Section, Pipe}
-use Rattle.linux_perf_data.specs.Layout.{Bound}
+use Rattle.linux_perf_data.specs.declared.records.input.Input.{Input}
+use Rattle.linux_perf_data.specs.declared.records.input.Input.TheVariants.{Section, Pipe}
+use Rattle.linux_perf_data.specs.Layout.{SectionSize}
 
--- where its records stand
-abbrev pub bound_in : Input → Bound
-bound_in (Section size) = Some size
-bound_in (Pipe kept) = None
+-- The size of the section that contains the records; `None` in a pipe.
+abbrev pub section_size_in : Input → SectionSize
+section_size_in (Section size) = Some size
+section_size_in (Pipe kept) = None
 
--- it keeps no head
-abbrev pub KeepsNone : Input → Type 0
-KeepsNone (Section size) = Unit {0}
-KeepsNone (Pipe kept) = kept ≡ None
+-- The input has no pending header.
+abbrev pub HasNoPendingHeader : Input → Type 0
+HasNoPendingHeader (Section size) = Unit {0}
+HasNoPendingHeader (Pipe kept) = kept ≡ None
 
--- a source with bytes in front of those that it will still give; nothing is said of its place
-abbrev pub with_front : List ℕ → State → State
-with_front front s = record { bytes = prepend front s.bytes; faults = s.faults; pauses = s.pauses; steady = s.steady; place = None }
+-- The source with `front` before its remaining bytes. Its position is unspecified.
+abbrev pub with_leading_bytes : List ℕ → State → State
+with_leading_bytes front s = record { bytes = prepend front s.bytes; errors = s.errors; pauses = s.pauses; steady = s.steady; position = None }
 
-abbrev pub with_kept : Option (List ℕ) → State → State
-with_kept None s = with_front [] s
-with_kept (Some head) s = with_front head s
+abbrev pub with_pending_header : Option (List ℕ) → State → State
+with_pending_header None s = with_leading_bytes [] s
+with_pending_header (Some head) s = with_leading_bytes head s
 
--- a source as its reader sees it: of a pipe, with the head that is kept in front
-abbrev pub view_in : Input → State → State
-view_in (Section size) s = s
-view_in (Pipe kept) s = with_kept kept s
+-- The source as the iterator sees it. In a pipe, the pending header precedes the remaining bytes.
+abbrev pub input_source_state : Input → State → State
+input_source_state (Section size) s = s
+input_source_state (Pipe kept) s = with_pending_header kept s
 
--- the head that was kept is taken, and all else stays
-pub record TookKept (old new : Input) : Type 0 where
-  pub bound : bound_in new ≡ bound_in old
-  pub none : KeepsNone new
+-- The pending header is consumed. The section size is unchanged.
+pub record TakesPendingHeader (old new : Input) : Type 0 where
+  pub section_size : section_size_in new ≡ section_size_in old
+  pub no_pending_header : HasNoPendingHeader new
 
--- where a record is cut, a pipe ends, and a file is refused
-abbrev pub CutAnswers : Input → Error → Result (Option PerfEventHeader) Error → Type 0
-CutAnswers input e (Ok None) = bound_in input ≡ None
-CutAnswers input e (Ok (Some head)) = ⊥
-CutAnswers input e (Err e') = (bound_in input ≢ None) × (e' ≡ e)
+-- A truncated record ends a pipe, and is an error in a file.
+abbrev pub AnswersTruncation : Input → Error → Result (Option PerfEventHeader) Error → Type 0
+AnswersTruncation input e (Ok None) = section_size_in input ≡ None
+AnswersTruncation input e (Ok (Some head)) = ⊥
+AnswersTruncation input e (Err e') = (section_size_in input ≢ None) × (e' ≡ e)

@@ -1,7 +1,7 @@
--- What a `PerfRecordIter` is yet to hand out, and what its calls do.
+-- The remaining records of a `PerfRecordIter`, and the contracts of its calls.
 use Rattle.std.specs.Prelude.{◌≡◌, ◌≢◌, ℕ, ◌+◌, ◌^◌, ◌<◌, ◌≤◌, ◌==◌, ◌⊎◌, Bool, true, false, List, [], ◌∷◌, ◌++◌, length, drop, if◌then◌else◌, Option, None, Some, Result, Ok, Err, IfSome}
-use Rattle.perfdata_base.specs.Source.{State, Gave, Paused}
-use Rattle.perfdata_base.specs.Numbers.{number_in}
+use Rattle.perfdata_base.specs.Source.{State, Consumed, SourcePaused}
+use Rattle.perfdata_base.specs.Endian.{number_in}
 use Rattle.perfdata_base.specs.Raw.{bytes_of}
 use Rattle.perfdata_base.specs.declared.raw.Endianness.{Endianness}
 use Rattle.perfdata_base.specs.declared.event.PerfEventHeader.{PerfEventHeader}
@@ -11,325 +11,327 @@ use Rattle.perfdata_sections.specs.declared.error.Error.TheVariants as error
 use Rattle.perfdata_records.specs.declared.record.PerfFileRecord.{PerfFileRecord}
 use Rattle.perfdata_records.specs.declared.record.PerfFileRecord.TheVariants.{EventRecord, UserRecord}
 use Rattle.perfdata_sections.specs.Error.{IsInvalidInput}
-use Rattle.perfdata_sections.specs.EventDesc.{NoEventDesc}
-use Rattle.perfdata_records.specs.Record.{type_of}
-use Rattle.linux_perf_data.specs.declared.iter.PerfRecordIter.{PerfRecordIter}
-use Rattle.linux_perf_data.specs.declared.iter.RecordPlace.{RecordPlace}
-use Rattle.linux_perf_data.specs.declared.iter.Found.{Found}
-use Rattle.linux_perf_data.specs.declared.iter.Writer.{Writer}
-use Rattle.linux_perf_data.specs.declared.iter.Writer.TheVariants.{Kernel, Tool}
-use Rattle.linux_perf_data.specs.declared.known.Known.{Known}
-use Rattle.linux_perf_data.specs.declared.iter.Stage.TheVariants.{Running, Failed, Ended}
+use Rattle.perfdata_sections.specs.EventDesc.{IsEventDescError}
+use Rattle.perfdata_records.specs.UserRecordType.{user_type_number}
+use Rattle.linux_perf_data.specs.declared.records.iter.PerfRecordIter.{PerfRecordIter}
+use Rattle.linux_perf_data.specs.declared.records.iter.RecordPlace.{RecordPlace}
+use Rattle.linux_perf_data.specs.declared.records.iter.RecordInfo.{RecordInfo}
+use Rattle.linux_perf_data.specs.declared.records.iter.Writer.{Writer}
+use Rattle.linux_perf_data.specs.declared.records.iter.Writer.TheVariants.{Kernel, User}
+use Rattle.linux_perf_data.specs.declared.attributes.lookup.AttributeLookup.{AttributeLookup}
+use Rattle.linux_perf_data.specs.declared.records.iter.Stage.TheVariants.{Running, Failed, Ended}
 use Rattle.linux_perf_data.specs.declared.perf_file.PerfFile.{PerfFile}
-use Rattle.linux_perf_data.specs.Attribute.{Attribute, Event, HoldsAttribute}
-use Rattle.linux_perf_data.specs.Input.{KeepsNone, bound_in, view_in}
-use Rattle.linux_perf_data.specs.Late.{HasContents, IsMetadata, FileTook, Passed, SameFile, TakesNot, SameCount}
+use Rattle.linux_perf_data.specs.Attribute.{Attribute, EventRef, HoldsAttribute}
+use Rattle.linux_perf_data.specs.Input.{HasNoPendingHeader, section_size_in, input_source_state}
+use Rattle.linux_perf_data.specs.LateMetadata.{HasValidMetadata, IsMetadataType, UpdatesPerfFile, PassesEarlierChecks, SamePerfFile, RejectsMetadata, SameAttributeCount}
 use Rattle.linux_perf_data.specs.Names.{event_desc}
-use Rattle.linux_perf_data.specs.PerfFile.{descriptions_of, data_of}
-use Rattle.linux_perf_data.specs.Known.{Knows, places_at}
-use Rattle.linux_perf_data.specs.Layout.{Bound, Begins, IsEnd, IsRecord, AreMarkers, kind_of, misc_of, Handed, End, whole, faulty, Fault, ToCome, handed_with, attributes_of, brought}
-use Rattle.linux_perf_data.specs.Pauses.{PausesNext}
-use Rattle.linux_perf_data.specs.Piece.{RefusedAt, CameWithin, CutAt, CutBehindHead, Answers, SourceOwes, WantsMemory}
+use Rattle.linux_perf_data.specs.PerfFile.{descriptions_of_file, feature_data_in_file}
+use Rattle.linux_perf_data.specs.AttributeLookup.{Represents, parse_info_at}
+use Rattle.linux_perf_data.specs.Layout.{SectionSize, MayStartAt, IsEnd, IsRecord, ConsistsOfMarkers, record_type_of, misc_of, RecordView, LayoutEnd, ends_complete, ends_with_error, LayoutError, RemainingRecords, record_view, attributes_in_record, attributes_in_views}
+use Rattle.linux_perf_data.specs.Pauses.{PausesOnlyAtEndOrError}
+use Rattle.linux_perf_data.specs.RecordFraming.{RecordErrorAt, StaysWithinRecord, RecordTruncatedAt, IsTruncatedAfterHeader, IsErrorFor, SourceErrorInRecord, MayNeedMemory}
 
--- a record with its place, as the layout has it
-abbrev pub handed_of : RecordPlace → PerfFileRecord → Handed
-handed_of p (EventRecord index r) = record {
+-- The view of a returned record: its fields as the layout gives them.
+abbrev pub record_view_of : RecordPlace → PerfFileRecord → RecordView
+record_view_of p (EventRecord index r) = record {
   offset = p.offset;
   round = p.round;
-  kind = r.record_type.0;
+  record_type = r.record_type.0;
   misc = r.misc;
-  order = r.parse_info.endian;
+  endian = r.parse_info.endian;
   body = bytes_of r.body;
-  event = Some (record { index = index; places = r.parse_info });
-  time = p.timestamp;
+  event = Some (record { index = index; parse_info = r.parse_info });
+  timestamp = p.timestamp;
 }
-handed_of p (UserRecord r) = record {
+record_view_of p (UserRecord r) = record {
   offset = p.offset;
   round = p.round;
-  kind = type_of r.record_type;
+  record_type = user_type_number r.record_type;
   misc = r.misc;
-  order = r.endian;
+  endian = r.endian;
   body = bytes_of r.body;
   event = None;
-  time = p.timestamp;
+  timestamp = p.timestamp;
 }
 
--- the attribute of a record; 0 where a tool wrote it
-abbrev pub index_by : Writer → ℕ
-index_by (Kernel index) = index
-index_by (Tool t) = 0
+-- The attribute index of a record; 0 if a tool wrote it.
+abbrev pub attr_index_by_writer : Writer → ℕ
+attr_index_by_writer (Kernel index) = index
+attr_index_by_writer (User t) = 0
 
-abbrev pub event_by : RecordParseInfo → Writer → Option Event
-event_by places (Kernel index) = Some (record { index = index; places = places })
-event_by places (Tool t) = None
+abbrev pub event_by_writer : RecordParseInfo → Writer → Option EventRef
+event_by_writer places (Kernel index) = Some (record { index = index; parse_info = places })
+event_by_writer places (User t) = None
 
-abbrev pub kind_by : Writer → ℕ → ℕ
-kind_by (Kernel index) kind = kind
-kind_by (Tool t) kind = type_of t
+abbrev pub record_type_by_writer : Writer → ℕ → ℕ
+record_type_by_writer (Kernel index) kind = kind
+record_type_by_writer (User t) kind = user_type_number t
 
-abbrev pub order_by : RecordParseInfo → Writer → Endianness → Endianness
-order_by places (Kernel index) order = places.endian
-order_by places (Tool t) order = order
+abbrev pub endian_by_writer : RecordParseInfo → Writer → Endianness → Endianness
+endian_by_writer places (Kernel index) order = places.endian
+endian_by_writer places (User t) order = order
 
--- a record that was found, with the places of its attribute, the order of its input and the body that is held
-abbrev pub found_at : RecordParseInfo → Found → Endianness → List ℕ → Handed
-found_at places f order body = record {
+-- The view of an identified record, with the parse info of its attribute, the byte order of the input and the buffered body.
+abbrev pub record_view_at : RecordParseInfo → RecordInfo → Endianness → List ℕ → RecordView
+record_view_at places f order body = record {
   offset = f.place.offset;
   round = f.place.round;
-  kind = kind_by f.writer f.record_type.0;
+  record_type = record_type_by_writer f.writer f.record_type.0;
   misc = f.misc;
-  order = order_by places f.writer order;
+  endian = endian_by_writer places f.writer order;
   body = body;
-  event = event_by places f.writer;
-  time = f.place.timestamp;
+  event = event_by_writer places f.writer;
+  timestamp = f.place.timestamp;
 }
 
--- the same, by what is known of the attributes
-abbrev pub found_with : Known → Found → Endianness → List ℕ → Handed
-found_with known f order body = found_at (places_at known (index_by f.writer)) f order body
+-- The same, with the parse info from the attribute lookup.
+abbrev pub record_view_with : AttributeLookup → RecordInfo → Endianness → List ℕ → RecordView
+record_view_with known f order body = record_view_at (parse_info_at known (attr_index_by_writer f.writer)) f order body
 
--- the record of a head that isn't a marker's is found as the attributes tell, by what is known of them then
-pub record FindsRecord (old : Known) (offset round : ℕ) (head : PerfEventHeader) (body : List ℕ) (found : Found) (new : Known) : Type 0 where
-  pub place : found.place.offset ≡ offset
-  pub kind : kind_by found.writer found.record_type.0 ≡ head.type_
-  pub kernel : (index : ℕ) → found.writer ≡ Kernel index → head.type_ < 64
-  pub is : (order : Endianness) (attrs : List Attribute) → Knows order old attrs → found_with new found order body ≡ handed_with order offset round attrs head.type_ head.misc body
+-- The record with this header, which isn't a marker's, is identified as the represented attributes require. The view uses the
+-- parse infos of the new lookup.
+pub record IdentifiesRecord (old : AttributeLookup) (offset round : ℕ) (head : PerfEventHeader) (body : List ℕ) (found : RecordInfo) (new : AttributeLookup) : Type 0 where
+  pub offset_matches : found.place.offset ≡ offset
+  pub record_type : record_type_by_writer found.writer found.record_type.0 ≡ head.type_
+  pub kernel_type : (index : ℕ) → found.writer ≡ Kernel index → head.type_ < 64
+  pub matches : (order : Endianness) (attrs : List Attribute) → Represents order old attrs → record_view_with new found order body ≡ record_view order offset round attrs head.type_ head.misc body
 
--- a record may begin here
-abbrev pub MayBegin : Bound → ℕ → Bool → Type 0
-MayBegin bound offset true = Begins bound offset
-MayBegin bound offset false = (bound ≢ None) × ((order : Endianness) (bytes : List ℕ) → IsEnd order bound offset bytes)
+-- Whether a record may start at this offset.
+abbrev pub TestsMayStart : SectionSize → ℕ → Bool → Type 0
+TestsMayStart bound offset true = MayStartAt bound offset
+TestsMayStart bound offset false = (bound ≢ None) × ((order : Endianness) (bytes : List ℕ) → IsEnd order bound offset bytes)
 
--- an iterator that has neither failed nor ended, at an offset of 64 bits
+-- The iterator has neither failed nor ended, and its offset fits in 64 bits.
 pub record IsRunning {R : Type 0} (it : PerfRecordIter R) : Type 0 where
   pub stage : it.stage ≡ Running
-  pub fits : it.offset < 2 ^ 64
+  pub offset_fits : it.offset < 2 ^ 64
 
-module _ {R : Type 0} (seen : R → State) where
-  -- the source as the iterator sees it: of a pipe, with the head that is kept in front
-  abbrev pub view : PerfRecordIter R → State
-  view it = view_in it.input (seen it.source)
+module _ {R : Type 0} (state : R → State) where
+  -- The source as the iterator sees it. In a pipe, the pending header precedes the remaining bytes.
+  abbrev pub iter_source_state : PerfRecordIter R → State
+  iter_source_state it = input_source_state it.input (state it.source)
 
-  -- a section of a file, or a pipe
-  abbrev pub bound_of : PerfRecordIter R → Bound
-  bound_of it = bound_in it.input
+  -- The size of the section that contains the records; `None` in a pipe.
+  abbrev pub section_size_of : PerfRecordIter R → SectionSize
+  section_size_of it = section_size_in it.input
 
-  -- what stays from call to call
+  -- The byte order and the section size, which no call changes.
   pub record SameInput (old new : PerfRecordIter R) : Type 0 where
-    pub order : new.endian ≡ old.endian
-    pub bound : bound_of new ≡ bound_of old
+    pub same_endian : new.endian ≡ old.endian
+    pub section_size : section_size_of new ≡ section_size_of old
 
-  -- one piece was taken from the source, and is held unless it is a marker
-  pub record TookPiece (old : PerfRecordIter R) (head : PerfEventHeader) (new : PerfRecordIter R) : Type 0 where
-    pub piece : List ℕ
-    pub gave : Gave (view old) piece (view new)
-    pub is_record : IsRecord old.endian piece
-    pub kind : kind_of old.endian piece ≡ head.type_
-    pub misc : misc_of old.endian piece ≡ head.misc
-    pub offset : new.offset ≡ old.offset + length piece
-    pub fits : new.offset < 2 ^ 64
+  -- One raw record was consumed from the source. Its body is buffered unless it is a marker.
+  pub record RawRecordRead (old : PerfRecordIter R) (head : PerfEventHeader) (new : PerfRecordIter R) : Type 0 where
+    pub raw_record : List ℕ
+    pub consumes : Consumed (iter_source_state old) raw_record (iter_source_state new)
+    pub is_record : IsRecord old.endian raw_record
+    pub record_type : record_type_of old.endian raw_record ≡ head.type_
+    pub misc : misc_of old.endian raw_record ≡ head.misc
+    pub offset : new.offset ≡ old.offset + length raw_record
+    pub offset_fits : new.offset < 2 ^ 64
     pub round : new.round ≡ (if head.type_ == 68 then old.round + 1 else old.round)
-    pub held : head.type_ ≢ 68 → new.body.items ≡ drop 8 piece
-    pub empty : head.type_ ≡ 68 → new.body.items ≡ []
-    pub same : SameInput old new
-    pub known : new.known ≡ old.known
-    pub running : new.stage ≡ old.stage
-    pub unread : KeepsNone new.input
+    pub buffered_body : head.type_ ≢ 68 → new.body.items ≡ drop 8 raw_record
+    pub empty_if_marker : head.type_ ≡ 68 → new.body.items ≡ []
+    pub same_input : SameInput old new
+    pub attribute_lookup : new.attribute_lookup ≡ old.attribute_lookup
+    pub stage : new.stage ≡ old.stage
+    pub no_pending_header : HasNoPendingHeader new.input
 
-  -- a piece was refused, and the iterator's place stays
-  pub record RefusedPiece (old : PerfRecordIter R) (e : Error) (new : PerfRecordIter R) : Type 0 where
-    pub refused : RefusedAt old.endian (view old) (bound_of old) old.offset e (length new.body.items) (view new)
+  -- Reading a raw record failed. The iterator's offset is unchanged.
+  pub record RawRecordError (old : PerfRecordIter R) (e : Error) (new : PerfRecordIter R) : Type 0 where
+    pub error : RecordErrorAt old.endian (iter_source_state old) (section_size_of old) old.offset e (length new.body.items) (iter_source_state new)
     pub offset : new.offset ≡ old.offset
     pub round : new.round ≡ old.round
-    pub same : SameInput old new
-    pub known : new.known ≡ old.known
-    pub unread : KeepsNone new.input
+    pub same_input : SameInput old new
+    pub attribute_lookup : new.attribute_lookup ≡ old.attribute_lookup
+    pub no_pending_header : HasNoPendingHeader new.input
 
-  -- a piece is cut in a pipe, and the iterator's place stays
-  pub record CutPiece (old new : PerfRecordIter R) : Type 0 where
-    pub pipe : bound_of old ≡ None
-    pub cut : CutAt old.endian (view old) old.offset (length new.body.items) (view new)
+  -- A raw record is truncated in a pipe. The iterator's offset is unchanged.
+  pub record RawRecordTruncated (old new : PerfRecordIter R) : Type 0 where
+    pub in_pipe : section_size_of old ≡ None
+    pub is_truncated : RecordTruncatedAt old.endian (iter_source_state old) old.offset (length new.body.items) (iter_source_state new)
     pub offset : new.offset ≡ old.offset
     pub round : new.round ≡ old.round
-    pub same : SameInput old new
-    pub known : new.known ≡ old.known
-    pub unread : KeepsNone new.input
+    pub same_input : SameInput old new
+    pub attribute_lookup : new.attribute_lookup ≡ old.attribute_lookup
+    pub no_pending_header : HasNoPendingHeader new.input
 
-  abbrev pub NextPiece : PerfRecordIter R → Result (Option PerfEventHeader) Error → PerfRecordIter R → Type 0
-  NextPiece old (Ok (Some head)) new = TookPiece old head new
-  NextPiece old (Ok None) new = CutPiece old new
-  NextPiece old (Err e) new = RefusedPiece old e new
+  abbrev pub ReadsRawRecord : PerfRecordIter R → Result (Option PerfEventHeader) Error → PerfRecordIter R → Type 0
+  ReadsRawRecord old (Ok (Some head)) new = RawRecordRead old head new
+  ReadsRawRecord old (Ok None) new = RawRecordTruncated old new
+  ReadsRawRecord old (Err e) new = RawRecordError old e new
 
-  -- what an iterator is still to hand out, where these attributes came before, and how its layout then ends
-  abbrev pub RecordsToCome : PerfRecordIter R → List Attribute → List Handed → End → Type 0
-  RecordsToCome it attrs records end = IfSome (view it).bytes (λ bytes. ToCome it.endian bytes (bound_of it) it.offset it.round attrs records end)
+  -- The records that the iterator still returns and how its layout then ends, if the attributes before are `attrs`.
+  abbrev pub HasRemainingRecords : PerfRecordIter R → List Attribute → List RecordView → LayoutEnd → Type 0
+  HasRemainingRecords it attrs records end = IfSome (iter_source_state it).bytes (λ bytes. RemainingRecords it.endian bytes (section_size_of it) it.offset it.round attrs records end)
 
-  -- the same iterator, but for what it keeps of the attributes
-  pub record IsAfter (piece new : PerfRecordIter R) : Type 0 where
+  -- The iterators are equal except for the attribute lookup and the stage.
+  pub record SameButLookup (piece new : PerfRecordIter R) : Type 0 where
     pub source : new.source ≡ piece.source
-    pub order : new.endian ≡ piece.endian
+    pub same_endian : new.endian ≡ piece.endian
     pub body : new.body.items ≡ piece.body.items
     pub offset : new.offset ≡ piece.offset
     pub round : new.round ≡ piece.round
     pub input : new.input ≡ piece.input
 
-  -- the record whose body is held was found, and what it brings was taken in
-  pub record TookRecord (old : PerfRecordIter R) (file : PerfFile) (offset round : ℕ) (head : PerfEventHeader) (found : Found) (new : PerfRecordIter R) (file' : PerfFile) : Type 0 where
-    pub after : IsAfter old new
-    pub running : new.stage ≡ old.stage
-    pub finds : FindsRecord old.known offset round head old.body.items found new.known
-    pub knows : (attrs : List Attribute) → Knows old.endian old.known attrs → Knows old.endian new.known (attrs ++ attributes_of old.endian (bound_of old) head.type_ old.body.items)
-    pub attribute : bound_of old ≡ None → head.type_ ≡ 64 → HoldsAttribute old.endian old.body.items
-    pub feature : bound_of old ≡ None → head.type_ ≡ 80 → 8 ≤ length old.body.items
-    pub count : bound_of old ≡ None → IsMetadata head.type_ → SameCount old.endian old.known file
-    pub took : FileTook old.endian (bound_of old) head.type_ old.body.items file file'
-    pub other : (bound_of old ≢ None) ⊎ (¬ IsMetadata head.type_) → file' ≡ file
+  -- The record in the body buffer was identified, and its metadata was applied.
+  pub record RecordProcessed (old : PerfRecordIter R) (file : PerfFile) (offset round : ℕ) (head : PerfEventHeader) (found : RecordInfo) (new : PerfRecordIter R) (file' : PerfFile) : Type 0 where
+    pub same_but_lookup : SameButLookup old new
+    pub stage : new.stage ≡ old.stage
+    pub record_identified : IdentifiesRecord old.attribute_lookup offset round head old.body.items found new.attribute_lookup
+    pub represents : (attrs : List Attribute) → Represents old.endian old.attribute_lookup attrs → Represents old.endian new.attribute_lookup (attrs ++ attributes_in_record old.endian (section_size_of old) head.type_ old.body.items)
+    pub valid_attribute : section_size_of old ≡ None → head.type_ ≡ 64 → HoldsAttribute old.endian old.body.items
+    pub valid_feature : section_size_of old ≡ None → head.type_ ≡ 80 → 8 ≤ length old.body.items
+    pub same_attribute_count : section_size_of old ≡ None → IsMetadataType head.type_ → SameAttributeCount old.endian old.attribute_lookup file
+    pub file_updates : UpdatesPerfFile old.endian (section_size_of old) head.type_ old.body.items file file'
+    pub file_unchanged_otherwise : (section_size_of old ≢ None) ⊎ (¬ IsMetadataType head.type_) → file' ≡ file
 
-  -- it was refused, and the `PerfFile` holds what it held
-  pub record DeclinedRecord (old : PerfRecordIter R) (file : PerfFile) (head : PerfEventHeader) (e : Error) (new : PerfRecordIter R) (file' : PerfFile) : Type 0 where
-    pub after : IsAfter old new
-    pub pipe : bound_of old ≡ None
-    pub metadata : IsMetadata head.type_
-    pub same : SameFile file file'
-    pub unfailed : e ≢ error.Failed
-    pub memory : e ≡ error.Memory → SameCount old.endian old.known file × HasContents old.endian head.type_ old.body.items
-    pub why : e ≢ error.Memory → TakesNot old.endian old.known file head.type_ old.body.items e
+  -- The record was rejected, and the contents of the `PerfFile` are unchanged.
+  pub record RecordRejected (old : PerfRecordIter R) (file : PerfFile) (head : PerfEventHeader) (e : Error) (new : PerfRecordIter R) (file' : PerfFile) : Type 0 where
+    pub same_but_lookup : SameButLookup old new
+    pub in_pipe : section_size_of old ≡ None
+    pub metadata_type : IsMetadataType head.type_
+    pub same_file : SamePerfFile file file'
+    pub not_failed : e ≢ error.Failed
+    pub if_out_of_memory : e ≡ error.Memory → SameAttributeCount old.endian old.attribute_lookup file × HasValidMetadata old.endian head.type_ old.body.items
+    pub cause : e ≢ error.Memory → RejectsMetadata old.endian old.attribute_lookup file head.type_ old.body.items e
 
-  abbrev pub TakesRecord : PerfRecordIter R → PerfFile → ℕ → ℕ → PerfEventHeader → Result Found Error → PerfRecordIter R → PerfFile → Type 0
-  TakesRecord old file offset round head (Ok found) new file' = TookRecord old file offset round head found new file'
-  TakesRecord old file offset round head (Err e) new file' = DeclinedRecord old file head e new file'
+  abbrev pub ProcessesRecord : PerfRecordIter R → PerfFile → ℕ → ℕ → PerfEventHeader → Result RecordInfo Error → PerfRecordIter R → PerfFile → Type 0
+  ProcessesRecord old file offset round head (Ok found) new file' = RecordProcessed old file offset round head found new file'
+  ProcessesRecord old file offset round head (Err e) new file' = RecordRejected old file head e new file'
 
-  -- a record was handed out
-  pub record HandsOut (old : PerfRecordIter R) (file : PerfFile) (h : Handed) (new : PerfRecordIter R) (file' : PerfFile) : Type 0 where
-    pub ran : old.stage ≡ Running
-    pub runs : new.stage ≡ Running
-    pub same : SameInput old new
-    -- the attributes that came are those before, and what this record brought
-    pub knows : (attrs : List Attribute) → Knows old.endian old.known attrs → Knows new.endian new.known (attrs ++ attributes_of old.endian (bound_of old) h.kind h.body)
-    -- what was to come is this record, and then what is to come
-    pub next : (attrs : List Attribute) → Knows old.endian old.known attrs → (records : List Handed) (end : End)
-        → RecordsToCome new (attrs ++ attributes_of old.endian (bound_of old) h.kind h.body) records end → RecordsToCome old attrs (h ∷ records) end
-    -- the `PerfFile` has as many attributes as came, where the record brings something
-    pub own : bound_of old ≡ None → IsMetadata h.kind → SameCount old.endian old.known file
-    -- and it took what this record brought; in a file, and by a record that holds no metadata, it isn't touched
-    pub took : FileTook old.endian (bound_of old) h.kind h.body file file'
-    pub other : (bound_of old ≢ None) ⊎ (¬ IsMetadata h.kind) → file' ≡ file
-    -- the record is held and nothing else, and the source has given all up to its end and no byte more
-    pub held : new.body.items ≡ h.body
+  -- A record was returned.
+  pub record ReturnsRecord (old : PerfRecordIter R) (file : PerfFile) (h : RecordView) (new : PerfRecordIter R) (file' : PerfFile) : Type 0 where
+    pub was_running : old.stage ≡ Running
+    pub stage_running : new.stage ≡ Running
+    pub same_input : SameInput old new
+    -- The lookup represents the attributes before, and those of this record.
+    pub represents : (attrs : List Attribute) → Represents old.endian old.attribute_lookup attrs → Represents new.endian new.attribute_lookup (attrs ++ attributes_in_record old.endian (section_size_of old) h.record_type h.body)
+    -- remaining(before) = record :: remaining(after)
+    pub extends_remaining : (attrs : List Attribute) → Represents old.endian old.attribute_lookup attrs → (records : List RecordView) (end : LayoutEnd)
+        → HasRemainingRecords new (attrs ++ attributes_in_record old.endian (section_size_of old) h.record_type h.body) records end → HasRemainingRecords old attrs (h ∷ records) end
+    -- In a pipe, if the record contains metadata, the attribute count of the `PerfFile` matches the input's.
+    pub same_attribute_count : section_size_of old ≡ None → IsMetadataType h.record_type → SameAttributeCount old.endian old.attribute_lookup file
+    -- The `PerfFile` contains the metadata of this record. It is untouched in a file, and by a record without metadata.
+    pub file_updates : UpdatesPerfFile old.endian (section_size_of old) h.record_type h.body file file'
+    pub file_unchanged_otherwise : (section_size_of old ≢ None) ⊎ (¬ IsMetadataType h.record_type) → file' ≡ file
+    -- The buffer contains the record's body only. All bytes up to the record's end were consumed from the source, and none after
+    -- it.
+    pub buffered_body : new.body.items ≡ h.body
     pub markers : List ℕ
-    pub passed : AreMarkers old.endian (bound_of old) old.offset markers
-    pub head : List ℕ
-    pub head_long : length head ≡ 8
-    pub place : h.offset ≡ old.offset + length markers
-    pub begins : Begins (bound_of old) h.offset
-    pub gave : Gave (view old) (markers ++ (head ++ h.body)) (view new)
-    -- nothing was read ahead: no head is kept, so what the iterator sees to come is what its source will give
-    pub unread : KeepsNone new.input
+    pub valid_markers : ConsistsOfMarkers old.endian (section_size_of old) old.offset markers
+    pub header_bytes : List ℕ
+    pub header_len : length header_bytes ≡ 8
+    pub record_offset : h.offset ≡ old.offset + length markers
+    pub may_start : MayStartAt (section_size_of old) h.offset
+    pub consumes : Consumed (iter_source_state old) (markers ++ (header_bytes ++ h.body)) (iter_source_state new)
+    -- No header is pending, so the iterator's remaining bytes are those of its source.
+    pub no_pending_header : HasNoPendingHeader new.input
     pub offset : new.offset ≡ h.offset + 8 + length h.body
-    pub fits : new.offset < 2 ^ 64
+    pub offset_fits : new.offset < 2 ^ 64
 
-  -- the iterator and its source are as before
-  pub record Idle (old new : PerfRecordIter R) : Type 0 where
+  -- The source, the body buffer and the stage are unchanged.
+  pub record IsUntouched (old new : PerfRecordIter R) : Type 0 where
     pub source : new.source ≡ old.source
     pub body : new.body ≡ old.body
     pub stage : new.stage ≡ old.stage
 
-  -- The end was answered by an iterator that ran: nothing is to come and the layout is whole, or, in a pipe, the source paused,
-  -- and more is to come. Markers were passed over, and in a pipe these bytes came of a truncated record behind them; in a file
-  -- the section ended behind them, and nothing is held.
-  pub record RanOut (old new : PerfRecordIter R) : Type 0 where
-    pub none : ((attrs : List Attribute) → Knows old.endian old.known attrs → RecordsToCome old attrs [] whole)
-        ⊎ ((bound_of old ≡ None) × Paused (view old) (view new) × ((view new).bytes ≢ Some []))
+  -- A running iterator reached its end. Either no records remain and the layout is complete, or, in a pipe, the source paused
+  -- before its end. The call skipped the markers. In a pipe, it then consumed `consumed_bytes` of a truncated record. In a file,
+  -- the section ends after the markers, and the buffer is empty.
+  pub record ReachesEnd (old new : PerfRecordIter R) : Type 0 where
+    pub no_records_left : ((attrs : List Attribute) → Represents old.endian old.attribute_lookup attrs → HasRemainingRecords old attrs [] ends_complete)
+        ⊎ ((section_size_of old ≡ None) × SourcePaused (iter_source_state old) (iter_source_state new) × ((iter_source_state new).bytes ≢ Some []))
     pub markers : List ℕ
-    pub passed : AreMarkers old.endian (bound_of old) old.offset markers
-    pub came : List ℕ
-    pub place : new.offset ≡ old.offset + length markers
-    pub gave : Gave (view old) (markers ++ came) (view new)
-    pub section : bound_of old ≢ None → (came ≡ []) × (new.body.items ≡ [])
-    -- a pipe's end is that of its bytes: none is left, or the source paused
-    pub over : bound_of old ≡ None → ((view new).bytes ≡ Some []) ⊎ Paused (view old) (view new)
-    pub held : length new.body.items ≤ length (drop 8 came) + 4096
-    pub ends : IsEnd old.endian (bound_of old) new.offset came
-    pub bound : bound_of new ≡ bound_of old
-    pub unread : KeepsNone new.input
+    pub valid_markers : ConsistsOfMarkers old.endian (section_size_of old) old.offset markers
+    pub consumed_bytes : List ℕ
+    pub offset : new.offset ≡ old.offset + length markers
+    pub consumes : Consumed (iter_source_state old) (markers ++ consumed_bytes) (iter_source_state new)
+    pub section_end : section_size_of old ≢ None → (consumed_bytes ≡ []) × (new.body.items ≡ [])
+    -- In a pipe, no bytes remain or the source paused.
+    pub pipe_exhausted : section_size_of old ≡ None → ((iter_source_state new).bytes ≡ Some []) ⊎ SourcePaused (iter_source_state old) (iter_source_state new)
+    pub buffer_bound : length new.body.items ≤ length (drop 8 consumed_bytes) + 4096
+    pub at_end : IsEnd old.endian (section_size_of old) new.offset consumed_bytes
+    pub section_size : section_size_of new ≡ section_size_of old
+    pub no_pending_header : HasNoPendingHeader new.input
 
-  -- the end was answered
-  pub record AtEnd (old : PerfRecordIter R) (file : PerfFile) (new : PerfRecordIter R) (file' : PerfFile) : Type 0 where
-    pub ended : new.stage ≡ Ended
-    pub unfailed : old.stage ≢ Failed
-    pub again : old.stage ≡ Ended → Idle old new
-    pub first : old.stage ≡ Running → RanOut old new
-    pub untouched : file' ≡ file
+  -- The call returned the end.
+  pub record ReturnsEnd (old : PerfRecordIter R) (file : PerfFile) (new : PerfRecordIter R) (file' : PerfFile) : Type 0 where
+    pub stage_ended : new.stage ≡ Ended
+    pub not_failed : old.stage ≢ Failed
+    pub if_ended : old.stage ≡ Ended → IsUntouched old new
+    pub if_running : old.stage ≡ Running → ReachesEnd old new
+    pub file_unchanged : file' ≡ file
 
-  -- the record of metadata whose bytes came, and the `PerfFile` that was handed in isn't its pipe's: its attributes are
-  -- not as many as came; or they are, and it has an EVENT_DESC that can't be read
-  pub record LateForeign (old : PerfRecordIter R) (file : PerfFile) (came : List ℕ) (e : Error) : Type 0 where
-    pub pipe : bound_of old ≡ None
+  -- The metadata record in `came` is complete, but the `PerfFile` belongs to another input. Either its attribute count differs
+  -- from the input's, or the count matches and it has an EVENT_DESC that can't be read.
+  pub record IsMismatchedPerfFile (old : PerfRecordIter R) (file : PerfFile) (came : List ℕ) (e : Error) : Type 0 where
+    pub in_pipe : section_size_of old ≡ None
     pub is_record : IsRecord old.endian came
-    pub metadata : IsMetadata (kind_of old.endian came)
-    pub why : (IsInvalidInput e × ((attrs : List Attribute) → Knows old.endian old.known attrs → length (descriptions_of file) ≢ length attrs))
-        ⊎ (SameCount old.endian old.known file × (kind_of old.endian came ≡ 64) × HoldsAttribute old.endian (drop 8 came) × ((bytes : List ℕ) × (data_of file event_desc ≡ Some bytes) × NoEventDesc (number_in old.endian) e bytes))
+    pub metadata_type : IsMetadataType (record_type_of old.endian came)
+    pub cause : (IsInvalidInput e × ((attrs : List Attribute) → Represents old.endian old.attribute_lookup attrs → length (descriptions_of_file file) ≢ length attrs))
+        ⊎ (SameAttributeCount old.endian old.attribute_lookup file × (record_type_of old.endian came ≡ 64) × HoldsAttribute old.endian (drop 8 came) × ((bytes : List ℕ) × (feature_data_in_file file event_desc ≡ Some bytes) × IsEventDescError (number_in old.endian) e bytes))
 
-  -- Why a record was refused: the layout has this fault here, and the `PerfFile` passed what is looked at before; or the source
-  -- failed or paused; or the `PerfFile` is foreign, and the record, which came whole, ends near enough.
-  abbrev pub Reason : PerfRecordIter R → PerfFile → List ℕ → Error → PerfRecordIter R → Type 0
-  Reason old file came e new =
-      IfSome (view old).bytes (λ bytes. (f : Fault) × ((attrs : List Attribute) → Knows old.endian old.known attrs
-      → ToCome old.endian bytes (bound_of old) old.offset old.round attrs [] (faulty f)) × Passed old.endian old.known file f × Answers f e)
-      ⊎ (SourceOwes old.endian (bound_of old) (view old) came e (view new)
-      ⊎ (LateForeign old file came e × (new.offset + length came < 2 ^ 64)))
+  -- The cause of an error. It is a layout error whose earlier checks the `PerfFile` passes, or a source error. Or the `PerfFile`
+  -- belongs to another input, and the record is complete and ends below 2^64.
+  abbrev pub IsErrorCause : PerfRecordIter R → PerfFile → List ℕ → Error → PerfRecordIter R → Type 0
+  IsErrorCause old file came e new =
+      IfSome (iter_source_state old).bytes (λ bytes. (f : LayoutError) × ((attrs : List Attribute) → Represents old.endian old.attribute_lookup attrs
+      → RemainingRecords old.endian bytes (section_size_of old) old.offset old.round attrs [] (ends_with_error f)) × PassesEarlierChecks old.endian old.attribute_lookup file f × IsErrorFor f e)
+      ⊎ (SourceErrorInRecord old.endian (section_size_of old) (iter_source_state old) came e (iter_source_state new)
+      ⊎ (IsMismatchedPerfFile old file came e × (new.offset + length came < 2 ^ 64)))
 
-  -- Memory was wanted for a record of which these bytes came: for what belongs to its head, where not all of that came; or, in a
-  -- pipe, for what a whole record of metadata brings, where the `PerfFile` has as many attributes as came.
-  abbrev pub Wants : PerfRecordIter R → PerfFile → List ℕ → Type 0
-  Wants old file came = WantsMemory old.endian came × (CutBehindHead old.endian came
-      ⊎ ((bound_of old ≡ None) × IsRecord old.endian came × SameCount old.endian old.known file × HasContents old.endian (kind_of old.endian came) (drop 8 came)))
+  -- Memory ran out for a record with the bytes `came`. Either its body or aux data wasn't read in full, or, in a pipe, its
+  -- metadata is complete and valid, and the attribute count of the `PerfFile` matches the input's.
+  abbrev pub NeedsMemoryFor : PerfRecordIter R → PerfFile → List ℕ → Type 0
+  NeedsMemoryFor old file came = MayNeedMemory old.endian came × (IsTruncatedAfterHeader old.endian came
+      ⊎ ((section_size_of old ≡ None) × IsRecord old.endian came × SameAttributeCount old.endian old.attribute_lookup file × HasValidMetadata old.endian (record_type_of old.endian came) (drop 8 came)))
 
-  -- A refusal was answered by an iterator that ran: markers were passed over, and of the record behind them, which began where
-  -- one may, these bytes came, and none from behind it.
-  pub record Stops (old : PerfRecordIter R) (file : PerfFile) (e : Error) (new : PerfRecordIter R) : Type 0 where
+  -- A running iterator failed. It skipped the markers. The record after them starts where one may. `consumed_bytes` of it were
+  -- consumed, and no byte after it.
+  pub record StopsAtError (old : PerfRecordIter R) (file : PerfFile) (e : Error) (new : PerfRecordIter R) : Type 0 where
     pub markers : List ℕ
-    pub passed : AreMarkers old.endian (bound_of old) old.offset markers
-    pub came : List ℕ
-    pub place : new.offset ≡ old.offset + length markers
-    pub begins : Begins (bound_of old) new.offset
-    pub gave : Gave (view old) (markers ++ came) (view new)
-    pub unread : KeepsNone new.input
-    pub within : CameWithin old.endian came
-    pub held : length new.body.items ≤ length (drop 8 came) + 4096
-    pub memory : e ≡ error.Memory → Wants old file came
-    pub reason : e ≢ error.Memory → Reason old file came e new
+    pub valid_markers : ConsistsOfMarkers old.endian (section_size_of old) old.offset markers
+    pub consumed_bytes : List ℕ
+    pub offset : new.offset ≡ old.offset + length markers
+    pub may_start : MayStartAt (section_size_of old) new.offset
+    pub consumes : Consumed (iter_source_state old) (markers ++ consumed_bytes) (iter_source_state new)
+    pub no_pending_header : HasNoPendingHeader new.input
+    pub within_record : StaysWithinRecord old.endian consumed_bytes
+    pub buffer_bound : length new.body.items ≤ length (drop 8 consumed_bytes) + 4096
+    pub if_out_of_memory : e ≡ error.Memory → NeedsMemoryFor old file consumed_bytes
+    pub cause : e ≢ error.Memory → IsErrorCause old file consumed_bytes e new
 
-  -- a refusal was answered, and the `PerfFile` holds what it held
-  pub record Refuses (old : PerfRecordIter R) (file : PerfFile) (e : Error) (new : PerfRecordIter R) (file' : PerfFile) : Type 0 where
-    pub fails : new.stage ≡ Failed
-    pub unended : old.stage ≢ Ended
-    pub again : old.stage ≡ Failed → (e ≡ error.Failed) × Idle old new
-    pub first : e ≡ error.Failed → old.stage ≡ Failed
-    pub stops : old.stage ≡ Running → Stops old file e new
-    pub kept : SameFile file file'
+  -- The call returned an error, and the contents of the `PerfFile` are unchanged.
+  pub record ReturnsError (old : PerfRecordIter R) (file : PerfFile) (e : Error) (new : PerfRecordIter R) (file' : PerfFile) : Type 0 where
+    pub stage_failed : new.stage ≡ Failed
+    pub not_ended : old.stage ≢ Ended
+    pub if_failed : old.stage ≡ Failed → (e ≡ error.Failed) × IsUntouched old new
+    pub only_if_failed : e ≡ error.Failed → old.stage ≡ Failed
+    pub if_running : old.stage ≡ Running → StopsAtError old file e new
+    pub same_file : SamePerfFile file file'
 
-  abbrev pub Advances : PerfRecordIter R → PerfFile → Result (Option Found) Error → PerfRecordIter R → PerfFile → Type 0
-  Advances old file (Ok (Some f)) new file' = HandsOut old file (found_with new.known f new.endian new.body.items) new file'
-  Advances old file (Ok None) new file' = AtEnd old file new file'
-  Advances old file (Err e) new file' = Refuses old file e new file'
+  abbrev pub Advances : PerfRecordIter R → PerfFile → Result (Option RecordInfo) Error → PerfRecordIter R → PerfFile → Type 0
+  Advances old file (Ok (Some f)) new file' = ReturnsRecord old file (record_view_with new.attribute_lookup f new.endian new.body.items) new file'
+  Advances old file (Ok None) new file' = ReturnsEnd old file new file'
+  Advances old file (Err e) new file' = ReturnsError old file e new file'
 
-  -- what a call answers
-  abbrev pub Hands : PerfRecordIter R → PerfFile → Result (Option (RecordPlace × PerfFileRecord)) Error → PerfRecordIter R → PerfFile → Type 0
-  Hands old file (Ok (Some r)) new file' = HandsOut old file (handed_of r.0 r.1) new file'
-  Hands old file (Ok None) new file' = AtEnd old file new file'
-  Hands old file (Err e) new file' = Refuses old file e new file'
+  -- The result of a call.
+  abbrev pub ReturnsNext : PerfRecordIter R → PerfFile → Result (Option (RecordPlace × PerfFileRecord)) Error → PerfRecordIter R → PerfFile → Type 0
+  ReturnsNext old file (Ok (Some r)) new file' = ReturnsRecord old file (record_view_of r.0 r.1) new file'
+  ReturnsNext old file (Ok None) new file' = ReturnsEnd old file new file'
+  ReturnsNext old file (Err e) new file' = ReturnsError old file e new file'
 
-  -- what a call answers, and what the iterator is once the record is no more lent; it keeps the source that it was lent, and read
-  -- on after no empty answer
-  abbrev pub Nexts : (R → ℕ) → PerfRecordIter R → PerfFile → Result (Option (RecordPlace × PerfFileRecord)) Error → PerfRecordIter R → PerfFile → Type 0
-  Nexts lent old file r new file' = Hands old file r new file' × (lent new.source ≡ lent old.source) × PausesNext (seen old.source) r (seen new.source)
+  -- The result of a call, and the iterator after the loan of the record ends. The iterator keeps its source, and reads no further
+  -- after an empty read.
+  abbrev pub NextRecord : (R → ℕ) → PerfRecordIter R → PerfFile → Result (Option (RecordPlace × PerfFileRecord)) Error → PerfRecordIter R → PerfFile → Type 0
+  NextRecord lent old file r new file' = ReturnsNext old file r new file' × (lent new.source ≡ lent old.source) × PausesOnlyAtEndOrError (state old.source) r (state new.source)
 
-  -- from the first iterator to the second these records were handed out
-  pub record Handing (old : PerfRecordIter R) (records : List Handed) (now : PerfRecordIter R) : Type 0 where
-    pub same : SameInput old now
-    pub knows : (attrs : List Attribute) → Knows old.endian old.known attrs → Knows now.endian now.known (attrs ++ brought old.endian (bound_of old) records)
-    pub next : (attrs : List Attribute) → Knows old.endian old.known attrs → (more : List Handed) (end : End)
-        → RecordsToCome now (attrs ++ brought old.endian (bound_of old) records) more end → RecordsToCome old attrs (records ++ more) end
-    pub front : List ℕ
-    pub gave : Gave (view old) front (view now)
+  -- Calls between the two iterators returned these records.
+  pub record ReadSoFar (old : PerfRecordIter R) (records : List RecordView) (now : PerfRecordIter R) : Type 0 where
+    pub same_input : SameInput old now
+    pub represents : (attrs : List Attribute) → Represents old.endian old.attribute_lookup attrs → Represents now.endian now.attribute_lookup (attrs ++ attributes_in_views old.endian (section_size_of old) records)
+    pub extends_remaining : (attrs : List Attribute) → Represents old.endian old.attribute_lookup attrs → (more : List RecordView) (end : LayoutEnd)
+        → HasRemainingRecords now (attrs ++ attributes_in_views old.endian (section_size_of old) records) more end → HasRemainingRecords old attrs (records ++ more) end
+    pub consumed_bytes : List ℕ
+    pub consumes : Consumed (iter_source_state old) consumed_bytes (iter_source_state now)

@@ -1,37 +1,37 @@
--- How often a call meets an empty answer of its source: it reads on after none.
+-- The number of pauses that a call counts. No call reads on after an empty read.
 use Rattle.std.specs.Prelude.{◌≡◌, ◌+◌, ◌≤◌, Bool, true, false, Option, None, Some, Result, Ok, Err}
 use Rattle.perfdata_base.specs.Source.{State}
-use Rattle.linux_perf_data.specs.declared.pipe_opening.Next.{Next}
-use Rattle.linux_perf_data.specs.declared.pipe_opening.Next.TheVariants.{Taken, End}
-use Rattle.linux_perf_data.specs.declared.pipe_told.PipeOpening.{PipeOpening}
+use Rattle.linux_perf_data.specs.declared.pipe.opening.NextInOpening.{NextInOpening}
+use Rattle.linux_perf_data.specs.declared.pipe.opening.NextInOpening.TheVariants.{Record, End}
+use Rattle.linux_perf_data.specs.declared.pipe.pipe_opening.PipeOpening.{PipeOpening}
 
--- none where there is one more thing, and at most one where there is no more
-abbrev pub PausesEnd : {A : Type 0} → State → Option A → State → Type 0
-PausesEnd old (Some _) new = new.pauses ≡ old.pauses
-PausesEnd old None new = new.pauses ≤ old.pauses + 1
+-- No pause if the call returns an item, at most one if it returns none.
+abbrev pub PausesOnlyAtEnd : {A : Type 0} → State → Option A → State → Type 0
+PausesOnlyAtEnd old (Some _) new = new.pauses ≡ old.pauses
+PausesOnlyAtEnd old None new = new.pauses ≤ old.pauses + 1
 
--- the same of a call that may be refused
-abbrev pub PausesNext : {A E : Type 0} → State → Result (Option A) E → State → Type 0
-PausesNext old (Ok next) new = PausesEnd old next new
-PausesNext old (Err e) new = new.pauses ≤ old.pauses + 1
+-- The same for a call that can fail, which counts at most one pause on error.
+abbrev pub PausesOnlyAtEndOrError : {A E : Type 0} → State → Result (Option A) E → State → Type 0
+PausesOnlyAtEndOrError old (Ok next) new = PausesOnlyAtEnd old next new
+PausesOnlyAtEndOrError old (Err e) new = new.pauses ≤ old.pauses + 1
 
--- none where all came, and at most one else
-abbrev pub PausesWhole : {E : Type 0} → State → Result Bool E → State → Type 0
-PausesWhole old (Ok true) new = new.pauses ≡ old.pauses
-PausesWhole old (Ok false) new = new.pauses ≤ old.pauses + 1
-PausesWhole old (Err e) new = new.pauses ≤ old.pauses + 1
+-- No pause if all bytes were read, at most one otherwise.
+abbrev pub PausesOnlyIfTruncated : {E : Type 0} → State → Result Bool E → State → Type 0
+PausesOnlyIfTruncated old (Ok true) new = new.pauses ≡ old.pauses
+PausesOnlyIfTruncated old (Ok false) new = new.pauses ≤ old.pauses + 1
+PausesOnlyIfTruncated old (Err e) new = new.pauses ≤ old.pauses + 1
 
--- none where a record of metadata or a whole head came
-abbrev pub PausesTaken : {E : Type 0} → State → Result Next E → State → Type 0
-PausesTaken old (Ok (Taken end)) new = new.pauses ≡ old.pauses
-PausesTaken old (Ok (End head)) new = PausesEnd old head new
-PausesTaken old (Err e) new = new.pauses ≤ old.pauses + 1
+-- No pause if the call read a metadata record or a whole record header.
+abbrev pub PausesOnlyWithoutHeader : {E : Type 0} → State → Result NextInOpening E → State → Type 0
+PausesOnlyWithoutHeader old (Ok (Record end)) new = new.pauses ≡ old.pauses
+PausesOnlyWithoutHeader old (Ok (End head)) new = PausesOnlyAtEnd old head new
+PausesOnlyWithoutHeader old (Err e) new = new.pauses ≤ old.pauses + 1
 
--- none where a head ends the metadata
-abbrev pub PausesMetadata : {A B E : Type 0} → State → Result (A × Option B) E → State → Type 0
-PausesMetadata old (Ok r) new = PausesEnd old r.1 new
-PausesMetadata old (Err e) new = new.pauses ≤ old.pauses + 1
+-- No pause if a record header ends the metadata.
+abbrev pub PausesOnlyWithoutPendingHeader : {A B E : Type 0} → State → Result (A × Option B) E → State → Type 0
+PausesOnlyWithoutPendingHeader old (Ok r) new = PausesOnlyAtEnd old r.1 new
+PausesOnlyWithoutPendingHeader old (Err e) new = new.pauses ≤ old.pauses + 1
 
-abbrev pub PausesOpening : {E : Type 0} → State → Result PipeOpening E → State → Type 0
-PausesOpening old (Ok opening) new = PausesEnd old opening.head new
-PausesOpening old (Err e) new = new.pauses ≤ old.pauses + 1
+abbrev pub PausesOnlyInEndedOpening : {E : Type 0} → State → Result PipeOpening E → State → Type 0
+PausesOnlyInEndedOpening old (Ok opening) new = PausesOnlyAtEnd old opening.pending_header new
+PausesOnlyInEndedOpening old (Err e) new = new.pauses ≤ old.pauses + 1

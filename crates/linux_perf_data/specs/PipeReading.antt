@@ -1,4 +1,4 @@
--- A reading of a pipe as a whole: its opening, the records that were handed out behind it, and what ended them.
+-- Reading a pipe from start to end: the opening, the records that calls return after it, and what ends them.
 use Rattle.std.specs.Prelude.{◌≡◌, ◌≢◌, ◌⊎◌, ◌↔◌, ℕ, ◌<◌, List, [], ◌++◌, drop, nat_eq, IsSome, IsTrue, Option, None, Some, IfSome}
 use Rattle.std.specs.List.{concat}
 use Rattle.std.specs.Map.{update_all}
@@ -7,104 +7,106 @@ use Rattle.perfdata_base.specs.Features.{HasFeature}
 use Rattle.perfdata_base.specs.declared.raw.Endianness.{Endianness}
 use Rattle.perfdata_sections.specs.declared.error.Error.{Error}
 use Rattle.perfdata_sections.specs.declared.error.Error.TheVariants.{Memory}
-use Rattle.linux_perf_data.specs.declared.iter.PerfRecordIter.{PerfRecordIter}
-use Rattle.linux_perf_data.specs.declared.iter.Stage.TheVariants.{Running}
+use Rattle.linux_perf_data.specs.declared.records.iter.PerfRecordIter.{PerfRecordIter}
+use Rattle.linux_perf_data.specs.declared.records.iter.Stage.TheVariants.{Running}
 use Rattle.linux_perf_data.specs.declared.perf_file.PerfFile.{PerfFile}
-use Rattle.linux_perf_data.specs.Iter.{AtEnd, Refuses}
-use Rattle.linux_perf_data.specs.Late.{brought_features, BroughtFeature, SameFile}
-use Rattle.linux_perf_data.specs.Layout.{Handed, End, whole, faulty, Fault, ToCome, attributes_in, brought}
-use Rattle.linux_perf_data.specs.Names.{Named, event_desc}
-use Rattle.linux_perf_data.specs.OpenedPipe.{OpensPipe}
-use Rattle.linux_perf_data.specs.PerfFile.{descriptions_of, features_of, order_of_file, data_of, attributes_of_file}
-use Rattle.linux_perf_data.specs.Piece.{Answers}
-use Rattle.linux_perf_data.specs.PipeOpen.{IsPipeHeader, AreMetadata, CanOpen, EndsMetadata, StopsPipe, TookOpening, data_told}
-use Rattle.linux_perf_data.specs.Reading.{ComeFirst, HandsOutAll, end_of}
+use Rattle.linux_perf_data.specs.Iter.{ReturnsEnd, ReturnsError}
+use Rattle.linux_perf_data.specs.LateMetadata.{features_in_views, SomeProvideFeature, SamePerfFile}
+use Rattle.linux_perf_data.specs.Layout.{RecordView, LayoutEnd, ends_complete, ends_with_error, LayoutError, RemainingRecords, attributes_in_records, attributes_in_views}
+use Rattle.linux_perf_data.specs.Names.{NamedByEventDesc, event_desc}
+use Rattle.linux_perf_data.specs.OpenedPipe.{PipeParsed}
+use Rattle.linux_perf_data.specs.PerfFile.{descriptions_of_file, features_of_file, endian_of_file, feature_data_in_file, attributes_of_file}
+use Rattle.linux_perf_data.specs.RecordFraming.{IsErrorFor}
+use Rattle.linux_perf_data.specs.PipeOpening.{IsPipeHeader, AreMetadata, CanOpenPipe, EndsMetadata, IsPipeError, OpeningRead, feature_data_in}
+use Rattle.linux_perf_data.specs.FileReading.{AreFirstRecords, ReturnsRecords, end_after}
 
 module _ (order : Endianness) (pieces : List (List ℕ)) where
-  -- bytes begin with the header of a pipe and these records of metadata, and behind them stand these
+  -- The bytes start with a pipe header and these metadata records, and `rest` follows them.
   pub record BeginsPipe (bytes rest : List ℕ) : Type 0 where
     pub header : List ℕ
-    pub cut : bytes ≡ header ++ (concat pieces ++ rest)
-    pub is : IsPipeHeader order header
-    pub are : AreMetadata order pieces
+    pub split : bytes ≡ header ++ (concat pieces ++ rest)
+    pub matches : IsPipeHeader order header
+    pub elements : AreMetadata order pieces
 
-  -- These records of metadata are all that a source opens with, and what they tell opens a pipe. Behind the pipe's header and them it
-  -- gave the head of a record of another type; or fewer bytes than a head has, and then none.
+  -- These are all metadata records of the source's opening, and they can open a pipe. After them, the source returned the header
+  -- of another record type, or fewer bytes than a header has, and then ended or paused.
   pub record OpensWith (old : State) (head : Option (List ℕ)) : Type 0 where
-    pub left : State
-    pub took : TookOpening order pieces head old left
-    pub opens : CanOpen order pieces
+    pub final_state : State
+    pub opening_read : OpeningRead order pieces head old final_state
+    pub can_open : CanOpenPipe order pieces
 
-  -- the pipe of these bytes begins so, and what stands behind is so
-  abbrev pub Behind : List ℕ → ((List Handed → End → Type 0) → Type 0) → Type 0
-  Behind bytes P = (rest : List ℕ) × BeginsPipe bytes rest × P (ToCome order rest None 0 0 (attributes_in order None pieces))
+  -- The bytes start with the pipe header and these records, and `P` holds for the records of the rest.
+  abbrev pub HoldsForPipeRest : List ℕ → ((List RecordView → LayoutEnd → Type 0) → Type 0) → Type 0
+  HoldsForPipeRest bytes P = (rest : List ℕ) × BeginsPipe bytes rest × P (RemainingRecords order rest None 0 0 (attributes_in_records order None pieces))
 
-  -- no record of metadata stands behind them, and the pipe's records are so
-  abbrev pub OfPipe : List ℕ → ((List Handed → End → Type 0) → Type 0) → Type 0
-  OfPipe bytes P = (rest : List ℕ) × BeginsPipe bytes rest × EndsMetadata order rest × P (ToCome order rest None 0 0 (attributes_in order None pieces))
+  -- The same, and no metadata record follows them.
+  abbrev pub HoldsForPipe : List ℕ → ((List RecordView → LayoutEnd → Type 0) → Type 0) → Type 0
+  HoldsForPipe bytes P = (rest : List ℕ) × BeginsPipe bytes rest × EndsMetadata order rest × P (RemainingRecords order rest None 0 0 (attributes_in_records order None pieces))
 
-  -- the layout of what stands behind them is whole, with these records
-  abbrev pub IsWholePipe : List Handed → List ℕ → Type 0
-  IsWholePipe records bytes = OfPipe bytes (λ Come. Come records whole)
+  -- The layout of the rest is complete, with these records.
+  abbrev pub IsCompletePipe : List RecordView → List ℕ → Type 0
+  IsCompletePipe records bytes = HoldsForPipe bytes (λ Come. Come records ends_complete)
 
-  -- A `PerfFile` holds exactly what came: the attributes of the opening and those of the records, in order, named by the EVENT_DESC that
-  -- came last; and of each feature the data that came last.
-  pub record HoldsAll (records : List Handed) (file : PerfFile) : Type 0 where
-    pub is : order_of_file file ≡ order
-    pub attributes : attributes_of_file file ≡ attributes_in order None pieces ++ brought order None records
-    pub kept : (n : ℕ) → data_of file n ≡ update_all nat_eq (data_told order pieces) (brought_features order None records) n
-    pub features : (n : ℕ) → HasFeature (features_of file) n
-        ↔ (((n < 256) × IsSome (data_told order pieces n)) ⊎ ((n < 256) × BroughtFeature order None n records))
-    pub named : Named order (data_of file event_desc) (descriptions_of file)
+  -- The `PerfFile` contains exactly the metadata that was read: the attributes of the opening and of the records, in order, named
+  -- by the last EVENT_DESC, and the last data of each feature.
+  pub record HoldsAllMetadata (records : List RecordView) (file : PerfFile) : Type 0 where
+    pub file_endian : endian_of_file file ≡ order
+    pub attributes : attributes_of_file file ≡ attributes_in_records order None pieces ++ attributes_in_views order None records
+    pub feature_data : (n : ℕ) → feature_data_in_file file n ≡ update_all nat_eq (feature_data_in order pieces) (features_in_views order None records) n
+    pub features : (n : ℕ) → HasFeature (features_of_file file) n
+        ↔ (((n < 256) × IsSome (feature_data_in order pieces n)) ⊎ ((n < 256) × SomeProvideFeature order None n records))
+    pub names_match : NamedByEventDesc order (feature_data_in_file file event_desc) (descriptions_of_file file)
 
--- Of the bytes of a source that opens so, before the head of another record, no refusal of an opening is true.
-abbrev pub NotRefused : Type 0
-NotRefused = (order : Endianness) (pieces : List (List ℕ)) (head : List ℕ) (old : State) → OpensWith order pieces old (Some head) → IfSome old.bytes (λ bytes. (e : Error) → ¬ StopsPipe bytes e)
+-- If a source opens this way and the header of another record follows, no error of an opening holds for its bytes.
+abbrev pub OpeningHasNoError : Type 0
+OpeningHasNoError = (order : Endianness) (pieces : List (List ℕ)) (head : List ℕ) (old : State) → OpensWith order pieces old (Some head) → IfSome old.bytes (λ bytes. (e : Error) → ¬ IsPipeError bytes e)
 
--- And where no record of metadata follows some behind the header, those are the ones.
+-- Then the metadata records are also unique: they are those after which no metadata record follows.
 abbrev pub LongestRun : Type 0
 LongestRun = (order : Endianness) (pieces longest : List (List ℕ)) (head behind : List ℕ) (old : State) (o : OpensWith order pieces old (Some head)) → AreMetadata order longest → EndsMetadata order behind
-    → old.bytes ≡ Some (o.took.header ++ (concat longest ++ behind)) → pieces ≡ longest
+    → old.bytes ≡ Some (o.opening_read.header ++ (concat longest ++ behind)) → pieces ≡ longest
 
--- What was handed out of a pipe of these bytes are the first of its records, its `PerfFile` holds exactly what came with them, and all
--- bytes behind the last of them are unread; in front of the first, all behind its head.
-pub record PipeSoFar (order : Endianness) (bytes : List ℕ) (records : List Handed) (file : PerfFile) (left : Option (List ℕ)) : Type 0 where
-  pub pieces : List (List ℕ)
+-- The returned records are the first of the pipe, and its `PerfFile` contains exactly the metadata read so far. All bytes after
+-- the last returned record are unread. Before the first record, all bytes after its header are.
+pub record PipePartlyRead (order : Endianness) (bytes : List ℕ) (records : List RecordView) (file : PerfFile) (left : Option (List ℕ)) : Type 0 where
+  pub raw_records : List (List ℕ)
   pub rest : List ℕ
-  pub begins : BeginsPipe order pieces bytes rest
-  pub ends : EndsMetadata order rest
-  pub first : ComeFirst (ToCome order rest None 0 0 (attributes_in order None pieces)) records
-  pub holds : HoldsAll order pieces records file
-  pub head : records ≡ [] → left ≡ Some (drop 8 rest)
-  pub unread : records ≢ [] → left ≡ Some (drop (end_of 0 records) rest)
+  pub pipe_prefix : BeginsPipe order raw_records bytes rest
+  pub metadata_ends : EndsMetadata order rest
+  pub first_records : AreFirstRecords (RemainingRecords order rest None 0 0 (attributes_in_records order None raw_records)) records
+  pub all_metadata : HoldsAllMetadata order raw_records records file
+  pub remaining_if_none : records ≡ [] → left ≡ Some (drop 8 rest)
+  pub remaining : records ≢ [] → left ≡ Some (drop (end_after 0 records) rest)
 
--- These are all records of the pipe, whose layout is whole, its `PerfFile` holds exactly what came, and no byte is unread.
-pub record PipeWhole (order : Endianness) (bytes : List ℕ) (records : List Handed) (file : PerfFile) (left : Option (List ℕ)) : Type 0 where
-  pub pieces : List (List ℕ)
-  pub all : IsWholePipe order pieces records bytes
-  pub holds : HoldsAll order pieces records file
-  pub unread : left ≡ Some []
+-- These are all records of the pipe. Its layout is complete, its `PerfFile` contains exactly the metadata that was read, and no
+-- byte is unread.
+pub record PipeRead (order : Endianness) (bytes : List ℕ) (records : List RecordView) (file : PerfFile) (left : Option (List ℕ)) : Type 0 where
+  pub raw_records : List (List ℕ)
+  pub all_records : IsCompletePipe order raw_records records bytes
+  pub all_metadata : HoldsAllMetadata order raw_records records file
+  pub remaining : left ≡ Some []
 
--- These are all records of the pipe in front of a fault of its layout, which is answered so, and its `PerfFile` holds exactly what came.
-pub record PipeToFault (order : Endianness) (bytes : List ℕ) (records : List Handed) (file : PerfFile) (e : Error) : Type 0 where
-  pub pieces : List (List ℕ)
-  pub all : OfPipe order pieces bytes (λ Come. (f : Fault) × Come records (faulty f) × Answers f e)
-  pub holds : HoldsAll order pieces records file
+-- These are all records of the pipe before its layout error, and `e` reports that error. Its `PerfFile` contains exactly the
+-- metadata that was read.
+pub record PipeReadToError (order : Endianness) (bytes : List ℕ) (records : List RecordView) (file : PerfFile) (e : Error) : Type 0 where
+  pub raw_records : List (List ℕ)
+  pub all_records : HoldsForPipe order raw_records bytes (λ Come. (f : LayoutError) × Come records (ends_with_error f) × IsErrorFor f e)
+  pub all_metadata : HoldsAllMetadata order raw_records records file
 
-module _ {R : Type 0} (seen : R → State) where
-  -- a reading of a pipe, up to any of its records
-  abbrev pub PipeUpToRecord : Type 0
-  PipeUpToRecord = (old : State) (bytes : List ℕ) (file file' : PerfFile) (it now : PerfRecordIter R) (records : List Handed) →
-      old.bytes ≡ Some bytes → OpensPipe seen old file it → it.stage ≡ Running → HandsOutAll seen it file records now file' → PipeSoFar it.endian bytes records file' (seen now.source).bytes
+module _ {R : Type 0} (state : R → State) where
+  -- Reading a pipe up to any of its records.
+  abbrev pub ReadingPipePartly : Type 0
+  ReadingPipePartly = (old : State) (bytes : List ℕ) (file file' : PerfFile) (it now : PerfRecordIter R) (records : List RecordView) →
+      old.bytes ≡ Some bytes → PipeParsed state old file it → it.stage ≡ Running → ReturnsRecords state it file records now file' → PipePartlyRead it.endian bytes records file' (state now.source).bytes
 
-  -- a reading of a pipe from a steady source, up to the end that was answered
-  abbrev pub PipeUpToEnd : Type 0
-  PipeUpToEnd = (old : State) (bytes : List ℕ) (file now_file file' : PerfFile) (it now new : PerfRecordIter R) (records : List Handed) →
-      old.bytes ≡ Some bytes → IsTrue old.steady → OpensPipe seen old file it → HandsOutAll seen it file records now now_file → AtEnd seen now now_file new file'
-      → PipeWhole it.endian bytes records file' (seen new.source).bytes
+  -- Reading a pipe from an infallible source up to its end.
+  abbrev pub ReadingPipeToEnd : Type 0
+  ReadingPipeToEnd = (old : State) (bytes : List ℕ) (file now_file file' : PerfFile) (it now new : PerfRecordIter R) (records : List RecordView) →
+      old.bytes ≡ Some bytes → IsTrue old.steady → PipeParsed state old file it → ReturnsRecords state it file records now now_file → ReturnsEnd state now now_file new file'
+      → PipeRead it.endian bytes records file' (state new.source).bytes
 
-  -- a reading of a pipe from a steady source, up to a refusal that isn't want of memory
-  abbrev pub PipeUpToFault : Type 0
-  PipeUpToFault = (old : State) (bytes : List ℕ) (file now_file file' : PerfFile) (it now new : PerfRecordIter R) (records : List Handed) (e : Error) →
-      old.bytes ≡ Some bytes → IsTrue old.steady → OpensPipe seen old file it → HandsOutAll seen it file records now now_file → Refuses seen now now_file e new file' → e ≢ Memory
-      → PipeToFault it.endian bytes records now_file e × SameFile now_file file'
+  -- Reading a pipe from an infallible source up to an error other than `Memory`.
+  abbrev pub ReadingPipeToError : Type 0
+  ReadingPipeToError = (old : State) (bytes : List ℕ) (file now_file file' : PerfFile) (it now new : PerfRecordIter R) (records : List RecordView) (e : Error) →
+      old.bytes ≡ Some bytes → IsTrue old.steady → PipeParsed state old file it → ReturnsRecords state it file records now now_file → ReturnsError state now now_file e new file' → e ≢ Memory
+      → PipeReadToError it.endian bytes records now_file e × SamePerfFile now_file file'

@@ -1,161 +1,162 @@
--- What the steps of a pipe's opening do.
+-- The steps of a pipe's opening.
 use Rattle.std.specs.Prelude.{◌≡◌, ◌≢◌, ◌⊎◌, ◌↔◌, ℕ, ◌+◌, ◌-◌, ◌^◌, ◌<◌, ◌≤◌, List, [], ◌++◌, length, drop, nat_eq, IsSome, Bool, true, false, Option, None, Some, Result, Ok, Err}
 use Rattle.std.specs.List.{concat}
 use Rattle.std.specs.Map.{update_all}
 use Rattle.std.specs.IoError.{error_kind}
 use Rattle.std.specs.declared.io.Error.{Error as IoErrorValue}
 use Rattle.std.specs.declared.io.ErrorKind.TheVariants.{OutOfMemory}
-use Rattle.perfdata_base.specs.Source.{State, Gave}
-use Rattle.perfdata_base.specs.Numbers.{number_in}
+use Rattle.perfdata_base.specs.Source.{State, Consumed}
+use Rattle.perfdata_base.specs.Endian.{number_in}
 use Rattle.perfdata_base.specs.Features.{HasFeature}
 use Rattle.perfdata_base.specs.declared.raw.Endianness.{Endianness}
 use Rattle.perfdata_base.specs.declared.event.PerfEventHeader.{PerfEventHeader}
-use Rattle.perfdata_sections.specs.Error.{IsShort}
+use Rattle.perfdata_sections.specs.Error.{IsUnexpectedEof}
 use Rattle.perfdata_records.specs.HeaderAttr.{attribute_of}
 use Rattle.perfdata_records.specs.HeaderFeature.{IsHeaderFeature}
-use Rattle.perfdata_sections.specs.EventDesc.{NoEventDesc}
+use Rattle.perfdata_sections.specs.EventDesc.{IsEventDescError}
 use Rattle.perfdata_sections.specs.declared.error.Error.{Error}
 use Rattle.perfdata_sections.specs.declared.error.Error.TheVariants.{Read, NoAttributes, Memory, IoError}
 use Rattle.perfdata_sections.specs.declared.error.ReadError.TheVariants.{PerfEventData}
 use Rattle.perfdata_records.specs.declared.user_record.HeaderAttr.{HeaderAttr}
 use Rattle.perfdata_records.specs.declared.user_record.HeaderFeature.{HeaderFeature}
-use Rattle.linux_perf_data.specs.Attribute.{Breach, Breaks, Rule, HoldsAttribute, attribute_in}
-use Rattle.linux_perf_data.specs.Described.{attributes_by}
-use Rattle.linux_perf_data.specs.Late.{IsMetadata, Spoils, brings_features}
-use Rattle.linux_perf_data.specs.Layout.{attributes_in, attributes_of, kind_of}
-use Rattle.linux_perf_data.specs.Names.{Named, TellsNames, event_desc, feature_of}
-use Rattle.linux_perf_data.specs.Piece.{TookBytes}
-use Rattle.linux_perf_data.specs.PipeOpen.{AreMetadata, IsMetadataRecord, StopsRecord, StopsMetadata, Ended, HoldsTold, Refused, data_told}
-use Rattle.linux_perf_data.specs.Rules.{error_of_breach}
-use Rattle.linux_perf_data.specs.Sections.{data_in}
-use Rattle.linux_perf_data.specs.declared.pipe_told.PipeOpening.{PipeOpening}
-use Rattle.linux_perf_data.specs.declared.pipe_opening.Metadata.{Metadata}
-use Rattle.linux_perf_data.specs.declared.pipe_opening.Next.{Next}
-use Rattle.linux_perf_data.specs.declared.pipe_opening.Next.TheVariants.{Taken, End}
+use Rattle.linux_perf_data.specs.Attribute.{Inconsistency, AreInconsistent, AreConsistent, HoldsAttribute, attribute_in}
+use Rattle.linux_perf_data.specs.Descriptions.{described_attributes}
+use Rattle.linux_perf_data.specs.LateMetadata.{IsMetadataType, IsMetadataError, features_in_record}
+use Rattle.linux_perf_data.specs.Layout.{attributes_in_records, attributes_in_record, record_type_of}
+use Rattle.linux_perf_data.specs.Names.{NamedByEventDesc, IsReadableEventDesc, event_desc, feature_in_body}
+use Rattle.linux_perf_data.specs.RecordFraming.{BytesRead}
+use Rattle.linux_perf_data.specs.PipeOpening.{AreMetadata, IsMetadataRecord, IsMetadataRecordError, IsMetadataReadError, MetadataEnded, HoldsPipeMetadata, FailsBy, feature_data_in}
+use Rattle.linux_perf_data.specs.Consistency.{error_of_inconsistency}
+use Rattle.linux_perf_data.specs.FeatureData.{feature_data_of}
+use Rattle.linux_perf_data.specs.declared.pipe.pipe_opening.PipeOpening.{PipeOpening}
+use Rattle.linux_perf_data.specs.declared.pipe.opening.PipeMetadata.{PipeMetadata}
+use Rattle.linux_perf_data.specs.declared.pipe.opening.NextInOpening.{NextInOpening}
+use Rattle.linux_perf_data.specs.declared.pipe.opening.NextInOpening.TheVariants.{Record, End}
 
-abbrev pub TestsMetadata : ℕ → Bool → Type 0
-TestsMetadata kind true = IsMetadata kind
-TestsMetadata kind false = ¬ IsMetadata kind
+abbrev pub TestsMetadataType : ℕ → Bool → Type 0
+TestsMetadataType kind true = IsMetadataType kind
+TestsMetadataType kind false = ¬ IsMetadataType kind
 
--- what a refusal of a record's contents is told by: want of memory is no error of the source's
-pub record TellsRefusal (refused : IoErrorValue) (e : Error) : Type 0 where
-  pub memory : error_kind refused ≡ OutOfMemory → e ≡ Memory
-  pub other : error_kind refused ≢ OutOfMemory → e ≡ IoError refused
+-- Maps an error in parsing a record's body: one of kind `OutOfMemory` to `Memory`, any other to `IoError`.
+pub record ReportsContentsError (refused : IoErrorValue) (e : Error) : Type 0 where
+  pub if_out_of_memory : error_kind refused ≡ OutOfMemory → e ≡ Memory
+  pub otherwise : error_kind refused ≢ OutOfMemory → e ≡ IoError refused
 
--- a body of so many bytes came, and is held; or it is cut, or the source failed
-abbrev pub TakesBody : {A : Type 0} → State → ℕ → Result A Error → List ℕ → State → Type 0
-TakesBody old count (Ok _) now new = TookBytes old count now new
-TakesBody old count (Err e) now new = Refused (λ xs e. IsShort e × (length xs < count)) old e new
+-- Reads a body of `count` bytes into the buffer. It fails if the body is truncated or the source fails.
+abbrev pub ReadsMetadataBody : {A : Type 0} → State → ℕ → Result A Error → List ℕ → State → Type 0
+ReadsMetadataBody old count (Ok _) now new = BytesRead old count now new
+ReadsMetadataBody old count (Err e) now new = FailsBy (λ xs e. IsUnexpectedEof e × (length xs < count)) old e new
 
 module _ (order : Endianness) where
-  -- ---- the contents of a record
+  -- ---- the body of a record
 
   abbrev pub ParsesAttribute : List ℕ → Result HeaderAttr Error → Type 0
   ParsesAttribute body (Ok header) = HoldsAttribute order body × (attribute_of header ≡ attribute_in order body)
-  ParsesAttribute body (Err e) = (e ≡ Memory → HoldsAttribute order body) × (e ≢ Memory → Spoils order 64 body e)
+  ParsesAttribute body (Err e) = (e ≡ Memory → HoldsAttribute order body) × (e ≢ Memory → IsMetadataError order 64 body e)
 
   abbrev pub ParsesFeature : List ℕ → Result HeaderFeature Error → Type 0
   ParsesFeature body (Ok header) = IsHeaderFeature (number_in order) body header
-  ParsesFeature body (Err e) = (e ≡ Memory → 8 ≤ length body) × (e ≢ Memory → Spoils order 80 body e)
+  ParsesFeature body (Err e) = (e ≡ Memory → 8 ≤ length body) × (e ≢ Memory → IsMetadataError order 80 body e)
 
-  -- what a record of this kind brought was put behind what was told before
-  pub record Gathered (kind : ℕ) (body : List ℕ) (old new : Metadata) : Type 0 where
-    pub attribute : kind ≡ 64 → HoldsAttribute order body
-    pub feature : kind ≡ 80 → 8 ≤ length body
-    pub attributes : attributes_by new.attributes.items ≡ attributes_by old.attributes.items ++ attributes_of order None kind body
-    pub kept : (n : ℕ) → data_in new.sections n ≡ update_all nat_eq (data_in old.sections) (brings_features order None kind body) n
-    pub features : (n : ℕ) → HasFeature new.features n ↔ (HasFeature old.features n ⊎ ((n < 256) × (kind ≡ 80) × (feature_of order body ≡ n)))
+  -- The metadata of a record of this type was added to the metadata before.
+  pub record RecordAdded (kind : ℕ) (body : List ℕ) (old new : PipeMetadata) : Type 0 where
+    pub valid_attribute : kind ≡ 64 → HoldsAttribute order body
+    pub valid_feature : kind ≡ 80 → 8 ≤ length body
+    pub attributes : described_attributes new.attributes.items ≡ described_attributes old.attributes.items ++ attributes_in_record order None kind body
+    pub feature_data : (n : ℕ) → feature_data_of new.sections n ≡ update_all nat_eq (feature_data_of old.sections) (features_in_record order None kind body) n
+    pub features : (n : ℕ) → HasFeature new.features n ↔ (HasFeature old.features n ⊎ ((n < 256) × (kind ≡ 80) × (feature_in_body order body ≡ n)))
 
-  abbrev pub Gathers : {A : Type 0} → ℕ → List ℕ → Metadata → Result A Error → Metadata → Type 0
-  Gathers kind body old (Ok _) new = Gathered kind body old new
-  Gathers kind body old (Err e) new = e ≢ Memory → Spoils order kind body e
+  abbrev pub AddsRecord : {A : Type 0} → ℕ → List ℕ → PipeMetadata → Result A Error → PipeMetadata → Type 0
+  AddsRecord kind body old (Ok _) new = RecordAdded kind body old new
+  AddsRecord kind body old (Err e) new = e ≢ Memory → IsMetadataError order kind body e
 
-  -- what records told
-  pub record Tells (pieces : List (List ℕ)) (m : Metadata) : Type 0 where
-    pub attributes : attributes_by m.attributes.items ≡ attributes_in order None pieces
-    pub kept : (n : ℕ) → data_in m.sections n ≡ data_told order pieces n
-    pub features : (n : ℕ) → HasFeature m.features n ↔ ((n < 256) × IsSome (data_told order pieces n))
+  -- The metadata of these records.
+  pub record HoldsMetadataOf (pieces : List (List ℕ)) (m : PipeMetadata) : Type 0 where
+    pub attributes : described_attributes m.attributes.items ≡ attributes_in_records order None pieces
+    pub feature_data : (n : ℕ) → feature_data_of m.sections n ≡ feature_data_in order pieces n
+    pub features : (n : ℕ) → HasFeature m.features n ↔ ((n < 256) × IsSome (feature_data_in order pieces n))
 
-  -- ---- a record
+  -- ---- one record
 
-  -- what belongs to a head came, and was put to what was told
-  pub record GatheredRecord (offset : ℕ) (head : PerfEventHeader) (old : State) (m : Metadata) (end : ℕ) (new : State) (m' : Metadata) : Type 0 where
+  -- The body after a record header was read, and its metadata was added.
+  pub record MetadataRecordRead (offset : ℕ) (head : PerfEventHeader) (old : State) (m : PipeMetadata) (end : ℕ) (new : State) (m' : PipeMetadata) : Type 0 where
     pub body : List ℕ
-    pub took : TookBytes old (head.size - 8) body new
-    pub ends : end ≡ offset + head.size
-    pub fits : end < 2 ^ 64
-    pub gathered : Gathered head.type_ body m m'
+    pub bytes_read : BytesRead old (head.size - 8) body new
+    pub end_offset : end ≡ offset + head.size
+    pub end_fits : end < 2 ^ 64
+    pub record_added : RecordAdded head.type_ body m m'
 
-  -- what belongs to a head is refused: it ends too far, is cut, or isn't what its type promises
-  abbrev pub StopsContents : ℕ → PerfEventHeader → List ℕ → Error → Type 0
-  StopsContents offset head xs e =
+  -- The body after a record header has an error: it ends at 2^64 or later, is truncated, or contains invalid metadata of its
+  -- type.
+  abbrev pub IsContentsError : ℕ → PerfEventHeader → List ℕ → Error → Type 0
+  IsContentsError offset head xs e =
       ((e ≡ Read PerfEventData) × (2 ^ 64 ≤ offset + head.size))
-      ⊎ ((IsShort e × (offset + head.size < 2 ^ 64) × (length xs < head.size - 8))
-      ⊎ ((offset + head.size < 2 ^ 64) × ((body : List ℕ) × (rest : List ℕ) × (xs ≡ body ++ rest) × (length body ≡ head.size - 8) × Spoils order head.type_ body e)))
+      ⊎ ((IsUnexpectedEof e × (offset + head.size < 2 ^ 64) × (length xs < head.size - 8))
+      ⊎ ((offset + head.size < 2 ^ 64) × ((body : List ℕ) × (rest : List ℕ) × (xs ≡ body ++ rest) × (length body ≡ head.size - 8) × IsMetadataError order head.type_ body e)))
 
-  abbrev pub GathersRecord : ℕ → PerfEventHeader → State → Metadata → Result ℕ Error → State → Metadata → Type 0
-  GathersRecord offset head old m (Ok end) new m' = GatheredRecord offset head old m end new m'
-  GathersRecord offset head old m (Err e) new m' = Refused (StopsContents offset head) old e new
+  abbrev pub ReadsMetadataRecord : ℕ → PerfEventHeader → State → PipeMetadata → Result ℕ Error → State → PipeMetadata → Type 0
+  ReadsMetadataRecord offset head old m (Ok end) new m' = MetadataRecordRead offset head old m end new m'
+  ReadsMetadataRecord offset head old m (Err e) new m' = FailsBy (IsContentsError offset head) old e new
 
-  -- a record of metadata came, and was put to what was told
-  pub record TookNext (offset : ℕ) (old : State) (m : Metadata) (end : ℕ) (new : State) (m' : Metadata) : Type 0 where
-    pub piece : List ℕ
-    pub gave : Gave old piece new
-    pub is : IsMetadataRecord order piece
-    pub ends : end ≡ offset + length piece
-    pub fits : end < 2 ^ 64
-    pub gathered : Gathered (kind_of order piece) (drop 8 piece) m m'
+  -- A metadata record was read, and its metadata was added.
+  pub record NextRecordRead (offset : ℕ) (old : State) (m : PipeMetadata) (end : ℕ) (new : State) (m' : PipeMetadata) : Type 0 where
+    pub raw_record : List ℕ
+    pub consumes : Consumed old raw_record new
+    pub matches : IsMetadataRecord order raw_record
+    pub end_offset : end ≡ offset + length raw_record
+    pub end_fits : end < 2 ^ 64
+    pub record_added : RecordAdded (record_type_of order raw_record) (drop 8 raw_record) m m'
 
-  -- records of metadata ended
-  pub record TookEnd (old : State) (m : Metadata) (head : Option (List ℕ)) (new : State) (m' : Metadata) : Type 0 where
-    pub last : List ℕ
-    pub gave : Gave old last new
-    pub ended : Ended order head old last new
-    pub same : m' ≡ m
+  -- The metadata records ended.
+  pub record MetadataEndRead (old : State) (m : PipeMetadata) (head : Option (List ℕ)) (new : State) (m' : PipeMetadata) : Type 0 where
+    pub last_bytes : List ℕ
+    pub consumes : Consumed old last_bytes new
+    pub metadata_end : MetadataEnded order head old last_bytes new
+    pub unchanged : m' ≡ m
 
-  abbrev pub TakesNext : ℕ → State → Metadata → Result Next Error → State → Metadata → Type 0
-  TakesNext offset old m (Ok (Taken end)) new m' = TookNext offset old m end new m'
-  TakesNext offset old m (Ok (End head)) new m' = TookEnd old m head new m'
-  TakesNext offset old m (Err e) new m' = Refused (StopsRecord order offset) old e new
+  abbrev pub ReadsNext : ℕ → State → PipeMetadata → Result NextInOpening Error → State → PipeMetadata → Type 0
+  ReadsNext offset old m (Ok (Record end)) new m' = NextRecordRead offset old m end new m'
+  ReadsNext offset old m (Ok (End head)) new m' = MetadataEndRead old m head new m'
+  ReadsNext offset old m (Err e) new m' = FailsBy (IsMetadataRecordError order offset) old e new
 
-  -- ---- all of them
+  -- ---- all records
 
-  -- these records came, and what ended them
-  pub record TookMetadata (pieces : List (List ℕ)) (head : Option (List ℕ)) (old new : State) : Type 0 where
-    pub last : List ℕ
-    pub are : AreMetadata order pieces
-    pub gave : Gave old (concat pieces ++ last) new
-    pub ended : Ended order head old last new
+  -- These records and what ended them were read.
+  pub record MetadataRead (pieces : List (List ℕ)) (head : Option (List ℕ)) (old new : State) : Type 0 where
+    pub last_bytes : List ℕ
+    pub elements : AreMetadata order pieces
+    pub consumes : Consumed old (concat pieces ++ last_bytes) new
+    pub metadata_end : MetadataEnded order head old last_bytes new
 
-  abbrev pub ReadsMetadata : State → Result (Metadata × Option (List ℕ)) Error → State → Type 0
-  ReadsMetadata old (Ok r) new = (pieces : List (List ℕ)) × TookMetadata pieces r.1 old new × Tells pieces r.0
-  ReadsMetadata old (Err e) new = Refused (StopsMetadata order) old e new
+  abbrev pub ReadsMetadata : State → Result (PipeMetadata × Option (List ℕ)) Error → State → Type 0
+  ReadsMetadata old (Ok r) new = (pieces : List (List ℕ)) × MetadataRead pieces r.1 old new × HoldsMetadataOf pieces r.0
+  ReadsMetadata old (Err e) new = FailsBy (IsMetadataReadError order) old e new
 
-  -- ---- what they told
+  -- ---- their metadata
 
-  -- an opening was made of it
-  pub record Finished (m : Metadata) (head : Option (List ℕ)) (opening : PipeOpening) : Type 0 where
+  -- An opening was built from the metadata.
+  pub record OpeningFinished (m : PipeMetadata) (head : Option (List ℕ)) (opening : PipeOpening) : Type 0 where
     pub endian : opening.endian ≡ order
-    pub head_kept : opening.head ≡ head
-    pub attributes : attributes_by opening.attributes.items ≡ attributes_by m.attributes.items
-    pub sections : (n : ℕ) → data_in opening.sections n ≡ data_in m.sections n
+    pub pending_header : opening.pending_header ≡ head
+    pub attributes : described_attributes opening.attributes.items ≡ described_attributes m.attributes.items
+    pub sections : (n : ℕ) → feature_data_of opening.sections n ≡ feature_data_of m.sections n
     pub features : opening.features ≡ m.features
-    pub named : Named order (data_in m.sections event_desc) opening.attributes.items
-    pub some : 0 < length opening.attributes.items
-    pub rule : Rule (attributes_by m.attributes.items)
+    pub names_match : NamedByEventDesc order (feature_data_of m.sections event_desc) opening.attributes.items
+    pub nonempty : 0 < length opening.attributes.items
+    pub consistent : AreConsistent (described_attributes m.attributes.items)
 
-  -- it is refused: there is no attribute; or EVENT_DESC can't be read; or the attributes break their rule
-  abbrev pub StopsFinish : Metadata → Error → Type 0
-  StopsFinish m e =
-      ((e ≡ NoAttributes) × (attributes_by m.attributes.items ≡ []))
-      ⊎ (((bytes : List ℕ) × (attributes_by m.attributes.items ≢ []) × (data_in m.sections event_desc ≡ Some bytes) × NoEventDesc (number_in order) e bytes)
-      ⊎ ((b : Breach) × ((bytes : List ℕ) → data_in m.sections event_desc ≡ Some bytes → TellsNames order bytes) × Breaks (attributes_by m.attributes.items) b × (e ≡ error_of_breach b)))
+  -- The metadata has an error: there is no attribute, EVENT_DESC can't be read, or the attributes are inconsistent.
+  abbrev pub IsFinishError : PipeMetadata → Error → Type 0
+  IsFinishError m e =
+      ((e ≡ NoAttributes) × (described_attributes m.attributes.items ≡ []))
+      ⊎ (((bytes : List ℕ) × (described_attributes m.attributes.items ≢ []) × (feature_data_of m.sections event_desc ≡ Some bytes) × IsEventDescError (number_in order) e bytes)
+      ⊎ ((b : Inconsistency) × ((bytes : List ℕ) → feature_data_of m.sections event_desc ≡ Some bytes → IsReadableEventDesc order bytes) × AreInconsistent (described_attributes m.attributes.items) b × (e ≡ error_of_inconsistency b)))
 
-  abbrev pub Finishes : Metadata → Option (List ℕ) → Result PipeOpening Error → Type 0
-  Finishes m head (Ok opening) = Finished m head opening
-  Finishes m head (Err e) = e ≢ Memory → StopsFinish m e
+  abbrev pub FinishesOpening : PipeMetadata → Option (List ℕ) → Result PipeOpening Error → Type 0
+  FinishesOpening m head (Ok opening) = OpeningFinished m head opening
+  FinishesOpening m head (Err e) = e ≢ Memory → IsFinishError m e
 
-  -- what stands behind a header was opened
-  abbrev pub OpensBehind : State → Result PipeOpening Error → State → Type 0
-  OpensBehind old (Ok opening) new = (pieces : List (List ℕ)) × TookMetadata pieces opening.head old new × HoldsTold order pieces opening
-  OpensBehind old (Err e) new = Refused (StopsMetadata order) old e new
+  -- Opens the rest of a pipe after its header.
+  abbrev pub OpensAfterPipeHeader : State → Result PipeOpening Error → State → Type 0
+  OpensAfterPipeHeader old (Ok opening) new = (pieces : List (List ℕ)) × MetadataRead pieces opening.pending_header old new × HoldsPipeMetadata order pieces opening
+  OpensAfterPipeHeader old (Err e) new = FailsBy (IsMetadataReadError order) old e new

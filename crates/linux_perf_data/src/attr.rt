@@ -1,2 +1,2 @@
-//! An event's attribute: what was recorded, how often, and what a sample of it holds.
+//! The attribute of an event: what is recorded, how often, and what a sample of the event contains.
 pub use perfdata_base::attr::{AttrFlags, PerfEventAttr, SampleFormat};

@@ -1,42 +1,46 @@
-//! Opens a file or a pipe, as what it says of itself and an iterator over its records.
+//! Opens a file or a pipe, and returns its metadata and an iterator over its records.
 ghost use Rattle.std.specs.Prelude.{◌≡◌, ◌+◌, ◌<◌, ◌≤◌, IfOk, vec_len};
-ghost use Rattle.linux_perf_data.specs.Attribute.{Rule};
-ghost use Rattle.linux_perf_data.specs.Described.{attributes_by};
+ghost use Rattle.linux_perf_data.specs.Attribute.{AreConsistent};
+ghost use Rattle.linux_perf_data.specs.Descriptions.{described_attributes};
 
-use crate::input::Input;
-use crate::iter::Stage;
-pub use crate::iter::{PerfRecordIter, RecordPlace};
-use crate::known::Known;
-use crate::opening::{Opening, open};
+use crate::attributes::lookup::AttributeLookup;
+use crate::file::opening::{FileOpening, open_file};
 use crate::perf_file::PerfFile;
-use crate::pipe_opening::open_pipe;
-use crate::pipe_told::PipeOpening;
+use crate::pipe::opening::open_pipe;
+use crate::pipe::pipe_opening::PipeOpening;
+use crate::records::input::Input;
+use crate::records::iter::Stage;
+pub use crate::records::iter::{PerfRecordIter, RecordPlace};
 use perfdata_base::source::{PlacedSource, Source};
 use perfdata_parts::error::Error;
 use std::alloc::Global;
 
-/// An opened file or pipe: what it says of itself, and an iterator over its records.
+/// An opened file or pipe: its metadata, and an iterator over its records.
 #[derive(Drop)]
 pub struct PerfFileReader<R> {
-    /// What the file or pipe says of itself.
+    /// The metadata of the file or pipe.
     pub perf_file: PerfFile,
-    /// Its records.
+    /// The iterator over the records.
     pub record_iter: PerfRecordIter<R>,
 }
 
 impl<C: PlacedSource + Drop> PerfFileReader<C> {
-    ghost use Rattle.linux_perf_data.specs.Opened.{ParsesFile, StartsOrNot};
+    ghost use Rattle.linux_perf_data.specs.OpenedFile.{ParsesFile, BuildsReader};
 
-    // The reader of a file that was opened, whose source stands at the first record.
+    // Builds the reader of an opened file. `source` is positioned at the first record.
     #[tactic(auto, using(crate::proofs::NameTables::no_names, crate::proofs::NameTables::no_none, crate::proofs::NameTables::no_some, crate::proofs::NameTables::no_events))]
-    fn starting(alloc: Global, source: C, opening: Opening) -> Result<PerfFileReader<C>, Error>
+    fn from_opening(
+        alloc: Global,
+        source: C,
+        opening: FileOpening,
+    ) -> Result<PerfFileReader<C>, Error>
         requires some { 0 < vec_len opening.attributes }
-        requires rule { Rule (attributes_by opening.attributes.items) }
-        ensures { StartsOrNot C.seen source opening result }
+        requires rule { AreConsistent (described_attributes opening.attributes.items) }
+        ensures { BuildsReader C.state source opening result }
     {
-        let known = Known::new(alloc, &opening.attributes, opening.endian)?;
-        let input = Input::Section(opening.size);
-        let record_iter = PerfRecordIter::at_first(
+        let known = AttributeLookup::new(alloc, &opening.attributes, opening.endian)?;
+        let input = Input::Section(opening.data_size);
+        let record_iter = PerfRecordIter::new(
             alloc,
             source,
             input,
@@ -49,7 +53,7 @@ impl<C: PlacedSource + Drop> PerfFileReader<C> {
             features: opening.features,
             sections: opening.sections,
             attributes: opening.attributes,
-            told: None,
+            name_table: None,
         };
         Ok(PerfFileReader {
             perf_file,
@@ -57,72 +61,75 @@ impl<C: PlacedSource + Drop> PerfFileReader<C> {
         })
     }
 
-    /// Opens a perf.data file: reads its header where the source stands, the sections of its features and its
-    /// attributes, and goes to its records.
+    /// Opens a perf.data file: reads the header at the position of `source`, the feature sections and the attributes, and
+    /// seeks to the first record.
     ///
-    /// Places in the file count from the source's first byte. Just behind the data section stands a table with an entry
-    /// of 16 bytes for each feature, ascending, which says where the feature's section is. A refusal names the first
-    /// thing in the file that stands in the way, or the source's own fault: an [`Error::IoError`] in the header, the
-    /// table and the sections, and where the source can't go to a place, [`ReadError::FeatureSection`] where the data
-    /// section ends past 2^64 - 1. The bytes that the header's size counts beyond 104 are passed over before its magic is
-    /// looked at, and where they are 2^63 or more the [`Error::IoError`] is of kind `InvalidInput`.
+    /// Offsets in the file are in bytes from the first byte of the source. The bytes that the header's size counts beyond 104
+    /// are skipped before the magic is checked. A table directly after the data section has an entry of 16 bytes for each
+    /// feature, in ascending order. An entry contains the offset and the size of the feature's section.
     ///
-    /// The attributes are those of the section EVENT_DESC; without it those of the event types section, where it isn't
-    /// empty; else those of the attribute section, which in a file with simpleperf's meta info are named by the event types
-    /// that it tells. They are refused as by `parse_event_desc_section`, `parse_event_types_section`,
-    /// `parse_simpleperf_attr_section` and `parse_attr_section`, and the meta info as by `parse_meta_info_map`, or with
-    /// [`Error::NoEventTypesInSimpleperfMetaInfo`] where it tells no event types.
+    /// The attributes are those of the first of these sections that the file has:
     ///
-    /// [`Error::NoAttributes`] where there are none. Where the identifiers of several attributes' records don't stand at
-    /// the same places, it is [`Error::NoIdentifierDespiteMultiEvent`] with the index of the first attribute without
-    /// IDENTIFIER, or [`Error::InconsistentSampleIdAllWithMultiEvent`] with that of the first that differs from the first
-    /// one about SAMPLE_ID_ALL, whichever stands first. [`Error::Memory`] where memory runs out.
+    /// - the section EVENT_DESC,
+    /// - the event types section, if it isn't empty,
+    /// - the attribute section. In a file with simpleperf's meta info, the event types of the meta info name the attributes.
+    ///
+    /// # Errors
+    ///
+    /// The error is the first one in the file, or an I/O error of the source:
+    ///
+    /// - [`Error::IoError`] if the header, the table or a section can't be read, or if a seek fails. It is of kind
+    ///   `InvalidInput` if the header's size counts 2^63 or more bytes beyond 104.
+    /// - [`Error::UnrecognizedMagicValue`] if the magic is unknown.
+    /// - [`ReadError::FeatureSection`] if the data section ends past 2^64 - 1.
+    /// - The errors of `parse_event_desc_section`, `parse_event_types_section`, `parse_simpleperf_attr_section` and
+    ///   `parse_attr_section` for the attributes, and of `parse_meta_info_map` for the meta info.
+    /// - [`Error::NoEventTypesInSimpleperfMetaInfo`] if the meta info contains no event types.
+    /// - [`Error::NoAttributes`] if the file has no attributes.
+    /// - If the records of several attributes don't all have their identifiers at the same offsets:
+    ///   [`Error::NoIdentifierDespiteMultiEvent`] with the index of the first attribute without IDENTIFIER, or
+    ///   [`Error::InconsistentSampleIdAllWithMultiEvent`] with the index of the first attribute whose SAMPLE_ID_ALL differs
+    ///   from that of attribute 0, whichever attribute is first.
+    /// - [`Error::Memory`] if memory runs out.
     pub fn parse_file(alloc: Global, source: C) -> Result<PerfFileReader<C>, Error>
-        ensures parses { ParsesFile C.seen (C.seen source) result }
-        ensures pauses { IfOk result (λ r. (C.seen r.record_iter.source).pauses ≡ (C.seen source).pauses) }
-        ensures lent { IfOk result (λ r. C.lent r.record_iter.source ≡ C.lent source) }
+        ensures parses { ParsesFile C.state (C.state source) result }
+        ensures pauses { IfOk result (λ r. (C.state r.record_iter.source).pauses ≡ (C.state source).pauses) }
+        ensures lent { IfOk result (λ r. C.loan r.record_iter.source ≡ C.loan source) }
     {
         let mut source = source;
-        match open(alloc, &mut source) {
-            Ok(opening) => PerfFileReader::starting(alloc, source, opening),
+        match open_file(alloc, &mut source) {
+            Ok(opening) => PerfFileReader::from_opening(alloc, source, opening),
             Err(error) => Err(error),
         }
     }
 }
 
 impl<R: Source + Drop> PerfFileReader<R> {
-    ghost use Rattle.linux_perf_data.specs.OpenedPipe.{ParsesPipe, StartsPipe};
+    ghost use Rattle.linux_perf_data.specs.OpenedPipe.{ParsesPipe, BuildsPipeReader};
 
-    // The reader of a pipe that was opened, whose source stands behind what the opening took.
-    fn behind_opening(
+    // Builds the reader of an opened pipe. `source` is positioned after the bytes that the opening consumed.
+    fn from_pipe_opening(
         alloc: Global,
         source: R,
         opening: PipeOpening,
     ) -> Result<PerfFileReader<R>, Error>
         requires some { 0 < vec_len opening.attributes }
-        requires rule { Rule (attributes_by opening.attributes.items) }
-        ensures { StartsPipe R.seen source opening result }
+        requires rule { AreConsistent (described_attributes opening.attributes.items) }
+        ensures { BuildsPipeReader R.state source opening result }
     {
-        let known = Known::new(alloc, &opening.attributes, opening.endian)?;
-        let stage = match opening.head {
+        let known = AttributeLookup::new(alloc, &opening.attributes, opening.endian)?;
+        let stage = match opening.pending_header {
             Some(_) => Stage::Running,
             None => Stage::Ended,
         };
-        let input = Input::Pipe(opening.head);
-        let record_iter = PerfRecordIter::at_first(
-            alloc,
-            source,
-            input,
-            opening.endian,
-            known,
-            stage,
-        );
+        let input = Input::Pipe(opening.pending_header);
+        let record_iter = PerfRecordIter::new(alloc, source, input, opening.endian, known, stage);
         let perf_file = PerfFile {
             endian: opening.endian,
             features: opening.features,
             sections: opening.sections,
             attributes: opening.attributes,
-            told: Some(opening.told),
+            name_table: Some(opening.name_table),
         };
         Ok(PerfFileReader {
             perf_file,
@@ -130,29 +137,37 @@ impl<R: Source + Drop> PerfFileReader<R> {
         })
     }
 
-    /// Opens a perf.data pipe, as `perf record -o -` writes it: reads its header, and the records of metadata behind it
-    /// (types HEADER_ATTR and HEADER_FEATURE), up to the head of the first record of another type, which is kept.
+    /// Opens a perf.data pipe, as `perf record -o -` writes it: reads its header and the metadata records after it.
     ///
-    /// The bytes that the header's size counts beyond its own 16 are passed over. Where fewer than eight bytes are left for
-    /// a head, or for those extra bytes, the opening ends, and so do the records. Of a feature that comes more than once the
-    /// last data count; an attribute with an id takes the name of the first event of EVENT_DESC whose first id is the
-    /// attribute's first. Offsets of records count from the kept head.
+    /// Metadata records have the types HEADER_ATTR and HEADER_FEATURE. The opening ends with the record header of the first
+    /// record of another type. The iterator keeps this pending header, and the offsets of records count from it.
     ///
-    /// A refusal names the first thing that stands in the way: [`Error::IoError`] of kind `UnexpectedEof` where the header or
-    /// a record of metadata is cut, or is refused as too short by `HeaderAttr` or `HeaderFeature`, of kind `InvalidData` where
-    /// an attribute's own size is below 64, or the source's own fault; [`Error::UnrecognizedMagicValue`];
-    /// [`Error::InvalidPerfEventSize`] where a head tells a size below its own 8 bytes; [`ReadError::PerfEventData`] where a
-    /// record of metadata ends past 2^64 - 1. Behind the opening [`Error::NoAttributes`], the refusal of
-    /// `parse_event_desc_section`, and the refusals of several attributes as by `parse_file`. [`Error::Memory`] where
-    /// memory runs out.
+    /// The bytes that the pipe header's size counts beyond 16 are skipped. If the pipe ends within them, or has fewer than
+    /// eight bytes for the next record header, the opening ends, and so do the records. If a feature occurs more than once,
+    /// its last data count. An attribute with an id has the name of the first event of EVENT_DESC whose first id is the first
+    /// id of the attribute.
+    ///
+    /// # Errors
+    ///
+    /// The error is the first one in the pipe, or an I/O error of the source:
+    ///
+    /// - [`Error::IoError`] of kind `UnexpectedEof` if the pipe header or a metadata record is truncated, or if its body is too
+    ///   small for `HeaderAttr` or `HeaderFeature`, and of kind `InvalidData` if the size field of an attribute is below 64.
+    ///   An I/O error of the source is also an [`Error::IoError`].
+    /// - [`Error::UnrecognizedMagicValue`] if the magic is unknown.
+    /// - [`Error::InvalidPerfEventSize`] if the size in a record header is below 8, the size of the record header.
+    /// - [`ReadError::PerfEventData`] if a metadata record ends past 2^64 - 1.
+    /// - After the metadata records: [`Error::NoAttributes`] if there are no attributes, the errors of
+    ///   `parse_event_desc_section`, and the errors of inconsistent attributes that `parse_file` describes.
+    /// - [`Error::Memory`] if memory runs out.
     pub fn parse_pipe(alloc: Global, source: R) -> Result<PerfFileReader<R>, Error>
-        ensures parses { ParsesPipe R.seen (R.seen source) result }
-        ensures pauses { IfOk result (λ r. (R.seen r.record_iter.source).pauses ≤ (R.seen source).pauses + 1) }
-        ensures lent { IfOk result (λ r. R.lent r.record_iter.source ≡ R.lent source) }
+        ensures parses { ParsesPipe R.state (R.state source) result }
+        ensures pauses { IfOk result (λ r. (R.state r.record_iter.source).pauses ≤ (R.state source).pauses + 1) }
+        ensures lent { IfOk result (λ r. R.loan r.record_iter.source ≡ R.loan source) }
     {
         let mut source = source;
         match open_pipe(alloc, &mut source) {
-            Ok(opening) => PerfFileReader::behind_opening(alloc, source, opening),
+            Ok(opening) => PerfFileReader::from_pipe_opening(alloc, source, opening),
             Err(error) => Err(error),
         }
     }

@@ -1,150 +1,153 @@
-//! Laws of the layout of records, over its definitions alone: what the clauses of a reading promise is one list, and
-//! there is one.
-ghost use Rattle.linux_perf_data.specs.BuildIds.{OneListOfEntries, KeysEqualByTexts};
-ghost use Rattle.linux_perf_data.specs.Late.{HoldsFirst, HoldsMore, NamesStay};
-ghost use Rattle.linux_perf_data.specs.Reading.{FileSoFar, FileWhole, FileToFault, NoCall, OneCallMore};
-ghost use Rattle.linux_perf_data.specs.PipeReading.{PipeUpToRecord, PipeUpToEnd, PipeUpToFault, LongestRun, NotRefused};
-ghost use Rattle.linux_perf_data.specs.Laws.{OneRecord, OneFault, NoFaultAtPiece, EndFaultOrPiece, RuleOrBreach, OneBreach, OneLayout, SomeLayout, OneToCome, OffsetsRise, PlaceOfPiece, RecordsBring, TracesHold, NoNamesAtRefusal, OneNaming, OneOpening, OpeningStands, FileStands, OneFile, CutHeader, FarHeader, OtherMagic, OneRefusalOfFile, OneRefusalOfPipe};
+//! Laws of the record layout, over its definitions alone: the list of records that the contracts of a reading describe
+//! exists and is unique.
+ghost use Rattle.linux_perf_data.specs.BuildIds.{BuildIdListIsUnique, KeysEqualByTexts};
+ghost use Rattle.linux_perf_data.specs.LateMetadata.{AccumulatesNone, AccumulatesOneMore, EventDescStaysValid};
+ghost use Rattle.linux_perf_data.specs.FileReading.{ReadingFilePartly, ReadingFileToEnd, ReadingFileToError, NoCalls, OneCallMore};
+ghost use Rattle.linux_perf_data.specs.PipeReading.{ReadingPipePartly, ReadingPipeToEnd, ReadingPipeToError, LongestRun, OpeningHasNoError};
+ghost use Rattle.linux_perf_data.specs.Laws.{RecordIsUnique, ErrorIsUnique, NoErrorAtRecord, EndErrorOrRecord, ConsistentOrNot, InconsistencyIsUnique, LayoutIsUnique, LayoutExists, RemainingRecordsAreUnique, OffsetsIncrease, OffsetAndRoundOfRecord, MarkersAddNoAttributes, AuxtracesParse, NoNamesOnError, NamesAreUnique, PipeOpeningIsUnique, DescribedPipeOpens, DescribedFileOpens, FileDescriptionIsUnique, TruncatedHeaderFails, FarHeaderFails, UnknownMagicFails, FileErrorIsUnique, PipeErrorIsUnique};
 
 use perfdata_base::source::Source;
 
-/// No bytes begin with two whole records.
+/// At most one prefix of the bytes is a whole record.
 pub fn at_most_one_record()
-    ensures { OneRecord }
+    ensures { RecordIsUnique }
 {}
 
-/// One thing stands where a record may begin: the end of the records, one fault, or a piece.
-pub fn one_thing_stands()
-    ensures one_fault { OneFault }
-    ensures no_fault_at_piece { NoFaultAtPiece }
-    ensures something { EndFaultOrPiece }
+/// Where a record may start, there is the end of the records, one error, or a raw record. There is no error at a raw record
+/// that the attributes allow.
+pub fn end_error_or_record()
+    ensures one_error { ErrorIsUnique }
+    ensures no_error_at_record { NoErrorAtRecord }
+    ensures end_error_or_record { EndErrorOrRecord }
 {}
 
-/// Where the identifiers of attributes' records don't all stand at the same places, some attribute breaks the rule of
-/// attributes, and the first that does is determined.
-pub fn rule_kept_or_broken()
-    ensures kept_or_broken { RuleOrBreach }
-    ensures one_breach { OneBreach }
+/// If the records of the attributes don't all have their identifiers at the same offsets, an attribute is inconsistent. The
+/// first such attribute is unique.
+pub fn consistent_or_first_inconsistency()
+    ensures consistent_or_not { ConsistentOrNot }
+    ensures one_inconsistency { InconsistencyIsUnique }
 {}
 
-/// No bytes have two layouts: the records that they begin with are determined, and so is the end or the fault behind
-/// them.
+/// Bytes have at most one layout: they determine the records that they start with, and the end or the error after those.
 pub fn at_most_one_layout()
-    ensures { OneLayout }
+    ensures { LayoutIsUnique }
 {}
 
-/// All bytes have a layout, in a file and in a pipe.
-pub fn some_layout()
-    ensures { SomeLayout }
+/// All bytes have a layout after consistent attributes, in a file and in a pipe.
+pub fn layout_exists()
+    ensures { LayoutExists }
 {}
 
-/// The records to come and the end to come are determined by the bytes, where they stand, and the attributes that came.
-pub fn at_most_one_to_come()
-    ensures { OneToCome }
+/// The bytes, their offset and round, and the attributes before them determine the remaining records and their end.
+pub fn remaining_records_are_unique()
+    ensures { RemainingRecordsAreUnique }
 {}
 
-/// Offsets rise strictly and rounds never fall.
-pub fn offsets_rise()
-    ensures { OffsetsRise }
+/// The offsets of records increase strictly, and their rounds never decrease.
+pub fn offsets_increase()
+    ensures { OffsetsIncrease }
 {}
 
-/// A record's offset is the sum of the lengths of the pieces before it, and its round the number of markers before it.
-pub fn place_of_piece()
-    ensures { PlaceOfPiece }
+/// The offset of a record is the sum of the lengths of the raw records before it. Its round is the number of markers before it.
+pub fn offset_and_round_of_record()
+    ensures { OffsetAndRoundOfRecord }
 {}
 
-/// Markers bring no attributes: all that the pieces bring comes with records that are handed out.
-pub fn records_bring()
-    ensures { RecordsBring }
+/// Markers add no attributes: the returned records contain all attributes of the raw records.
+pub fn markers_add_no_attributes()
+    ensures { MarkersAddNoAttributes }
 {}
 
-/// What a pipe's records bring into a `PerfFile` one behind another is what they bring together, and an EVENT_DESC that
-/// can be read is always followed by one that can.
-pub fn several_records_bring()
-    ensures none { HoldsFirst }
-    ensures more { HoldsMore }
-    ensures names { NamesStay }
+/// Records of a pipe that are applied to a `PerfFile` one at a time add the same metadata as all of them together. If
+/// EVENT_DESC is readable before a record is applied, it is readable afterwards.
+pub fn metadata_accumulates()
+    ensures none { AccumulatesNone }
+    ensures more { AccumulatesOneMore }
+    ensures names { EventDescStaysValid }
 {}
 
-/// `Auxtrace::parse` accepts the body of each record with auxiliary data that is handed out, where the record's head says 48 bytes.
-pub fn traces_hold()
-    ensures { TracesHold }
+/// `Auxtrace::parse` accepts the body of each returned auxtrace record whose record header contains the size 48.
+pub fn auxtraces_parse()
+    ensures { AuxtracesParse }
 {}
 
-/// The records of metadata that open a pipe are determined by its bytes, and where what they tell opens it no refusal is true.
-pub fn one_opening()
-    ensures one { OneOpening }
-    ensures stands { OpeningStands }
+/// The bytes of a pipe determine the metadata records of its opening. If those can open the pipe, no opening error applies.
+pub fn pipe_opening_is_unique()
+    ensures one { PipeOpeningIsUnique }
+    ensures exists { DescribedPipeOpens }
 {}
 
-/// Where a file's bytes describe what an opening of it tells, no refusal of it is true.
-pub fn file_stands()
-    ensures { FileStands }
+/// If the bytes of a file describe an opened file, no opening error applies.
+pub fn described_file_opens()
+    ensures { DescribedFileOpens }
 {}
 
-/// What a file's bytes describe is determined: its header, the order of its numbers, its features and their data, and its attributes with
-/// their names and ids.
-pub fn one_file()
-    ensures { OneFile }
+/// The bytes of a file determine what they describe: the header, the byte order, the features and their data, and the
+/// attributes with their names and ids.
+pub fn file_description_is_unique()
+    ensures { FileDescriptionIsUnique }
 {}
 
-/// A file's header is refused before what stands behind it: where fewer than 104 bytes are there, where 2^63 or more were
-/// to be passed over, and then where its magic is no file's.
-pub fn header_comes_first()
-    ensures cut { CutHeader }
-    ensures far { FarHeader }
-    ensures magic { OtherMagic }
+/// The errors of a file header precede those of the bytes after it. The header has fewer than 104 bytes, or it has 2^63 or
+/// more bytes to skip, or, after these checks, its magic is unknown.
+pub fn header_errors_come_first()
+    ensures truncated { TruncatedHeaderFails }
+    ensures too_long { FarHeaderFails }
+    ensures magic { UnknownMagicFails }
 {}
 
-/// Two refusals of one file, or of one pipe, have one cause: they are the same error, or I/O errors of one kind.
-pub fn one_refusal()
-    ensures file { OneRefusalOfFile }
-    ensures pipe { OneRefusalOfPipe }
+/// Two opening errors of one file, or of one pipe, have one cause: they are the same error, or I/O errors of one kind.
+pub fn opening_error_is_unique()
+    ensures file { FileErrorIsUnique }
+    ensures pipe { PipeErrorIsUnique }
 {}
 
-/// The names of a pipe's attributes are determined by the attributes' ids and the bytes of EVENT_DESC, and where those are refused
-/// there are none.
-pub fn one_naming()
-    ensures refused { NoNamesAtRefusal }
-    ensures determined { OneNaming }
+/// The ids of a pipe's attributes and the bytes of EVENT_DESC determine the names of the attributes. If EVENT_DESC has an
+/// error, there are no names.
+pub fn names_are_unique()
+    ensures no_names_on_error { NoNamesOnError }
+    ensures determined { NamesAreUnique }
 {}
 
-/// The section of build ids is cut into entries in one way, so its map is determined.
-pub fn one_list_of_build_ids()
-    ensures { OneListOfEntries }
+/// The section BUILD_ID splits into entries in only one way, which determines its map.
+pub fn build_id_list_is_unique()
+    ensures { BuildIdListIsUnique }
 {}
 
-/// Keys of mapped objects are equal exactly where they are of one kind with the same texts.
+/// The keys of two mapped objects are equal if and only if they have the same DSO kind and the same texts.
 pub fn keys_equal_by_texts()
     ensures { KeysEqualByTexts }
 {}
 
-/// How a caller that counts on a reading's law adds one call of `next_record` at a time to those before it.
-pub fn several_calls<R: Source>()
-    ensures none { NoCall R.seen }
-    ensures more { OneCallMore R.seen }
+/// Extends consecutive calls of `next_record` by one call, for a caller that uses the law of a reading.
+pub fn consecutive_calls<R: Source>()
+    ensures none { NoCalls R.state }
+    ensures more { OneCallMore R.state }
 {}
 
-/// A whole reading of a file: from what `parse_file` says of it, through calls of `next_record` one behind another, each with the
-/// `PerfFile` as the one before left it. Each record that was handed out is the layout's at its place, and what is unread stands behind the
-/// last; where the end was answered these are all, and where a steady source was refused, for another reason than want of memory, the
-/// layout has that fault behind them.
-pub fn a_reading<R: Source>()
-    ensures upto { FileSoFar R.seen }
-    ensures end { FileWhole R.seen }
-    ensures fault { FileToFault R.seen }
+/// A whole reading of a file: the result of `parse_file`, then consecutive calls of `next_record`, each with the `PerfFile` of
+/// the call before.
+///
+/// The returned records are the first records of the layout, in order, and the unread bytes follow the last one. If a call
+/// returns the end, they are all records. If a call fails on an infallible source, and not because memory runs out, the layout
+/// has that error after them.
+pub fn file_reading<R: Source>()
+    ensures partly { ReadingFilePartly R.state }
+    ensures end { ReadingFileToEnd R.state }
+    ensures to_error { ReadingFileToError R.state }
 {}
 
-/// A whole reading of a pipe, in the same way from what `parse_pipe` says of it; its `PerfFile` holds exactly what came.
-pub fn a_reading_of_a_pipe<R: Source>()
-    ensures upto { PipeUpToRecord R.seen }
-    ensures end { PipeUpToEnd R.seen }
-    ensures fault { PipeUpToFault R.seen }
+/// A whole reading of a pipe, in the same way from the result of `parse_pipe`. Its `PerfFile` contains exactly the metadata
+/// that was read.
+pub fn pipe_reading<R: Source>()
+    ensures partly { ReadingPipePartly R.state }
+    ensures end { ReadingPipeToEnd R.state }
+    ensures to_error { ReadingPipeToError R.state }
 {}
 
-/// The opening that a pipe's reading begins with is the longest run of records of metadata at the front of its bytes, and no refusal of an
-/// opening is true of those.
-pub fn a_reading_takes_the_opening()
+/// The opening of a pipe's reading is the longest sequence of metadata records at the start of its bytes, and no opening error
+/// applies to those bytes.
+pub fn pipe_reading_covers_opening()
     ensures longest { LongestRun }
-    ensures stands { NotRefused }
+    ensures exists { OpeningHasNoError }
 {}

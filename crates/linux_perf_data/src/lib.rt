@@ -1,7 +1,8 @@
-//! Reads Linux perf's and Android simpleperf's `perf.data` files and pipes, and jitdump files.
+//! Reads `perf.data` files and pipes of Linux perf and Android simpleperf, and jitdump files.
 //!
-//! A reader is what the input says of itself, and an iterator over its records, each with its place and, where it is of the
-//! kernel, the event that it belongs to:
+//! [`PerfFileReader`] consists of the metadata of the input ([`PerfFile`]) and an iterator over its records
+//! ([`PerfRecordIter`]). The iterator returns each record with its [`RecordPlace`], and a kernel record also with the index
+//! of its event's attribute:
 //!
 //! ```
 //! use linux_perf_data::source::Counted;
@@ -26,30 +27,18 @@
 //! }
 //! ```
 //!
-//! `PerfFileReader::parse_pipe` opens a pipe, and [`jitdump`] has the reader of jitdumps.
+//! [`PerfFileReader::parse_pipe`] opens a pipe. The module [`jitdump`] contains the reader of jitdump files.
 #![tactic(auto)]
 
-mod at_hand;
 pub mod attr;
-mod build_ids;
+mod attributes;
+mod file;
 pub mod file_reader;
-mod id_table;
-mod input;
-mod iter;
 pub mod jitdump;
-mod known;
-mod late;
 pub mod laws;
-mod name_table;
-mod names;
-mod opening;
 pub mod perf_file;
-mod piece;
-mod pipe_opening;
-mod pipe_told;
-mod rule;
-mod sections;
-mod values;
+mod pipe;
+mod records;
 
 pub use file_reader::{PerfFileReader, PerfRecordIter, RecordPlace};
 pub use perf_file::PerfFile;

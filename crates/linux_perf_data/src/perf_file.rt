@@ -1,18 +1,20 @@
-//! What a file or pipe says of itself, by accessors over the bytes of its sections.
+//! The metadata of a file or pipe, with accessors that parse the bytes of its sections.
 ghost use Rattle.std.specs.Prelude.{◌≡◌, ◌<◌, ◌↔◌, IsTrue, length, vec_len};
 ghost use Rattle.std.specs.Option.{option_map};
 ghost use Rattle.perfdata_base.specs.Features.{HasFeature};
 ghost use Rattle.perfdata_simpleperf.specs.MetaInfo.{ParsesMetaInfo};
 ghost use Rattle.linux_perf_data.specs.FeatureNumbers.{arch, build_id, clock_data, clock_id, cmd_line, compressed, cpu_desc, cpuid, hostname, nr_cpus, os_release, pmu_mappings, sample_time, simpleperf_file, simpleperf_file2, simpleperf_meta_info, total_mem, version};
-ghost use Rattle.linux_perf_data.specs.NameTable.{KeepsEvents, KeepsNames, KeepsEmpty, KeepsRead};
-ghost use Rattle.linux_perf_data.specs.Sections.{data_in};
-ghost use Rattle.linux_perf_data.specs.Simpleperf.{TellsSymbolTables};
-ghost use Rattle.linux_perf_data.specs.Values.{TellsOf, TellsText, TellsTexts, TellsNumber, TellsCpus, TellsTimes, TellsCompression, TellsClock, TellsUnits};
-ghost use Rattle.linux_perf_data.specs.BuildIds.{TellsBuildIds};
+ghost use Rattle.linux_perf_data.specs.NameTable.{TableHasEvents, TableNamesAll, TableEmptyWithoutEventDesc, TableIsReadable};
+ghost use Rattle.linux_perf_data.specs.FeatureData.{feature_data_of};
+ghost use Rattle.linux_perf_data.specs.Simpleperf.{AnswersSymbolTables};
+ghost use Rattle.linux_perf_data.specs.Values.{AnswersOf, ParsesStringSection, ParsesStringList, ParsesU64, ParsesNrCpus, ParsesSampleTimes, ParsesCompression, ParsesClockData, ParsesPmuMappings};
+ghost use Rattle.linux_perf_data.specs.BuildIds.{AnswersBuildIds};
 
-use crate::name_table::NameTable;
-use crate::opening::section_of;
-use crate::{build_ids, values};
+mod build_ids;
+mod parse;
+
+use crate::attributes::name_table::NameTable;
+use crate::file::opening::feature_bytes;
 use indexmap::IndexMap;
 use perfdata_base::features::{Feature, FeatureSet};
 use perfdata_base::raw::Endianness;
@@ -28,67 +30,69 @@ use perfdata_parts::simpleperf::{
 use std::alloc::Global;
 use std::collections::HashMap;
 
-/// What a perf.data file or pipe says of itself beside its records. It has at least one attribute.
+/// The metadata of a perf.data file or pipe: everything but its records. It has at least one attribute.
 #[derive(Drop)]
 pub struct PerfFile {
     pub(crate) endian: Endianness,
     pub(crate) features: FeatureSet,
     pub(crate) sections: IndexMap<Feature, Vec<u8>>,
     pub(crate) attributes: Vec<AttributeDescription>,
-    // The table that gives all attributes the names that they have, where that is kept: of a file it isn't.
-    pub(crate) told: Option<NameTable>,
-    ghost some: { 0 < vec_len attributes },
-    ghost names: { KeepsNames told attributes.items },
-    ghost none: { KeepsEmpty told (data_in sections 12) },
-    ghost can: { KeepsRead told (data_in sections 12) },
-    ghost events: { KeepsEvents told (data_in sections 12) },
+    // The table that contains the names of all attributes, if it is kept. The table of a file isn't kept.
+    pub(crate) name_table: Option<NameTable>,
+    ghost nonempty: { 0 < vec_len attributes },
+    ghost names_match_table: { TableNamesAll name_table attributes.items },
+    ghost empty_without_event_desc: { TableEmptyWithoutEventDesc name_table (feature_data_of sections 12) },
+    ghost table_readable: { TableIsReadable name_table (feature_data_of sections 12) },
+    ghost table_events_match: { TableHasEvents name_table (feature_data_of sections 12) },
 }
 
 impl PerfFile {
-    ghost use Rattle.linux_perf_data.specs.PerfFile.{descriptions_of, features_of, order_of_file, data_of};
+    ghost use Rattle.linux_perf_data.specs.PerfFile.{descriptions_of_file, features_of_file, endian_of_file, feature_data_in_file};
 
-    /// The attributes of the events that were recorded: at least one.
+    /// Returns the attributes of the recorded events. There is at least one.
     pub fn event_attributes(&self) -> &[AttributeDescription]
-        ensures are { result.now ≡ descriptions_of self.now }
+        ensures are { result.now ≡ descriptions_of_file self.now }
         ensures some { 0 < length result.now }
     {
         self.attributes.as_slice()
     }
 
-    /// The features that the file declares, or that came in the pipe so far, below 256.
+    /// Returns the features that the file declares, or that were read from the pipe so far. All are below 256.
     pub fn features(&self) -> FeatureSet
-        ensures { result ≡ features_of self.now }
+        ensures { result ≡ features_of_file self.now }
     {
         self.features
     }
 
-    /// The order of the file's numbers.
+    /// Returns the byte order of the file.
     pub fn endian(&self) -> Endianness
-        ensures { result ≡ order_of_file self.now }
+        ensures { result ≡ endian_of_file self.now }
     {
         self.endian
     }
 
-    /// The bytes of a feature's section, in a pipe those that came last; none where the feature isn't there.
+    /// Returns the bytes of a feature's section, or `None` if the feature isn't present.
+    ///
+    /// In a pipe they are the bytes of the last record with this feature so far.
     pub fn feature_section_data(&self, feature: Feature) -> Option<&[u8]>
-        ensures { option_map (λ s. s.now) result ≡ data_of self.now feature.0 }
+        ensures { option_map (λ s. s.now) result ≡ feature_data_in_file self.now feature.0 }
     {
-        section_of(&self.sections, feature)
+        feature_bytes(&self.sections, feature)
     }
 
-    /// Whether the file was written by `perf stat`.
+    /// Returns whether `perf stat` wrote the file, which is whether the file has the feature STAT.
     pub fn is_stats(&self) -> bool
-        ensures { IsTrue result ↔ HasFeature (features_of self.now) 19 }
+        ensures { IsTrue result ↔ HasFeature (features_of_file self.now) 19 }
     {
         FeatureSet::has_feature(&self.features, Feature::STAT)
     }
 
-    // The text in a string's section.
-    fn text(&self, feature: Feature) -> Result<Option<&str>, Error>
-        ensures { TellsOf (TellsText (order_of_file self.now)) (data_of self.now feature.0) result }
+    // The text of a section that contains one string.
+    fn string_of(&self, feature: Feature) -> Result<Option<&str>, Error>
+        ensures { AnswersOf (ParsesStringSection (endian_of_file self.now)) (feature_data_in_file self.now feature.0) result }
     {
         match self.feature_section_data(feature) {
-            Some(bytes) => match values::text(self.endian, bytes) {
+            Some(bytes) => match parse::parse_string(self.endian, bytes) {
                 Ok(text) => Ok(Some(text)),
                 Err(error) => Err(error),
             },
@@ -96,12 +100,12 @@ impl PerfFile {
         }
     }
 
-    // The number in a number's section.
-    fn number(&self, feature: Feature) -> Result<Option<u64>, Error>
-        ensures { TellsOf (TellsNumber (order_of_file self.now)) (data_of self.now feature.0) result }
+    // The number of a section that contains one u64.
+    fn number_of_feature(&self, feature: Feature) -> Result<Option<u64>, Error>
+        ensures { AnswersOf (ParsesU64 (endian_of_file self.now)) (feature_data_in_file self.now feature.0) result }
     {
         match self.feature_section_data(feature) {
-            Some(bytes) => match values::number(self.endian, bytes) {
+            Some(bytes) => match parse::parse_u64(self.endian, bytes) {
                 Ok(number) => Ok(Some(number)),
                 Err(error) => Err(error),
             },
@@ -109,61 +113,75 @@ impl PerfFile {
         }
     }
 
-    /// The name of the machine (section HOSTNAME), as `uname -n` prints it.
+    /// Returns the name of the machine (section HOSTNAME), as `uname -n` prints it.
     ///
-    /// A string's section holds a length of four bytes and so many bytes, of which those before the first NUL are the
-    /// text. `NotEnoughSpaceForStringLen` where there are fewer than four bytes, `StringLengthTooLong` where they end
-    /// before the length says, `StringUtf8` where the text isn't UTF-8.
+    /// A section with a string contains a length of four bytes, and then that many bytes. The text is the bytes before the
+    /// first NUL.
+    ///
+    /// Fails with `NotEnoughSpaceForStringLen` if there are fewer than four bytes, with `StringLengthTooLong` if fewer bytes
+    /// than the length follow, and with `StringUtf8` if the text isn't UTF-8.
     pub fn hostname(&self) -> Result<Option<&str>, Error>
-        ensures { TellsOf (TellsText (order_of_file self.now)) (data_of self.now hostname) result }
+        ensures { AnswersOf (ParsesStringSection (endian_of_file self.now)) (feature_data_in_file self.now hostname) result }
     {
-        self.text(Feature::HOSTNAME)
+        self.string_of(Feature::HOSTNAME)
     }
 
-    /// The release of the system (section OSRELEASE), as `uname -r` prints it. Refusals are those of `hostname`.
-    pub fn os_release(&self) -> Result<Option<&str>, Error>
-        ensures { TellsOf (TellsText (order_of_file self.now)) (data_of self.now os_release) result }
-    {
-        self.text(Feature::OSRELEASE)
-    }
-
-    /// The version of the tool that recorded (section VERSION). Refusals are those of `hostname`.
-    pub fn perf_version(&self) -> Result<Option<&str>, Error>
-        ensures { TellsOf (TellsText (order_of_file self.now)) (data_of self.now version) result }
-    {
-        self.text(Feature::VERSION)
-    }
-
-    /// The processor's architecture (section ARCH), as `uname -m` prints it. Refusals are those of `hostname`.
-    pub fn arch(&self) -> Result<Option<&str>, Error>
-        ensures { TellsOf (TellsText (order_of_file self.now)) (data_of self.now arch) result }
-    {
-        self.text(Feature::ARCH)
-    }
-
-    /// The processor's description (section CPUDESC). Refusals are those of `hostname`.
-    pub fn cpu_desc(&self) -> Result<Option<&str>, Error>
-        ensures { TellsOf (TellsText (order_of_file self.now)) (data_of self.now cpu_desc) result }
-    {
-        self.text(Feature::CPUDESC)
-    }
-
-    /// The processor's identifier (section CPUID). Refusals are those of `hostname`.
-    pub fn cpu_id(&self) -> Result<Option<&str>, Error>
-        ensures { TellsOf (TellsText (order_of_file self.now)) (data_of self.now cpuid) result }
-    {
-        self.text(Feature::CPUID)
-    }
-
-    /// The words of the command line that recorded (section CMDLINE): their number in four bytes, and a string for each.
+    /// Returns the release of the system (section OSRELEASE), as `uname -r` prints it.
     ///
-    /// `NotEnoughSpaceForStringListLen` where there are fewer than four bytes, and for a string the refusals of
-    /// `hostname`. `Memory` where memory runs out.
+    /// The errors are those of `hostname`.
+    pub fn os_release(&self) -> Result<Option<&str>, Error>
+        ensures { AnswersOf (ParsesStringSection (endian_of_file self.now)) (feature_data_in_file self.now os_release) result }
+    {
+        self.string_of(Feature::OSRELEASE)
+    }
+
+    /// Returns the version of the recording tool (section VERSION).
+    ///
+    /// The errors are those of `hostname`.
+    pub fn perf_version(&self) -> Result<Option<&str>, Error>
+        ensures { AnswersOf (ParsesStringSection (endian_of_file self.now)) (feature_data_in_file self.now version) result }
+    {
+        self.string_of(Feature::VERSION)
+    }
+
+    /// Returns the architecture of the processor (section ARCH), as `uname -m` prints it.
+    ///
+    /// The errors are those of `hostname`.
+    pub fn arch(&self) -> Result<Option<&str>, Error>
+        ensures { AnswersOf (ParsesStringSection (endian_of_file self.now)) (feature_data_in_file self.now arch) result }
+    {
+        self.string_of(Feature::ARCH)
+    }
+
+    /// Returns the description of the processor (section CPUDESC).
+    ///
+    /// The errors are those of `hostname`.
+    pub fn cpu_desc(&self) -> Result<Option<&str>, Error>
+        ensures { AnswersOf (ParsesStringSection (endian_of_file self.now)) (feature_data_in_file self.now cpu_desc) result }
+    {
+        self.string_of(Feature::CPUDESC)
+    }
+
+    /// Returns the identifier of the processor (section CPUID).
+    ///
+    /// The errors are those of `hostname`.
+    pub fn cpu_id(&self) -> Result<Option<&str>, Error>
+        ensures { AnswersOf (ParsesStringSection (endian_of_file self.now)) (feature_data_in_file self.now cpuid) result }
+    {
+        self.string_of(Feature::CPUID)
+    }
+
+    /// Returns the command-line arguments of the recording tool (section CMDLINE).
+    ///
+    /// The section contains the number of arguments in four bytes, and a string for each.
+    ///
+    /// Fails with `NotEnoughSpaceForStringListLen` if there are fewer than four bytes, with the errors of `hostname` for a
+    /// string, and with `Memory` if memory runs out.
     pub fn cmdline(&self, alloc: Global) -> Result<Option<Vec<&str>>, Error>
-        ensures { TellsOf (TellsTexts (order_of_file self.now)) (data_of self.now cmd_line) result }
+        ensures { AnswersOf (ParsesStringList (endian_of_file self.now)) (feature_data_in_file self.now cmd_line) result }
     {
         match self.feature_section_data(Feature::CMDLINE) {
-            Some(bytes) => match values::texts(alloc, self.endian, bytes) {
+            Some(bytes) => match parse::parse_string_list(alloc, self.endian, bytes) {
                 Ok(words) => Ok(Some(words)),
                 Err(error) => Err(error),
             },
@@ -171,32 +189,32 @@ impl PerfFile {
         }
     }
 
-    /// How much memory the machine has, in units of 1,024 bytes (section TOTAL_MEM, of eight bytes).
+    /// Returns the memory size of the machine in units of 1,024 bytes (section TOTAL_MEM, of eight bytes).
     ///
-    /// `FeatureSectionTooSmall` where there are fewer.
+    /// Fails with `FeatureSectionTooSmall` if there are fewer bytes.
     pub fn total_mem(&self) -> Result<Option<u64>, Error>
-        ensures { TellsOf (TellsNumber (order_of_file self.now)) (data_of self.now total_mem) result }
+        ensures { AnswersOf (ParsesU64 (endian_of_file self.now)) (feature_data_in_file self.now total_mem) result }
     {
-        self.number(Feature::TOTAL_MEM)
+        self.number_of_feature(Feature::TOTAL_MEM)
     }
 
-    /// How many nanoseconds a tick of the clock takes that times were taken from (section CLOCKID, of eight bytes).
+    /// Returns the duration of a tick of the timestamps' clock in nanoseconds (section CLOCKID, of eight bytes).
     ///
-    /// `FeatureSectionTooSmall` where there are fewer.
+    /// Fails with `FeatureSectionTooSmall` if there are fewer bytes.
     pub fn clock_frequency(&self) -> Result<Option<u64>, Error>
-        ensures { TellsOf (TellsNumber (order_of_file self.now)) (data_of self.now clock_id) result }
+        ensures { AnswersOf (ParsesU64 (endian_of_file self.now)) (feature_data_in_file self.now clock_id) result }
     {
-        self.number(Feature::CLOCKID)
+        self.number_of_feature(Feature::CLOCKID)
     }
 
-    /// How many processors the machine has (section NRCPUS).
+    /// Returns the number of processors of the machine (section NRCPUS).
     ///
-    /// An `IoError` of kind `UnexpectedEof` where there are fewer than 8 bytes.
+    /// Fails with an `IoError` of kind `UnexpectedEof` if there are fewer than 8 bytes.
     pub fn nr_cpus(&self) -> Result<Option<NrCpus>, Error>
-        ensures { TellsOf (TellsCpus (order_of_file self.now)) (data_of self.now nr_cpus) result }
+        ensures { AnswersOf (ParsesNrCpus (endian_of_file self.now)) (feature_data_in_file self.now nr_cpus) result }
     {
         match self.feature_section_data(Feature::NRCPUS) {
-            Some(bytes) => match values::nr_cpus(self.endian, bytes) {
+            Some(bytes) => match parse::parse_nr_cpus(self.endian, bytes) {
                 Ok(cpus) => Ok(Some(cpus)),
                 Err(error) => Err(error),
             },
@@ -204,14 +222,14 @@ impl PerfFile {
         }
     }
 
-    /// The times of the first and of the last sample (section SAMPLE_TIME).
+    /// Returns the times of the first and of the last sample (section SAMPLE_TIME).
     ///
-    /// An `IoError` of kind `UnexpectedEof` where there are fewer than 16 bytes.
+    /// Fails with an `IoError` of kind `UnexpectedEof` if there are fewer than 16 bytes.
     pub fn sample_time_range(&self) -> Result<Option<SampleTimeRange>, Error>
-        ensures { TellsOf (TellsTimes (order_of_file self.now)) (data_of self.now sample_time) result }
+        ensures { AnswersOf (ParsesSampleTimes (endian_of_file self.now)) (feature_data_in_file self.now sample_time) result }
     {
         match self.feature_section_data(Feature::SAMPLE_TIME) {
-            Some(bytes) => match values::sample_times(self.endian, bytes) {
+            Some(bytes) => match parse::parse_sample_times(self.endian, bytes) {
                 Ok(times) => Ok(Some(times)),
                 Err(error) => Err(error),
             },
@@ -219,15 +237,15 @@ impl PerfFile {
         }
     }
 
-    /// The clock that times were taken from, and what it showed at a time of the wall clock (section CLOCK_DATA).
+    /// Returns the clock of the timestamps, and its time at a time of the wall clock (section CLOCK_DATA).
     ///
-    /// An `IoError` of kind `InvalidData` where its version isn't 1, and of kind `UnexpectedEof` where there are fewer
+    /// Fails with an `IoError` of kind `InvalidData` if the version isn't 1, and of kind `UnexpectedEof` if there are fewer
     /// than 24 bytes.
     pub fn clock_data(&self) -> Result<Option<ClockData>, Error>
-        ensures { TellsOf (TellsClock (order_of_file self.now)) (data_of self.now clock_data) result }
+        ensures { AnswersOf (ParsesClockData (endian_of_file self.now)) (feature_data_in_file self.now clock_data) result }
     {
         match self.feature_section_data(Feature::CLOCK_DATA) {
-            Some(bytes) => match values::clock(self.endian, bytes) {
+            Some(bytes) => match parse::parse_clock_data(self.endian, bytes) {
                 Ok(clock) => Ok(Some(clock)),
                 Err(error) => Err(error),
             },
@@ -235,14 +253,14 @@ impl PerfFile {
         }
     }
 
-    /// How records were compressed (section COMPRESSED).
+    /// Returns how records are compressed (section COMPRESSED).
     ///
-    /// An `IoError` of kind `UnexpectedEof` where there are fewer than 20 bytes.
+    /// Fails with an `IoError` of kind `UnexpectedEof` if there are fewer than 20 bytes.
     pub fn compression_info(&self) -> Result<Option<CompressionInfo>, Error>
-        ensures { TellsOf (TellsCompression (order_of_file self.now)) (data_of self.now compressed) result }
+        ensures { AnswersOf (ParsesCompression (endian_of_file self.now)) (feature_data_in_file self.now compressed) result }
     {
         match self.feature_section_data(Feature::COMPRESSED) {
-            Some(bytes) => match values::compression(self.endian, bytes) {
+            Some(bytes) => match parse::parse_compression(self.endian, bytes) {
                 Ok(compression) => Ok(Some(compression)),
                 Err(error) => Err(error),
             },
@@ -250,14 +268,14 @@ impl PerfFile {
         }
     }
 
-    /// The names of the performance monitoring units (section PMU_MAPPINGS).
+    /// Returns the names of the performance monitoring units (section PMU_MAPPINGS).
     ///
-    /// An `IoError` of kind `UnexpectedEof` where the bytes end early, and `Memory` where memory runs out.
+    /// Fails with an `IoError` of kind `UnexpectedEof` if the section is truncated, and with `Memory` if memory runs out.
     pub fn pmu_mappings(&self, alloc: Global) -> Result<Option<PmuMappings>, Error>
-        ensures { TellsOf (TellsUnits (order_of_file self.now)) (data_of self.now pmu_mappings) result }
+        ensures { AnswersOf (ParsesPmuMappings (endian_of_file self.now)) (feature_data_in_file self.now pmu_mappings) result }
     {
         match self.feature_section_data(Feature::PMU_MAPPINGS) {
-            Some(bytes) => match values::units(alloc, self.endian, bytes) {
+            Some(bytes) => match parse::parse_pmu_mappings(alloc, self.endian, bytes) {
                 Ok(units) => Ok(Some(units)),
                 Err(error) => Err(error),
             },
@@ -265,25 +283,26 @@ impl PerfFile {
         }
     }
 
-    /// The build ids of mapped objects by their keys (section BUILD_ID): for each key the path and the build id of the
-    /// last entry with that key, and none where the file doesn't have the section.
+    /// Returns the build ids of mapped objects by their keys (section BUILD_ID).
     ///
-    /// The section is read up to the first entry that isn't there whole; an entry whose path has no key is passed over.
-    /// `Memory` where memory runs out.
+    /// Each key maps to the path and the build id of the last entry with that key. The map is empty if the file doesn't have
+    /// the section. The section is read up to the first truncated entry. An entry whose path has no key is skipped.
+    ///
+    /// Fails with `Memory` if memory runs out.
     pub fn build_ids(&self, alloc: Global) -> Result<HashMap<DsoKey, DsoInfo>, Error>
-        ensures { TellsBuildIds (order_of_file self.now) (data_of self.now build_id) result }
+        ensures { AnswersBuildIds (endian_of_file self.now) (feature_data_in_file self.now build_id) result }
     {
         match self.feature_section_data(Feature::BUILD_ID) {
-            Some(bytes) => build_ids::build_ids(alloc, self.endian, bytes),
+            Some(bytes) => build_ids::parse_build_ids(alloc, self.endian, bytes),
             None => Ok(HashMap::new(alloc)),
         }
     }
 
-    /// What simpleperf says of the recording, by keys (section SIMPLEPERF_META_INFO), as `parse_meta_info_map` reads it.
+    /// Returns simpleperf's meta info on the recording by key (section SIMPLEPERF_META_INFO), as `parse_meta_info_map` parses it.
     ///
-    /// `StringUtf8` where a key or a value isn't UTF-8, and `Memory` where memory runs out.
+    /// Fails with `StringUtf8` if a key or a value isn't UTF-8, and with `Memory` if memory runs out.
     pub fn simpleperf_meta_info(&self, alloc: Global) -> Result<Option<HashMap<&str, &str>>, Error>
-        ensures { TellsOf ParsesMetaInfo (data_of self.now simpleperf_meta_info) result }
+        ensures { AnswersOf ParsesMetaInfo (feature_data_in_file self.now simpleperf_meta_info) result }
     {
         match self.feature_section_data(Feature::SIMPLEPERF_META_INFO) {
             Some(bytes) => match parse_meta_info_map(alloc, bytes) {
@@ -294,13 +313,15 @@ impl PerfFile {
         }
     }
 
-    /// The files that simpleperf met, with their symbols (section SIMPLEPERF_FILE2, or SIMPLEPERF_FILE where that isn't
-    /// there). Refusals are those of `parse_file2_section` and `parse_file_section`.
+    /// Returns the files that simpleperf recorded, with their symbols.
+    ///
+    /// They are in the section SIMPLEPERF_FILE2, or in SIMPLEPERF_FILE if SIMPLEPERF_FILE2 isn't present. The errors are those
+    /// of `parse_file2_section` and `parse_file_section`.
     pub fn simpleperf_symbol_tables(
         &self,
         alloc: Global,
     ) -> Result<Option<Vec<SimpleperfFileRecord>>, Error>
-        ensures { TellsSymbolTables (order_of_file self.now) (data_of self.now simpleperf_file2) (data_of self.now simpleperf_file) result }
+        ensures { AnswersSymbolTables (endian_of_file self.now) (feature_data_in_file self.now simpleperf_file2) (feature_data_in_file self.now simpleperf_file) result }
     {
         if let Some(bytes) = self.feature_section_data(Feature::SIMPLEPERF_FILE2) {
             return match parse_file2_section(alloc, bytes, self.endian) {

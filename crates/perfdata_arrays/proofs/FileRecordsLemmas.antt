@@ -1,152 +1,152 @@
--- What a walk of a file's records comes to.
+-- Lemmas on a walk over a file's records.
 use Rattle.std.proofs.Common.{◌≡◌, ◌≢◌, ℕ, ◌^◌, ◌<◌, List, [], length, drop, refl, sym, ap, ◌∙◌, subst, arith, inl, inr, length-append, length-drop, None, Some, Result, Ok, Err}
 use Rattle.std.specs.Prelude.{IfSome, IsTrue}
 use Rattle.std.specs.declared.io.Error.{Error as IoErrorValue}
 use Rattle.std.proofs.Math.Seq.{drop-nil}
-use Rattle.perfdata_base.specs.Header.{Begins, RefusedHeader, TookHeader, header_of}
+use Rattle.perfdata_base.specs.Header.{BeginsWithFileHeader, FileHeaderParseError, FileHeaderParsed, file_header_of}
 use Rattle.perfdata_base.specs.Source.{State}
 use Rattle.perfdata_base.specs.declared.header.PerfHeader.{PerfHeader}
-use Rattle.perfdata_base.proofs.Cut.{none_or_paused, all_came}
+use Rattle.perfdata_base.proofs.ReadErrors.{none_or_paused, all_read}
 use Rattle.perfdata_sections.specs.declared.error.Error.{Error}
 use Rattle.perfdata_sections.specs.declared.error.Error.TheVariants.{IoError, Memory}
-use Rattle.linux_perf_data.specs.declared.iter.PerfRecordIter.{PerfRecordIter}
+use Rattle.linux_perf_data.specs.declared.records.iter.PerfRecordIter.{PerfRecordIter}
 use Rattle.linux_perf_data.specs.declared.perf_file.PerfFile.{PerfFile}
-use Rattle.linux_perf_data.specs.Layout.{Handed, End, faulty}
-use Rattle.linux_perf_data.specs.Open.{HasHeader, StopsFile, SourceOwesOpening}
-use Rattle.linux_perf_data.specs.Opened.{Describes, Opens, OpensFile, RecordsOf, RefusesFile}
-use Rattle.linux_perf_data.specs.PerfFile.{order_of_file, attributes_of_file}
-use Rattle.linux_perf_data.specs.Reading.{IsUnfailed, ReadSoFar}
-use Rattle.linux_perf_data.proofs.Readings.{file_so_far, file_to_fault, file_whole}
-use Rattle.perfdata_table.specs.Over.{over_from}
-use Rattle.perfdata_table.specs.Status.{status_by}
-use Rattle.perfdata_table.specs.Table.{FileTold, IsFileOf, at_start}
-use Rattle.perfdata_table.specs.Walk.{EndsWalk, HasRoom, Walks, end_status}
-use Rattle.perfdata_table.specs.declared.entry.Record.{Record}
-use Rattle.perfdata_table.specs.declared.records.Total.{Total}
-use Rattle.perfdata_table.specs.declared.records.Walked.{Walked}
-use Rattle.perfdata_table.proofs.Bodies.{bodies_first}
-use Rattle.perfdata_table.proofs.Starts.{front_in, take_front, near_end}
+use Rattle.linux_perf_data.specs.Layout.{RecordView, LayoutEnd, ends_with_error}
+use Rattle.linux_perf_data.specs.FileOpening.{HasHeader, IsFileError, SourceErrorInOpening}
+use Rattle.linux_perf_data.specs.OpenedFile.{DescribesFile, FileParsed, FileOpensAt, FileRecords, FileParseError}
+use Rattle.linux_perf_data.specs.PerfFile.{endian_of_file, attributes_of_file}
+use Rattle.linux_perf_data.specs.FileReading.{HasNotFailed, FilePartlyRead}
+use Rattle.linux_perf_data.proofs.FileReadings.{file_so_far, file_to_error, file_whole}
+use Rattle.perfdata_arrays.specs.Overwrites.{with_prefix_from}
+use Rattle.perfdata_arrays.specs.Status.{error_status}
+use Rattle.perfdata_arrays.specs.Records.{ReadsFileRecords, IsFileWithRecords, at_start}
+use Rattle.perfdata_arrays.specs.Walk.{WalkEnds, FitsAt, WalksRecords, walk_status}
+use Rattle.perfdata_arrays.specs.declared.record.Record.{Record}
+use Rattle.perfdata_arrays.specs.declared.records.RecordsResult.{RecordsResult}
+use Rattle.perfdata_arrays.specs.declared.records.WalkResult.{WalkResult}
+use Rattle.perfdata_arrays.proofs.BodyOffsets.{has_bodies-first}
+use Rattle.perfdata_arrays.proofs.PrefixLemmas.{prefix-split, take-prefix, end_fits}
 
--- a steady source owes no refusal of an opening
-pub owes_no_opening : (old left : State) (e : Error) → IsTrue old.steady → SourceOwesOpening old e left → ⊥
-owes_no_opening old left e steady (inl (is, failed)) = failed.unsteady steady
-owes_no_opening old left e steady (inr (inl (is, paused))) = paused.unsteady steady
-owes_no_opening old left e steady (inr (inr (is, inl failed))) = failed.unsteady steady
-owes_no_opening old left e steady (inr (inr (is, inr paused))) = paused.unsteady steady
+-- an infallible source has no source error in an opening
+pub steady_source_owes_nothing : (old left : State) (e : Error) → IsTrue old.steady → SourceErrorInOpening old e left → ⊥
+steady_source_owes_nothing old left e steady (inl (is, failed)) = failed.not_steady steady
+steady_source_owes_nothing old left e steady (inr (inl (is, paused))) = paused.not_steady steady
+steady_source_owes_nothing old left e steady (inr (inr (is, inl failed))) = failed.not_steady steady
+steady_source_owes_nothing old left e steady (inr (inr (is, inr paused))) = paused.not_steady steady
 
 module _ (bytes : List ℕ) (old : State) (told : old.bytes ≡ Some bytes) (steady : IsTrue old.steady) where
-  -- a header that was read is that of the bytes
-  begun : (h : PerfHeader) → Begins old h → HasHeader (at_start bytes) h
-  begun h b =
-      let cut = front_in b.rest bytes b.bytes (sym told ∙ b.came) in
-      let long = b.long in
+  -- a parsed header is the header of the bytes
+  has_header : (h : PerfHeader) → BeginsWithFileHeader old h → HasHeader (at_start bytes) h
+  has_header h b =
+      let cut = prefix-split b.rest bytes b.bytes (sym told ∙ b.prefix_of_remaining) in
+      let long = b.exact_len in
       record {
-        there = omega (arith, ap length cut.1, length-append b.bytes cut.0, long);
-        is = b.is ∙ ap header_of (sym (take_front bytes b.bytes cut.0 104 cut.1 b.long));
+        complete = omega (arith, ap length cut.1, length-append b.bytes cut.0, long);
+        matches = b.matches ∙ ap file_header_of (sym (take-prefix bytes b.bytes cut.0 104 cut.1 b.exact_len));
       }
 
-  -- a header that wasn't read isn't there
-  pub header_stops : (e : IoErrorValue) (left : State) → RefusedHeader old e left → StopsFile (at_start bytes) (IoError e)
-  header_stops e left refused = elim refused.why [
-    | inl cut ↦ elim cut.why [
+  -- if parsing the header fails, the bytes contain none
+  pub header_error : (e : IoErrorValue) (left : State) → FileHeaderParseError old e left → IsFileError (at_start bytes) (IoError e)
+  header_error e left refused = elim refused.cause [
+    | inl cut ↦ elim cut.cause [
       | inl short ↦ elim (none_or_paused old left short.1) [
         | inl end ↦
-            let all : Some bytes ≡ Some cut.part = sym told ∙ all_came old left cut.part cut.gave end in
-            let same : bytes ≡ cut.part = ap (λ s. elim s [ None ↦ [] | Some x ↦ x ]) all in
-            let less = cut.less in
+            let all : Some bytes ≡ Some cut.consumed_bytes = sym told ∙ all_read old left cut.consumed_bytes cut.consumes end in
+            let same : bytes ≡ cut.consumed_bytes = ap (λ s. elim s [ None ↦ [] | Some x ↦ x ]) all in
+            let less = cut.too_few in
             inl (short.0, omega (arith, ap length same, less))
-        | inr paused ↦ absurd (paused.unsteady steady)
+        | inr paused ↦ absurd (paused.not_steady steady)
       ]
-      | inr failed ↦ absurd (failed.unsteady steady)
+      | inr failed ↦ absurd (failed.not_steady steady)
     ]
-    | inr extra ↦ elim extra.why [
-      | inl far ↦ inr (inl (extra.header, begun extra.header extra.begins, (far.0, far.1)))
-      | inr failed ↦ absurd (failed.1.unsteady steady)
+    | inr extra ↦ elim extra.cause [
+      | inl far ↦ inr (inl (extra.header, has_header extra.header extra.file_header, (far.0, far.1)))
+      | inr failed ↦ absurd (failed.1.not_steady steady)
     ]
   ]
 
-  module _ (place : old.place ≡ Some (at_start bytes)) where
-    -- what a file is refused for stands in it
-    pub file_stops : (e : Error) → RefusesFile old e → e ≢ Memory → StopsFile (at_start bytes) e
-    file_stops e refused other = elim (refused.why other) [
-      | inl stops ↦ subst (λ o. IfSome o (λ p. StopsFile p e)) place stops
-      | inr owes ↦ absurd (owes_no_opening old refused.left e steady owes)
+  module _ (place : old.position ≡ Some (at_start bytes)) where
+    -- an error in opening a file is an error of its bytes
+    pub file_open_error : (e : Error) → FileParseError old e → e ≢ Memory → IsFileError (at_start bytes) e
+    file_open_error e refused other = elim (refused.cause other) [
+      | inl stops ↦ subst (λ o. IfSome o (λ p. IsFileError p e)) place stops
+      | inr owes ↦ absurd (steady_source_owes_nothing old refused.final_state e steady owes)
     ]
 
-    pub none_told : (first : ℕ) (entries : List Record) (e : Error) (total : Total) → total.records ≡ 0 → total.status ≡ status_by e → (e ≢ Memory → StopsFile (at_start bytes) e) → FileTold bytes first entries total entries
-    none_told first entries e total none is why = record {
+    pub no_records_written : (first : ℕ) (entries : List Record) (e : Error) (total : RecordsResult) → total.count ≡ 0 → total.status ≡ error_status e → (e ≢ Memory → IsFileError (at_start bytes) e) → ReadsFileRecords bytes first entries total entries
+    no_records_written first entries e total none is why = record {
       records = [];
       base = 0;
-      tells = record { count = none; written = ap (λ l. over_from 0 l entries) (sym (drop-nil first)); bodies = tt };
+      writes = record { count = none; written = ap (λ l. with_prefix_from 0 l entries) (sym (drop-nil first)); body_bytes_at = tt };
       ends = inl (refl, (e, is, why));
     }
 
-    module _ {R : Type 0} (seen : R → State) (file : PerfFile) (it : PerfRecordIter R) (opened : Opens seen old file it) (header : PerfHeader) (left : State) (took : TookHeader old header left) where
-      -- the one header that the file has
-      same_header : (other : PerfHeader) → Describes (at_start bytes) other file → other ≡ header
-      same_header other describes = describes.is.has.is ∙ sym (begun header took.begins).is
+    module _ {R : Type 0} (state : R → State) (file : PerfFile) (it : PerfRecordIter R) (opened : FileParsed state old file it) (header : PerfHeader) (left : State) (took : FileHeaderParsed old header left) where
+      -- the header of a file is unique
+      same_header : (other : PerfHeader) → DescribesFile (at_start bytes) other file → other ≡ header
+      same_header other describes = describes.matches.has_header.matches ∙ sym (has_header header took.file_header).matches
 
-      opens : OpensFile seen (at_start bytes) file it
-      opens = subst (λ q. IfSome q (λ p. OpensFile seen p file it)) place opened.opened
+      opens : FileOpensAt state (at_start bytes) file it
+      opens = subst (λ q. IfSome q (λ p. FileOpensAt state p file it)) place opened.file_opened
 
-      -- the walk has room
-      pub room_in_file : length bytes < 2 ^ 64 → HasRoom seen it header.data_section.offset
-      room_in_file few =
+      -- the offsets of the walk fit in 64 bits
+      pub fits_in_file : length bytes < 2 ^ 64 → FitsAt state it header.data_section.offset
+      fits_in_file few =
           let base = header.data_section.offset in
           let same = same_header opens.header opens.describes in
-          let near = opens.describes.near in
+          let near = opens.describes.end_fits in
           let at : opens.header.data_section.offset ≡ base = ap (λ h. h.data_section.offset) same in
           record {
             bytes = drop base bytes;
-            told = opens.bytes ∙ ap (λ n. Some (drop n bytes)) at;
-            near = (let long = length-drop base bytes in let fits = near_end base (length bytes) (omega (arith, near, at)) few in omega (arith, long, fits));
-            start = opened.first.offset;
+            bytes_known = opens.bytes ∙ ap (λ n. Some (drop n bytes)) at;
+            fits = (let long = length-drop base bytes in let fits = end_fits base (length bytes) (omega (arith, near, at)) few in omega (arith, long, fits));
+            at_first_record = opened.at_first_record.offset;
           }
 
-      pub unfailed_file : IsUnfailed it
-      unfailed_file = record { stage = inl opened.first.runs; fits = (let start = opened.first.offset in omega (arith, start)) }
+      pub file_not_failed : HasNotFailed it
+      file_not_failed = record { stage = inl opened.at_first_record.stage_running; offset_fits = (let start = opened.at_first_record.offset in omega (arith, start)) }
 
-      module _ (base first : ℕ) (is : base ≡ header.data_section.offset) (before after : List Record) (walked : Walked) (new : PerfRecordIter R) (file' : PerfFile) (w : Walks seen it file base first before walked new file' after) where
-        Come : PerfHeader → List Handed → End → Type 0
-        Come h = RecordsOf (at_start bytes) (order_of_file file) h (attributes_of_file file)
+      module _ (base first : ℕ) (is : base ≡ header.data_section.offset) (before after : List Record) (walked : WalkResult) (new : PerfRecordIter R) (file' : PerfFile) (w : WalksRecords state it file base first before walked new file' after) where
+        Come : PerfHeader → List RecordView → LayoutEnd → Type 0
+        Come h = FileRecords (at_start bytes) (endian_of_file file) h (attributes_of_file file)
 
-        so_far : ReadSoFar (at_start bytes) file w.records (seen w.now.source).bytes
-        so_far = (file_so_far seen (at_start bytes) old file w.now_file it w.now w.records place opened w.all).0
+        so_far : FilePartlyRead (at_start bytes) file w.records (state w.iter_at_end.source).bytes
+        so_far = (file_so_far state (at_start bytes) old file w.file_at_end it w.iter_at_end w.records place opened w.returned).0
 
-        base_is : (h : PerfHeader) → Describes (at_start bytes) h file → base ≡ h.data_section.offset
+        base_is : (h : PerfHeader) → DescribesFile (at_start bytes) h file → base ≡ h.data_section.offset
         base_is h describes = is ∙ ap (λ k. k.data_section.offset) (sym (same_header h describes))
 
-        ended : {A : Type 0} (end : Result A Error) → EndsWalk seen w.now w.now_file end new file' → IsFileOf bytes base w.records (end_status end)
+        ended : {A : Type 0} (end : Result A Error) → WalkEnds state w.iter_at_end w.file_at_end end new file' → IsFileWithRecords bytes base w.records (walk_status end)
         ended (Ok _) at =
-            let all = (file_whole seen (at_start bytes) old file w.now_file file' it w.now new w.records place opened w.all at).0 in
-            record { file = file; header = all.header; describes = all.describes; stands = base_is all.header all.describes; ends = inl (refl, all.all) }
+            let all = (file_whole state (at_start bytes) old file w.file_at_end file' it w.iter_at_end new w.records place opened w.returned at).0 in
+            record { file = file; header = all.header; describes = all.describes; first_record_at = base_is all.header all.describes; ends = inl (refl, all.all_records) }
         ended (Err e) refused = record {
           file = file;
           header = so_far.header;
           describes = so_far.describes;
-          stands = base_is so_far.header so_far.describes;
+          first_record_at = base_is so_far.header so_far.describes;
           ends = inr (
-            so_far.first,
+            so_far.first_records,
             (
               e,
               refl,
               λ other.
-                  let fault = (file_to_fault seen (at_start bytes) old file w.now_file file' it w.now new w.records e place steady opened w.all refused other).0 in
+                  let fault = (file_to_error state (at_start bytes) old file w.file_at_end file' it w.iter_at_end new w.records e place steady opened w.returned refused other).0 in
                   let same = same_header fault.header fault.describes ∙ sym (same_header so_far.header so_far.describes) in
-                  (fault.fault, subst (λ h. RecordsOf (at_start bytes) (order_of_file file) h (attributes_of_file file) w.records (faulty fault.fault)) same fault.all, fault.answers),
+                  (fault.layout_error, subst (λ h. FileRecords (at_start bytes) (endian_of_file file) h (attributes_of_file file) w.records (ends_with_error fault.layout_error)) same fault.all_records, fault.error_matches),
             ),
           );
         }
 
-        pub file_told : (total : Total) → total.records ≡ walked.records → total.status ≡ end_status walked.end → FileTold bytes first before total after
-        file_told total count status = record {
+        pub reads_file_records : (total : RecordsResult) → total.count ≡ walked.count → total.status ≡ walk_status walked.end → ReadsFileRecords bytes first before total after
+        reads_file_records total count status = record {
           records = w.records;
           base = base;
-          tells = record {
+          writes = record {
             count = count ∙ w.count;
             written = w.written;
-            bodies = bodies_first (order_of_file file) (Some so_far.header.data_section.size) bytes base (drop so_far.header.data_section.offset bytes) (attributes_of_file file) w.records
-                (ap (λ n. drop n bytes) (base_is so_far.header so_far.describes)) so_far.first;
+            body_bytes_at = has_bodies-first (endian_of_file file) (Some so_far.header.data_section.size) bytes base (drop so_far.header.data_section.offset bytes) (attributes_of_file file) w.records
+                (ap (λ n. drop n bytes) (base_is so_far.header so_far.describes)) so_far.first_records;
           };
-          ends = inr (subst (IsFileOf bytes base w.records) (sym status) (ended walked.end w.ends));
+          ends = inr (subst (IsFileWithRecords bytes base w.records) (sym status) (ended walked.end w.ends));
         }

@@ -1,11 +1,11 @@
--- What answers cite.
-pub mod Overs
-pub mod Bodies
-pub mod Starts
-pub mod FileTables
-pub mod PipeTables
-pub mod OpeningLengths
-pub mod JitTables
-pub mod FeatureTables
-pub mod AttributeTables
-pub mod BuildIdTables
+-- The modules that proofs of goals use.
+pub mod OverwriteLemmas
+pub mod BodyOffsets
+pub mod PrefixLemmas
+pub mod FileRecordsLemmas
+pub mod PipeRecordsLemmas
+pub mod OpeningSizes
+pub mod JitLemmas
+pub mod FeaturesLemmas
+pub mod AttrsLemmas
+pub mod BuildIdsLemmas

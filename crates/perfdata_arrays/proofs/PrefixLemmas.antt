@@ -1,52 +1,52 @@
--- What a walk needs to begin, and how its overflow is excluded.
+-- The preconditions of a walk, and why its offsets don't overflow.
 use Rattle.std.proofs.Common.{◌≡◌, ℕ, ◌+◌, ◌-◌, ◌^◌, ◌<◌, ◌≤◌, ◌++◌, List, [], ◌∷◌, length, take, refl, sym, ap, ◌∙◌, arith, length-append, Option, None, Some, inl, inr}
 use Rattle.std.proofs.Math.Seq.{take-append_seam}
 use Rattle.perfdata_base.specs.Source.{State, prepend}
-use Rattle.linux_perf_data.specs.declared.iter.PerfRecordIter.{PerfRecordIter}
-use Rattle.linux_perf_data.specs.declared.iter.Stage.TheVariants.{Running}
+use Rattle.linux_perf_data.specs.declared.records.iter.PerfRecordIter.{PerfRecordIter}
+use Rattle.linux_perf_data.specs.declared.records.iter.Stage.TheVariants.{Running}
 use Rattle.linux_perf_data.specs.declared.perf_file.PerfFile.{PerfFile}
 use Rattle.perfdata_records.specs.declared.record.PerfFileRecord.{PerfFileRecord}
 use Rattle.perfdata_records.specs.declared.record.PerfFileRecord.TheVariants.{EventRecord, UserRecord}
-use Rattle.linux_perf_data.specs.declared.iter.RecordPlace.{RecordPlace}
-use Rattle.linux_perf_data.specs.Iter.{HandsOut, handed_of, view}
-use Rattle.linux_perf_data.specs.Layout.{Handed}
-use Rattle.linux_perf_data.specs.Reading.{HandsOutAll, IsUnfailed}
-use Rattle.linux_perf_data.proofs.Readings.{came_of, hands_out_more, none_of}
-use Rattle.perfdata_table.specs.Walk.{HasRoomToRun}
+use Rattle.linux_perf_data.specs.declared.records.iter.RecordPlace.{RecordPlace}
+use Rattle.linux_perf_data.specs.Iter.{ReturnsRecord, record_view_of, iter_source_state}
+use Rattle.linux_perf_data.specs.Layout.{RecordView}
+use Rattle.linux_perf_data.specs.FileReading.{ReturnsRecords, HasNotFailed}
+use Rattle.linux_perf_data.proofs.FileReadings.{consumed_of, returns_records_more, none_of}
+use Rattle.perfdata_arrays.specs.Walk.{FitsAtIfRunning}
 
--- what came stood at the front
-pub front_in : (o : Option (List ℕ)) (all front : List ℕ) → Some all ≡ prepend front o → (rest : List ℕ) × (all ≡ front ++ rest)
-front_in None all front came = cc
-front_in (Some rest) all front came = (rest, cc)
+-- the consumed bytes are a prefix
+pub prefix-split : (o : Option (List ℕ)) (all front : List ℕ) → Some all ≡ prepend front o → (rest : List ℕ) × (all ≡ front ++ rest)
+prefix-split None all front came = cc
+prefix-split (Some rest) all front came = (rest, cc)
 
-pub front_within : (o : Option (List ℕ)) (all front : List ℕ) → Some all ≡ prepend front o → length front ≤ length all
-front_within o all front came = (let cut = front_in o all front came in omega (arith, ap length cut.1, length-append front cut.0))
+pub length-prefix : (o : Option (List ℕ)) (all front : List ℕ) → Some all ≡ prepend front o → length front ≤ length all
+length-prefix o all front came = (let cut = prefix-split o all front came in omega (arith, ap length cut.1, length-append front cut.0))
 
-pub take_front : (all front rest : List ℕ) (n : ℕ) → all ≡ front ++ rest → length front ≡ n → take n all ≡ front
-take_front all front rest n is long = ap (take n) is ∙ ap (λ k. take k (front ++ rest)) (sym long) ∙ take-append_seam front rest
+pub take-prefix : (all front rest : List ℕ) (n : ℕ) → all ≡ front ++ rest → length front ≡ n → take n all ≡ front
+take-prefix all front rest n is long = ap (take n) is ∙ ap (λ k. take k (front ++ rest)) (sym long) ∙ take-append_seam front rest
 
--- how far the records behind a place are from the end of 64 bits
-pub near_end : (base size : ℕ) → base < 2 ^ 64 → size < 2 ^ 64 → base + (size - base) < 2 ^ 64
-near_end base size small few = omega (arith, small, few)
+-- the sum of a base offset and the size after it fits in 64 bits
+pub end_fits : (base size : ℕ) → base < 2 ^ 64 → size < 2 ^ 64 → base + (size - base) < 2 ^ 64
+end_fits base size small few = omega (arith, small, few)
 
--- a record stands where its place says
-pub offset_handed : (p : RecordPlace) (r : PerfFileRecord) → (handed_of p r).offset ≡ p.offset
-offset_handed p (EventRecord index r) = refl
-offset_handed p (UserRecord r) = refl
+-- the offset of a record is that of its `RecordPlace`
+pub offset-returned : (p : RecordPlace) (r : PerfFileRecord) → (record_view_of p r).offset ≡ p.offset
+offset-returned p (EventRecord index r) = refl
+offset-returned p (UserRecord r) = refl
 
-module _ {R : Type 0} (seen : R → State) where
-  -- one that hands out a record runs
-  ran_before : (it now : PerfRecordIter R) (file now_file : PerfFile) (records : List Handed) → IsUnfailed it → HandsOutAll seen it file records now now_file → now.stage ≡ Running → it.stage ≡ Running
-  ran_before it now file now_file records unfailed all runs = elim unfailed.stage [
+module _ {R : Type 0} (state : R → State) where
+  -- an iterator that returns a record is running
+  was_running : (it now : PerfRecordIter R) (file now_file : PerfFile) (records : List RecordView) → HasNotFailed it → ReturnsRecords state it file records now now_file → now.stage ≡ Running → it.stage ≡ Running
+  was_running it now file now_file records unfailed all runs = elim unfailed.stage [
     | inl ran ↦ ran
-    | inr ended ↦ (let same : now ≡ it = (none_of seen it now file now_file records ended all).1 in let stage : now.stage ≡ it.stage = ap (λ i. i.stage) same in absurd cc)
+    | inr ended ↦ (let same : now ≡ it = (none_of state it now file now_file records ended all).1 in let stage : now.stage ≡ it.stage = ap (λ i. i.stage) same in absurd cc)
   ]
 
-  -- a record that was handed out ends near enough
-  pub head_near : (old now new : PerfRecordIter R) (file now_file file' : PerfFile) (records : List Handed) (h : Handed) (base : ℕ) → IsUnfailed old → HasRoomToRun seen old base → HandsOutAll seen old file records now now_file → HandsOut seen now now_file h new file' → base + h.offset + 8 < 2 ^ 64
-  head_near old now new file now_file file' records h base unfailed rooms all step =
-      let room = rooms (ran_before old now file now_file records unfailed all step.ran) in
-      let came = came_of seen old new file file' (records ++ h ∷ []) (hands_out_more seen old now new file now_file file' records h all step) in
-      let within = front_within (view seen new).bytes room.bytes came.front (sym room.told ∙ came.gave.bytes) in
-      let a = step.offset in let b = came.long in let c = room.start in let d = room.near in
+  -- the header of a returned record ends before the limit of 64 bits
+  pub record_header_fits : (old now new : PerfRecordIter R) (file now_file file' : PerfFile) (records : List RecordView) (h : RecordView) (base : ℕ) → HasNotFailed old → FitsAtIfRunning state old base → ReturnsRecords state old file records now now_file → ReturnsRecord state now now_file h new file' → base + h.offset + 8 < 2 ^ 64
+  record_header_fits old now new file now_file file' records h base unfailed rooms all step =
+      let room = rooms (was_running old now file now_file records unfailed all step.was_running) in
+      let came = consumed_of state old new file file' (records ++ h ∷ []) (returns_records_more state old now new file now_file file' records h all step) in
+      let within = length-prefix (iter_source_state state new).bytes room.bytes came.front (sym room.bytes_known ∙ came.gave.bytes) in
+      let a = step.offset in let b = came.long in let c = room.at_first_record in let d = room.fits in
       omega (arith, within, a, b, c, d)

@@ -1,41 +1,41 @@
--- What is told of attributes, with their names and ids.
+-- The results for attributes, with their names and IDs.
 use Rattle.std.specs.Prelude.{◌≡◌, ◌⊎◌, ℕ, ◌+◌, ◌^◌, ◌≤◌, List, [], ◌∷◌, ◌++◌, length, flat_map, Option, None, Some}
 use Rattle.perfdata_base.specs.declared.header.PerfHeader.{PerfHeader}
 use Rattle.perfdata_sections.specs.AttributeDescription.{attr_in, ids_in, name_in}
 use Rattle.perfdata_sections.specs.declared.feature_sections.AttributeDescription.{AttributeDescription}
 use Rattle.linux_perf_data.specs.declared.perf_file.PerfFile.{PerfFile}
-use Rattle.linux_perf_data.specs.Layout.{Handed}
-use Rattle.linux_perf_data.specs.Open.{StopsFile}
-use Rattle.linux_perf_data.specs.Opened.{Describes}
-use Rattle.linux_perf_data.specs.PerfFile.{descriptions_of}
-use Rattle.linux_perf_data.specs.PipeOpen.{StopsPipe}
-use Rattle.perfdata_table.specs.Over.{over}
-use Rattle.perfdata_table.specs.Table.{IsPipeOf, Refused, at_start}
-use Rattle.perfdata_table.specs.declared.attributes.Attribute.{Attribute}
-use Rattle.perfdata_table.specs.declared.attributes.Totals.{Totals}
+use Rattle.linux_perf_data.specs.Layout.{RecordView}
+use Rattle.linux_perf_data.specs.FileOpening.{IsFileError}
+use Rattle.linux_perf_data.specs.OpenedFile.{DescribesFile}
+use Rattle.linux_perf_data.specs.PerfFile.{descriptions_of_file}
+use Rattle.linux_perf_data.specs.PipeOpening.{IsPipeError}
+use Rattle.perfdata_arrays.specs.Overwrites.{with_prefix}
+use Rattle.perfdata_arrays.specs.Records.{IsPipeWithRecords, FailsWithStatus, at_start}
+use Rattle.perfdata_arrays.specs.declared.attrs.Attr.{Attr}
+use Rattle.perfdata_arrays.specs.declared.attrs.AttrTotals.{AttrTotals}
 
--- text, or none
-abbrev pub text_or_none : Option (List ℕ) → List ℕ
-text_or_none None = []
-text_or_none (Some text) = text
+-- the text, or no bytes for `None`
+abbrev pub text_or_empty : Option (List ℕ) → List ℕ
+text_or_empty None = []
+text_or_empty (Some text) = text
 
 abbrev pub one_for : Option (List ℕ) → ℕ
 one_for None = 0
 one_for (Some text) = 1
 
--- the bytes of an attribute's name
+-- the bytes of an attribute's name; empty if it has none
 abbrev pub name_bytes : AttributeDescription → List ℕ
-name_bytes d = text_or_none (name_in d)
+name_bytes d = text_or_empty (name_in d)
 
-abbrev pub has_name_in : AttributeDescription → ℕ
-has_name_in d = one_for (name_in d)
+abbrev pub has_name_number : AttributeDescription → ℕ
+has_name_number d = one_for (name_in d)
 
--- the entry of an attribute in front of whose name and ids so many bytes and so many ids stand
-abbrev pub attribute_at : ℕ → ℕ → AttributeDescription → Attribute
-attribute_at names ids d = record {
+-- the entry of an attribute whose name is at offset `names` and whose first ID has index `ids`
+abbrev pub attr_entry_at : ℕ → ℕ → AttributeDescription → Attr
+attr_entry_at names ids d = record {
   config = (attr_in d).config;
-  period_or_freq = (attr_in d).period_or_freq;
-  sample_format = (attr_in d).sample_format.0;
+  sample_period_or_freq = (attr_in d).period_or_freq;
+  sample_type = (attr_in d).sample_format.0;
   read_format = (attr_in d).read_format;
   flags = (attr_in d).flags.0;
   config1 = (attr_in d).config1;
@@ -45,83 +45,84 @@ attribute_at names ids d = record {
   sample_regs_intr = (attr_in d).sample_regs_intr;
   sig_data = (attr_in d).sig_data;
   config3 = (attr_in d).config3;
-  name_place = names;
-  name_length = length (name_bytes d);
-  ids_place = ids;
+  name_offset = names;
+  name_size = length (name_bytes d);
+  ids_start = ids;
   ids_count = length (ids_in d);
-  kind = (attr_in d).type_;
+  type_ = (attr_in d).type_;
   size = (attr_in d).size;
-  wakeup = (attr_in d).wakeup;
+  wakeup_events = (attr_in d).wakeup;
   bp_type = (attr_in d).bp_type;
   sample_stack_user = (attr_in d).sample_stack_user;
   clockid = (attr_in d).clockid;
   aux_watermark = (attr_in d).aux_watermark;
   aux_sample_size = (attr_in d).aux_sample_size;
   sample_max_stack = (attr_in d).sample_max_stack;
-  has_name = has_name_in d;
+  has_name = has_name_number d;
 }
 
--- the names of attributes one behind another, and their ids
-abbrev pub names_in : List AttributeDescription → List ℕ
-names_in ds = flat_map name_bytes ds
+-- the concatenated names of attributes, and their concatenated IDs
+abbrev pub all_names : List AttributeDescription → List ℕ
+all_names ds = flat_map name_bytes ds
 
 abbrev pub all_ids : List AttributeDescription → List ℕ
 all_ids ds = flat_map ids_in ds
 
--- the entries of attributes, where names and ids stand one behind another
-abbrev pub attributes_at : ℕ → ℕ → List AttributeDescription → List Attribute
-attributes_at names ids [] = []
-attributes_at names ids (d ∷ ds) = attribute_at names ids d ∷ attributes_at (names + length (name_bytes d)) (ids + length (ids_in d)) ds
+-- the entries of attributes; the first name is at offset `names`, the first ID has index `ids`
+abbrev pub attr_entries_at : ℕ → ℕ → List AttributeDescription → List Attr
+attr_entries_at names ids [] = []
+attr_entries_at names ids (d ∷ ds) = attr_entry_at names ids d ∷ attr_entries_at (names + length (name_bytes d)) (ids + length (ids_in d)) ds
 
--- these attributes were told, their names and their ids, each over the front of its array
-pub record Writes (told : List AttributeDescription) (entries : List Attribute) (names ids : List ℕ) (entries' : List Attribute) (names' ids' : List ℕ) : Type 0 where
-  pub entries_are : entries' ≡ over (attributes_at 0 0 told) entries
-  pub names_are : names' ≡ over (names_in told) names
-  pub ids_are : ids' ≡ over (all_ids told) ids
+-- These attributes, their names and their IDs are written, each as a prefix of its array.
+pub record WritesAttrs (told : List AttributeDescription) (entries : List Attr) (names ids : List ℕ) (entries' : List Attr) (names' ids' : List ℕ) : Type 0 where
+  pub entries_written : entries' ≡ with_prefix (attr_entries_at 0 0 told) entries
+  pub names_written : names' ≡ with_prefix (all_names told) names
+  pub ids_written : ids' ≡ with_prefix (all_ids told) ids
 
--- a sum; none where a number of 64 bits doesn't hold it
-abbrev pub Sums : ℕ → ℕ → Option ℕ → Type 0
-Sums a b (Some n) = n ≡ a + b
-Sums a b None = 2 ^ 64 ≤ a + b
+-- a sum, or `None` if it doesn't fit in 64 bits
+abbrev pub IsCheckedSum : ℕ → ℕ → Option ℕ → Type 0
+IsCheckedSum a b (Some n) = n ≡ a + b
+IsCheckedSum a b None = 2 ^ 64 ≤ a + b
 
--- the name of an attribute behind so many bytes, or its ids behind so many, are more than numbers of 64 bits count
-abbrev pub IsUncounted : ℕ → ℕ → AttributeDescription → Type 0
-IsUncounted names ids d = (2 ^ 64 ≤ names + length (name_bytes d)) ⊎ (2 ^ 64 ≤ ids + length (ids_in d))
+-- The end of the attribute's name or of its IDs doesn't fit in 64 bits. The name starts at offset `names`, the IDs start at index
+-- `ids`.
+abbrev pub ExceedsU64 : ℕ → ℕ → AttributeDescription → Type 0
+ExceedsU64 names ids d = (2 ^ 64 ≤ names + length (name_bytes d)) ⊎ (2 ^ 64 ≤ ids + length (ids_in d))
 
--- where the name and the ids of an attribute end behind so many bytes and so many ids
-abbrev pub EndsOf : AttributeDescription → ℕ → ℕ → Option (ℕ × ℕ) → Type 0
-EndsOf d names ids (Some ends) = (ends.0 ≡ names + length (name_bytes d)) × (ends.1 ≡ ids + length (ids_in d))
-EndsOf d names ids None = IsUncounted names ids d
+-- the end offset of an attribute's name and the end index of its IDs, or `None` if one of them doesn't fit in 64 bits
+abbrev pub AreEndOffsets : AttributeDescription → ℕ → ℕ → Option (ℕ × ℕ) → Type 0
+AreEndOffsets d names ids (Some ends) = (ends.0 ≡ names + length (name_bytes d)) × (ends.1 ≡ ids + length (ids_in d))
+AreEndOffsets d names ids None = ExceedsU64 names ids d
 
--- These attributes were told and counted: all, and this is the status; or the first of them, and names or ids with those of the next are
--- more than numbers of 64 bits count, as in no memory.
-pub record TellsAttributes (all : List AttributeDescription) (status : ℕ) (entries : List Attribute) (names ids : List ℕ) (totals : Totals) (entries' : List Attribute) (names' ids' : List ℕ) : Type 0 where
-  pub told : List AttributeDescription
-  pub more : List AttributeDescription
-  pub cut : all ≡ told ++ more
-  pub count : totals.attributes ≡ length told
-  pub names_count : totals.names ≡ length (names_in told)
-  pub ids_count : totals.ids ≡ length (all_ids told)
-  pub writes : Writes told entries names ids entries' names' ids'
-  pub ends : ((more ≡ []) × (totals.status ≡ status))
-      ⊎ ((totals.status ≡ 1) × ((d : AttributeDescription) × ((rest : List AttributeDescription) × (more ≡ d ∷ rest) × IsUncounted totals.names totals.ids d)))
+-- These attributes are written and counted. Either they are all, and the status is the one given; or they are a prefix, and the
+-- name end or the ID end of the next attribute doesn't fit in 64 bits. No memory can contain so many names or IDs.
+pub record WritesAttrsOrPrefix (all : List AttributeDescription) (status : ℕ) (entries : List Attr) (names ids : List ℕ) (totals : AttrTotals) (entries' : List Attr) (names' ids' : List ℕ) : Type 0 where
+  pub written : List AttributeDescription
+  pub unwritten : List AttributeDescription
+  pub cut : all ≡ written ++ unwritten
+  pub count : totals.attr_count ≡ length written
+  pub names_count : totals.names_size ≡ length (all_names written)
+  pub ids_count : totals.ids_count ≡ length (all_ids written)
+  pub writes : WritesAttrs written entries names ids entries' names' ids'
+  pub ends : ((unwritten ≡ []) × (totals.status ≡ status))
+      ⊎ ((totals.status ≡ 1) × ((d : AttributeDescription) × ((rest : List AttributeDescription) × (unwritten ≡ d ∷ rest) × ExceedsU64 totals.names_size totals.ids_count d)))
 
-abbrev pub no_totals : ℕ → Totals
-no_totals status = record { attributes = 0; names = 0; ids = 0; status = status }
+abbrev pub zero_totals : ℕ → AttrTotals
+zero_totals status = record { attr_count = 0; names_size = 0; ids_count = 0; status = status }
 
--- nothing is told
-abbrev pub TellsNone : (Totals → Type 0) → List Attribute → List ℕ → List ℕ → Totals → List Attribute → List ℕ → List ℕ → Type 0
-TellsNone Why entries names ids totals entries' names' ids' =
-    Why totals × (totals ≡ no_totals totals.status) × (entries' ≡ entries) × (names' ≡ names) × (ids' ≡ ids)
+-- nothing is written, and all totals are 0
+abbrev pub WritesNothing : (AttrTotals → Type 0) → List Attr → List ℕ → List ℕ → AttrTotals → List Attr → List ℕ → List ℕ → Type 0
+WritesNothing Why entries names ids totals entries' names' ids' =
+    Why totals × (totals ≡ zero_totals totals.status) × (entries' ≡ entries) × (names' ≡ names) × (ids' ≡ ids)
 
--- what is told of a file's attributes; nothing where the file doesn't open
-abbrev pub FileAttributes : List ℕ → List Attribute → List ℕ → List ℕ → Totals → List Attribute → List ℕ → List ℕ → Type 0
-FileAttributes bytes entries names ids totals entries' names' ids' =
-    ((file : PerfFile) × ((header : PerfHeader) × Describes (at_start bytes) header file × TellsAttributes (descriptions_of file) 0 entries names ids totals entries' names' ids'))
-    ⊎ TellsNone (λ t. Refused t.status (StopsFile (at_start bytes))) entries names ids totals entries' names' ids'
+-- The result for a file's attributes. If the file doesn't open, nothing is written.
+abbrev pub ReadsFileAttrs : List ℕ → List Attr → List ℕ → List ℕ → AttrTotals → List Attr → List ℕ → List ℕ → Type 0
+ReadsFileAttrs bytes entries names ids totals entries' names' ids' =
+    ((file : PerfFile) × ((header : PerfHeader) × DescribesFile (at_start bytes) header file × WritesAttrsOrPrefix (descriptions_of_file file) 0 entries names ids totals entries' names' ids'))
+    ⊎ WritesNothing (λ t. FailsWithStatus t.status (IsFileError (at_start bytes))) entries names ids totals entries' names' ids'
 
--- what is told of a pipe's attributes, up to the pipe's end or to what stands in the way; nothing where the pipe doesn't open
-abbrev pub PipeAttributes : List ℕ → List Attribute → List ℕ → List ℕ → Totals → List Attribute → List ℕ → List ℕ → Type 0
-PipeAttributes bytes entries names ids totals entries' names' ids' =
-    ((records : List Handed) × ((file : PerfFile) × ((status : ℕ) × IsPipeOf bytes records file status × TellsAttributes (descriptions_of file) status entries names ids totals entries' names' ids')))
-    ⊎ TellsNone (λ t. Refused t.status (StopsPipe bytes)) entries names ids totals entries' names' ids'
+-- The result for a pipe's attributes, up to the pipe's end or first error. If the pipe doesn't open, nothing is written.
+abbrev pub ReadsPipeAttrs : List ℕ → List Attr → List ℕ → List ℕ → AttrTotals → List Attr → List ℕ → List ℕ → Type 0
+ReadsPipeAttrs bytes entries names ids totals entries' names' ids' =
+    ((records : List RecordView) × ((file : PerfFile) × ((status : ℕ) × IsPipeWithRecords bytes records file status × WritesAttrsOrPrefix (descriptions_of_file file) status entries names ids totals entries' names' ids')))
+    ⊎ WritesNothing (λ t. FailsWithStatus t.status (IsPipeError bytes)) entries names ids totals entries' names' ids'

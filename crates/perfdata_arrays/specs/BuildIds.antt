@@ -1,56 +1,56 @@
--- What is told of an entry of the section BUILD_ID.
+-- The result for an entry of a BUILD_ID section.
 use Rattle.std.specs.Prelude.{◌≡◌, ◌⊎◌, ℕ, ◌+◌, ◌%◌, ◌++◌, List, length, drop, Option, None, Some}
-use Rattle.perfdata_base.specs.Numbers.{number_in}
+use Rattle.perfdata_base.specs.Endian.{number_in}
 use Rattle.perfdata_base.specs.RecordType.{cpu_mode_of}
 use Rattle.perfdata_base.specs.declared.raw.Endianness.{Endianness}
-use Rattle.perfdata_records.specs.BuildId.{BuildId as Entry, IsCutEntry, IsEntry}
+use Rattle.perfdata_records.specs.BuildIdEvent.{BuildIdEntry as Entry, IsTruncatedBuildIdEntry, IsBuildIdEntry}
 use Rattle.perfdata_records.specs.DsoKey.{Key, kernel, guest_kernel, vdso_32, vdso_x32, vdso_64, vsyscall, kernel_module, user, key_of}
-use Rattle.perfdata_table.specs.Table.{StandsAt}
-use Rattle.perfdata_table.specs.declared.build_ids.BuildId.{BuildId}
+use Rattle.perfdata_arrays.specs.Records.{HasBytesAt}
+use Rattle.perfdata_arrays.specs.declared.build_ids.BuildId.{BuildId}
 
--- the number of a key's kind, and 0 for none
-abbrev pub kind_number : Option Key → ℕ
-kind_number None = 0
-kind_number (Some kernel) = 1
-kind_number (Some guest_kernel) = 2
-kind_number (Some vdso_32) = 3
-kind_number (Some vdso_x32) = 4
-kind_number (Some vdso_64) = 5
-kind_number (Some vsyscall) = 6
-kind_number (Some (kernel_module name)) = 7
-kind_number (Some (user file_name full_path)) = 8
+-- the number of a key's DSO kind, and 0 for `None`
+abbrev pub dso_kind_number : Option Key → ℕ
+dso_kind_number None = 0
+dso_kind_number (Some kernel) = 1
+dso_kind_number (Some guest_kernel) = 2
+dso_kind_number (Some vdso_32) = 3
+dso_kind_number (Some vdso_x32) = 4
+dso_kind_number (Some vdso_64) = 5
+dso_kind_number (Some vsyscall) = 6
+dso_kind_number (Some (kernel_module name)) = 7
+dso_kind_number (Some (user file_name full_path)) = 8
 
--- the key that an entry's path goes by, in the mode that its head tells
-abbrev pub key_of_entry : Entry → Option Key
-key_of_entry e = key_of e.path (cpu_mode_of (e.header.misc % 8))
+-- the key of an entry's path, in the CPU mode of its record header
+abbrev pub dso_key_of_entry : Entry → Option Key
+dso_key_of_entry e = key_of e.path (cpu_mode_of (e.header.misc % 8))
 
--- an entry at a place that takes so many bytes, in plain numbers
-abbrev pub build_id_told : ℕ → ℕ → Entry → BuildId
-build_id_told at size e = record {
-  id_place = at + 12;
-  id_length = length e.id;
-  path_place = at + 36;
-  path_length = length e.path;
-  next = at + size;
-  process = e.pid;
-  key = kind_number (key_of_entry e);
+-- an entry of `size` bytes at offset `at`, as plain numbers
+abbrev pub build_id_entry : ℕ → ℕ → Entry → BuildId
+build_id_entry at size e = record {
+  id_offset = at + 12;
+  id_size = length e.build_id;
+  path_offset = at + 36;
+  path_size = length e.path;
+  next_offset = at + size;
+  pid = e.pid;
+  dso_kind = dso_kind_number (dso_key_of_entry e);
 }
 
 module _ (order : Endianness) where
-  -- An entry stands at a place of the section, and its build id and its path stand where it is told.
-  pub record IsBuildIdAt (section : List ℕ) (at : ℕ) (told : BuildId) : Type 0 where
-    pub first : List ℕ
-    pub behind : List ℕ
-    pub cut : drop at section ≡ first ++ behind
+  -- The section has an entry at offset `at`. Its build ID and its path are at the offsets in `told`.
+  pub record HasBuildIdAt (section : List ℕ) (at : ℕ) (told : BuildId) : Type 0 where
+    pub entry_bytes : List ℕ
+    pub rest : List ℕ
+    pub cut : drop at section ≡ entry_bytes ++ rest
     pub entry : Entry
-    pub is : IsEntry (number_in order) first entry
-    pub are : told ≡ build_id_told at (length first) entry
-    pub id : StandsAt section (at + 12) entry.id
-    pub path : StandsAt section (at + 36) entry.path
+    pub is : IsBuildIdEntry (number_in order) entry_bytes entry
+    pub matches_entry : told ≡ build_id_entry at (length entry_bytes) entry
+    pub id : HasBytesAt section (at + 12) entry.build_id
+    pub path : HasBytesAt section (at + 36) entry.path
 
-  -- The entry is told; or none stands there whole, or memory ran out, and what was told before stays.
-  abbrev pub BuildIdTold : List ℕ → ℕ → BuildId → ℕ → BuildId → Type 0
-  BuildIdTold section at old status new =
-      ((status ≡ 0) × IsBuildIdAt section at new)
-      ⊎ (((status ≡ 2) × IsCutEntry (number_in order) (drop at section) × (new ≡ old))
+  -- The entry is written; or the section has no complete entry at the offset, or memory ran out, and the old value is unchanged.
+  abbrev pub ReadsBuildId : List ℕ → ℕ → BuildId → ℕ → BuildId → Type 0
+  ReadsBuildId section at old status new =
+      ((status ≡ 0) × HasBuildIdAt section at new)
+      ⊎ (((status ≡ 2) × IsTruncatedBuildIdEntry (number_in order) (drop at section) × (new ≡ old))
       ⊎ ((status ≡ 1) × (new ≡ old)))

@@ -1,164 +1,165 @@
--- What is told of a jitdump in memory: its header, its records, a load record.
+-- The results for a jitdump in memory: its header, its records, a load record.
 use Rattle.std.specs.Prelude.{◌≡◌, ◌≢◌, ◌⊎◌, ℕ, ◌+◌, ◌≤◌, max, List, [], ◌∷◌, ◌++◌, length, take, drop, Option, None, Some, Result, Ok, Err}
 use Rattle.std.specs.List.{concat}
 use Rattle.perfdata_base.specs.declared.raw.Endianness.{Endianness}
 use Rattle.perfdata_base.specs.declared.raw.Endianness.TheVariants.{LittleEndian, BigEndian}
-use Rattle.perfdata_jit.specs.Answer.{head_in, AreRecords, GivesNothing, IsInvalid, IsOneRecord}
-use Rattle.perfdata_base.specs.Numbers.{number_in}
+use Rattle.perfdata_jit.specs.RecordBytes.{record_header_at, AreRecords, HasNoWholeRecord, HasInvalidSize, IsOneRecord}
+use Rattle.perfdata_base.specs.Endian.{number_in}
 use Rattle.perfdata_base.specs.Raw.{bytes_of}
-use Rattle.perfdata_jit.specs.JitRecords.{IsLoad, IsNoLoad}
+use Rattle.perfdata_jit.specs.JitRecords.{IsLoad, IsLoadError}
 use Rattle.perfdata_jit.specs.declared.records.JitCodeLoadRecord.{JitCodeLoadRecord}
 use Rattle.std.specs.declared.io.Error.{Error}
-use Rattle.perfdata_table.specs.Table.{StandsAt}
-use Rattle.perfdata_table.specs.declared.jit.JitLoad.{JitLoad}
-use Rattle.perfdata_jit.specs.JitHeader.{IsJitHeader, IsNoJitHeader}
+use Rattle.perfdata_arrays.specs.Records.{HasBytesAt}
+use Rattle.perfdata_arrays.specs.declared.jit.JitLoad.{JitLoad}
+use Rattle.perfdata_jit.specs.JitHeader.{IsJitHeader, IsJitHeaderError}
 use Rattle.perfdata_jit.specs.declared.error.JitDumpError.{JitDumpError}
 use Rattle.perfdata_jit.specs.declared.header.JitDumpHeader.{JitDumpHeader}
-use Rattle.perfdata_table.specs.Over.{over}
-use Rattle.perfdata_table.specs.Status.{jit_status_by}
-use Rattle.perfdata_table.specs.declared.jit.JitHeader.{JitHeader}
-use Rattle.perfdata_table.specs.declared.jit.JitRecord.{JitRecord}
-use Rattle.perfdata_table.specs.declared.jit.JitTotal.{JitTotal}
+use Rattle.perfdata_arrays.specs.Overwrites.{with_prefix}
+use Rattle.perfdata_arrays.specs.Status.{jit_error_status}
+use Rattle.perfdata_arrays.specs.declared.jit.JitHeader.{JitHeader}
+use Rattle.perfdata_arrays.specs.declared.jit.JitRecord.{JitRecord}
+use Rattle.perfdata_arrays.specs.declared.jit.JitRecordsResult.{JitRecordsResult}
 
 -- ---- the header
 
--- the front of all bytes in which a header is to be whole
-abbrev pub header_front : List ℕ → List ℕ
-header_front bytes = take 4096 bytes
+-- the prefix of the file that has to contain the whole header
+abbrev pub header_window : List ℕ → List ℕ
+header_window bytes = take 4096 bytes
 
--- the front of the bytes is no header, as the status says
-abbrev pub HasNoHeader : List ℕ → ℕ → Type 0
-HasNoHeader bytes status = (e : JitDumpError) × (status ≡ jit_status_by e) × IsNoJitHeader (header_front bytes) e
+-- the prefix isn't a header, and the status is that of the error
+abbrev pub HasHeaderError : List ℕ → ℕ → Type 0
+HasHeaderError bytes status = (e : JitDumpError) × (status ≡ jit_error_status e) × IsJitHeaderError (header_window bytes) e
 
--- what a reading of the header answers
-abbrev pub ReadsHeader : List ℕ → Result (JitDumpHeader × Endianness) ℕ → Type 0
-ReadsHeader bytes (Ok h) = IsJitHeader h.1 (header_front bytes) h.0
-ReadsHeader bytes (Err status) = HasNoHeader bytes status
+-- the result of parsing the header
+abbrev pub ParsesJitHeader : List ℕ → Result (JitDumpHeader × Endianness) ℕ → Type 0
+ParsesJitHeader bytes (Ok h) = IsJitHeader h.1 (header_window bytes) h.0
+ParsesJitHeader bytes (Err status) = HasHeaderError bytes status
 
-abbrev pub is_big : Endianness → ℕ
-is_big LittleEndian = 0
-is_big BigEndian = 1
+abbrev pub endian_number_of : Endianness → ℕ
+endian_number_of LittleEndian = 0
+endian_number_of BigEndian = 1
 
--- a header in plain numbers
-abbrev pub header_told : Endianness → JitDumpHeader → JitHeader
-header_told order h = record {
-  time = h.timestamp;
+-- a header as plain numbers
+abbrev pub header_entry : Endianness → JitDumpHeader → JitHeader
+header_entry order h = record {
+  timestamp = h.timestamp;
   flags = h.flags;
   version = h.version;
   header_size = h.total_size;
-  machine = h.elf_machine_arch;
-  process = h.pid;
-  big_endian = is_big order;
-  unused = 0;
+  elf_machine = h.elf_machine_arch;
+  pid = h.pid;
+  is_big_endian = endian_number_of order;
+  reserved = 0;
 }
 
--- The header is told; or there is none, and the place is as before.
-abbrev pub HeaderTold : List ℕ → JitHeader → ℕ → JitHeader → Type 0
-HeaderTold bytes old status new =
-    ((status ≡ 0) × ((order : Endianness) × ((h : JitDumpHeader) × IsJitHeader order (header_front bytes) h × (new ≡ header_told order h))))
-    ⊎ (HasNoHeader bytes status × (new ≡ old))
+-- The header is written; or it has an error, and the old value is unchanged.
+abbrev pub ReadsJitHeader : List ℕ → JitHeader → ℕ → JitHeader → Type 0
+ReadsJitHeader bytes old status new =
+    ((status ≡ 0) × ((order : Endianness) × ((h : JitDumpHeader) × IsJitHeader order (header_window bytes) h × (new ≡ header_entry order h))))
+    ⊎ (HasHeaderError bytes status × (new ≡ old))
 
 -- ---- records
 
 module _ (order : Endianness) where
-  -- the entry of the record that these bytes are, which begins at the offset
+  -- the entry of the record with these bytes, which starts at the offset
   abbrev pub jit_entry : ℕ → List ℕ → JitRecord
-  jit_entry offset piece = record { place = offset; time = (head_in order piece).timestamp; record_type = (head_in order piece).record_type.0; size = (head_in order piece).total_size }
+  jit_entry offset piece = record { offset = offset; timestamp = (record_header_at order piece).timestamp; record_type = (record_header_at order piece).record_type.0; size = (record_header_at order piece).total_size }
 
-  -- those of records one behind another
+  -- the entries of consecutive records
   abbrev pub jit_entries : ℕ → List (List ℕ) → List JitRecord
   jit_entries offset [] = []
   jit_entries offset (piece ∷ pieces) = jit_entry offset piece ∷ jit_entries (offset + length piece) pieces
 
-  -- a record stands whole at an offset, and these are its bytes
-  pub record StandsWhole (bytes : List ℕ) (offset : ℕ) (piece : List ℕ) : Type 0 where
-    pub behind : List ℕ
-    pub cut : drop offset bytes ≡ piece ++ behind
-    pub one : IsOneRecord order offset piece
+  -- a complete record with these bytes starts at an offset
+  pub record HasWholeRecordAt (bytes : List ℕ) (offset : ℕ) (piece : List ℕ) : Type 0 where
+    pub rest : List ℕ
+    pub cut : drop offset bytes ≡ piece ++ rest
+    pub record_valid : IsOneRecord order offset piece
 
-  -- what stands at an offset: a whole record, nothing whole, or the head of what no record can be
+  -- the record at an offset: a complete record, no complete record, or a record header with an invalid size
   abbrev pub FindsRecord : List ℕ → ℕ → Result (Option JitRecord) ℕ → Type 0
-  FindsRecord bytes offset (Ok (Some r)) = (piece : List ℕ) × StandsWhole bytes offset piece × (r ≡ jit_entry offset piece)
-  FindsRecord bytes offset (Ok None) = GivesNothing order offset (drop offset bytes)
-  FindsRecord bytes offset (Err status) = (status ≡ 43) × IsInvalid order offset (drop offset bytes)
+  FindsRecord bytes offset (Ok (Some r)) = (piece : List ℕ) × HasWholeRecordAt bytes offset piece × (r ≡ jit_entry offset piece)
+  FindsRecord bytes offset (Ok None) = HasNoWholeRecord order offset (drop offset bytes)
+  FindsRecord bytes offset (Err status) = (status ≡ 43) × HasInvalidSize order offset (drop offset bytes)
 
-  -- These records stand from an offset on, one behind another; their entries were written over the front of an array, which has room
-  -- for all of them; and this stands behind them.
-  pub record JitTells (bytes : List ℕ) (from : ℕ) (pieces : List (List ℕ)) (old : List JitRecord) (count next : ℕ) (new : List JitRecord) : Type 0 where
+  -- These records follow one another from an offset on. Their entries are written as a prefix of an array, which has capacity for
+  -- all of them. `next` is the offset after them.
+  pub record WritesJitRecords (bytes : List ℕ) (from : ℕ) (pieces : List (List ℕ)) (old : List JitRecord) (count next : ℕ) (new : List JitRecord) : Type 0 where
     pub counted : count ≡ length pieces
-    pub stands : next ≡ from + length (concat pieces)
+    pub next_offset_is : next ≡ from + length (concat pieces)
     pub cut : drop from bytes ≡ concat pieces ++ drop next bytes
-    pub are : AreRecords order from pieces
-    pub room : length pieces ≤ length old
-    pub written : new ≡ over (jit_entries from pieces) old
+    pub elements : AreRecords order from pieces
+    pub within_capacity : length pieces ≤ length old
+    pub written : new ≡ with_prefix (jit_entries from pieces) old
 
--- Behind them there is no more room, or nothing stands whole; or no record can stand there.
-abbrev pub JitEnds : Endianness → List ℕ → ℕ → ℕ → ℕ → ℕ → Type 0
-JitEnds order bytes count room next status =
-    ((status ≡ 0) × ((count ≡ room) ⊎ GivesNothing order next (drop next bytes)))
-    ⊎ ((status ≡ 43) × IsInvalid order next (drop next bytes))
+-- The array is full, or no complete record follows, or the record that follows has an invalid size.
+abbrev pub EndsJitRecords : Endianness → List ℕ → ℕ → ℕ → ℕ → ℕ → Type 0
+EndsJitRecords order bytes count room next status =
+    ((status ≡ 0) × ((count ≡ room) ⊎ HasNoWholeRecord order next (drop next bytes)))
+    ⊎ ((status ≡ 43) × HasInvalidSize order next (drop next bytes))
 
--- a jitdump's records were told from a place on, or from the first on where that stands behind it
-pub record JitRead (bytes : List ℕ) (from : ℕ) (old : List JitRecord) (total : JitTotal) (new : List JitRecord) : Type 0 where
+-- The records of a jitdump are written from offset `from` on, or from the first record on if `from` is within the header.
+pub record JitRecordsRead (bytes : List ℕ) (from : ℕ) (old : List JitRecord) (total : JitRecordsResult) (new : List JitRecord) : Type 0 where
   pub order : Endianness
   pub header : JitDumpHeader
-  pub is : IsJitHeader order (header_front bytes) header
+  pub is : IsJitHeader order (header_window bytes) header
   pub pieces : List (List ℕ)
-  pub tells : JitTells order bytes (max from header.total_size) pieces old total.records total.next new
-  pub ends : JitEnds order bytes total.records (length old) total.next total.status
+  pub writes : WritesJitRecords order bytes (max from header.total_size) pieces old total.count total.next_offset new
+  pub ends : EndsJitRecords order bytes total.count (length old) total.next_offset total.status
 
--- there is no header, and nothing is told
-pub record JitUnread (bytes : List ℕ) (from : ℕ) (old : List JitRecord) (total : JitTotal) (new : List JitRecord) : Type 0 where
-  pub none : HasNoHeader bytes total.status
-  pub count : total.records ≡ 0
-  pub next : total.next ≡ from
-  pub still : new ≡ old
+-- the header has an error, and nothing is written
+pub record JitRecordsUnread (bytes : List ℕ) (from : ℕ) (old : List JitRecord) (total : JitRecordsResult) (new : List JitRecord) : Type 0 where
+  pub header_error : HasHeaderError bytes total.status
+  pub count : total.count ≡ 0
+  pub next : total.next_offset ≡ from
+  pub unchanged : new ≡ old
 
-abbrev pub JitTold : List ℕ → ℕ → List JitRecord → JitTotal → List JitRecord → Type 0
-JitTold bytes from old total new = JitRead bytes from old total new ⊎ JitUnread bytes from old total new
+abbrev pub ReadsJitRecords : List ℕ → ℕ → List JitRecord → JitRecordsResult → List JitRecord → Type 0
+ReadsJitRecords bytes from old total new = JitRecordsRead bytes from old total new ⊎ JitRecordsUnread bytes from old total new
 
 -- ---- a load record
 
--- a load record at a place, in plain numbers
-abbrev pub load_told : ℕ → JitCodeLoadRecord → JitLoad
-load_told at load = record {
-  mapping = load.vma;
-  address = load.code_addr;
-  index = load.code_index;
-  name_place = at + 56;
-  name_length = length (bytes_of load.function_name);
-  code_place = at + 57 + length (bytes_of load.function_name);
-  code_length = length (bytes_of load.code_bytes);
-  process = load.pid;
-  thread = load.tid;
+-- a load record at an offset, as plain numbers
+abbrev pub load_entry : ℕ → JitCodeLoadRecord → JitLoad
+load_entry at load = record {
+  vma = load.vma;
+  code_address = load.code_addr;
+  code_index = load.code_index;
+  name_offset = at + 56;
+  name_size = length (bytes_of load.function_name);
+  code_offset = at + 57 + length (bytes_of load.function_name);
+  code_size = length (bytes_of load.code_bytes);
+  pid = load.pid;
+  tid = load.tid;
 }
 
--- The whole record at a place is this load record, and its name and its code stand in the input where it is told.
+-- The complete record at an offset is this load record. Its name and its code are at the offsets in its entry.
 pub record IsLoadAt (order : Endianness) (bytes : List ℕ) (at : ℕ) (load : JitCodeLoadRecord) : Type 0 where
   pub piece : List ℕ
-  pub stands : StandsWhole order bytes at piece
-  pub kind : (head_in order piece).record_type.0 ≡ 0
+  pub whole_record : HasWholeRecordAt order bytes at piece
+  pub is_load : (record_header_at order piece).record_type.0 ≡ 0
   pub is : IsLoad (number_in order) (drop 16 piece) load
-  pub name : StandsAt bytes (at + 56) (bytes_of load.function_name)
-  pub code : StandsAt bytes (at + 57 + length (bytes_of load.function_name)) (bytes_of load.code_bytes)
+  pub name_bytes_at : HasBytesAt bytes (at + 56) (bytes_of load.function_name)
+  pub code_bytes_at : HasBytesAt bytes (at + 57 + length (bytes_of load.function_name)) (bytes_of load.code_bytes)
 
--- What the whole record at a place is: a load record; or one of another type; or one whose body is that of none.
-abbrev pub LoadsIn : Endianness → List ℕ → ℕ → Result JitLoad ℕ → Type 0
-LoadsIn order bytes at (Ok told) = (load : JitCodeLoadRecord) × IsLoadAt order bytes at load × (told ≡ load_told at load)
-LoadsIn order bytes at (Err status) =
-    ((status ≡ 45) × ((piece : List ℕ) × StandsWhole order bytes at piece × ((head_in order piece).record_type.0 ≢ 0)))
-    ⊎ ((status ≡ 46) × ((piece : List ℕ) × StandsWhole order bytes at piece × ((e : Error) × IsNoLoad (number_in order) (drop 16 piece) e)))
+-- The complete record at an offset is a load record, or a record of another type, or a load record with an invalid body.
+abbrev pub ParsesLoad : Endianness → List ℕ → ℕ → Result JitLoad ℕ → Type 0
+ParsesLoad order bytes at (Ok told) = (load : JitCodeLoadRecord) × IsLoadAt order bytes at load × (told ≡ load_entry at load)
+ParsesLoad order bytes at (Err status) =
+    ((status ≡ 45) × ((piece : List ℕ) × HasWholeRecordAt order bytes at piece × ((record_header_at order piece).record_type.0 ≢ 0)))
+    ⊎ ((status ≡ 46) × ((piece : List ℕ) × HasWholeRecordAt order bytes at piece × ((e : Error) × IsLoadError (number_in order) (drop 16 piece) e)))
 
--- A load record is told; or nothing stands whole at the place, or no record can, or it is none, and what was told before stays.
-abbrev pub LoadAt : Endianness → List ℕ → ℕ → JitLoad → ℕ → JitLoad → Type 0
-LoadAt order bytes at old status new =
-    ((status ≡ 0) × LoadsIn order bytes at (Ok new))
-    ⊎ (((status ≡ 2) × GivesNothing order at (drop at bytes) × (new ≡ old))
-    ⊎ (((status ≡ 43) × IsInvalid order at (drop at bytes) × (new ≡ old))
-    ⊎ (LoadsIn order bytes at (Err status) × (new ≡ old))))
+-- A load record is written; or there is no complete record at the offset, its size is invalid, or it isn't a valid load record,
+-- and the old value is unchanged.
+abbrev pub ReadsLoadAt : Endianness → List ℕ → ℕ → JitLoad → ℕ → JitLoad → Type 0
+ReadsLoadAt order bytes at old status new =
+    ((status ≡ 0) × ParsesLoad order bytes at (Ok new))
+    ⊎ (((status ≡ 2) × HasNoWholeRecord order at (drop at bytes) × (new ≡ old))
+    ⊎ (((status ≡ 43) × HasInvalidSize order at (drop at bytes) × (new ≡ old))
+    ⊎ (ParsesLoad order bytes at (Err status) × (new ≡ old))))
 
--- or there is no header
-abbrev pub LoadTold : List ℕ → ℕ → JitLoad → ℕ → JitLoad → Type 0
-LoadTold bytes at old status new =
-    ((order : Endianness) × ((h : JitDumpHeader) × IsJitHeader order (header_front bytes) h × LoadAt order bytes at old status new))
-    ⊎ (HasNoHeader bytes status × (new ≡ old))
+-- The header has an error, and the old value is unchanged; or the result is that of the load record.
+abbrev pub ReadsJitLoad : List ℕ → ℕ → JitLoad → ℕ → JitLoad → Type 0
+ReadsJitLoad bytes at old status new =
+    ((order : Endianness) × ((h : JitDumpHeader) × IsJitHeader order (header_window bytes) h × ReadsLoadAt order bytes at old status new))
+    ⊎ (HasHeaderError bytes status × (new ≡ old))

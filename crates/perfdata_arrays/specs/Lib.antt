@@ -1,9 +1,9 @@
--- What contracts cite.
-pub mod Over
+-- The modules that contracts use.
+pub mod Overwrites
 pub mod Status
-pub mod Table
+pub mod Records
 pub mod Walk
 pub mod Jit
 pub mod Features
-pub mod Attributes
+pub mod Attrs
 pub mod BuildIds

@@ -1,20 +1,20 @@
--- Entries that are written over the front of an array.
+-- Entries that are written over a prefix of an array.
 use Rattle.std.specs.Prelude.{◌≡◌, ℕ, List, [], ◌∷◌, ◌++◌, length, take, drop}
 
--- entries over the front of others, as many as there is room for; what is behind them is as before
-abbrev pub over : {T : Type 0} → List T → List T → List T
-over [] old = old
-over (e ∷ es) [] = []
-over (e ∷ es) (o ∷ os) = e ∷ over es os
+-- Entries over the start of an array, up to its capacity. The elements after them are unchanged.
+abbrev pub with_prefix : {T : Type 0} → List T → List T → List T
+with_prefix [] old = old
+with_prefix (e ∷ es) [] = []
+with_prefix (e ∷ es) (o ∷ os) = e ∷ with_prefix es os
 
--- of entries those from this index on, over the front of others
-abbrev pub over_from : {T : Type 0} → ℕ → List T → List T → List T
-over_from first entries old = over (drop first entries) old
+-- the entries from index `first` on, over the start of an array
+abbrev pub with_prefix_from : {T : Type 0} → ℕ → List T → List T → List T
+with_prefix_from first entries old = with_prefix (drop first entries) old
 
--- entries behind the first so many of others, as many as there is room for
-abbrev pub lay_behind : {T : Type 0} → ℕ → List T → List T → List T
-lay_behind at entries old = take at old ++ over entries (drop at old)
+-- entries after the first `at` elements of an array, up to its capacity
+abbrev pub with_entries_at : {T : Type 0} → ℕ → List T → List T → List T
+with_entries_at at entries old = take at old ++ with_prefix entries (drop at old)
 
--- where entries from one on were written over an array, and so many, one more is
-abbrev pub OneMore : {T : Type 0} → ℕ → ℕ → T → List T → List T → Type 0
-OneMore {T} first index entry old new = (entries before : List T) → index ≡ length entries → old ≡ over_from first entries before → new ≡ over_from first (entries ++ entry ∷ []) before
+-- If the array contains the entries from index `first` on up to `index`, it also contains the entry of `index` afterwards.
+abbrev pub WritesOneMore : {T : Type 0} → ℕ → ℕ → T → List T → List T → Type 0
+WritesOneMore {T} first index entry old new = (entries before : List T) → index ≡ length entries → old ≡ with_prefix_from first entries before → new ≡ with_prefix_from first (entries ++ entry ∷ []) before

@@ -1,143 +1,145 @@
--- The entries of records, and what a table of a whole input says.
+-- The entries of records, and the result for the records of a whole input.
 use Rattle.std.specs.Prelude.{◌≡◌, ◌≢◌, ◌⊎◌, ℕ, ◌+◌, ◌<◌, ◌≤◌, List, [], ◌∷◌, length, take, drop, map, Option, None, Some}
-use Rattle.perfdata_base.specs.Source.{Place}
+use Rattle.perfdata_base.specs.Source.{Position}
 use Rattle.perfdata_base.specs.declared.raw.Endianness.{Endianness}
 use Rattle.perfdata_base.specs.declared.header.PerfHeader.{PerfHeader}
 use Rattle.perfdata_sections.specs.declared.error.Error.{Error}
 use Rattle.perfdata_sections.specs.declared.error.Error.TheVariants.{Memory}
 use Rattle.linux_perf_data.specs.declared.perf_file.PerfFile.{PerfFile}
-use Rattle.linux_perf_data.specs.Attribute.{Event}
-use Rattle.linux_perf_data.specs.Late.{IsMetadata}
-use Rattle.linux_perf_data.specs.Layout.{Handed, End, whole, faulty, Fault, ToCome, attributes_in, kind_of, size_of}
-use Rattle.linux_perf_data.specs.Open.{StopsFile}
-use Rattle.linux_perf_data.specs.Opened.{Describes, RecordsOf}
-use Rattle.linux_perf_data.specs.PerfFile.{order_of_file, attributes_of_file}
-use Rattle.linux_perf_data.specs.Piece.{Answers}
-use Rattle.linux_perf_data.specs.PipeOpen.{EndsMetadata, StopsPipe}
-use Rattle.linux_perf_data.specs.PipeReading.{BeginsPipe, HoldsAll}
-use Rattle.linux_perf_data.specs.Reading.{ComeFirst}
-use Rattle.perfdata_table.specs.Over.{over_from}
-use Rattle.perfdata_table.specs.Status.{status_by}
-use Rattle.perfdata_table.specs.declared.entry.Record.{Record}
-use Rattle.perfdata_table.specs.declared.records.Total.{Total}
+use Rattle.linux_perf_data.specs.Attribute.{EventRef}
+use Rattle.linux_perf_data.specs.LateMetadata.{IsMetadataType}
+use Rattle.linux_perf_data.specs.Layout.{RecordView, LayoutEnd, ends_complete, ends_with_error, LayoutError, RemainingRecords, attributes_in_records, record_type_of, record_size_of}
+use Rattle.linux_perf_data.specs.FileOpening.{IsFileError}
+use Rattle.linux_perf_data.specs.OpenedFile.{DescribesFile, FileRecords}
+use Rattle.linux_perf_data.specs.PerfFile.{endian_of_file, attributes_of_file}
+use Rattle.linux_perf_data.specs.RecordFraming.{IsErrorFor}
+use Rattle.linux_perf_data.specs.PipeOpening.{EndsMetadata, IsPipeError}
+use Rattle.linux_perf_data.specs.PipeReading.{BeginsPipe, HoldsAllMetadata}
+use Rattle.linux_perf_data.specs.FileReading.{AreFirstRecords}
+use Rattle.perfdata_arrays.specs.Overwrites.{with_prefix_from}
+use Rattle.perfdata_arrays.specs.Status.{error_status}
+use Rattle.perfdata_arrays.specs.declared.record.Record.{Record}
+use Rattle.perfdata_arrays.specs.declared.records.RecordsResult.{RecordsResult}
 
 -- ---- entries
 
--- a number, or 0
+-- a number, or 0 for `None`
 abbrev pub or_zero : Option ℕ → ℕ
 or_zero None = 0
 or_zero (Some n) = n
 
--- 1 where there is something, else 0
-abbrev pub is_there : {T : Type 0} → Option T → ℕ
-is_there None = 0
-is_there (Some x) = 1
+-- 1 for `Some`, otherwise 0
+abbrev pub one_if_some : {T : Type 0} → Option T → ℕ
+one_if_some None = 0
+one_if_some (Some x) = 1
 
--- the index of a record's attribute, or 0
-abbrev pub attribute_or_zero : Option Event → ℕ
-attribute_or_zero None = 0
-attribute_or_zero (Some e) = e.index
+-- the index of a record's attribute, or 0 if it has none
+abbrev pub attr_index_or_zero : Option EventRef → ℕ
+attr_index_or_zero None = 0
+attr_index_or_zero (Some e) = e.index
 
--- the entry of a record of an input whose first record stands at this place: its body stands behind its head of eight bytes
-abbrev pub entry_at : ℕ → Handed → Record
-entry_at base h = record {
+-- The entry of a record. The first record of the input is at offset `base`. The body follows the record header of eight bytes.
+abbrev pub record_entry_at : ℕ → RecordView → Record
+record_entry_at base h = record {
   offset = h.offset;
-  place = base + h.offset + 8;
-  body_length = length h.body;
+  body_offset = base + h.offset + 8;
+  body_size = length h.body;
   round = h.round;
-  time = or_zero h.time;
-  attribute = attribute_or_zero h.event;
-  record_type = h.kind;
+  timestamp = or_zero h.timestamp;
+  attr_index = attr_index_or_zero h.event;
+  record_type = h.record_type;
   misc = h.misc;
-  has_time = is_there h.time;
-  has_attribute = is_there h.event;
+  has_timestamp = one_if_some h.timestamp;
+  has_attr = one_if_some h.event;
 }
 
--- those of several, in order
-abbrev pub entries_at : ℕ → List Handed → List Record
-entries_at base records = map (entry_at base) records
+-- the entries of several records, in order
+abbrev pub record_entries_at : ℕ → List RecordView → List Record
+record_entries_at base records = map (record_entry_at base) records
 
--- the bytes at a place are these
-abbrev pub StandsAt : List ℕ → ℕ → List ℕ → Type 0
-StandsAt bytes place body = take (length body) (drop place bytes) ≡ body
+-- the bytes from an offset on start with this body
+abbrev pub HasBytesAt : List ℕ → ℕ → List ℕ → Type 0
+HasBytesAt bytes place body = take (length body) (drop place bytes) ≡ body
 
--- the body of each record stands in the input where its entry says
-abbrev pub BodiesStand : List ℕ → ℕ → List Handed → Type 0
-BodiesStand bytes base [] = Unit {0}
-BodiesStand bytes base (h ∷ hs) = StandsAt bytes (base + h.offset + 8) h.body × BodiesStand bytes base hs
+-- The body of each record is at the offset in its entry.
+abbrev pub HasBodiesAt : List ℕ → ℕ → List RecordView → Type 0
+HasBodiesAt bytes base [] = Unit {0}
+HasBodiesAt bytes base (h ∷ hs) = HasBytesAt bytes (base + h.offset + 8) h.body × HasBodiesAt bytes base hs
 
--- ---- how a call ended
+-- ---- the status of a call
 
--- This stands in the way, as the status says; nothing is said of it where memory ran out.
-abbrev pub Refused : ℕ → (Error → Type 0) → Type 0
-Refused status Why = (e : Error) × (status ≡ status_by e) × (e ≢ Memory → Why e)
+-- The status is that of an error. The error has this cause unless memory ran out.
+abbrev pub FailsWithStatus : ℕ → (Error → Type 0) → Type 0
+FailsWithStatus status Why = (e : Error) × (status ≡ error_status e) × (e ≢ Memory → Why e)
 
--- The layout is whole with these records; or these are the first of them, and then memory ran out, or the layout has the fault that the
--- status says.
-abbrev pub EndsSo : (List Handed → End → Type 0) → List Handed → ℕ → Type 0
-EndsSo Come records status =
-    ((status ≡ 0) × Come records whole)
-    ⊎ (ComeFirst Come records × Refused status (λ e. (f : Fault) × Come records (faulty f) × Answers f e))
+-- The layout is complete with these records, or an error follows them. If memory ran out, they are a prefix of the layout's
+-- records. Otherwise the error is that of the layout.
+abbrev pub EndsWithStatus : (List RecordView → LayoutEnd → Type 0) → List RecordView → ℕ → Type 0
+EndsWithStatus Come records status =
+    ((status ≡ 0) × Come records ends_complete)
+    ⊎ (AreFirstRecords Come records × FailsWithStatus status (λ e. (f : LayoutError) × Come records (ends_with_error f) × IsErrorFor f e))
 
 -- ---- a file
 
--- all of these bytes, from the first on
-abbrev pub at_start : List ℕ → Place
-at_start bytes = record { all = bytes; at = 0 }
+-- the position at the start of these bytes
+abbrev pub at_start : List ℕ → Position
+at_start bytes = record { all_bytes = bytes; offset = 0 }
 
--- the bytes are a file, whose data section stands at this place
-pub record IsFileOf (bytes : List ℕ) (base : ℕ) (records : List Handed) (status : ℕ) : Type 0 where
+-- The bytes are a file whose data section is at offset `base`.
+pub record IsFileWithRecords (bytes : List ℕ) (base : ℕ) (records : List RecordView) (status : ℕ) : Type 0 where
   pub file : PerfFile
   pub header : PerfHeader
-  pub describes : Describes (at_start bytes) header file
-  pub stands : base ≡ header.data_section.offset
-  pub ends : EndsSo (RecordsOf (at_start bytes) (order_of_file file) header (attributes_of_file file)) records status
+  pub describes : DescribesFile (at_start bytes) header file
+  pub first_record_at : base ≡ header.data_section.offset
+  pub ends : EndsWithStatus (FileRecords (at_start bytes) (endian_of_file file) header (attributes_of_file file)) records status
 
--- An array over which the entries of these records were written from one index on, as many as there was room for; their number, which
--- counts all; and the places of their bodies.
-pub record Tells (bytes : List ℕ) (base first : ℕ) (records : List Handed) (old : List Record) (total : Total) (new : List Record) : Type 0 where
-  pub count : total.records ≡ length records
-  pub written : new ≡ over_from first (entries_at base records) old
-  pub bodies : BodiesStand bytes base records
+-- The entries of the records from index `first` on are written, up to the capacity of the array. `count` is the number of all
+-- records. Their bodies are at the offsets in their entries.
+pub record WritesRecords (bytes : List ℕ) (base first : ℕ) (records : List RecordView) (old : List Record) (total : RecordsResult) (new : List Record) : Type 0 where
+  pub count : total.count ≡ length records
+  pub written : new ≡ with_prefix_from first (record_entries_at base records) old
+  pub body_bytes_at : HasBodiesAt bytes base records
 
--- What is told of a file's records: all of them, or those in front of what stands in the way; none where the file doesn't open.
-pub record FileTold (bytes : List ℕ) (first : ℕ) (old : List Record) (total : Total) (new : List Record) : Type 0 where
-  pub records : List Handed
+-- The result for a file's records: all of them, or those before the error that the status reports. If the file doesn't open,
+-- there are no records.
+pub record ReadsFileRecords (bytes : List ℕ) (first : ℕ) (old : List Record) (total : RecordsResult) (new : List Record) : Type 0 where
+  pub records : List RecordView
   pub base : ℕ
-  pub tells : Tells bytes base first records old total new
-  pub ends : ((records ≡ []) × Refused total.status (StopsFile (at_start bytes))) ⊎ IsFileOf bytes base records total.status
+  pub writes : WritesRecords bytes base first records old total new
+  pub ends : ((records ≡ []) × FailsWithStatus total.status (IsFileError (at_start bytes))) ⊎ IsFileWithRecords bytes base records total.status
 
 -- ---- a pipe
 
--- The bytes are a pipe with these records behind its opening; a `PerfFile` holds exactly what came with the opening and with them.
-pub record IsPipeOf (bytes : List ℕ) (records : List Handed) (file : PerfFile) (status : ℕ) : Type 0 where
+-- The bytes are a pipe with these records after its opening. The `PerfFile` holds exactly the metadata of the opening and of the
+-- records.
+pub record IsPipeWithRecords (bytes : List ℕ) (records : List RecordView) (file : PerfFile) (status : ℕ) : Type 0 where
   pub order : Endianness
   pub pieces : List (List ℕ)
   pub rest : List ℕ
-  pub begins : BeginsPipe order pieces bytes rest
-  pub behind : EndsMetadata order rest
-  pub ends : EndsSo (ToCome order rest None 0 0 (attributes_in order None pieces)) records status
-  pub holds : HoldsAll order pieces records file
+  pub has_opening : BeginsPipe order pieces bytes rest
+  pub after_opening : EndsMetadata order rest
+  pub ends : EndsWithStatus (RemainingRecords order rest None 0 0 (attributes_in_records order None pieces)) records status
+  pub file_matches : HoldsAllMetadata order pieces records file
 
--- the size of the record of metadata at the front of bytes, or 0 where none begins there
-abbrev pub MetadataSize : Endianness → List ℕ → ℕ → Type 0
-MetadataSize order behind n =
-    ((n ≡ 0) × (8 ≤ length behind → (¬ IsMetadata (kind_of order behind)) ⊎ (size_of order behind < 8)))
-    ⊎ ((8 ≤ length behind) × (8 ≤ size_of order behind) × IsMetadata (kind_of order behind) × (n ≡ size_of order behind))
+-- the size of the metadata record at the start of bytes, or 0 if none starts there
+abbrev pub IsMetadataSize : Endianness → List ℕ → ℕ → Type 0
+IsMetadataSize order behind n =
+    ((n ≡ 0) × (8 ≤ length behind → (¬ IsMetadataType (record_type_of order behind)) ⊎ (record_size_of order behind < 8)))
+    ⊎ ((8 ≤ length behind) × (8 ≤ record_size_of order behind) × IsMetadataType (record_type_of order behind) × (n ≡ record_size_of order behind))
 
--- what a pipe opens with takes so many bytes
-abbrev pub OpensWith : Endianness → List ℕ → ℕ → Type 0
-OpensWith order bytes n = (pieces : List (List ℕ)) (rest : List ℕ) → BeginsPipe order pieces bytes rest → EndsMetadata order rest → n + length rest ≡ length bytes
+-- `n` is the size of a pipe's opening in bytes
+abbrev pub IsOpeningSize : Endianness → List ℕ → ℕ → Type 0
+IsOpeningSize order bytes n = (pieces : List (List ℕ)) (rest : List ℕ) → BeginsPipe order pieces bytes rest → EndsMetadata order rest → n + length rest ≡ length bytes
 
--- a pipe whose first record behind its opening stands at this place
-pub record StandsPipe (bytes : List ℕ) (base : ℕ) (records : List Handed) (status : ℕ) : Type 0 where
+-- a pipe whose first record after the opening is at offset `base`
+pub record IsPipeWithFirstRecordAt (bytes : List ℕ) (base : ℕ) (records : List RecordView) (status : ℕ) : Type 0 where
   pub file : PerfFile
-  pub is : IsPipeOf bytes records file status
-  pub stands : base + length is.rest ≡ length bytes
+  pub is : IsPipeWithRecords bytes records file status
+  pub first_record_at : base + length is.rest ≡ length bytes
 
--- What is told of a pipe's records behind its opening, in the same way.
-pub record PipeTold (bytes : List ℕ) (first : ℕ) (old : List Record) (total : Total) (new : List Record) : Type 0 where
-  pub records : List Handed
+-- The result for a pipe's records after its opening, as for a file.
+pub record ReadsPipeRecords (bytes : List ℕ) (first : ℕ) (old : List Record) (total : RecordsResult) (new : List Record) : Type 0 where
+  pub records : List RecordView
   pub base : ℕ
-  pub tells : Tells bytes base first records old total new
-  pub ends : ((records ≡ []) × Refused total.status (StopsPipe bytes)) ⊎ StandsPipe bytes base records total.status
+  pub writes : WritesRecords bytes base first records old total new
+  pub ends : ((records ≡ []) × FailsWithStatus total.status (IsPipeError bytes)) ⊎ IsPipeWithFirstRecordAt bytes base records total.status

@@ -1,47 +1,47 @@
--- What a walk over an iterator's records writes, and what ended it.
+-- The entries that a walk over an iterator's records writes, and how it ends.
 use Rattle.std.specs.Prelude.{◌≡◌, ℕ, ◌+◌, ◌^◌, ◌<◌, List, length, Some, Result, Ok, Err}
 use Rattle.perfdata_base.specs.Source.{State}
 use Rattle.perfdata_sections.specs.declared.error.Error.{Error}
-use Rattle.linux_perf_data.specs.declared.iter.PerfRecordIter.{PerfRecordIter}
-use Rattle.linux_perf_data.specs.declared.iter.Stage.TheVariants.{Running}
+use Rattle.linux_perf_data.specs.declared.records.iter.PerfRecordIter.{PerfRecordIter}
+use Rattle.linux_perf_data.specs.declared.records.iter.Stage.TheVariants.{Running}
 use Rattle.linux_perf_data.specs.declared.perf_file.PerfFile.{PerfFile}
-use Rattle.linux_perf_data.specs.Iter.{view, AtEnd, Refuses}
-use Rattle.linux_perf_data.specs.Layout.{Handed}
-use Rattle.linux_perf_data.specs.Reading.{HandsOutAll}
-use Rattle.perfdata_table.specs.Over.{over_from}
-use Rattle.perfdata_table.specs.Status.{status_by}
-use Rattle.perfdata_table.specs.Table.{entries_at}
-use Rattle.perfdata_table.specs.declared.entry.Record.{Record}
-use Rattle.perfdata_table.specs.declared.records.Walked.{Walked}
+use Rattle.linux_perf_data.specs.Iter.{iter_source_state, ReturnsEnd, ReturnsError}
+use Rattle.linux_perf_data.specs.Layout.{RecordView}
+use Rattle.linux_perf_data.specs.FileReading.{ReturnsRecords}
+use Rattle.perfdata_arrays.specs.Overwrites.{with_prefix_from}
+use Rattle.perfdata_arrays.specs.Status.{error_status}
+use Rattle.perfdata_arrays.specs.Records.{record_entries_at}
+use Rattle.perfdata_arrays.specs.declared.record.Record.{Record}
+use Rattle.perfdata_arrays.specs.declared.records.WalkResult.{WalkResult}
 
--- the status of an end
-abbrev pub end_status : {A : Type 0} → Result A Error → ℕ
-end_status (Ok _) = 0
-end_status (Err e) = status_by e
+-- the status of a walk's end
+abbrev pub walk_status : {A : Type 0} → Result A Error → ℕ
+walk_status (Ok _) = 0
+walk_status (Err e) = error_status e
 
-module _ {R : Type 0} (seen : R → State) where
-  -- an iterator at its first record, whose bytes are known, and fit behind this place
-  pub record HasRoom (it : PerfRecordIter R) (base : ℕ) : Type 0 where
+module _ {R : Type 0} (state : R → State) where
+  -- An iterator is at its first record and its bytes are known. They fit in 64 bits after offset `base`.
+  pub record FitsAt (it : PerfRecordIter R) (base : ℕ) : Type 0 where
     pub bytes : List ℕ
-    pub told : (view seen it).bytes ≡ Some bytes
-    pub near : base + length bytes < 2 ^ 64
-    pub start : it.offset ≡ 0
+    pub bytes_known : (iter_source_state state it).bytes ≡ Some bytes
+    pub fits : base + length bytes < 2 ^ 64
+    pub at_first_record : it.offset ≡ 0
 
-  -- one that runs has
-  abbrev pub HasRoomToRun : PerfRecordIter R → ℕ → Type 0
-  HasRoomToRun it base = it.stage ≡ Running → HasRoom it base
+  -- this holds for an iterator that is running
+  abbrev pub FitsAtIfRunning : PerfRecordIter R → ℕ → Type 0
+  FitsAtIfRunning it base = it.stage ≡ Running → FitsAt it base
 
-  -- the end was answered, or a refusal
-  abbrev pub EndsWalk : {A : Type 0} → PerfRecordIter R → PerfFile → Result A Error → PerfRecordIter R → PerfFile → Type 0
-  EndsWalk now file (Ok _) new file' = AtEnd seen now file new file'
-  EndsWalk now file (Err e) new file' = Refuses seen now file e new file'
+  -- The walk ends with the end of the records or with an error.
+  abbrev pub WalkEnds : {A : Type 0} → PerfRecordIter R → PerfFile → Result A Error → PerfRecordIter R → PerfFile → Type 0
+  WalkEnds now file (Ok _) new file' = ReturnsEnd state now file new file'
+  WalkEnds now file (Err e) new file' = ReturnsError state now file e new file'
 
-  -- These records were handed out and counted, their entries written, and then this ended it.
-  pub record Walks (old : PerfRecordIter R) (file : PerfFile) (base first : ℕ) (before : List Record) (walked : Walked) (new : PerfRecordIter R) (file' : PerfFile) (after : List Record) : Type 0 where
-    pub records : List Handed
-    pub now : PerfRecordIter R
-    pub now_file : PerfFile
-    pub all : HandsOutAll seen old file records now now_file
-    pub count : walked.records ≡ length records
-    pub written : after ≡ over_from first (entries_at base records) before
-    pub ends : EndsWalk now now_file walked.end new file'
+  -- The walk returns and counts these records, writes their entries, and ends.
+  pub record WalksRecords (old : PerfRecordIter R) (file : PerfFile) (base first : ℕ) (before : List Record) (walked : WalkResult) (new : PerfRecordIter R) (file' : PerfFile) (after : List Record) : Type 0 where
+    pub records : List RecordView
+    pub iter_at_end : PerfRecordIter R
+    pub file_at_end : PerfFile
+    pub returned : ReturnsRecords state old file records iter_at_end file_at_end
+    pub count : walked.count ≡ length records
+    pub written : after ≡ with_prefix_from first (record_entries_at base records) before
+    pub ends : WalkEnds iter_at_end file_at_end walked.end new file'

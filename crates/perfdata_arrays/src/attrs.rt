@@ -1,115 +1,115 @@
-//! The attributes of a file or a pipe, with their names and their ids.
+//! The attributes of a perf.data file or pipe, with their names and IDs.
 ghost use Rattle.std.specs.Prelude.{◌≡◌};
-ghost use Rattle.perfdata_table.specs.Attributes.{EndsOf, FileAttributes, PipeAttributes, Sums, TellsAttributes, attribute_at, has_name_in, name_bytes, no_totals};
+ghost use Rattle.perfdata_arrays.specs.Attrs.{AreEndOffsets, ReadsFileAttrs, ReadsPipeAttrs, IsCheckedSum, WritesAttrsOrPrefix, attr_entry_at, has_name_number, name_bytes, zero_totals};
 
-use crate::entry::{count, lay, put};
-use crate::records::{status_of_end, walk};
-use crate::status::{MEMORY, WHOLE, status_of};
+use crate::record::{byte_count, copy_at, write_entry};
+use crate::records::{walk, walk_result_status};
+use crate::status::{MEMORY, WHOLE, status_of_error};
 use linux_perf_data::{AttributeDescription, PerfFileReader};
 use std::alloc::Global;
 use std::io::Cursor;
 
-/// An attribute in numbers alone (`perf_event_attr` in Linux's `perf_event.h`), and the places of its name and its ids.
+/// An attribute as plain numbers (`perf_event_attr` in Linux's `perf_event.h`), with the positions of its name and its IDs.
 #[repr(C)]
 #[derive(Clone, Copy, Debug, PartialEq, Eq)]
-pub struct Attribute {
-    /// Which event of its kind.
+pub struct Attr {
+    /// The event within its type.
     pub config: u64,
-    /// Events a sample, or with the flag FREQ samples a second.
-    pub period_or_freq: u64,
-    /// What a sample holds, bit by bit.
-    pub sample_format: u64,
-    /// What a reading of the counter holds, bit by bit.
+    /// The sample period in events, or with the flag FREQ the sample frequency in samples per second.
+    pub sample_period_or_freq: u64,
+    /// The fields that a sample contains, as a bit mask.
+    pub sample_type: u64,
+    /// The fields that a counter reading contains, as a bit mask.
     pub read_format: u64,
-    /// What is recorded beside samples, and how, bit by bit.
+    /// What is recorded beside samples, and how, as a bit mask.
     pub flags: u64,
-    /// A second number of the event; of a breakpoint its address.
+    /// A second number of the event; for a breakpoint its address.
     pub config1: u64,
-    /// A third number of the event; of a breakpoint its length in bytes.
+    /// A third number of the event; for a breakpoint its length in bytes.
     pub config2: u64,
-    /// Which branches a branch stack holds, bit by bit.
+    /// The branches that a branch stack contains, as a bit mask.
     pub branch_sample_type: u64,
-    /// Which of the user's registers a sample holds, bit by bit.
+    /// The user registers that a sample contains, as a bit mask.
     pub sample_regs_user: u64,
-    /// Which registers at the interrupt a sample holds, bit by bit.
+    /// The registers at the interrupt that a sample contains, as a bit mask.
     pub sample_regs_intr: u64,
-    /// What a signal of the event carries.
+    /// The data that a signal of the event carries.
     pub sig_data: u64,
     /// A fourth number of the event.
     pub config3: u64,
-    /// Where its name begins among the bytes of all names.
-    pub name_place: u64,
-    /// How many bytes its name has; 0 where it has none.
-    pub name_length: u64,
-    /// Where its ids begin among the ids of all.
-    pub ids_place: u64,
-    /// How many ids it has.
+    /// The offset of its name in the bytes of all names.
+    pub name_offset: u64,
+    /// The size of its name in bytes; 0 if it has none.
+    pub name_size: u64,
+    /// The index of its first ID in the IDs of all attributes.
+    pub ids_start: u64,
+    /// The number of its IDs.
     pub ids_count: u64,
-    /// The kind of event: 0 hardware, 1 software, 2 tracepoint, 3 cache, 4 raw, 5 breakpoint, or a monitoring unit.
-    pub kind: u32,
-    /// How many bytes the attribute takes.
+    /// The type of event: 0 hardware, 1 software, 2 tracepoint, 3 cache, 4 raw, 5 breakpoint, otherwise a monitoring unit.
+    pub type_: u32,
+    /// The size of the attribute in bytes.
     pub size: u32,
-    /// Samples, or with the flag WATERMARK bytes, before the recorder is woken.
-    pub wakeup: u32,
-    /// The kind of breakpoint: 1 read, 2 write, 3 both, 4 execute.
+    /// The number of samples, or with the flag WATERMARK of bytes, before the recorder is woken.
+    pub wakeup_events: u32,
+    /// The type of breakpoint: 1 read, 2 write, 3 both, 4 execute.
     pub bp_type: u32,
-    /// How many bytes of the user's stack a sample holds.
+    /// The size in bytes of the user stack that a sample contains.
     pub sample_stack_user: u32,
-    /// The clock of times, with the flag USE_CLOCKID.
+    /// The clock of the times, with the flag USE_CLOCKID.
     pub clockid: i32,
-    /// Bytes of auxiliary data before the recorder is woken.
+    /// The number of bytes of aux data before the recorder is woken.
     pub aux_watermark: u32,
-    /// How many bytes of auxiliary data a sample holds.
+    /// The number of bytes of aux data that a sample contains.
     pub aux_sample_size: u32,
-    /// How many frames a call chain has at most.
+    /// The maximum number of frames in a call chain.
     pub sample_max_stack: u32,
-    /// 1 where the recording names it, else 0.
+    /// 1 if the recording contains its name, otherwise 0.
     pub has_name: u32,
 }
 
-/// How many attributes there are, how many bytes their names have and how many ids there are, and how the call ended.
+/// The number of attributes, the size of their names, the number of their IDs, and the status of the call.
 #[repr(C)]
 #[derive(Clone, Copy, Debug, PartialEq, Eq)]
-pub struct Totals {
-    /// How many attributes.
-    pub attributes: u64,
-    /// How many bytes all names have.
-    pub names: u64,
-    /// How many ids all have.
-    pub ids: u64,
-    /// 0 where nothing stands in the way, else its number (`crate::status`).
+pub struct AttrTotals {
+    /// The number of attributes.
+    pub attr_count: u64,
+    /// The size of all names in bytes.
+    pub names_size: u64,
+    /// The number of all IDs.
+    pub ids_count: u64,
+    /// 0 if no error occurred, otherwise the status code of the first error (`crate::status`).
     pub status: u32,
 }
 
-// The bytes of an attribute's name, none where it has none.
-fn name_of(of: &AttributeDescription) -> &[u8]
-    ensures { result.now ≡ name_bytes of.now }
+// The bytes of an attribute's name; empty if it has none.
+fn attr_name(description: &AttributeDescription) -> &[u8]
+    ensures { result.now ≡ name_bytes description.now }
 {
-    match of.name() {
+    match description.name() {
         Some(name) => name.as_bytes(),
         None => &[],
     }
 }
 
-// 1 where an attribute has a name, else 0.
-fn has_name(of: &AttributeDescription) -> u32
-    ensures { result ≡ has_name_in of.now }
+// 1 if the attribute has a name, otherwise 0.
+fn has_name(description: &AttributeDescription) -> u32
+    ensures { result ≡ has_name_number description.now }
 {
-    match of.name() {
+    match description.name() {
         Some(_) => 1,
         None => 0,
     }
 }
 
-// The entry of an attribute in front of whose name and ids so many bytes and so many ids stand.
-fn entry_of(of: &AttributeDescription, name_place: u64, ids_place: u64) -> Attribute
-    ensures { result ≡ attribute_at name_place ids_place of.now }
+// The entry of an attribute. `name_place` is the offset of its name, `ids_place` the index of its first ID.
+fn attr_entry(description: &AttributeDescription, name_place: u64, ids_place: u64) -> Attr
+    ensures { result ≡ attr_entry_at name_place ids_place description.now }
 {
-    let attr = of.attributes();
-    Attribute {
+    let attr = description.attributes();
+    Attr {
         config: attr.config,
-        period_or_freq: attr.period_or_freq,
-        sample_format: attr.sample_format.0,
+        sample_period_or_freq: attr.period_or_freq,
+        sample_type: attr.sample_format.0,
         read_format: attr.read_format,
         flags: attr.flags.0,
         config1: attr.config1,
@@ -119,26 +119,26 @@ fn entry_of(of: &AttributeDescription, name_place: u64, ids_place: u64) -> Attri
         sample_regs_intr: attr.sample_regs_intr,
         sig_data: attr.sig_data,
         config3: attr.config3,
-        name_place,
-        name_length: name_of(of).len() as u64,
-        ids_place,
-        ids_count: of.ids().len() as u64,
-        kind: attr.type_,
+        name_offset: name_place,
+        name_size: attr_name(description).len() as u64,
+        ids_start: ids_place,
+        ids_count: description.ids().len() as u64,
+        type_: attr.type_,
         size: attr.size,
-        wakeup: attr.wakeup,
+        wakeup_events: attr.wakeup,
         bp_type: attr.bp_type,
         sample_stack_user: attr.sample_stack_user,
         clockid: attr.clockid,
         aux_watermark: attr.aux_watermark,
         aux_sample_size: attr.aux_sample_size,
         sample_max_stack: attr.sample_max_stack as u32,
-        has_name: has_name(of),
+        has_name: has_name(description),
     }
 }
 
-// The sum, where a number of 64 bits holds it.
+// The sum, or `None` if it doesn't fit in 64 bits.
 fn plus(a: u64, b: u64) -> Option<u64>
-    ensures { Sums a b result }
+    ensures { IsCheckedSum a b result }
 {
     if a > u64::MAX - b {
         return None;
@@ -146,114 +146,128 @@ fn plus(a: u64, b: u64) -> Option<u64>
     Some(a + b)
 }
 
-// Where the name and the ids of an attribute end, in front of which so many bytes and so many ids stand, where numbers of 64 bits hold both.
-fn ends_of(of: &AttributeDescription, name_place: u64, ids_place: u64) -> Option<(u64, u64)>
-    ensures { EndsOf of.now name_place ids_place result }
+// The end of the attribute's name and the end of its IDs, or `None` if one of them doesn't fit in 64 bits. The name starts at
+// offset `name_place`, the IDs start at index `ids_place`.
+fn end_offsets(
+    description: &AttributeDescription,
+    name_place: u64,
+    ids_place: u64,
+) -> Option<(u64, u64)>
+    ensures { AreEndOffsets description.now name_place ids_place result }
 {
-    let names_end = plus(name_place, name_of(of).len() as u64)?;
-    let ids_end = plus(ids_place, of.ids().len() as u64)?;
+    let names_end = plus(name_place, attr_name(description).len() as u64)?;
+    let ids_end = plus(ids_place, description.ids().len() as u64)?;
     Some((names_end, ids_end))
 }
 
-// Writes the entries of attributes, their names and their ids, as many of each as there is room for.
-fn tell(
+// Writes the entries of attributes, their names and their IDs, each up to the capacity of its array. Ends with `MEMORY` before
+// the first attribute whose name end or ID end doesn't fit in 64 bits.
+fn write_attrs(
     all: &[AttributeDescription],
-    entries: &mut [Attribute],
+    entries: &mut [Attr],
     names: &mut [u8],
     ids: &mut [u64],
     status: u32,
-) -> Totals
-    ensures { TellsAttributes all.now status entries.old names.old ids.old result entries.new names.new ids.new }
+) -> AttrTotals
+    ensures { WritesAttrsOrPrefix all.now status entries.old names.old ids.old result entries.new names.new ids.new }
 {
     let mut index = 0;
     let mut name_place = 0u64;
     let mut ids_place = 0u64;
     'attributes: while index < all.len() {
         let of = &all[index];
-        let (names_end, ids_end) = match ends_of(of, name_place, ids_place) {
+        let (names_end, ids_end) = match end_offsets(of, name_place, ids_place) {
             Some(ends) => ends,
             None => {
-                return Totals {
-                    attributes: index as u64,
-                    names: name_place,
-                    ids: ids_place,
+                return AttrTotals {
+                    attr_count: index as u64,
+                    names_size: name_place,
+                    ids_count: ids_place,
                     status: MEMORY,
                 };
             }
         };
-        put(
+        write_entry(
             entries,
             index as u64,
             0,
-            entry_of(of, name_place, ids_place),
+            attr_entry(of, name_place, ids_place),
         );
-        lay(names, name_place, name_of(of));
-        lay(ids, ids_place, of.ids());
+        copy_at(names, name_place, attr_name(of));
+        copy_at(ids, ids_place, of.ids());
         name_place = names_end;
         ids_place = ids_end;
         index += 1;
     }
-    Totals {
-        attributes: index as u64,
-        names: name_place,
-        ids: ids_place,
+    AttrTotals {
+        attr_count: index as u64,
+        names_size: name_place,
+        ids_count: ids_place,
         status,
     }
 }
 
-// Nothing is told.
-fn none(status: u32) -> Totals
-    ensures { result ≡ no_totals status }
+// The result of a call that writes nothing.
+fn no_attrs(status: u32) -> AttrTotals
+    ensures { result ≡ zero_totals status }
 {
-    Totals {
-        attributes: 0,
-        names: 0,
-        ids: 0,
+    AttrTotals {
+        attr_count: 0,
+        names_size: 0,
+        ids_count: 0,
         status,
     }
 }
 
-/// The attributes of a perf.data file, their names one behind another and their ids, as many of each as there is room for. The status
-/// says whether the file opens.
-pub fn file_attributes(
+/// Writes the attributes of a perf.data file, their concatenated names and their IDs.
+///
+/// Each array receives as many elements as it has capacity for. The totals count all elements.
+///
+/// The status is 0 if the file opens. If it doesn't open, the status is that of the error, the totals are 0 and the arrays are
+/// unchanged. The status is `MEMORY` if a total doesn't fit in 64 bits; then the totals count the attributes before.
+pub fn file_attrs(
     alloc: Global,
     bytes: &[u8],
-    entries: &mut [Attribute],
+    entries: &mut [Attr],
     names: &mut [u8],
     ids: &mut [u64],
-) -> Totals
-    ensures { FileAttributes bytes.now entries.old names.old ids.old result entries.new names.new ids.new }
+) -> AttrTotals
+    ensures { ReadsFileAttrs bytes.now entries.old names.old ids.old result entries.new names.new ids.new }
 {
     match PerfFileReader::parse_file(alloc, Cursor::new(bytes)) {
-        Ok(reader) => tell(
+        Ok(reader) => write_attrs(
             reader.perf_file.event_attributes(),
             entries,
             names,
             ids,
             WHOLE,
         ),
-        Err(error) => none(status_of(&error)),
+        Err(error) => no_attrs(status_of_error(&error)),
     }
 }
 
-/// The attributes of a perf.data pipe, those included that come late, in the same way. The pipe is read to its end.
-pub fn pipe_attributes(
+/// Writes the attributes of a perf.data pipe, including late ones, as [`file_attrs`] does.
+///
+/// Reads the pipe to its end or to its first error. If an error follows the opening, the status is that of the error, and the
+/// attributes are those read before it. If the pipe doesn't open, the totals are 0 and the arrays are unchanged.
+pub fn pipe_attrs(
     alloc: Global,
     bytes: &[u8],
-    entries: &mut [Attribute],
+    entries: &mut [Attr],
     names: &mut [u8],
     ids: &mut [u64],
-) -> Totals
-    ensures { PipeAttributes bytes.now entries.old names.old ids.old result entries.new names.new ids.new }
+) -> AttrTotals
+    ensures { ReadsPipeAttrs bytes.now entries.old names.old ids.old result entries.new names.new ids.new }
 {
     let reader = match PerfFileReader::parse_pipe(alloc, Cursor::new(bytes)) {
         Ok(reader) => reader,
-        Err(error) => return none(status_of(&error)),
+        Err(error) => return no_attrs(status_of_error(&error)),
     };
     let mut file = reader.perf_file;
     let mut iter = reader.record_iter;
-    let _count = count(bytes);
+    // For the prover.
+    let _count = byte_count(bytes);
     let walked = walk(&mut iter, &mut file, 0, 0, &mut []);
-    let status = status_of_end(&walked.end);
-    tell(file.event_attributes(), entries, names, ids, status)
+    let status = walk_result_status(&walked.end);
+    write_attrs(file.event_attributes(), entries, names, ids, status)
 }

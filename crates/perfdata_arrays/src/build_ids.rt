@@ -1,63 +1,63 @@
-//! The entries of the section BUILD_ID, one by one.
+//! Single entries of a BUILD_ID section.
 ghost use Rattle.std.specs.Prelude.{◌≡◌};
 ghost use Rattle.std.specs.Option.{option_map};
-ghost use Rattle.linux_perf_data.specs.BuildIds.{TakesEntry};
+ghost use Rattle.linux_perf_data.specs.BuildIds.{ReadsFirstEntry};
 ghost use Rattle.perfdata_records.specs.DsoKey.{key_in};
-ghost use Rattle.perfdata_table.specs.BuildIds.{BuildIdTold, kind_number};
+ghost use Rattle.perfdata_arrays.specs.BuildIds.{ReadsBuildId, dso_kind_number};
 
-use crate::entry::count;
+use crate::record::byte_count;
 use crate::status::{CUT, MEMORY, WHOLE};
 use byteorder::{BigEndian, LittleEndian};
 use linux_perf_data::build_id_event::BuildIdEvent;
 use linux_perf_data::event::CpuMode;
-use linux_perf_data::source::AppendFault;
+use linux_perf_data::source::AppendError;
 use linux_perf_data::{DsoKey, Endianness};
 use std::alloc::Global;
 
-/// Where an entry's build id stands, in bytes from the entry's first.
-const ID_PLACE: u64 = 12;
+/// The offset of the build ID in an entry, in bytes.
+const ID_OFFSET: u64 = 12;
 
-/// Where its path stands.
-const PATH_PLACE: u64 = 36;
+/// The offset of the path in an entry, in bytes.
+const PATH_OFFSET: u64 = 36;
 
-/// An entry of the section BUILD_ID, with the places of its build id and its path.
+/// An entry of a BUILD_ID section, with the offsets of its build ID and its path.
 #[repr(C)]
 #[derive(Clone, Copy, Debug, PartialEq, Eq)]
 pub struct BuildId {
-    /// Where the build id begins in the section.
-    pub id_place: u64,
-    /// How many bytes it has, at most 20.
-    pub id_length: u64,
-    /// Where the path begins in the section.
-    pub path_place: u64,
-    /// How many bytes it has, up to its first NUL.
-    pub path_length: u64,
-    /// Where the next entry stands in the section.
-    pub next: u64,
-    /// The process, which is -1 mostly.
-    pub process: i32,
-    /// What the path goes by: 0 no mapped file, 1 the kernel, 2 a guest's kernel, 3 to 5 what the kernel maps into programs (of 32 bits, of
-    /// x32, of 64 bits), 6 the page of old system calls, 7 a module of the kernel, 8 a file that a program maps.
-    pub key: u32,
+    /// The offset of the build ID in the section, in bytes.
+    pub id_offset: u64,
+    /// The size of the build ID in bytes, at most 20.
+    pub id_size: u64,
+    /// The offset of the path in the section, in bytes.
+    pub path_offset: u64,
+    /// The size of the path in bytes, up to its first NUL.
+    pub path_size: u64,
+    /// The offset of the next entry in the section, in bytes.
+    pub next_offset: u64,
+    /// The process ID, usually -1.
+    pub pid: i32,
+    /// The DSO kind of the path: 0 no mapped file, 1 the kernel, 2 a guest kernel, 3 the 32-bit vDSO, 4 the x32 vDSO, 5 the
+    /// 64-bit vDSO, 6 the vsyscall page, 7 a kernel module, 8 a file that a program maps.
+    pub dso_kind: u32,
 }
 
-// The entry at the front of these bytes, which are left behind it.
-fn take_entry(
+// Parses the entry at the start of `bytes` and advances `bytes` to the rest.
+fn parse_entry(
     alloc: Global,
-    order: Endianness,
+    endian: Endianness,
     bytes: &mut &[u8],
-) -> Result<BuildIdEvent, AppendFault>
-    ensures { TakesEntry order bytes.old.now result bytes.new.now }
+) -> Result<BuildIdEvent, AppendError>
+    ensures { ReadsFirstEntry endian bytes.old.now result bytes.new.now }
 {
-    match order {
+    match endian {
         Endianness::LittleEndian => { BuildIdEvent::read_from::<&[u8], LittleEndian>(alloc, bytes) }
         Endianness::BigEndian => BuildIdEvent::read_from::<&[u8], BigEndian>(alloc, bytes),
     }
 }
 
-// The number of a key's kind, and 0 for none.
-fn kind_of(key: &Option<DsoKey>) -> u32
-    ensures { result ≡ kind_number (option_map key_in key.now) }
+// The number of a key's DSO kind; 0 for `None`.
+fn dso_kind(key: &Option<DsoKey>) -> u32
+    ensures { result ≡ dso_kind_number (option_map key_in key.now) }
 {
     match key {
         None => 0,
@@ -72,39 +72,41 @@ fn kind_of(key: &Option<DsoKey>) -> u32
     }
 }
 
-/// The entry at a place of the section BUILD_ID, and how the call ended: 0, or 2 where no entry stands there whole, or 1 where memory ran
-/// out, and then what is told stays as it was.
-pub fn build_id(
+/// Parses the entry at byte `offset` of a BUILD_ID section into `out`.
+///
+/// Returns 0 on success, 2 if the section has no complete entry at `offset`, and 1 if memory runs out. On an error `out` is
+/// unchanged.
+pub fn build_id_at(
     alloc: Global,
-    order: Endianness,
+    endian: Endianness,
     section: &[u8],
-    at: u64,
-    place: &mut BuildId,
+    offset: u64,
+    out: &mut BuildId,
 ) -> u32
-    ensures { BuildIdTold order section.now at place.old result place.new }
+    ensures { ReadsBuildId endian section.now offset out.old result out.new }
 {
-    if at > count(section) {
+    if offset > byte_count(section) {
         return CUT;
     }
-    let mut behind = &section[at as usize..];
-    let entry = match take_entry(alloc, order, &mut behind) {
+    let mut behind = &section[offset as usize..];
+    let entry = match parse_entry(alloc, endian, &mut behind) {
         Ok(entry) => entry,
-        Err(AppendFault::Memory) => return MEMORY,
-        Err(AppendFault::Source(_)) => return CUT,
+        Err(AppendError::Memory) => return MEMORY,
+        Err(AppendError::Source(_)) => return CUT,
     };
     let mode = CpuMode::from_misc(entry.header.misc);
     let key = match DsoKey::detect(alloc, entry.file_path.as_slice(), mode) {
         Ok(key) => key,
         Err(_) => return MEMORY,
     };
-    *place = BuildId {
-        id_place: at + ID_PLACE,
-        id_length: entry.build_id.len() as u64,
-        path_place: at + PATH_PLACE,
-        path_length: entry.file_path.len() as u64,
-        next: (section.len() - behind.len()) as u64,
-        process: entry._pid,
-        key: kind_of(&key),
+    *out = BuildId {
+        id_offset: offset + ID_OFFSET,
+        id_size: entry.build_id.len() as u64,
+        path_offset: offset + PATH_OFFSET,
+        path_size: entry.file_path.len() as u64,
+        next_offset: (section.len() - behind.len()) as u64,
+        pid: entry._pid,
+        dso_kind: dso_kind(&key),
     };
     WHOLE
 }

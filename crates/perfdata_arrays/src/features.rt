@@ -1,84 +1,90 @@
-//! The bytes of a feature of a file or a pipe.
+//! The bytes of a feature of a perf.data file or pipe.
 ghost use Rattle.std.specs.Prelude.{◌≡◌};
-ghost use Rattle.linux_perf_data.specs.PerfFile.{data_of};
-ghost use Rattle.perfdata_table.specs.Features.{Copied, FileFeature, PipeFeature};
+ghost use Rattle.linux_perf_data.specs.PerfFile.{feature_data_in_file};
+ghost use Rattle.perfdata_arrays.specs.Features.{CopiesFeature, ReadsFileFeature, ReadsPipeFeature};
 
-use crate::entry::{count, overlay};
-use crate::records::{status_of_end, walk};
-use crate::status::{WHOLE, status_of};
+use crate::record::{byte_count, copy_prefix};
+use crate::records::{walk, walk_result_status};
+use crate::status::{WHOLE, status_of_error};
 use linux_perf_data::{Feature, PerfFile, PerfFileReader};
 use std::alloc::Global;
 use std::io::Cursor;
 
-/// A feature's size, and how the call ended.
+/// The size of a feature and the status of the call.
 #[derive(Clone, Copy, Debug, PartialEq, Eq)]
-pub struct Size {
-    /// How many bytes the feature has; 0 where it isn't there.
-    pub bytes: u64,
-    /// 1 where the input has the feature, else 0.
-    pub has: u8,
-    /// 0 where the input is whole, else the number of what stands in the way (`crate::status`).
+pub struct FeatureResult {
+    /// The size of the feature in bytes; 0 if the input doesn't have it.
+    pub size: u64,
+    /// 1 if the input has the feature, otherwise 0.
+    pub is_present: u8,
+    /// 0 if the input is complete, otherwise the status code of the first error (`crate::status`).
     pub status: u32,
 }
 
-// Copies a feature's bytes, as many as there is room for.
-fn copy_feature(file: &PerfFile, feature: u32, place: &mut [u8], status: u32) -> Size
+// Copies the bytes of a feature into `buf`, up to its capacity.
+fn copy_feature(file: &PerfFile, feature: u32, buf: &mut [u8], status: u32) -> FeatureResult
     ensures status { result.status ≡ status }
-    ensures copied { Copied (data_of file.now feature) place.old result place.new }
+    ensures copied { CopiesFeature (feature_data_in_file file.now feature) buf.old result buf.new }
 {
     match file.feature_section_data(Feature(feature)) {
         Some(bytes) => {
-            overlay(place, bytes);
-            Size {
-                bytes: bytes.len() as u64,
-                has: 1,
+            copy_prefix(buf, bytes);
+            FeatureResult {
+                size: bytes.len() as u64,
+                is_present: 1,
                 status,
             }
         }
-        None => Size {
-            bytes: 0,
-            has: 0,
+        None => FeatureResult {
+            size: 0,
+            is_present: 0,
             status,
         },
     }
 }
 
-/// The bytes of a feature of a perf.data file, as many as there is room for. The status says whether the file opens.
-pub fn file_feature(alloc: Global, bytes: &[u8], feature: u32, place: &mut [u8]) -> Size
-    ensures { FileFeature bytes.now feature place.old result place.new }
+/// Copies the bytes of a feature of a perf.data file into `buf`, up to its capacity.
+///
+/// The status is 0 if the file opens. If it doesn't open, the status is that of the error, `size` is 0 and `buf` is unchanged.
+pub fn file_feature(alloc: Global, bytes: &[u8], feature: u32, buf: &mut [u8]) -> FeatureResult
+    ensures { ReadsFileFeature bytes.now feature buf.old result buf.new }
 {
     match PerfFileReader::parse_file(alloc, Cursor::new(bytes)) {
-        Ok(reader) => copy_feature(&reader.perf_file, feature, place, WHOLE),
+        Ok(reader) => copy_feature(&reader.perf_file, feature, buf, WHOLE),
         Err(error) => {
-            let status = status_of(&error);
-            Size {
-                bytes: 0,
-                has: 0,
+            let status = status_of_error(&error);
+            FeatureResult {
+                size: 0,
+                is_present: 0,
                 status,
             }
         }
     }
 }
 
-/// The bytes of a feature of a perf.data pipe, of those that came last, as many as there is room for. The pipe is read to its end.
-pub fn pipe_feature(alloc: Global, bytes: &[u8], feature: u32, place: &mut [u8]) -> Size
-    ensures { PipeFeature bytes.now feature place.old result place.new }
+/// Copies the bytes of a feature of a perf.data pipe into `buf`, up to its capacity.
+///
+/// Reads the pipe to its end or to its first error, and uses the last bytes of the feature up to there. If the pipe doesn't open,
+/// the status is that of the error, `size` is 0 and `buf` is unchanged.
+pub fn pipe_feature(alloc: Global, bytes: &[u8], feature: u32, buf: &mut [u8]) -> FeatureResult
+    ensures { ReadsPipeFeature bytes.now feature buf.old result buf.new }
 {
     let reader = match PerfFileReader::parse_pipe(alloc, Cursor::new(bytes)) {
         Ok(reader) => reader,
         Err(error) => {
-            let status = status_of(&error);
-            return Size {
-                bytes: 0,
-                has: 0,
+            let status = status_of_error(&error);
+            return FeatureResult {
+                size: 0,
+                is_present: 0,
                 status,
             };
         }
     };
     let mut file = reader.perf_file;
     let mut iter = reader.record_iter;
-    let _count = count(bytes);
+    // For the prover.
+    let _count = byte_count(bytes);
     let walked = walk(&mut iter, &mut file, 0, 0, &mut []);
-    let status = status_of_end(&walked.end);
-    copy_feature(&file, feature, place, status)
+    let status = walk_result_status(&walked.end);
+    copy_feature(&file, feature, buf, status)
 }

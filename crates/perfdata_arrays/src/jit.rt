@@ -1,102 +1,102 @@
 //! The header and the records of a jitdump, as entries.
 ghost use Rattle.std.specs.Prelude.{◌≡◌, ◌+◌, ◌^◌, ◌<◌, ◌≤◌, Ok, Some, length};
-ghost use Rattle.perfdata_table.specs.Jit.{FindsRecord, HeaderTold, JitTold, LoadTold, LoadsIn, ReadsHeader, header_front, is_big};
+ghost use Rattle.perfdata_arrays.specs.Jit.{FindsRecord, ReadsJitHeader, ReadsJitRecords, ReadsJitLoad, ParsesLoad, ParsesJitHeader, header_window, endian_number_of};
 
-use crate::entry::count;
-use crate::status::{BAD_JIT_SIZE, BAD_LOAD, CUT, NO_LOAD, WHOLE, status_of_jit};
-use perfdata_base::order::{read_u32, read_u64};
+use crate::record::byte_count;
+use crate::status::{BAD_JIT_SIZE, BAD_LOAD, CUT, NO_LOAD, WHOLE, status_of_jit_error};
+use perfdata_base::endian::{read_u32, read_u64};
 use perfdata_base::raw::{Endianness, RawData};
 use perfdata_jit::{JitCodeLoadRecord, JitDumpHeader};
 
-/// How many bytes a header may have.
-const LONGEST_HEADER: usize = 4096;
+/// The maximum size of a jitdump header in bytes.
+const MAX_HEADER_SIZE: usize = 4096;
 
-/// How many bytes a record's head has.
-const HEAD: usize = 16;
+/// The size of a record header in bytes.
+const RECORD_HEADER_SIZE: usize = 16;
 
-/// The header of a jitdump, in numbers alone.
+/// The header of a jitdump, as plain numbers.
 #[repr(C)]
 #[derive(Clone, Copy, Debug, PartialEq, Eq)]
 pub struct JitHeader {
-    /// When the file was made.
-    pub time: u64,
-    /// Bit 0: times are those of the time stamp counter.
+    /// The time at which the file was created.
+    pub timestamp: u64,
+    /// Bit 0 is set if times are those of the time stamp counter.
     pub flags: u64,
     /// The version of the format.
     pub version: u32,
-    /// How many bytes the header has, and so where the first record stands.
+    /// The size of the header in bytes, which is the offset of the first record.
     pub header_size: u32,
     /// The machine that the code is for, as `e_machine` of an ELF file.
-    pub machine: u32,
-    /// The process whose code it is.
-    pub process: u32,
-    /// 1 where the file's numbers are big-endian, else 0.
-    pub big_endian: u32,
-    /// 0.
-    pub unused: u32,
+    pub elf_machine: u32,
+    /// The ID of the process that the code belongs to.
+    pub pid: u32,
+    /// 1 if the file's numbers are big-endian, otherwise 0.
+    pub is_big_endian: u32,
+    /// Always 0.
+    pub reserved: u32,
 }
 
-/// Where a jitdump's record stands and what its head says.
+/// The offset and the header fields of a jitdump record.
 #[repr(C)]
 #[derive(Clone, Copy, Debug, PartialEq, Eq)]
 pub struct JitRecord {
-    /// Where its head begins, in bytes from the file's first.
-    pub place: u64,
-    /// When it was written.
-    pub time: u64,
-    /// Its type.
+    /// The offset of the record header in bytes, counted from the start of the file.
+    pub offset: u64,
+    /// The time at which the record was written.
+    pub timestamp: u64,
+    /// The record's type.
     pub record_type: u32,
-    /// How many bytes it has, its head of 16 counted.
+    /// The size of the record in bytes, including its 16-byte header.
     pub size: u32,
 }
 
-/// How many records were written into an array, where the next one stands, and how the call ended.
+/// The number of records written into an array, the offset of the next record, and the status of the call.
 #[derive(Clone, Copy, Debug, PartialEq, Eq)]
-pub struct JitTotal {
-    /// How many were written.
-    pub records: u64,
-    /// Where the record behind them stands, in bytes from the file's first.
-    pub next: u64,
-    /// 0 where nothing stands in the way, else its number (`crate::status`).
+pub struct JitRecordsResult {
+    /// The number of records written.
+    pub count: u64,
+    /// The offset of the record after them in bytes, counted from the start of the file.
+    pub next_offset: u64,
+    /// 0 if no error occurred, otherwise the status code of the error (`crate::status`).
     pub status: u32,
 }
 
-/// A load record, with the places of its name and its code.
+/// A load record, with the offsets of its name and its code.
 #[repr(C)]
 #[derive(Clone, Copy, Debug, PartialEq, Eq)]
 pub struct JitLoad {
     /// The address at which the code is mapped.
-    pub mapping: u64,
+    pub vma: u64,
     /// The address of the code.
-    pub address: u64,
-    /// What tells this code from all other, and by which a move names it.
-    pub index: u64,
-    /// Where the function's name begins in the file.
-    pub name_place: u64,
-    /// How many bytes it has, without the NUL that ends it.
-    pub name_length: u64,
-    /// Where the code begins in the file.
-    pub code_place: u64,
-    /// How many bytes it has.
-    pub code_length: u64,
-    /// The process that made it.
-    pub process: u32,
-    /// The thread that made it.
-    pub thread: u32,
+    pub code_address: u64,
+    /// The number that identifies the code. A move record refers to the code by it.
+    pub code_index: u64,
+    /// The offset of the function's name in the file, in bytes.
+    pub name_offset: u64,
+    /// The size of the name in bytes, without its terminating NUL.
+    pub name_size: u64,
+    /// The offset of the code in the file, in bytes.
+    pub code_offset: u64,
+    /// The size of the code in bytes.
+    pub code_size: u64,
+    /// The ID of the process that created the code.
+    pub pid: u32,
+    /// The ID of the thread that created the code.
+    pub tid: u32,
 }
 
-// The bytes in which a header is to be whole.
-fn front_of(bytes: &[u8]) -> &[u8]
-    ensures { result.now ≡ header_front bytes.now }
+// The prefix of the file that has to contain the whole header.
+fn header_prefix(bytes: &[u8]) -> &[u8]
+    ensures { result.now ≡ header_window bytes.now }
 {
-    &bytes[..bytes.len().min(LONGEST_HEADER)]
+    &bytes[..bytes.len().min(MAX_HEADER_SIZE)]
 }
 
-// The header of a jitdump, and the order of its numbers.
-fn read_header(bytes: &[u8]) -> Result<(JitDumpHeader, Endianness), u32>
-    ensures { ReadsHeader bytes.now result }
+// Parses the header of a jitdump and its byte order. The error is a status code.
+fn parse_header(bytes: &[u8]) -> Result<(JitDumpHeader, Endianness), u32>
+    ensures { ParsesJitHeader bytes.now result }
 {
-    match JitDumpHeader::parse(RawData::Single(front_of(bytes))) {
+    match JitDumpHeader::parse(RawData::Single(header_prefix(bytes))) {
         Ok(header) => {
             if header.magic[0] == b'D' {
                 Ok((header, Endianness::LittleEndian))
@@ -104,37 +104,38 @@ fn read_header(bytes: &[u8]) -> Result<(JitDumpHeader, Endianness), u32>
                 Ok((header, Endianness::BigEndian))
             }
         }
-        Err(error) => Err(status_of_jit(&error)),
+        Err(error) => Err(status_of_jit_error(&error)),
     }
 }
 
-// 1 for big-endian numbers, and 0 for little-endian ones.
-fn big_endian(order: Endianness) -> u32
-    ensures { result ≡ is_big order }
+// 1 for big-endian, 0 for little-endian.
+fn endian_number(endian: Endianness) -> u32
+    ensures { result ≡ endian_number_of endian }
 {
-    match order {
+    match endian {
         Endianness::LittleEndian => 0,
         Endianness::BigEndian => 1,
     }
 }
 
-/// The header of a jitdump, and how the call ended: 0, or the number of what refuses the header, and the place is left as it was.
+/// Parses the header of a jitdump into `out`.
 ///
-/// A header of more than 4,096 bytes is refused.
-pub fn jit_header(bytes: &[u8], place: &mut JitHeader) -> u32
-    ensures { HeaderTold bytes.now place.old result place.new }
+/// Returns 0 on success, otherwise the status code of the header's error. On an error `out` is unchanged. A header of more than
+/// 4,096 bytes is an error.
+pub fn jit_header(bytes: &[u8], out: &mut JitHeader) -> u32
+    ensures { ReadsJitHeader bytes.now out.old result out.new }
 {
-    match read_header(bytes) {
+    match parse_header(bytes) {
         Ok((header, order)) => {
-            *place = JitHeader {
-                time: header.timestamp,
+            *out = JitHeader {
+                timestamp: header.timestamp,
                 flags: header.flags,
                 version: header.version,
                 header_size: header.total_size,
-                machine: header.elf_machine_arch,
-                process: header.pid,
-                big_endian: big_endian(order),
-                unused: 0,
+                elf_machine: header.elf_machine_arch,
+                pid: header.pid,
+                is_big_endian: endian_number(order),
+                reserved: 0,
             };
             WHOLE
         }
@@ -142,51 +143,56 @@ pub fn jit_header(bytes: &[u8], place: &mut JitHeader) -> u32
     }
 }
 
-// The whole record at a place; none where it isn't there whole, and a refusal where no record can have its size.
-fn record_at(order: Endianness, bytes: &[u8], at: u64) -> Result<Option<JitRecord>, u32>
-    ensures { FindsRecord order bytes.now at result }
+// Returns the record at `offset`, `None` if the bytes contain no complete record there, and `BAD_JIT_SIZE` if no record can have
+// its size.
+fn record_at(endian: Endianness, bytes: &[u8], offset: u64) -> Result<Option<JitRecord>, u32>
+    ensures { FindsRecord endian bytes.now offset result }
 {
-    if at > count(bytes) {
+    if offset > byte_count(bytes) {
         return Ok(None);
     }
-    let rest = &bytes[at as usize..];
-    if rest.len() < HEAD {
+    let rest = &bytes[offset as usize..];
+    if rest.len() < RECORD_HEADER_SIZE {
         return Ok(None);
     }
-    let size = read_u32(order, &rest[4..]);
-    if (size as usize) < HEAD {
+    let size = read_u32(endian, &rest[4..]);
+    if (size as usize) < RECORD_HEADER_SIZE {
         return Err(BAD_JIT_SIZE);
     }
     if size as usize > rest.len() {
         return Ok(None);
     }
     Ok(Some(JitRecord {
-        place: at,
-        time: read_u64(order, &rest[8..]),
-        record_type: read_u32(order, rest),
+        offset: offset,
+        timestamp: read_u64(endian, &rest[8..]),
+        record_type: read_u32(endian, rest),
         size,
     }))
 }
 
-/// The whole records of a jitdump from a place on, as many as there is room for; from the first on where the place stands in the header.
+/// Writes the entries of a jitdump's complete records, starting at byte `start_offset`.
 ///
-/// The total tells how many were written, and where a later call goes on: once there is room again, or once the file has grown. Its
-/// status is 0 where the next record isn't there whole or has no room, `BAD_JIT_SIZE` where no record can stand there, and else the
-/// number of what refuses the header, as by [`jit_header`].
-pub fn jit_records(bytes: &[u8], from: u64, entries: &mut [JitRecord]) -> JitTotal
-    ensures { JitTold bytes.now from entries.old result entries.new }
+/// Starts at the first record if `start_offset` is within the header. Writes as many entries as `entries` has capacity for.
+/// `count` is the number of entries written. A later call continues at `next_offset`, with new capacity or after the file has
+/// grown.
+///
+/// The status is 0 if the next record is truncated or doesn't fit in `entries`, and `BAD_JIT_SIZE` if no record can start at
+/// `next_offset`. If the header has an error, the status is that of [`jit_header`], `count` is 0 and `next_offset` is
+/// `start_offset`.
+pub fn jit_records(bytes: &[u8], start_offset: u64, entries: &mut [JitRecord]) -> JitRecordsResult
+    ensures { ReadsJitRecords bytes.now start_offset entries.old result entries.new }
 {
-    let (header, order) = match read_header(bytes) {
+    let (header, order) = match parse_header(bytes) {
         Ok(read) => read,
         Err(status) => {
-            return JitTotal {
-                records: 0,
-                next: from,
+            return JitRecordsResult {
+                count: 0,
+                next_offset: start_offset,
                 status,
             };
         }
     };
-    let mut next = from.max(header.total_size as u64);
+    let mut next = start_offset.max(header.total_size as u64);
     let mut records = 0;
     'records: while records < entries.len() {
         match record_at(order, bytes, next) {
@@ -196,79 +202,85 @@ pub fn jit_records(bytes: &[u8], from: u64, entries: &mut [JitRecord]) -> JitTot
                 next += record.size as u64;
             }
             Ok(None) => {
-                return JitTotal {
-                    records: records as u64,
-                    next,
+                return JitRecordsResult {
+                    count: records as u64,
+                    next_offset: next,
                     status: WHOLE,
                 };
             }
             Err(status) => {
-                return JitTotal {
-                    records: records as u64,
-                    next,
+                return JitRecordsResult {
+                    count: records as u64,
+                    next_offset: next,
                     status,
                 };
             }
         }
     }
-    JitTotal {
-        records: records as u64,
-        next,
+    JitRecordsResult {
+        count: records as u64,
+        next_offset: next,
         status: WHOLE,
     }
 }
 
-// The load record that an entry is of, or why it is of none.
-fn load_in(order: Endianness, bytes: &[u8], entry: &JitRecord) -> Result<JitLoad, u32>
-    requires found { FindsRecord order bytes.now entry.now.place (Ok (Some entry.now)) }
-    requires least { 16 ≤ entry.now.size }
-    requires within { entry.now.place + entry.now.size ≤ length bytes.now }
-    requires near { length bytes.now < 2 ^ 63 }
-    ensures { LoadsIn order bytes.now entry.now.place result }
+// Parses the load record of an entry. The error is `NO_LOAD` if the record has another type, and `BAD_LOAD` if its body is
+// invalid.
+fn parse_load(endian: Endianness, bytes: &[u8], entry: &JitRecord) -> Result<JitLoad, u32>
+    requires found_at { FindsRecord endian bytes.now entry.now.offset (Ok (Some entry.now)) }
+    requires min_size { 16 ≤ entry.now.size }
+    requires in_bounds { entry.now.offset + entry.now.size ≤ length bytes.now }
+    requires fits { length bytes.now < 2 ^ 63 }
+    ensures { ParsesLoad endian bytes.now entry.now.offset result }
 {
     if entry.record_type != 0 {
         return Err(NO_LOAD);
     }
-    let at = entry.place;
-    let start = at as usize + HEAD;
+    let at = entry.offset;
+    let start = at as usize + RECORD_HEADER_SIZE;
     let rest = &bytes[start..];
-    let body = &rest[..entry.size as usize - HEAD];
-    match JitCodeLoadRecord::parse(order, RawData::Single(body)) {
+    let body = &rest[..entry.size as usize - RECORD_HEADER_SIZE];
+    match JitCodeLoadRecord::parse(endian, RawData::Single(body)) {
         Ok(load) => {
             let name_length = load.function_name.len() as u64;
             Ok(JitLoad {
-                mapping: load.vma,
-                address: load.code_addr,
-                index: load.code_index,
-                name_place: at + 56,
-                name_length,
-                code_place: at + 57 + name_length,
-                code_length: load.code_bytes.len() as u64,
-                process: load.pid,
-                thread: load.tid,
+                vma: load.vma,
+                code_address: load.code_addr,
+                code_index: load.code_index,
+                name_offset: at + 56,
+                name_size: name_length,
+                code_offset: at + 57 + name_length,
+                code_size: load.code_bytes.len() as u64,
+                pid: load.pid,
+                tid: load.tid,
             })
         }
         Err(_) => Err(BAD_LOAD),
     }
 }
 
-/// What the load record at a place says, and how the call ended: 0, or the number of why there is none, and the place is left as it was.
-pub fn jit_load(bytes: &[u8], at: u64, place: &mut JitLoad) -> u32
-    ensures { LoadTold bytes.now at place.old result place.new }
+/// Parses the load record at byte `offset` of a jitdump into `out`.
+///
+/// Returns 0 on success. Returns the status of [`jit_header`] if the header has an error, `CUT` if the bytes contain no complete
+/// record at `offset`, `BAD_JIT_SIZE` if no record can have its size, `NO_LOAD` if the record has another type, and `BAD_LOAD` if
+/// its body is invalid. On an error `out` is unchanged.
+pub fn jit_load(bytes: &[u8], offset: u64, out: &mut JitLoad) -> u32
+    ensures { ReadsJitLoad bytes.now offset out.old result out.new }
 {
-    let (_header, order) = match read_header(bytes) {
+    let (_header, order) = match parse_header(bytes) {
         Ok(read) => read,
         Err(status) => return status,
     };
-    let _count = count(bytes);
-    let record = match record_at(order, bytes, at) {
+    // For the prover.
+    let _count = byte_count(bytes);
+    let record = match record_at(order, bytes, offset) {
         Ok(Some(record)) => record,
         Ok(None) => return CUT,
         Err(status) => return status,
     };
-    match load_in(order, bytes, &record) {
+    match parse_load(order, bytes, &record) {
         Ok(load) => {
-            *place = load;
+            *out = load;
             WHOLE
         }
         Err(status) => status,

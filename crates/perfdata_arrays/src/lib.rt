@@ -1,13 +1,13 @@
-//! Recordings in memory as tables of plain numbers: what a caller in any language reads out of an array.
+//! Parses recordings in memory into tables of plain numbers, which a caller in any language can read from an array.
 //!
-//! Each call walks its bytes from their start and keeps nothing: it fills arrays that its caller hands in, and says how much there is
-//! in all. Bytes in memory never fail and never pause, so the entries are exactly those of the records of the input's layout.
+//! Each call parses its bytes from the start and keeps no state. It fills arrays that the caller passes, and returns the total
+//! counts. A slice in memory never fails and never pauses: the entries are exactly those of the records of the input's layout.
 #![tactic(auto)]
 
-pub mod attributes;
+pub mod attrs;
 pub mod build_ids;
-pub mod entry;
 pub mod features;
 pub mod jit;
+pub mod record;
 pub mod records;
 pub mod status;

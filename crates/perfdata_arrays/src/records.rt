@@ -1,62 +1,62 @@
-//! The records of a file or a pipe, as entries.
+//! The records of a perf.data file or pipe, as entries.
 ghost use Rattle.std.specs.Prelude.{◌≡◌, ◌<◌, ◌^◌, drop, length};
-ghost use Rattle.linux_perf_data.specs.Reading.{IsUnfailed};
-ghost use Rattle.perfdata_table.specs.Table.{FileTold, MetadataSize, OpensWith, PipeTold};
-ghost use Rattle.perfdata_table.specs.Walk.{HasRoomToRun, Walks, end_status};
+ghost use Rattle.linux_perf_data.specs.FileReading.{HasNotFailed};
+ghost use Rattle.perfdata_arrays.specs.Records.{ReadsFileRecords, IsMetadataSize, IsOpeningSize, ReadsPipeRecords};
+ghost use Rattle.perfdata_arrays.specs.Walk.{FitsAtIfRunning, WalksRecords, walk_status};
 
-use crate::entry::{Record, count, entry_of, put};
-use crate::status::{WHOLE, status_of, status_of_io};
+use crate::record::{Record, byte_count, record_entry, write_entry};
+use crate::status::{WHOLE, status_of_error, status_of_io_error};
 use linux_perf_data::header::PerfHeader;
 use linux_perf_data::source::Source;
 use linux_perf_data::{Endianness, Error, PerfFile, PerfFileReader, PerfRecordIter};
-use perfdata_base::order::{read_u16, read_u32, read_u64};
+use perfdata_base::endian::{read_u16, read_u32, read_u64};
 use std::alloc::Global;
 use std::io::Cursor;
 
-/// How many records there are, and how the call ended.
+/// The number of records and the status of the call.
 #[derive(Clone, Copy, Debug, PartialEq, Eq)]
-pub struct Total {
-    /// How many records the layout has, or how many stand in front of its fault.
-    pub records: u64,
-    /// 0 where the layout is whole, else the number of what stands in the way (`crate::status`).
+pub struct RecordsResult {
+    /// The number of records in the layout, or before its first error.
+    pub count: u64,
+    /// 0 if the layout is complete, otherwise the status code of the first error (`crate::status`).
     pub status: u32,
 }
 
-// How far a walk came, and what ended it.
+// The number of records that a walk reads, and how it ends.
 #[derive(Drop)]
-pub(crate) struct Walked {
-    pub(crate) records: u64,
+pub(crate) struct WalkResult {
+    pub(crate) count: u64,
     pub(crate) end: Result<(), Error>,
 }
 
-// Walks to the end, and writes the entries of the records from `first` on, as many as there is room for.
+// Reads all records and writes the entries of the records from index `first` on, up to the capacity of `entries`.
 pub(crate) fn walk<R: Source>(
     iter: &mut PerfRecordIter<R>,
     file: &mut PerfFile,
     base: u64,
     first: u64,
     entries: &mut [Record],
-) -> Walked
-    requires unfailed { IsUnfailed iter.old }
-    requires room { HasRoomToRun R.seen iter.old base }
-    ensures { Walks R.seen iter.old file.old base first entries.old result iter.new file.new entries.new }
+) -> WalkResult
+    requires not_failed { HasNotFailed iter.old }
+    requires fits_if_running { FitsAtIfRunning R.state iter.old base }
+    ensures { WalksRecords R.state iter.old file.old base first entries.old result iter.new file.new entries.new }
 {
     let mut records = 0u64;
     'records: loop {
         match iter.next_record(file) {
             Ok(Some((place, record))) => {
-                put(entries, records, first, entry_of(base, place, &record));
+                write_entry(entries, records, first, record_entry(base, place, &record));
                 records += 1;
             }
             Ok(None) => {
-                return Walked {
-                    records,
+                return WalkResult {
+                    count: records,
                     end: Ok(()),
                 };
             }
             Err(error) => {
-                return Walked {
-                    records,
+                return WalkResult {
+                    count: records,
                     end: Err(error),
                 };
             }
@@ -64,64 +64,72 @@ pub(crate) fn walk<R: Source>(
     }
 }
 
-// The status of a walk's end.
-pub(crate) fn status_of_end(end: &Result<(), Error>) -> u32
-    ensures { result ≡ end_status end.now }
+// The status code for the end of a walk.
+pub(crate) fn walk_result_status(end: &Result<(), Error>) -> u32
+    ensures { result ≡ walk_status end.now }
 {
     match end {
         Ok(()) => WHOLE,
-        Err(error) => status_of(error),
+        Err(error) => status_of_error(error),
     }
 }
 
-/// The records of a perf.data file, as entries from the one of index `first` on, as many as there is room for; what is behind them in the
-/// array stays as it was.
+/// Writes the entries of a perf.data file's records, starting with the record of index `first`.
 ///
-/// The total counts all records, also those that aren't written. Where the file has a fault they are those in front of it, and where it
-/// doesn't open there are none; where memory runs out, the first of them. The file's refusals are those of `PerfFileReader::parse_file` and
-/// of `PerfRecordIter::next_record`. Markers (FINISHED_ROUND) are no records.
-pub fn file_records(alloc: Global, bytes: &[u8], first: u64, entries: &mut [Record]) -> Total
-    ensures { FileTold bytes.now first entries.old result entries.new }
+/// Writes as many entries as `entries` has capacity for. The elements after the last written entry are unchanged. `count`
+/// includes the records that aren't written. FINISHED_ROUND markers aren't records.
+///
+/// The errors are those of `PerfFileReader::parse_file` and of `PerfRecordIter::next_record`. If the file doesn't open, `count`
+/// is 0. If the layout has an error, `count` is the number of records before it. If memory runs out, the counted records are a
+/// prefix of the layout's records.
+pub fn file_records(
+    alloc: Global,
+    bytes: &[u8],
+    first: u64,
+    entries: &mut [Record],
+) -> RecordsResult
+    ensures { ReadsFileRecords bytes.now first entries.old result entries.new }
 {
     let header = match PerfHeader::parse(Cursor::new(bytes)) {
         Ok(header) => header,
         Err(error) => {
-            let status = status_of_io(&error);
-            return Total { records: 0, status };
+            let status = status_of_io_error(&error);
+            return RecordsResult { count: 0, status };
         }
     };
     let reader = match PerfFileReader::parse_file(alloc, Cursor::new(bytes)) {
         Ok(reader) => reader,
         Err(error) => {
-            let status = status_of(&error);
-            return Total { records: 0, status };
+            let status = status_of_error(&error);
+            return RecordsResult { count: 0, status };
         }
     };
     let mut file = reader.perf_file;
     let mut iter = reader.record_iter;
     let base = header.data_section.offset;
-    let _count = count(bytes);
+    // For the prover.
+    let _count = byte_count(bytes);
     let walked = walk(&mut iter, &mut file, base, first, entries);
-    Total {
-        records: walked.records,
-        status: status_of_end(&walked.end),
+    RecordsResult {
+        count: walked.count,
+        status: walk_result_status(&walked.end),
     }
 }
 
-/// How many bytes a record's head has.
-const HEAD: usize = 8;
+/// The size of a record header in bytes.
+const RECORD_HEADER_SIZE: usize = 8;
 
-// The size of the record of metadata at a place, and 0 where none stands there.
-fn metadata_size(order: Endianness, bytes: &[u8], at: u64) -> u64
-    ensures size { MetadataSize order (drop at bytes.now) result }
-    ensures most { result < 2 ^ 16 }
-    ensures near { length bytes.now < 2 ^ 63 }
+// The size in bytes of the metadata record at `offset`, or 0 if no metadata record starts there.
+fn metadata_size(order: Endianness, bytes: &[u8], offset: u64) -> u64
+    ensures size { IsMetadataSize order (drop offset bytes.now) result }
+    ensures below_u16_max { result < 2 ^ 16 }
+    ensures fits { length bytes.now < 2 ^ 63 }
 {
-    if at > count(bytes) {
+    if offset > byte_count(bytes) {
         return 0;
     }
-    let rest = &bytes[at as usize..];
-    if rest.len() < HEAD {
+    let rest = &bytes[offset as usize..];
+    if rest.len() < RECORD_HEADER_SIZE {
         return 0;
     }
     let kind = read_u32(order, rest);
@@ -135,9 +143,9 @@ fn metadata_size(order: Endianness, bytes: &[u8], at: u64) -> u64
     size as u64
 }
 
-// How many bytes a pipe opens with: its header, and the records of metadata behind it.
-fn opening_length(order: Endianness, bytes: &[u8]) -> u64
-    ensures { OpensWith order bytes.now result }
+// The size of a pipe's opening in bytes: the pipe header and the metadata records after it.
+fn opening_size(order: Endianness, bytes: &[u8]) -> u64
+    ensures { IsOpeningSize order bytes.now result }
 {
     if bytes.len() < 16 {
         return 0;
@@ -152,26 +160,36 @@ fn opening_length(order: Endianness, bytes: &[u8]) -> u64
     }
 }
 
-/// The records of a perf.data pipe behind the records of metadata that open it, in the same way. Offsets count from the first of them. A
-/// pipe ends where a record is cut, which is no fault; its refusals are those of `PerfFileReader::parse_pipe` and of
+/// Writes the entries of a perf.data pipe's records, starting with the record of index `first`.
+///
+/// The entries, the count and the status are those of [`file_records`], for the records after the metadata records that open the
+/// pipe. Offsets count from the first of these records.
+///
+/// A truncated record ends a pipe without an error. The errors are those of `PerfFileReader::parse_pipe` and of
 /// `PerfRecordIter::next_record`.
-pub fn pipe_records(alloc: Global, bytes: &[u8], first: u64, entries: &mut [Record]) -> Total
-    ensures { PipeTold bytes.now first entries.old result entries.new }
+pub fn pipe_records(
+    alloc: Global,
+    bytes: &[u8],
+    first: u64,
+    entries: &mut [Record],
+) -> RecordsResult
+    ensures { ReadsPipeRecords bytes.now first entries.old result entries.new }
 {
     let reader = match PerfFileReader::parse_pipe(alloc, Cursor::new(bytes)) {
         Ok(reader) => reader,
         Err(error) => {
-            let status = status_of(&error);
-            return Total { records: 0, status };
+            let status = status_of_error(&error);
+            return RecordsResult { count: 0, status };
         }
     };
     let mut file = reader.perf_file;
     let mut iter = reader.record_iter;
-    let base = opening_length(file.endian(), bytes);
-    let _count = count(bytes);
+    let base = opening_size(file.endian(), bytes);
+    // For the prover.
+    let _count = byte_count(bytes);
     let walked = walk(&mut iter, &mut file, base, first, entries);
-    Total {
-        records: walked.records,
-        status: status_of_end(&walked.end),
+    RecordsResult {
+        count: walked.count,
+        status: walk_result_status(&walked.end),
     }
 }

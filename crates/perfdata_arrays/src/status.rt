@@ -1,34 +1,34 @@
-//! The numbers that say how a call ended.
+//! The status codes of calls.
 ghost use Rattle.std.specs.IoError.{error_kind};
 ghost use Rattle.std.specs.Prelude.{◌≡◌};
-ghost use Rattle.perfdata_table.specs.Status.{kind_status, part_status, status_by, jit_status_by};
+ghost use Rattle.perfdata_arrays.specs.Status.{io_kind_status, read_error_status, error_status, jit_error_status};
 
 use linux_perf_data::jitdump::JitDumpError;
 use linux_perf_data::{Error, ReadError};
 use std::io;
 use std::io::ErrorKind;
 
-/// The input is whole.
+/// The input is complete.
 pub const WHOLE: u32 = 0;
 
-/// Memory ran out.
+/// Out of memory.
 pub const MEMORY: u32 = 1;
 
-/// What stands at a place isn't there whole.
+/// The input is truncated at the offset of a call.
 pub const CUT: u32 = 2;
 
-/// A record of a jitdump tells a size that no record can have.
+/// A jitdump record contains a size that no record can have.
 pub const BAD_JIT_SIZE: u32 = 43;
 
-/// At a place in a jitdump stands no load record, but one of another type.
+/// The jitdump record at the offset of a call has another type than a load record.
 pub const NO_LOAD: u32 = 45;
 
-/// What stands in the body of a load record isn't one.
+/// The body of a load record is invalid.
 pub const BAD_LOAD: u32 = 46;
 
-// The number of a kind of I/O error.
-fn status_of_kind(kind: ErrorKind) -> u32
-    ensures { result ≡ kind_status kind }
+// The status code of a kind of I/O error.
+fn status_of_io_kind(kind: ErrorKind) -> u32
+    ensures { result ≡ io_kind_status kind }
 {
     match kind {
         ErrorKind::UnexpectedEof => 2,
@@ -39,9 +39,9 @@ fn status_of_kind(kind: ErrorKind) -> u32
     }
 }
 
-// The number of a part that could not be read.
-fn status_of_part(part: ReadError) -> u32
-    ensures { result ≡ part_status part }
+// The status code of a part that can't be read.
+fn status_of_read_error(part: ReadError) -> u32
+    ensures { result ≡ read_error_status part }
 {
     match part {
         ReadError::PerfHeader => 7,
@@ -57,14 +57,17 @@ fn status_of_part(part: ReadError) -> u32
     }
 }
 
-/// The number of an error: one for each, and for each kind of I/O error and each part that could not be read.
-pub fn status_of(error: &Error) -> u32
-    ensures { result ≡ status_by error.now }
+/// Returns the status code of an error.
+///
+/// Each variant has its own code. `IoError` has a code for each of four kinds, and one for all other kinds. `Read` has a code for
+/// each part that can't be read.
+pub fn status_of_error(error: &Error) -> u32
+    ensures { result ≡ error_status error.now }
 {
     match error {
         Error::Memory => MEMORY,
-        Error::IoError(fault) => status_of_kind(fault.kind()),
-        Error::Read(part) => status_of_part(*part),
+        Error::IoError(fault) => status_of_io_kind(fault.kind()),
+        Error::Read(part) => status_of_read_error(*part),
         Error::UnrecognizedMagicValue(_) => 17,
         Error::SectionSizeTooBig => 18,
         Error::NoAttributes => 19,
@@ -86,22 +89,22 @@ pub fn status_of(error: &Error) -> u32
     }
 }
 
-/// The number of an I/O error.
-pub fn status_of_io(error: &io::Error) -> u32
-    ensures { result ≡ kind_status (error_kind error.now) }
+/// Returns the status code of an I/O error.
+pub fn status_of_io_error(error: &io::Error) -> u32
+    ensures { result ≡ io_kind_status (error_kind error.now) }
 {
-    status_of_kind(error.kind())
+    status_of_io_kind(error.kind())
 }
 
-/// The number of what refuses a jitdump's header.
-pub fn status_of_jit(error: &JitDumpError) -> u32
-    ensures { result ≡ jit_status_by error.now }
+/// Returns the status code of a jitdump header's error.
+pub fn status_of_jit_error(error: &JitDumpError) -> u32
+    ensures { result ≡ jit_error_status error.now }
 {
     match error {
         JitDumpError::NotEnoughBytesForHeader => 40,
         JitDumpError::InvalidHeaderSize(_) => 41,
         JitDumpError::InvalidMagicBytes(_) => 42,
         JitDumpError::UnrecognizedVersion(_) => 44,
-        JitDumpError::Io(fault) => status_of_kind(fault.kind()),
+        JitDumpError::Io(fault) => status_of_io_kind(fault.kind()),
     }
 }

@@ -1,4 +1,4 @@
--- How the pieces of an attribute come to an attribute, or to the reason why there is none.
+-- The result of parsing an attribute, from the results of its steps.
 use Rattle.std.proofs.Common.{◌≡◌, ℕ, ◌+◌, ◌-◌, ◌<◌, ◌≤◌, ◌++◌, List, length, take, drop, refl, sym, ap, ◌∙◌, subst, inl, inr, arith, append_assoc, length-append, length-drop, Option, None, Some}
 use Rattle.std.specs.Prelude.{◌⊎◌, IfSome, nat_eq, nat_le, if◌then◌else◌, Bool, true, false}
 use Rattle.std.specs.Int.{w32, cast_signed}
@@ -9,13 +9,13 @@ use borrow.Rule.Slice.PartMut.{put_mid, post_of}
 use Rattle.std.specs.IoError.{error_kind}
 use Rattle.std.specs.declared.io.Error.{Error}
 use Rattle.std.specs.declared.io.ErrorKind.TheVariants.{UnexpectedEof, InvalidData}
-use Rattle.perfdata_base.specs.Source.{State, prepend, Gave, CutShort, Skipped, Excused}
-use Rattle.perfdata_base.proofs.Gives.{gave_more, gave_none_later, failed_later}
-use Rattle.perfdata_base.proofs.Cut.{none_or_paused, all_came}
-use Rattle.perfdata_base.specs.Attr.{own_size, field, attr_with, IsAttr, TookAttr, IsTooSmall, IsUnfinished, WhyNoAttr, IsNoAttr, RefusedAttr, TookOwn, IsNoOwn, RefusedOwn, TookRest}
+use Rattle.perfdata_base.specs.Source.{State, prepend, Consumed, ReadExactError, SkippedExactly, BytesOrSourceExplain}
+use Rattle.perfdata_base.proofs.ConsumedLemmas.{consumed_more, consumed_none_later, failed_later}
+use Rattle.perfdata_base.proofs.ReadErrors.{none_or_paused, all_read}
+use Rattle.perfdata_base.specs.Attr.{own_size, field, attr_of_size, IsAttr, AttrParsed, IsTooSmall, IsTruncatedAttr, AttrErrorCause, IsInvalidAttr, AttrParseError, OwnSizeRead, IsInvalidOwnSize, OwnSizeReadError, AttrRestRead}
 use Rattle.perfdata_base.specs.declared.attr.PerfEventAttr.{PerfEventAttr}
 
--- what a place holds whose part from a on was filled
+-- the prefix of a buffer whose part from index a on was overwritten
 pub part_front : (a k m : ℕ) (xs ys : List ℕ) → a ≤ length xs → a + length ys ≡ m → take m (put_mid a k xs ys) ≡ take a xs ++ ys
 part_front a k m xs ys fits whole =
     let front = length-take-le a xs fits in
@@ -26,13 +26,13 @@ pub part_long : (a k m : ℕ) (xs ys : List ℕ) → a ≤ length xs → a + len
 part_long a k m xs ys fits whole =
     omega (arith, length-append (take a xs) (ys ++ post_of a k xs), length-append ys (post_of a k xs), length-take-le a xs fits)
 
-pub head_front : (xs ys : List ℕ) → length ys ≡ 8 → take 8 (put_mid 0 8 xs ys) ≡ ys
-head_front xs ys long = part_front 0 8 8 xs ys (omega arith) (omega arith)
+pub first_eight_front : (xs ys : List ℕ) → length ys ≡ 8 → take 8 (put_mid 0 8 xs ys) ≡ ys
+first_eight_front xs ys long = part_front 0 8 8 xs ys (omega arith) (omega arith)
 
--- what holds of bytes that begin with these is shown by a read of them
-pub shown : (a b : Option (List ℕ)) (front : List ℕ) (P : List ℕ → Type 0) → a ≡ prepend front b → ((rest : List ℕ) → P (front ++ rest)) → IfSome a P
-shown a None front P is more = subst (λ o. IfSome o P) (sym is) tt
-shown a (Some rest) front P is more = subst (λ o. IfSome o P) (sym is) (more rest)
+-- a property of all lists with this prefix applies to the remaining bytes, if they are known
+pub visible : (a b : Option (List ℕ)) (front : List ℕ) (P : List ℕ → Type 0) → a ≡ prepend front b → ((rest : List ℕ) → P (front ++ rest)) → IfSome a P
+visible a None front P is more = subst (λ o. IfSome o P) (sym is) tt
+visible a (Some rest) front P is more = subst (λ o. IfSome o P) (sym is) (more rest)
 
 if_some_is : (b : Option (List ℕ)) (P : List ℕ → Type 0) (xs : List ℕ) → b ≡ Some xs → P xs → IfSome b P
 if_some_is b P xs is p = subst (λ o. IfSome o P) (sym is) p
@@ -42,13 +42,13 @@ if_same true a b same = same refl
 if_same false a b same = refl
 
 module _ (number : ℕ → List ℕ → ℕ) where
-  -- an attribute's size is how many bytes it has of its own
-  pub size_with : (own : ℕ) (xs : List ℕ) → (attr_with number own xs).size ≡ own
-  unfolding attr_with
+  -- the `size` of an attribute is its own size
+  pub size_with : (own : ℕ) (xs : List ℕ) → (attr_of_size number own xs).size ≡ own
+  unfolding attr_of_size
   size_with own xs = refl
 
 module _ (number : ℕ → List ℕ → ℕ) (first : (n : ℕ) (xs ys : List ℕ) → n ≤ length xs → number n (xs ++ ys) ≡ number n xs) where
-  -- a number within the first m bytes reads them alone
+  -- a number in the first m bytes depends on these alone
   number_cut : (n at m : ℕ) (xs : List ℕ) → at + n ≤ m → m ≤ length xs → number n (drop at xs) ≡ number n (drop at (take m xs))
   number_cut n at m xs within fits =
       let long = length-take-le m xs fits in
@@ -59,7 +59,7 @@ module _ (number : ℕ → List ℕ → ℕ) (first : (n : ℕ) (xs ys : List �
   number_front n at m xs ys within fits fits' same =
       number_cut n at m xs within fits ∙ ap (λ l. number n (drop at l)) same ∙ sym (number_cut n at m ys within fits')
 
-  -- what stands in the first eight bytes stands there whatever follows
+  -- the own size depends on the first eight bytes alone
   pub own_stays : (h r : List ℕ) → 8 ≤ length h → own_size number (h ++ r) ≡ own_size number h
   own_stays h r long =
       let fits : 8 ≤ length (h ++ r) = omega (arith, length-append h r) in
@@ -73,9 +73,9 @@ module _ (number : ℕ → List ℕ → ℕ) (first : (n : ℕ) (xs ys : List �
         let within = leb-true (at + n) own test in
         number_front n at m xs ys (known (at + n) within low) fits fits' same)
 
-    -- the fields read no more than the own bytes, nor more than those with a meaning
-    pub attr_front : attr_with number own xs ≡ attr_with number own ys
-    unfolding attr_with
+    -- the fields depend on the own bytes and on the known bytes alone
+    pub attr_front : attr_of_size number own xs ≡ attr_of_size number own ys
+    unfolding attr_of_size
     attr_front = λ i. record {
       type_ = field_front 4 0 (omega arith) i;
       size = own;
@@ -100,58 +100,58 @@ module _ (number : ℕ → List ℕ → ℕ) (first : (n : ℕ) (xs ys : List �
       config3 = field_front 8 128 (omega arith) i;
     }
 
-  -- an attribute stands in its bytes whatever follows
+  -- bytes after an attribute don't change it
   pub attr_stays : (xs rest : List ℕ) (a : PerfEventAttr) → IsAttr number xs a → IsAttr number (xs ++ rest) a
   attr_stays xs rest a is =
-      let least = is.least in
-      let there = is.there in
+      let least = is.min_size in
+      let there = is.complete in
       let size = own_stays xs rest (omega arith) in
       let all = length-append xs rest in
       record {
-        least = omega arith;
-        there = omega arith;
-        is = is.is ∙ sym (attr_front (own_size number xs) (own_size number xs) (xs ++ rest) xs (λ k low high. low) (omega arith) there (take-append-le (own_size number xs) xs rest there)) ∙ ap (λ own. attr_with number own (xs ++ rest)) (sym size);
+        min_size = omega arith;
+        complete = omega arith;
+        matches = is.matches ∙ sym (attr_front (own_size number xs) (own_size number xs) (xs ++ rest) xs (λ k low high. low) (omega arith) there (take-append-le (own_size number xs) xs rest there)) ∙ ap (λ own. attr_of_size number own (xs ++ rest)) (sym size);
       }
 
-  -- a head and what followed are an attribute
-  pub whole_attr : (a b c : State) (head : List ℕ) (own : ℕ) (attr : PerfEventAttr) → length head ≡ 8 → TookOwn number a head own b → TookRest number b head own attr c → TookAttr number a attr own c
+  -- the first eight bytes and the rest are an attribute
+  pub whole_attr : (a b c : State) (head : List ℕ) (own : ℕ) (attr : PerfEventAttr) → length head ≡ 8 → OwnSizeRead number a head own b → AttrRestRead number b head own attr c → AttrParsed number a attr own c
   whole_attr a b c head own attr long took more =
       let size = own_stays head more.rest (omega arith) in
       let all = length-append head more.rest in
-      let eight = more.long in
-      let least = took.least in
-      let same = took.is in
+      let eight = more.exact_len in
+      let least = took.min_size in
+      let same = took.matches in
       record {
         bytes = head ++ more.rest;
-        long = omega arith;
-        size = ap (λ a. a.size) more.is ∙ size_with number own (head ++ more.rest);
-        gave = gave_more a b c head more.rest took.gave more.gave;
-        is = record { least = omega arith; there = omega arith; is = more.is ∙ ap (λ n. attr_with number n (head ++ more.rest)) (took.is ∙ sym size) };
+        exact_len = omega arith;
+        size = ap (λ a. a.size) more.matches ∙ size_with number own (head ++ more.rest);
+        consumes = consumed_more a b c head more.rest took.consumes more.consumes;
+        matches = record { min_size = omega arith; complete = omega arith; matches = more.matches ∙ ap (λ n. attr_of_size number n (head ++ more.rest)) (took.matches ∙ sym size) };
       }
 
-  -- a head came, and what should follow ended early
-  pub rest_cut : (a b c : State) (head : List ℕ) (own : ℕ) (e : Error) → length head ≡ 8 → TookOwn number a head own b → CutShort b (own - 8) e c → RefusedAttr number a e c
-  rest_cut a b c head own e long took cut =
-      let size : own_size number (head ++ cut.part) ≡ own = own_stays head cut.part (omega arith) ∙ sym took.is in
-      let least = took.least in
-      let less = cut.less in
+  -- the first eight bytes were read, and the rest is truncated
+  pub rest_truncated : (a b c : State) (head : List ℕ) (own : ℕ) (e : Error) → length head ≡ 8 → OwnSizeRead number a head own b → ReadExactError b (own - 8) e c → AttrParseError number a e c
+  rest_truncated a b c head own e long took cut =
+      let size : own_size number (head ++ cut.consumed_bytes) ≡ own = own_stays head cut.consumed_bytes (omega arith) ∙ sym took.matches in
+      let least = took.min_size in
+      let less = cut.too_few in
       record {
-        front = head ++ cut.part;
-        gave = gave_more a b c head cut.part took.gave cut.gave;
-        why = inl (
-          inr (omega arith, omega (arith, length-append head cut.part)),
-          elim cut.why [
-            | inl short ↦ inl (short.0, gave_none_later a b c head took.gave short.1)
-            | inr failed ↦ inr (failed_later a b c head took.gave failed)
+        consumed_bytes = head ++ cut.consumed_bytes;
+        consumes = consumed_more a b c head cut.consumed_bytes took.consumes cut.consumes;
+        cause = inl (
+          inr (omega arith, omega (arith, length-append head cut.consumed_bytes)),
+          elim cut.cause [
+            | inl short ↦ inl (short.0, consumed_none_later a b c head took.consumes short.1)
+            | inr failed ↦ inr (failed_later a b c head took.consumes failed)
           ],
         );
       }
 
-  -- what came into a place behind its first eight bytes, and what was passed over, are the rest of an attribute
+  -- the bytes read into a buffer after its first eight, and the skipped ones, are the rest of an attribute
   pub whole_rest : (a b c : State) (bytes now ys : List ℕ) (own m : ℕ) (attr : PerfEventAttr) → 8 ≤ m → m ≤ own → ((k : ℕ) → k ≤ own → k ≤ 136 → k ≤ m) → m ≤ length now → length (take 8 bytes) ≡ 8 → 8 + length ys ≡ m → take m now ≡ take 8 bytes ++ ys
-      → Gave a ys b → Skipped b (own - m) c → attr ≡ attr_with number own now → TookRest number a (take 8 bytes) own attr c
+      → Consumed a ys b → SkippedExactly b (own - m) c → attr ≡ attr_of_size number own now → AttrRestRead number a (take 8 bytes) own attr c
   whole_rest a b c bytes now ys own m attr low high known fits eight long is gave skip fields =
-      let skipped = skip.long in
+      let skipped = skip.exact_len in
       let head = take 8 bytes in
       let all = length-append ys skip.bytes in
       let all' = length-append head (ys ++ skip.bytes) in
@@ -161,9 +161,9 @@ module _ (number : ℕ → List ℕ → ℕ) (first : (n : ℕ) (xs ys : List �
       in
       record {
         rest = ys ++ skip.bytes;
-        long = omega arith;
-        gave = gave_more a b c ys skip.bytes gave skip.gave;
-        is = fields ∙ attr_front own m now (head ++ (ys ++ skip.bytes)) known fits (omega arith) front;
+        exact_len = omega arith;
+        consumes = consumed_more a b c ys skip.bytes gave skip.consumes;
+        matches = fields ∙ attr_front own m now (head ++ (ys ++ skip.bytes)) known fits (omega arith) front;
       }
 
   small_stays : (front rest : List ℕ) → length front ≡ 8 → own_size number front < 64 → IsTooSmall number (front ++ rest)
@@ -171,22 +171,22 @@ module _ (number : ℕ → List ℕ → ℕ) (first : (n : ℕ) (xs ys : List �
       let size = own_stays front rest (omega arith) in
       (omega (arith, length-append front rest), omega arith)
 
-  excused : (Unfinished : List ℕ → Type 0) (a b : State) (front : List ℕ) (e : Error) → Gave a front b → WhyNoAttr number Unfinished a front e b → Excused a (λ xs. ((error_kind e ≡ UnexpectedEof) × Unfinished xs) ⊎ ((error_kind e ≡ InvalidData) × IsTooSmall number xs)) b
+  excused : (Unfinished : List ℕ → Type 0) (a b : State) (front : List ℕ) (e : Error) → Consumed a front b → AttrErrorCause number Unfinished a front e b → BytesOrSourceExplain a (λ xs. ((error_kind e ≡ UnexpectedEof) × Unfinished xs) ⊎ ((error_kind e ≡ InvalidData) × IsTooSmall number xs)) b
   excused Unfinished a b front e gave why = elim why [
     | inl cut ↦ elim cut.1 [
       | inl short ↦ elim (none_or_paused a b short.1) [
-        | inl end ↦ inl (if_some_is a.bytes (λ xs. ((error_kind e ≡ UnexpectedEof) × Unfinished xs) ⊎ ((error_kind e ≡ InvalidData) × IsTooSmall number xs)) front (all_came a b front gave end) (inl (short.0, cut.0)))
+        | inl end ↦ inl (if_some_is a.bytes (λ xs. ((error_kind e ≡ UnexpectedEof) × Unfinished xs) ⊎ ((error_kind e ≡ InvalidData) × IsTooSmall number xs)) front (all_read a b front gave end) (inl (short.0, cut.0)))
         | inr paused ↦ inr (inr paused)
       ]
       | inr failed ↦ inr (inl failed)
     ]
-    | inr small ↦ inl (shown a.bytes b.bytes front (λ xs. ((error_kind e ≡ UnexpectedEof) × Unfinished xs) ⊎ ((error_kind e ≡ InvalidData) × IsTooSmall number xs)) gave.bytes (λ rest. inr (small.2, small_stays front rest small.0 small.1)))
+    | inr small ↦ inl (visible a.bytes b.bytes front (λ xs. ((error_kind e ≡ UnexpectedEof) × Unfinished xs) ⊎ ((error_kind e ≡ InvalidData) × IsTooSmall number xs)) gave.bytes (λ rest. inr (small.2, small_stays front rest small.0 small.1)))
   ]
 
-  -- where an attribute's first bytes were refused, what was to come shows why, where it is told, or the source failed or paused
-  pub own_excused : (a b : State) (e : Error) → RefusedOwn number a e b → Excused a (IsNoOwn number e) b
-  own_excused a b e own = excused (λ xs. length xs < 8) a b own.front e own.gave own.why
+  -- if the own size can't be read, the remaining bytes show the cause if they are known, or the source failed or paused
+  pub own_explained : (a b : State) (e : Error) → OwnSizeReadError number a e b → BytesOrSourceExplain a (IsInvalidOwnSize number e) b
+  own_explained a b e own = excused (λ xs. length xs < 8) a b own.consumed_bytes e own.consumes own.cause
 
-  -- and where an attribute was refused
-  pub attr_excused : (a b : State) (e : Error) → RefusedAttr number a e b → Excused a (IsNoAttr number e) b
-  attr_excused a b e refused = excused (IsUnfinished number) a b refused.front e refused.gave refused.why
+  -- the same if an attribute can't be parsed
+  pub attr_explained : (a b : State) (e : Error) → AttrParseError number a e b → BytesOrSourceExplain a (IsInvalidAttr number e) b
+  attr_explained a b e refused = excused (IsTruncatedAttr number) a b refused.consumed_bytes e refused.consumes refused.cause

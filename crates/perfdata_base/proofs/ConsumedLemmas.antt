@@ -1,19 +1,19 @@
--- How what a source gives in one call and in the next comes to what it gives in both.
+-- The effect of two calls in a row on a source.
 use Rattle.std.proofs.Common.{◌≡◌, ℕ, ◌<◌, ◌≤◌, ◌+◌, ◌++◌, List, [], IsTrue, length, take, drop, refl, sym, ap, ◌∙◌, subst, arith, append_assoc, add-zero, add_assoc, Option, None, Some, ◌-◌, length-append, length-drop, length-take}
 use Rattle.std.proofs.lemmas.List.{length-take-le, take-append-le, append-nil}
 use borrow.Rule.Slice.PartMut.{put_mid, post_of}
 use Rattle.std.proofs.Math.Seq.{take-append-add, take-append_seam}
 use lib.Seq.{take-take}
-use Rattle.perfdata_base.specs.Source.{State, Place, prepend, moved, Stays, Gave, Failed, Paused, GaveNone, Filled, CamePart, Passed, Appended, AppendedPart, Appends}
-use Rattle.perfdata_base.specs.declared.source.AppendFault.{AppendFault}
-use Rattle.perfdata_base.specs.declared.source.AppendFault.TheVariants.{Memory, Source}
+use Rattle.perfdata_base.specs.Source.{State, Position, prepend, advance_by, StaysSteady, Consumed, SourceFailed, SourcePaused, EndedOrPaused, BufferFilled, PartlyRead, SkippedUpTo, AppendedUpTo, PartlyAppended, AppendsUpTo}
+use Rattle.perfdata_base.specs.declared.source.AppendError.{AppendError}
+use Rattle.perfdata_base.specs.declared.source.AppendError.TheVariants.{Memory, Source}
 use Rattle.std.specs.Prelude.{Err}
 
-moved_none : (p : Option Place) → p ≡ moved 0 p
+moved_none : (p : Option Position) → p ≡ advance_by 0 p
 moved_none None = refl
 moved_none (Some p) = rw add-zero refl
 
-moved_more : (m n : ℕ) (p : Option Place) → moved n (moved m p) ≡ moved (m + n) p
+moved_more : (m n : ℕ) (p : Option Position) → advance_by n (advance_by m p) ≡ advance_by (m + n) p
 moved_more m n None = refl
 moved_more m n (Some p) = rw add_assoc refl
 
@@ -25,113 +25,113 @@ pub prepend_more : (first second : List ℕ) (b : Option (List ℕ)) → prepend
 prepend_more first second None = refl
 prepend_more first second (Some rest) = ap (λ l. Some l) (sym (append_assoc first second rest))
 
-pub gave_none : (s : State) → Gave s [] s
-gave_none s = record { bytes = prepend_none s.bytes; place = moved_none s.place; faults = omega arith; pauses = omega arith; steady = λ h. record { steady = h; faults = refl; pauses = refl } }
+pub consumed_none : (s : State) → Consumed s [] s
+consumed_none s = record { bytes = prepend_none s.bytes; position = moved_none s.position; errors = omega arith; pauses = omega arith; steady = λ h. record { steady = h; errors = refl; pauses = refl } }
 
-stays_on : (a b c : State) → Stays a b → Stays b c → Stays a c
-stays_on a b c x y = record { steady = y.steady; faults = y.faults ∙ x.faults; pauses = y.pauses ∙ x.pauses }
+stays_on : (a b c : State) → StaysSteady a b → StaysSteady b c → StaysSteady a c
+stays_on a b c x y = record { steady = y.steady; errors = y.errors ∙ x.errors; pauses = y.pauses ∙ x.pauses }
 
-pub gave_more : (a b c : State) (first second : List ℕ) → Gave a first b → Gave b second c → Gave a (first ++ second) c
-gave_more a b c first second x y = record {
+pub consumed_more : (a b c : State) (first second : List ℕ) → Consumed a first b → Consumed b second c → Consumed a (first ++ second) c
+consumed_more a b c first second x y = record {
   bytes = x.bytes ∙ ap (prepend first) y.bytes ∙ prepend_more first second c.bytes;
-  place = y.place ∙ ap (moved (length second)) x.place ∙ moved_more (length first) (length second) a.place ∙ ap (λ n. moved n a.place) (sym (length-append first second));
-  faults = let p = x.faults in let q = y.faults in omega arith;
+  position = y.position ∙ ap (advance_by (length second)) x.position ∙ moved_more (length first) (length second) a.position ∙ ap (λ n. advance_by n a.position) (sym (length-append first second));
+  errors = let p = x.errors in let q = y.errors in omega arith;
   pauses = let p = x.pauses in let q = y.pauses in omega arith;
   steady = λ h. let s = x.steady h in stays_on a b c s (y.steady s.steady);
 }
 
-pub gave_no_more : (a b c : State) (front : List ℕ) → Gave a front b → Gave b [] c → Gave a front c
-gave_no_more a b c front x y = subst (λ f. Gave a f c) (append-nil front) (gave_more a b c front [] x y)
+pub consumed_no_more : (a b c : State) (front : List ℕ) → Consumed a front b → Consumed b [] c → Consumed a front c
+consumed_no_more a b c front x y = subst (λ f. Consumed a f c) (append-nil front) (consumed_more a b c front [] x y)
 
--- a steady source stays so
-pub still_steady : (a b : State) (front : List ℕ) → Gave a front b → IsTrue a.steady → IsTrue b.steady
+-- a steady source stays steady
+pub still_steady : (a b : State) (front : List ℕ) → Consumed a front b → IsTrue a.steady → IsTrue b.steady
 still_steady a b front x h = (x.steady h).steady
 
-pub failed_later : (a b c : State) (front : List ℕ) → Gave a front b → Failed b c → Failed a c
+pub failed_later : (a b c : State) (front : List ℕ) → Consumed a front b → SourceFailed b c → SourceFailed a c
 failed_later a b c front x y = record {
-  rose = λ low. let p = x.faults in let q = y.rose low in omega arith;
-  unsteady = λ h. y.unsteady (still_steady a b front x h);
+  count_increases = λ low. let p = x.errors in let q = y.count_increases low in omega arith;
+  not_steady = λ h. y.not_steady (still_steady a b front x h);
 }
 
-pub failed_before : (a b c : State) (front : List ℕ) → Failed a b → Gave b front c → Failed a c
+pub failed_before : (a b c : State) (front : List ℕ) → SourceFailed a b → Consumed b front c → SourceFailed a c
 failed_before a b c front x y = record {
-  rose = λ low. let p = y.faults in let lower : b.faults < 18446744073709551615 = omega arith in let q = x.rose lower in omega arith;
-  unsteady = x.unsteady;
+  count_increases = λ low. let p = y.errors in let lower : b.errors < 18446744073709551615 = omega arith in let q = x.count_increases lower in omega arith;
+  not_steady = x.not_steady;
 }
 
-pub paused_later : (a b c : State) (front : List ℕ) → Gave a front b → Paused b c → Paused a c
+pub paused_later : (a b c : State) (front : List ℕ) → Consumed a front b → SourcePaused b c → SourcePaused a c
 paused_later a b c front x y = record {
-  rose = λ low. let p = x.pauses in let q = y.rose low in omega arith;
-  unsteady = λ h. y.unsteady (still_steady a b front x h);
+  count_increases = λ low. let p = x.pauses in let q = y.count_increases low in omega arith;
+  not_steady = λ h. y.not_steady (still_steady a b front x h);
 }
 
-pub gave_none_later : (a b c : State) (front : List ℕ) → Gave a front b → GaveNone b c → GaveNone a c
-gave_none_later a b c front x y = λ more. paused_later a b c front x (y more)
+pub consumed_none_later : (a b c : State) (front : List ℕ) → Consumed a front b → EndedOrPaused b c → EndedOrPaused a c
+consumed_none_later a b c front x y = λ more. paused_later a b c front x (y more)
 
--- the part of a place from a on was filled: what stands at its front
+-- the prefix of a buffer whose part from index a on was overwritten
 pub front_and_part : (a k n : ℕ) (xs ys : List ℕ) → a ≤ length xs → n ≤ length ys → take (a + n) (put_mid a k xs ys) ≡ take a xs ++ take n ys
 front_and_part a k n xs ys fits within =
     let front = length-take-le a xs fits in
     ap (λ m. take (m + n) (put_mid a k xs ys)) (sym front) ∙ take-append-add (take a xs) (ys ++ post_of a k xs) n
     ∙ ap (λ r. take a xs ++ r) (take-append-le n ys (post_of a k xs) within)
 
--- it is as long as before
+-- the overwrite leaves its length unchanged
 pub length-refilled : (a : ℕ) (xs ys : List ℕ) → a ≤ length xs → length ys ≡ length (take (length xs - a) (drop a xs)) → length (put_mid a (length xs - a) xs ys) ≡ length xs
 length-refilled a xs ys fits same =
     omega (arith, length-append (take a xs) (ys ++ post_of a (length xs - a) xs), length-append ys (post_of a (length xs - a) xs), length-take-le a xs fits, length-drop (length xs - a) (drop a xs), length-take (length xs - a) (drop a xs), length-drop a xs)
 
--- a read answered that nothing came
-pub none_came : (a b c : State) (front place : List ℕ) (n : ℕ) → n ≡ 0 → Gave a front b → Gave b (take n place) c → Gave a front c
-none_came a b c front place n none before read = gave_no_more a b c front before (subst (λ m. Gave b (take m place) c) none read)
+-- a read that returns no bytes consumes none
+pub none_read : (a b c : State) (front place : List ℕ) (n : ℕ) → n ≡ 0 → Consumed a front b → Consumed b (take n place) c → Consumed a front c
+none_read a b c front place n none before read = consumed_no_more a b c front before (subst (λ m. Consumed b (take m place) c) none read)
 
--- some came, and then of a further count a part
-abbrev pub part_more : (a b c : State) (front : List ℕ) (k piece count : ℕ) → length front ≡ k → Gave a front b → CamePart b piece c → k + piece ≤ count → CamePart a count c
+-- some bytes were consumed, and then fewer than the next `piece` bytes
+abbrev pub part_more : (a b c : State) (front : List ℕ) (k piece count : ℕ) → length front ≡ k → Consumed a front b → PartlyRead b piece c → k + piece ≤ count → PartlyRead a count c
 part_more a b c front k piece count long before step fits =
-    let part = step.part in
-    let short : length part < piece = step.less in
-    record { part = front ++ part; less = omega (arith, length-append front part, long, short, fits); gave = gave_more a b c front part before step.gave }
+    let part = step.consumed_bytes in
+    let short : length part < piece = step.too_few in
+    record { consumed_bytes = front ++ part; too_few = omega (arith, length-append front part, long, short, fits); consumes = consumed_more a b c front part before step.consumes }
 
--- some came, and then a place was filled
-pub passed_more : (a b c : State) (front place : List ℕ) (k n : ℕ) → length front ≡ k → Gave a front b → Filled b place n c → (whole : List ℕ) × (length whole ≡ k + n) × Gave a whole c
-passed_more a b c front place k n long before fill =
-    (front ++ take n place, length-append front (take n place) ∙ ap (λ m. m + length (take n place)) long ∙ ap (λ m. k + m) (length-take-le n place fill.within), gave_more a b c front (take n place) before fill.gave)
+-- some bytes were consumed, and then a buffer was filled
+pub skipped_more : (a b c : State) (front place : List ℕ) (k n : ℕ) → length front ≡ k → Consumed a front b → BufferFilled b place n c → (whole : List ℕ) × (length whole ≡ k + n) × Consumed a whole c
+skipped_more a b c front place k n long before fill =
+    (front ++ take n place, length-append front (take n place) ∙ ap (λ m. m + length (take n place)) long ∙ ap (λ m. k + m) (length-take-le n place fill.within), consumed_more a b c front (take n place) before fill.consumes)
 
-pub passed_short : (a b c : State) (front place : List ℕ) (k n count : ℕ) → length front ≡ k → Gave a front b → Filled b place n c → n < length place → k + n ≤ count → Passed a count (k + n) c
-passed_short a b c front place k n count long before fill short fits =
-    let more = passed_more a b c front place k n long before fill in
-    record { bytes = more.0; long = more.1; within = fits; gave = more.2; less = λ _. gave_none_later a b c front before (fill.less short) }
+pub skipped_short : (a b c : State) (front place : List ℕ) (k n count : ℕ) → length front ≡ k → Consumed a front b → BufferFilled b place n c → n < length place → k + n ≤ count → SkippedUpTo a count (k + n) c
+skipped_short a b c front place k n count long before fill short fits =
+    let more = skipped_more a b c front place k n long before fill in
+    record { bytes = more.0; exact_len = more.1; within = fits; consumes = more.2; if_incomplete = λ _. consumed_none_later a b c front before (fill.if_incomplete short) }
 
--- a piece came behind what a buffer held
-pub appended_more : (a b c : State) (old held now front : List ℕ) (k n piece : ℕ) → length front ≡ k → held ≡ old ++ front → Gave a front b → Appended b held piece n now c
-    → (whole : List ℕ) × (length whole ≡ k + n) × (now ≡ old ++ whole) × Gave a whole c
+-- a chunk was appended after the old content of a buffer
+pub appended_more : (a b c : State) (old held now front : List ℕ) (k n piece : ℕ) → length front ≡ k → held ≡ old ++ front → Consumed a front b → AppendedUpTo b held piece n now c
+    → (whole : List ℕ) × (length whole ≡ k + n) × (now ≡ old ++ whole) × Consumed a whole c
 appended_more a b c old held now front k n piece long is before step =
     let part = step.bytes in (
       front ++ part,
-      length-append front part ∙ ap (λ m. m + length part) long ∙ ap (λ m. k + m) step.long,
-      step.holds ∙ ap (λ l. l ++ part) is ∙ append_assoc old front part,
-      gave_more a b c front part before step.gave,
+      length-append front part ∙ ap (λ m. m + length part) long ∙ ap (λ m. k + m) step.exact_len,
+      step.buffer_content ∙ ap (λ l. l ++ part) is ∙ append_assoc old front part,
+      consumed_more a b c front part before step.consumes,
     )
 
-pub appended_short : (a b c : State) (old held now front : List ℕ) (k n piece count : ℕ) → length front ≡ k → held ≡ old ++ front → Gave a front b → Appended b held piece n now c
-    → n < piece → k + n ≤ count → Appended a old count (k + n) now c
+pub appended_short : (a b c : State) (old held now front : List ℕ) (k n piece count : ℕ) → length front ≡ k → held ≡ old ++ front → Consumed a front b → AppendedUpTo b held piece n now c
+    → n < piece → k + n ≤ count → AppendedUpTo a old count (k + n) now c
 appended_short a b c old held now front k n piece count long is before step short fits =
     let more = appended_more a b c old held now front k n piece long is before step in
-    record { bytes = more.0; long = more.1; within = fits; holds = more.2; gave = more.3; less = λ _. gave_none_later a b c front before (step.less short) }
+    record { bytes = more.0; exact_len = more.1; within = fits; buffer_content = more.2; consumes = more.3; if_incomplete = λ _. consumed_none_later a b c front before (step.if_incomplete short) }
 
-appended_part_more : (a b c : State) (old held front : List ℕ) (k piece count now : ℕ) → length front ≡ k → held ≡ old ++ front → Gave a front b → AppendedPart b (length held) piece now c
-    → k + piece ≤ count → AppendedPart a (length old) count now c
+appended_part_more : (a b c : State) (old held front : List ℕ) (k piece count now : ℕ) → length front ≡ k → held ≡ old ++ front → Consumed a front b → PartlyAppended b (length held) piece now c
+    → k + piece ≤ count → PartlyAppended a (length old) count now c
 appended_part_more a b c old held front k piece count now long is before step fits =
-    let bound : now ≤ length held + length step.came.part + 4096 = step.bound in
+    let bound : now ≤ length held + length step.partial_read.consumed_bytes + 4096 = step.buffer_bound in
     let all : length held ≡ length old + length front = ap length is ∙ length-append old front in
-    record { came = part_more a b c front k piece count long before step.came fits; bound = omega (arith, length-append front step.came.part, all, bound) }
+    record { partial_read = part_more a b c front k piece count long before step.partial_read fits; buffer_bound = omega (arith, length-append front step.partial_read.consumed_bytes, all, bound) }
 
-pub appended_fault : (e : AppendFault) (a b c : State) (old held now front : List ℕ) (k piece count : ℕ) → length front ≡ k → held ≡ old ++ front → Gave a front b → Appends b held piece (Err e) now c
-    → k + piece ≤ count → Appends a old count (Err e) now c
-appended_fault Memory a b c old held now front k piece count long is before step fits = appended_part_more a b c old held front k piece count (length now) long is before step fits
-appended_fault (Source e) a b c old held now front k piece count long is before step fits =
+pub appended_error : (e : AppendError) (a b c : State) (old held now front : List ℕ) (k piece count : ℕ) → length front ≡ k → held ≡ old ++ front → Consumed a front b → AppendsUpTo b held piece (Err e) now c
+    → k + piece ≤ count → AppendsUpTo a old count (Err e) now c
+appended_error Memory a b c old held now front k piece count long is before step fits = appended_part_more a b c old held front k piece count (length now) long is before step fits
+appended_error (Source e) a b c old held now front k piece count long is before step fits =
     (appended_part_more a b c old held front k piece count (length now) long is before step.0 fits, failed_later a b c front before step.1)
 
--- what stands behind the held bytes of a buffer after its tail, xs from h on, was written over and cut
+-- a buffer whose bytes from index h on were overwritten and then truncated
 pub tail_filled : (h n len : ℕ) (xs ys rest held more : List ℕ) → xs ≡ held ++ more → length held ≡ h → length ys ≡ length (take (length xs - h) (drop h xs)) → n ≤ length ys → len ≡ length xs
     → take (h + n) (take len (put_mid h (length xs - h) xs ys ++ rest)) ≡ held ++ take n ys
 tail_filled h n len xs ys rest held more is long same within whole =

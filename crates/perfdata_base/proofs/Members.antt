@@ -1,4 +1,4 @@
--- The features of a set, one by one.
+-- The features of a set as a list.
 use Rattle.std.proofs.Common.{◌≡◌, ℕ, zero, suc, ◌+◌, ◌-◌, ◌*◌, ◌%◌, ◌^◌, ◌<◌, ◌≤◌, ◌⊎◌, Bool, true, false, not, IsTrue, [], ◌∷◌, length, refl, arith, inl, inr, pow_pos}
 use Rattle.std.specs.Prelude.{Contains, All, filter, cond}
 use Rattle.std.specs.Bool.{nat_eq}
@@ -10,7 +10,7 @@ use Rattle.std.proofs.lemmas.Bool.{cases_order}
 use Rattle.std.proofs.lemmas.Bool.Decides.{nat_tests}
 use Rattle.std.proofs.lemmas.Nat.Bits.{and_pow, bit_at-lt}
 use Rattle.std.proofs.lemmas.List.Elements.{All-cons, All-nil, All-filter, All-contains, Contains-append_right, filter_passes}
-use Rattle.perfdata_base.specs.Place.{is_set}
+use Rattle.perfdata_base.specs.ParseInfo.{is_set}
 use Rattle.perfdata_base.specs.Features.{HasFeature, has_bit, features_from, features_of}
 use Rattle.perfdata_base.specs.declared.features.FeatureSet.{FeatureSet}
 
@@ -18,7 +18,7 @@ zero_or_one : (b : ℕ) → b < 2 → (b ≡ 0) ⊎ (b ≡ 1)
 zero_or_one zero low = inl refl
 zero_or_one (suc b) low = inr (omega arith)
 
--- a test for a bit, as code writes it
+-- the bit test in the form of the code
 pub bit_test : (w k : ℕ) → k < 64 → not (nat_eq (bit_and w (1 * 2 ^ k % 2 ^ 64)) 0) ≡ is_set w k
 bit_test w k low =
     let high : 2 ^ k < 2 ^ 64 = pow-lt low in
@@ -29,28 +29,28 @@ bit_test w k low =
       | inr is ↦ rw is (grind (arith, nat_tests))
     ])
 
--- the next feature is one of the set
+-- the list starts with feature n if the set contains it
 pub features_more : (set : FeatureSet) (n : ℕ) → n < 256 → IsTrue (has_bit set n) → features_from set n ≡ n ∷ features_from set (n + 1)
 unfolding features_from
 features_more set n low is =
     let long : 256 - n ≡ suc (256 - (n + 1)) = omega arith in
     rw (long, is) refl
 
--- it isn't
+-- the list skips feature n if the set doesn't contain it
 pub features_skip : (set : FeatureSet) (n : ℕ) → n < 256 → has_bit set n ≡ false → features_from set n ≡ features_from set (n + 1)
 unfolding features_from
 features_skip set n low is =
     let long : 256 - n ≡ suc (256 - (n + 1)) = omega arith in
     rw (long, is) refl
 
--- there is none from 256 on
+-- there are no features from 256 on
 pub features_end : (set : FeatureSet) (n : ℕ) → 256 ≤ n → features_from set n ≡ []
 unfolding features_from
 features_end set n high =
     let none : 256 - n ≡ 0 = omega arith in
     rw none refl
 
--- what a test passes in a range is left by a filter
+-- a number in a range that satisfies p is in the filtered range
 kept : (p : ℕ → Bool) (a n x : ℕ) → a ≤ x → x < a + n → IsTrue (p x) → Contains (filter p (range_with_len a n)) x
 kept p a zero x low high is = absurd (omega arith)
 kept p a (suc n) x low high is = elim (cases_order a x) [
@@ -63,12 +63,12 @@ kept p a (suc n) x low high is = elim (cases_order a x) [
       ]
 ]
 
--- a range's numbers are within it
+-- the numbers of a range are below its end
 range_high : (a n high : ℕ) → a + n ≤ high → All (λ x. x < high) (range_with_len a n)
 range_high a zero high h = All-nil _
 range_high a (suc n) high h = All-cons (λ x. x < high) a (range_with_len (a + 1) n) (omega arith) (range_high (a + 1) n high (omega arith))
 
--- the features of a set are those that it has
+-- the list contains each feature of the set
 pub has_member : (set : FeatureSet) (n : ℕ) → HasFeature set n → Contains (features_of set) n
 unfolding features_from
 has_member set n (low, is) = kept (has_bit set) 0 256 n (omega arith) (omega arith) is
@@ -80,7 +80,7 @@ member_has set n member = (
   All-contains (λ x. has_bit set x ≡ true) _ n (filter_passes (has_bit set) (range_with_len 0 256)) member,
 )
 
--- a range has no more of them than numbers
+-- a filtered range has no more elements than the range
 few : (p : ℕ → Bool) (a n : ℕ) → length (filter p (range_with_len a n)) ≤ n
 few p a zero = omega arith
 few p a (suc n) =

@@ -1,28 +1,28 @@
--- How numbers read the bytes of a list: only the first of them, in either order.
+-- Numbers depend only on the first bytes of a list, in either byte order.
 use Rattle.std.proofs.Common.{◌≡◌, ℕ, ◌+◌, ◌^◌, ◌<◌, ◌≤◌, List, ◌++◌, length, take, drop, slice_index, sym, ap, ◌∙◌, arith, length-drop}
 use Rattle.std.proofs.lemmas.List.{drop-append-le, take-append-drop, length-take-le}
 use Rattle.byteorder.specs.Numbers.{big_from-append, big_from-lt, big_from-take, little_from-append, little_from-lt, little_from-take}
-use Rattle.perfdata_base.specs.Numbers.{number_in}
+use Rattle.perfdata_base.specs.Endian.{number_in}
 use Rattle.perfdata_base.specs.declared.raw.Endianness.{Endianness}
 use Rattle.perfdata_base.specs.declared.raw.Endianness.TheVariants.{LittleEndian, BigEndian}
 
--- a reading of numbers looks at the first bytes only
+-- a function that parses numbers depends only on the first n bytes
 abbrev pub ReadsFirst : (ℕ → List ℕ → ℕ) → Type 0
 ReadsFirst number = (n : ℕ) (xs ys : List ℕ) → n ≤ length xs → number n (xs ++ ys) ≡ number n xs
 
--- bytes behind the number's change nothing
+-- bytes after the number don't change it
 pub number_front : (order : Endianness) (n : ℕ) (xs ys : List ℕ) → n ≤ length xs
     → number_in order n (xs ++ ys) ≡ number_in order n xs
 number_front LittleEndian n xs ys h = little_from-append n xs ys h
 number_front BigEndian n xs ys h = big_from-append n xs ys h
 
--- the number stands in any front that holds its bytes
+-- each prefix that contains the number's bytes has the same number
 pub number_take : (order : Endianness) (n m : ℕ) (xs : List ℕ) → n ≤ m
     → number_in order n (take m xs) ≡ number_in order n xs
 number_take LittleEndian n m xs h = little_from-take 0 n m xs (omega arith)
 number_take BigEndian n m xs h = big_from-take 0 n m xs (omega arith)
 
--- the number at place k, with bytes behind the list
+-- bytes after the list don't change the number at offset k
 pub number_drop_front : (order : Endianness) (n k : ℕ) (xs ys : List ℕ) → k + n ≤ length xs
     → number_in order n (drop k (xs ++ ys)) ≡ number_in order n (drop k xs)
 number_drop_front order n k xs ys h =
@@ -30,24 +30,24 @@ number_drop_front order n k xs ys h =
     let room : n ≤ length (drop k xs) = omega (arith, length-drop k xs) in
     ap (number_in order n) cut ∙ number_front order n (drop k xs) ys room
 
--- n bytes spell a number below 256 ^ n
+-- the number in n bytes is below 256 ^ n
 pub number_bound : (order : Endianness) (n : ℕ) (xs : List ℕ) → ((k : ℕ) → slice_index xs k < 256)
     → number_in order n xs < 256 ^ n
 number_bound LittleEndian n xs h = little_from-lt 0 n xs h
 number_bound BigEndian n xs h = big_from-lt 0 n xs h
 
--- either order looks at the first bytes only
+-- both byte orders depend only on the first bytes
 pub in_reads_first : (order : Endianness) → ReadsFirst (number_in order)
 in_reads_first order = λ n xs ys h. number_front order n xs ys h
 
--- the number stands in any front that holds its bytes, for each reading of the first bytes
+-- `number_take` for each function that depends only on the first bytes
 pub first_take : (number : ℕ → List ℕ → ℕ) → ReadsFirst number → (n m : ℕ) (xs : List ℕ) → n ≤ m → m ≤ length xs
     → number n (take m xs) ≡ number n xs
 first_take number first n m xs h room =
     let long = length-take-le m xs room in
     sym (first n (take m xs) (drop m xs) (omega arith)) ∙ ap (number n) (take-append-drop m xs)
 
--- the number at place k, with bytes behind the list, for each reading of the first bytes
+-- `number_drop_front` for each function that depends only on the first bytes
 pub first_drop_front : (number : ℕ → List ℕ → ℕ) → ReadsFirst number → (n k : ℕ) (xs ys : List ℕ) → k + n ≤ length xs
     → number n (drop k (xs ++ ys)) ≡ number n (drop k xs)
 first_drop_front number first n k xs ys h =

@@ -1,4 +1,4 @@
--- Equality of bytes that lie in pieces.
+-- Equality of bytes in slices.
 use Rattle.std.proofs.Common.{◌≡◌, ℕ, ◌≤◌, List, [], ◌∷◌, ◌++◌, Bool, true, false, ◌&&◌, length, take, drop, refl, sym, ap, ◌∙◌, arith, append_assoc}
 use Rattle.std.proofs.lemmas.List.{length-take-le, take-append-drop}
 use Rattle.std.specs.Bool.{nat_eq}
@@ -8,7 +8,7 @@ and_assoc : (x y z : Bool) → (x && (y && z)) ≡ ((x && y) && z)
 and_assoc true y z = refl
 and_assoc false y z = refl
 
--- lists whose seams lie at one place are equal where both parts are
+-- two lists that split at the same index are equal exactly if both parts are
 pub bytes_eq_append : (xs bs cs ds : List ℕ) → length xs ≡ length cs
     → bytes_eq (xs ++ bs) (cs ++ ds) ≡ (bytes_eq xs cs && bytes_eq bs ds)
 bytes_eq_append [] bs [] ds h = refl
@@ -17,8 +17,8 @@ bytes_eq_append (a ∷ xs) bs [] ds h = absurd (omega arith)
 bytes_eq_append (a ∷ xs) bs (c ∷ cs) ds h =
     ap (λ t. nat_eq a c && t) (bytes_eq_append xs bs cs ds (omega arith)) ∙ and_assoc (nat_eq a c) (bytes_eq xs cs) (bytes_eq bs ds)
 
--- Two lists, each in two parts, with the seam of the first no further back: they are compared front by front,
--- between the seams, and behind them.
+-- Two lists in two parts each, where the first splits no later than the second: they are equal exactly if their prefixes, the
+-- parts between the splits, and their suffixes are.
 pub bytes_eq_seams : (xs bs cs ds head between middle tail : List ℕ)
     → head ≡ take (length xs) cs → between ≡ drop (length xs) cs
     → middle ≡ take (length between) bs → tail ≡ drop (length between) bs
@@ -38,14 +38,14 @@ bytes_eq_seams xs bs cs ds head between middle tail is_head is_between is_middle
     ∙ bytes_eq_append xs (middle ++ tail) head (between ++ ds) long_head
     ∙ ap (λ t. bytes_eq xs head && t) (bytes_eq_append middle tail between ds long_middle)
 
--- the last test decides, where the others hold
+-- the last test decides if the others are true
 pub and_last : (x y z : Bool) → x ≡ true → y ≡ true → (x && (y && z)) ≡ z
 and_last x y z p q = ap (λ t. t && (y && z)) p ∙ ap (λ t. t && z) q
 
--- the second test fails
+-- the second test is false
 pub and_second : (x y z : Bool) → x ≡ true → y ≡ false → (x && (y && z)) ≡ false
 and_second x y z p q = ap (λ t. t && (y && z)) p ∙ ap (λ t. t && z) q
 
--- the first test fails
+-- the first test is false
 pub and_first : (x y z : Bool) → x ≡ false → (x && (y && z)) ≡ false
 and_first x y z p = ap (λ t. t && (y && z)) p

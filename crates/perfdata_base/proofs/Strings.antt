@@ -4,7 +4,7 @@ use Rattle.std.proofs.lemmas.List.{get_or-take, get_or_default, length-take-le}
 use Rattle.memchr.specs.Find.{Nowhere, Passes, is_byte}
 use Rattle.perfdata_base.specs.Raw.{HasNoNul}
 
--- there is no NUL before the first
+-- a string before the first NUL contains none
 pub no_nul_before : (bytes string : List ℕ) (place : ℕ) → place < length bytes → string ≡ take place bytes
     → Nowhere (Passes (is_byte 0) bytes) 0 place → HasNoNul string
 no_nul_before bytes string place within is before = λ k d lt e.

@@ -1,4 +1,4 @@
--- Words told by the bits that ask for them, and by the numbers of these bits.
+-- The u64 fields of a record, by their format bits and by the numbers of these bits.
 use Rattle.std.specs.Prelude.{◌≡◌, ℕ, suc, ◌*◌, ◌-◌, ◌^◌, ◌==◌, Bool, true, false, cond, List, [], ◌∷◌, length, map, filter, position, Option, refl}
 use Rattle.std.specs.List.{position_or_len}
 use Rattle.std.specs.Option.{option_map}
@@ -7,18 +7,18 @@ use Rattle.std.proofs.Common.{ap, sym, ◌∙◌, arith, inl, inr, eq-eqb}
 use Rattle.std.proofs.lemmas.Bool.{cases_order}
 use Rattle.std.proofs.lemmas.Bool.Decides.{nat_tests}
 use Rattle.std.proofs.Math.Pow.{pow-lt}
-use Rattle.perfdata_base.specs.Place.{is_set, trailing_words, from_start, from_end}
+use Rattle.perfdata_base.specs.ParseInfo.{is_set, trailing_words, offset_from_start, offset_from_end}
 use Rattle.perfdata_base.specs.declared.attr.SampleFormat.{SampleFormat}
 
--- the format that asks for the word of bit k alone
+-- the format with bit k alone
 abbrev pub only : ℕ → SampleFormat
 only k = record { 0 = 2 ^ k }
 
--- whether a format asks for a word
+-- whether a format selects a field
 abbrev pub asks_for : ℕ → SampleFormat → Bool
 asks_for format word = bit_and format word.0 == word.0
 
--- different bits have different powers
+-- powers of two are equal exactly if their exponents are
 pub same_bit : (j k : ℕ) → (2 ^ j == 2 ^ k) ≡ (j == k)
 same_bit j k = elim (cases_order j k) [
   | inl e ↦ eq-eqb (2 ^ j) (2 ^ k) (ap (λ n. 2 ^ n) e) ∙ sym (eq-eqb j k e)
@@ -28,7 +28,7 @@ same_bit j k = elim (cases_order j k) [
   ]
 ]
 
--- of the words given by their bits, as many are asked for as of the numbers
+-- a format selects as many fields by their bits as by the numbers of the bits
 pub length-asked : (format : ℕ) (ks : List ℕ) → length (filter (asks_for format) (map only ks)) ≡ length (filter (is_set format) ks)
 length-asked format [] = refl
 length-asked format (k ∷ ks) =
@@ -36,7 +36,7 @@ length-asked format (k ∷ ks) =
     ≡ length (cond b (k ∷ filter (is_set format) ks) (filter (is_set format) ks)))
     [ true ↦ ap suc (length-asked format ks) | false ↦ length-asked format ks ]
 
--- and a word comes after as many
+-- as many selected fields are before a field by its bit as by the number of the bit
 pub passed-asked : (format k : ℕ) (ks : List ℕ) → position_or_len (λ w. w.0 == 2 ^ k) (filter (asks_for format) (map only ks)) ≡ position_or_len (λ w. w == k) (filter (is_set format) ks)
 passed-asked format k [] = refl
 passed-asked format k (j ∷ ks) =
@@ -44,25 +44,25 @@ passed-asked format k (j ∷ ks) =
     ≡ position_or_len (λ w. w == k) (cond b (j ∷ filter (is_set format) ks) (filter (is_set format) ks)))
     [ true ↦ rw (same_bit j k, passed-asked format k ks) refl | false ↦ passed-asked format k ks ]
 
--- so a word has the same index
+-- a field has the same index by its bit and by the number of the bit
 pub position-asked : (format k : ℕ) (ks : List ℕ) → position (λ w. w.0 == 2 ^ k) (filter (asks_for format) (map only ks)) ≡ position (λ w. w == k) (filter (is_set format) ks)
 position-asked format k ks = rw (length-asked format ks, passed-asked format k ks) refl
 
--- what a search among the words given by their bits says of a sample's words
+-- the index of a field by its bit determines its offset in a sample
 pub from_start-asked : (format word k : ℕ) (ks : List ℕ) (index : Option ℕ) → word ≡ 2 ^ k
     → index ≡ position (λ w. w.0 == word) (filter (asks_for format) (map only ks))
-    → option_map (λ i. 8 * i) index ≡ from_start (filter (is_set format) ks) k
+    → option_map (λ i. 8 * i) index ≡ offset_from_start (filter (is_set format) ks) k
 from_start-asked format word k ks index e found = rw (found, e, position-asked format k ks) refl
 
--- and of trailing words
+-- it determines its offset in the trailing fields too
 pub from_end-asked : (format word k : ℕ) (ks : List ℕ) (index : Option ℕ) (count : ℕ) → word ≡ 2 ^ k
     → index ≡ position (λ w. w.0 == word) (filter (asks_for format) (map only ks))
     → count ≡ length (filter (asks_for format) (map only ks))
-    → option_map (λ i. 8 * (count - i)) index ≡ from_end (filter (is_set format) ks) k
+    → option_map (λ i. 8 * (count - i)) index ≡ offset_from_end (filter (is_set format) ks) k
 from_end-asked format word k ks index count e found counted =
     rw (found, e, position-asked format k ks, counted, length-asked format ks) refl
 
--- the trailing words where the flag SAMPLE_ID_ALL is set
-pub trailing_words-told : (format flags : ℕ) → is_set flags 18 ≡ true
+-- the trailing fields if the flag SAMPLE_ID_ALL is set
+pub trailing_words-asked : (format flags : ℕ) → is_set flags 18 ≡ true
     → trailing_words format flags ≡ filter (is_set format) (1 ∷ 2 ∷ 6 ∷ 9 ∷ 7 ∷ 16 ∷ [])
-trailing_words-told format flags set = rw set refl
+trailing_words-asked format flags set = rw set refl

@@ -1,24 +1,24 @@
--- An attribute as its bytes describe it (`perf_event_attr` in Linux's `perf_event.h`).
+-- Event attributes as their bytes describe them (`perf_event_attr` in Linux's `perf_event.h`).
 use Rattle.std.specs.Prelude.{◌≡◌, ℕ, ◌+◌, ◌-◌, ◌<◌, ◌≤◌, ◌⊎◌, ◌++◌, List, length, drop, Result, Ok, Err, nat_eq, nat_le, if◌then◌else◌}
 use Rattle.std.specs.Int.{w32, cast_signed}
 use Rattle.std.specs.IoError.{error_kind}
 use Rattle.std.specs.declared.io.Error.{Error}
 use Rattle.std.specs.declared.io.ErrorKind.TheVariants.{UnexpectedEof, InvalidData}
-use Rattle.perfdata_base.specs.Source.{State, Gave, GaveNone, Failed, CutShort}
+use Rattle.perfdata_base.specs.Source.{State, Consumed, EndedOrPaused, SourceFailed, ReadExactError}
 use Rattle.perfdata_base.specs.declared.attr.PerfEventAttr.{PerfEventAttr}
 
 module _ (number : ℕ → List ℕ → ℕ) where
-  -- how many bytes the attribute takes: what its second number says, with 0 meaning 64
+  -- the size of an attribute in bytes: its second u32 field, where 0 means 64
   abbrev pub own_size : List ℕ → ℕ
   own_size xs = if nat_eq (number 4 (drop 4 xs)) 0 then 64 else number 4 (drop 4 xs)
 
-  -- the value of the field of n bytes at a place: the number there, or 0 where it doesn't lie wholly within the own bytes
+  -- the field of n bytes at an offset: the number there, or 0 if it isn't completely within the own bytes
   unfoldable pub field : ℕ → ℕ → ℕ → List ℕ → ℕ
   field own n at xs = if nat_le (at + n) own then number n (drop at xs) else 0
 
-  -- the attribute that so many own bytes describe
-  unfoldable pub attr_with : ℕ → List ℕ → PerfEventAttr
-  attr_with own xs = record {
+  -- the attribute whose own size is `own`
+  unfoldable pub attr_of_size : ℕ → List ℕ → PerfEventAttr
+  attr_of_size own xs = record {
     type_ = field own 4 0 xs;
     size = own;
     config = field own 8 8 xs;
@@ -42,82 +42,83 @@ module _ (number : ℕ → List ℕ → ℕ) where
     config3 = field own 8 128 xs;
   }
 
-  -- the attribute that these bytes begin with
+  -- the attribute at the start of these bytes
   abbrev pub attr_of : List ℕ → PerfEventAttr
-  attr_of xs = attr_with (own_size xs) xs
+  attr_of xs = attr_of_size (own_size xs) xs
 
-  -- These bytes begin with this attribute, whose own size is at least 64.
+  -- These bytes start with this attribute, whose own size is at least 64.
   pub record IsAttr (xs : List ℕ) (a : PerfEventAttr) : Type 0 where
-    pub least : 64 ≤ own_size xs
-    pub there : own_size xs ≤ length xs
-    pub is : a ≡ attr_of xs
+    pub min_size : 64 ≤ own_size xs
+    pub complete : own_size xs ≤ length xs
+    pub matches : a ≡ attr_of xs
 
-  -- exactly the bytes of this attribute came
-  pub record TookAttr (old : State) (a : PerfEventAttr) (own : ℕ) (new : State) : Type 0 where
+  -- exactly the bytes of this attribute were consumed
+  pub record AttrParsed (old : State) (a : PerfEventAttr) (own : ℕ) (new : State) : Type 0 where
     pub bytes : List ℕ
-    pub long : length bytes ≡ own
+    pub exact_len : length bytes ≡ own
     pub size : a.size ≡ own
-    pub gave : Gave old bytes new
-    pub is : IsAttr bytes a
+    pub consumes : Consumed old bytes new
+    pub matches : IsAttr bytes a
 
-  -- the size that these bytes give is from 1 to 63
+  -- the size in these bytes is 1 to 63
   abbrev pub IsTooSmall : List ℕ → Type 0
   IsTooSmall xs = (8 ≤ length xs) × (own_size xs < 64)
 
-  -- these bytes end before an attribute's first eight do, or before its own size says
-  abbrev pub IsUnfinished : List ℕ → Type 0
-  IsUnfinished xs = (length xs < 8) ⊎ ((64 ≤ own_size xs) × (length xs < own_size xs))
+  -- these bytes end before the first eight bytes of an attribute, or before its own size
+  abbrev pub IsTruncatedAttr : List ℕ → Type 0
+  IsTruncatedAttr xs = (length xs < 8) ⊎ ((64 ≤ own_size xs) × (length xs < own_size xs))
 
-  -- Bytes that came are no attribute: they are unfinished, as the source gave no more, which is short, or failed; or
-  -- they are eight and their size is from 1 to 63.
-  abbrev pub WhyNoAttr : (List ℕ → Type 0) → State → List ℕ → Error → State → Type 0
-  WhyNoAttr Unfinished old front e new =
-      (Unfinished front × (((error_kind e ≡ UnexpectedEof) × GaveNone old new) ⊎ Failed old new))
+  -- The consumed bytes are no attribute. They are incomplete, because the source ended or paused, which is an unexpected end, or
+  -- failed; or they are eight, and the size in them is 1 to 63.
+  abbrev pub AttrErrorCause : (List ℕ → Type 0) → State → List ℕ → Error → State → Type 0
+  AttrErrorCause Unfinished old front e new =
+      (Unfinished front × (((error_kind e ≡ UnexpectedEof) × EndedOrPaused old new) ⊎ SourceFailed old new))
       ⊎ ((length front ≡ 8) × (own_size front < 64) × (error_kind e ≡ InvalidData))
 
-  -- it was refused, after these bytes came
-  pub record RefusedAttr (old : State) (e : Error) (new : State) : Type 0 where
-    pub front : List ℕ
-    pub gave : Gave old front new
-    pub why : WhyNoAttr IsUnfinished old front e new
+  -- the parse failed after these bytes were consumed
+  pub record AttrParseError (old : State) (e : Error) (new : State) : Type 0 where
+    pub consumed_bytes : List ℕ
+    pub consumes : Consumed old consumed_bytes new
+    pub cause : AttrErrorCause IsTruncatedAttr old consumed_bytes e new
 
-  -- what a parse of an attribute does to its source
+  -- the effect of parsing an attribute on the source
   abbrev pub ParsesAttr : State → Result (PerfEventAttr × ℕ) Error → State → Type 0
-  ParsesAttr old (Ok r) new = TookAttr old r.0 r.1 new
-  ParsesAttr old (Err e) new = RefusedAttr old e new
+  ParsesAttr old (Ok r) new = AttrParsed old r.0 r.1 new
+  ParsesAttr old (Err e) new = AttrParseError old e new
 
-  -- bytes to come are no attribute, and this error says how
-  abbrev pub IsNoAttr : Error → List ℕ → Type 0
-  IsNoAttr e xs = ((error_kind e ≡ UnexpectedEof) × IsUnfinished xs) ⊎ ((error_kind e ≡ InvalidData) × IsTooSmall xs)
+  -- the bytes don't start with an attribute, and the error has the matching kind
+  abbrev pub IsInvalidAttr : Error → List ℕ → Type 0
+  IsInvalidAttr e xs = ((error_kind e ≡ UnexpectedEof) × IsTruncatedAttr xs) ⊎ ((error_kind e ≡ InvalidData) × IsTooSmall xs)
 
-  -- the first eight bytes came, and the size that they give
-  pub record TookOwn (old : State) (head : List ℕ) (own : ℕ) (new : State) : Type 0 where
-    pub gave : Gave old head new
-    pub is : own ≡ own_size head
-    pub least : 64 ≤ own
+  -- the first eight bytes were consumed, and they contain this size
+  pub record OwnSizeRead (old : State) (head : List ℕ) (own : ℕ) (new : State) : Type 0 where
+    pub consumes : Consumed old head new
+    pub matches : own ≡ own_size head
+    pub min_size : 64 ≤ own
 
-  -- they are too few, or the size that they give is from 1 to 63
-  pub record RefusedOwn (old : State) (e : Error) (new : State) : Type 0 where
-    pub front : List ℕ
-    pub gave : Gave old front new
-    pub why : WhyNoAttr (λ xs. length xs < 8) old front e new
+  -- there are fewer than eight bytes, or the size in them is 1 to 63
+  pub record OwnSizeReadError (old : State) (e : Error) (new : State) : Type 0 where
+    pub consumed_bytes : List ℕ
+    pub consumes : Consumed old consumed_bytes new
+    pub cause : AttrErrorCause (λ xs. length xs < 8) old consumed_bytes e new
 
-  abbrev pub IsNoOwn : Error → List ℕ → Type 0
-  IsNoOwn e xs = ((error_kind e ≡ UnexpectedEof) × (length xs < 8)) ⊎ ((error_kind e ≡ InvalidData) × IsTooSmall xs)
+  -- the bytes have no valid own size, and the error has the matching kind
+  abbrev pub IsInvalidOwnSize : Error → List ℕ → Type 0
+  IsInvalidOwnSize e xs = ((error_kind e ≡ UnexpectedEof) × (length xs < 8)) ⊎ ((error_kind e ≡ InvalidData) × IsTooSmall xs)
 
-  -- what a reading of the first eight bytes does
-  abbrev pub ReadsOwn : State → List ℕ → Result ℕ Error → State → Type 0
-  ReadsOwn old head (Ok own) new = TookOwn old head own new
-  ReadsOwn old head (Err e) new = RefusedOwn old e new
+  -- the effect of reading the first eight bytes
+  abbrev pub ReadsOwnSize : State → List ℕ → Result ℕ Error → State → Type 0
+  ReadsOwnSize old head (Ok own) new = OwnSizeRead old head own new
+  ReadsOwnSize old head (Err e) new = OwnSizeReadError old e new
 
-  -- the bytes behind the first eight came, and make them an attribute
-  pub record TookRest (old : State) (head : List ℕ) (own : ℕ) (a : PerfEventAttr) (new : State) : Type 0 where
+  -- the bytes after the first eight were consumed, and complete the attribute
+  pub record AttrRestRead (old : State) (head : List ℕ) (own : ℕ) (a : PerfEventAttr) (new : State) : Type 0 where
     pub rest : List ℕ
-    pub long : 8 + length rest ≡ own
-    pub gave : Gave old rest new
-    pub is : a ≡ attr_with own (head ++ rest)
+    pub exact_len : 8 + length rest ≡ own
+    pub consumes : Consumed old rest new
+    pub matches : a ≡ attr_of_size own (head ++ rest)
 
-  -- what a reading of the bytes behind the first eight does
-  abbrev pub ReadsRest : State → List ℕ → ℕ → Result PerfEventAttr Error → State → Type 0
-  ReadsRest old head own (Ok a) new = TookRest old head own a new
-  ReadsRest old head own (Err e) new = CutShort old (own - 8) e new
+  -- the effect of reading the bytes after the first eight
+  abbrev pub ReadsAttrRest : State → List ℕ → ℕ → Result PerfEventAttr Error → State → Type 0
+  ReadsAttrRest old head own (Ok a) new = AttrRestRead old head own a new
+  ReadsAttrRest old head own (Err e) new = ReadExactError old (own - 8) e new

@@ -1,11 +1,11 @@
--- Numbers in the order of a file.
+-- Numbers in a byte order.
 use Rattle.std.specs.Prelude.{ℕ, List}
 use Rattle.byteorder.specs.Endian.{big_number, little_number}
 use Rattle.perfdata_base.specs.declared.raw.Endianness.{Endianness}
 use Rattle.perfdata_base.specs.declared.raw.Endianness.TheVariants.{LittleEndian, BigEndian}
 
--- The number that the first n bytes of a list spell: the sum of byte times 256 to its place, counted from the first
--- byte (little-endian) or from the last (big-endian).
+-- The number in the first n bytes of a list: the sum of each byte times 256 to the power of its index, which counts from the
+-- first byte (little-endian) or from the last (big-endian).
 abbrev pub number_in : Endianness → ℕ → List ℕ → ℕ
 number_in LittleEndian n xs = little_number n xs
 number_in BigEndian n xs = big_number n xs

@@ -1,22 +1,22 @@
--- A record's head as its bytes describe it.
+-- Record headers as their bytes describe them.
 use Rattle.std.specs.Prelude.{◌≡◌, ℕ, List, length, drop, Result, Ok, Err}
 use Rattle.std.specs.declared.io.Error.{Error}
-use Rattle.perfdata_base.specs.Source.{State, Gave, CutShort}
+use Rattle.perfdata_base.specs.Source.{State, Consumed, ReadExactError}
 use Rattle.perfdata_base.specs.declared.event.PerfEventHeader.{PerfEventHeader}
 
 module _ (number : ℕ → List ℕ → ℕ) where
-  -- the head that eight bytes describe
-  abbrev pub head_of : List ℕ → PerfEventHeader
-  head_of xs = record { type_ = number 4 xs; misc = number 2 (drop 4 xs); size = number 2 (drop 6 xs) }
+  -- the record header in eight bytes
+  abbrev pub record_header_of : List ℕ → PerfEventHeader
+  record_header_of xs = record { type_ = number 4 xs; misc = number 2 (drop 4 xs); size = number 2 (drop 6 xs) }
 
-  -- eight bytes came, and this is their head
-  pub record TookHead (old : State) (head : PerfEventHeader) (new : State) : Type 0 where
+  -- eight bytes were consumed, and they contain this record header
+  pub record RecordHeaderParsed (old : State) (head : PerfEventHeader) (new : State) : Type 0 where
     pub bytes : List ℕ
-    pub long : length bytes ≡ 8
-    pub gave : Gave old bytes new
-    pub is : head ≡ head_of bytes
+    pub exact_len : length bytes ≡ 8
+    pub consumes : Consumed old bytes new
+    pub matches : head ≡ record_header_of bytes
 
-  -- what a parse of a head does to its source
-  abbrev pub ParsesHead : State → Result PerfEventHeader Error → State → Type 0
-  ParsesHead old (Ok head) new = TookHead old head new
-  ParsesHead old (Err e) new = CutShort old 8 e new
+  -- the effect of parsing a record header on the source
+  abbrev pub ParsesRecordHeader : State → Result PerfEventHeader Error → State → Type 0
+  ParsesRecordHeader old (Ok head) new = RecordHeaderParsed old head new
+  ParsesRecordHeader old (Err e) new = ReadExactError old 8 e new

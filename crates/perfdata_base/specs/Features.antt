@@ -1,10 +1,10 @@
--- The features of a perf.data file: their names, and which of them a set of bits has.
+-- The features of a perf.data file: their names, and the features in a set of bits.
 use Rattle.std.specs.Prelude.{◌≡◌, ◌⊎◌, ◌↔◌, ℕ, ◌-◌, ◌/◌, ◌%◌, ◌++◌, ◌<◌, Bool, IsTrue, List, [], ◌∷◌, codes, filter, find, slice_index, Option}
 use Rattle.std.specs.Option.{option_map, unwrap_or}
 use Rattle.std.specs.Bool.{nat_eq}
 use Rattle.std.specs.Fmt.{decimal}
 use Rattle.std.specs.List.{range_with_len}
-use Rattle.perfdata_base.specs.Place.{is_set}
+use Rattle.perfdata_base.specs.ParseInfo.{is_set}
 use Rattle.perfdata_base.specs.declared.features.FeatureSet.{FeatureSet}
 use Rattle.perfdata_base.specs.declared.features.FeatureSetIter.{FeatureSetIter}
 
@@ -52,23 +52,23 @@ feature_names =
 unfoldable pub feature_name : ℕ → Option (List ℕ)
 feature_name n = option_map (λ row. row.1) (find (λ row. nat_eq n row.0) feature_names)
 
--- how a feature is printed
+-- the printed text of a feature
 abbrev pub feature_text : ℕ → List ℕ
 feature_text n = unwrap_or (feature_name n) (codes "Unknown Feature " ++ decimal n)
 
--- whether feature n is in a set: it is bit n mod 64 of word n div 64
+-- whether a set contains feature n, which is bit n mod 64 of element n div 64
 abbrev pub has_bit : FeatureSet → ℕ → Bool
 has_bit set n = is_set (slice_index set.0 (n / 64)) (n % 64)
 
--- a set has feature n
+-- a set contains feature n
 abbrev pub HasFeature : FeatureSet → ℕ → Type 0
 HasFeature set n = (n < 256) × IsTrue (has_bit set n)
 
--- a set has the features that it had and this one, if it is one
-abbrev pub PutsFeature : FeatureSet → ℕ → FeatureSet → Type 0
-PutsFeature old feature new = (n : ℕ) → HasFeature new n ↔ (HasFeature old n ⊎ ((n < 256) × (feature ≡ n)))
+-- the new set contains the features of the old one, and this feature if it is below 256
+abbrev pub InsertsFeature : FeatureSet → ℕ → FeatureSet → Type 0
+InsertsFeature old feature new = (n : ℕ) → HasFeature new n ↔ (HasFeature old n ⊎ ((n < 256) × (feature ≡ n)))
 
--- those features of a set that are n and more, ascending; there are features below 256
+-- the features of a set from n on, ascending; all features are below 256
 unfoldable pub features_from : FeatureSet → ℕ → List ℕ
 features_from set n = filter (has_bit set) (range_with_len n (256 - n))
 
@@ -76,6 +76,6 @@ features_from set n = filter (has_bit set) (range_with_len n (256 - n))
 abbrev pub features_of : FeatureSet → List ℕ
 features_of set = features_from set 0
 
--- those that an iterator will give
-abbrev pub members_left : FeatureSetIter → List ℕ
-members_left it = features_from it.set it.next
+-- the features that an iterator still returns
+abbrev pub remaining_features : FeatureSetIter → List ℕ
+remaining_features it = features_from it.set it.next

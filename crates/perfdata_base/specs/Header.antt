@@ -4,79 +4,80 @@ use Rattle.std.specs.IoError.{error_kind}
 use Rattle.std.specs.declared.io.Error.{Error}
 use Rattle.std.specs.declared.io.ErrorKind.TheVariants.{InvalidInput}
 use Rattle.std.specs.declared.io.SeekFrom.TheVariants.{Current}
-use Rattle.perfdata_base.specs.Source.{State, prepend, moved, Gave, IsSmall, Stood, Failed, CutShort, SoughtNowhere}
-use Rattle.perfdata_base.specs.Numbers.{number_in}
-use Rattle.perfdata_base.specs.Section.{section_of}
+use Rattle.perfdata_base.specs.Source.{State, prepend, advance_by, Consumed, SizeFitsI64, AfterSeek, SourceFailed, ReadExactError, SeekOutOfRange}
+use Rattle.perfdata_base.specs.Endian.{number_in}
+use Rattle.perfdata_base.specs.Section.{section_entry_of}
 use Rattle.perfdata_base.specs.declared.raw.Endianness.{Endianness}
 use Rattle.perfdata_base.specs.declared.raw.Endianness.TheVariants.{LittleEndian, BigEndian}
 use Rattle.perfdata_base.specs.declared.header.PerfHeader.{PerfHeader}
 
--- the order of the file's numbers, by the magic's first byte: little-endian where it is `P`
-abbrev pub order_of : List ℕ → Endianness
-order_of xs = if slice_index xs 0 == 80 then LittleEndian else BigEndian
+-- the byte order of a file, by the first byte of its magic: little-endian if it is `P`
+abbrev pub endian_by_first_byte : List ℕ → Endianness
+endian_by_first_byte xs = if slice_index xs 0 == 80 then LittleEndian else BigEndian
 
--- the header that 104 bytes describe, in an order of their numbers
-abbrev pub header_with : (ℕ → List ℕ → ℕ) → List ℕ → PerfHeader
-header_with number xs = record {
+-- the header in 104 bytes, with a function that parses their numbers
+abbrev pub file_header_in : (ℕ → List ℕ → ℕ) → List ℕ → PerfHeader
+file_header_in number xs = record {
   magic = take 8 xs;
   header_size = number 8 (drop 8 xs);
   attr_size = number 8 (drop 16 xs);
-  attr_section = section_of number (drop 24 xs);
-  data_section = section_of number (drop 40 xs);
-  event_types_section = section_of number (drop 56 xs);
+  attr_section = section_entry_of number (drop 24 xs);
+  data_section = section_entry_of number (drop 40 xs);
+  event_types_section = section_entry_of number (drop 56 xs);
   features = record { 0 = number 8 (drop 72 xs) ∷ number 8 (drop 80 xs) ∷ number 8 (drop 88 xs) ∷ number 8 (drop 96 xs) ∷ [] };
 }
 
-abbrev pub header_of : List ℕ → PerfHeader
-header_of xs = header_with (number_in (order_of xs)) xs
+abbrev pub file_header_of : List ℕ → PerfHeader
+file_header_of xs = file_header_in (number_in (endian_by_first_byte xs)) xs
 
--- the first 104 bytes to come are this header's
-pub record Begins (old : State) (h : PerfHeader) : Type 0 where
+-- the first 104 remaining bytes contain this header
+pub record BeginsWithFileHeader (old : State) (h : PerfHeader) : Type 0 where
   pub bytes : List ℕ
   pub rest : Option (List ℕ)
-  pub long : length bytes ≡ 104
-  pub came : old.bytes ≡ prepend bytes rest
-  pub is : h ≡ header_of bytes
+  pub exact_len : length bytes ≡ 104
+  pub prefix_of_remaining : old.bytes ≡ prepend bytes rest
+  pub matches : h ≡ file_header_of bytes
 
--- A header was read, and the source stands behind it: 104 bytes on, or as many as the header says where those are more.
-pub record TookHeader (old : State) (h : PerfHeader) (new : State) : Type 0 where
-  pub begins : Begins old h
-  pub near : h.header_size < 104 + 2 ^ 63
-  pub stood : Stood old new
-  pub place : new.place ≡ moved (max 104 h.header_size) old.place
+-- A header was parsed, and the source advanced by 104 bytes, or by the size in the header if that is more.
+pub record FileHeaderParsed (old : State) (h : PerfHeader) (new : State) : Type 0 where
+  pub file_header : BeginsWithFileHeader old h
+  pub extra_fits : h.header_size < 104 + 2 ^ 63
+  pub after_seek : AfterSeek old new
+  pub position : new.position ≡ advance_by (max 104 h.header_size) old.position
 
--- The bytes of a header behind its first 104 weren't passed over: they are 2^63 or more, and the source stands behind those
--- 104; or the source failed.
-pub record NotPassed (old : State) (e : Error) (new : State) : Type 0 where
+-- The bytes of a header after the first 104 weren't skipped. They are 2^63 or more, and the position is after the first 104; or
+-- the source failed.
+pub record ExtraSkipError (old : State) (e : Error) (new : State) : Type 0 where
   pub header : PerfHeader
-  pub begins : Begins old header
-  pub more : 104 < header.header_size
-  pub why : ((104 + 2 ^ 63 ≤ header.header_size) × (error_kind e ≡ InvalidInput) × Gave old begins.bytes new)
-      ⊎ ((header.header_size < 104 + 2 ^ 63) × Failed old new)
+  pub file_header : BeginsWithFileHeader old header
+  pub has_extra : 104 < header.header_size
+  pub cause : ((104 + 2 ^ 63 ≤ header.header_size) × (error_kind e ≡ InvalidInput) × Consumed old file_header.bytes new)
+      ⊎ ((header.header_size < 104 + 2 ^ 63) × SourceFailed old new)
 
--- there was none: fewer than 104 bytes came, or those behind them weren't passed over
-pub record RefusedHeader (old : State) (e : Error) (new : State) : Type 0 where
-  pub stood : Stood old new
-  pub why : CutShort old 104 e new ⊎ NotPassed old e new
+-- no header was parsed: fewer than 104 bytes were read, or the later bytes weren't skipped
+pub record FileHeaderParseError (old : State) (e : Error) (new : State) : Type 0 where
+  pub after_seek : AfterSeek old new
+  pub cause : ReadExactError old 104 e new ⊎ ExtraSkipError old e new
 
--- what a parse of a header does to its source
-abbrev pub ParsesHeader : State → Result PerfHeader Error → State → Type 0
-ParsesHeader old (Ok h) new = TookHeader old h new
-ParsesHeader old (Err e) new = RefusedHeader old e new
+-- the effect of parsing a header on the source
+abbrev pub ParsesFileHeader : State → Result PerfHeader Error → State → Type 0
+ParsesFileHeader old (Ok h) new = FileHeaderParsed old h new
+ParsesFileHeader old (Err e) new = FileHeaderParseError old e new
 
--- the source went on behind a header of this size, whose first 104 bytes were read
-pub record PassedExtra (old : State) (size : ℕ) (new : State) : Type 0 where
-  pub near : size < 104 + 2 ^ 63
-  pub stood : Stood old new
-  pub place : new.place ≡ moved (size - 104) old.place
+-- after the first 104 bytes of a header of this size, the later bytes were skipped
+pub record ExtraSkipped (old : State) (size : ℕ) (new : State) : Type 0 where
+  pub extra_fits : size < 104 + 2 ^ 63
+  pub after_seek : AfterSeek old new
+  pub position : new.position ≡ advance_by (size - 104) old.position
 
-pub record RefusedExtra (old : State) (size : ℕ) (e : Error) (new : State) : Type 0 where
-  pub more : 104 < size
-  pub stood : Stood old new
-  pub why : ((104 + 2 ^ 63 ≤ size) × (error_kind e ≡ InvalidInput) × (new ≡ old))
-      ⊎ ((size < 104 + 2 ^ 63) × (Failed old new ⊎ (IsSmall old × SoughtNowhere old (Current (pos (size - 104))))))
+-- skipping them failed: they are 2^63 or more, and the source is unchanged; or the source failed or the target is out of range
+pub record ExtraSeekError (old : State) (size : ℕ) (e : Error) (new : State) : Type 0 where
+  pub has_extra : 104 < size
+  pub after_seek : AfterSeek old new
+  pub cause : ((104 + 2 ^ 63 ≤ size) × (error_kind e ≡ InvalidInput) × (new ≡ old))
+      ⊎ ((size < 104 + 2 ^ 63) × (SourceFailed old new ⊎ (SizeFitsI64 old × SeekOutOfRange old (Current (pos (size - 104))))))
 
--- what a passing over the bytes of a header behind its first 104 does
-abbrev pub PassesExtra : {A : Type 0} → State → ℕ → Result A Error → State → Type 0
-PassesExtra old size (Ok _) new = PassedExtra old size new
-PassesExtra old size (Err e) new = RefusedExtra old size e new
+-- the effect of skipping the bytes of a header after the first 104
+abbrev pub SkipsExtra : {A : Type 0} → State → ℕ → Result A Error → State → Type 0
+SkipsExtra old size (Ok _) new = ExtraSkipped old size new
+SkipsExtra old size (Err e) new = ExtraSeekError old size e new

@@ -3,11 +3,11 @@ use Rattle.std.specs.Prelude.{ℕ, ◌%◌, ◌==◌, if◌then◌else◌, slice
 use Rattle.perfdata_base.specs.declared.place.id_cache.IdCache.{IdCache}
 use Rattle.perfdata_base.specs.declared.place.id_cache.Pair.{Pair}
 
--- a pair tells the index of its own identifier, and of no other
-abbrev pub index_by : Option Pair → ℕ → Option ℕ
-index_by None id = None
-index_by (Some p) id = if p.id == id then Some p.index else None
+-- the index in a slot, for the identifier of its pair alone
+abbrev pub slot_index : Option Pair → ℕ → Option ℕ
+slot_index None id = None
+slot_index (Some p) id = if p.id == id then Some p.index else None
 
--- the index that a cache has of an identifier
-abbrev pub cached : IdCache → ℕ → Option ℕ
-cached c id = index_by (slice_index_or c.slots (id % 64) None) id
+-- the index that a cache contains for an identifier
+abbrev pub cached_index : IdCache → ℕ → Option ℕ
+cached_index c id = slot_index (slice_index_or c.slots (id % 64) None) id

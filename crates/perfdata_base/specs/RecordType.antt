@@ -1,9 +1,9 @@
--- The heads of records (Linux's `perf_event.h`): their types and the processor's mode.
+-- The CPU mode in record headers (Linux's `perf_event.h`).
 use Rattle.std.specs.Prelude.{ℕ, nat_eq, if◌then◌else◌}
 use Rattle.perfdata_base.specs.declared.event.CpuMode.{CpuMode}
 use Rattle.perfdata_base.specs.declared.event.CpuMode.TheVariants.{Unknown, Kernel, User, Hypervisor, GuestKernel, GuestUser}
 
--- the mode that the lowest three bits of a head's `misc` stand for, by their number
+-- the CPU mode, by the number in the lowest three bits of a record header's `misc`
 abbrev pub cpu_mode_of : ℕ → CpuMode
 cpu_mode_of n = if nat_eq n 1 then Kernel
     else if nat_eq n 2 then User

@@ -1,18 +1,18 @@
--- A source that follows a script.
+-- A scripted source.
 use Rattle.std.specs.Prelude.{ℕ, List, false, drop, Some}
 use Rattle.perfdata_base.specs.Source.{State}
-use Rattle.perfdata_base.specs.declared.source.scripted.Script.{Script}
+use Rattle.perfdata_base.specs.declared.source.script.Script.{Script}
 
--- a script as a source: it tells all bytes that it will ever show
-abbrev pub scripted : Script → State
-scripted s = record {
-  bytes = Some (drop s.at s.bytes.items);
-  faults = s.faults;
+-- the state of a script: its bytes are all that it will ever show
+abbrev pub script_state : Script → State
+script_state s = record {
+  bytes = Some (drop s.position s.bytes.items);
+  errors = s.faults;
   pauses = s.pauses;
   steady = false;
-  place = Some (record { all = s.bytes.items; at = s.at });
+  position = Some (record { all_bytes = s.bytes.items; offset = s.position });
 }
 
--- a script that has given none of its bytes yet
-abbrev pub starts : List ℕ → State
-starts bytes = record { bytes = Some bytes; faults = 0; pauses = 0; steady = false; place = Some (record { all = bytes; at = 0 }) }
+-- the state of a script before its first read
+abbrev pub unread_script_state : List ℕ → State
+unread_script_state bytes = record { bytes = Some bytes; errors = 0; pauses = 0; steady = false; position = Some (record { all_bytes = bytes; offset = 0 }) }

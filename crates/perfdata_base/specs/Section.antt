@@ -1,26 +1,26 @@
--- A section's entry: where it begins and how long it is.
+-- The entry of a section: its offset and its size.
 use Rattle.std.specs.Prelude.{◌≡◌, ℕ, List, length, drop, Result, Ok, Err}
 use Rattle.std.specs.declared.io.Error.{Error}
-use Rattle.perfdata_base.specs.Source.{State, Gave, CutShort}
+use Rattle.perfdata_base.specs.Source.{State, Consumed, ReadExactError}
 use Rattle.perfdata_base.specs.declared.section.PerfFileSection.{PerfFileSection}
 
 module _ (number : ℕ → List ℕ → ℕ) where
-  -- the entry that sixteen bytes describe
-  abbrev pub section_of : List ℕ → PerfFileSection
-  section_of xs = record { offset = number 8 xs; size = number 8 (drop 8 xs) }
+  -- the entry in sixteen bytes
+  abbrev pub section_entry_of : List ℕ → PerfFileSection
+  section_entry_of xs = record { offset = number 8 xs; size = number 8 (drop 8 xs) }
 
-  -- these bytes begin with this entry
-  abbrev pub IsSection : List ℕ → PerfFileSection → Type 0
-  IsSection xs s = s ≡ section_of xs
+  -- these bytes start with this entry
+  abbrev pub IsSectionEntry : List ℕ → PerfFileSection → Type 0
+  IsSectionEntry xs s = s ≡ section_entry_of xs
 
-  -- sixteen bytes came, and this is their entry
-  pub record TookSection (old : State) (s : PerfFileSection) (new : State) : Type 0 where
+  -- sixteen bytes were consumed, and they contain this entry
+  pub record SectionEntryParsed (old : State) (s : PerfFileSection) (new : State) : Type 0 where
     pub bytes : List ℕ
-    pub long : length bytes ≡ 16
-    pub gave : Gave old bytes new
-    pub is : IsSection bytes s
+    pub exact_len : length bytes ≡ 16
+    pub consumes : Consumed old bytes new
+    pub matches : IsSectionEntry bytes s
 
-  -- what a parse of an entry does to its source
-  abbrev pub ParsesSection : State → Result PerfFileSection Error → State → Type 0
-  ParsesSection old (Ok s) new = TookSection old s new
-  ParsesSection old (Err e) new = CutShort old 16 e new
+  -- the effect of parsing an entry on the source
+  abbrev pub ParsesSectionEntry : State → Result PerfFileSection Error → State → Type 0
+  ParsesSectionEntry old (Ok s) new = SectionEntryParsed old s new
+  ParsesSectionEntry old (Err e) new = ReadExactError old 16 e new

@@ -1,18 +1,18 @@
-//! An event's attribute, in every size that it had.
+//! Event attributes of every size.
 ghost use Rattle.std.specs.Prelude.{⊤, ◌≡◌, ◌+◌, ◌≤◌, [], ◌∷◌, codes, length, take};
 ghost use Rattle.std.specs.Int.{w32, cast_signed};
 ghost use Rattle.std.specs.IoError.{error_kind};
 ghost use Rattle.std.specs.declared.io.ErrorKind.TheVariants.{InvalidData};
-ghost use Rattle.perfdata_base.specs.Source.{State, PausesOnce};
-ghost use Rattle.perfdata_base.specs.Attr.{field, attr_with, ParsesAttr, ReadsOwn, ReadsRest};
+ghost use Rattle.perfdata_base.specs.Source.{State, PausesOnlyOnError};
+ghost use Rattle.perfdata_base.specs.Attr.{field, attr_of_size, ParsesAttr, ReadsOwnSize, ReadsAttrRest};
 
 use crate::raw::FileOrder;
-use crate::source::{Source, read_all, skip_all};
+use crate::source::{Source, read_exact, skip_exact};
 use bitflags::{Flag, Flags, bitflag_items};
 use std::io::{Error, ErrorKind, Result};
 
-/// What a sample of an event holds, bit by bit (`perf_event_sample_format` in Linux's `perf_event.h`).
-/// Bits without a name here are kept.
+/// The fields of an event's samples, as bits (`perf_event_sample_format` in Linux's `perf_event.h`). Bits without a
+/// constant here are preserved.
 #[derive(Clone, Copy, Debug, PartialEq, Eq)]
 pub struct SampleFormat(pub u64);
 
@@ -30,9 +30,9 @@ bitflag_items! {
         const ID = 1 << 6;
         /// The processor.
         const CPU = 1 << 7;
-        /// The identifier of the event itself, also where another task inherited it.
+        /// The identifier of the event itself, also if another task inherited it.
         const STREAM_ID = 1 << 9;
-        /// The event's identifier, at the same place whatever else is there.
+        /// The event's identifier, at an offset that doesn't depend on the other fields.
         const IDENTIFIER = 1 << 16;
     }
 }
@@ -59,13 +59,13 @@ impl Flags for SampleFormat {
     }
 }
 
-/// The flags of an event's attribute, bit by bit. Bits without a name here are kept.
+/// The flags of an event's attribute, as bits. Bits without a constant here are preserved.
 #[derive(Clone, Copy, Debug, PartialEq, Eq)]
 pub struct AttrFlags(pub u64);
 
 bitflag_items! {
     impl AttrFlags: u64 {
-        /// Records that aren't samples end with the words of the event's identifier.
+        /// Records that aren't samples end with sample_id fields.
         const SAMPLE_ID_ALL = 1 << 18;
     }
 }
@@ -92,65 +92,65 @@ impl Flags for AttrFlags {
     }
 }
 
-/// What an event's attribute says (`perf_event_attr` in Linux's `perf_event.h`).
+/// The attribute of an event (`perf_event_attr` in Linux's `perf_event.h`).
 #[derive(Clone, Copy, Debug)]
 pub struct PerfEventAttr {
-    /// The kind of event: 0 hardware, 1 software, 2 tracepoint, 3 cache, 4 raw, 5 breakpoint, or a monitoring unit.
+    /// The type of event: 0 hardware, 1 software, 2 tracepoint, 3 cache, 4 raw, 5 breakpoint, or a monitoring unit.
     pub type_: u32,
-    /// How many bytes the attribute takes.
+    /// The size of the attribute in bytes.
     pub size: u32,
-    /// Which event of its kind.
+    /// The event among those of its type.
     pub config: u64,
-    /// Events a sample, or with the flag FREQ samples a second.
+    /// The number of events per sample, or of samples per second with the flag FREQ.
     pub period_or_freq: u64,
-    /// What a sample holds.
+    /// The fields of a sample.
     pub sample_format: SampleFormat,
-    /// What a reading of the counter holds, bit by bit.
+    /// The fields of a counter reading, as bits.
     pub read_format: u64,
-    /// What is recorded beside samples, and how.
+    /// What is recorded besides samples, and how.
     pub flags: AttrFlags,
-    /// Samples, or with the flag WATERMARK bytes, before the recorder is woken.
+    /// The number of samples before the recorder is woken, or of bytes with the flag WATERMARK.
     pub wakeup: u32,
-    /// The kind of breakpoint: 1 read, 2 write, 3 both, 4 execute.
+    /// The type of breakpoint: 1 read, 2 write, 3 both, 4 execute.
     pub bp_type: u32,
-    /// A second number of the event; of a breakpoint its address.
+    /// The second configuration number of the event; the address of a breakpoint.
     pub config1: u64,
-    /// A third number of the event; of a breakpoint its length in bytes.
+    /// The third configuration number of the event; the length of a breakpoint in bytes.
     pub config2: u64,
-    /// Which branches a branch stack holds, bit by bit.
+    /// The branches that a branch stack contains, as bits.
     pub branch_sample_type: u64,
-    /// Which of the user's registers a sample holds, bit by bit.
+    /// The user registers that a sample contains, as bits.
     pub sample_regs_user: u64,
-    /// How many bytes of the user's stack a sample holds.
+    /// The number of bytes of the user stack that a sample contains.
     pub sample_stack_user: u32,
-    /// The clock of times, with the flag USE_CLOCKID.
+    /// The clock of the times, if the flag USE_CLOCKID is set.
     pub clockid: i32,
-    /// Which registers at the interrupt a sample holds, bit by bit.
+    /// The registers at the interrupt that a sample contains, as bits.
     pub sample_regs_intr: u64,
-    /// Bytes of auxiliary data before the recorder is woken.
+    /// The number of bytes of aux data before the recorder is woken.
     pub aux_watermark: u32,
-    /// How many frames a call chain has at most.
+    /// The maximum number of frames of a call chain.
     pub sample_max_stack: u16,
-    /// How many bytes of auxiliary data a sample holds.
+    /// The number of bytes of aux data that a sample contains.
     pub aux_sample_size: u32,
-    /// What a signal of the event carries.
+    /// The data that a signal of the event carries.
     pub sig_data: u64,
-    /// A fourth number of the event.
+    /// The fourth configuration number of the event.
     pub config3: u64,
 }
 
-/// How many bytes of an attribute have a meaning here; what is behind them is passed over.
-pub const KNOWN: usize = 136;
+/// The number of bytes of an attribute that are parsed. Later bytes are skipped.
+pub const KNOWN_SIZE: usize = 136;
 
-/// The fewest bytes that an attribute takes, those of its first version.
-const LEAST: u32 = 64;
+/// The minimum size of an attribute in bytes, that of its first version.
+const MIN_SIZE: u32 = 64;
 
 #[tactic(auto, unfolding(crate::specs::Attr::field))]
-fn word<T: FileOrder>(bytes: &[u8], own: u32, at: usize) -> u64
+fn u64_field<T: FileOrder>(bytes: &[u8], own_size: u32, at: usize) -> u64
     requires { at + 8 ≤ length bytes.now }
-    ensures { result ≡ field T.number_of own 8 at bytes.now }
+    ensures { result ≡ field T.number_of own_size 8 at bytes.now }
 {
-    if at + 8 <= own as usize {
+    if at + 8 <= own_size as usize {
         T::read_u64(&bytes[at..])
     } else {
         0
@@ -158,11 +158,11 @@ fn word<T: FileOrder>(bytes: &[u8], own: u32, at: usize) -> u64
 }
 
 #[tactic(auto, unfolding(crate::specs::Attr::field))]
-fn half<T: FileOrder>(bytes: &[u8], own: u32, at: usize) -> u32
+fn u32_field<T: FileOrder>(bytes: &[u8], own_size: u32, at: usize) -> u32
     requires { at + 4 ≤ length bytes.now }
-    ensures { result ≡ field T.number_of own 4 at bytes.now }
+    ensures { result ≡ field T.number_of own_size 4 at bytes.now }
 {
-    if at + 4 <= own as usize {
+    if at + 4 <= own_size as usize {
         T::read_u32(&bytes[at..])
     } else {
         0
@@ -170,122 +170,122 @@ fn half<T: FileOrder>(bytes: &[u8], own: u32, at: usize) -> u32
 }
 
 #[tactic(auto, unfolding(crate::specs::Attr::field))]
-fn quarter<T: FileOrder>(bytes: &[u8], own: u32, at: usize) -> u16
+fn u16_field<T: FileOrder>(bytes: &[u8], own_size: u32, at: usize) -> u16
     requires { at + 2 ≤ length bytes.now }
-    ensures { result ≡ field T.number_of own 2 at bytes.now }
+    ensures { result ≡ field T.number_of own_size 2 at bytes.now }
 {
-    if at + 2 <= own as usize {
+    if at + 2 <= own_size as usize {
         T::read_u16(&bytes[at..])
     } else {
         0
     }
 }
 
-fn signed_half<T: FileOrder>(bytes: &[u8], own: u32, at: usize) -> i32
+fn i32_field<T: FileOrder>(bytes: &[u8], own_size: u32, at: usize) -> i32
     requires { at + 4 ≤ length bytes.now }
-    ensures { result ≡ cast_signed w32 (field T.number_of own 4 at bytes.now) }
+    ensures { result ≡ cast_signed w32 (field T.number_of own_size 4 at bytes.now) }
 {
-    half::<T>(bytes, own, at).cast_signed()
+    u32_field::<T>(bytes, own_size, at).cast_signed()
 }
 
-// The attribute that so many own bytes describe.
-#[tactic(auto, unfolding(crate::specs::Attr::attr_with))]
-fn parse_fields<T: FileOrder>(bytes: &[u8], own: u32) -> PerfEventAttr
+// Parses an attribute of `own_size` bytes. A field that isn't completely within them is 0.
+#[tactic(auto, unfolding(crate::specs::Attr::attr_of_size))]
+fn parse_fields<T: FileOrder>(bytes: &[u8], own_size: u32) -> PerfEventAttr
     requires { length bytes.now ≡ 136 }
-    ensures { result ≡ attr_with T.number_of own bytes.now }
+    ensures { result ≡ attr_of_size T.number_of own_size bytes.now }
 {
     PerfEventAttr {
-        type_: half::<T>(bytes, own, 0),
-        size: own,
-        config: word::<T>(bytes, own, 8),
-        period_or_freq: word::<T>(bytes, own, 16),
-        sample_format: SampleFormat(word::<T>(bytes, own, 24)),
-        read_format: word::<T>(bytes, own, 32),
-        flags: AttrFlags(word::<T>(bytes, own, 40)),
-        wakeup: half::<T>(bytes, own, 48),
-        bp_type: half::<T>(bytes, own, 52),
-        config1: word::<T>(bytes, own, 56),
-        config2: word::<T>(bytes, own, 64),
-        branch_sample_type: word::<T>(bytes, own, 72),
-        sample_regs_user: word::<T>(bytes, own, 80),
-        sample_stack_user: half::<T>(bytes, own, 88),
-        clockid: signed_half::<T>(bytes, own, 92),
-        sample_regs_intr: word::<T>(bytes, own, 96),
-        aux_watermark: half::<T>(bytes, own, 104),
-        sample_max_stack: quarter::<T>(bytes, own, 108),
-        aux_sample_size: half::<T>(bytes, own, 112),
-        sig_data: word::<T>(bytes, own, 120),
-        config3: word::<T>(bytes, own, 128),
+        type_: u32_field::<T>(bytes, own_size, 0),
+        size: own_size,
+        config: u64_field::<T>(bytes, own_size, 8),
+        period_or_freq: u64_field::<T>(bytes, own_size, 16),
+        sample_format: SampleFormat(u64_field::<T>(bytes, own_size, 24)),
+        read_format: u64_field::<T>(bytes, own_size, 32),
+        flags: AttrFlags(u64_field::<T>(bytes, own_size, 40)),
+        wakeup: u32_field::<T>(bytes, own_size, 48),
+        bp_type: u32_field::<T>(bytes, own_size, 52),
+        config1: u64_field::<T>(bytes, own_size, 56),
+        config2: u64_field::<T>(bytes, own_size, 64),
+        branch_sample_type: u64_field::<T>(bytes, own_size, 72),
+        sample_regs_user: u64_field::<T>(bytes, own_size, 80),
+        sample_stack_user: u32_field::<T>(bytes, own_size, 88),
+        clockid: i32_field::<T>(bytes, own_size, 92),
+        sample_regs_intr: u64_field::<T>(bytes, own_size, 96),
+        aux_watermark: u32_field::<T>(bytes, own_size, 104),
+        sample_max_stack: u16_field::<T>(bytes, own_size, 108),
+        aux_sample_size: u32_field::<T>(bytes, own_size, 112),
+        sig_data: u64_field::<T>(bytes, own_size, 120),
+        config3: u64_field::<T>(bytes, own_size, 128),
     }
 }
 
-fn bad_size() -> Error
+fn invalid_size() -> Error
     ensures { error_kind result ≡ InvalidData }
 {
     Error::from(ErrorKind::InvalidData)
 }
 
-/// Reads the first eight bytes of an attribute, and says how many it has of its own.
+/// Reads the first 8 bytes of an attribute into `head`, and returns its own size in bytes.
 ///
-/// An `UnexpectedEof` error where fewer come, and an `InvalidData` error where it has 1 to 63.
-pub fn read_own<R: Source, T: FileOrder>(source: &mut R, head: &mut [u8]) -> Result<u32>
+/// It fails with `UnexpectedEof` if fewer bytes are read, and with `InvalidData` if the own size is 1 to 63.
+pub fn read_own_size<R: Source, T: FileOrder>(source: &mut R, head: &mut [u8]) -> Result<u32>
     requires { length head.old ≡ 8 }
-    ensures reads { ReadsOwn T.number_of (R.seen source.old) head.new result (R.seen source.new) }
-    ensures pauses { PausesOnce (R.seen source.old) result (R.seen source.new) }
-    ensures lent { R.lent source.new ≡ R.lent source.old }
+    ensures reads { ReadsOwnSize T.number_of (R.state source.old) head.new result (R.state source.new) }
+    ensures pauses { PausesOnlyOnError (R.state source.old) result (R.state source.new) }
+    ensures same_loan { R.loan source.new ≡ R.loan source.old }
 {
-    read_all(source, head)?;
+    read_exact(source, head)?;
     let size = T::read_u32(&head[4..]);
     if size == 0 {
-        return Ok(LEAST);
+        return Ok(MIN_SIZE);
     }
-    if size < LEAST {
-        return Err(bad_size());
+    if size < MIN_SIZE {
+        return Err(invalid_size());
     }
     Ok(size)
 }
 
-/// Reads the rest of an attribute whose first eight bytes stand at the front, and passes over those of its own bytes
-/// that have no meaning here.
+/// Reads the rest of an attribute whose first 8 bytes are at the start of `bytes`.
 ///
-/// An `UnexpectedEof` error where fewer come than it has of its own.
-pub fn read_rest<R: Source, T: FileOrder>(
+/// `own_size` is the attribute's own size in bytes. Own bytes after the first 136 are skipped. It fails with
+/// `UnexpectedEof` if fewer bytes are read than the own size requires.
+pub fn read_after_own_size<R: Source, T: FileOrder>(
     source: &mut R,
     bytes: &mut [u8],
-    own: u32,
+    own_size: u32,
 ) -> Result<PerfEventAttr>
-    requires long { length bytes.old ≡ 136 }
-    requires least { 64 ≤ own }
-    ensures reads { ReadsRest T.number_of (R.seen source.old) (take 8 bytes.old) own result (R.seen source.new) }
-    ensures pauses { PausesOnce (R.seen source.old) result (R.seen source.new) }
-    ensures lent { R.lent source.new ≡ R.lent source.old }
+    requires exact_len { length bytes.old ≡ 136 }
+    requires min_size { 64 ≤ own_size }
+    ensures reads { ReadsAttrRest T.number_of (R.state source.old) (take 8 bytes.old) own_size result (R.state source.new) }
+    ensures pauses { PausesOnlyOnError (R.state source.old) result (R.state source.new) }
+    ensures same_loan { R.loan source.new ≡ R.loan source.old }
 {
-    let known = (own as usize).min(KNOWN);
-    read_all(source, &mut bytes[8..known])?;
-    skip_all(source, (own as usize - known) as u64)?;
-    Ok(parse_fields::<T>(bytes, own))
+    let known = (own_size as usize).min(KNOWN_SIZE);
+    read_exact(source, &mut bytes[8..known])?;
+    skip_exact(source, (own_size as usize - known) as u64)?;
+    Ok(parse_fields::<T>(bytes, own_size))
 }
 
 impl PerfEventAttr {
-    /// The attribute at the front of a source that is kept, and how many bytes it took, its own size.
+    /// Parses an attribute from a borrowed source, and returns it with its own size, the number of bytes consumed.
     ///
-    /// The own size is the second number, where 0 means 64. A field that doesn't lie wholly within the own bytes is 0,
-    /// and own bytes behind the last field are passed over. An `UnexpectedEof` error where fewer bytes come, and an
-    /// `InvalidData` error where the own size is 1 to 63.
+    /// The own size is the second u32 field, where 0 means 64. A field that isn't completely within the own bytes is 0.
+    /// Own bytes after the last field are skipped. It fails with `UnexpectedEof` if fewer bytes are read, and with
+    /// `InvalidData` if the own size is 1 to 63.
     pub fn parse_from<R: Source, T: FileOrder>(source: &mut R) -> Result<(PerfEventAttr, u64)>
-        ensures parses { ParsesAttr T.number_of (R.seen source.old) result (R.seen source.new) }
-        ensures pauses { PausesOnce (R.seen source.old) result (R.seen source.new) }
-        ensures lent { R.lent source.new ≡ R.lent source.old }
+        ensures parses { ParsesAttr T.number_of (R.state source.old) result (R.state source.new) }
+        ensures pauses { PausesOnlyOnError (R.state source.old) result (R.state source.new) }
+        ensures same_loan { R.loan source.new ≡ R.loan source.old }
     {
-        let mut bytes = [0u8; KNOWN];
-        let own = read_own::<R, T>(source, &mut bytes[..8])?;
-        let attr = read_rest::<R, T>(source, &mut bytes, own)?;
+        let mut bytes = [0u8; KNOWN_SIZE];
+        let own = read_own_size::<R, T>(source, &mut bytes[..8])?;
+        let attr = read_after_own_size::<R, T>(source, &mut bytes, own)?;
         Ok((attr, own as u64))
     }
 
-    /// The attribute at the front of a source, and how many bytes it took, as by `parse_from`.
+    /// Parses an attribute from a source as `parse_from` does, and returns it with its own size.
     pub fn parse<R: Source + Drop, T: FileOrder>(mut r: R) -> Result<(PerfEventAttr, u64)>
-        ensures { (left : State) × ParsesAttr T.number_of (R.seen r) result left }
+        ensures { (left : State) × ParsesAttr T.number_of (R.state r) result left }
     {
         PerfEventAttr::parse_from::<R, T>(&mut r)
     }

@@ -1,39 +1,39 @@
-//! A record's head, its type, and a record of the kernel.
+//! Record headers, record types and kernel records.
 ghost use Rattle.std.specs.Prelude.{◌≡◌, ◌<◌, ◌≤◌, ◌%◌, ◌↔◌, IsTrue};
-ghost use Rattle.perfdata_base.specs.Source.{State, PausesOnce};
-ghost use Rattle.perfdata_base.specs.Event.{ParsesHead};
+ghost use Rattle.perfdata_base.specs.Source.{State, PausesOnlyOnError};
+ghost use Rattle.perfdata_base.specs.Event.{ParsesRecordHeader};
 ghost use Rattle.perfdata_base.specs.RecordType.{cpu_mode_of};
 
 use crate::place::RecordParseInfo;
 use crate::raw::{FileOrder, RawData};
-use crate::source::{Source, read_all};
+use crate::source::{Source, read_exact};
 use std::io::Result;
 
-/// A record's head (`perf_event_header` in Linux's `perf_event.h`).
+/// The header of a record (`perf_event_header` in Linux's `perf_event.h`).
 #[derive(Clone, Copy, Debug)]
 pub struct PerfEventHeader {
     /// The record's type.
     pub type_: u32,
     /// Bits of the record, among them the processor's mode.
     pub misc: u16,
-    /// How many bytes the record has, its head counted.
+    /// The size of the record in bytes, with its header.
     pub size: u16,
 }
 
 impl PerfEventHeader {
-    /// How many bytes a head takes.
+    /// The size of a record header in bytes.
     pub const STRUCT_SIZE: usize = 8;
 
-    /// The head at the front of a source that is kept: its type of four bytes, its misc and its size of two.
+    /// Parses a record header from a borrowed source: its type of four bytes, its misc and its size of two.
     ///
-    /// An `UnexpectedEof` error where fewer than 8 bytes come.
+    /// It fails with `UnexpectedEof` if fewer than 8 bytes are read.
     pub fn parse_from<R: Source, T: FileOrder>(source: &mut R) -> Result<PerfEventHeader>
-        ensures parses { ParsesHead T.number_of (R.seen source.old) result (R.seen source.new) }
-        ensures pauses { PausesOnce (R.seen source.old) result (R.seen source.new) }
-        ensures lent { R.lent source.new ≡ R.lent source.old }
+        ensures parses { ParsesRecordHeader T.number_of (R.state source.old) result (R.state source.new) }
+        ensures pauses { PausesOnlyOnError (R.state source.old) result (R.state source.new) }
+        ensures same_loan { R.loan source.new ≡ R.loan source.old }
     {
         let mut bytes = [0u8; PerfEventHeader::STRUCT_SIZE];
-        read_all(source, &mut bytes)?;
+        read_exact(source, &mut bytes)?;
         Ok(PerfEventHeader {
             type_: T::read_u32(&bytes),
             misc: T::read_u16(&bytes[4..]),
@@ -41,9 +41,9 @@ impl PerfEventHeader {
         })
     }
 
-    /// The head at the front of a source, as by `parse_from`.
+    /// Parses a record header from a source, as `parse_from` does.
     pub fn parse<R: Source + Drop, T: FileOrder>(mut r: R) -> Result<PerfEventHeader>
-        ensures { (left : State) × ParsesHead T.number_of (R.seen r) result left }
+        ensures { (left : State) × ParsesRecordHeader T.number_of (R.state r) result left }
     {
         PerfEventHeader::parse_from::<R, T>(&mut r)
     }
@@ -57,14 +57,14 @@ impl RecordType {
     /// A sample of an event.
     pub const SAMPLE: RecordType = RecordType(9);
 
-    /// Whether the kernel writes records of this type: those below 64.
+    /// Returns whether the kernel writes records of this type: those below 64.
     pub fn is_builtin_type(&self) -> bool
         ensures { IsTrue result ↔ (self.now.0 < 64) }
     {
         self.0 < FIRST_USER_TYPE
     }
 
-    /// Whether the program `perf` itself writes records of this type: 64 and more.
+    /// Returns whether the program `perf` itself writes records of this type: those of 64 and more.
     pub fn is_user_type(&self) -> bool
         ensures { IsTrue result ↔ (64 ≤ self.now.0) }
     {
@@ -75,10 +75,10 @@ impl RecordType {
 /// The first type that the kernel leaves to programs (`PERF_RECORD_USER_TYPE_START`).
 const FIRST_USER_TYPE: u32 = 64;
 
-/// Where the processor was when a record was written.
+/// The mode of the processor when a record was written.
 #[derive(Clone, Copy, Debug, PartialEq, Eq)]
 pub enum CpuMode {
-    /// The mode isn't told.
+    /// The mode isn't reported.
     Unknown,
     /// The kernel.
     Kernel,
@@ -93,8 +93,8 @@ pub enum CpuMode {
 }
 
 impl CpuMode {
-    /// The mode that a head's `misc` tells in its lowest three bits (`PERF_RECORD_MISC_CPUMODE_MASK`): 1 is the kernel,
-    /// 2 a program, 3 the hypervisor, 4 a guest's kernel and 5 a guest's program.
+    /// Returns the mode in the lowest three bits of a record header's `misc` (`PERF_RECORD_MISC_CPUMODE_MASK`): 1 is
+    /// the kernel, 2 a program, 3 the hypervisor, 4 a guest's kernel and 5 a guest's program.
     pub fn from_misc(misc: u16) -> CpuMode
         ensures { result ≡ cpu_mode_of (misc % 8) }
     {
@@ -109,15 +109,15 @@ impl CpuMode {
     }
 }
 
-/// A record of the kernel, whose body is lent.
+/// A kernel record whose body is borrowed.
 #[derive(Clone, Copy, Debug)]
 pub struct RawEventRecord<'a> {
     /// The record's type, below 64.
     pub record_type: RecordType,
     /// Bits of the record, among them the processor's mode.
     pub misc: u16,
-    /// All bytes behind the head.
+    /// All bytes after the record header.
     pub body: RawData<'a>,
-    /// Where its event's attribute puts time and identifier.
+    /// The offsets of time and identifier, from the attribute of the record's event.
     pub parse_info: RecordParseInfo,
 }

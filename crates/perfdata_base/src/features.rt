@@ -1,12 +1,12 @@
-//! The features that a file can have, and the set of those that it has.
+//! The features of perf.data files, and sets of features.
 ghost use Rattle.std.specs.Prelude.{◌≡◌, ◌↔◌, IsTrue, [], Contains, Some, length};
 ghost use Rattle.std.specs.Iterator.{YieldsFirstBy, item_count};
 ghost use Rattle.std.specs.Option.{option_map};
-ghost use Rattle.perfdata_base.specs.Features.{HasFeature, PutsFeature, feature_name, feature_text, features_of, members_left};
+ghost use Rattle.perfdata_base.specs.Features.{HasFeature, InsertsFeature, feature_name, feature_text, features_of, remaining_features};
 
 use std::fmt;
 
-/// The formats of tracepoints, as ftrace tells them.
+/// The formats of tracepoints, as ftrace describes them.
 pub const HEADER_TRACING_DATA: u32 = 1;
 
 /// The build ids of mapped objects.
@@ -18,13 +18,13 @@ pub const HEADER_HOSTNAME: u32 = 3;
 /// The kernel's release.
 pub const HEADER_OSRELEASE: u32 = 4;
 
-/// The version of the tool that recorded.
+/// The version of the recording tool.
 pub const HEADER_VERSION: u32 = 5;
 
 /// The processor's architecture.
 pub const HEADER_ARCH: u32 = 6;
 
-/// How many processors the machine has, available and online.
+/// The numbers of available and of online processors of the machine.
 pub const HEADER_NRCPUS: u32 = 7;
 
 /// The processor's description.
@@ -36,16 +36,16 @@ pub const HEADER_CPUID: u32 = 9;
 /// The memory of the machine, in kB.
 pub const HEADER_TOTAL_MEM: u32 = 10;
 
-/// The words of the command that recorded.
+/// The command-line arguments of the recording.
 pub const HEADER_CMDLINE: u32 = 11;
 
 /// The attributes with their names and ids.
 pub const HEADER_EVENT_DESC: u32 = 12;
 
-/// Which processors are cores of one package, and threads of one core.
+/// The processors that are cores of one package, and those that are threads of one core.
 pub const HEADER_CPU_TOPOLOGY: u32 = 13;
 
-/// The nodes of memory, and their processors.
+/// The memory nodes and their processors.
 pub const HEADER_NUMA_TOPOLOGY: u32 = 14;
 
 /// Samples have branch stacks; the section is empty.
@@ -54,13 +54,13 @@ pub const HEADER_BRANCH_STACK: u32 = 15;
 /// The names of the performance monitoring units by their numbers.
 pub const HEADER_PMU_MAPPINGS: u32 = 16;
 
-/// Which events are groups.
+/// The groups of events.
 pub const HEADER_GROUP_DESC: u32 = 17;
 
-/// Where the records of auxiliary data stand.
+/// The offsets of the auxtrace records.
 pub const HEADER_AUXTRACE: u32 = 18;
 
-/// Written by `perf stat`.
+/// Marks a recording that `perf stat` wrote.
 pub const HEADER_STAT: u32 = 19;
 
 /// The caches of the processors.
@@ -75,7 +75,7 @@ pub const HEADER_SAMPLE_TOPOLOGY: u32 = 22;
 /// The frequency of the clock of the records' times.
 pub const HEADER_CLOCKID: u32 = 23;
 
-/// The recording is a directory, of this version.
+/// The recording is a directory; the section contains the version of its format.
 pub const HEADER_DIR_FORMAT: u32 = 24;
 
 /// The BPF programs that were loaded.
@@ -84,43 +84,43 @@ pub const HEADER_BPF_PROG_INFO: u32 = 25;
 /// The types of the BPF programs.
 pub const HEADER_BPF_BTF: u32 = 26;
 
-/// How records were compressed.
+/// The compression of the records.
 pub const HEADER_COMPRESSED: u32 = 27;
 
-/// What the processor's monitoring unit can do.
+/// The capabilities of the processor's monitoring unit.
 pub const HEADER_CPU_PMU_CAPS: u32 = 28;
 
-/// The clock of the records' times, and the time of day at one of its moments.
+/// The clock of the records' times, and the time of day at one of its times.
 pub const HEADER_CLOCK_DATA: u32 = 29;
 
-/// Which processors are of which kind.
+/// The processors of each type.
 pub const HEADER_HYBRID_TOPOLOGY: u32 = 30;
 
-/// What the monitoring unit of each kind of processor can do.
+/// The capabilities of the monitoring unit of each type of processor.
 pub const HEADER_HYBRID_CPU_PMU_CAPS: u32 = 31;
 
 /// The symbols of files, as older simpleperf writes them.
 pub const HEADER_SIMPLEPERF_FILE: u32 = 128;
 
-/// Pairs of texts of simpleperf.
+/// Pairs of strings from simpleperf.
 pub const HEADER_SIMPLEPERF_META_INFO: u32 = 129;
 
-/// What debugging of simpleperf's unwinding needs.
+/// The data for debugging simpleperf's unwinding.
 pub const HEADER_SIMPLEPERF_DEBUG_UNWIND: u32 = 130;
 
-/// Files that debugging of simpleperf's unwinding needs.
+/// The files for debugging simpleperf's unwinding.
 pub const HEADER_SIMPLEPERF_DEBUG_UNWIND_FILE: u32 = 131;
 
 /// The symbols of files, as protobuf messages of simpleperf.
 pub const HEADER_SIMPLEPERF_FILE2: u32 = 132;
 
-/// A kind of data that a perf.data file can hold in a section of its own, by its number (`perf_header` features of Linux's
+/// The number of a kind of data that has a section of its own in a perf.data file (`perf_header` features of Linux's
 /// perf, and those of simpleperf from 128 on).
 #[derive(Clone, Copy, PartialEq, Eq, Hash, PartialOrd, Ord)]
 pub struct Feature(pub u32);
 
 impl Feature {
-    /// The formats of tracepoints, as ftrace tells them.
+    /// The formats of tracepoints, as ftrace describes them.
     pub const TRACING_DATA: Feature = Feature(HEADER_TRACING_DATA);
 
     /// The build ids of mapped objects.
@@ -132,13 +132,13 @@ impl Feature {
     /// The kernel's release.
     pub const OSRELEASE: Feature = Feature(HEADER_OSRELEASE);
 
-    /// The version of the tool that recorded.
+    /// The version of the recording tool.
     pub const VERSION: Feature = Feature(HEADER_VERSION);
 
     /// The processor's architecture.
     pub const ARCH: Feature = Feature(HEADER_ARCH);
 
-    /// How many processors the machine has, available and online.
+    /// The numbers of available and of online processors of the machine.
     pub const NRCPUS: Feature = Feature(HEADER_NRCPUS);
 
     /// The processor's description.
@@ -150,16 +150,16 @@ impl Feature {
     /// The memory of the machine, in kB.
     pub const TOTAL_MEM: Feature = Feature(HEADER_TOTAL_MEM);
 
-    /// The words of the command that recorded.
+    /// The command-line arguments of the recording.
     pub const CMDLINE: Feature = Feature(HEADER_CMDLINE);
 
     /// The attributes with their names and ids.
     pub const EVENT_DESC: Feature = Feature(HEADER_EVENT_DESC);
 
-    /// Which processors are cores of one package, and threads of one core.
+    /// The processors that are cores of one package, and those that are threads of one core.
     pub const CPU_TOPOLOGY: Feature = Feature(HEADER_CPU_TOPOLOGY);
 
-    /// The nodes of memory, and their processors.
+    /// The memory nodes and their processors.
     pub const NUMA_TOPOLOGY: Feature = Feature(HEADER_NUMA_TOPOLOGY);
 
     /// Samples have branch stacks; the section is empty.
@@ -168,13 +168,13 @@ impl Feature {
     /// The names of the performance monitoring units by their numbers.
     pub const PMU_MAPPINGS: Feature = Feature(HEADER_PMU_MAPPINGS);
 
-    /// Which events are groups.
+    /// The groups of events.
     pub const GROUP_DESC: Feature = Feature(HEADER_GROUP_DESC);
 
-    /// Where the records of auxiliary data stand.
+    /// The offsets of the auxtrace records.
     pub const AUXTRACE: Feature = Feature(HEADER_AUXTRACE);
 
-    /// Written by `perf stat`.
+    /// Marks a recording that `perf stat` wrote.
     pub const STAT: Feature = Feature(HEADER_STAT);
 
     /// The caches of the processors.
@@ -189,7 +189,7 @@ impl Feature {
     /// The frequency of the clock of the records' times.
     pub const CLOCKID: Feature = Feature(HEADER_CLOCKID);
 
-    /// The recording is a directory, of this version.
+    /// The recording is a directory; the section contains the version of its format.
     pub const DIR_FORMAT: Feature = Feature(HEADER_DIR_FORMAT);
 
     /// The BPF programs that were loaded.
@@ -198,31 +198,31 @@ impl Feature {
     /// The types of the BPF programs.
     pub const BPF_BTF: Feature = Feature(HEADER_BPF_BTF);
 
-    /// How records were compressed.
+    /// The compression of the records.
     pub const COMPRESSED: Feature = Feature(HEADER_COMPRESSED);
 
-    /// What the processor's monitoring unit can do.
+    /// The capabilities of the processor's monitoring unit.
     pub const CPU_PMU_CAPS: Feature = Feature(HEADER_CPU_PMU_CAPS);
 
-    /// The clock of the records' times, and the time of day at one of its moments.
+    /// The clock of the records' times, and the time of day at one of its times.
     pub const CLOCK_DATA: Feature = Feature(HEADER_CLOCK_DATA);
 
-    /// Which processors are of which kind.
+    /// The processors of each type.
     pub const HYBRID_TOPOLOGY: Feature = Feature(HEADER_HYBRID_TOPOLOGY);
 
-    /// What the monitoring unit of each kind of processor can do.
+    /// The capabilities of the monitoring unit of each type of processor.
     pub const HYBRID_CPU_PMU_CAPS: Feature = Feature(HEADER_HYBRID_CPU_PMU_CAPS);
 
     /// The symbols of files, as older simpleperf writes them.
     pub const SIMPLEPERF_FILE: Feature = Feature(HEADER_SIMPLEPERF_FILE);
 
-    /// Pairs of texts of simpleperf.
+    /// Pairs of strings from simpleperf.
     pub const SIMPLEPERF_META_INFO: Feature = Feature(HEADER_SIMPLEPERF_META_INFO);
 
-    /// What debugging of simpleperf's unwinding needs.
+    /// The data for debugging simpleperf's unwinding.
     pub const SIMPLEPERF_DEBUG_UNWIND: Feature = Feature(HEADER_SIMPLEPERF_DEBUG_UNWIND);
 
-    /// Files that debugging of simpleperf's unwinding needs.
+    /// The files for debugging simpleperf's unwinding.
     pub const SIMPLEPERF_DEBUG_UNWIND_FILE: Feature = Feature(HEADER_SIMPLEPERF_DEBUG_UNWIND_FILE);
 
     /// The symbols of files, as protobuf messages of simpleperf.
@@ -231,7 +231,7 @@ impl Feature {
 
 // The name of a feature's constant.
 #[tactic(auto, unfolding(crate::specs::Features::feature_name))]
-fn name_of(number: u32) -> Option<&'static str>
+fn feature_name_of(number: u32) -> Option<&'static str>
     ensures { option_map (λ s. s.now) result ≡ feature_name number }
 {
     match number {
@@ -275,12 +275,12 @@ fn name_of(number: u32) -> Option<&'static str>
     }
 }
 
-/// The name of the feature's constant, or `Unknown Feature N`.
+/// Writes the name of the feature's constant, or `Unknown Feature N`.
 impl fmt::Display for Feature {
     ghost output = { λ f. Some (feature_text f.0) };
 
     fn fmt<W: fmt::Write>(&self, f: &mut fmt::Formatter<W>) -> fmt::Result {
-        match name_of(self.0) {
+        match feature_name_of(self.0) {
             Some(name) => write!(f, "{name}"),
             None => write!(f, "Unknown Feature {}", self.0),
         }
@@ -293,31 +293,31 @@ impl fmt::Debug for Feature {
     }
 }
 
-/// The features that a perf.data file has: feature n is bit n mod 64 of word n div 64.
+/// The features of a perf.data file. Feature n is bit n mod 64 of element n div 64.
 #[derive(Clone, Copy, PartialEq, Eq, Hash)]
 pub struct FeatureSet(pub [u64; 4]);
 
 impl FeatureSet {
-    /// There is room for so many features, from 0 on.
+    /// The number of features that fit in a set, from 0 on.
     pub const MAX_BITS: u32 = 256;
 
-    /// How many features there are.
+    /// Returns the number of features.
     pub fn len(&self) -> usize
         ensures { result ≡ length (features_of self.now) }
     {
         self.iter().count()
     }
 
-    /// Whether there is none.
+    /// Returns whether the set is empty.
     pub fn is_empty(&self) -> bool
         ensures { IsTrue result ↔ (features_of self.now ≡ []) }
     {
         self.iter().next().is_none()
     }
 
-    /// The features, from the lowest to the highest.
+    /// Returns the features in ascending order.
     pub fn iter(&self) -> FeatureSetIter
-        ensures { members_left result ≡ features_of self.now }
+        ensures { remaining_features result ≡ features_of self.now }
     {
         FeatureSetIter {
             set: *self,
@@ -325,7 +325,7 @@ impl FeatureSet {
         }
     }
 
-    /// Whether this feature is one of them. There is none from 256 on.
+    /// Returns whether the set contains a feature. It contains none from 256 on.
     pub fn has_feature(&self, feature: Feature) -> bool
         ensures bit { IsTrue result ↔ HasFeature self.now feature.0 }
         ensures member { IsTrue result ↔ Contains (features_of self.now) feature.0 }
@@ -337,9 +337,9 @@ impl FeatureSet {
         word & (1 << (feature.0 % 64)) != 0
     }
 
-    /// Puts a feature into the set, which stays as it is where there is no such feature, from 256 on.
+    /// Inserts a feature. If it is 256 or more, the set is unchanged.
     pub fn insert(&mut self, feature: Feature)
-        ensures { PutsFeature self.old feature.0 self.new }
+        ensures { InsertsFeature self.old feature.0 self.new }
     {
         if feature.0 >= FeatureSet::MAX_BITS {
             return;
@@ -349,7 +349,7 @@ impl FeatureSet {
     }
 }
 
-/// The names of the features between braces.
+/// Writes the names of the features between braces.
 impl fmt::Debug for FeatureSet {
     fn fmt<W: fmt::Write>(&self, f: &mut fmt::Formatter<W>) -> fmt::Result {
         f.write_str("{")?;
@@ -362,7 +362,7 @@ impl fmt::Debug for FeatureSet {
     }
 }
 
-/// Goes over the features of a set, from the lowest to the highest. From [`FeatureSet::iter`].
+/// An iterator over the features of a set in ascending order, from [`FeatureSet::iter`].
 #[derive(Drop)]
 pub struct FeatureSetIter {
     set: FeatureSet,
@@ -372,9 +372,9 @@ pub struct FeatureSetIter {
 impl Iterator for FeatureSetIter {
     type Item = Feature;
 
-    ghost next_gives = { YieldsFirstBy (λ f. f.0) members_left };
+    ghost next_gives = { YieldsFirstBy (λ f. f.0) remaining_features };
 
-    ghost remaining = { item_count members_left };
+    ghost remaining = { item_count remaining_features };
 
     fn next(&mut self) -> Option<Feature> {
         'members: while self.next < FeatureSet::MAX_BITS {

@@ -1,11 +1,11 @@
-//! Bytes, numbers, heads, attributes and places: what every reader of perf.data and jitdump files stands on.
+//! Byte sources, numbers, record headers, attributes and parse infos: the base of the perf.data and jitdump readers.
 #![tactic(auto)]
 
 pub mod attr;
+pub mod endian;
 pub mod event;
 pub mod features;
 pub mod header;
-pub mod order;
 pub mod place;
 pub mod raw;
 pub mod section;

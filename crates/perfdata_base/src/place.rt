@@ -1,13 +1,13 @@
-//! Where a record's time and identifier stand, and the numbers there.
+//! Offsets of the time and the identifier in a record's body, and the numbers at these offsets.
 ghost use Rattle.std.specs.Prelude.{◌≡◌, ℕ, ◌+◌, ◌*◌, ◌^◌, ◌==◌, ◌≤◌, filter, length, position};
 ghost use Rattle.std.specs.Int.RustNames.{bit_and};
-ghost use Rattle.perfdata_base.specs.Place.{from_start, from_end, sample_words, trailing_words, identifier_word, id_places_of, places_of};
-ghost use Rattle.perfdata_base.specs.Place.{within_from_start, within_from_end, place_within, number_at, time_of, time_by, identifier_of, leading_identifier_of};
+ghost use Rattle.perfdata_base.specs.ParseInfo.{offset_from_start, offset_from_end, sample_words, trailing_words, identifier_word, id_parse_info_of, parse_info_of};
+ghost use Rattle.perfdata_base.specs.ParseInfo.{checked_offset_from_start, checked_offset_from_end, offset_in_body, u64_field_at, time_of, time_in, identifier_of, leading_identifier_of};
 ghost use Rattle.perfdata_base.specs.Raw.{bytes_of};
 
 use crate::attr::{AttrFlags, PerfEventAttr, SampleFormat};
+use crate::endian::read_u64;
 use crate::event::RecordType;
-use crate::order::read_u64;
 use crate::raw::{Endianness, FileOrder, RawData};
 use bitflags::Flags;
 
@@ -15,31 +15,31 @@ mod id_cache;
 
 pub use id_cache::IdCache;
 
-/// Where the identifier of a record stands.
+/// The offset of the identifier in a record's body.
 #[derive(Clone, Copy, Debug, PartialEq, Eq)]
 pub struct RecordIdParseInfo {
-    /// In a sample, from the body's start.
+    /// In a sample, in bytes from the start of the body.
     pub sample_id_from_start: Option<u64>,
-    /// In another record, from the body's end.
+    /// In another record, in bytes from the end of the body.
     pub other_id_from_end: Option<u64>,
 }
 
-/// Where the identifier and the time of a record stand, and the order of its numbers.
+/// The offsets of the identifier and the time in a record's body, and the byte order of its numbers.
 #[derive(Clone, Copy, Debug)]
 pub struct RecordParseInfo {
-    /// The order of the numbers.
+    /// The byte order of the numbers.
     pub endian: Endianness,
-    /// What a sample holds.
+    /// The fields of a sample.
     pub sample_format: SampleFormat,
-    /// Where an identifier stands.
+    /// The offset of the identifier.
     pub id_parse_info: RecordIdParseInfo,
-    /// In a sample, from the body's start.
+    /// The offset of the time in a sample, in bytes from the start of the body.
     pub sample_time_from_start: Option<u64>,
-    /// In another record, from the body's end.
+    /// The offset of the time in another record, in bytes from the end of the body.
     pub other_time_from_end: Option<u64>,
 }
 
-/// The words that a sample can begin with, in order, each by the bit of the format that asks for it.
+/// The optional u64 fields at the start of a sample, in order, each as the format bit that selects it.
 const SAMPLE_WORDS: [SampleFormat; 6] = [
     SampleFormat::IDENTIFIER,
     SampleFormat::IP,
@@ -49,7 +49,7 @@ const SAMPLE_WORDS: [SampleFormat; 6] = [
     SampleFormat::ID,
 ];
 
-/// The words that another record can end with, in order, each by the bit of the format that asks for it.
+/// The optional u64 fields at the end of another record, in order, each as the format bit that selects it.
 const TRAILING_WORDS: [SampleFormat; 6] = [
     SampleFormat::TID,
     SampleFormat::TIME,
@@ -59,15 +59,15 @@ const TRAILING_WORDS: [SampleFormat; 6] = [
     SampleFormat::IDENTIFIER,
 ];
 
-/// How many of these words a format asks for.
-fn count_of(words: &[SampleFormat], format: SampleFormat) -> usize
+/// The number of these fields that a format selects.
+fn word_count(words: &[SampleFormat], format: SampleFormat) -> usize
     ensures { result ≡ length (filter (λ w. bit_and format.0 w.0 == w.0) words.now) }
 {
     words.iter().filter(|w| format.contains(**w)).count()
 }
 
-/// The index of a word among those of these words that a format asks for.
-fn index_of(words: &[SampleFormat], format: SampleFormat, word: SampleFormat) -> Option<usize>
+/// The index of a field among those of these fields that a format selects.
+fn word_index(words: &[SampleFormat], format: SampleFormat, word: SampleFormat) -> Option<usize>
     ensures { result ≡ position (λ w. w.0 == word.0) (filter (λ w. bit_and format.0 w.0 == w.0) words.now) }
 {
     words
@@ -76,32 +76,32 @@ fn index_of(words: &[SampleFormat], format: SampleFormat, word: SampleFormat) ->
         .position(|w| *w == word)
 }
 
-/// Where a word of a sample begins, from the body's start. Each word has eight bytes.
-fn place_from_start(format: SampleFormat, word: SampleFormat) -> Option<u64>
-    ensures { (k : ℕ) → word.0 ≡ 2 ^ k → result ≡ from_start (sample_words format.0) k }
+/// The offset of a field in a sample, in bytes from the start of the body. Each field has eight bytes.
+fn offset_from_start(format: SampleFormat, word: SampleFormat) -> Option<u64>
+    ensures { (k : ℕ) → word.0 ≡ 2 ^ k → result ≡ offset_from_start (sample_words format.0) k }
 {
-    match index_of(&SAMPLE_WORDS, format, word) {
+    match word_index(&SAMPLE_WORDS, format, word) {
         Some(index) => Some(8 * index as u64),
         None => None,
     }
 }
 
-/// Where a word of another record begins, from the body's end.
-fn place_from_end(format: SampleFormat, flags: AttrFlags, word: SampleFormat) -> Option<u64>
-    ensures { (k : ℕ) → word.0 ≡ 2 ^ k → result ≡ from_end (trailing_words format.0 flags.0) k }
+/// The offset of a field in another record, in bytes from the end of the body.
+fn offset_from_end(format: SampleFormat, flags: AttrFlags, word: SampleFormat) -> Option<u64>
+    ensures { (k : ℕ) → word.0 ≡ 2 ^ k → result ≡ offset_from_end (trailing_words format.0 flags.0) k }
 {
     if !flags.contains(AttrFlags::SAMPLE_ID_ALL) {
         return None;
     }
-    let count = count_of(&TRAILING_WORDS, format);
-    match index_of(&TRAILING_WORDS, format, word) {
+    let count = word_count(&TRAILING_WORDS, format);
+    match word_index(&TRAILING_WORDS, format, word) {
         Some(index) => Some(8 * (count - index) as u64),
         None => None,
     }
 }
 
-/// The word that holds a record's identifier.
-fn word_of_identifier(format: SampleFormat) -> SampleFormat
+/// The field that contains a record's identifier.
+fn identifier_field(format: SampleFormat) -> SampleFormat
     ensures { result.0 ≡ 2 ^ identifier_word format.0 }
 {
     if format.contains(SampleFormat::IDENTIFIER) {
@@ -112,20 +112,22 @@ fn word_of_identifier(format: SampleFormat) -> SampleFormat
 }
 
 impl RecordIdParseInfo {
-    /// The places of the identifier in the records of an attribute: of the word IDENTIFIER where its format asks for
-    /// it, else of ID, and none where it asks for neither.
+    /// Returns the offsets of the identifier in the records of an attribute. They are those of the field IDENTIFIER if
+    /// the format selects it, else of ID, and `None` if it selects neither.
     pub fn new(attr: &PerfEventAttr) -> RecordIdParseInfo
-        ensures { result ≡ id_places_of attr.now }
+        ensures { result ≡ id_parse_info_of attr.now }
     {
-        let word = word_of_identifier(attr.sample_format);
+        let word = identifier_field(attr.sample_format);
         RecordIdParseInfo {
-            sample_id_from_start: place_from_start(attr.sample_format, word),
-            other_id_from_end: place_from_end(attr.sample_format, attr.flags, word),
+            sample_id_from_start: offset_from_start(attr.sample_format, word),
+            other_id_from_end: offset_from_end(attr.sample_format, attr.flags, word),
         }
     }
 
-    /// The identifier of a record whose body is in one piece, or none where the record has no such place or the number
-    /// there doesn't lie wholly in the body. A user record has none.
+    /// Returns the identifier of a record whose body is contiguous.
+    ///
+    /// It is `None` if the record has no such offset, or if the number at the offset isn't completely in the body. A
+    /// user record has none.
     pub fn identifier_of(
         &self,
         endian: Endianness,
@@ -134,7 +136,7 @@ impl RecordIdParseInfo {
     ) -> Option<u64>
         ensures { result ≡ identifier_of endian self.now record_type.0 body.now }
     {
-        number_in_slice(
+        field_in_slice(
             endian,
             record_type,
             body,
@@ -145,25 +147,31 @@ impl RecordIdParseInfo {
 }
 
 impl RecordParseInfo {
-    /// The places of the identifier and of the time in the records of an attribute, whose numbers have this order.
+    /// Returns the offsets of the identifier and the time in the records of an attribute, with the byte order `endian`.
     pub fn new(attr: &PerfEventAttr, endian: Endianness) -> RecordParseInfo
-        ensures { result ≡ places_of attr.now endian }
+        ensures { result ≡ parse_info_of attr.now endian }
     {
         RecordParseInfo {
             endian,
             sample_format: attr.sample_format,
             id_parse_info: RecordIdParseInfo::new(attr),
-            sample_time_from_start: place_from_start(attr.sample_format, SampleFormat::TIME),
-            other_time_from_end: place_from_end(attr.sample_format, attr.flags, SampleFormat::TIME),
+            sample_time_from_start: offset_from_start(attr.sample_format, SampleFormat::TIME),
+            other_time_from_end: offset_from_end(
+                attr.sample_format,
+                attr.flags,
+                SampleFormat::TIME,
+            ),
         }
     }
 
-    /// The time of a record whose body is in one piece, or none where the record has no such place or the number there
-    /// doesn't lie wholly in the body. A user record has none.
+    /// Returns the time of a record whose body is contiguous.
+    ///
+    /// It is `None` if the record has no such offset, or if the number at the offset isn't completely in the body. A
+    /// user record has none.
     pub fn time_of(&self, record_type: RecordType, body: &[u8]) -> Option<u64>
         ensures { result ≡ time_of self.now record_type.0 body.now }
     {
-        number_in_slice(
+        field_in_slice(
             self.endian,
             record_type,
             body,
@@ -173,10 +181,10 @@ impl RecordParseInfo {
     }
 }
 
-/// Where a number of eight bytes begins that begins so many bytes after the start of a body of this length, where it
-/// lies wholly in the body.
-fn within_from_start(len: usize, at: u64) -> Option<usize>
-    ensures { result ≡ within_from_start len at }
+/// The offset of an eight-byte number that starts `at` bytes after the start of a body of `len` bytes. `None` if it
+/// isn't completely in the body.
+fn checked_offset_from_start(len: usize, at: u64) -> Option<usize>
+    ensures { result ≡ checked_offset_from_start len at }
 {
     match at.checked_add(8) {
         Some(end) if end <= len as u64 => Some(at as usize),
@@ -184,9 +192,10 @@ fn within_from_start(len: usize, at: u64) -> Option<usize>
     }
 }
 
-/// The same of one that begins so many bytes before the end.
-fn within_from_end(len: usize, back: u64) -> Option<usize>
-    ensures { result ≡ within_from_end len back }
+/// The offset of an eight-byte number that starts `back` bytes before the end of a body of `len` bytes. `None` if it
+/// isn't completely in the body.
+fn checked_offset_from_end(len: usize, back: u64) -> Option<usize>
+    ensures { result ≡ checked_offset_from_end len back }
 {
     if 8 <= back && back <= len as u64 {
         Some(len - back as usize)
@@ -195,58 +204,60 @@ fn within_from_end(len: usize, back: u64) -> Option<usize>
     }
 }
 
-/// Where a number of a record begins in its body, which has this length.
-fn place_within(
+/// The offset of a record's number in its body of `len` bytes.
+fn offset_in_body(
     record_type: RecordType,
     len: usize,
     from_start: Option<u64>,
     from_end: Option<u64>,
 ) -> Option<usize>
-    ensures { result ≡ place_within record_type.0 len from_start from_end }
+    ensures { result ≡ offset_in_body record_type.0 len from_start from_end }
 {
     if record_type.is_user_type() {
         return None;
     }
     if record_type == RecordType::SAMPLE {
-        within_from_start(len, from_start?)
+        checked_offset_from_start(len, from_start?)
     } else {
-        within_from_end(len, from_end?)
+        checked_offset_from_end(len, from_end?)
     }
 }
 
-/// A number of a record whose body is in one piece.
-fn number_in_slice(
+/// A number of a record whose body is contiguous.
+fn field_in_slice(
     endian: Endianness,
     record_type: RecordType,
     body: &[u8],
     from_start: Option<u64>,
     from_end: Option<u64>,
 ) -> Option<u64>
-    ensures { result ≡ number_at endian from_start from_end record_type.0 body.now }
+    ensures { result ≡ u64_field_at endian from_start from_end record_type.0 body.now }
 {
-    match place_within(record_type, body.len(), from_start, from_end) {
+    match offset_in_body(record_type, body.len(), from_start, from_end) {
         Some(at) => Some(read_u64(endian, &body[at..])),
         None => None,
     }
 }
 
 /// A number of a record.
-fn number_in_body<T: FileOrder>(
+fn field_in_body<T: FileOrder>(
     record_type: RecordType,
     body: RawData<'_>,
     from_start: Option<u64>,
     from_end: Option<u64>,
 ) -> Option<u64>
-    ensures { result ≡ number_at T.ENDIAN from_start from_end record_type.0 (bytes_of body.entry) }
+    ensures { result ≡ u64_field_at T.ENDIAN from_start from_end record_type.0 (bytes_of body.entry) }
 {
-    let at = place_within(record_type, body.len(), from_start, from_end)?;
+    let at = offset_in_body(record_type, body.len(), from_start, from_end)?;
     let mut rest = body;
     rest.skip(at).ok()?;
     rest.read_u64::<T>().ok()
 }
 
-/// The identifier of a record at the places of its attribute, or none where the record has no such place or the number
-/// there doesn't lie wholly in the body. A user record has none.
+/// Returns the identifier of a record, at the offset from its attribute.
+///
+/// It is `None` if the record has no such offset, or if the number at the offset isn't completely in the body. A user
+/// record has none.
 pub fn get_record_id<T: FileOrder>(
     record_type: RecordType,
     body: RawData<'_>,
@@ -254,7 +265,7 @@ pub fn get_record_id<T: FileOrder>(
 ) -> Option<u64>
     ensures { result ≡ identifier_of T.ENDIAN parse_info.now record_type.0 (bytes_of body.entry) }
 {
-    number_in_body::<T>(
+    field_in_body::<T>(
         record_type,
         body,
         parse_info.sample_id_from_start,
@@ -262,9 +273,11 @@ pub fn get_record_id<T: FileOrder>(
     )
 }
 
-/// The identifier of a record where every record has one in its word IDENTIFIER: the first eight bytes of a sample,
-/// and the last eight of another record of the kernel where `sample_id_all` says that it ends with such words. None
-/// where the body is shorter. A user record has none.
+/// Returns the identifier of a record in an input whose records all have the field IDENTIFIER.
+///
+/// The identifier is the first eight bytes of a sample. It is the last eight bytes of another kernel record if
+/// `sample_id_all` is true, which means that such records end with sample_id fields. It is `None` if the body is
+/// shorter. A user record has none.
 pub fn get_record_identifier<T: FileOrder>(
     record_type: RecordType,
     body: RawData<'_>,
@@ -273,19 +286,21 @@ pub fn get_record_identifier<T: FileOrder>(
     ensures { result ≡ leading_identifier_of T.ENDIAN sample_id_all record_type.0 (bytes_of body.entry) }
 {
     let from_end = if sample_id_all { Some(8) } else { None };
-    number_in_body::<T>(record_type, body, Some(0), from_end)
+    field_in_body::<T>(record_type, body, Some(0), from_end)
 }
 
-/// The time of a record at the places of its attribute, or none where the record has no such place or the number there
-/// doesn't lie wholly in the body. A user record has none.
+/// Returns the time of a record, at the offset from its attribute.
+///
+/// It is `None` if the record has no such offset, or if the number at the offset isn't completely in the body. A user
+/// record has none.
 pub fn get_record_timestamp<T: FileOrder>(
     record_type: RecordType,
     body: RawData<'_>,
     parse_info: &RecordParseInfo,
 ) -> Option<u64>
-    ensures { result ≡ time_by T.ENDIAN parse_info.now record_type.0 (bytes_of body.entry) }
+    ensures { result ≡ time_in T.ENDIAN parse_info.now record_type.0 (bytes_of body.entry) }
 {
-    number_in_body::<T>(
+    field_in_body::<T>(
         record_type,
         body,
         parse_info.sample_time_from_start,

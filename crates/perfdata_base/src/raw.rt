@@ -1,4 +1,4 @@
-//! Bytes in one piece or two, and the order of numbers.
+//! Bytes in one slice or in two, and byte orders.
 ghost use Rattle.std.specs.Prelude.{◌≡◌, ◌+◌, ◌<◌, ◌≤◌, ◌++◌, ◌==◌, ◌⊎◌, ℕ, List, length, take, drop, slice_index, slice_range, refl, IfErr, IfNone, IfOk, IfSome, IsOkAnd, OnErr, OnOk};
 ghost use Rattle.std.specs.Cow.{cow_slice_items, IsBorrowedSlice, IsOwnedSlice};
 ghost use Rattle.std.specs.Int.{w32, cast_signed};
@@ -6,13 +6,13 @@ ghost use Rattle.std.specs.Str.{bytes_eq};
 ghost use Rattle.std.specs.Cmp.{partial_equiv_from_equiv};
 ghost use Rattle.std.specs.Cmp.Lexicographic.{on_texts_equal};
 ghost use Rattle.memchr.specs.Find.{IsFirstByte, is_byte};
-ghost use Rattle.perfdata_base.specs.Numbers.{number_in};
-ghost use Rattle.perfdata_base.specs.Raw.{bytes_of, HasNoNul, IsShort, IsSingle, Takes, TakesString};
+ghost use Rattle.perfdata_base.specs.Endian.{number_in};
+ghost use Rattle.perfdata_base.specs.Raw.{bytes_of, HasNoNul, EndsBefore, IsSingle, DropsPrefix, ReadsNulString};
 ghost use Rattle.perfdata_base.specs.declared.raw.Endianness.{Endianness};
 ghost use Rattle.perfdata_base.specs.declared.raw.Endianness.TheVariants.{LittleEndian as Little, BigEndian as Big};
 ghost use Rattle.perfdata_base.specs.declared.raw.RawData.TheVariants.{Single};
 
-use crate::source::short;
+use crate::source::unexpected_eof;
 use byteorder::{BigEndian, ByteOrder, LittleEndian};
 use memchr::memchr;
 use std::alloc::{AllocError, Global};
@@ -20,22 +20,22 @@ use std::borrow::CowSlice;
 use std::io;
 use std::ops::Range;
 
-/// The order of a number's bytes.
+/// The byte order of numbers.
 #[derive(Clone, Copy, Debug, PartialEq, Eq)]
 pub enum Endianness {
-    /// The lowest byte comes first.
+    /// The lowest byte is first.
     LittleEndian,
-    /// The highest byte comes first.
+    /// The highest byte is first.
     BigEndian,
 }
 
-/// The order of the bytes of a file's numbers, known at compile time.
+/// The byte order of a file's numbers, known at compile time.
 pub trait FileOrder: ByteOrder {
     ghost ENDIAN: { Endianness };
 
     const ENDIAN: Endianness;
 
-    // Reading by this order is reading by that one.
+    // `number_of` agrees with `number_in` for `ENDIAN`.
     ghost reads_by: { (n : ℕ) (xs : List ℕ) → Self.number_of n xs ≡ number_in ENDIAN n xs };
 }
 
@@ -55,24 +55,24 @@ impl FileOrder for BigEndian {
     ghost reads_by = { λ _ _. refl };
 }
 
-/// Bytes that lie in one piece or in two, as a buffer that wraps holds them. Calls see one list of bytes.
+/// Bytes in one slice or in two, as in a buffer that wraps. Methods see one sequence of bytes.
 #[derive(Clone, Copy, Debug)]
 pub enum RawData<'a> {
-    /// All bytes in one piece.
+    /// All bytes in one slice.
     Single(&'a [u8]),
-    /// Those of the first piece, and then those of the second.
+    /// The bytes of the first slice, then those of the second.
     Split(&'a [u8], &'a [u8]),
 }
 
-// No slice of bytes is longer than half of memory, so the sum fits.
+// The sum fits, because no byte slice is longer than half of the address space.
 fn total_len(first: &[u8], second: &[u8]) -> usize
     ensures { result ≡ length first.now + length second.now }
 {
     first.len() + second.len()
 }
 
-// Whether two pieces hold the same bytes as two others, whose seam lies no further front.
-fn same_pieces(front: &[u8], rest: &[u8], other_front: &[u8], other_rest: &[u8]) -> bool
+// Whether two slices contain the same bytes as two others. The first pair splits no later than the second.
+fn equal_bytes(front: &[u8], rest: &[u8], other_front: &[u8], other_rest: &[u8]) -> bool
     requires { length front.now ≤ length other_front.now }
     ensures { result ≡ bytes_eq (front.now ++ rest.now) (other_front.now ++ other_rest.now) }
 {
@@ -93,8 +93,8 @@ impl<'a> From<&'a [u8]> for RawData<'a> {
 }
 
 impl<'a> RawData<'a> {
-    // The bytes of two pieces, of which an empty one is left away.
-    fn joined(first: &'a [u8], second: &'a [u8]) -> RawData<'a>
+    // The bytes of two slices. An empty slice is omitted.
+    fn join(first: &'a [u8], second: &'a [u8]) -> RawData<'a>
         ensures bytes { bytes_of result ≡ first.now ++ second.now }
         ensures single { length second.now ≡ 0 → IsSingle result }
     {
@@ -107,8 +107,8 @@ impl<'a> RawData<'a> {
         }
     }
 
-    // The bytes in two pieces, of which the second may be empty.
-    fn pieces(self) -> (&'a [u8], &'a [u8])
+    // The bytes in two slices, the second of which may be empty.
+    fn as_slices(self) -> (&'a [u8], &'a [u8])
         ensures bytes { result.0.now ++ result.1.now ≡ bytes_of self.entry }
         ensures single { IsSingle self.entry → length result.1.now ≡ 0 }
     {
@@ -118,31 +118,31 @@ impl<'a> RawData<'a> {
         }
     }
 
-    // The first bytes, so many, and the others.
-    fn cut(self, count: usize) -> Option<(RawData<'a>, RawData<'a>)>
+    // The first `count` bytes and the rest. `None` if there are fewer.
+    fn checked_split_at(self, count: usize) -> Option<(RawData<'a>, RawData<'a>)>
         ensures none { IfNone result (length (bytes_of self.entry) < count) }
-        ensures front { IfSome result (λ parts. bytes_of parts.0 ≡ take count (bytes_of self.entry)) }
+        ensures prefix { IfSome result (λ parts. bytes_of parts.0 ≡ take count (bytes_of self.entry)) }
         ensures single { IfSome result (λ parts. IsSingle self.entry → IsSingle parts.0) }
-        ensures rest { IfSome result (λ parts. Takes count self.entry parts.1) }
+        ensures rest { IfSome result (λ parts. DropsPrefix count self.entry parts.1) }
     {
-        let (first, second) = self.pieces();
+        let (first, second) = self.as_slices();
         if count <= first.len() {
             let (front, rest) = first.split_at(count);
-            return Some((RawData::Single(front), RawData::joined(rest, second)));
+            return Some((RawData::Single(front), RawData::join(rest, second)));
         }
         let beyond = count - first.len();
         if second.len() < beyond {
             return None;
         }
         let (front, rest) = second.split_at(beyond);
-        Some((RawData::joined(first, front), RawData::Single(rest)))
+        Some((RawData::join(first, front), RawData::Single(rest)))
     }
 
-    // Where the first NUL stands.
+    // The index of the first NUL.
     fn find_nul(self) -> Option<usize>
         ensures { IsFirstByte (is_byte 0) (bytes_of self.entry) result }
     {
-        let (first, second) = self.pieces();
+        let (first, second) = self.as_slices();
         match memchr(0, first) {
             Some(at) => Some(at),
             None => match memchr(0, second) {
@@ -165,22 +165,22 @@ impl<'a> RawData<'a> {
         }
     }
 
-    /// How many bytes there are.
+    /// Returns the number of bytes.
     pub fn len(&self) -> usize
         ensures { result ≡ length (bytes_of self.now) }
     {
-        let (first, second) = self.pieces();
+        let (first, second) = self.as_slices();
         total_len(first, second)
     }
 
-    /// Whether there is no byte.
+    /// Returns whether there are no bytes.
     pub fn is_empty(&self) -> bool
         ensures { result ≡ (length (bytes_of self.now) == 0) }
     {
         self.len() == 0
     }
 
-    /// The bytes of a range, where it lies within.
+    /// Returns the bytes of a range, or `None` if the range isn't within the bytes.
     pub fn get(&self, range: Range<usize>) -> Option<RawData<'a>>
         ensures none { IfNone result ((range.end < range.start) ⊎ (length (bytes_of self.now) < range.end)) }
         ensures within { IfSome result (λ _. (range.start ≤ range.end) × (range.end ≤ length (bytes_of self.now))) }
@@ -190,25 +190,27 @@ impl<'a> RawData<'a> {
         if range.end < range.start {
             return None;
         }
-        match self.cut(range.start) {
+        match self.checked_split_at(range.start) {
             None => None,
-            Some((_, rest)) => match rest.cut(range.end - range.start) {
+            Some((_, rest)) => match rest.checked_split_at(range.end - range.start) {
                 None => None,
                 Some((part, _)) => Some(part),
             },
         }
     }
 
-    /// Takes the first bytes off, so many, and gives them. Too few: `UnexpectedEof`, and none is taken.
+    /// Removes the first `count` bytes, and returns them.
+    ///
+    /// If there are fewer, it fails with `UnexpectedEof` and removes none.
     pub fn split_off_prefix(&mut self, count: usize) -> io::Result<RawData<'a>>
         ensures prefix { IfOk result (λ prefix. bytes_of prefix ≡ take count (bytes_of self.old)) }
         ensures single { IfOk result (λ prefix. IsSingle self.old → IsSingle prefix) }
-        ensures taken { OnOk result (Takes count self.old self.new) }
-        ensures short { IfErr result (λ error. IsShort count (bytes_of self.old) error) }
-        ensures stays { OnErr result (self.new ≡ self.old) }
+        ensures rest { OnOk result (DropsPrefix count self.old self.new) }
+        ensures too_short { IfErr result (λ error. EndsBefore count (bytes_of self.old) error) }
+        ensures unchanged { OnErr result (self.new ≡ self.old) }
     {
-        match self.cut(count) {
-            None => Err(short()),
+        match self.checked_split_at(count) {
+            None => Err(unexpected_eof()),
             Some((prefix, rest)) => {
                 *self = rest;
                 Ok(prefix)
@@ -216,11 +218,13 @@ impl<'a> RawData<'a> {
         }
     }
 
-    /// Takes the first bytes off, so many. Too few: `UnexpectedEof`, and none is taken.
+    /// Removes the first `count` bytes.
+    ///
+    /// If there are fewer, it fails with `UnexpectedEof` and removes none.
     pub fn skip(&mut self, count: usize) -> io::Result<()>
-        ensures taken { OnOk result (Takes count self.old self.new) }
-        ensures short { IfErr result (λ error. IsShort count (bytes_of self.old) error) }
-        ensures stays { OnErr result (self.new ≡ self.old) }
+        ensures rest { OnOk result (DropsPrefix count self.old self.new) }
+        ensures too_short { IfErr result (λ error. EndsBefore count (bytes_of self.old) error) }
+        ensures unchanged { OnErr result (self.new ≡ self.old) }
     {
         match self.split_off_prefix(count) {
             Ok(_) => Ok(()),
@@ -228,12 +232,14 @@ impl<'a> RawData<'a> {
         }
     }
 
-    /// Fills the place with the first bytes, and takes those off. Too few: `UnexpectedEof`, and nothing changes.
+    /// Fills `place` with the first bytes, and removes them.
+    ///
+    /// If there are fewer, it fails with `UnexpectedEof`, and nothing changes.
     pub fn read_exact(&mut self, place: &mut [u8]) -> io::Result<()>
         ensures read { OnOk result (place.new ≡ take (length place.old) (bytes_of self.old)) }
-        ensures taken { OnOk result (Takes (length place.old) self.old self.new) }
-        ensures short { IfErr result (λ error. IsShort (length place.old) (bytes_of self.old) error) }
-        ensures stays { OnErr result ((self.new ≡ self.old) × (place.new ≡ place.old)) }
+        ensures rest { OnOk result (DropsPrefix (length place.old) self.old self.new) }
+        ensures too_short { IfErr result (λ error. EndsBefore (length place.old) (bytes_of self.old) error) }
+        ensures unchanged { OnErr result ((self.new ≡ self.old) × (place.new ≡ place.old)) }
     {
         match self.split_off_prefix(place.len()) {
             Ok(prefix) => {
@@ -244,12 +250,14 @@ impl<'a> RawData<'a> {
         }
     }
 
-    /// The first byte, which is taken off. None there: `UnexpectedEof`.
+    /// Removes the first byte, and returns it.
+    ///
+    /// If there is none, it fails with `UnexpectedEof`.
     pub fn read_u8(&mut self) -> io::Result<u8>
         ensures value { IfOk result (λ byte. byte ≡ slice_index (bytes_of self.old) 0) }
-        ensures taken { OnOk result (Takes 1 self.old self.new) }
-        ensures short { IfErr result (λ error. IsShort 1 (bytes_of self.old) error) }
-        ensures stays { OnErr result (self.new ≡ self.old) }
+        ensures rest { OnOk result (DropsPrefix 1 self.old self.new) }
+        ensures too_short { IfErr result (λ error. EndsBefore 1 (bytes_of self.old) error) }
+        ensures unchanged { OnErr result (self.new ≡ self.old) }
     {
         let mut bytes = [0u8; 1];
         match self.read_exact(&mut bytes) {
@@ -258,12 +266,14 @@ impl<'a> RawData<'a> {
         }
     }
 
-    /// The number of the first two bytes, which are taken off. Too few: `UnexpectedEof`, and none is taken.
+    /// Removes the first two bytes, and returns the number that they contain.
+    ///
+    /// If there are fewer, it fails with `UnexpectedEof` and removes none.
     pub fn read_u16<T: FileOrder>(&mut self) -> io::Result<u16>
         ensures value { IfOk result (λ number. number ≡ T.number_of 2 (bytes_of self.old)) }
-        ensures taken { OnOk result (Takes 2 self.old self.new) }
-        ensures short { IfErr result (λ error. IsShort 2 (bytes_of self.old) error) }
-        ensures stays { OnErr result (self.new ≡ self.old) }
+        ensures rest { OnOk result (DropsPrefix 2 self.old self.new) }
+        ensures too_short { IfErr result (λ error. EndsBefore 2 (bytes_of self.old) error) }
+        ensures unchanged { OnErr result (self.new ≡ self.old) }
     {
         let mut bytes = [0u8; 2];
         match self.read_exact(&mut bytes) {
@@ -272,12 +282,14 @@ impl<'a> RawData<'a> {
         }
     }
 
-    /// The number of the first four bytes, which are taken off. Too few: `UnexpectedEof`, and none is taken.
+    /// Removes the first four bytes, and returns the number that they contain.
+    ///
+    /// If there are fewer, it fails with `UnexpectedEof` and removes none.
     pub fn read_u32<T: FileOrder>(&mut self) -> io::Result<u32>
         ensures value { IfOk result (λ number. number ≡ T.number_of 4 (bytes_of self.old)) }
-        ensures taken { OnOk result (Takes 4 self.old self.new) }
-        ensures short { IfErr result (λ error. IsShort 4 (bytes_of self.old) error) }
-        ensures stays { OnErr result (self.new ≡ self.old) }
+        ensures rest { OnOk result (DropsPrefix 4 self.old self.new) }
+        ensures too_short { IfErr result (λ error. EndsBefore 4 (bytes_of self.old) error) }
+        ensures unchanged { OnErr result (self.new ≡ self.old) }
     {
         let mut bytes = [0u8; 4];
         match self.read_exact(&mut bytes) {
@@ -286,12 +298,14 @@ impl<'a> RawData<'a> {
         }
     }
 
-    /// The signed number of the first four bytes, which are taken off. Too few: `UnexpectedEof`, and none is taken.
+    /// Removes the first four bytes, and returns the signed number that they contain.
+    ///
+    /// If there are fewer, it fails with `UnexpectedEof` and removes none.
     pub fn read_i32<T: FileOrder>(&mut self) -> io::Result<i32>
         ensures value { IfOk result (λ number. number ≡ cast_signed w32 (T.number_of 4 (bytes_of self.old))) }
-        ensures taken { OnOk result (Takes 4 self.old self.new) }
-        ensures short { IfErr result (λ error. IsShort 4 (bytes_of self.old) error) }
-        ensures stays { OnErr result (self.new ≡ self.old) }
+        ensures rest { OnOk result (DropsPrefix 4 self.old self.new) }
+        ensures too_short { IfErr result (λ error. EndsBefore 4 (bytes_of self.old) error) }
+        ensures unchanged { OnErr result (self.new ≡ self.old) }
     {
         match self.read_u32::<T>() {
             Ok(number) => Ok(number.cast_signed()),
@@ -299,12 +313,14 @@ impl<'a> RawData<'a> {
         }
     }
 
-    /// The number of the first eight bytes, which are taken off. Too few: `UnexpectedEof`, and none is taken.
+    /// Removes the first eight bytes, and returns the number that they contain.
+    ///
+    /// If there are fewer, it fails with `UnexpectedEof` and removes none.
     pub fn read_u64<T: FileOrder>(&mut self) -> io::Result<u64>
         ensures value { IfOk result (λ number. number ≡ T.number_of 8 (bytes_of self.old)) }
-        ensures taken { OnOk result (Takes 8 self.old self.new) }
-        ensures short { IfErr result (λ error. IsShort 8 (bytes_of self.old) error) }
-        ensures stays { OnErr result (self.new ≡ self.old) }
+        ensures rest { OnOk result (DropsPrefix 8 self.old self.new) }
+        ensures too_short { IfErr result (λ error. EndsBefore 8 (bytes_of self.old) error) }
+        ensures unchanged { OnErr result (self.new ≡ self.old) }
     {
         let mut bytes = [0u8; 8];
         match self.read_exact(&mut bytes) {
@@ -313,20 +329,24 @@ impl<'a> RawData<'a> {
         }
     }
 
-    /// The bytes before the first NUL, which are taken off with it. No NUL: none, and nothing is taken.
+    /// Removes the bytes up to the first NUL, and returns those before the NUL.
+    ///
+    /// If there is no NUL, it returns `None` and removes none.
     pub fn read_string(&mut self) -> Option<RawData<'a>>
-        ensures string { IfSome result (λ string. TakesString self.old string self.new) }
+        ensures string { IfSome result (λ string. ReadsNulString self.old string self.new) }
         ensures none { IfNone result (HasNoNul (bytes_of self.old)) }
-        ensures stays { IfNone result (self.new ≡ self.old) }
+        ensures unchanged { IfNone result (self.new ≡ self.old) }
     {
         let at = self.find_nul()?;
-        let (string, ended) = self.cut(at)?;
-        let (_, rest) = ended.cut(1)?;
+        let (string, ended) = self.checked_split_at(at)?;
+        let (_, rest) = ended.checked_split_at(1)?;
         *self = rest;
         Some(string)
     }
 
-    /// The bytes in one piece. They are copied only where they lie in two.
+    /// Returns the bytes in one slice. It copies them only if they are in two.
+    ///
+    /// If there is no memory for the copy, it fails with `AllocError`.
     pub fn as_slice(&self, alloc: Global) -> Result<CowSlice<'a, u8>, AllocError>
         ensures bytes { IfOk result (λ slice. cow_slice_items slice ≡ bytes_of self.now) }
         ensures borrowed { IsSingle self.now → IsOkAnd result (λ slice. IsBorrowedSlice slice) }
@@ -344,19 +364,19 @@ impl<'a> RawData<'a> {
     }
 }
 
-// Equal are those of the same bytes, wherever they are split.
+// Values are equal if their bytes are, wherever they are split.
 impl PartialEq for RawData<'_> {
     ghost eq = { λ x y. bytes_eq (bytes_of x) (bytes_of y) };
 
     ghost laws = { partial_equiv_from_equiv (on_texts_equal bytes_of) };
 
     fn eq(&self, other: &Self) -> bool {
-        let (front, rest) = self.pieces();
-        let (other_front, other_rest) = other.pieces();
+        let (front, rest) = self.as_slices();
+        let (other_front, other_rest) = other.as_slices();
         if front.len() <= other_front.len() {
-            same_pieces(front, rest, other_front, other_rest)
+            equal_bytes(front, rest, other_front, other_rest)
         } else {
-            same_pieces(other_front, other_rest, front, rest)
+            equal_bytes(other_front, other_rest, front, rest)
         }
     }
 }

@@ -1,25 +1,25 @@
-//! An entry that tells where a section stands.
+//! The entry that describes a section.
 ghost use Rattle.std.specs.Prelude.{◌≡◌, ◌≤◌, length};
-ghost use Rattle.perfdata_base.specs.Source.{State, PausesOnce};
-ghost use Rattle.perfdata_base.specs.Section.{section_of, ParsesSection};
+ghost use Rattle.perfdata_base.specs.Source.{State, PausesOnlyOnError};
+ghost use Rattle.perfdata_base.specs.Section.{section_entry_of, ParsesSectionEntry};
 
 use crate::raw::FileOrder;
-use crate::source::{Source, read_all};
+use crate::source::{Source, read_exact};
 use std::io::Result;
 
-/// Where a section begins and how many bytes it has (`perf_file_section`).
+/// The offset and the size of a section (`perf_file_section`).
 #[derive(Clone, Copy, Debug)]
 pub struct PerfFileSection {
-    /// From the file's first byte.
+    /// The offset in bytes from the file's first byte.
     pub offset: u64,
-    /// How many bytes it has.
+    /// The size in bytes.
     pub size: u64,
 }
 
-// The entry that these bytes begin with.
-pub(crate) fn entry_of<T: FileOrder>(bytes: &[u8]) -> PerfFileSection
+// The entry at the start of `bytes`.
+pub(crate) fn section_entry_of<T: FileOrder>(bytes: &[u8]) -> PerfFileSection
     requires { 16 ≤ length bytes.now }
-    ensures { result ≡ section_of T.number_of bytes.now }
+    ensures { result ≡ section_entry_of T.number_of bytes.now }
 {
     PerfFileSection {
         offset: T::read_u64(bytes),
@@ -28,25 +28,25 @@ pub(crate) fn entry_of<T: FileOrder>(bytes: &[u8]) -> PerfFileSection
 }
 
 impl PerfFileSection {
-    /// How many bytes an entry takes.
+    /// The size of an entry in bytes.
     pub const STRUCT_SIZE: u64 = 16;
 
-    /// The entry at the front of a source that is kept: its offset and its size, of eight bytes each.
+    /// Parses a section entry from a borrowed source: its offset and its size, of eight bytes each.
     ///
-    /// An `UnexpectedEof` error where fewer than 16 bytes come.
+    /// It fails with `UnexpectedEof` if fewer than 16 bytes are read.
     pub fn parse_from<R: Source, T: FileOrder>(source: &mut R) -> Result<PerfFileSection>
-        ensures parses { ParsesSection T.number_of (R.seen source.old) result (R.seen source.new) }
-        ensures pauses { PausesOnce (R.seen source.old) result (R.seen source.new) }
-        ensures lent { R.lent source.new ≡ R.lent source.old }
+        ensures parses { ParsesSectionEntry T.number_of (R.state source.old) result (R.state source.new) }
+        ensures pauses { PausesOnlyOnError (R.state source.old) result (R.state source.new) }
+        ensures same_loan { R.loan source.new ≡ R.loan source.old }
     {
         let mut bytes = [0u8; 16];
-        read_all(source, &mut bytes)?;
-        Ok(entry_of::<T>(&bytes))
+        read_exact(source, &mut bytes)?;
+        Ok(section_entry_of::<T>(&bytes))
     }
 
-    /// The entry at the front of a source, as by `parse_from`.
+    /// Parses a section entry from a source, as `parse_from` does.
     pub fn parse<R: Source + Drop, T: FileOrder>(mut r: R) -> Result<PerfFileSection>
-        ensures { (left : State) × ParsesSection T.number_of (R.seen r) result left }
+        ensures { (left : State) × ParsesSectionEntry T.number_of (R.state r) result left }
     {
         PerfFileSection::parse_from::<R, T>(&mut r)
     }

@@ -1,115 +1,120 @@
-//! Where bytes come from, and the ways to take them: filling, passing over, appending.
+//! Byte sources, and functions that read, skip and append their bytes.
 ghost use Rattle.std.specs.Prelude.{◌≡◌, ◌+◌, ◌^◌, ◌<◌, ◌≤◌, ◌↔◌, ℕ, IsTrue, min, length, take, drop, vec_len, Ok, refl};
 ghost use Rattle.std.proofs.Common.{lit<};
 ghost use Rattle.std.proofs.lemmas.Bool.{false≢true};
 ghost use Rattle.std.specs.Io.Cursor.{cursor_inner, cursor_position};
 ghost use Rattle.std.specs.IoError.{error_kind};
 ghost use Rattle.std.specs.declared.io.ErrorKind.TheVariants.{Interrupted, UnexpectedEof};
-ghost use Rattle.perfdata_base.specs.Source.{State, told, told_from, untold, counted, CanCount, CountsRead, CountsSeek, PausesFor, PausesOnce, IsPlaced, IsSmall, IsWithinReach, Seeks, Reads, Fills, PassesOver, Appends, ReadsAll, SkipsAll};
-ghost use Rattle.perfdata_base.specs.Near.{ReadMoves, SeekTells};
-ghost use Rattle.perfdata_base.specs.AtHand.{IsFront, TakesAtHand, AppendsAtHand};
-ghost use Rattle.perfdata_base.specs.declared.source.AppendFault.TheVariants.{Memory, Source as FromSource};
+ghost use Rattle.perfdata_base.specs.Source.{State, memory_source, memory_source_at, opaque_source, counted_state, CanCount, CountsRead, CountsSeek, PausesOnlyIfIncomplete, PausesOnlyOnError, RemainsFromPosition, SizeFitsI64, PositionFitsU64, Seeks, Reads, FillsBuffer, SkipsUpTo, AppendsUpTo, ReadsExactly, SkipsExactly};
+ghost use Rattle.perfdata_base.specs.RelativeSeek.{ReadUpdatesPosition, SeekUpdatesPosition};
+ghost use Rattle.perfdata_base.specs.Buffered.{IsPrefixOfRemaining, ReadsBuffered, AppendsBuffered};
+ghost use Rattle.perfdata_base.specs.declared.source.AppendError.TheVariants.{Memory, Source as FromSource};
 ghost use Rattle.perfdata_base.specs.Raw.{bytes_of};
 
 use crate::raw::RawData;
-use crate::source::near::{place_after, seek_near};
+use crate::source::relative_seek::{position_after, seek_from};
 use std::alloc::AllocError;
 use std::io::{Cursor, Error, ErrorKind, Read, Result, Seek, SeekFrom};
 
 mod counted_buffer;
-mod near;
-mod scripted;
+mod relative_seek;
+mod script;
 
 pub use counted_buffer::CountedBuffer;
-pub use scripted::{Script, Step};
+pub use script::{Script, Step};
 
-static NOTHING: &[u8] = &[];
+static EMPTY: &[u8] = &[];
 
-/// Where bytes come from.
+/// A source of bytes.
 ///
-/// Contracts see a source by `seen`: the bytes that it will still give, where it tells them, how many faults and
-/// empty answers it has given, whether it is steady (it never fails and never pauses), and its place among all of its
-/// bytes where it can be sought in. By `lent` they see which source a `&mut` lends, so that a caller which lends its
-/// source learns where it ends.
+/// Contracts describe a source by its `state`: its remaining bytes if they are known, the number of I/O errors and of
+/// empty reads so far, whether it is steady (it never fails and never pauses), and its position among all of its bytes
+/// if it can seek. `loan` identifies the source that a `&mut` borrows. With it a caller that lends its source knows the
+/// source's state after the loan.
 pub trait Source {
-    /// What contracts see of it.
-    ghost seen: { Self → State };
+    /// The state of the source as contracts see it.
+    ghost state: { Self → State };
 
-    /// Which source a `&mut` lends; 0 for all that is no `&mut`.
-    ghost lent: { Self → ℕ };
+    /// The identity of the source that a `&mut` borrows; 0 for every other source.
+    ghost loan: { Self → ℕ };
 
-    /// Puts the next bytes at the front of the place, and says how many.
+    /// Reads the next bytes into the start of `buf`, and returns their number.
     ///
-    /// A place that is not empty gets a front of the bytes to come. A fault takes no byte and is counted. None is the
-    /// end, or a pause, which is counted. A place that is empty gets none, and nothing is counted. Each count stays at
-    /// `u64::MAX` once it is there. What the place holds behind the bytes that came is left open.
-    fn read_front(&mut self, place: &mut [u8]) -> Result<usize>
-        ensures idle { length place.old ≡ 0 → (result ≡ Ok 0) × (seen self.new ≡ seen self.old) }
-        ensures reads { 0 < length place.old → Reads (seen self.old) place.new result (seen self.new) }
-        ensures counts { CountsRead (seen self.old) result (seen self.new) }
-        ensures lent { lent self.new ≡ lent self.old };
+    /// If `buf` isn't empty, it receives a prefix of the remaining bytes. A result of 0 is the end, or a pause, which
+    /// is counted. If `buf` is empty, the result is 0 and nothing is counted. On an error no byte is consumed, and the
+    /// error is counted. Each count saturates at `u64::MAX`. The content of `buf` after the bytes read is unspecified.
+    fn read_front(&mut self, buf: &mut [u8]) -> Result<usize>
+        ensures idle { length buf.old ≡ 0 → (result ≡ Ok 0) × (state self.new ≡ state self.old) }
+        ensures reads { 0 < length buf.old → Reads (state self.old) buf.new result (state self.new) }
+        ensures counts { CountsRead (state self.old) result (state self.new) }
+        ensures same_loan { loan self.new ≡ loan self.old };
 
-    /// The front of the bytes to come that the source already holds: to take them it asks nobody. None where it holds none.
-    fn at_hand(&self) -> &[u8]
-        ensures front { IsFront (seen self.now) result.now }
+    /// Returns the buffered bytes of the source, a prefix of the remaining bytes.
+    ///
+    /// To consume them, the source calls no underlying reader. The slice is empty if nothing is buffered.
+    fn buffer(&self) -> &[u8]
+        ensures prefix { IsPrefixOfRemaining (state self.now) result.now }
     {
-        NOTHING
+        EMPTY
     }
 
-    /// Fills a place with the next bytes, where as many are at hand, and says so. Where it answers no, nothing is done.
-    fn take_at_hand(&mut self, place: &mut [u8]) -> bool
-        ensures takes { TakesAtHand (seen self.old) place.old result place.new (seen self.new) }
-        ensures lent { lent self.new ≡ lent self.old }
+    /// Fills `buf` with the next bytes if that many are buffered, and returns whether it did.
+    ///
+    /// If the result is `false`, `buf` and the source are unchanged.
+    fn read_buffered(&mut self, buf: &mut [u8]) -> bool
+        ensures reads_buffered { ReadsBuffered (state self.old) buf.old result buf.new (state self.new) }
+        ensures same_loan { loan self.new ≡ loan self.old }
     {
         false
     }
 
-    /// Appends so many of the next bytes, where as many are at hand, and says so. Where it answers no, and where there is no
-    /// memory for them, nothing is done.
-    fn append_at_hand(
+    /// Appends the next `count` bytes to `buffer` if that many are buffered, and returns whether it did.
+    ///
+    /// If the result is `false` or out of memory, `buffer` and the source are unchanged.
+    fn append_buffered(
         &mut self,
         buffer: &mut Vec<u8>,
         count: usize,
     ) -> std::result::Result<bool, AllocError>
-        ensures appends { AppendsAtHand (seen self.old) buffer.old.items count result buffer.new.items (seen self.new) }
-        ensures lent { lent self.new ≡ lent self.old }
+        ensures appends { AppendsBuffered (state self.old) buffer.old.items count result buffer.new.items (state self.new) }
+        ensures same_loan { loan self.new ≡ loan self.old }
     {
         Ok(false)
     }
 
-    /// A steady source never counts, so its counts are not at their highest.
-    ghost steady_can_count: { (s : Self) → IsTrue (seen s).steady → CanCount (seen s) };
+    /// Neither count of a steady source is at its maximum, because a steady source never counts.
+    ghost steady_can_count: { (s : Self) → IsTrue (state s).steady → CanCount (state s) };
 }
 
 impl Source for &[u8] {
-    ghost seen = { λ s. told s.now };
+    ghost state = { λ s. memory_source s.now };
 
-    ghost lent = { λ _. 0 };
+    ghost loan = { λ _. 0 };
 
-    fn read_front(&mut self, place: &mut [u8]) -> Result<usize> {
+    fn read_front(&mut self, buf: &mut [u8]) -> Result<usize> {
         let all: &[u8] = *self;
-        let count = all.len().min(place.len());
-        place[..count].copy_from_slice(&all[..count]);
+        let count = all.len().min(buf.len());
+        buf[..count].copy_from_slice(&all[..count]);
         *self = &all[count..];
         Ok(count)
     }
 
-    fn at_hand(&self) -> &[u8] {
+    fn buffer(&self) -> &[u8] {
         &self[..]
     }
 
-    fn take_at_hand(&mut self, place: &mut [u8]) -> bool {
+    fn read_buffered(&mut self, buf: &mut [u8]) -> bool {
         let all: &[u8] = *self;
-        if all.len() < place.len() {
+        if all.len() < buf.len() {
             return false;
         }
-        let (front, rest) = all.split_at(place.len());
-        place.copy_from_slice(front);
+        let (front, rest) = all.split_at(buf.len());
+        buf.copy_from_slice(front);
         *self = rest;
         true
     }
 
-    fn append_at_hand(
+    fn append_buffered(
         &mut self,
         buffer: &mut Vec<u8>,
         count: usize,
@@ -124,66 +129,66 @@ impl Source for &[u8] {
         Ok(true)
     }
 
-    ghost steady_can_count = { λ _ _. record { faults = lit< tt; pauses = lit< tt } };
+    ghost steady_can_count = { λ _ _. record { errors = lit< tt; pauses = lit< tt } };
 }
 
 impl<S: Source> Source for &mut S {
-    ghost seen = { λ s. S.seen s.now };
+    ghost state = { λ s. S.state s.now };
 
-    ghost lent = { λ s. s.ghost_name };
+    ghost loan = { λ s. s.ghost_name };
 
-    fn read_front(&mut self, place: &mut [u8]) -> Result<usize> {
-        Source::read_front(&mut **self, place)
+    fn read_front(&mut self, buf: &mut [u8]) -> Result<usize> {
+        Source::read_front(&mut **self, buf)
     }
 
-    fn at_hand(&self) -> &[u8] {
-        Source::at_hand(&**self)
+    fn buffer(&self) -> &[u8] {
+        Source::buffer(&**self)
     }
 
-    fn take_at_hand(&mut self, place: &mut [u8]) -> bool {
-        Source::take_at_hand(&mut **self, place)
+    fn read_buffered(&mut self, buf: &mut [u8]) -> bool {
+        Source::read_buffered(&mut **self, buf)
     }
 
-    fn append_at_hand(
+    fn append_buffered(
         &mut self,
         buffer: &mut Vec<u8>,
         count: usize,
     ) -> std::result::Result<bool, AllocError> {
-        Source::append_at_hand(&mut **self, buffer, count)
+        Source::append_buffered(&mut **self, buffer, count)
     }
 
     ghost steady_can_count = { λ s. S.steady_can_count s.now };
 }
 
 impl Source for RawData<'_> {
-    ghost seen = { λ r. told (bytes_of r) };
+    ghost state = { λ r. memory_source (bytes_of r) };
 
-    ghost lent = { λ _. 0 };
+    ghost loan = { λ _. 0 };
 
-    fn read_front(&mut self, place: &mut [u8]) -> Result<usize> {
-        let count = self.len().min(place.len());
-        self.read_exact(&mut place[..count])?;
+    fn read_front(&mut self, buf: &mut [u8]) -> Result<usize> {
+        let count = self.len().min(buf.len());
+        self.read_exact(&mut buf[..count])?;
         Ok(count)
     }
 
-    ghost steady_can_count = { λ _ _. record { faults = lit< tt; pauses = lit< tt } };
+    ghost steady_can_count = { λ _ _. record { errors = lit< tt; pauses = lit< tt } };
 }
 
-// Copies what lies behind the place, as much as fits, and says how much.
-fn copy_from(all: &[u8], at: u64, place: &mut [u8]) -> usize
-    ensures count { result ≡ min (length (drop at all.now)) (length place.old) }
-    ensures copied { take result place.new ≡ take result (drop at all.now) }
+// Copies as many bytes from offset `at` on as fit into `buf`, and returns their number.
+fn copy_from_offset(all: &[u8], at: u64, buf: &mut [u8]) -> usize
+    ensures count { result ≡ min (length (drop at all.now)) (length buf.old) }
+    ensures copied { take result buf.new ≡ take result (drop at all.now) }
     ensures within { 0 < result → at + result ≤ length all.now }
 {
     let start = (at as usize).min(all.len());
     let rest = &all[start..];
-    let count = rest.len().min(place.len());
-    place[..count].copy_from_slice(&rest[..count]);
+    let count = rest.len().min(buf.len());
+    buf[..count].copy_from_slice(&rest[..count]);
     count
 }
 
-// The bytes from a place on.
-fn bytes_from(all: &[u8], at: u64) -> &[u8]
+// The bytes from offset `at` on.
+fn bytes_from_offset(all: &[u8], at: u64) -> &[u8]
     ensures { result.now ≡ drop at all.now }
 {
     let first = (at as usize).min(all.len());
@@ -191,42 +196,42 @@ fn bytes_from(all: &[u8], at: u64) -> &[u8]
 }
 
 impl Source for Cursor<Vec<u8>> {
-    ghost seen = { λ c. told_from (cursor_inner c).items (cursor_position c) };
+    ghost state = { λ c. memory_source_at (cursor_inner c).items (cursor_position c) };
 
-    ghost lent = { λ _. 0 };
+    ghost loan = { λ _. 0 };
 
-    fn read_front(&mut self, place: &mut [u8]) -> Result<usize> {
+    fn read_front(&mut self, buf: &mut [u8]) -> Result<usize> {
         let at = self.position();
-        let count = copy_from(self.get_ref().as_slice(), at, place);
+        let count = copy_from_offset(self.get_ref().as_slice(), at, buf);
         if count > 0 {
             self.set_position(at + count as u64);
         }
         Ok(count)
     }
 
-    fn at_hand(&self) -> &[u8] {
-        bytes_from(self.get_ref().as_slice(), self.position())
+    fn buffer(&self) -> &[u8] {
+        bytes_from_offset(self.get_ref().as_slice(), self.position())
     }
 
-    fn take_at_hand(&mut self, place: &mut [u8]) -> bool {
+    fn read_buffered(&mut self, buf: &mut [u8]) -> bool {
         let at = self.position();
-        let rest = bytes_from(self.get_ref().as_slice(), at);
-        let count = place.len();
+        let rest = bytes_from_offset(self.get_ref().as_slice(), at);
+        let count = buf.len();
         if count == 0 || rest.len() < count {
             return false;
         }
-        place.copy_from_slice(&rest[..count]);
+        buf.copy_from_slice(&rest[..count]);
         self.set_position(at + count as u64);
         true
     }
 
-    fn append_at_hand(
+    fn append_buffered(
         &mut self,
         buffer: &mut Vec<u8>,
         count: usize,
     ) -> std::result::Result<bool, AllocError> {
         let at = self.position();
-        let left = bytes_from(self.get_ref().as_slice(), at);
+        let left = bytes_from_offset(self.get_ref().as_slice(), at);
         if count == 0 || left.len() < count {
             return Ok(false);
         }
@@ -235,47 +240,47 @@ impl Source for Cursor<Vec<u8>> {
         Ok(true)
     }
 
-    ghost steady_can_count = { λ _ _. record { faults = lit< tt; pauses = lit< tt } };
+    ghost steady_can_count = { λ _ _. record { errors = lit< tt; pauses = lit< tt } };
 }
 
 impl Source for Cursor<&[u8]> {
-    ghost seen = { λ c. told_from (cursor_inner c).now (cursor_position c) };
+    ghost state = { λ c. memory_source_at (cursor_inner c).now (cursor_position c) };
 
-    ghost lent = { λ _. 0 };
+    ghost loan = { λ _. 0 };
 
-    fn read_front(&mut self, place: &mut [u8]) -> Result<usize> {
+    fn read_front(&mut self, buf: &mut [u8]) -> Result<usize> {
         let at = self.position();
         let all: &[u8] = *self.get_ref();
-        let count = copy_from(all, at, place);
+        let count = copy_from_offset(all, at, buf);
         if count > 0 {
             self.set_position(at + count as u64);
         }
         Ok(count)
     }
 
-    fn at_hand(&self) -> &[u8] {
-        bytes_from(self.get_ref(), self.position())
+    fn buffer(&self) -> &[u8] {
+        bytes_from_offset(self.get_ref(), self.position())
     }
 
-    fn take_at_hand(&mut self, place: &mut [u8]) -> bool {
+    fn read_buffered(&mut self, buf: &mut [u8]) -> bool {
         let at = self.position();
-        let rest = bytes_from(self.get_ref(), at);
-        let count = place.len();
+        let rest = bytes_from_offset(self.get_ref(), at);
+        let count = buf.len();
         if count == 0 || rest.len() < count {
             return false;
         }
-        place.copy_from_slice(&rest[..count]);
+        buf.copy_from_slice(&rest[..count]);
         self.set_position(at + count as u64);
         true
     }
 
-    fn append_at_hand(
+    fn append_buffered(
         &mut self,
         buffer: &mut Vec<u8>,
         count: usize,
     ) -> std::result::Result<bool, AllocError> {
         let at = self.position();
-        let left = bytes_from(self.get_ref(), at);
+        let left = bytes_from_offset(self.get_ref(), at);
         if count == 0 || left.len() < count {
             return Ok(false);
         }
@@ -284,65 +289,65 @@ impl Source for Cursor<&[u8]> {
         Ok(true)
     }
 
-    ghost steady_can_count = { λ _ _. record { faults = lit< tt; pauses = lit< tt } };
+    ghost steady_can_count = { λ _ _. record { errors = lit< tt; pauses = lit< tt } };
 }
 
 /// A reader of std as a source.
 ///
-/// Contracts know none of its bytes. It counts the faults and the empty answers that the reader gives, up to
-/// `u64::MAX`. Each `Err` of a read or a seek is a fault, whatever its kind.
+/// Contracts know none of its bytes. It counts the reader's I/O errors and empty reads, up to `u64::MAX` each. Each
+/// `Err` of a read or a seek counts as an I/O error, whatever its kind.
 ///
-/// Once a seek has told its place, it seeks by an offset from there, which a `BufReader` does inside its buffer where that
-/// holds the place, and asks for no seek where it already stands there. See [`CountedBuffer`] for a reader behind a buffer
-/// that shows what it holds.
+/// Once a seek has reported the position, later seeks go by an offset from it. A `BufReader` performs such a seek
+/// inside its buffer if the buffer contains the target. If the target is the current position, the reader isn't called.
+/// See [`CountedBuffer`] for a source that exposes the buffer of its reader.
 #[derive(Drop)]
 pub struct Counted<R> {
     reader: R,
-    faults: u64,
+    errors: u64,
     pauses: u64,
-    place: Option<u64>,
+    position: Option<u64>,
 }
 
 impl<R: Read> Counted<R> {
-    /// The reader as a source that has given no fault and no empty answer yet.
+    /// Makes a source from a reader. Its counts of I/O errors and empty reads are 0.
     pub fn new(reader: R) -> Counted<R>
-        ensures { counted result ≡ untold 0 0 }
+        ensures { counted_state result ≡ opaque_source 0 0 }
     {
         Counted {
             reader,
-            faults: 0,
+            errors: 0,
             pauses: 0,
-            place: None,
+            position: None,
         }
     }
 }
 
 impl<R: Read> Source for Counted<R> {
-    ghost seen = { counted };
+    ghost state = { counted_state };
 
-    ghost lent = { λ _. 0 };
+    ghost loan = { λ _. 0 };
 
-    fn read_front(&mut self, place: &mut [u8]) -> Result<usize>
-        ensures idle { length place.old ≡ 0 → (result ≡ Ok 0) × (counted self.new ≡ counted self.old) }
-        ensures reads { 0 < length place.old → Reads (counted self.old) place.new result (counted self.new) }
-        ensures counts { CountsRead (counted self.old) result (counted self.new) }
-        ensures place { 0 < length place.old → ReadMoves self.old.place result self.new.place }
-        ensures stands { length place.old ≡ 0 → self.new.place ≡ self.old.place }
+    fn read_front(&mut self, buf: &mut [u8]) -> Result<usize>
+        ensures idle { length buf.old ≡ 0 → (result ≡ Ok 0) × (counted_state self.new ≡ counted_state self.old) }
+        ensures reads { 0 < length buf.old → Reads (counted_state self.old) buf.new result (counted_state self.new) }
+        ensures counts { CountsRead (counted_state self.old) result (counted_state self.new) }
+        ensures position { 0 < length buf.old → ReadUpdatesPosition self.old.position result self.new.position }
+        ensures position_kept { length buf.old ≡ 0 → self.new.position ≡ self.old.position }
     {
-        if place.is_empty() {
+        if buf.is_empty() {
             return Ok(0);
         }
-        match self.reader.read(place) {
+        match self.reader.read(buf) {
             Ok(count) => {
                 if count == 0 {
                     self.pauses = self.pauses.saturating_add(1);
                 }
-                self.place = place_after(self.place, count);
+                self.position = position_after(self.position, count);
                 Ok(count)
             }
             Err(error) => {
-                self.faults = self.faults.saturating_add(1);
-                self.place = None;
+                self.errors = self.errors.saturating_add(1);
+                self.position = None;
                 Err(error)
             }
         }
@@ -351,23 +356,25 @@ impl<R: Read> Source for Counted<R> {
     ghost steady_can_count = { λ _ steady. absurd (false≢true steady) };
 }
 
-/// A source that can be set to another place.
+/// A source that can seek.
 pub trait PlacedSource: Source {
-    /// Goes to a place, and says which, from the first byte on.
+    /// Seeks to `to`, and returns the new position in bytes from the first byte.
     ///
-    /// A place past the last byte is one, where no byte is to come. From the end a place is reckoned by the length that
-    /// the source shows at that moment, which is never above that of all bytes. An `Err` says that there is no such
-    /// place from 0 to `u64::MAX`, or that the source failed, which is counted; the source stands at some place then.
-    /// All bytes stay the same, and they are fewer than 2^63; the place before is at most `u64::MAX`.
+    /// A position past the last byte is valid, and no byte remains there. A seek from the end uses the length that the
+    /// source shows at that moment, which is at most the length of all bytes.
+    ///
+    /// It fails if the target isn't in 0 to `u64::MAX`, or if the source fails, which is counted. After an error the
+    /// position is unspecified. In every case all bytes stay the same, and they are fewer than 2^63. The position
+    /// before the call is at most `u64::MAX`.
     fn seek_to(&mut self, to: SeekFrom) -> Result<u64>
-        ensures seeks { Seeks (Self.seen self.old) to result (Self.seen self.new) }
-        ensures counts { CountsSeek (Self.seen self.old) result (Self.seen self.new) }
-        ensures small { IsSmall (Self.seen self.old) }
-        ensures within_reach { IsWithinReach (Self.seen self.old) }
-        ensures lent { Self.lent self.new ≡ Self.lent self.old };
+        ensures seeks { Seeks (Self.state self.old) to result (Self.state self.new) }
+        ensures counts { CountsSeek (Self.state self.old) result (Self.state self.new) }
+        ensures size_fits { SizeFitsI64 (Self.state self.old) }
+        ensures position_fits { PositionFitsU64 (Self.state self.old) }
+        ensures same_loan { Self.loan self.new ≡ Self.loan self.old };
 
-    /// The bytes to come are those from the place on.
-    ghost placed: { (s : Self) → IsPlaced (Self.seen s) };
+    /// The remaining bytes are those from the position on.
+    ghost remaining_from_position: { (s : Self) → RemainsFromPosition (Self.state s) };
 }
 
 impl PlacedSource for Cursor<Vec<u8>> {
@@ -376,7 +383,7 @@ impl PlacedSource for Cursor<Vec<u8>> {
         Seek::seek(self, to)
     }
 
-    ghost placed = { λ _. refl };
+    ghost remaining_from_position = { λ _. refl };
 }
 
 impl PlacedSource for Cursor<&[u8]> {
@@ -385,31 +392,31 @@ impl PlacedSource for Cursor<&[u8]> {
         Seek::seek(self, to)
     }
 
-    ghost placed = { λ _. refl };
+    ghost remaining_from_position = { λ _. refl };
 }
 
 impl<R: Read + Seek> PlacedSource for Counted<R> {
     fn seek_to(&mut self, to: SeekFrom) -> Result<u64>
-        ensures seeks { Seeks (counted self.old) to result (counted self.new) }
-        ensures counts { CountsSeek (counted self.old) result (counted self.new) }
-        ensures small { IsSmall (counted self.old) }
-        ensures within_reach { IsWithinReach (counted self.old) }
-        ensures place { SeekTells result self.new.place }
+        ensures seeks { Seeks (counted_state self.old) to result (counted_state self.new) }
+        ensures counts { CountsSeek (counted_state self.old) result (counted_state self.new) }
+        ensures size_fits { SizeFitsI64 (counted_state self.old) }
+        ensures position_fits { PositionFitsU64 (counted_state self.old) }
+        ensures position { SeekUpdatesPosition result self.new.position }
     {
-        match seek_near(&mut self.reader, self.place, to) {
+        match seek_from(&mut self.reader, self.position, to) {
             Ok(at) => {
-                self.place = Some(at);
+                self.position = Some(at);
                 Ok(at)
             }
             Err(error) => {
-                self.faults = self.faults.saturating_add(1);
-                self.place = None;
+                self.errors = self.errors.saturating_add(1);
+                self.position = None;
                 Err(error)
             }
         }
     }
 
-    ghost placed = { λ _. refl };
+    ghost remaining_from_position = { λ _. refl };
 }
 
 impl<S: PlacedSource> PlacedSource for &mut S {
@@ -417,11 +424,11 @@ impl<S: PlacedSource> PlacedSource for &mut S {
         PlacedSource::seek_to(&mut **self, to)
     }
 
-    ghost placed = { λ s. S.placed s.now };
+    ghost remaining_from_position = { λ s. S.remaining_from_position s.now };
 }
 
-/// How often in a row a read is asked again where it was interrupted.
-const MOST_REPEATS: u32 = 16;
+/// How many times in a row an interrupted read is retried.
+const MAX_INTERRUPTED_RETRIES: u32 = 16;
 
 fn is_interrupted(error: &Error) -> bool
     ensures { IsTrue result ↔ (error_kind error.now ≡ Interrupted) }
@@ -429,23 +436,22 @@ fn is_interrupted(error: &Error) -> bool
     error.kind() == ErrorKind::Interrupted
 }
 
-// Fills a place by reads.
-fn fill_asking<S: Source>(source: &mut S, place: &mut [u8]) -> Result<usize>
-    ensures fills { Fills (S.seen source.old) place.new result (S.seen source.new) }
-    ensures pauses { PausesFor (length place.new) (S.seen source.old) result (S.seen source.new) }
-    ensures lent { S.lent source.new ≡ S.lent source.old }
+fn fill_by_reads<S: Source>(source: &mut S, buf: &mut [u8]) -> Result<usize>
+    ensures fills { FillsBuffer (S.state source.old) buf.new result (S.state source.new) }
+    ensures pauses { PausesOnlyIfIncomplete (length buf.new) (S.state source.old) result (S.state source.new) }
+    ensures same_loan { S.loan source.new ≡ S.loan source.old }
 {
     let mut filled = 0;
     let mut repeats = 0;
-    while filled < place.len() {
-        match source.read_front(&mut place[filled..]) {
+    while filled < buf.len() {
+        match source.read_front(&mut buf[filled..]) {
             Ok(0) => return Ok(filled),
             Ok(count) => {
                 filled += count;
                 repeats = 0;
             }
             Err(error) => {
-                if repeats == MOST_REPEATS || !is_interrupted(&error) {
+                if repeats == MAX_INTERRUPTED_RETRIES || !is_interrupted(&error) {
                     return Err(error);
                 }
                 repeats += 1;
@@ -455,36 +461,37 @@ fn fill_asking<S: Source>(source: &mut S, place: &mut [u8]) -> Result<usize>
     Ok(filled)
 }
 
-/// Reads until the place is full or the source gives none. Says how many bytes came.
+/// Reads until `buf` is full or the source ends or pauses, and returns the number of bytes read.
 ///
-/// What is at hand is taken with no read. A read that is interrupted is asked again, up to 16 times in a row. Every other
-/// fault, and the 17th of those, is answered as it came; a part of the place may be filled then.
-pub fn fill<S: Source>(source: &mut S, place: &mut [u8]) -> Result<usize>
-    ensures fills { Fills (S.seen source.old) place.new result (S.seen source.new) }
-    ensures pauses { PausesFor (length place.new) (S.seen source.old) result (S.seen source.new) }
-    ensures lent { S.lent source.new ≡ S.lent source.old }
+/// If enough bytes are buffered, they fill `buf` without a read. An interrupted read is retried up to 16 times in a
+/// row. Every other error, and a 17th interruption in a row, is returned as the source reports it; a part of `buf` may
+/// be filled then.
+pub fn fill<S: Source>(source: &mut S, buf: &mut [u8]) -> Result<usize>
+    ensures fills { FillsBuffer (S.state source.old) buf.new result (S.state source.new) }
+    ensures pauses { PausesOnlyIfIncomplete (length buf.new) (S.state source.old) result (S.state source.new) }
+    ensures same_loan { S.loan source.new ≡ S.loan source.old }
 {
-    if source.take_at_hand(place) {
-        return Ok(place.len());
+    if source.read_buffered(buf) {
+        return Ok(buf.len());
     }
-    fill_asking(source, place)
+    fill_by_reads(source, buf)
 }
 
-/// How many bytes are passed over at once.
-const SCRATCH: usize = 512;
+/// The maximum number of bytes that one read skips.
+const SKIP_BUFFER_SIZE: usize = 512;
 
-/// Passes over so many bytes, or those that come until the source gives none. Says how many.
+/// Skips `count` bytes, or fewer if the source ends or pauses before, and returns the number of bytes skipped.
 ///
-/// Needs no memory. Faults are those of [`fill`]; some of the bytes may have been passed over then.
-pub fn pass_over<S: Source>(source: &mut S, count: u64) -> Result<u64>
-    ensures passes { PassesOver (S.seen source.old) count result (S.seen source.new) }
-    ensures pauses { PausesFor count (S.seen source.old) result (S.seen source.new) }
-    ensures lent { S.lent source.new ≡ S.lent source.old }
+/// It allocates no memory. Errors are those of [`fill`]; some of the bytes may have been skipped then.
+pub fn skip_up_to<S: Source>(source: &mut S, count: u64) -> Result<u64>
+    ensures skips { SkipsUpTo (S.state source.old) count result (S.state source.new) }
+    ensures pauses { PausesOnlyIfIncomplete count (S.state source.old) result (S.state source.new) }
+    ensures same_loan { S.loan source.new ≡ S.loan source.old }
 {
-    let mut scratch = [0u8; SCRATCH];
+    let mut scratch = [0u8; SKIP_BUFFER_SIZE];
     let mut passed = 0;
     while passed < count {
-        let wanted = ((count - passed) as usize).min(SCRATCH);
+        let wanted = ((count - passed) as usize).min(SKIP_BUFFER_SIZE);
         let came = fill(source, &mut scratch[..wanted])?;
         passed += came as u64;
         if came < wanted {
@@ -494,35 +501,35 @@ pub fn pass_over<S: Source>(source: &mut S, count: u64) -> Result<u64>
     Ok(passed)
 }
 
-/// Why bytes were not appended.
+/// The cause of a failed append.
 #[derive(Debug, Drop)]
-pub enum AppendFault {
-    /// There was no memory for the next piece, which was not read.
+pub enum AppendError {
+    /// Out of memory for the next chunk, which was not read.
     Memory,
-    /// The source failed.
+    /// The source failed with this error.
     Source(Error),
 }
 
-impl From<AllocError> for AppendFault {
+impl From<AllocError> for AppendError {
     ghost from_gives = { λ _ fault. fault ≡ Memory };
 
-    fn from(_error: AllocError) -> AppendFault {
-        AppendFault::Memory
+    fn from(_error: AllocError) -> AppendError {
+        AppendError::Memory
     }
 }
 
-impl From<Error> for AppendFault {
+impl From<Error> for AppendError {
     ghost from_gives = { λ error fault. fault ≡ FromSource error };
 
-    fn from(error: Error) -> AppendFault {
-        AppendFault::Source(error)
+    fn from(error: Error) -> AppendError {
+        AppendError::Source(error)
     }
 }
 
-/// How many bytes are asked for at once, so that a length that is promised and does not come costs little memory.
-const PIECE: usize = 4096;
+/// The maximum number of bytes per read. It bounds the memory that a stated length costs if its bytes are missing.
+const APPEND_CHUNK_SIZE: usize = 4096;
 
-static ZEROS: [u8; PIECE] = [0; PIECE];
+static ZEROS: [u8; APPEND_CHUNK_SIZE] = [0; APPEND_CHUNK_SIZE];
 
 fn zeros(count: usize) -> &'static [u8]
     requires { count ≤ 4096 }
@@ -531,15 +538,15 @@ fn zeros(count: usize) -> &'static [u8]
     &ZEROS[..count]
 }
 
-fn append_piece<S: Source>(
+fn append_chunk<S: Source>(
     source: &mut S,
     buffer: &mut Vec<u8>,
     count: usize,
-) -> std::result::Result<usize, AppendFault>
+) -> std::result::Result<usize, AppendError>
     requires { count ≤ 4096 }
-    ensures appends { 0 < count → Appends (S.seen source.old) buffer.old.items count result buffer.new.items (S.seen source.new) }
-    ensures pauses { PausesFor count (S.seen source.old) result (S.seen source.new) }
-    ensures lent { S.lent source.new ≡ S.lent source.old }
+    ensures appends { 0 < count → AppendsUpTo (S.state source.old) buffer.old.items count result buffer.new.items (S.state source.new) }
+    ensures pauses { PausesOnlyIfIncomplete count (S.state source.old) result (S.state source.new) }
+    ensures same_loan { S.loan source.new ≡ S.loan source.old }
 {
     let held = buffer.len();
     buffer.extend_from_slice(zeros(count))?;
@@ -548,20 +555,20 @@ fn append_piece<S: Source>(
     Ok(came)
 }
 
-// Appends by reads, in pieces.
-fn append_pieces<S: Source>(
+// Appends by reads of at most `APPEND_CHUNK_SIZE` bytes.
+fn append_by_reads<S: Source>(
     source: &mut S,
     buffer: &mut Vec<u8>,
     count: usize,
-) -> std::result::Result<usize, AppendFault>
-    ensures appends { Appends (S.seen source.old) buffer.old.items count result buffer.new.items (S.seen source.new) }
-    ensures pauses { PausesFor count (S.seen source.old) result (S.seen source.new) }
-    ensures lent { S.lent source.new ≡ S.lent source.old }
+) -> std::result::Result<usize, AppendError>
+    ensures appends { AppendsUpTo (S.state source.old) buffer.old.items count result buffer.new.items (S.state source.new) }
+    ensures pauses { PausesOnlyIfIncomplete count (S.state source.old) result (S.state source.new) }
+    ensures same_loan { S.loan source.new ≡ S.loan source.old }
 {
     let mut appended = 0;
     while appended < count {
-        let wanted = (count - appended).min(PIECE);
-        let came = append_piece(source, buffer, wanted)?;
+        let wanted = (count - appended).min(APPEND_CHUNK_SIZE);
+        let came = append_chunk(source, buffer, wanted)?;
         appended += came;
         if came < wanted {
             return Ok(appended);
@@ -570,66 +577,69 @@ fn append_pieces<S: Source>(
     Ok(appended)
 }
 
-/// Appends so many bytes, or those that come until the source gives none. Says how many.
+/// Appends `count` bytes to `buffer`, or fewer if the source ends or pauses before, and returns the number of bytes
+/// appended.
 ///
-/// Where all of them are at hand, they are taken from there. Else reads in pieces of at most 4,096 bytes, and asks for a
-/// piece's memory before it reads the piece. So the buffer is never more than 4,096 bytes longer than what came makes it,
-/// whatever the count. Faults are [`AppendFault::Memory`] and those of [`fill`]; some of the bytes may have been taken then,
-/// and the buffer may be up to 4,096 bytes longer than they make it.
-pub fn append<S: Source>(
+/// If all of them are buffered, the source copies them from its buffer. Otherwise the function reads chunks of at most
+/// 4,096 bytes, and allocates the memory for a chunk before it reads the chunk. `buffer` is never more than 4,096 bytes
+/// longer than its old content with the bytes read so far, whatever `count` is.
+///
+/// Errors are [`AppendError::Memory`], and those of [`fill`] in [`AppendError::Source`]. After an error some of the
+/// bytes may have been consumed, and `buffer` may be up to 4,096 bytes longer than its old content with these bytes.
+pub fn append_up_to<S: Source>(
     source: &mut S,
     buffer: &mut Vec<u8>,
     count: usize,
-) -> std::result::Result<usize, AppendFault>
-    ensures appends { Appends (S.seen source.old) buffer.old.items count result buffer.new.items (S.seen source.new) }
-    ensures pauses { PausesFor count (S.seen source.old) result (S.seen source.new) }
-    ensures lent { S.lent source.new ≡ S.lent source.old }
+) -> std::result::Result<usize, AppendError>
+    ensures appends { AppendsUpTo (S.state source.old) buffer.old.items count result buffer.new.items (S.state source.new) }
+    ensures pauses { PausesOnlyIfIncomplete count (S.state source.old) result (S.state source.new) }
+    ensures same_loan { S.loan source.new ≡ S.loan source.old }
 {
     if count == 0 {
         return Ok(0);
     }
-    match source.append_at_hand(buffer, count) {
+    match source.append_buffered(buffer, count) {
         Ok(true) => Ok(count),
-        Ok(false) => append_pieces(source, buffer, count),
-        Err(_) => Err(AppendFault::Memory),
+        Ok(false) => append_by_reads(source, buffer, count),
+        Err(_) => Err(AppendError::Memory),
     }
 }
 
-/// The error of bytes that ended early.
-pub fn short() -> Error
+/// The error for truncated input, of kind [`ErrorKind::UnexpectedEof`].
+pub fn unexpected_eof() -> Error
     ensures { error_kind result ≡ UnexpectedEof }
 {
     Error::from(ErrorKind::UnexpectedEof)
 }
 
-/// Reads until the place is full.
+/// Reads until `buf` is full.
 ///
-/// Where the source gives none before, the answer is an error of kind [`ErrorKind::UnexpectedEof`]. Faults are those
-/// of [`fill`].
-pub fn read_all<S: Source>(source: &mut S, place: &mut [u8]) -> Result<()>
-    ensures reads { ReadsAll (S.seen source.old) place.new result (S.seen source.new) }
-    ensures pauses { PausesOnce (S.seen source.old) result (S.seen source.new) }
-    ensures lent { S.lent source.new ≡ S.lent source.old }
+/// If the source ends or pauses before, it fails with an error of kind [`ErrorKind::UnexpectedEof`]. Other errors are
+/// those of [`fill`].
+pub fn read_exact<S: Source>(source: &mut S, buf: &mut [u8]) -> Result<()>
+    ensures reads { ReadsExactly (S.state source.old) buf.new result (S.state source.new) }
+    ensures pauses { PausesOnlyOnError (S.state source.old) result (S.state source.new) }
+    ensures same_loan { S.loan source.new ≡ S.loan source.old }
 {
-    let came = fill(source, place)?;
-    if came < place.len() {
-        return Err(short());
+    let came = fill(source, buf)?;
+    if came < buf.len() {
+        return Err(unexpected_eof());
     }
     Ok(())
 }
 
-/// Passes over so many bytes.
+/// Skips exactly `count` bytes.
 ///
-/// Where the source gives none before, the answer is an error of kind [`ErrorKind::UnexpectedEof`]. Faults are those
-/// of [`fill`].
-pub fn skip_all<S: Source>(source: &mut S, count: u64) -> Result<()>
-    ensures skips { SkipsAll (S.seen source.old) count result (S.seen source.new) }
-    ensures pauses { PausesOnce (S.seen source.old) result (S.seen source.new) }
-    ensures lent { S.lent source.new ≡ S.lent source.old }
+/// If the source ends or pauses before, it fails with an error of kind [`ErrorKind::UnexpectedEof`]. Other errors are
+/// those of [`fill`].
+pub fn skip_exact<S: Source>(source: &mut S, count: u64) -> Result<()>
+    ensures skips { SkipsExactly (S.state source.old) count result (S.state source.new) }
+    ensures pauses { PausesOnlyOnError (S.state source.old) result (S.state source.new) }
+    ensures same_loan { S.loan source.new ≡ S.loan source.old }
 {
-    let came = pass_over(source, count)?;
+    let came = skip_up_to(source, count)?;
     if came < count {
-        return Err(short());
+        return Err(unexpected_eof());
     }
     Ok(())
 }

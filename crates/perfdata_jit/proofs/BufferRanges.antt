@@ -1,4 +1,4 @@
--- Ranges of a list, and two lists that are the same up to some place.
+-- Ranges of a list, and two lists that are equal up to an index.
 use borrow.Rule.Slice.PartMut.{put_mid, same_len_mid, mid_len, drop_put}
 use Rattle.perfdata_base.specs.Source.{prepend}
 use Rattle.std.proofs.Common.{Option, Some, None, ◌≡◌, ℕ, zero, suc, ◌+◌, ◌-◌, ◌<◌, ◌≤◌, List, [], ◌++◌, length, take, drop, slice_range, refl, sym, ap, ap₂, ◌∙◌, arith, append_assoc, append-nil, length-take-le, take_at, length-drop, take-append-drop, take-take, drop-drop, take-take}
@@ -6,7 +6,7 @@ use Rattle.std.proofs.lemmas.List.{drop-take, drop-append-le, take_rest, drop_al
 use Rattle.std.proofs.Math.Seq.{take-add, take-append-add, drop-append-add}
 use Rattle.std.proofs.lemmas.Grind.{common_steps}
 
--- a range, and n items more
+-- a range extended by n items
 pub range_append : (xs : List ℕ) (s e n : ℕ) → s ≤ e → slice_range xs s (e + n) ≡ slice_range xs s e ++ slice_range xs e (e + n)
 range_append xs s e n le =
     let width : (e + n) - s ≡ (e - s) + n = omega arith in
@@ -17,7 +17,7 @@ range_append xs s e n le =
     ∙ ap (λ l. take (e - s) (drop s xs) ++ take n l) (drop-drop (e - s) s xs ∙ ap (λ k. drop k xs) at)
     ∙ ap (λ k. take (e - s) (drop s xs) ++ take k (drop e xs)) more
 
--- lists that are the same up to e have the same ranges there
+-- lists that are equal up to index e have the same ranges before e
 pub range_kept : (xs ys : List ℕ) (s e : ℕ) → s ≤ e → take e ys ≡ take e xs → slice_range ys s e ≡ slice_range xs s e
 range_kept xs ys s e le same =
     let at : s + (e - s) ≡ e = omega arith in
@@ -31,7 +31,7 @@ pub prepend-nil : (o : Option (List ℕ)) → prepend [] o ≡ o
 prepend-nil None = refl
 prepend-nil (Some xs) = refl
 
--- the bytes behind the main piece's end were read over: the first n are new
+-- bytes after the end of the main range are overwritten by a read: the first n are new
 pub main_grows : (xs ys : List ℕ) (s e f n : ℕ) → s ≤ e → f ≡ 0 → take e ys ≡ take e xs
     → slice_range ys s (e + n) ++ take f ys ≡ (slice_range xs s e ++ take f xs) ++ slice_range ys e (e + n)
 main_grows xs ys s e f n le none same =
@@ -40,7 +40,7 @@ main_grows xs ys s e f n le none same =
     let empty : (zs : List ℕ) → take f zs ≡ [] = λ zs. ap (λ k. take k zs) none in
     grind (arith, common_steps, kept, grown, empty xs, empty ys)
 
--- the same of the front piece
+-- the same for the prefix that wraps around
 pub front_grows : (xs ys : List ℕ) (s e f n : ℕ) → drop s ys ≡ drop s xs → take f ys ≡ take f xs
     → slice_range ys s e ++ take (f + n) ys ≡ (slice_range xs s e ++ take f xs) ++ slice_range ys f (f + n)
 front_grows xs ys s e f n behind same =
@@ -54,7 +54,7 @@ take_range xs s e n le =
     let width : (s + n) - s ≡ n = omega arith in
     take-take n (e - s) (drop s xs) (omega arith) ∙ ap (λ k. take k (drop s xs)) (sym width)
 
--- where the main piece ends before the buffer does, there is no front piece
+-- if the main range ends before the buffer does, no bytes wrap around
 pub no_front : (f e size : ℕ) → (0 < f → e ≡ size) → e < size → f ≡ 0
 no_front zero e size wraps short = refl
 no_front (suc f) e size wraps short = absurd (omega (arith, wraps (omega arith)))
@@ -62,14 +62,14 @@ no_front (suc f) e size wraps short = absurd (omega (arith, wraps (omega arith))
 pub length_range : (xs : List ℕ) (s e : ℕ) → e ≤ length xs → length (slice_range xs s e) ≡ e - s
 length_range xs s e within = length-take-le (e - s) (drop s xs) (omega (arith, length-drop s xs))
 
--- what stands behind a part that was written over
+-- the items after an overwritten range
 pub drop_written : (items xs ys rest : List ℕ) (s e len : ℕ) → xs ≡ items → s ≤ e → e ≤ length items → length ys ≡ e - s → len ≡ length items → drop e (take len (put_mid s (e - s) xs ys ++ rest)) ≡ drop e items
 drop_written items xs ys rest s e len is le within same all =
     let fits : e ≤ length xs = omega (arith, ap length is) in
     let long : length (put_mid s (e - s) xs ys) ≡ len = same_len_mid s (e - s) xs ys (same ∙ sym (mid_len s e xs fits)) ∙ ap length is ∙ sym all in
     ap (drop e) (take_at (put_mid s (e - s) xs ys) rest len long) ∙ drop_put s e xs ys le fits same ∙ ap (drop e) is
 
--- fewer bytes than the main piece has are taken off its front
+-- fewer bytes than those of the main range are consumed
 pub main_drops : (xs t : List ℕ) (s e n : ℕ) → n ≤ e - s → e ≤ length xs → slice_range xs (s + n) e ++ t ≡ drop n (slice_range xs s e ++ t)
 main_drops xs t s e n le within =
     let width : n + (e - (s + n)) ≡ e - s = omega arith in
@@ -78,7 +78,7 @@ main_drops xs t s e n le within =
     ap (λ k. drop n (take k (drop s xs))) (sym width) ∙ drop-take n (e - (s + n)) (drop s xs) ∙ ap (take (e - (s + n))) (drop-drop n s xs) in
     ap (λ l. l ++ t) (sym moved) ∙ sym (drop-append-le n (slice_range xs s e) t fits)
 
--- the whole main piece a is taken, and k more bytes of the front piece
+-- the whole main range a is consumed, and k more bytes of the prefix that wraps around
 pub both_taken : (a xs : List ℕ) (f k n : ℕ) → n ≡ length a + k → k ≤ f → a ++ take k xs ≡ take n (a ++ take f xs)
 both_taken a xs f k n at le = ap (λ l. a ++ l) (sym (take-take k f xs le)) ∙ sym (take-append-add a (take f xs) k) ∙ ap (λ m. take m (a ++ take f xs)) (sym at)
 
@@ -87,7 +87,7 @@ both_dropped a xs f k n at le =
     let width : k + (f - k) ≡ f = omega arith in
     append-nil (slice_range xs k f) ∙ sym (drop-take k (f - k) xs) ∙ ap (λ m. drop k (take m xs)) width ∙ sym (drop-append-add a (take f xs) k) ∙ ap (λ m. drop m (a ++ take f xs)) (sym at)
 
--- all that is left of a list is taken, and then k bytes of the next
+-- the rest of a list is consumed, and then k bytes of the next list
 pub over_taken : (over part ring : List ℕ) (p size k n : ℕ) → size ≡ length over → n ≡ (size - p) + k → part ≡ take k ring
     → slice_range over p size ++ part ≡ take n (drop p over ++ ring)
 over_taken over part ring p size k n len at is =
@@ -104,7 +104,7 @@ over_dropped over rest ring p size k n len at is =
     ap₂ (λ a b. a ++ b) (drop_all size over (omega arith)) is
     ∙ sym (drop-append-add (drop p over) ring k) ∙ ap (λ m. drop m (drop p over ++ ring)) (sym sum)
 
--- a part is taken off the front of what is held
+-- a part is consumed from the start of the buffered bytes
 pub part_taken : (held part left : List ℕ) (rest : Option (List ℕ)) (n : ℕ) → part ≡ take n held → left ≡ drop n held → prepend held rest ≡ prepend part (prepend left rest)
 part_taken held part left rest n is over =
     ap (λ l. prepend l rest) (sym (take-append-drop n held)) ∙ sym (prepend-append (take n held) (drop n held) rest) ∙ ap₂ (λ a b. prepend a (prepend b rest)) (sym is) (sym over)

@@ -1,23 +1,23 @@
--- Where a load record's code stands.
+-- The offset of a load record's code.
 use Rattle.std.proofs.Common.{◌≡◌, ℕ, ◌+◌, ◌-◌, ◌≤◌, List, [], ◌∷◌, ◌++◌, take, drop, length, sym, ap, ◌∙◌, append_assoc, arith, length-append, length-drop}
 use Rattle.std.proofs.lemmas.List.{take-append-drop, length-take-le}
 use Rattle.std.proofs.Math.Seq.{take-append_seam, drop-append_seam}
 use Rattle.std.specs.List.{slice_range}
 use Rattle.perfdata_base.specs.Raw.{bytes_of}
-use Rattle.perfdata_jit.specs.JitRecords.{CodeStandsAtItsPlace}
+use Rattle.perfdata_jit.specs.JitRecords.{CodeIsAtOffset}
 
--- a part behind a front
+-- the range of a part after a prefix
 range_behind : (front part rest : List ℕ) (at : ℕ) → at ≡ length front → slice_range (front ++ (part ++ rest)) at (at + length part) ≡ part
 range_behind front part rest at is =
     ap (λ l. take (at + length part - at) l) (ap (λ n. drop n (front ++ (part ++ rest))) is ∙ drop-append_seam front (part ++ rest))
     ∙ ap (λ n. take n (part ++ rest)) (let m = at + length part - at in let e : m ≡ length part = omega arith in e) ∙ take-append_seam part rest
 
-pub code_stands : CodeStandsAtItsPlace
-code_stands number head body load sixteen is =
+pub code_is_at_offset : CodeIsAtOffset
+code_is_at_offset number head body load sixteen is =
     let name = bytes_of load.function_name in
     let code = bytes_of load.code_bytes in
-    let behind : List ℕ = is.behind in
-    let cut = is.text.cut in
+    let behind : List ℕ = is.after_body in
+    let cut = is.name_text.split in
     let long = length-append name (0 ∷ (code ++ behind)) in
     let room : 40 ≤ length body = omega (arith, length-drop 40 body, ap length cut, long) in
     let front = head ++ (take 40 body ++ (name ++ (0 ∷ []))) in

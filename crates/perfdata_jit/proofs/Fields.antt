@@ -1,9 +1,9 @@
--- Numbers at fixed places of the first bytes.
+-- Numbers at fixed offsets of the first bytes.
 use Rattle.std.proofs.Common.{◌≡◌, ℕ, ◌+◌, ◌≤◌, ◌++◌, List, length, take, drop, sym, ap, ◌∙◌, arith, length-drop}
 use Rattle.std.proofs.lemmas.List.{take-append-drop, length-take-le}
 use Rattle.perfdata_base.proofs.Numbers.{ReadsFirst, first_take, first_drop_front}
 
--- a number at place k of the first m bytes, read from a piece of j bytes there
+-- a number at offset k of the first m bytes, read from the j bytes at this offset
 pub number_within : (number : ℕ → List ℕ → ℕ) → ReadsFirst number → (n k j m : ℕ) (xs head : List ℕ) → head ≡ take m xs → m ≤ length xs → n ≤ j → k + j ≤ m
     → number n (take j (drop k head)) ≡ number n (drop k xs)
 number_within number first n k j m xs head is room small within =
@@ -12,16 +12,16 @@ number_within number first n k j m xs head is room small within =
     ∙ first_take number first n j (drop k (take m xs)) small (omega (arith, length-drop k (take m xs)))
     ∙ sym (first_drop_front number first n k (take m xs) (drop m xs) (omega arith)) ∙ ap (λ l. number n (drop k l)) (take-append-drop m xs)
 
--- the same, read from all that stands there
+-- the same number, read from all bytes at this offset
 pub number_at : (number : ℕ → List ℕ → ℕ) → ReadsFirst number → (n k m : ℕ) (xs head : List ℕ) → head ≡ take m xs → m ≤ length xs → k + n ≤ m → number n (drop k head) ≡ number n (drop k xs)
 number_at number first n k m xs head is room within =
     let long = length-take-le m xs room in
     ap (λ l. number n (drop k l)) is
     ∙ sym (first_drop_front number first n k (take m xs) (drop m xs) (omega (arith, long))) ∙ ap (λ l. number n (drop k l)) (take-append-drop m xs)
 
--- what was cut in two
-pub cut_again : (n : ℕ) (xs front rest : List ℕ) → front ≡ take n xs → rest ≡ drop n xs → xs ≡ front ++ rest
-cut_again n xs front rest is left = sym (take-append-drop n xs) ∙ (λ i. (sym is i) ++ (sym left i))
+-- a list is its prefix followed by its suffix
+pub truncated_again : (n : ℕ) (xs front rest : List ℕ) → front ≡ take n xs → rest ≡ drop n xs → xs ≡ front ++ rest
+truncated_again n xs front rest is left = sym (take-append-drop n xs) ∙ (λ i. (sym is i) ++ (sym left i))
 
-pub cut_long : (n : ℕ) (xs front : List ℕ) → n ≤ length xs → front ≡ take n xs → length front ≡ n
-cut_long n xs front room is = ap length is ∙ length-take-le n xs room
+pub truncated_long : (n : ℕ) (xs front : List ℕ) → n ≤ length xs → front ≡ take n xs → length front ≡ n
+truncated_long n xs front room is = ap length is ∙ length-take-le n xs room

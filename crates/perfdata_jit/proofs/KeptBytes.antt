@@ -1,104 +1,104 @@
--- What a buffered reader holds as bytes come.
+-- The state of a buffered reader as bytes are read.
 use Rattle.std.proofs.Common.{◌≡◌, ℕ, ◌≤◌, List, ◌++◌, length, sym, ap, ◌∙◌, append_assoc, Bool, ap₂, take, arith}
-use Rattle.perfdata_base.proofs.Gives.{gave_more, prepend_more}
-use Rattle.perfdata_base.specs.Source.{State, prepend, Gave}
+use Rattle.perfdata_base.proofs.ConsumedLemmas.{consumed_more, prepend_more}
+use Rattle.perfdata_base.specs.Source.{State, prepend, Consumed}
 use Rattle.std.specs.Prelude.{true, false, Ok}
 use Rattle.std.proofs.lemmas.List.{length-take-le, take-append-drop}
-use Rattle.perfdata_jit.proofs.Ranges.{part_taken}
-use Rattle.perfdata_jit.specs.BufferedReader.{Keeps, Asks, AskedWhole, AskedShort, ConsumedPart, ConsumedHead, TakesFront, Skips, SkippedPart, SkippedNone, is_overflow_used_up, view, held_in, overflow_of, room_of, size_of, source_of, is_lost}
+use Rattle.perfdata_jit.proofs.BufferRanges.{part_taken}
+use Rattle.perfdata_jit.specs.BufferedReader.{KeepsBytes, EnsuresBuffered, BufferedEnough, BufferedTooFew, PartConsumed, HeaderConsumed, ConsumesBuffered, SkipsBytes, PartSkipped, BytesNotSkipped, IsReaderOverflowConsumed, reader_source_state, buffered_in, overflow_len_of, overflow_capacity_of, ring_capacity_of, source_of, has_seek_failed}
 use Rattle.perfdata_jit.specs.declared.buffered_reader.BufferedReader.{BufferedReader}
 
--- the flat bytes stay where what came is held
-pub flat_kept : (old new : State) (held now came : List ℕ) → Gave old came new → now ≡ held ++ came → prepend held old.bytes ≡ prepend now new.bytes
-flat_kept old new held now came gave holds = ap (prepend held) gave.bytes ∙ prepend_more held came new.bytes ∙ ap (λ l. prepend l new.bytes) (sym holds)
+-- the unread bytes are unchanged if the bytes that were read are buffered
+pub unread_kept : (old new : State) (held now came : List ℕ) → Consumed old came new → now ≡ held ++ came → prepend held old.bytes ≡ prepend now new.bytes
+unread_kept old new held now came gave holds = ap (prepend held) gave.bytes ∙ prepend_more held came new.bytes ∙ ap (λ l. prepend l new.bytes) (sym holds)
 
-module _ {R : Type 0} (seen : R → State) where
-  pub keeps_by : (old new : BufferedReader R) (came : List ℕ) → Gave (view seen old) came (view seen new) → held_in new ≡ held_in old ++ came → size_of new ≡ size_of old → is_lost new ≡ is_lost old → Keeps seen old new
+module _ {R : Type 0} (state : R → State) where
+  pub keeps_by : (old new : BufferedReader R) (came : List ℕ) → Consumed (reader_source_state state old) came (reader_source_state state new) → buffered_in new ≡ buffered_in old ++ came → ring_capacity_of new ≡ ring_capacity_of old → has_seek_failed new ≡ has_seek_failed old → KeepsBytes state old new
   keeps_by old new came gave holds size lost = record {
-    came = came;
-    gave = gave;
-    holds = holds;
-    flat = flat_kept (view seen old) (view seen new) (held_in old) (held_in new) came gave holds;
-    size = size;
-    lost = lost;
+    consumed_bytes = came;
+    consumes = gave;
+    buffer_content = holds;
+    unread_bytes = unread_kept (reader_source_state state old) (reader_source_state state new) (buffered_in old) (buffered_in new) came gave holds;
+    ring_capacity = size;
+    seek_state_kept = lost;
   }
 
-  -- and more came
-  pub keeps_more : (old mid new : BufferedReader R) (came : List ℕ) → Keeps seen old mid → Gave (view seen mid) came (view seen new) → held_in new ≡ held_in mid ++ came → size_of new ≡ size_of mid → is_lost new ≡ is_lost mid → Keeps seen old new
+  -- more bytes are read
+  pub keeps_more : (old mid new : BufferedReader R) (came : List ℕ) → KeepsBytes state old mid → Consumed (reader_source_state state mid) came (reader_source_state state new) → buffered_in new ≡ buffered_in mid ++ came → ring_capacity_of new ≡ ring_capacity_of mid → has_seek_failed new ≡ has_seek_failed mid → KeepsBytes state old new
   keeps_more old mid new came k gave holds size lost =
-      keeps_by old new (k.came ++ came) (gave_more (view seen old) (view seen mid) (view seen new) k.came came k.gave gave)
-      (holds ∙ ap (λ l. l ++ came) k.holds ∙ append_assoc (held_in old) k.came came) (size ∙ k.size) (lost ∙ k.lost)
+      keeps_by old new (k.consumed_bytes ++ came) (consumed_more (reader_source_state state old) (reader_source_state state mid) (reader_source_state state new) k.consumed_bytes came k.consumes gave)
+      (holds ∙ ap (λ l. l ++ came) k.buffer_content ∙ append_assoc (buffered_in old) k.consumed_bytes came) (size ∙ k.ring_capacity) (lost ∙ k.seek_state_kept)
 
-  -- the bytes are held where the answer says so
-  pub whole_if : (n : ℕ) (old new : BufferedReader R) (whole : Bool) → whole ≡ true → Asks seen n old (Ok whole) new → AskedWhole seen n old new
+  -- the bytes are buffered if the result is true
+  pub whole_if : (n : ℕ) (old new : BufferedReader R) (whole : Bool) → whole ≡ true → EnsuresBuffered state n old (Ok whole) new → BufferedEnough state n old new
   whole_if n old new true is asks = asks
   whole_if n old new false is asks = absurd cc
 
-  pub short_if : (n : ℕ) (old new : BufferedReader R) (whole : Bool) → whole ≡ false → Asks seen n old (Ok whole) new → AskedShort seen n old new
+  pub short_if : (n : ℕ) (old new : BufferedReader R) (whole : Bool) → whole ≡ false → EnsuresBuffered state n old (Ok whole) new → BufferedTooFew state n old new
   short_if n old new true is asks = absurd cc
   short_if n old new false is asks = asks
 
-  pub skipped_if : (n : ℕ) (old new : BufferedReader R) (passed : Bool) → passed ≡ true → Skips seen n old (Ok passed) new → SkippedPart seen n old new
+  pub skipped_if : (n : ℕ) (old new : BufferedReader R) (passed : Bool) → passed ≡ true → SkipsBytes state n old (Ok passed) new → PartSkipped state n old new
   skipped_if n old new true is skips = skips
   skipped_if n old new false is skips = absurd cc
 
-  pub unskipped_if : (n : ℕ) (old new : BufferedReader R) (passed : Bool) → passed ≡ false → Skips seen n old (Ok passed) new → SkippedNone seen n old new
+  pub unskipped_if : (n : ℕ) (old new : BufferedReader R) (passed : Bool) → passed ≡ false → SkipsBytes state n old (Ok passed) new → BytesNotSkipped state n old new
   unskipped_if n old new true is skips = absurd cc
   unskipped_if n old new false is skips = skips
 
-  -- the part that was asked for was taken
-  pub consumed : (n : ℕ) (old mid new : BufferedReader R) (part : List ℕ) → AskedWhole seen n old mid → part ≡ take n (held_in mid) → TakesFront seen n mid new → is_lost old ≡ false → ConsumedPart seen n old part new
+  -- the requested part is consumed
+  pub consumed : (n : ℕ) (old mid new : BufferedReader R) (part : List ℕ) → BufferedEnough state n old mid → part ≡ take n (buffered_in mid) → ConsumesBuffered state n mid new → has_seek_failed old ≡ false → PartConsumed state n old part new
   consumed n old mid new part asked value left found =
-      let held = held_in mid in
-      let k = asked.keeps in
-      let still : view seen new ≡ view seen mid = ap seen left.source in
-      let cut : held ≡ part ++ held_in new = sym (take-append-drop n held) ∙ ap₂ (λ a b. a ++ b) (sym value) (sym left.held) in
+      let held = buffered_in mid in
+      let k = asked.keeps_bytes in
+      let still : reader_source_state state new ≡ reader_source_state state mid = ap state left.source in
+      let cut : held ≡ part ++ buffered_in new = sym (take-append-drop n held) ∙ ap₂ (λ a b. a ++ b) (sym value) (sym left.buffered_bytes) in
       record {
-        long = ap length value ∙ length-take-le n held asked.whole;
-        flat = k.flat ∙ part_taken held part (held_in new) (view seen mid).bytes n value left.held ∙ ap (λ (s : State). prepend part (prepend (held_in new) s.bytes)) (sym still);
-        came = k.came;
-        gave = rw still k.gave;
-        holds = sym k.holds ∙ cut;
-        front = λ le. sym (asked.still le) ∙ cut;
-        asks = record {
-          asked = λ less. omega (arith, asked.asks.asked less, left.overflow);
-          had = λ le. omega (arith, asked.asks.had le, left.overflow);
-          fits = λ le. omega (arith, asked.asks.fits le, left.overflow);
-          spared = λ le. left.room ∙ asked.asks.spared le;
-          quiet = λ le. left.source ∙ asked.asks.quiet le;
+        exact_len = ap length value ∙ length-take-le n held asked.is_buffered;
+        unread_bytes = k.unread_bytes ∙ part_taken held part (buffered_in new) (reader_source_state state mid).bytes n value left.buffered_bytes ∙ ap (λ (s : State). prepend part (prepend (buffered_in new) s.bytes)) (sym still);
+        consumed_bytes = k.consumed_bytes;
+        consumes = rw still k.consumes;
+        buffer_content = sym k.buffer_content ∙ cut;
+        if_buffered = λ le. sym (asked.buffer_unchanged le) ∙ cut;
+        reads_only_needed = record {
+          overflow_bound = λ less. omega (arith, asked.reads_only_needed.overflow_bound less, left.overflow_size);
+          no_growth_if_buffered = λ le. omega (arith, asked.reads_only_needed.no_growth_if_buffered le, left.overflow_size);
+          no_growth_if_fits = λ le. omega (arith, asked.reads_only_needed.no_growth_if_fits le, left.overflow_size);
+          no_allocation_if_fits = λ le. left.overflow_capacity ∙ asked.reads_only_needed.no_allocation_if_fits le;
+          source_unchanged = λ le. left.source ∙ asked.reads_only_needed.source_unchanged le;
         };
-        used_up = λ less. left.used_up (omega (arith, asked.asks.asked less));
-        counts = rw still asked.counts;
-        size = left.size ∙ k.size;
-        found = found;
-        finds = left.lost ∙ k.lost ∙ found;
+        overflow_consumed = λ less. left.overflow_consumed (omega (arith, asked.reads_only_needed.overflow_bound less));
+        same_counts = rw still asked.same_counts;
+        ring_capacity = left.ring_capacity ∙ k.ring_capacity;
+        seek_ok_before = found;
+        seek_ok_after = left.seek_state_kept ∙ k.seek_state_kept ∙ found;
       }
 
-  -- a head was copied, and a used up overflow buffer emptied
-  pub head_copied : (old mid new : BufferedReader R) (part head : List ℕ) → ConsumedPart seen 16 old part mid → head ≡ part → source_of new ≡ source_of mid → held_in new ≡ held_in mid → overflow_of new ≤ overflow_of mid → (is_overflow_used_up mid → overflow_of new ≡ 0)
-      → (is_overflow_used_up mid → is_overflow_used_up new) → room_of new ≡ room_of mid → size_of new ≡ size_of mid → is_lost new ≡ is_lost mid → ConsumedHead seen old head new
-  head_copied old mid new part head c is source held shorter emptied used_up room size lost =
-      let still : view seen new ≡ view seen mid = ap seen source in
+  -- a header is copied, and a consumed overflow buffer is emptied
+  pub header_copied : (old mid new : BufferedReader R) (part head : List ℕ) → PartConsumed state 16 old part mid → head ≡ part → source_of new ≡ source_of mid → buffered_in new ≡ buffered_in mid → overflow_len_of new ≤ overflow_len_of mid → (IsReaderOverflowConsumed mid → overflow_len_of new ≡ 0)
+      → (IsReaderOverflowConsumed mid → IsReaderOverflowConsumed new) → overflow_capacity_of new ≡ overflow_capacity_of mid → ring_capacity_of new ≡ ring_capacity_of mid → has_seek_failed new ≡ has_seek_failed mid → HeaderConsumed state old head new
+  header_copied old mid new part head c is source held shorter emptied used_up room size lost =
+      let still : reader_source_state state new ≡ reader_source_state state mid = ap state source in
       record {
-        part = record {
-          long = ap length is ∙ c.long;
-          flat = c.flat ∙ ap (λ l. prepend l (prepend (held_in mid) (view seen mid).bytes)) (sym is) ∙ ap₂ (λ l (s : State). prepend head (prepend l s.bytes)) (sym held) (sym still);
-          came = c.came;
-          gave = rw still c.gave;
-          holds = c.holds ∙ ap₂ (λ a b. a ++ b) (sym is) (sym held);
-          front = λ le. c.front le ∙ ap₂ (λ a b. a ++ b) (sym is) (sym held);
-          asks = record {
-            asked = λ less. omega (arith, c.asks.asked less, shorter);
-            had = λ le. omega (arith, c.asks.had le, shorter);
-            fits = λ le. omega (arith, c.asks.fits le, shorter);
-            spared = λ le. room ∙ c.asks.spared le;
-            quiet = λ le. source ∙ c.asks.quiet le;
+        consumes = record {
+          exact_len = ap length is ∙ c.exact_len;
+          unread_bytes = c.unread_bytes ∙ ap (λ l. prepend l (prepend (buffered_in mid) (reader_source_state state mid).bytes)) (sym is) ∙ ap₂ (λ l (s : State). prepend head (prepend l s.bytes)) (sym held) (sym still);
+          consumed_bytes = c.consumed_bytes;
+          consumes = rw still c.consumes;
+          buffer_content = c.buffer_content ∙ ap₂ (λ a b. a ++ b) (sym is) (sym held);
+          if_buffered = λ le. c.if_buffered le ∙ ap₂ (λ a b. a ++ b) (sym is) (sym held);
+          reads_only_needed = record {
+            overflow_bound = λ less. omega (arith, c.reads_only_needed.overflow_bound less, shorter);
+            no_growth_if_buffered = λ le. omega (arith, c.reads_only_needed.no_growth_if_buffered le, shorter);
+            no_growth_if_fits = λ le. omega (arith, c.reads_only_needed.no_growth_if_fits le, shorter);
+            no_allocation_if_fits = λ le. room ∙ c.reads_only_needed.no_allocation_if_fits le;
+            source_unchanged = λ le. source ∙ c.reads_only_needed.source_unchanged le;
           };
-          used_up = λ less. used_up (c.used_up less);
-          counts = rw still c.counts;
-          size = size ∙ c.size;
-          found = c.found;
-          finds = lost ∙ c.finds;
+          overflow_consumed = λ less. used_up (c.overflow_consumed less);
+          same_counts = rw still c.same_counts;
+          ring_capacity = size ∙ c.ring_capacity;
+          seek_ok_before = c.seek_ok_before;
+          seek_ok_after = lost ∙ c.seek_ok_after;
         };
-        emptied = λ less. emptied (c.used_up less);
+        overflow_empty = λ less. emptied (c.overflow_consumed less);
       }

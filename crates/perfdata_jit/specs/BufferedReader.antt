@@ -1,217 +1,220 @@
--- What a `BufferedReader` holds and is to give, and what its calls do.
+-- The state of a `BufferedReader`, and what its calls do.
 use Rattle.std.specs.Prelude.{◌≡◌, ℕ, ◌+◌, ◌<◌, ◌≤◌, ◌⊎◌, IsTrue, Bool, true, false, List, ◌++◌, length, drop, IfSome, Option, None, Some, Result, Ok, Err}
 use Rattle.std.specs.IoError.{error_kind}
 use Rattle.std.specs.declared.io.Error.{Error}
 use Rattle.std.specs.declared.io.ErrorKind.TheVariants.{Other, OutOfMemory}
 use Rattle.perfdata_base.specs.Raw.{bytes_of}
 use Rattle.perfdata_base.specs.declared.raw.RawData.{RawData}
-use Rattle.perfdata_base.specs.Source.{State, all_of, prepend, Gave, GaveNone, Failed}
-use Rattle.perfdata_jit.specs.Held.{held_bytes, is_used_up, overflow_len, overflow_room, held_size}
+use Rattle.perfdata_base.specs.Source.{State, all_bytes_of, prepend, Consumed, EndedOrPaused, SourceFailed}
+use Rattle.perfdata_jit.specs.ReadBuffer.{read_buffer_bytes, IsOverflowConsumed, overflow_len, overflow_capacity, ring_capacity}
 use Rattle.perfdata_jit.specs.declared.buffered_reader.BufferedReader.{BufferedReader}
 
 -- the source
 abbrev pub source_of : {R : Type 0} → BufferedReader R → R
 source_of r = r.source
 
--- the bytes that came and are not taken
-abbrev pub held_in : {R : Type 0} → BufferedReader R → List ℕ
-held_in r = held_bytes r.held
+-- the bytes that are read but not consumed
+abbrev pub buffered_in : {R : Type 0} → BufferedReader R → List ℕ
+buffered_in r = read_buffer_bytes r.buffer
 
--- how long the overflow buffer is
-abbrev pub overflow_of : {R : Type 0} → BufferedReader R → ℕ
-overflow_of r = overflow_len r.held
+-- the length of the overflow buffer
+abbrev pub overflow_len_of : {R : Type 0} → BufferedReader R → ℕ
+overflow_len_of r = overflow_len r.buffer
 
--- all of it was taken
-abbrev pub is_overflow_used_up : {R : Type 0} → BufferedReader R → Type 0
-is_overflow_used_up r = is_used_up r.held
+-- all bytes of the overflow buffer are consumed
+abbrev pub IsReaderOverflowConsumed : {R : Type 0} → BufferedReader R → Type 0
+IsReaderOverflowConsumed r = IsOverflowConsumed r.buffer
 
--- for how many bytes the overflow buffer has memory
-abbrev pub room_of : {R : Type 0} → BufferedReader R → ℕ
-room_of r = overflow_room r.held
+-- the capacity of the overflow buffer
+abbrev pub overflow_capacity_of : {R : Type 0} → BufferedReader R → ℕ
+overflow_capacity_of r = overflow_capacity r.buffer
 
--- the length of the fixed buffer
-abbrev pub size_of : {R : Type 0} → BufferedReader R → ℕ
-size_of r = held_size r.held
+-- the capacity of the ring
+abbrev pub ring_capacity_of : {R : Type 0} → BufferedReader R → ℕ
+ring_capacity_of r = ring_capacity r.buffer
 
--- a seek has failed, and where the source stands is open
-abbrev pub is_lost : {R : Type 0} → BufferedReader R → Bool
-is_lost r = r.lost
+-- whether a seek has failed; the position of the source is unspecified then
+abbrev pub has_seek_failed : {R : Type 0} → BufferedReader R → Bool
+has_seek_failed r = r.seek_failed
 
--- no fault and no empty answer was counted
+-- neither an error nor an empty read was counted
 pub record SameCounts (old new : State) : Type 0 where
-  pub faults : new.faults ≡ old.faults
+  pub errors : new.errors ≡ old.errors
   pub pauses : new.pauses ≡ old.pauses
 
--- a source that was sought in has the same bytes in all, and a steady one stays so
+-- after seeks, all bytes of the source are the same, and a steady source remains steady
 pub record SameSource (old new : State) : Type 0 where
-  pub all : all_of new.place ≡ all_of old.place
+  pub all : all_bytes_of new.position ≡ all_bytes_of old.position
   pub steady : IsTrue old.steady → IsTrue new.steady
 
--- there was no memory for a part of n bytes, which is longer than the fixed buffer
-pub record IsFull (size n : ℕ) (e : Error) : Type 0 where
-  pub long : size < n
+-- an allocation failed for n bytes, which exceed the capacity of the ring
+pub record IsOverflowAllocError (size n : ℕ) (e : Error) : Type 0 where
+  pub exceeds_ring : size < n
   pub kind : error_kind e ≡ OutOfMemory
 
--- the reader refuses since a seek failed, and does nothing
-pub record SaysLost {J : Type 0} (is_gone : Bool) (old : J) (e : Error) (new : J) : Type 0 where
-  pub lost : is_gone ≡ true
+-- the reader fails because a seek has failed, and its state is unchanged
+pub record FailsAfterSeekError {J : Type 0} (is_gone : Bool) (old : J) (e : Error) (new : J) : Type 0 where
+  pub seek_failed : is_gone ≡ true
   pub kind : error_kind e ≡ Other
-  pub same : new ≡ old
+  pub unchanged : new ≡ old
 
-module _ {R : Type 0} (seen : R → State) where
-  -- the source as contracts see it
-  abbrev pub view : BufferedReader R → State
-  view r = seen r.source
+module _ {R : Type 0} (state : R → State) where
+  -- the source's state in contracts
+  abbrev pub reader_source_state : BufferedReader R → State
+  reader_source_state r = state r.source
 
-  -- the bytes held, and behind them the source's bytes to come
-  abbrev pub flat_bytes : BufferedReader R → Option (List ℕ)
-  flat_bytes r = prepend (held_in r) (view r).bytes
+  -- the buffered bytes, followed by the remaining bytes of the source
+  abbrev pub unread_bytes : BufferedReader R → Option (List ℕ)
+  unread_bytes r = prepend (buffered_in r) (reader_source_state r).bytes
 
-  -- Bytes may have come from the source, and are held behind those that were. Nothing is lost.
-  pub record Keeps (old new : BufferedReader R) : Type 0 where
-    pub came : List ℕ
-    pub gave : Gave (view old) came (view new)
-    pub holds : held_in new ≡ held_in old ++ came
-    pub flat : flat_bytes old ≡ flat_bytes new
-    pub size : size_of new ≡ size_of old
-    pub lost : is_lost new ≡ is_lost old
+  -- Bytes may have been read, and are buffered after the earlier ones. No byte is lost.
+  pub record KeepsBytes (old new : BufferedReader R) : Type 0 where
+    pub consumed_bytes : List ℕ
+    pub consumes : Consumed (reader_source_state old) consumed_bytes (reader_source_state new)
+    pub buffer_content : buffered_in new ≡ buffered_in old ++ consumed_bytes
+    pub unread_bytes : unread_bytes old ≡ unread_bytes new
+    pub ring_capacity : ring_capacity_of new ≡ ring_capacity_of old
+    pub seek_state_kept : has_seek_failed new ≡ has_seek_failed old
 
-  -- Where fewer than n bytes were held the source was asked, and the overflow buffer is shorter than n. Otherwise the source
-  -- wasn't, and the overflow buffer is no longer than it was; nor is it where the fixed buffer has room for n bytes, and then it
-  -- gets no memory.
-  pub record AsksOnlyFor (n : ℕ) (old new : BufferedReader R) : Type 0 where
-    pub asked : length (held_in old) < n → overflow_of new < n
-    pub had : n ≤ length (held_in old) → overflow_of new ≤ overflow_of old
-    pub fits : n ≤ size_of old → overflow_of new ≤ overflow_of old
-    pub spared : n ≤ size_of old → room_of new ≡ room_of old
-    pub quiet : n ≤ length (held_in old) → source_of new ≡ source_of old
+  -- If fewer than n bytes were buffered, the source was read, and the overflow buffer is shorter than n. Otherwise the
+  -- source is unchanged, and the overflow buffer doesn't grow. If n bytes fit in the ring, the overflow buffer doesn't
+  -- grow, and its capacity is unchanged.
+  pub record ReadsOnlyFor (n : ℕ) (old new : BufferedReader R) : Type 0 where
+    pub overflow_bound : length (buffered_in old) < n → overflow_len_of new < n
+    pub no_growth_if_buffered : n ≤ length (buffered_in old) → overflow_len_of new ≤ overflow_len_of old
+    pub no_growth_if_fits : n ≤ ring_capacity_of old → overflow_len_of new ≤ overflow_len_of old
+    pub no_allocation_if_fits : n ≤ ring_capacity_of old → overflow_capacity_of new ≡ overflow_capacity_of old
+    pub source_unchanged : n ≤ length (buffered_in old) → source_of new ≡ source_of old
 
-  -- n bytes are held, and the source wasn't asked for more once they were, for it has counted nothing; where they were held none came
-  pub record AskedWhole (n : ℕ) (old new : BufferedReader R) : Type 0 where
-    pub keeps : Keeps old new
-    pub asks : AsksOnlyFor n old new
-    pub still : n ≤ length (held_in old) → held_in new ≡ held_in old
-    pub whole : n ≤ length (held_in new)
-    pub counts : SameCounts (view old) (view new)
+  -- n bytes are buffered, and the source wasn't read after that, since it counted nothing; if they were buffered before, no
+  -- byte was read
+  pub record BufferedEnough (n : ℕ) (old new : BufferedReader R) : Type 0 where
+    pub keeps_bytes : KeepsBytes old new
+    pub reads_only_needed : ReadsOnlyFor n old new
+    pub buffer_unchanged : n ≤ length (buffered_in old) → buffered_in new ≡ buffered_in old
+    pub is_buffered : n ≤ length (buffered_in new)
+    pub same_counts : SameCounts (reader_source_state old) (reader_source_state new)
 
-  -- fewer are held, and the source gave none once, and failed in no read
-  pub record AskedShort (n : ℕ) (old new : BufferedReader R) : Type 0 where
-    pub keeps : Keeps old new
-    pub asks : AsksOnlyFor n old new
-    pub few : length (held_in new) < n
-    pub none : GaveNone (view old) (view new)
-    pub once : (view new).pauses ≤ (view old).pauses + 1
-    pub faults : (view new).faults ≡ (view old).faults
+  -- fewer than n bytes are buffered: one read was empty, and no read failed
+  pub record BufferedTooFew (n : ℕ) (old new : BufferedReader R) : Type 0 where
+    pub keeps_bytes : KeepsBytes old new
+    pub reads_only_needed : ReadsOnlyFor n old new
+    pub too_few : length (buffered_in new) < n
+    pub ended_or_paused : EndedOrPaused (reader_source_state old) (reader_source_state new)
+    pub at_most_one_pause : (reader_source_state new).pauses ≤ (reader_source_state old).pauses + 1
+    pub errors : (reader_source_state new).errors ≡ (reader_source_state old).errors
 
-  -- fewer are held, and the source failed, or there was no memory for a part that is longer than the fixed buffer; it gave none in no read
-  pub record AskRefused (n : ℕ) (old : BufferedReader R) (e : Error) (new : BufferedReader R) : Type 0 where
-    pub keeps : Keeps old new
-    pub asks : AsksOnlyFor n old new
-    pub few : length (held_in new) < n
-    pub why : Failed (view old) (view new) ⊎ (IsFull (size_of old) n e × SameCounts (view old) (view new))
-    pub pauses : (view new).pauses ≡ (view old).pauses
+  -- fewer than n bytes are buffered: the source failed, or an allocation failed for more bytes than the ring's capacity; no
+  -- read was empty
+  pub record BufferingError (n : ℕ) (old : BufferedReader R) (e : Error) (new : BufferedReader R) : Type 0 where
+    pub keeps_bytes : KeepsBytes old new
+    pub reads_only_needed : ReadsOnlyFor n old new
+    pub too_few : length (buffered_in new) < n
+    pub cause : SourceFailed (reader_source_state old) (reader_source_state new) ⊎ (IsOverflowAllocError (ring_capacity_of old) n e × SameCounts (reader_source_state old) (reader_source_state new))
+    pub pauses : (reader_source_state new).pauses ≡ (reader_source_state old).pauses
 
-  -- what an ask for n bytes does
-  abbrev pub Asks : ℕ → BufferedReader R → Result Bool Error → BufferedReader R → Type 0
-  Asks n old (Ok true) new = AskedWhole n old new
-  Asks n old (Ok false) new = AskedShort n old new
-  Asks n old (Err e) new = AskRefused n old e new
+  -- what a call to buffer n bytes does
+  abbrev pub EnsuresBuffered : ℕ → BufferedReader R → Result Bool Error → BufferedReader R → Type 0
+  EnsuresBuffered n old (Ok true) new = BufferedEnough n old new
+  EnsuresBuffered n old (Ok false) new = BufferedTooFew n old new
+  EnsuresBuffered n old (Err e) new = BufferingError n old e new
 
-  -- The first n bytes held were taken, and nothing else was done. An overflow buffer no longer than n is used up.
-  pub record TakesFront (n : ℕ) (old new : BufferedReader R) : Type 0 where
-    pub held : held_in new ≡ drop n (held_in old)
+  -- The first n buffered bytes are consumed, and nothing else changes. An overflow buffer no longer than n is consumed
+  -- completely.
+  pub record ConsumesBuffered (n : ℕ) (old new : BufferedReader R) : Type 0 where
+    pub buffered_bytes : buffered_in new ≡ drop n (buffered_in old)
     pub source : source_of new ≡ source_of old
-    pub overflow : overflow_of new ≡ overflow_of old
-    pub used_up : overflow_of old ≤ n → is_overflow_used_up new
-    pub room : room_of new ≡ room_of old
-    pub size : size_of new ≡ size_of old
-    pub lost : is_lost new ≡ is_lost old
+    pub overflow_size : overflow_len_of new ≡ overflow_len_of old
+    pub overflow_consumed : overflow_len_of old ≤ n → IsReaderOverflowConsumed new
+    pub overflow_capacity : overflow_capacity_of new ≡ overflow_capacity_of old
+    pub ring_capacity : ring_capacity_of new ≡ ring_capacity_of old
+    pub seek_state_kept : has_seek_failed new ≡ has_seek_failed old
 
-  -- The first n of the flat bytes were handed out as this part, and taken off. Where they were held none came; where they weren't the
-  -- overflow buffer is used up.
-  pub record ConsumedPart (n : ℕ) (old : BufferedReader R) (part : List ℕ) (new : BufferedReader R) : Type 0 where
-    pub long : length part ≡ n
-    pub flat : flat_bytes old ≡ prepend part (flat_bytes new)
-    pub came : List ℕ
-    pub gave : Gave (view old) came (view new)
-    pub holds : held_in old ++ came ≡ part ++ held_in new
-    pub front : n ≤ length (held_in old) → held_in old ≡ part ++ held_in new
-    pub asks : AsksOnlyFor n old new
-    pub used_up : length (held_in old) < n → is_overflow_used_up new
-    pub counts : SameCounts (view old) (view new)
-    pub size : size_of new ≡ size_of old
-    pub found : is_lost old ≡ false
-    pub finds : is_lost new ≡ false
+  -- The first n of the unread bytes are returned as this part and consumed. If they were buffered before, no byte was read;
+  -- otherwise the overflow buffer is consumed completely.
+  pub record PartConsumed (n : ℕ) (old : BufferedReader R) (part : List ℕ) (new : BufferedReader R) : Type 0 where
+    pub exact_len : length part ≡ n
+    pub unread_bytes : unread_bytes old ≡ prepend part (unread_bytes new)
+    pub consumed_bytes : List ℕ
+    pub consumes : Consumed (reader_source_state old) consumed_bytes (reader_source_state new)
+    pub buffer_content : buffered_in old ++ consumed_bytes ≡ part ++ buffered_in new
+    pub if_buffered : n ≤ length (buffered_in old) → buffered_in old ≡ part ++ buffered_in new
+    pub reads_only_needed : ReadsOnlyFor n old new
+    pub overflow_consumed : length (buffered_in old) < n → IsReaderOverflowConsumed new
+    pub same_counts : SameCounts (reader_source_state old) (reader_source_state new)
+    pub ring_capacity : ring_capacity_of new ≡ ring_capacity_of old
+    pub seek_ok_before : has_seek_failed old ≡ false
+    pub seek_ok_after : has_seek_failed new ≡ false
 
-  -- the part isn't there yet, and nothing is lost
-  pub record ConsumedNone (n : ℕ) (old new : BufferedReader R) : Type 0 where
-    pub short : AskedShort n old new
-    pub found : is_lost old ≡ false
+  -- the part isn't available yet, and no byte is lost
+  pub record PartNotReady (n : ℕ) (old new : BufferedReader R) : Type 0 where
+    pub not_ready : BufferedTooFew n old new
+    pub seek_ok_before : has_seek_failed old ≡ false
 
-  -- the part was refused, and nothing is lost
-  pub record ConsumeRefused (n : ℕ) (old : BufferedReader R) (e : Error) (new : BufferedReader R) : Type 0 where
-    pub refused : AskRefused n old e new
-    pub found : is_lost old ≡ false
+  -- the call fails, and no byte is lost
+  pub record ConsumeError (n : ℕ) (old : BufferedReader R) (e : Error) (new : BufferedReader R) : Type 0 where
+    pub error : BufferingError n old e new
+    pub seek_ok_before : has_seek_failed old ≡ false
 
   -- what a call for the next n bytes does
-  abbrev pub Consumes : ℕ → BufferedReader R → Result (Option RawData) Error → BufferedReader R → Type 0
-  Consumes n old (Ok (Some part)) new = ConsumedPart n old (bytes_of part) new
-  Consumes n old (Ok None) new = ConsumedNone n old new
-  Consumes n old (Err e) new = ConsumeRefused n old e new ⊎ SaysLost (is_lost old) old e new
+  abbrev pub ConsumesData : ℕ → BufferedReader R → Result (Option RawData) Error → BufferedReader R → Type 0
+  ConsumesData n old (Ok (Some part)) new = PartConsumed n old (bytes_of part) new
+  ConsumesData n old (Ok None) new = PartNotReady n old new
+  ConsumesData n old (Err e) new = ConsumeError n old e new ⊎ FailsAfterSeekError (has_seek_failed old) old e new
 
-  -- the next sixteen bytes were copied and taken off; where they weren't held the overflow buffer is empty
-  pub record ConsumedHead (old : BufferedReader R) (head : List ℕ) (new : BufferedReader R) : Type 0 where
-    pub part : ConsumedPart 16 old head new
-    pub emptied : length (held_in old) < 16 → overflow_of new ≡ 0
+  -- the next sixteen bytes are copied and consumed; if they weren't buffered before, the overflow buffer is empty
+  pub record HeaderConsumed (old : BufferedReader R) (head : List ℕ) (new : BufferedReader R) : Type 0 where
+    pub consumes : PartConsumed 16 old head new
+    pub overflow_empty : length (buffered_in old) < 16 → overflow_len_of new ≡ 0
 
   -- what a call for a copy of the next sixteen bytes does
-  abbrev pub ConsumesHead : BufferedReader R → Result (Option (List ℕ)) Error → BufferedReader R → Type 0
-  ConsumesHead old (Ok (Some head)) new = ConsumedHead old head new
-  ConsumesHead old (Ok None) new = ConsumedNone 16 old new
-  ConsumesHead old (Err e) new = ConsumeRefused 16 old e new ⊎ SaysLost (is_lost old) old e new
+  abbrev pub ConsumesHeader : BufferedReader R → Result (Option (List ℕ)) Error → BufferedReader R → Type 0
+  ConsumesHeader old (Ok (Some head)) new = HeaderConsumed old head new
+  ConsumesHeader old (Ok None) new = PartNotReady 16 old new
+  ConsumesHeader old (Err e) new = ConsumeError 16 old e new ⊎ FailsAfterSeekError (has_seek_failed old) old e new
 
-  -- the first n of the flat bytes were taken off unread; the source isn't touched where they were held
-  pub record SkippedPart (n : ℕ) (old new : BufferedReader R) : Type 0 where
-    pub part : List ℕ
-    pub long : length part ≡ n
-    pub flat : flat_bytes old ≡ prepend part (flat_bytes new)
-    pub front : n ≤ length (held_in old) → held_in old ≡ part ++ held_in new
-    pub begins : (rest : List ℕ) × (held_in old ++ rest ≡ part ++ held_in new)
-    pub quiet : n ≤ length (held_in old) → source_of new ≡ source_of old
-    pub overflow : overflow_of new ≤ overflow_of old
-    pub size : size_of new ≡ size_of old
-    pub counts : SameCounts (view old) (view new)
-    pub same : SameSource (view old) (view new)
-    pub found : is_lost old ≡ false
-    pub finds : is_lost new ≡ false
+  -- the first n of the unread bytes are skipped; the source is unchanged if they were buffered
+  pub record PartSkipped (n : ℕ) (old new : BufferedReader R) : Type 0 where
+    pub skipped_bytes : List ℕ
+    pub exact_len : length skipped_bytes ≡ n
+    pub unread_bytes : unread_bytes old ≡ prepend skipped_bytes (unread_bytes new)
+    pub if_buffered : n ≤ length (buffered_in old) → buffered_in old ≡ skipped_bytes ++ buffered_in new
+    pub buffered_prefix : (rest : List ℕ) × (buffered_in old ++ rest ≡ skipped_bytes ++ buffered_in new)
+    pub source_unchanged : n ≤ length (buffered_in old) → source_of new ≡ source_of old
+    pub overflow_size : overflow_len_of new ≤ overflow_len_of old
+    pub ring_capacity : ring_capacity_of new ≡ ring_capacity_of old
+    pub same_counts : SameCounts (reader_source_state old) (reader_source_state new)
+    pub same_source : SameSource (reader_source_state old) (reader_source_state new)
+    pub seek_ok_before : has_seek_failed old ≡ false
+    pub seek_ok_after : has_seek_failed new ≡ false
 
-  -- they aren't held, and nothing was taken; a steady source has fewer to come
-  pub record SkippedNone (n : ℕ) (old new : BufferedReader R) : Type 0 where
-    pub few : length (held_in old) < n
-    pub lacks : IsTrue (view old).steady → IfSome (view old).bytes (λ xs. length (held_in old) + length xs < n)
-    pub holds : held_in new ≡ held_in old
-    pub flat : flat_bytes old ≡ flat_bytes new
-    pub overflow : overflow_of new ≡ overflow_of old
-    pub size : size_of new ≡ size_of old
-    pub counts : SameCounts (view old) (view new)
-    pub same : SameSource (view old) (view new)
-    pub found : is_lost old ≡ false
-    pub finds : is_lost new ≡ false
+  -- n bytes aren't buffered, and nothing is skipped; a steady source has too few remaining bytes
+  pub record BytesNotSkipped (n : ℕ) (old new : BufferedReader R) : Type 0 where
+    pub too_few : length (buffered_in old) < n
+    pub too_few_in_source : IsTrue (reader_source_state old).steady → IfSome (reader_source_state old).bytes (λ xs. length (buffered_in old) + length xs < n)
+    pub buffer_content : buffered_in new ≡ buffered_in old
+    pub unread_bytes : unread_bytes old ≡ unread_bytes new
+    pub overflow_size : overflow_len_of new ≡ overflow_len_of old
+    pub ring_capacity : ring_capacity_of new ≡ ring_capacity_of old
+    pub same_counts : SameCounts (reader_source_state old) (reader_source_state new)
+    pub same_source : SameSource (reader_source_state old) (reader_source_state new)
+    pub seek_ok_before : has_seek_failed old ≡ false
+    pub seek_ok_after : has_seek_failed new ≡ false
 
-  -- they aren't held, and a seek failed
-  pub record SkipFailed (n : ℕ) (old new : BufferedReader R) : Type 0 where
-    pub few : length (held_in old) < n
-    pub failed : Failed (view old) (view new)
-    pub pauses : (view new).pauses ≡ (view old).pauses
-    pub same : SameSource (view old) (view new)
-    pub holds : held_in new ≡ held_in old
-    pub overflow : overflow_of new ≡ overflow_of old
-    pub size : size_of new ≡ size_of old
-    pub found : is_lost old ≡ false
-    pub loses : is_lost new ≡ true
+  -- n bytes aren't buffered, and a seek failed
+  pub record SkipSeekError (n : ℕ) (old new : BufferedReader R) : Type 0 where
+    pub too_few : length (buffered_in old) < n
+    pub source_failed : SourceFailed (reader_source_state old) (reader_source_state new)
+    pub pauses : (reader_source_state new).pauses ≡ (reader_source_state old).pauses
+    pub same_source : SameSource (reader_source_state old) (reader_source_state new)
+    pub buffer_content : buffered_in new ≡ buffered_in old
+    pub overflow_size : overflow_len_of new ≡ overflow_len_of old
+    pub ring_capacity : ring_capacity_of new ≡ ring_capacity_of old
+    pub seek_ok_before : has_seek_failed old ≡ false
+    pub seek_failed_after : has_seek_failed new ≡ true
 
   -- what a skip of n bytes does
-  abbrev pub Skips : ℕ → BufferedReader R → Result Bool Error → BufferedReader R → Type 0
-  Skips n old (Ok true) new = SkippedPart n old new
-  Skips n old (Ok false) new = SkippedNone n old new
-  Skips n old (Err e) new = SkipFailed n old new ⊎ SaysLost (is_lost old) old e new
+  abbrev pub SkipsBytes : ℕ → BufferedReader R → Result Bool Error → BufferedReader R → Type 0
+  SkipsBytes n old (Ok true) new = PartSkipped n old new
+  SkipsBytes n old (Ok false) new = BytesNotSkipped n old new
+  SkipsBytes n old (Err e) new = SkipSeekError n old new ⊎ FailsAfterSeekError (has_seek_failed old) old e new

@@ -1,56 +1,56 @@
--- What the steps of a `JitDumpReader`'s calls do: the next head is taken and kept, checked, and the body behind it asked for.
+-- The steps of a `JitDumpReader`'s calls: peek the next record header, check it, and buffer its body.
 use Rattle.std.specs.Prelude.{◌≡◌, ℕ, ◌+◌, ◌-◌, ◌^◌, ◌<◌, ◌≤◌, ◌⊎◌, List, length, Option, None, Some, Result, Ok, Err}
 use Rattle.std.specs.declared.io.Error.{Error}
 use Rattle.perfdata_base.specs.Source.{State}
-use Rattle.perfdata_jit.specs.Answer.{head_in, IsHeld}
-use Rattle.perfdata_jit.specs.BufferedReader.{SameCounts, SaysLost, held_in}
-use Rattle.perfdata_jit.specs.JitDumpReader.{jit_held, jit_offset, jit_order, jit_overflow, jit_size, jit_source, jit_lost, AsksForBoth, Stays, AsksHead, LacksHead, RefusesHead, RefusesSize, Waits, Refuses, jit_view}
+use Rattle.perfdata_jit.specs.RecordBytes.{record_header_at, HasWholeRecord}
+use Rattle.perfdata_jit.specs.BufferedReader.{SameCounts, FailsAfterSeekError, buffered_in}
+use Rattle.perfdata_jit.specs.JitDumpReader.{jit_buffered, jit_offset, jit_endian, jit_overflow, jit_ring_capacity, jit_source, jit_seek_failed, ReadsForHeaderAndBody, KeepsPosition, ReadsForHeader, HeaderNotReady, HeaderReadError, InvalidSizeError, RecordNotReady, NextJitRecordError, jit_source_state}
 use Rattle.perfdata_jit.specs.declared.record.JitDumpRecordHeader.{JitDumpRecordHeader}
 use Rattle.perfdata_jit.specs.declared.jitdump_reader.JitDumpReader.{JitDumpReader}
 
-module _ {R : Type 0} (seen : R → State) where
-  -- the next head is kept; where it wasn't held the overflow buffer is empty
-  pub record TookHead (old : JitDumpReader R) (bytes : List ℕ) (new : JitDumpReader R) : Type 0 where
-    pub stays : Stays seen old new
-    pub asks : AsksHead old new
-    pub emptied : length (jit_held old) < 16 → jit_overflow new ≡ 0
-    pub long : length bytes ≡ 16
-    pub kept : new.head ≡ Some bytes
-    pub counts : SameCounts (jit_view seen old) (jit_view seen new)
+module _ {R : Type 0} (state : R → State) where
+  -- the next record header is pending; if it wasn't buffered before, the overflow buffer is empty
+  pub record HeaderPeeked (old : JitDumpReader R) (bytes : List ℕ) (new : JitDumpReader R) : Type 0 where
+    pub keeps_position : KeepsPosition state old new
+    pub reads_only_needed : ReadsForHeader old new
+    pub overflow_empty : length (jit_buffered old) < 16 → jit_overflow new ≡ 0
+    pub exact_len : length bytes ≡ 16
+    pub pending_header : new.pending_header ≡ Some bytes
+    pub same_counts : SameCounts (jit_source_state state old) (jit_source_state state new)
 
-  abbrev pub TakesHead : JitDumpReader R → Result (Option (List ℕ)) Error → JitDumpReader R → Type 0
-  TakesHead old (Ok (Some bytes)) new = TookHead old bytes new
-  TakesHead old (Ok None) new = LacksHead seen old new
-  TakesHead old (Err e) new = RefusesHead seen old e new ⊎ SaysLost (jit_lost old) old e new
+  abbrev pub PeeksHeader : JitDumpReader R → Result (Option (List ℕ)) Error → JitDumpReader R → Type 0
+  PeeksHeader old (Ok (Some bytes)) new = HeaderPeeked old bytes new
+  PeeksHeader old (Ok None) new = HeaderNotReady state old new
+  PeeksHeader old (Err e) new = HeaderReadError state old e new ⊎ FailsAfterSeekError (jit_seek_failed old) old e new
 
-  -- the next head is kept, and a record can have the size that it tells
-  pub record CheckedHead (old : JitDumpReader R) (head : JitDumpRecordHeader) (new : JitDumpReader R) : Type 0 where
+  -- the next record header is pending, and its size is valid
+  pub record ValidHeaderPeeked (old : JitDumpReader R) (head : JitDumpRecordHeader) (new : JitDumpReader R) : Type 0 where
     pub bytes : List ℕ
-    pub took : TookHead old bytes new
-    pub is : head ≡ head_in (jit_order old) bytes
-    pub least : 16 ≤ head.total_size
-    pub end : jit_offset old + head.total_size < 2 ^ 64
+    pub header_peeked : HeaderPeeked old bytes new
+    pub matches : head ≡ record_header_at (jit_endian old) bytes
+    pub min_size : 16 ≤ head.total_size
+    pub end_fits : jit_offset old + head.total_size < 2 ^ 64
 
-  abbrev pub ChecksHead : JitDumpReader R → Result (Option JitDumpRecordHeader) Error → JitDumpReader R → Type 0
-  ChecksHead old (Ok (Some head)) new = CheckedHead old head new
-  ChecksHead old (Ok None) new = LacksHead seen old new
-  ChecksHead old (Err e) new = RefusesSize seen old e new ⊎ (RefusesHead seen old e new ⊎ SaysLost (jit_lost old) old e new)
+  abbrev pub PeeksValidHeader : JitDumpReader R → Result (Option JitDumpRecordHeader) Error → JitDumpReader R → Type 0
+  PeeksValidHeader old (Ok (Some head)) new = ValidHeaderPeeked old head new
+  PeeksValidHeader old (Ok None) new = HeaderNotReady state old new
+  PeeksValidHeader old (Err e) new = InvalidSizeError state old e new ⊎ (HeaderReadError state old e new ⊎ FailsAfterSeekError (jit_seek_failed old) old e new)
 
-  -- the next head is kept, and its record held whole behind it
-  pub record HoldsNext (old : JitDumpReader R) (head : JitDumpRecordHeader) (new : JitDumpReader R) : Type 0 where
-    pub stays : Stays seen old new
+  -- the next record header is pending, and its body is buffered
+  pub record RecordBuffered (old : JitDumpReader R) (head : JitDumpRecordHeader) (new : JitDumpReader R) : Type 0 where
+    pub keeps_position : KeepsPosition state old new
     pub bytes : List ℕ
-    pub long : length bytes ≡ 16
-    pub kept : new.head ≡ Some bytes
-    pub is : head ≡ head_in (jit_order old) bytes
-    pub least : 16 ≤ head.total_size
-    pub end : jit_offset old + head.total_size < 2 ^ 64
-    pub fits : head.total_size - 16 ≤ length (held_in new.reader)
-    pub quiet : IsHeld (jit_order old) (jit_offset old) (jit_held old) → jit_source new ≡ jit_source old
-    pub counts : SameCounts (jit_view seen old) (jit_view seen new)
-    pub overflow : AsksForBoth (jit_size old) (head.total_size - 16) (length (jit_held old)) (length (jit_held new)) (jit_overflow old) (jit_overflow new)
+    pub exact_len : length bytes ≡ 16
+    pub pending_header : new.pending_header ≡ Some bytes
+    pub matches : head ≡ record_header_at (jit_endian old) bytes
+    pub min_size : 16 ≤ head.total_size
+    pub end_fits : jit_offset old + head.total_size < 2 ^ 64
+    pub body_buffered : head.total_size - 16 ≤ length (buffered_in new.reader)
+    pub source_unchanged : HasWholeRecord (jit_endian old) (jit_offset old) (jit_buffered old) → jit_source new ≡ jit_source old
+    pub same_counts : SameCounts (jit_source_state state old) (jit_source_state state new)
+    pub reads_for : ReadsForHeaderAndBody (jit_ring_capacity old) (head.total_size - 16) (length (jit_buffered old)) (length (jit_buffered new)) (jit_overflow old) (jit_overflow new)
 
-  abbrev pub AsksNext : JitDumpReader R → Result (Option JitDumpRecordHeader) Error → JitDumpReader R → Type 0
-  AsksNext old (Ok (Some head)) new = HoldsNext old head new
-  AsksNext old (Ok None) new = Waits seen old new
-  AsksNext old (Err e) new = Refuses seen old e new
+  abbrev pub BuffersRecord : JitDumpReader R → Result (Option JitDumpRecordHeader) Error → JitDumpReader R → Type 0
+  BuffersRecord old (Ok (Some head)) new = RecordBuffered old head new
+  BuffersRecord old (Ok None) new = RecordNotReady state old new
+  BuffersRecord old (Err e) new = NextJitRecordError state old e new

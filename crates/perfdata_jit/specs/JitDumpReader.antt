@@ -1,13 +1,13 @@
--- What a `JitDumpReader` holds and is to hand out, and what its calls do.
+-- The state of a `JitDumpReader`, and what its calls do.
 use Rattle.std.specs.Prelude.{◌≡◌, ℕ, ◌+◌, ◌-◌, ◌<◌, ◌≤◌, ◌⊎◌, Bool, true, false, List, [], ◌++◌, length, take, drop, Option, None, Some, Result, Ok, Err}
 use Rattle.std.specs.IoError.{error_kind}
 use Rattle.std.specs.declared.io.Error.{Error}
 use Rattle.std.specs.declared.io.ErrorKind.TheVariants.{InvalidData, OutOfMemory}
-use Rattle.perfdata_base.specs.Source.{State, prepend, Gave, GaveNone, Failed}
+use Rattle.perfdata_base.specs.Source.{State, prepend, Consumed, EndedOrPaused, SourceFailed}
 use Rattle.perfdata_base.specs.declared.raw.Endianness.{Endianness}
-use Rattle.perfdata_jit.specs.Answer.{head_in, size_in, IsInvalid, IsCut, GivesNothing, IsHeld, IsOneRecord, IsRecordOf}
-use Rattle.perfdata_jit.specs.BufferedReader.{SameCounts, SameSource, SaysLost, IsFull, held_in, flat_bytes, overflow_of, size_of, source_of, is_lost}
-use Rattle.perfdata_jit.specs.JitHeader.{IsJitHeader, IsNoJitHeader}
+use Rattle.perfdata_jit.specs.RecordBytes.{record_header_at, record_size_at, HasInvalidSize, IsTruncatedRecord, HasNoWholeRecord, HasWholeRecord, IsOneRecord, IsRecordOf}
+use Rattle.perfdata_jit.specs.BufferedReader.{SameCounts, SameSource, FailsAfterSeekError, IsOverflowAllocError, buffered_in, unread_bytes, overflow_len_of, ring_capacity_of, source_of, has_seek_failed}
+use Rattle.perfdata_jit.specs.JitHeader.{IsJitHeader, IsJitHeaderError}
 use Rattle.perfdata_jit.specs.declared.error.JitDumpError.{JitDumpError}
 use Rattle.perfdata_jit.specs.declared.error.JitDumpError.TheVariants.{Io}
 use Rattle.perfdata_jit.specs.declared.header.JitDumpHeader.{JitDumpHeader}
@@ -15,20 +15,20 @@ use Rattle.perfdata_jit.specs.declared.record.JitDumpRecordHeader.{JitDumpRecord
 use Rattle.perfdata_jit.specs.declared.record.JitDumpRawRecord.{JitDumpRawRecord}
 use Rattle.perfdata_jit.specs.declared.jitdump_reader.JitDumpReader.{JitDumpReader}
 
--- the bytes of a head that is kept
-abbrev pub head_bytes : Option (List ℕ) → List ℕ
-head_bytes None = []
-head_bytes (Some head) = head
+-- the bytes of the pending header, if there is one
+abbrev pub pending_header_bytes : Option (List ℕ) → List ℕ
+pending_header_bytes None = []
+pending_header_bytes (Some head) = head
 
--- the file's header
+-- the file header
 abbrev pub jit_header : {R : Type 0} → JitDumpReader R → JitDumpHeader
 jit_header j = j.header
 
--- the order of its numbers
-abbrev pub jit_order : {R : Type 0} → JitDumpReader R → Endianness
-jit_order j = j.endian
+-- the byte order of the file
+abbrev pub jit_endian : {R : Type 0} → JitDumpReader R → Endianness
+jit_endian j = j.endian
 
--- where the next record begins
+-- the offset of the next record in the file
 abbrev pub jit_offset : {R : Type 0} → JitDumpReader R → ℕ
 jit_offset j = j.offset
 
@@ -36,245 +36,251 @@ jit_offset j = j.offset
 abbrev pub jit_source : {R : Type 0} → JitDumpReader R → R
 jit_source j = source_of j.reader
 
--- the bytes that came and aren't handed out: a kept head, and what is behind it
-abbrev pub jit_held : {R : Type 0} → JitDumpReader R → List ℕ
-jit_held j = head_bytes j.head ++ held_in j.reader
+-- the bytes that are read but not consumed: the pending header and the bytes after it
+abbrev pub jit_buffered : {R : Type 0} → JitDumpReader R → List ℕ
+jit_buffered j = pending_header_bytes j.pending_header ++ buffered_in j.reader
 
--- how long the overflow buffer is
+-- the length of the overflow buffer
 abbrev pub jit_overflow : {R : Type 0} → JitDumpReader R → ℕ
-jit_overflow j = overflow_of j.reader
+jit_overflow j = overflow_len_of j.reader
 
--- the length of the fixed buffer
-abbrev pub jit_size : {R : Type 0} → JitDumpReader R → ℕ
-jit_size j = size_of j.reader
+-- the capacity of the ring
+abbrev pub jit_ring_capacity : {R : Type 0} → JitDumpReader R → ℕ
+jit_ring_capacity j = ring_capacity_of j.reader
 
--- a seek has failed
-abbrev pub jit_lost : {R : Type 0} → JitDumpReader R → Bool
-jit_lost j = is_lost j.reader
+-- whether a seek has failed
+abbrev pub jit_seek_failed : {R : Type 0} → JitDumpReader R → Bool
+jit_seek_failed j = has_seek_failed j.reader
 
--- Where fewer bytes were held than up to the end of a part, the source was asked for it, and the overflow buffer is shorter than the
--- part. Otherwise the overflow buffer is no longer than it was; nor is it where the fixed buffer has room for the part.
-pub record AsksFor (size part end held before after : ℕ) : Type 0 where
-  pub asked : held < end → after < part
-  pub had : end ≤ held → after ≤ before
-  pub fits : part ≤ size → after ≤ before
+-- If fewer than `end` bytes were buffered, the source was read, and the overflow buffer is shorter than the part. Otherwise
+-- the overflow buffer doesn't grow. It doesn't grow either if the part fits in the ring.
+pub record ReadsFor (size part end held before after : ℕ) : Type 0 where
+  pub overflow_bound : held < end → after < part
+  pub no_growth_if_buffered : end ≤ held → after ≤ before
+  pub no_growth_if_fits : part ≤ size → after ≤ before
 
--- The source was asked for a head where it wasn't held, and the overflow buffer is empty once that came. Then it was asked for the body
--- behind the head where that wasn't held then. Of all bytes that were held in the end none came with the head where the head was held.
-pub record AsksForBoth (size body held all before after : ℕ) : Type 0 where
-  pub held_then : ℕ
-  pub still : 16 ≤ held → held_then ≡ held
-  pub more : held ≤ held_then
-  pub most : held_then ≤ all
-  pub between : ℕ
-  pub head : AsksFor size 16 16 held before between
-  pub emptied : held < 16 → between ≡ 0
-  pub behind : AsksFor size body (16 + body) held_then between after
+-- If the record header wasn't buffered, the source was read for it, and the overflow buffer was empty afterwards. If the
+-- body wasn't buffered then, the source was read for it. If the record header was buffered, no byte was read before the
+-- body.
+pub record ReadsForHeaderAndBody (size body held all before after : ℕ) : Type 0 where
+  pub buffered_after_header : ℕ
+  pub buffer_unchanged : 16 ≤ held → buffered_after_header ≡ held
+  pub not_fewer : held ≤ buffered_after_header
+  pub at_most_all : buffered_after_header ≤ all
+  pub overflow_between : ℕ
+  pub header_read : ReadsFor size 16 16 held before overflow_between
+  pub overflow_empty : held < 16 → overflow_between ≡ 0
+  pub body_read : ReadsFor size body (16 + body) buffered_after_header overflow_between after
 
--- so many bytes has the part that is asked for next: a head where it isn't held, and otherwise the body behind it
-abbrev pub IsPart : Endianness → List ℕ → ℕ → Type 0
-IsPart order held part = ((part ≡ 16) × (length held < 16)) ⊎ ((part + 16 ≡ size_in order held) × (16 ≤ length held))
+-- the size of the next part to read: the record header if it isn't buffered, otherwise the body
+abbrev pub IsNextPart : Endianness → List ℕ → ℕ → Type 0
+IsNextPart order held part = ((part ≡ 16) × (length held < 16)) ⊎ ((part + 16 ≡ record_size_at order held) × (16 ≤ length held))
 
--- the file's header, its order and the fixed buffer stay
-pub record SameFile {R : Type 0} (old new : JitDumpReader R) : Type 0 where
+-- the file header, the byte order and the ring's capacity are unchanged
+pub record SameSetup {R : Type 0} (old new : JitDumpReader R) : Type 0 where
   pub header : jit_header new ≡ jit_header old
-  pub order : jit_order new ≡ jit_order old
-  pub size : jit_size new ≡ jit_size old
+  pub same_endian : jit_endian new ≡ jit_endian old
+  pub ring_capacity : jit_ring_capacity new ≡ jit_ring_capacity old
 
--- the source was asked for a head where it wasn't held, and for nothing else; where it was held no byte came
-pub record AsksHead {R : Type 0} (old new : JitDumpReader R) : Type 0 where
-  pub overflow : AsksFor (jit_size old) 16 16 (length (jit_held old)) (jit_overflow old) (jit_overflow new)
-  pub quiet : 16 ≤ length (jit_held old) → jit_source new ≡ jit_source old
-  pub still : 16 ≤ length (jit_held old) → jit_held new ≡ jit_held old
+-- the source was read only for a record header that wasn't buffered; otherwise the source and the buffered bytes are
+-- unchanged
+pub record ReadsForHeader {R : Type 0} (old new : JitDumpReader R) : Type 0 where
+  pub reads_for : ReadsFor (jit_ring_capacity old) 16 16 (length (jit_buffered old)) (jit_overflow old) (jit_overflow new)
+  pub source_unchanged : 16 ≤ length (jit_buffered old) → jit_source new ≡ jit_source old
+  pub buffer_unchanged : 16 ≤ length (jit_buffered old) → jit_buffered new ≡ jit_buffered old
 
--- It was asked for a head where it wasn't held, and then, if the head is there, for the record's body where that wasn't.
-pub record AsksRecord {R : Type 0} (size : ℕ) (old new : JitDumpReader R) : Type 0 where
-  pub head : length (jit_held new) < 16 → AsksFor (jit_size old) 16 16 (length (jit_held old)) (jit_overflow old) (jit_overflow new)
-  pub both : 16 ≤ length (jit_held new) → AsksForBoth (jit_size old) (size - 16) (length (jit_held old)) (length (jit_held new)) (jit_overflow old) (jit_overflow new)
+-- The source was read for the record header if that wasn't buffered. If the header is buffered now, it was then read for
+-- the record's body if that wasn't buffered.
+pub record ReadsForRecord {R : Type 0} (size : ℕ) (old new : JitDumpReader R) : Type 0 where
+  pub header_read : length (jit_buffered new) < 16 → ReadsFor (jit_ring_capacity old) 16 16 (length (jit_buffered old)) (jit_overflow old) (jit_overflow new)
+  pub header_and_body_read : 16 ≤ length (jit_buffered new) → ReadsForHeaderAndBody (jit_ring_capacity old) (size - 16) (length (jit_buffered old)) (length (jit_buffered new)) (jit_overflow old) (jit_overflow new)
 
--- a record that was held whole, where no seek has failed, is taken off, and the source isn't touched
-pub record PassesHeld {R : Type 0} (old : JitDumpReader R) (r : Result Bool Error) (new : JitDumpReader R) : Type 0 where
-  pub passes : r ≡ Ok true
-  pub quiet : jit_source new ≡ jit_source old
+-- a buffered record is skipped without use of the source, if no seek has failed
+pub record SkipsBuffered {R : Type 0} (old : JitDumpReader R) (r : Result Bool Error) (new : JitDumpReader R) : Type 0 where
+  pub returns_true : r ≡ Ok true
+  pub source_unchanged : jit_source new ≡ jit_source old
 
-module _ {R : Type 0} (seen : R → State) where
-  -- the source as contracts see it
-  abbrev pub jit_view : JitDumpReader R → State
-  jit_view j = seen (jit_source j)
+module _ {R : Type 0} (state : R → State) where
+  -- the source's state in contracts
+  abbrev pub jit_source_state : JitDumpReader R → State
+  jit_source_state j = state (jit_source j)
 
-  -- the flat bytes: those held, and behind them the source's bytes to come
-  abbrev pub jit_bytes : JitDumpReader R → Option (List ℕ)
-  jit_bytes j = prepend (head_bytes j.head) (flat_bytes seen j.reader)
+  -- the unread bytes: those buffered, followed by the remaining bytes of the source
+  abbrev pub jit_unread_bytes : JitDumpReader R → Option (List ℕ)
+  jit_unread_bytes j = prepend (pending_header_bytes j.pending_header) (unread_bytes state j.reader)
 
-  -- Bytes may have come from the source. Nothing is lost, and the next record is where it was.
-  pub record Stays (old new : JitDumpReader R) : Type 0 where
-    pub flat : jit_bytes old ≡ jit_bytes new
+  -- Bytes may have been read into the buffers. No byte is lost, and the offset of the next record is unchanged.
+  pub record KeepsPosition (old new : JitDumpReader R) : Type 0 where
+    pub unread_bytes : jit_unread_bytes old ≡ jit_unread_bytes new
     pub offset : jit_offset new ≡ jit_offset old
-    pub came : List ℕ
-    pub gave : Gave (jit_view old) came (jit_view new)
-    pub holds : jit_held new ≡ jit_held old ++ came
-    pub file : SameFile old new
-    pub found : jit_lost old ≡ false
-    pub finds : jit_lost new ≡ false
+    pub consumed_bytes : List ℕ
+    pub consumes : Consumed (jit_source_state old) consumed_bytes (jit_source_state new)
+    pub buffer_content : jit_buffered new ≡ jit_buffered old ++ consumed_bytes
+    pub same_setup : SameSetup old new
+    pub seek_ok_before : jit_seek_failed old ≡ false
+    pub seek_ok_after : jit_seek_failed new ≡ false
 
-  -- the head of the next record was told, and it stays the next; where it wasn't held the overflow buffer is empty
-  pub record TellsHead {A : Type 0} (pick : JitDumpRecordHeader → A) (old : JitDumpReader R) (told : A) (new : JitDumpReader R) : Type 0 where
-    pub stays : Stays old new
-    pub asks : AsksHead old new
-    pub emptied : length (jit_held old) < 16 → jit_overflow new ≡ 0
-    pub there : 16 ≤ length (jit_held new)
-    pub is : told ≡ pick (head_in (jit_order old) (jit_held new))
-    pub counts : SameCounts (jit_view old) (jit_view new)
+  -- the header of the next record is returned, and the record remains the next one; if the header wasn't buffered before,
+  -- the overflow buffer is empty
+  pub record HeaderReturned {A : Type 0} (pick : JitDumpRecordHeader → A) (old : JitDumpReader R) (told : A) (new : JitDumpReader R) : Type 0 where
+    pub keeps_position : KeepsPosition old new
+    pub reads_only_needed : ReadsForHeader old new
+    pub overflow_empty : length (jit_buffered old) < 16 → jit_overflow new ≡ 0
+    pub complete : 16 ≤ length (jit_buffered new)
+    pub matches : told ≡ pick (record_header_at (jit_endian old) (jit_buffered new))
+    pub same_counts : SameCounts (jit_source_state old) (jit_source_state new)
 
-  -- the next head isn't there yet: the source gave none once, and failed in no read
-  pub record LacksHead (old new : JitDumpReader R) : Type 0 where
-    pub stays : Stays old new
-    pub asks : AsksHead old new
-    pub few : length (jit_held new) < 16
-    pub none : GaveNone (jit_view old) (jit_view new)
-    pub once : (jit_view new).pauses ≤ (jit_view old).pauses + 1
-    pub faults : (jit_view new).faults ≡ (jit_view old).faults
+  -- the next record header isn't available: one read was empty, and no read failed
+  pub record HeaderNotReady (old new : JitDumpReader R) : Type 0 where
+    pub keeps_position : KeepsPosition old new
+    pub reads_only_needed : ReadsForHeader old new
+    pub too_few : length (jit_buffered new) < 16
+    pub ended_or_paused : EndedOrPaused (jit_source_state old) (jit_source_state new)
+    pub at_most_one_pause : (jit_source_state new).pauses ≤ (jit_source_state old).pauses + 1
+    pub errors : (jit_source_state new).errors ≡ (jit_source_state old).errors
 
-  -- the next head isn't there: the source failed, or there was no memory for a head longer than the fixed buffer; it gave none in no read
-  pub record RefusesHead (old : JitDumpReader R) (e : Error) (new : JitDumpReader R) : Type 0 where
-    pub stays : Stays old new
-    pub asks : AsksHead old new
-    pub few : length (jit_held new) < 16
-    pub why : Failed (jit_view old) (jit_view new) ⊎ (IsFull (jit_size old) 16 e × SameCounts (jit_view old) (jit_view new))
-    pub pauses : (jit_view new).pauses ≡ (jit_view old).pauses
+  -- the next record header isn't available: the source failed, or an allocation failed for a header larger than the ring;
+  -- no read was empty
+  pub record HeaderReadError (old : JitDumpReader R) (e : Error) (new : JitDumpReader R) : Type 0 where
+    pub keeps_position : KeepsPosition old new
+    pub reads_only_needed : ReadsForHeader old new
+    pub too_few : length (jit_buffered new) < 16
+    pub cause : SourceFailed (jit_source_state old) (jit_source_state new) ⊎ (IsOverflowAllocError (jit_ring_capacity old) 16 e × SameCounts (jit_source_state old) (jit_source_state new))
+    pub pauses : (jit_source_state new).pauses ≡ (jit_source_state old).pauses
 
-  -- what a call that tells of the next head does
-  abbrev pub Heads : {A : Type 0} → (JitDumpRecordHeader → A) → JitDumpReader R → Result (Option A) Error → JitDumpReader R → Type 0
-  Heads pick old (Ok (Some told)) new = TellsHead pick old told new
-  Heads pick old (Ok None) new = LacksHead old new
-  Heads pick old (Err e) new = RefusesHead old e new ⊎ SaysLost (jit_lost old) old e new
+  -- what a call for the next record header does
+  abbrev pub ReturnsHeader : {A : Type 0} → (JitDumpRecordHeader → A) → JitDumpReader R → Result (Option A) Error → JitDumpReader R → Type 0
+  ReturnsHeader pick old (Ok (Some told)) new = HeaderReturned pick old told new
+  ReturnsHeader pick old (Ok None) new = HeaderNotReady old new
+  ReturnsHeader pick old (Err e) new = HeaderReadError old e new ⊎ FailsAfterSeekError (jit_seek_failed old) old e new
 
-  -- a record was handed out: its bytes were the first of the flat bytes
-  pub record HandsOut (old : JitDumpReader R) (r : JitDumpRawRecord) (new : JitDumpReader R) : Type 0 where
+  -- a record is returned: its bytes are the first of the unread bytes
+  pub record ReturnsJitRecord (old : JitDumpReader R) (r : JitDumpRawRecord) (new : JitDumpReader R) : Type 0 where
     pub bytes : List ℕ
-    pub is : IsRecordOf (jit_order old) (jit_offset old) bytes r
-    pub flat : jit_bytes old ≡ prepend bytes (jit_bytes new)
+    pub matches : IsRecordOf (jit_endian old) (jit_offset old) bytes r
+    pub unread_bytes : jit_unread_bytes old ≡ prepend bytes (jit_unread_bytes new)
     pub offset : jit_offset new ≡ jit_offset old + length bytes
-    pub came : List ℕ
-    pub gave : Gave (jit_view old) came (jit_view new)
-    pub holds : jit_held old ++ came ≡ bytes ++ jit_held new
-    pub quiet : IsHeld (jit_order old) (jit_offset old) (jit_held old) → jit_source new ≡ jit_source old
-    pub counts : SameCounts (jit_view old) (jit_view new)
-    pub overflow : AsksForBoth (jit_size old) (length bytes - 16) (length (jit_held old)) (length bytes + length (jit_held new)) (jit_overflow old) (jit_overflow new)
-    pub file : SameFile old new
-    pub found : jit_lost old ≡ false
-    pub finds : jit_lost new ≡ false
+    pub consumed_bytes : List ℕ
+    pub consumes : Consumed (jit_source_state old) consumed_bytes (jit_source_state new)
+    pub buffer_content : jit_buffered old ++ consumed_bytes ≡ bytes ++ jit_buffered new
+    pub source_unchanged : HasWholeRecord (jit_endian old) (jit_offset old) (jit_buffered old) → jit_source new ≡ jit_source old
+    pub same_counts : SameCounts (jit_source_state old) (jit_source_state new)
+    pub reads_for : ReadsForHeaderAndBody (jit_ring_capacity old) (length bytes - 16) (length (jit_buffered old)) (length bytes + length (jit_buffered new)) (jit_overflow old) (jit_overflow new)
+    pub same_setup : SameSetup old new
+    pub seek_ok_before : jit_seek_failed old ≡ false
+    pub seek_ok_after : jit_seek_failed new ≡ false
 
-  -- nothing is there whole, and the source gave none once, and failed in no read
-  pub record Waits (old new : JitDumpReader R) : Type 0 where
-    pub stays : Stays old new
-    pub nothing : GivesNothing (jit_order old) (jit_offset old) (jit_held new)
-    pub none : GaveNone (jit_view old) (jit_view new)
-    pub once : (jit_view new).pauses ≤ (jit_view old).pauses + 1
-    pub faults : (jit_view new).faults ≡ (jit_view old).faults
-    pub asks : AsksRecord (size_in (jit_order old) (jit_held new)) old new
+  -- no complete record is buffered: one read was empty, and no read failed
+  pub record RecordNotReady (old new : JitDumpReader R) : Type 0 where
+    pub keeps_position : KeepsPosition old new
+    pub no_whole_record : HasNoWholeRecord (jit_endian old) (jit_offset old) (jit_buffered new)
+    pub ended_or_paused : EndedOrPaused (jit_source_state old) (jit_source_state new)
+    pub at_most_one_pause : (jit_source_state new).pauses ≤ (jit_source_state old).pauses + 1
+    pub errors : (jit_source_state new).errors ≡ (jit_source_state old).errors
+    pub reads_only_needed : ReadsForRecord (record_size_at (jit_endian old) (jit_buffered new)) old new
 
-  -- the next head, which stays, is one that no record can have; where it wasn't held the overflow buffer is empty
-  pub record RefusesSize (old : JitDumpReader R) (e : Error) (new : JitDumpReader R) : Type 0 where
-    pub stays : Stays old new
-    pub asks : AsksHead old new
-    pub emptied : length (jit_held old) < 16 → jit_overflow new ≡ 0
-    pub invalid : IsInvalid (jit_order old) (jit_offset old) (jit_held new)
+  -- the pending header has an invalid size; if it wasn't buffered before, the overflow buffer is empty
+  pub record InvalidSizeError (old : JitDumpReader R) (e : Error) (new : JitDumpReader R) : Type 0 where
+    pub keeps_position : KeepsPosition old new
+    pub reads_only_needed : ReadsForHeader old new
+    pub overflow_empty : length (jit_buffered old) < 16 → jit_overflow new ≡ 0
+    pub invalid_size : HasInvalidSize (jit_endian old) (jit_offset old) (jit_buffered new)
     pub kind : error_kind e ≡ InvalidData
-    pub counts : SameCounts (jit_view old) (jit_view new)
+    pub same_counts : SameCounts (jit_source_state old) (jit_source_state new)
 
-  -- Nothing is there whole, and the source failed, or there was no memory for a head or a body that is longer than the fixed buffer. It gave
-  -- none in no read.
-  pub record RefusesPart (old : JitDumpReader R) (e : Error) (new : JitDumpReader R) : Type 0 where
-    pub stays : Stays old new
-    pub nothing : GivesNothing (jit_order old) (jit_offset old) (jit_held new)
-    pub why : Failed (jit_view old) (jit_view new) ⊎ ((part : ℕ) × IsPart (jit_order old) (jit_held new) part × IsFull (jit_size old) part e × SameCounts (jit_view old) (jit_view new))
-    pub pauses : (jit_view new).pauses ≡ (jit_view old).pauses
-    pub asks : AsksRecord (size_in (jit_order old) (jit_held new)) old new
+  -- No complete record is buffered: the source failed, or an allocation failed for a header or a body larger than the ring.
+  -- No read was empty.
+  pub record RecordReadError (old : JitDumpReader R) (e : Error) (new : JitDumpReader R) : Type 0 where
+    pub keeps_position : KeepsPosition old new
+    pub no_whole_record : HasNoWholeRecord (jit_endian old) (jit_offset old) (jit_buffered new)
+    pub cause : SourceFailed (jit_source_state old) (jit_source_state new) ⊎ ((part : ℕ) × IsNextPart (jit_endian old) (jit_buffered new) part × IsOverflowAllocError (jit_ring_capacity old) part e × SameCounts (jit_source_state old) (jit_source_state new))
+    pub pauses : (jit_source_state new).pauses ≡ (jit_source_state old).pauses
+    pub reads_only_needed : ReadsForRecord (record_size_at (jit_endian old) (jit_buffered new)) old new
 
-  abbrev pub Refuses : JitDumpReader R → Error → JitDumpReader R → Type 0
-  Refuses old e new = RefusesSize old e new ⊎ (RefusesPart old e new ⊎ SaysLost (jit_lost old) old e new)
+  abbrev pub NextJitRecordError : JitDumpReader R → Error → JitDumpReader R → Type 0
+  NextJitRecordError old e new = InvalidSizeError old e new ⊎ (RecordReadError old e new ⊎ FailsAfterSeekError (jit_seek_failed old) old e new)
 
   -- what a call for the next record does
-  abbrev pub Nexts : JitDumpReader R → Result (Option JitDumpRawRecord) Error → JitDumpReader R → Type 0
-  Nexts old (Ok (Some r)) new = HandsOut old r new
-  Nexts old (Ok None) new = Waits old new
-  Nexts old (Err e) new = Refuses old e new
+  abbrev pub NextJitRecord : JitDumpReader R → Result (Option JitDumpRawRecord) Error → JitDumpReader R → Type 0
+  NextJitRecord old (Ok (Some r)) new = ReturnsJitRecord old r new
+  NextJitRecord old (Ok None) new = RecordNotReady old new
+  NextJitRecord old (Err e) new = NextJitRecordError old e new
 
-  -- The next record was taken off unread: its bytes were the first of the flat bytes. Where its head wasn't held the overflow buffer is
-  -- empty.
-  pub record PassesOver (old new : JitDumpReader R) : Type 0 where
+  -- The next record is skipped: its bytes are the first of the unread bytes. If its header wasn't buffered before, the
+  -- overflow buffer is empty.
+  pub record RecordSkipped (old new : JitDumpReader R) : Type 0 where
     pub bytes : List ℕ
-    pub one : IsOneRecord (jit_order old) (jit_offset old) bytes
-    pub flat : jit_bytes old ≡ prepend bytes (jit_bytes new)
+    pub record_bytes_valid : IsOneRecord (jit_endian old) (jit_offset old) bytes
+    pub unread_bytes : jit_unread_bytes old ≡ prepend bytes (jit_unread_bytes new)
     pub offset : jit_offset new ≡ jit_offset old + length bytes
-    pub quiet : IsHeld (jit_order old) (jit_offset old) (jit_held old) → jit_source new ≡ jit_source old
-    pub counts : SameCounts (jit_view old) (jit_view new)
-    pub same : SameSource (jit_view old) (jit_view new)
-    pub overflow : AsksFor (jit_size old) 16 16 (length (jit_held old)) (jit_overflow old) (jit_overflow new)
-    pub emptied : length (jit_held old) < 16 → jit_overflow new ≡ 0
-    pub file : SameFile old new
-    pub found : jit_lost old ≡ false
-    pub finds : jit_lost new ≡ false
+    pub source_unchanged : HasWholeRecord (jit_endian old) (jit_offset old) (jit_buffered old) → jit_source new ≡ jit_source old
+    pub same_counts : SameCounts (jit_source_state old) (jit_source_state new)
+    pub same_source : SameSource (jit_source_state old) (jit_source_state new)
+    pub reads_for : ReadsFor (jit_ring_capacity old) 16 16 (length (jit_buffered old)) (jit_overflow old) (jit_overflow new)
+    pub overflow_empty : length (jit_buffered old) < 16 → jit_overflow new ≡ 0
+    pub same_setup : SameSetup old new
+    pub seek_ok_before : jit_seek_failed old ≡ false
+    pub seek_ok_after : jit_seek_failed new ≡ false
 
-  -- The next record isn't held whole, as bytes that are held say, and it stays the next. Where its head wasn't held the overflow buffer is
-  -- empty.
-  pub record StandsStill (old new : JitDumpReader R) : Type 0 where
-    pub flat : jit_bytes old ≡ jit_bytes new
+  -- The next record is not completely buffered, by the size in its buffered header, and remains the next one. If the header
+  -- wasn't buffered before, the overflow buffer is empty.
+  pub record RecordNotSkipped (old new : JitDumpReader R) : Type 0 where
+    pub unread_bytes : jit_unread_bytes old ≡ jit_unread_bytes new
     pub offset : jit_offset new ≡ jit_offset old
-    pub cut : IsCut (jit_order old) (jit_offset old) (jit_held new)
-    pub counts : SameCounts (jit_view old) (jit_view new)
-    pub same : SameSource (jit_view old) (jit_view new)
-    pub overflow : AsksFor (jit_size old) 16 16 (length (jit_held old)) (jit_overflow old) (jit_overflow new)
-    pub emptied : length (jit_held old) < 16 → jit_overflow new ≡ 0
-    pub file : SameFile old new
-    pub found : jit_lost old ≡ false
-    pub finds : jit_lost new ≡ false
+    pub is_truncated : IsTruncatedRecord (jit_endian old) (jit_offset old) (jit_buffered new)
+    pub same_counts : SameCounts (jit_source_state old) (jit_source_state new)
+    pub same_source : SameSource (jit_source_state old) (jit_source_state new)
+    pub reads_for : ReadsFor (jit_ring_capacity old) 16 16 (length (jit_buffered old)) (jit_overflow old) (jit_overflow new)
+    pub overflow_empty : length (jit_buffered old) < 16 → jit_overflow new ≡ 0
+    pub same_setup : SameSetup old new
+    pub seek_ok_before : jit_seek_failed old ≡ false
+    pub seek_ok_after : jit_seek_failed new ≡ false
 
-  -- The next record isn't held whole, and a seek failed: where the source stands is open. Where the record's head wasn't held the overflow
-  -- buffer is empty.
-  pub record LosesPlace (old new : JitDumpReader R) : Type 0 where
-    pub cut : IsCut (jit_order old) (jit_offset old) (jit_held new)
+  -- The next record is not completely buffered, and a seek failed. The position of the source is unspecified. If the record
+  -- header wasn't buffered before, the overflow buffer is empty.
+  pub record SkipSeekFailed (old new : JitDumpReader R) : Type 0 where
+    pub is_truncated : IsTruncatedRecord (jit_endian old) (jit_offset old) (jit_buffered new)
     pub offset : jit_offset new ≡ jit_offset old
-    pub failed : Failed (jit_view old) (jit_view new)
-    pub pauses : (jit_view new).pauses ≡ (jit_view old).pauses
-    pub same : SameSource (jit_view old) (jit_view new)
-    pub overflow : AsksFor (jit_size old) 16 16 (length (jit_held old)) (jit_overflow old) (jit_overflow new)
-    pub emptied : length (jit_held old) < 16 → jit_overflow new ≡ 0
-    pub file : SameFile old new
-    pub found : jit_lost old ≡ false
-    pub loses : jit_lost new ≡ true
+    pub source_failed : SourceFailed (jit_source_state old) (jit_source_state new)
+    pub pauses : (jit_source_state new).pauses ≡ (jit_source_state old).pauses
+    pub same_source : SameSource (jit_source_state old) (jit_source_state new)
+    pub reads_for : ReadsFor (jit_ring_capacity old) 16 16 (length (jit_buffered old)) (jit_overflow old) (jit_overflow new)
+    pub overflow_empty : length (jit_buffered old) < 16 → jit_overflow new ≡ 0
+    pub same_setup : SameSetup old new
+    pub seek_ok_before : jit_seek_failed old ≡ false
+    pub seek_failed_after : jit_seek_failed new ≡ true
 
   -- what a skip of the next record does
   abbrev pub SkipsRecord : JitDumpReader R → Result Bool Error → JitDumpReader R → Type 0
-  SkipsRecord old (Ok true) new = PassesOver old new
-  SkipsRecord old (Ok false) new = LacksHead old new ⊎ StandsStill old new
-  SkipsRecord old (Err e) new = (RefusesSize old e new ⊎ RefusesHead old e new) ⊎ (LosesPlace old new ⊎ SaysLost (jit_lost old) old e new)
+  SkipsRecord old (Ok true) new = RecordSkipped old new
+  SkipsRecord old (Ok false) new = HeaderNotReady old new ⊎ RecordNotSkipped old new
+  SkipsRecord old (Err e) new = (InvalidSizeError old e new ⊎ HeaderReadError old e new) ⊎ (SkipSeekFailed old new ⊎ FailsAfterSeekError (jit_seek_failed old) old e new)
 
-  -- A front of the source's bytes was read, shorter than the buffer only where the source gave none. It failed in no read, and a whole
-  -- buffer came without an empty answer, a shorter front with one at most.
-  pub record ReadsFront (source : R) (size : ℕ) (front : List ℕ) (left : State) : Type 0 where
-    pub gave : Gave (seen source) front left
+  -- A prefix of the source's bytes was read. It is shorter than the buffer only if a read was empty. No read failed. If the
+  -- buffer is full, no read was empty, otherwise at most one.
+  pub record ReadsPrefix (source : R) (size : ℕ) (front : List ℕ) (left : State) : Type 0 where
+    pub consumes : Consumed (state source) front left
     pub within : length front ≤ size
-    pub less : length front < size → GaveNone (seen source) left
-    pub faults : left.faults ≡ (seen source).faults
-    pub pauses : length front ≡ size → left.pauses ≡ (seen source).pauses
-    pub once : left.pauses ≤ (seen source).pauses + 1
+    pub if_incomplete : length front < size → EndedOrPaused (state source) left
+    pub errors : left.errors ≡ (state source).errors
+    pub pauses : length front ≡ size → left.pauses ≡ (state source).pauses
+    pub at_most_one_pause : left.pauses ≤ (state source).pauses + 1
 
-  -- the file was opened: its header is that of the source's first bytes, and the flat bytes are those behind it
-  pub record Opened (source : R) (size : ℕ) (j : JitDumpReader R) : Type 0 where
-    pub front : List ℕ
-    pub reads : ReadsFront source size front (jit_view j)
-    pub header : IsJitHeader (jit_order j) front (jit_header j)
-    pub flat : (seen source).bytes ≡ prepend (take (jit_offset j) front) (jit_bytes j)
-    pub held : jit_held j ≡ drop (jit_offset j) front
+  -- the file is opened: its header is parsed from the source's first bytes, and the unread bytes are those after the header
+  pub record ReaderOpened (source : R) (size : ℕ) (j : JitDumpReader R) : Type 0 where
+    pub prefix_bytes : List ℕ
+    pub reads : ReadsPrefix source size prefix_bytes (jit_source_state j)
+    pub header : IsJitHeader (jit_endian j) prefix_bytes (jit_header j)
+    pub unread_bytes : (state source).bytes ≡ prepend (take (jit_offset j) prefix_bytes) (jit_unread_bytes j)
+    pub buffered_bytes : jit_buffered j ≡ drop (jit_offset j) prefix_bytes
     pub offset : jit_offset j ≡ (jit_header j).total_size
-    pub buffer : jit_size j ≡ size
-    pub overflow : jit_overflow j ≡ 0
-    pub finds : jit_lost j ≡ false
+    pub buffer : jit_ring_capacity j ≡ size
+    pub overflow_size : jit_overflow j ≡ 0
+    pub seek_ok_after : jit_seek_failed j ≡ false
 
-  -- What an opening with a buffer of this length does. Where it refuses the source is let go; where a read failed it gave none before.
-  abbrev pub Opens : R → ℕ → Result (JitDumpReader R) JitDumpError → Type 0
-  Opens source size (Ok j) = Opened source size j
-  Opens source size (Err (Io e)) = (error_kind e ≡ OutOfMemory) ⊎ ((left : State) × Failed (seen source) left × (left.pauses ≡ (seen source).pauses))
-  Opens source size (Err e) = (front : List ℕ) × ((left : State) × ReadsFront source size front left × IsNoJitHeader front e)
+  -- What opening with a buffer of this size does. If it fails, the source is dropped. If a read failed, no read before it
+  -- was empty.
+  abbrev pub OpensReader : R → ℕ → Result (JitDumpReader R) JitDumpError → Type 0
+  OpensReader source size (Ok j) = ReaderOpened source size j
+  OpensReader source size (Err (Io e)) = (error_kind e ≡ OutOfMemory) ⊎ ((left : State) × SourceFailed (state source) left × (left.pauses ≡ (state source).pauses))
+  OpensReader source size (Err e) = (front : List ℕ) × ((left : State) × ReadsPrefix source size front left × IsJitHeaderError front e)

@@ -1,5 +1,5 @@
--- The bodies of a jitdump file's records as their bytes describe them (Linux's jitdump specification). Numbers stand at fixed places, texts
--- end at their first NUL, and what stands behind a body's contents is passed over.
+-- The parsed form of the bodies of a jitdump's records (Linux's jitdump specification). Numbers have fixed offsets, strings
+-- end at their first NUL, and bytes after a body's last part are ignored.
 use Rattle.std.specs.Prelude.{◌≡◌, ℕ, ◌+◌, ◌<◌, ◌≤◌, ◌⊎◌, List, [], ◌∷◌, ◌++◌, length, drop, slice_range, Option, MatchOption}
 use Rattle.std.specs.List.{All, Contains}
 use Rattle.std.specs.IoError.{error_kind}
@@ -12,18 +12,18 @@ use Rattle.perfdata_jit.specs.declared.records.JitCodeDebugInfoRecord.{JitCodeDe
 use Rattle.perfdata_jit.specs.declared.records.JitCodeDebugInfoEntry.{JitCodeDebugInfoEntry}
 use Rattle.perfdata_jit.specs.declared.records.JitCodeUnwindingInfoRecord.{JitCodeUnwindingInfoRecord}
 
--- a text at the front, up to the first NUL, and what stands behind that
-pub record IsText (bytes text rest : List ℕ) : Type 0 where
-  pub cut : bytes ≡ text ++ (0 ∷ rest)
+-- a NUL string at the start of the bytes, and the bytes after its NUL
+pub record IsNulText (bytes text rest : List ℕ) : Type 0 where
+  pub split : bytes ≡ text ++ (0 ∷ rest)
   pub no_nul : HasNoNul text
 
--- no entry stands at the front: its sixteen bytes are cut, or no NUL ends its path
-abbrev pub CutsEntry : List ℕ → Type 0
-CutsEntry bytes = (length bytes < 16) ⊎ ((16 ≤ length bytes) × HasNoNul (drop 16 bytes))
+-- the entry at the start of the bytes is truncated: its sixteen bytes are, or no NUL ends its path
+abbrev pub IsTruncatedDebugEntry : List ℕ → Type 0
+IsTruncatedDebugEntry bytes = (length bytes < 16) ⊎ ((16 ≤ length bytes) × HasNoNul (drop 16 bytes))
 
 module _ (number : ℕ → List ℕ → ℕ) where
-  -- Code that was made: four bytes each for the process and the thread, eight each for the address of the mapping, the code's address, its size
-  -- and its index, and then the function's name and the code.
+  -- A function that was compiled: pid and tid of four bytes each, mapping address, code address, code size and code index
+  -- of eight bytes each, and then the function's name and the code.
   pub record IsLoad (body : List ℕ) (load : JitCodeLoadRecord) : Type 0 where
     pub process : load.pid ≡ number 4 body
     pub thread : load.tid ≡ number 4 (drop 4 body)
@@ -31,22 +31,22 @@ module _ (number : ℕ → List ℕ → ℕ) where
     pub address : load.code_addr ≡ number 8 (drop 16 body)
     pub index : load.code_index ≡ number 8 (drop 32 body)
     pub size : length (bytes_of load.code_bytes) ≡ number 8 (drop 24 body)
-    pub behind : List ℕ
-    pub text : IsText (drop 40 body) (bytes_of load.function_name) (bytes_of load.code_bytes ++ behind)
+    pub after_body : List ℕ
+    pub name_text : IsNulText (drop 40 body) (bytes_of load.function_name) (bytes_of load.code_bytes ++ after_body)
 
-  -- the name is whole, and the code behind it is cut
-  pub record CutsCode (body : List ℕ) : Type 0 where
+  -- the name is complete, and the code after it is truncated
+  pub record IsTruncatedCode (body : List ℕ) : Type 0 where
     pub name : List ℕ
-    pub behind : List ℕ
-    pub text : IsText (drop 40 body) name behind
-    pub few : length behind < number 8 (drop 24 body)
+    pub after_body : List ℕ
+    pub name_text : IsNulText (drop 40 body) name after_body
+    pub too_few : length after_body < number 8 (drop 24 body)
 
-  -- this body is none: the forty bytes are cut, or no NUL ends the name, or the code is cut
-  pub record IsNoLoad (body : List ℕ) (e : Error) : Type 0 where
-    pub why : (length body < 40) ⊎ (((40 ≤ length body) × HasNoNul (drop 40 body)) ⊎ ((40 ≤ length body) × CutsCode body))
+  -- the body is no load record: the forty bytes or the code are truncated, or no NUL ends the name
+  pub record IsLoadError (body : List ℕ) (e : Error) : Type 0 where
+    pub cause : (length body < 40) ⊎ (((40 ≤ length body) × HasNoNul (drop 40 body)) ⊎ ((40 ≤ length body) × IsTruncatedCode body))
     pub kind : error_kind e ≡ UnexpectedEof
 
-  -- code that was moved, as 48 bytes describe it
+  -- a function that was moved, from 48 bytes
   abbrev pub move_of : List ℕ → JitCodeMoveRecord
   move_of body = record {
     pid = number 4 body;
@@ -58,76 +58,79 @@ module _ (number : ℕ → List ℕ → ℕ) where
     code_index = number 8 (drop 40 body);
   }
 
-  -- An entry of debug info at the front: eight bytes for the code's address, four each for the line and the column, and the path of the file.
-  pub record IsEntry (bytes : List ℕ) (entry : JitCodeDebugInfoEntry) (rest : List ℕ) : Type 0 where
+  -- A debug entry at the start of the bytes: the code address of eight bytes, line and column of four bytes each, and the
+  -- path of the file.
+  pub record IsDebugEntry (bytes : List ℕ) (entry : JitCodeDebugInfoEntry) (rest : List ℕ) : Type 0 where
     pub address : entry.code_addr ≡ number 8 bytes
     pub line_number : entry.line ≡ number 4 (drop 8 bytes)
     pub column_number : entry.column ≡ number 4 (drop 12 bytes)
-    pub text : IsText (drop 16 bytes) (bytes_of entry.file_path) rest
+    pub path_text : IsNulText (drop 16 bytes) (bytes_of entry.file_path) rest
 
-  -- these entries stand at the front, one behind another, and this behind them
-  abbrev pub AreEntries : List ℕ → List JitCodeDebugInfoEntry → List ℕ → Type 0
-  AreEntries bytes [] rest = rest ≡ bytes
-  AreEntries bytes (entry ∷ entries) rest = (behind : List ℕ) × IsEntry bytes entry behind × AreEntries behind entries rest
+  -- the bytes are these consecutive entries, followed by the rest
+  abbrev pub AreDebugEntries : List ℕ → List JitCodeDebugInfoEntry → List ℕ → Type 0
+  AreDebugEntries bytes [] rest = rest ≡ bytes
+  AreDebugEntries bytes (entry ∷ entries) rest = (behind : List ℕ) × IsDebugEntry bytes entry behind × AreDebugEntries behind entries rest
 
-  -- where code comes from: eight bytes each for its address and the number of entries, and the entries
+  -- the source locations of code: its address and the number of entries of eight bytes each, and the entries
   pub record IsDebugInfo (body : List ℕ) (info : JitCodeDebugInfoRecord) : Type 0 where
-    pub long : 16 ≤ length body
+    pub min_len : 16 ≤ length body
     pub address : info.code_addr ≡ number 8 body
     pub count : length info.entries.items ≡ number 8 (drop 8 body)
-    pub behind : List ℕ
-    pub are : AreEntries (drop 16 body) info.entries.items behind
+    pub after_body : List ℕ
+    pub elements : AreDebugEntries (drop 16 body) info.entries.items after_body
 
-  -- so many entries were taken off the front
-  pub record TakesEntries (count : ℕ) (bytes : List ℕ) (entries : List JitCodeDebugInfoEntry) (rest : List ℕ) : Type 0 where
-    pub many : length entries ≡ count
-    pub are : AreEntries bytes entries rest
+  -- `count` entries are parsed from the start of the bytes
+  pub record ReadsDebugEntries (count : ℕ) (bytes : List ℕ) (entries : List JitCodeDebugInfoEntry) (rest : List ℕ) : Type 0 where
+    pub exact_len : length entries ≡ count
+    pub elements : AreDebugEntries bytes entries rest
 
-  -- fewer entries stand there, and what is behind them is none
-  pub record CutsEntries (count : ℕ) (bytes : List ℕ) : Type 0 where
+  -- fewer than `count` entries are complete, and the one after them is truncated
+  pub record HasTruncatedDebugEntry (count : ℕ) (bytes : List ℕ) : Type 0 where
     pub entries : List JitCodeDebugInfoEntry
-    pub behind : List ℕ
-    pub are : AreEntries bytes entries behind
-    pub few : length entries < count
-    pub cut : CutsEntry behind
+    pub after_body : List ℕ
+    pub elements : AreDebugEntries bytes entries after_body
+    pub too_few : length entries < count
+    pub is_truncated : IsTruncatedDebugEntry after_body
 
-  -- so many entries weren't taken off: fewer stand there, or memory ran out
-  abbrev pub RefusesEntries : ℕ → List ℕ → Error → Type 0
-  RefusesEntries count bytes e =
-      ((error_kind e ≡ UnexpectedEof) × CutsEntries count bytes)
+  -- parsing `count` entries fails: an entry is truncated, or an allocation failed
+  abbrev pub IsDebugEntriesError : ℕ → List ℕ → Error → Type 0
+  IsDebugEntriesError count bytes e =
+      ((error_kind e ≡ UnexpectedEof) × HasTruncatedDebugEntry count bytes)
       ⊎ ((error_kind e ≡ OutOfMemory) × (0 < count))
 
-  -- this body is none: the sixteen bytes or an entry are cut; or memory ran out for the entries
-  abbrev pub IsNoDebugInfo : List ℕ → Error → Type 0
-  IsNoDebugInfo body e =
+  -- the body is no debug info: the sixteen bytes or an entry are truncated, or an allocation for the entries failed
+  abbrev pub IsDebugInfoError : List ℕ → Error → Type 0
+  IsDebugInfoError body e =
       ((length body < 16) × (error_kind e ≡ UnexpectedEof))
-      ⊎ ((16 ≤ length body) × RefusesEntries (number 8 (drop 8 body)) (drop 16 body) e)
+      ⊎ ((16 ≤ length body) × IsDebugEntriesError (number 8 (drop 8 body)) (drop 16 body) e)
 
-  -- How code is unwound: eight bytes each for the size of the data, that of its index and that of what is mapped, and the data, the index first.
+  -- Unwinding info: the sizes of the data, of its index and of the mapped part of eight bytes each, and the data, which
+  -- starts with the index.
   pub record IsUnwinding (body : List ℕ) (unwinding : JitCodeUnwindingInfoRecord) : Type 0 where
-    pub long : 24 ≤ length body
+    pub min_len : 24 ≤ length body
     pub mapped : unwinding.mapped_size ≡ number 8 (drop 16 body)
     pub index : length (bytes_of unwinding.eh_frame_hdr) ≡ number 8 (drop 8 body)
     pub whole : length (bytes_of unwinding.eh_frame_hdr) + length (bytes_of unwinding.eh_frame) ≡ number 8 body
-    pub behind : List ℕ
-    pub cut : drop 24 body ≡ bytes_of unwinding.eh_frame_hdr ++ (bytes_of unwinding.eh_frame ++ behind)
+    pub after_body : List ℕ
+    pub split : drop 24 body ≡ bytes_of unwinding.eh_frame_hdr ++ (bytes_of unwinding.eh_frame ++ after_body)
 
-  -- this body is none: the 24 bytes are cut, or the data is, or its index would be longer than it
-  pub record IsNoUnwinding (body : List ℕ) (e : Error) : Type 0 where
-    pub why : (length body < 24) ⊎ ((24 ≤ length body) × ((length body < 24 + number 8 body) ⊎ (number 8 body < number 8 (drop 8 body))))
+  -- the body is no unwinding info: the 24 bytes or the data are truncated, or the index is longer than the data
+  pub record IsUnwindingError (body : List ℕ) (e : Error) : Type 0 where
+    pub cause : (length body < 24) ⊎ ((24 ≤ length body) × ((length body < 24 + number 8 body) ⊎ (number 8 body < number 8 (drop 8 body))))
     pub kind : error_kind e ≡ UnexpectedEof
 
--- The code of a load record stands behind its name and the NUL, at this place from the start of its head, which has sixteen bytes.
-abbrev pub CodeStandsAtItsPlace : Type 0
-CodeStandsAtItsPlace = (number : ℕ → List ℕ → ℕ) (head body : List ℕ) (load : JitCodeLoadRecord) → length head ≡ 16 → IsLoad number body load
+-- The code of a load record follows the name and its NUL, at this offset from the start of the record header of sixteen
+-- bytes.
+abbrev pub CodeIsAtOffset : Type 0
+CodeIsAtOffset = (number : ℕ → List ℕ → ℕ) (head body : List ℕ) (load : JitCodeLoadRecord) → length head ≡ 16 → IsLoad number body load
     → (let place = 57 + length (bytes_of load.function_name) in slice_range (head ++ body) place (place + length (bytes_of load.code_bytes)) ≡ bytes_of load.code_bytes)
 
--- an entry with the greatest address that isn't above this one
+-- an entry with the greatest address that is not above this address
 pub record IsGreatestBelow (entries : List JitCodeDebugInfoEntry) (address : ℕ) (found : JitCodeDebugInfoEntry) : Type 0 where
-  pub one : Contains entries found
-  pub below : found.code_addr ≤ address
+  pub is_entry : Contains entries found
+  pub at_most_address : found.code_addr ≤ address
   pub greatest : All (λ other. other.code_addr ≤ address → other.code_addr ≤ found.code_addr) entries
 
--- there is such an entry, or all are above it
+-- the result is such an entry, or none if all addresses are above this address
 abbrev pub IsLookup : List JitCodeDebugInfoEntry → ℕ → Option JitCodeDebugInfoEntry → Type 0
 IsLookup entries address found = MatchOption found (All (λ other. address < other.code_addr) entries) (λ entry. IsGreatestBelow entries address entry)

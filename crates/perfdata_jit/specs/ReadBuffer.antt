@@ -1,46 +1,47 @@
--- What is held in the overflow buffer and the ring.
+-- The bytes in the overflow buffer and the ring.
 use Rattle.std.specs.Prelude.{◌≡◌, ℕ, ◌<◌, ◌≤◌, List, ◌++◌, take, drop, slice_range, vec_len, vec_capacity}
 use Rattle.perfdata_jit.specs.Ring.{ring_bytes, ring_size}
-use Rattle.perfdata_jit.specs.declared.held.Held.{Held}
-use Rattle.perfdata_jit.specs.declared.held.Span.{Span}
+use Rattle.perfdata_jit.specs.declared.read_buffer.ReadBuffer.{ReadBuffer}
+use Rattle.perfdata_jit.specs.declared.read_buffer.Span.{Span}
 
--- the bytes held, in order
-abbrev pub held_bytes : Held → List ℕ
-held_bytes h = drop h.passed h.overflow.items ++ ring_bytes h.ring
+-- the buffered bytes, in order
+abbrev pub read_buffer_bytes : ReadBuffer → List ℕ
+read_buffer_bytes h = drop h.overflow_start h.overflow.items ++ ring_bytes h.ring
 
--- how long the overflow buffer is, its consumed front counted
-abbrev pub overflow_len : Held → ℕ
+-- the length of the overflow buffer, including its consumed prefix
+abbrev pub overflow_len : ReadBuffer → ℕ
 overflow_len h = vec_len h.overflow
 
--- for how many bytes it has memory
-abbrev pub overflow_room : Held → ℕ
-overflow_room h = vec_capacity h.overflow
+-- the capacity of the overflow buffer
+abbrev pub overflow_capacity : ReadBuffer → ℕ
+overflow_capacity h = vec_capacity h.overflow
 
--- all of it was taken
-abbrev pub is_used_up : Held → Type 0
-is_used_up h = h.passed ≡ overflow_len h
+-- all bytes of the overflow buffer are consumed
+abbrev pub IsOverflowConsumed : ReadBuffer → Type 0
+IsOverflowConsumed h = h.overflow_start ≡ overflow_len h
 
--- the length of the fixed buffer
-abbrev pub held_size : Held → ℕ
-held_size h = ring_size h.ring
+-- the capacity of the ring
+abbrev pub ring_capacity : ReadBuffer → ℕ
+ring_capacity h = ring_size h.ring
 
--- The first n bytes are gone, and the buffers are as long as they were. An overflow buffer no longer than n is used up.
-pub record TakesOff (n : ℕ) (old new : Held) : Type 0 where
-  pub bytes : held_bytes new ≡ drop n (held_bytes old)
-  pub overflow : overflow_len new ≡ overflow_len old
-  pub used_up : overflow_len old ≤ n → is_used_up new
-  pub room : overflow_room new ≡ overflow_room old
-  pub size : held_size new ≡ held_size old
+-- The first n bytes are consumed, and the sizes of the buffers are unchanged. An overflow buffer no longer than n is
+-- consumed completely.
+pub record ConsumesPrefix (n : ℕ) (old new : ReadBuffer) : Type 0 where
+  pub bytes : read_buffer_bytes new ≡ drop n (read_buffer_bytes old)
+  pub overflow_size : overflow_len new ≡ overflow_len old
+  pub overflow_consumed : overflow_len old ≤ n → IsOverflowConsumed new
+  pub overflow_capacity : overflow_capacity new ≡ overflow_capacity old
+  pub ring_capacity : ring_capacity new ≡ ring_capacity old
 
--- the span lies within the buffers, and at most two of its pieces have bytes
-pub record LiesIn (h : Held) (p : Span) : Type 0 where
-  pub overflow_order : p.from ≤ p.to
-  pub overflow_within : p.to ≤ overflow_len h
-  pub ring_order : p.start ≤ p.end
-  pub ring_within : p.end ≤ held_size h
-  pub front_within : p.front ≤ held_size h
-  pub two_pieces : 0 < p.front → p.from ≡ p.to
+-- the span is within the buffers, and at most two of its three ranges are nonempty
+pub record IsSpanWithin (h : ReadBuffer) (p : Span) : Type 0 where
+  pub overflow_order : p.overflow_from ≤ p.overflow_to
+  pub overflow_within : p.overflow_to ≤ overflow_len h
+  pub ring_order : p.ring_start ≤ p.ring_end
+  pub ring_within : p.ring_end ≤ ring_capacity h
+  pub front_within : p.ring_front ≤ ring_capacity h
+  pub two_pieces : 0 < p.ring_front → p.overflow_from ≡ p.overflow_to
 
--- the bytes there
-abbrev pub bytes_at : Held → Span → List ℕ
-bytes_at h p = slice_range h.overflow.items p.from p.to ++ (slice_range h.ring.buffer.items p.start p.end ++ take p.front h.ring.buffer.items)
+-- the bytes of a span
+abbrev pub span_bytes : ReadBuffer → Span → List ℕ
+span_bytes h p = slice_range h.overflow.items p.overflow_from p.overflow_to ++ (slice_range h.ring.buffer.items p.ring_start p.ring_end ++ take p.ring_front h.ring.buffer.items)

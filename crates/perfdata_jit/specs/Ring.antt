@@ -1,15 +1,15 @@
--- What a ring holds.
+-- The bytes of a ring.
 use Rattle.std.specs.Prelude.{ℕ, ◌+◌, ◌-◌, List, ◌++◌, take, slice_range, vec_len}
 use Rattle.perfdata_jit.specs.declared.ring.Ring.{Ring}
 
--- the bytes held, in order
+-- the bytes, in order
 abbrev pub ring_bytes : Ring → List ℕ
 ring_bytes r = slice_range r.buffer.items r.start r.end ++ take r.front r.buffer.items
 
--- how many they are
+-- the number of bytes
 abbrev pub ring_len : Ring → ℕ
 ring_len r = (r.end - r.start) + r.front
 
--- how many there is room for
+-- the capacity
 abbrev pub ring_size : Ring → ℕ
 ring_size r = vec_len r.buffer

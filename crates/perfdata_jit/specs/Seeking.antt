@@ -1,32 +1,32 @@
--- Passing over bytes of a source by seeks, where it shows that many.
+-- Skipping bytes of a source by seeks, if it has that many.
 use Rattle.std.specs.Prelude.{◌≡◌, ℕ, ◌<◌, IsTrue, IfSome, List, length, Bool, true, false, Result, Ok, Err}
 use Rattle.std.specs.declared.io.Error.{Error}
-use Rattle.perfdata_base.specs.Source.{State, prepend, Failed}
+use Rattle.perfdata_base.specs.Source.{State, prepend, SourceFailed}
 use Rattle.perfdata_jit.specs.BufferedReader.{SameCounts, SameSource}
 
--- the next bytes, so many, were passed over
-pub record PassedBySeek (old : State) (count : ℕ) (new : State) : Type 0 where
+-- the next `count` bytes are skipped
+pub record SkippedBySeek (old : State) (count : ℕ) (new : State) : Type 0 where
   pub bytes : List ℕ
-  pub long : length bytes ≡ count
-  pub is : old.bytes ≡ prepend bytes new.bytes
-  pub counts : SameCounts old new
-  pub same : SameSource old new
+  pub exact_len : length bytes ≡ count
+  pub matches : old.bytes ≡ prepend bytes new.bytes
+  pub same_counts : SameCounts old new
+  pub same_source : SameSource old new
 
--- the source stands where it stood; a steady one has fewer
-pub record StoodStill (old : State) (count : ℕ) (new : State) : Type 0 where
-  pub is : new.bytes ≡ old.bytes
-  pub few : 0 < count → IsTrue old.steady → IfSome old.bytes (λ xs. length xs < count)
-  pub counts : SameCounts old new
-  pub same : SameSource old new
+-- the source's position is unchanged; a steady source has fewer than `count` bytes
+pub record NotSkippedBySeek (old : State) (count : ℕ) (new : State) : Type 0 where
+  pub matches : new.bytes ≡ old.bytes
+  pub too_few : 0 < count → IsTrue old.steady → IfSome old.bytes (λ xs. length xs < count)
+  pub same_counts : SameCounts old new
+  pub same_source : SameSource old new
 
--- a seek failed, and where the source stands is open
-pub record FailedBySeek (old new : State) : Type 0 where
-  pub failed : Failed old new
+-- a seek failed, and the position of the source is unspecified
+pub record SkipBySeekError (old new : State) : Type 0 where
+  pub source_failed : SourceFailed old new
   pub pauses : new.pauses ≡ old.pauses
-  pub same : SameSource old new
+  pub same_source : SameSource old new
 
--- what a passing over so many bytes does
-abbrev pub PassesBySeek : State → ℕ → Result Bool Error → State → Type 0
-PassesBySeek old count (Ok true) new = PassedBySeek old count new
-PassesBySeek old count (Ok false) new = StoodStill old count new
-PassesBySeek old count (Err e) new = FailedBySeek old new
+-- what skipping `count` bytes does
+abbrev pub SkipsBySeek : State → ℕ → Result Bool Error → State → Type 0
+SkipsBySeek old count (Ok true) new = SkippedBySeek old count new
+SkipsBySeek old count (Ok false) new = NotSkippedBySeek old count new
+SkipsBySeek old count (Err e) new = SkipBySeekError old new

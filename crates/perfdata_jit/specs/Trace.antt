@@ -1,62 +1,62 @@
--- What any list of calls of a jitdump reader takes off the front of its flat bytes.
+-- The effect of any list of calls of a jitdump reader on its unread bytes.
 use Rattle.std.specs.Prelude.{◌≡◌, ℕ, ◌+◌, ◌⊎◌, true, false, List, [], ◌∷◌, length, Option, None, Some, Result, Ok, Err, ⊤}
 use Rattle.std.specs.List.{concat}
 use Rattle.std.specs.declared.io.Error.{Error}
 use Rattle.perfdata_base.specs.Source.{State, prepend}
 use Rattle.perfdata_base.specs.declared.raw.Endianness.{Endianness}
-use Rattle.perfdata_jit.specs.Answer.{AreRecords, IsRecordOf}
-use Rattle.perfdata_jit.specs.JitDumpReader.{jit_bytes, jit_lost, jit_offset, jit_order, Heads, Nexts, SkipsRecord}
+use Rattle.perfdata_jit.specs.RecordBytes.{AreRecords, IsRecordOf}
+use Rattle.perfdata_jit.specs.JitDumpReader.{jit_unread_bytes, jit_seek_failed, jit_offset, jit_endian, ReturnsHeader, NextJitRecord, SkipsRecord}
 use Rattle.perfdata_jit.specs.declared.record.JitDumpRawRecord.{JitDumpRawRecord}
 use Rattle.perfdata_jit.specs.declared.record.JitDumpRecordHeader.{JitDumpRecordHeader}
 use Rattle.perfdata_jit.specs.declared.jitdump_reader.JitDumpReader.{JitDumpReader}
 
--- what one call took: nothing, a record's bytes that it passed over, or those of a record that it handed out
-pub data Took : Type 0 where
-  nothing : Took
-  passed : List ℕ → Took
-  handed : List ℕ → JitDumpRawRecord → Took
+-- the effect of one call: none, a record's bytes that are skipped, or those of a record that is returned
+pub data ReaderStep : Type 0 where
+  no_progress : ReaderStep
+  skipped_record : List ℕ → ReaderStep
+  returned_record : List ℕ → JitDumpRawRecord → ReaderStep
 
--- the bytes taken
-abbrev pub taken : List Took → List (List ℕ)
-taken [] = []
-taken (nothing ∷ more) = taken more
-taken (passed bytes ∷ more) = bytes ∷ taken more
-taken (handed bytes r ∷ more) = bytes ∷ taken more
+-- the bytes of the skipped and returned records
+abbrev pub consumed_records : List ReaderStep → List (List ℕ)
+consumed_records [] = []
+consumed_records (no_progress ∷ more) = consumed_records more
+consumed_records (skipped_record bytes ∷ more) = bytes ∷ consumed_records more
+consumed_records (returned_record bytes r ∷ more) = bytes ∷ consumed_records more
 
--- Each record that was handed out is the one that its bytes are, where they stand: behind all that was taken before.
-abbrev pub AreHanded : Endianness → ℕ → List Took → Type 0
-AreHanded order offset [] = ⊤
-AreHanded order offset (nothing ∷ more) = AreHanded order offset more
-AreHanded order offset (passed bytes ∷ more) = AreHanded order (offset + length bytes) more
-AreHanded order offset (handed bytes r ∷ more) = IsRecordOf order offset bytes r × AreHanded order (offset + length bytes) more
+-- Each returned record is the one of its bytes, at the offset after all records before it.
+abbrev pub AreReturned : Endianness → ℕ → List ReaderStep → Type 0
+AreReturned order offset [] = ⊤
+AreReturned order offset (no_progress ∷ more) = AreReturned order offset more
+AreReturned order offset (skipped_record bytes ∷ more) = AreReturned order (offset + length bytes) more
+AreReturned order offset (returned_record bytes r ∷ more) = IsRecordOf order offset bytes r × AreReturned order (offset + length bytes) more
 
-module _ {R : Type 0} (seen : R → State) where
-  -- a call that told of the next head, asked for the next record or tried to pass over it, and took nothing
-  abbrev pub TakesNothing : JitDumpReader R → JitDumpReader R → Type 0
-  TakesNothing old new =
-      ((told : Result (Option JitDumpRecordHeader) Error) × Heads seen (λ head. head) old told new)
-      ⊎ (Nexts seen old (Ok None) new ⊎ (((e : Error) × Nexts seen old (Err e) new)
-      ⊎ (SkipsRecord seen old (Ok false) new ⊎ ((e : Error) × SkipsRecord seen old (Err e) new))))
+module _ {R : Type 0} (state : R → State) where
+  -- a call that consumes nothing: one for the next record header, or one that neither returns nor skips the next record
+  abbrev pub MakesNoProgress : JitDumpReader R → JitDumpReader R → Type 0
+  MakesNoProgress old new =
+      ((told : Result (Option JitDumpRecordHeader) Error) × ReturnsHeader state (λ head. head) old told new)
+      ⊎ (NextJitRecord state old (Ok None) new ⊎ (((e : Error) × NextJitRecord state old (Err e) new)
+      ⊎ (SkipsRecord state old (Ok false) new ⊎ ((e : Error) × SkipsRecord state old (Err e) new))))
 
-  -- what a call did
-  abbrev pub Calls : JitDumpReader R → Took → JitDumpReader R → Type 0
-  Calls old nothing new = TakesNothing old new
-  Calls old (passed bytes) new = (p : SkipsRecord seen old (Ok true) new) × (p.bytes ≡ bytes)
-  Calls old (handed bytes r) new = (h : Nexts seen old (Ok (Some r)) new) × (h.bytes ≡ bytes)
+  -- what one call does
+  abbrev pub PerformsStep : JitDumpReader R → ReaderStep → JitDumpReader R → Type 0
+  PerformsStep old no_progress new = MakesNoProgress old new
+  PerformsStep old (skipped_record bytes) new = (p : SkipsRecord state old (Ok true) new) × (p.bytes ≡ bytes)
+  PerformsStep old (returned_record bytes r) new = (h : NextJitRecord state old (Ok (Some r)) new) × (h.bytes ≡ bytes)
 
-  -- calls, one after the other
-  abbrev pub Run : JitDumpReader R → List Took → JitDumpReader R → Type 0
-  Run old [] new = new ≡ old
-  Run old (step ∷ steps) new = (mid : JitDumpReader R) × Calls old step mid × Run mid steps new
+  -- consecutive calls
+  abbrev pub Trace : JitDumpReader R → List ReaderStep → JitDumpReader R → Type 0
+  Trace old [] new = new ≡ old
+  Trace old (step ∷ steps) new = (mid : JitDumpReader R) × PerformsStep old step mid × Trace mid steps new
 
-  -- Whatever was called, in whatever order, unless a seek failed: what was taken are records, one behind the other, and the first of the
-  -- flat bytes; the rest is still to come. Each record that was handed out is the one of its bytes at its place.
-  pub record InOrder (old : JitDumpReader R) (steps : List Took) (new : JitDumpReader R) : Type 0 where
-    pub flat : jit_bytes seen old ≡ prepend (concat (taken steps)) (jit_bytes seen new)
-    pub are : AreRecords (jit_order old) (jit_offset old) (taken steps)
-    pub handed : AreHanded (jit_order old) (jit_offset old) steps
-    pub offset : jit_offset new ≡ jit_offset old + length (concat (taken steps))
-    pub order : jit_order new ≡ jit_order old
+  -- The effect of calls in any order, if no seek fails: the consumed bytes are consecutive records at the start of the
+  -- unread bytes, and the rest is still unread. Each returned record is the one of its bytes at its offset.
+  pub record InOrder (old : JitDumpReader R) (steps : List ReaderStep) (new : JitDumpReader R) : Type 0 where
+    pub unread_bytes : jit_unread_bytes state old ≡ prepend (concat (consumed_records steps)) (jit_unread_bytes state new)
+    pub elements : AreRecords (jit_endian old) (jit_offset old) (consumed_records steps)
+    pub returned_in_order : AreReturned (jit_endian old) (jit_offset old) steps
+    pub offset : jit_offset new ≡ jit_offset old + length (concat (consumed_records steps))
+    pub same_endian : jit_endian new ≡ jit_endian old
 
   abbrev pub NothingIsLost : Type 0
-  NothingIsLost = (old : JitDumpReader R) (steps : List Took) (new : JitDumpReader R) → Run old steps new → jit_lost new ≡ false → InOrder old steps new
+  NothingIsLost = (old : JitDumpReader R) (steps : List ReaderStep) (new : JitDumpReader R) → Trace old steps new → jit_seek_failed new ≡ false → InOrder old steps new

@@ -1,48 +1,48 @@
-//! The header of a jitdump.
+//! The file header of a jitdump.
 ghost use Rattle.std.specs.Prelude.{◌≡◌, ◌+◌, ◌≤◌, ◌<◌, ◌⊎◌, IfOk, IfErr, IfSome, IfNone, length};
 ghost use Rattle.std.specs.IoError.{error_kind};
 ghost use Rattle.std.specs.declared.io.ErrorKind.TheVariants.{UnexpectedEof};
-ghost use Rattle.perfdata_base.specs.Numbers.{number_in};
+ghost use Rattle.perfdata_base.specs.Endian.{number_in};
 ghost use Rattle.perfdata_base.specs.Raw.{bytes_of};
-ghost use Rattle.perfdata_jit.specs.JitHeader.{BeginsWithHeader, IsBehindMagic, IsCutBehindMagic, IsNoJitHeader, IsNoMagic, header_behind, magic_of};
+ghost use Rattle.perfdata_jit.specs.JitHeader.{BeginsWithJitHeader, IsHeaderAfterMagic, IsTruncatedAfterMagic, IsJitHeaderError, IsUnknownMagic, header_after_magic, jit_magic_of};
 
 use crate::error::JitDumpError;
 use byteorder::{BigEndian, LittleEndian};
 use perfdata_base::raw::{Endianness, FileOrder, RawData};
 use std::io;
 
-/// How many bytes of a header have a meaning behind its magic.
-const KNOWN_BEHIND_MAGIC: usize = JitDumpHeader::SIZE - 4;
+/// Number of header bytes with a defined meaning after the magic.
+const SIZE_AFTER_MAGIC: usize = JitDumpHeader::SIZE - 4;
 
-/// The magic of a file whose numbers are little-endian.
+/// The magic of a little-endian file.
 const LITTLE_MAGIC: [u8; 4] = [b'D', b'T', b'i', b'J'];
 
-/// The magic of a file whose numbers are big-endian.
+/// The magic of a big-endian file.
 const BIG_MAGIC: [u8; 4] = [b'J', b'i', b'T', b'D'];
 
-/// The header of a jitdump file.
+/// The file header of a jitdump.
 #[derive(Clone, Debug, Drop)]
 pub struct JitDumpHeader {
-    /// `JiTD` in the order of the file's numbers, which it tells.
+    /// `JiTD` in the byte order of the file, which it determines.
     pub magic: [u8; 4],
-    /// The version of the format, which is 1 today.
+    /// The version of the format, currently 1.
     pub version: u32,
-    /// How many bytes the header has, and so where the first record begins.
+    /// The size of the header in bytes, which is also the offset of the first record.
     pub total_size: u32,
-    /// The machine that the code is for, as `e_machine` of an ELF file.
+    /// The machine of the code, as `e_machine` of an ELF file.
     pub elf_machine_arch: u32,
-    /// The process whose code it is.
+    /// The pid of the process that runs the code.
     pub pid: u32,
-    /// When the file was made.
+    /// The time at which the file was created.
     pub timestamp: u64,
-    /// Bit 0: times are those of the time stamp counter.
+    /// Bit 0: timestamps are values of the time stamp counter.
     pub flags: u64,
 }
 
-/// The order of a file's numbers by its magic, if it is one.
-pub fn order_of_magic(magic: &[u8; 4]) -> Option<Endianness>
-    ensures some { IfSome result (λ order. magic.now ≡ magic_of order) }
-    ensures none { IfNone result (IsNoMagic magic.now) }
+/// Returns the byte order of a file with this magic, or `None` if it is not the magic of a jitdump.
+pub fn endian_of_magic(magic: &[u8; 4]) -> Option<Endianness>
+    ensures some { IfSome result (λ order. magic.now ≡ jit_magic_of order) }
+    ensures none { IfNone result (IsUnknownMagic magic.now) }
 {
     if *magic == LITTLE_MAGIC {
         Some(Endianness::LittleEndian)
@@ -53,10 +53,10 @@ pub fn order_of_magic(magic: &[u8; 4]) -> Option<Endianness>
     }
 }
 
-// The header by its magic and the bytes behind that.
+// The header with this magic and these 36 bytes after it.
 fn parse_fields<O: FileOrder>(magic: [u8; 4], behind: &[u8]) -> JitDumpHeader
     requires { length behind.now ≡ 36 }
-    ensures { result ≡ header_behind O.number_of magic behind.now }
+    ensures { result ≡ header_after_magic O.number_of magic behind.now }
 {
     JitDumpHeader {
         magic,
@@ -69,10 +69,14 @@ fn parse_fields<O: FileOrder>(magic: [u8; 4], behind: &[u8]) -> JitDumpHeader
     }
 }
 
-// The header by its magic and the bytes behind that, with its numbers in an order.
-fn parse_in(order: Endianness, magic: [u8; 4], behind: RawData<'_>) -> io::Result<JitDumpHeader>
-    ensures value { IfOk result (λ header. IsBehindMagic (number_in order) magic (bytes_of behind.entry) header) }
-    ensures refused { IfErr result (λ error. IsCutBehindMagic (number_in order) (bytes_of behind.entry) error) }
+// Parses as `parse_after_magic` does, in the byte order `order`.
+fn parse_after_magic_in(
+    order: Endianness,
+    magic: [u8; 4],
+    behind: RawData<'_>,
+) -> io::Result<JitDumpHeader>
+    ensures value { IfOk result (λ header. IsHeaderAfterMagic (number_in order) magic (bytes_of behind.entry) header) }
+    ensures error { IfErr result (λ error. IsTruncatedAfterMagic (number_in order) (bytes_of behind.entry) error) }
 {
     match order {
         Endianness::LittleEndian => {
@@ -83,17 +87,19 @@ fn parse_in(order: Endianness, magic: [u8; 4], behind: RawData<'_>) -> io::Resul
 }
 
 impl JitDumpHeader {
-    /// How many bytes of a header have a meaning, and the fewest that it can have.
+    /// Number of header bytes with a defined meaning, and the minimum size of a header.
     pub const SIZE: usize = 40;
 
-    /// The header that these bytes begin with. All of its bytes are to be there, also those behind the first 40.
+    /// Parses the header at the start of the bytes. The bytes must contain the whole header, including the part after the
+    /// first 40 bytes.
     ///
-    /// The first that holds of these: `NotEnoughBytesForHeader` where there are fewer than 4 bytes, `InvalidMagicBytes`
-    /// where the first 4 aren't a magic, `NotEnoughBytesForHeader` where there are fewer than 40, `InvalidHeaderSize` where
-    /// the header says that it has fewer than 40, and `NotEnoughBytesForHeader` where it says that it has more than there are.
+    /// Returns the first error that applies: `NotEnoughBytesForHeader` if there are fewer than 4 bytes, `InvalidMagicBytes`
+    /// if the first 4 bytes are not a magic, `NotEnoughBytesForHeader` if there are fewer than 40 bytes,
+    /// `InvalidHeaderSize` if the header's size field is less than 40, `NotEnoughBytesForHeader` if the size field is
+    /// greater than the number of bytes.
     pub fn parse(bytes: RawData<'_>) -> Result<JitDumpHeader, JitDumpError>
-        ensures value { IfOk result (λ header. BeginsWithHeader (bytes_of bytes.entry) header) }
-        ensures refused { IfErr result (λ error. IsNoJitHeader (bytes_of bytes.entry) error) }
+        ensures value { IfOk result (λ header. BeginsWithJitHeader (bytes_of bytes.entry) header) }
+        ensures error { IfErr result (λ error. IsJitHeaderError (bytes_of bytes.entry) error) }
     {
         let mut behind = bytes;
         let mut magic = [0u8; 4];
@@ -101,10 +107,10 @@ impl JitDumpHeader {
             Ok(()) => {}
             Err(_) => return Err(JitDumpError::NotEnoughBytesForHeader),
         }
-        let Some(order) = order_of_magic(&magic) else {
+        let Some(order) = endian_of_magic(&magic) else {
             return Err(JitDumpError::InvalidMagicBytes(magic));
         };
-        match parse_in(order, magic, behind) {
+        match parse_after_magic_in(order, magic, behind) {
             Ok(header) => {
                 if header.total_size < JitDumpHeader::SIZE as u32 {
                     return Err(JitDumpError::InvalidHeaderSize(header.total_size));
@@ -115,19 +121,20 @@ impl JitDumpHeader {
         }
     }
 
-    /// The header by its magic and the bytes behind that, with its numbers in the order `O`. A header that says that it has
-    /// fewer than 40 bytes is taken.
+    /// Parses the header from its magic and the bytes after it, in the byte order `O`. A header whose size field is less
+    /// than 40 is accepted.
     ///
-    /// An `UnexpectedEof` error where fewer than 36 bytes are there, or fewer than the header's size without the magic.
+    /// Returns an `UnexpectedEof` error if there are fewer than 36 bytes, or fewer than the header's size field minus the 4
+    /// bytes of the magic.
     pub fn parse_after_magic<O: FileOrder>(
         magic: [u8; 4],
         behind: RawData<'_>,
     ) -> io::Result<JitDumpHeader>
-        ensures value { IfOk result (λ header. IsBehindMagic O.number_of magic (bytes_of behind.entry) header) }
-        ensures refused { IfErr result (λ error. IsCutBehindMagic O.number_of (bytes_of behind.entry) error) }
+        ensures value { IfOk result (λ header. IsHeaderAfterMagic O.number_of magic (bytes_of behind.entry) header) }
+        ensures error { IfErr result (λ error. IsTruncatedAfterMagic O.number_of (bytes_of behind.entry) error) }
     {
         let mut rest = behind;
-        let mut known = [0u8; KNOWN_BEHIND_MAGIC];
+        let mut known = [0u8; SIZE_AFTER_MAGIC];
         match rest.read_exact(&mut known) {
             Ok(()) => {}
             Err(error) => return Err(error),

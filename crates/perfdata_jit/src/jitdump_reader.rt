@@ -1,64 +1,64 @@
-//! Reads the records of a jitdump, also while it grows.
+//! A reader of the records of a jitdump, also while it grows.
 ghost use Rattle.std.specs.Prelude.{◌≡◌, ◌↔◌, ◌≤◌, IsTrue, false, length, vec_len};
 ghost use Rattle.std.specs.Borrow.{sem};
 ghost use Rattle.std.specs.Io.BufRead.{Rests};
-ghost use Rattle.perfdata_jit.specs.Answer.{IsHeld, head_in};
-ghost use Rattle.perfdata_jit.specs.JitDumpReader.{Heads, Nexts, Opens, PassesHeld, SkipsRecord, jit_header, jit_held, jit_lost, jit_offset, jit_order};
-ghost use Rattle.perfdata_jit.specs.JitHead.{TakesHead, ChecksHead, AsksNext};
-ghost use Rattle.perfdata_jit.specs.ReadExact.{CountsFill, FillsPlace};
+ghost use Rattle.perfdata_jit.specs.RecordBytes.{HasWholeRecord, record_header_at};
+ghost use Rattle.perfdata_jit.specs.JitDumpReader.{ReturnsHeader, NextJitRecord, OpensReader, SkipsBuffered, SkipsRecord, jit_header, jit_buffered, jit_seek_failed, jit_offset, jit_endian};
+ghost use Rattle.perfdata_jit.specs.HeaderSteps.{PeeksHeader, PeeksValidHeader, BuffersRecord};
+ghost use Rattle.perfdata_jit.specs.ReadUntilEof.{CountsFill, FillsUntilEof};
 ghost use Rattle.perfdata_jit.specs.contracts.jitdump_reader.JitDumpReader.{the_row};
 
 use crate::buffered_reader::BufferedReader;
 use crate::error::JitDumpError;
-use crate::header::{JitDumpHeader, order_of_magic};
-use crate::read_exact::ReadExactOrUntilEof;
+use crate::header::{JitDumpHeader, endian_of_magic};
+use crate::read_until_eof::ReadExactOrUntilEof;
 use crate::record::{JitDumpRawRecord, JitDumpRecordHeader, JitDumpRecordType};
-use perfdata_base::order::{read_u32, read_u64};
+use perfdata_base::endian::{read_u32, read_u64};
 use perfdata_base::raw::{Endianness, RawData};
 use perfdata_base::source::{PlacedSource, Source};
 use std::alloc::Global;
 use std::io::{self, Error, ErrorKind};
 use std::result::Result;
 
-/// How many bytes a head takes.
-const HEAD: usize = JitDumpRecordHeader::SIZE;
+/// The size of a record header in bytes.
+const HEADER_SIZE: usize = JitDumpRecordHeader::SIZE;
 
-/// How many bytes are read at once, where the caller doesn't choose.
+/// The buffer size that `new` chooses, in bytes.
 const BUFFER_SIZE: usize = 4096;
 
-/// Hands out the records of a jitdump file one by one, also while the file still grows.
+/// A reader that returns the records of a jitdump file one by one, also while the file grows.
 ///
-/// A record is lent from the buffers until the next call. `Ok(None)` says that the next record isn't there yet. After that,
-/// and after an error of a read, nothing is lost, and the call may be made again.
+/// A record is borrowed from the buffers until the next call. `Ok(None)` means that the next record is not complete yet. No
+/// byte is lost by `Ok(None)` or by a read error, and the call can be repeated.
 #[derive(Drop)]
 pub struct JitDumpReader<R> {
     reader: BufferedReader<R>,
     header: JitDumpHeader,
     endian: Endianness,
-    head: Option<[u8; HEAD]>,
+    pending_header: Option<[u8; HEADER_SIZE]>,
     offset: u64,
 }
 
-// The same sixteen bytes.
-fn copy_of(bytes: &[u8; HEAD]) -> [u8; HEAD]
+// Copies a record header.
+fn copy_header(bytes: &[u8; HEADER_SIZE]) -> [u8; HEADER_SIZE]
     ensures same { result ≡ bytes.now }
     ensures long { length result ≡ 16 }
 {
     *bytes
 }
 
-// Fills the buffer, or as much of it as the source has bytes for.
+// Reads until the buffer is full or a read is empty.
 fn fill_buffer<R: Source>(source: &mut R, buffer: &mut Vec<u8>) -> io::Result<usize>
-    ensures fills { FillsPlace (R.seen source.old) buffer.new.items result (R.seen source.new) }
-    ensures counts { CountsFill (R.seen source.old) buffer.new.items result (R.seen source.new) }
+    ensures fills { FillsUntilEof (R.state source.old) buffer.new.items result (R.state source.new) }
+    ensures counts { CountsFill (R.state source.old) buffer.new.items result (R.state source.new) }
     ensures size { vec_len buffer.new ≡ vec_len buffer.old }
 {
     source.read_exact_or_until_eof(buffer.as_mut_slice())
 }
 
-// The head that sixteen bytes are.
-fn head_of(endian: Endianness, bytes: &[u8; HEAD]) -> JitDumpRecordHeader
-    ensures { result ≡ head_in endian bytes.now }
+// Parses a record header of sixteen bytes.
+fn record_header_of(endian: Endianness, bytes: &[u8; HEADER_SIZE]) -> JitDumpRecordHeader
+    ensures { result ≡ record_header_at endian bytes.now }
 {
     JitDumpRecordHeader {
         record_type: JitDumpRecordType(read_u32(endian, bytes)),
@@ -68,26 +68,27 @@ fn head_of(endian: Endianness, bytes: &[u8; HEAD]) -> JitDumpRecordHeader
 }
 
 impl<R: Source + Drop> JitDumpReader<R> {
-    /// A reader of the jitdump file that the source gives, with a buffer of 4,096 bytes.
+    /// Creates a reader of the jitdump file in `source`, with a buffer of 4,096 bytes.
     ///
-    /// Errors are those of [`JitDumpReader::new_with_buffer_size`].
+    /// Fails as [`JitDumpReader::new_with_buffer_size`] does.
     pub fn new(alloc: Global, source: R) -> Result<JitDumpReader<R>, JitDumpError>
-        ensures { Opens R.seen source 4096 result }
+        ensures { OpensReader R.state source 4096 result }
     {
         JitDumpReader::new_with_buffer_size(alloc, source, BUFFER_SIZE)
     }
 
-    /// A reader of the jitdump file that the source gives, with a buffer of this length, which is to hold the file's header.
+    /// Creates a reader of the jitdump file in `source`, with a buffer of `buffer_size` bytes. The file header must fit in
+    /// the buffer.
     ///
-    /// The buffer is filled until it is full or the source gives none, and what came is to hold the header. The first that
-    /// applies of these: `Io` where the source fails or there is no memory for the buffer, and else the refusals of
+    /// The call reads until the buffer is full or a read is empty, and parses the file header from these bytes. Returns the
+    /// first error that applies: `Io` if the source fails or the allocation of the buffer fails, otherwise an error of
     /// [`JitDumpHeader::parse`].
     pub fn new_with_buffer_size(
         alloc: Global,
         mut source: R,
         buffer_size: usize,
     ) -> Result<JitDumpReader<R>, JitDumpError>
-        ensures { Opens R.seen source buffer_size result }
+        ensures { OpensReader R.state source buffer_size result }
     {
         let mut buffer = Vec::new(alloc);
         match buffer.resize(buffer_size, 0) {
@@ -102,7 +103,7 @@ impl<R: Source + Drop> JitDumpReader<R> {
             Ok(header) => header,
             Err(error) => return Err(error),
         };
-        let endian = match order_of_magic(&header.magic) {
+        let endian = match endian_of_magic(&header.magic) {
             Some(endian) => endian,
             None => return Err(JitDumpError::InvalidMagicBytes(header.magic)),
         };
@@ -117,44 +118,44 @@ impl<R: Source + Drop> JitDumpReader<R> {
             ),
             header,
             endian,
-            head: None,
+            pending_header: None,
             offset: offset as u64,
         })
     }
 }
 
 impl<R: Source> JitDumpReader<R> {
-    /// The file's header.
+    /// The file header.
     pub fn header(&self) -> &JitDumpHeader
         ensures { result.now ≡ jit_header self.now }
     {
         &self.header
     }
 
-    /// The order of the file's numbers.
+    /// The byte order of the file.
     pub fn endian(&self) -> Endianness
-        ensures { result ≡ jit_order self.now }
+        ensures { result ≡ jit_endian self.now }
     {
         self.endian
     }
 
-    /// Where the next record begins in the file, in bytes.
+    /// The offset of the next record in the file, in bytes.
     pub fn next_record_offset(&self) -> u64
         ensures { result ≡ jit_offset self.now }
     {
-        self.offset // the same while the record's head is kept
+        self.offset // unchanged by a pending header
     }
 
-    /// Whether so many bytes of the records to come are buffered: a call whose part ends within them doesn't read.
+    /// Whether the next `count` unread bytes are buffered. A call that needs only these bytes doesn't read the source.
     ///
-    /// The first 16 bytes are the next record's header, by which [`JitDumpReader::next_record_header`] then tells the size of
-    /// that record.
+    /// The first 16 of them are the next record header. [`JitDumpReader::next_record_header`] returns the size of its
+    /// record.
     pub fn has_buffered(&self, count: usize) -> bool
-        ensures { IsTrue result ↔ count ≤ length (jit_held self.now) }
+        ensures { IsTrue result ↔ count ≤ length (jit_buffered self.now) }
     {
-        match self.head {
+        match self.pending_header {
             Some(head) => {
-                let head = copy_of(&head);
+                let head = copy_header(&head);
                 if count <= head.len() {
                     return true;
                 }
@@ -164,21 +165,21 @@ impl<R: Source> JitDumpReader<R> {
         }
     }
 
-    // The bytes of the next head, which is kept.
-    fn take_head(&mut self) -> io::Result<Option<[u8; HEAD]>>
-        ensures heads { TakesHead R.seen self.old result self.new }
+    // Returns the bytes of the next record header, which becomes the pending header.
+    fn peek_header_bytes(&mut self) -> io::Result<Option<[u8; HEADER_SIZE]>>
+        ensures peeks_header { PeeksHeader R.state self.old result self.new }
     {
-        match self.reader.check_found() {
+        match self.reader.check_no_seek_failed() {
             Ok(()) => {}
             Err(error) => return Err(error),
         }
-        match self.head {
-            Some(head) => return Ok(Some(copy_of(&head))),
+        match self.pending_header {
+            Some(head) => return Ok(Some(copy_header(&head))),
             None => {}
         }
-        match self.reader.consume_head() {
+        match self.reader.consume_header() {
             Ok(Some(head)) => {
-                self.head = Some(head);
+                self.pending_header = Some(head);
                 Ok(Some(head))
             }
             Ok(None) => Ok(None),
@@ -186,16 +187,16 @@ impl<R: Source> JitDumpReader<R> {
         }
     }
 
-    // The next head, which is kept, if a record can have the size that it tells.
-    fn check_head(&mut self) -> io::Result<Option<JitDumpRecordHeader>>
-        ensures { ChecksHead R.seen self.old result self.new }
+    // Returns the next record header, which becomes the pending header, and fails if its size is invalid.
+    fn peek_valid_header(&mut self) -> io::Result<Option<JitDumpRecordHeader>>
+        ensures { PeeksValidHeader R.state self.old result self.new }
     {
-        let head = match self.take_head() {
-            Ok(Some(bytes)) => head_of(self.endian, &bytes),
+        let head = match self.peek_header_bytes() {
+            Ok(Some(bytes)) => record_header_of(self.endian, &bytes),
             Ok(None) => return Ok(None),
             Err(error) => return Err(error),
         };
-        if (head.total_size as usize) < HEAD {
+        if (head.total_size as usize) < HEADER_SIZE {
             return Err(Error::from(ErrorKind::InvalidData));
         }
         let offset = self.offset;
@@ -205,39 +206,43 @@ impl<R: Source> JitDumpReader<R> {
         Ok(Some(head))
     }
 
-    // Reads until the next record is held, and gives its head, which is kept.
-    fn ask_record(&mut self) -> io::Result<Option<JitDumpRecordHeader>>
-        ensures { AsksNext R.seen self.old result self.new }
+    // Reads until the next record is buffered. Returns its record header, which becomes the pending header.
+    fn buffer_record(&mut self) -> io::Result<Option<JitDumpRecordHeader>>
+        ensures { BuffersRecord R.state self.old result self.new }
     {
-        let head = match self.check_head() {
+        let head = match self.peek_valid_header() {
             Ok(Some(head)) => head,
             Ok(None) => return Ok(None),
             Err(error) => return Err(error),
         };
-        match self.reader.ask(head.total_size as usize - HEAD) {
+        match self
+            .reader
+            .ensure_buffered(head.total_size as usize - HEADER_SIZE)
+        {
             Ok(true) => Ok(Some(head)),
             Ok(false) => Ok(None),
             Err(error) => Err(error),
         }
     }
 
-    /// The head of the next record, which stays the next; `Ok(None)` where its 16 bytes aren't there yet.
+    /// Returns the header of the next record without consuming the record, or `Ok(None)` if its 16 bytes are not available
+    /// yet.
     ///
-    /// A fault of the source is answered as it came. Nothing is lost then, and the call may be made again. Once a seek has
-    /// failed, the answer is an error of kind `Other`.
+    /// Fails with the source's own error. No byte is lost then, and the call can be repeated. Once a seek has failed, the
+    /// call fails with kind `Other`.
     pub fn next_record_header(&mut self) -> io::Result<Option<JitDumpRecordHeader>>
-        ensures { Heads R.seen (λ head. head) self.old result self.new }
+        ensures { ReturnsHeader R.state (λ head. head) self.old result self.new }
     {
-        match self.take_head() {
-            Ok(Some(bytes)) => Ok(Some(head_of(self.endian, &bytes))),
+        match self.peek_header_bytes() {
+            Ok(Some(bytes)) => Ok(Some(record_header_of(self.endian, &bytes))),
             Ok(None) => Ok(None),
             Err(error) => Err(error),
         }
     }
 
-    /// When the next record was written, as by [`JitDumpReader::next_record_header`].
+    /// Returns the timestamp of the next record, as [`JitDumpReader::next_record_header`] does.
     pub fn next_record_timestamp(&mut self) -> io::Result<Option<u64>>
-        ensures { Heads R.seen (λ head. head.timestamp) self.old result self.new }
+        ensures { ReturnsHeader R.state (λ head. head.timestamp) self.old result self.new }
     {
         match self.next_record_header() {
             Ok(Some(head)) => Ok(Some(head.timestamp)),
@@ -246,9 +251,9 @@ impl<R: Source> JitDumpReader<R> {
         }
     }
 
-    /// The type of the next record, as by [`JitDumpReader::next_record_header`].
+    /// Returns the type of the next record, as [`JitDumpReader::next_record_header`] does.
     pub fn next_record_type(&mut self) -> io::Result<Option<JitDumpRecordType>>
-        ensures { Heads R.seen (λ head. head.record_type) self.old result self.new }
+        ensures { ReturnsHeader R.state (λ head. head.record_type) self.old result self.new }
     {
         match self.next_record_header() {
             Ok(Some(head)) => Ok(Some(head.record_type)),
@@ -257,17 +262,18 @@ impl<R: Source> JitDumpReader<R> {
         }
     }
 
-    /// The next record, lent until the next call; `Ok(None)` where it isn't there whole and the source gave none.
+    /// Returns the next record, borrowed until the next call, or `Ok(None)` if a read is empty before the record is
+    /// complete.
     ///
-    /// Reading stops as soon as the record is there, and the source isn't asked where it is held. `InvalidData` where the
-    /// record's head says that it has fewer than its own 16 bytes, or an end past 2^64 - 1; the head stays. A fault of the
-    /// source is answered as it came; `OutOfMemory` comes only where the record's body is longer than the buffer. Nothing is
-    /// lost then, nor by `Ok(None)`, and the call may be made again. Once a seek has failed, the answer is an error of kind
-    /// `Other`.
+    /// Reading stops as soon as the record is buffered. The source is not read if the record is buffered before the call.
+    /// Fails with `InvalidData` if the size in the record header is less than 16, or if the record's end exceeds 2^64 - 1;
+    /// the header stays pending. Fails with the source's own error if a read fails, and with `OutOfMemory` only if the
+    /// record's body is longer than the buffer. No byte is lost by an error or by `Ok(None)`, and the call can be repeated.
+    /// Once a seek has failed, the call fails with kind `Other`.
     pub fn next_record(&mut self) -> io::Result<Option<JitDumpRawRecord<'_>>>
-        ensures* after_borrow { sem 𝓛 (Rests (the_row R.row) self.entry (λ new. Nexts R.seen self.old result new)) }
+        ensures* after_borrow { sem 𝓛 (Rests (the_row R.row) self.entry (λ new. NextJitRecord R.state self.old result new)) }
     {
-        let head = match self.ask_record() {
+        let head = match self.buffer_record() {
             Ok(Some(head)) => head,
             Ok(None) => return Ok(None),
             Err(error) => return Err(error),
@@ -275,9 +281,11 @@ impl<R: Source> JitDumpReader<R> {
         let endian = self.endian;
         let start_offset = self.offset;
         let record_size = head.total_size;
-        self.head = None;
+        self.pending_header = None;
         self.offset += record_size as u64;
-        let body = self.reader.take(record_size as usize - HEAD);
+        let body = self
+            .reader
+            .consume_buffered(record_size as usize - HEADER_SIZE);
         Ok(Some(JitDumpRawRecord {
             endian,
             record_type: head.record_type,
@@ -290,25 +298,25 @@ impl<R: Source> JitDumpReader<R> {
 }
 
 impl<R: PlacedSource> JitDumpReader<R> {
-    /// Takes the next record off unread, and says whether it did. It didn't where the record's head isn't there, or the
-    /// source shows too few bytes; the record stays the next then.
+    /// Skips the next record without reading its body. Returns whether it does: `Ok(false)` means that the record header is
+    /// not available, or that the source has too few bytes. The record then remains the next one.
     ///
-    /// Where the record is held whole the source isn't touched. Otherwise it is sought in, as by
-    /// [`BufferedReader::skip_bytes`]. Errors are those of [`JitDumpReader::next_record`], without want of memory for a body,
-    /// and a seek's own, after which each call that can refuse answers kind `Other`.
+    /// If the record is buffered, the source is not used. Otherwise the source seeks as in [`BufferedReader::skip_bytes`].
+    /// Fails as [`JitDumpReader::next_record`] does, except that it allocates nothing for a body, and with the error of a
+    /// seek. After the error of a seek, each call that can fail fails with kind `Other`.
     pub fn skip_next_record(&mut self) -> io::Result<bool>
-        ensures skips { SkipsRecord R.seen self.old result self.new }
-        ensures held { IsHeld (jit_order self.old) (jit_offset self.old) (jit_held self.old) → jit_lost self.old ≡ false → PassesHeld self.old result self.new }
+        ensures skips { SkipsRecord R.state self.old result self.new }
+        ensures buffered { HasWholeRecord (jit_endian self.old) (jit_offset self.old) (jit_buffered self.old) → jit_seek_failed self.old ≡ false → SkipsBuffered self.old result self.new }
     {
-        let head = match self.check_head() {
+        let head = match self.peek_valid_header() {
             Ok(Some(head)) => head,
             Ok(None) => return Ok(false),
             Err(error) => return Err(error),
         };
         let record_size = head.total_size;
-        match self.reader.skip_bytes(record_size as usize - HEAD) {
+        match self.reader.skip_bytes(record_size as usize - HEADER_SIZE) {
             Ok(true) => {
-                self.head = None;
+                self.pending_header = None;
                 self.offset += record_size as u64;
                 Ok(true)
             }

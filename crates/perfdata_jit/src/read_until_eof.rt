@@ -1,32 +1,32 @@
-//! Fills a place as far as a source has bytes.
+//! Fills a buffer until the source ends or pauses.
 ghost use Rattle.std.specs.Prelude.{◌≡◌};
-ghost use Rattle.perfdata_jit.specs.ReadExact.{CountsFill, FillsPlace};
+ghost use Rattle.perfdata_jit.specs.ReadUntilEof.{CountsFill, FillsUntilEof};
 
 use perfdata_base::source::Source;
 use std::io::Result;
 
-/// A source that fills a place as far as it has bytes.
+/// A source that fills a buffer until it ends or pauses.
 pub trait ReadExactOrUntilEof: Source {
-    /// Reads until the place is full or the source gives none. Says how many bytes came.
+    /// Reads until the buffer is full or a read is empty, and returns the number of bytes read.
     ///
-    /// An error is the source's own, answered at once, also of kind `Interrupted`. The place's front holds what came before;
-    /// how much that is isn't told.
+    /// Returns the source's own error at once, also one of kind `Interrupted`. The prefix of the buffer then contains the
+    /// bytes that were read before. Their number is not reported.
     fn read_exact_or_until_eof(&mut self, place: &mut [u8]) -> Result<usize>
-        ensures fills { FillsPlace (Self.seen self.old) place.new result (Self.seen self.new) }
-        ensures counts { CountsFill (Self.seen self.old) place.new result (Self.seen self.new) }
-        ensures lent { Self.lent self.new ≡ Self.lent self.old };
+        ensures fills { FillsUntilEof (Self.state self.old) place.new result (Self.state self.new) }
+        ensures counts { CountsFill (Self.state self.old) place.new result (Self.state self.new) }
+        ensures same_loan { Self.loan self.new ≡ Self.loan self.old };
 }
 
 impl<R: Source> ReadExactOrUntilEof for R {
     fn read_exact_or_until_eof(&mut self, place: &mut [u8]) -> Result<usize> {
-        fill_place(self, place)
+        fill_until_eof(self, place)
     }
 }
 
-fn fill_place<R: Source>(source: &mut R, place: &mut [u8]) -> Result<usize>
-    ensures fills { FillsPlace (R.seen source.old) place.new result (R.seen source.new) }
-    ensures counts { CountsFill (R.seen source.old) place.new result (R.seen source.new) }
-    ensures lent { R.lent source.new ≡ R.lent source.old }
+fn fill_until_eof<R: Source>(source: &mut R, place: &mut [u8]) -> Result<usize>
+    ensures fills { FillsUntilEof (R.state source.old) place.new result (R.state source.new) }
+    ensures counts { CountsFill (R.state source.old) place.new result (R.state source.new) }
+    ensures same_loan { R.loan source.new ≡ R.loan source.old }
 {
     let mut filled = 0;
     'reads: while filled < place.len() {

@@ -1,8 +1,8 @@
 //! A record of a jitdump, raw and parsed.
 ghost use Rattle.std.specs.Prelude.{◌≡◌, ◌≤◌, IfOk, IfErr, length};
-ghost use Rattle.perfdata_base.specs.Numbers.{number_in};
-ghost use Rattle.perfdata_base.specs.Raw.{bytes_of, IsShort};
-ghost use Rattle.perfdata_jit.specs.JitRecord.{IsJitRecord, RefusesJitRecord, jit_head_of};
+ghost use Rattle.perfdata_base.specs.Endian.{number_in};
+ghost use Rattle.perfdata_base.specs.Raw.{bytes_of, EndsBefore};
+ghost use Rattle.perfdata_jit.specs.JitRecord.{IsJitRecord, IsJitRecordError, jit_record_header_of};
 
 use crate::records::{
     JitCodeDebugInfoRecord, JitCodeLoadRecord, JitCodeMoveRecord, JitCodeUnwindingInfoRecord,
@@ -22,49 +22,50 @@ const CLOSE: u32 = 3;
 
 const UNWINDING_INFO: u32 = 4;
 
-/// The type of a jitdump file's record.
+/// The type of a jitdump record.
 #[derive(Clone, Copy, Debug, PartialEq, Eq, Hash, PartialOrd, Ord)]
 pub struct JitDumpRecordType(pub u32);
 
 impl JitDumpRecordType {
-    /// A function was made.
+    /// A function was compiled.
     pub const JIT_CODE_LOAD: JitDumpRecordType = JitDumpRecordType(LOAD);
 
     /// A function was moved.
     pub const JIT_CODE_MOVE: JitDumpRecordType = JitDumpRecordType(MOVE);
 
-    /// Where the code of a function comes from.
+    /// The source locations of a function's code.
     pub const JIT_CODE_DEBUG_INFO: JitDumpRecordType = JitDumpRecordType(DEBUG_INFO);
 
-    /// The runtime has written all that it will write.
+    /// The runtime writes no further records.
     pub const JIT_CODE_CLOSE: JitDumpRecordType = JitDumpRecordType(CLOSE);
 
-    /// How a function is unwound.
+    /// The unwinding information of a function.
     pub const JIT_CODE_UNWINDING_INFO: JitDumpRecordType = JitDumpRecordType(UNWINDING_INFO);
 }
 
-/// The head that each record begins with.
+/// The record header at the start of each record.
 #[derive(Clone, Debug, Drop)]
 pub struct JitDumpRecordHeader {
-    /// What the record tells.
+    /// The type of the record.
     pub record_type: JitDumpRecordType,
-    /// How many bytes the record has, its head counted.
+    /// The size of the record in bytes, including its record header.
     pub total_size: u32,
-    /// When it was written.
+    /// The time at which the record was written.
     pub timestamp: u64,
 }
 
 impl JitDumpRecordHeader {
-    /// How many bytes a head takes.
+    /// The size of a record header in bytes.
     pub const SIZE: usize = 16;
 
-    /// The head that these bytes begin with: its type and the record's size of four bytes each, and its time of eight.
+    /// Parses the record header at the start of the bytes: the record's type and total size of 4 bytes each, and its
+    /// timestamp of 8.
     ///
-    /// An `UnexpectedEof` error where there are fewer than 16 bytes.
+    /// Returns an `UnexpectedEof` error if there are fewer than 16 bytes.
     pub fn parse(endian: Endianness, bytes: RawData<'_>) -> Result<JitDumpRecordHeader>
         ensures enough { IfOk result (λ _. 16 ≤ length (bytes_of bytes.entry)) }
-        ensures value { IfOk result (λ head. head ≡ jit_head_of (number_in endian) (bytes_of bytes.entry)) }
-        ensures short { IfErr result (λ error. IsShort 16 (bytes_of bytes.entry) error) }
+        ensures value { IfOk result (λ head. head ≡ jit_record_header_of (number_in endian) (bytes_of bytes.entry)) }
+        ensures too_short { IfErr result (λ error. EndsBefore 16 (bytes_of bytes.entry) error) }
     {
         match endian {
             Endianness::LittleEndian => JitDumpRecordHeader::parse_impl::<LittleEndian>(bytes),
@@ -72,11 +73,11 @@ impl JitDumpRecordHeader {
         }
     }
 
-    /// The head that these bytes begin with, as by `parse`, with its numbers in the order `O`.
+    /// Parses the record header at the start of the bytes as `parse` does, in the byte order `O`.
     pub fn parse_impl<O: FileOrder>(bytes: RawData<'_>) -> Result<JitDumpRecordHeader>
         ensures enough { IfOk result (λ _. 16 ≤ length (bytes_of bytes.entry)) }
-        ensures value { IfOk result (λ head. head ≡ jit_head_of O.number_of (bytes_of bytes.entry)) }
-        ensures short { IfErr result (λ error. IsShort 16 (bytes_of bytes.entry) error) }
+        ensures value { IfOk result (λ head. head ≡ jit_record_header_of O.number_of (bytes_of bytes.entry)) }
+        ensures too_short { IfErr result (λ error. EndsBefore 16 (bytes_of bytes.entry) error) }
     {
         let mut rest = bytes;
         let mut head = [0u8; JitDumpRecordHeader::SIZE];
@@ -92,48 +93,48 @@ impl JitDumpRecordHeader {
     }
 }
 
-/// A record in the form that its type has.
+/// A parsed record.
 #[derive(Debug, Drop)]
 pub enum JitDumpRecord<'a> {
-    /// Code that was made, with its name.
+    /// A function that was compiled, with its name and code.
     CodeLoad(JitCodeLoadRecord<'a>),
-    /// Code that was moved.
+    /// A function that was moved.
     CodeMove(JitCodeMoveRecord),
-    /// The lines of source of code.
+    /// The source lines of a function's code.
     CodeDebugInfo(JitCodeDebugInfoRecord<'a>),
-    /// The runtime has written all that it will write.
+    /// The runtime writes no further records.
     CodeClose,
-    /// How code is unwound.
+    /// The unwinding information of a function.
     CodeUnwindingInfo(JitCodeUnwindingInfoRecord<'a>),
     /// A record of any other type.
     Other(JitDumpRawRecord<'a>),
 }
 
-/// A record whose body hasn't been parsed and is lent.
+/// A record with a borrowed body that is not parsed.
 #[derive(Clone, Debug, Drop)]
 pub struct JitDumpRawRecord<'a> {
-    /// The order of its numbers.
+    /// The byte order of the record.
     pub endian: Endianness,
-    /// What the record tells.
+    /// The type of the record.
     pub record_type: JitDumpRecordType,
-    /// When it was written.
+    /// The time at which the record was written.
     pub timestamp: u64,
-    /// Where its head begins in the file, in bytes.
+    /// The offset of the record header in the file, in bytes.
     pub start_offset: u64,
-    /// How many bytes it has, its head counted.
+    /// The size of the record in bytes, including its record header.
     pub record_size: u32,
-    /// All bytes behind the head.
+    /// All bytes after the record header.
     pub body: RawData<'a>,
 }
 
 impl<'a> JitDumpRawRecord<'a> {
-    /// The record in the form that its type has. The body of a closing record isn't read, and a record of another type than
-    /// the five stays as it is. Only debug info takes memory.
+    /// Parses the body in the format of the record's type. The body of a `JIT_CODE_CLOSE` record is not read. A record of
+    /// none of the five types is returned unparsed as `Other`. Only debug info allocates memory.
     ///
-    /// A body that isn't of that form is refused as by the `parse` of its record.
+    /// Fails as the `parse` of the record's type does.
     pub fn parse(&self, alloc: Global) -> Result<JitDumpRecord<'a>>
         ensures value { IfOk result (λ parsed. IsJitRecord (number_in self.now.endian) self.now parsed) }
-        ensures refused { IfErr result (λ error. RefusesJitRecord (number_in self.now.endian) self.now error) }
+        ensures error { IfErr result (λ error. IsJitRecordError (number_in self.now.endian) self.now error) }
     {
         match self.record_type.0 {
             LOAD => match JitCodeLoadRecord::parse(self.endian, self.body) {

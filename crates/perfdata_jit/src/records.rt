@@ -1,12 +1,12 @@
-//! The bodies of records: load, move, debug info, unwinding.
+//! The bodies of records: load, move, debug info, unwinding info.
 ghost use Rattle.std.specs.Prelude.{◌≡◌, ◌+◌, ◌^◌, ◌<◌, ◌≤◌, IfOk, IfErr, length};
 ghost use Rattle.std.specs.IoError.{error_kind};
 ghost use Rattle.std.specs.declared.io.ErrorKind.TheVariants.{UnexpectedEof};
 ghost use Rattle.std.specs.Prelude.{option_copied};
 ghost use Rattle.std.specs.List.Sorted.{IsNonDecreasingBy};
-ghost use Rattle.perfdata_base.specs.Numbers.{number_in};
-ghost use Rattle.perfdata_base.specs.Raw.{bytes_of, IsShort};
-ghost use Rattle.perfdata_jit.specs.JitRecords.{CodeStandsAtItsPlace, CutsEntry, IsDebugInfo, IsEntry, IsLoad, IsLookup, IsNoDebugInfo, IsNoLoad, IsNoUnwinding, IsUnwinding, RefusesEntries, TakesEntries, move_of};
+ghost use Rattle.perfdata_base.specs.Endian.{number_in};
+ghost use Rattle.perfdata_base.specs.Raw.{bytes_of, EndsBefore};
+ghost use Rattle.perfdata_jit.specs.JitRecords.{CodeIsAtOffset, IsTruncatedDebugEntry, IsDebugInfo, IsDebugEntry, IsLoad, IsLookup, IsDebugInfoError, IsLoadError, IsUnwindingError, IsUnwinding, IsDebugEntriesError, ReadsDebugEntries, move_of};
 
 use crate::record::JitDumpRecordHeader;
 use byteorder::{BigEndian, LittleEndian};
@@ -14,109 +14,109 @@ use perfdata_base::raw::{Endianness, FileOrder, RawData};
 use std::alloc::Global;
 use std::io::{Error, ErrorKind, Result};
 
-/// How many bytes of a load record's body stand before the function's name.
-const LOAD_HEAD: usize = 40;
+/// Number of bytes in a load record's body before the function's name.
+const LOAD_FIXED_SIZE: usize = 40;
 
-/// How many bytes the body of a move record has.
+/// The size of a move record's body in bytes.
 const MOVE_SIZE: usize = 48;
 
-/// How many bytes of debug info's body stand before its entries.
-const DEBUG_INFO_HEAD: usize = 16;
+/// Number of bytes in a debug info record's body before its entries.
+const DEBUG_INFO_FIXED_SIZE: usize = 16;
 
-/// How many bytes of an entry stand before the file's path.
-const ENTRY_HEAD: usize = 16;
+/// Number of bytes in a debug entry before the path of the source file.
+const ENTRY_FIXED_SIZE: usize = 16;
 
-/// How many bytes of unwinding info's body stand before its data.
-const UNWINDING_HEAD: usize = 24;
+/// Number of bytes in an unwinding info record's body before its data.
+const UNWINDING_FIXED_SIZE: usize = 24;
 
-/// A function that was made (`JIT_CODE_LOAD`).
+/// A function that was compiled (`JIT_CODE_LOAD`).
 #[derive(Clone, Debug, Drop)]
 pub struct JitCodeLoadRecord<'a> {
-    /// The process that made it.
+    /// The pid of the process that compiled it.
     pub pid: u32,
-    /// The thread that made it.
+    /// The tid of the thread that compiled it.
     pub tid: u32,
     /// The address at which the code is mapped.
     pub vma: u64,
     /// The address of the code.
     pub code_addr: u64,
-    /// What tells this code from all other, and by which a move names it.
+    /// The unique index of this code, by which a move record refers to it.
     pub code_index: u64,
     /// The function's name, without the NUL that ends it.
     pub function_name: RawData<'a>,
-    /// The machine code, for the machine of the file's header.
+    /// The machine code, for the machine in the file header.
     pub code_bytes: RawData<'a>,
 }
 
 /// A function that was moved (`JIT_CODE_MOVE`).
 #[derive(Clone, Debug, Drop)]
 pub struct JitCodeMoveRecord {
-    /// The process whose function it is.
+    /// The pid of the process that runs the function.
     pub pid: u32,
-    /// The thread that moved it.
+    /// The tid of the thread that moved it.
     pub tid: u32,
-    /// The address at which the code is mapped now.
+    /// The address at which the code is mapped after the move.
     pub vma: u64,
-    /// The address of the code before.
+    /// The address of the code before the move.
     pub old_code_addr: u64,
-    /// The address of the code now.
+    /// The address of the code after the move.
     pub new_code_addr: u64,
-    /// How many bytes of code there are.
+    /// The size of the code in bytes.
     pub code_size: u64,
-    /// The index that the function's load record has.
+    /// The `code_index` of the function's load record.
     pub code_index: u64,
 }
 
-/// Where the code of a function comes from (`JIT_CODE_DEBUG_INFO`).
+/// The source locations of a function's code (`JIT_CODE_DEBUG_INFO`).
 #[derive(Debug, Drop)]
 pub struct JitCodeDebugInfoRecord<'a> {
     /// The address of the function's code.
     pub code_addr: u64,
-    /// The places in the source, which runtimes write in the order of their addresses.
+    /// The source locations, which runtimes write in the order of their addresses.
     pub entries: Vec<JitCodeDebugInfoEntry<'a>>,
 }
 
-/// The place in the source that code comes from, from its address on up to that of the next entry.
+/// The source location of the code from this entry's address up to the address of the next entry.
 #[derive(Clone, Debug, Drop)]
 pub struct JitCodeDebugInfoEntry<'a> {
-    /// The address of the code's first byte.
+    /// The address of the first byte of the code.
     pub code_addr: u64,
-    /// The line, counted from 1.
+    /// The line number, starting at 1.
     pub line: u32,
-    /// The column, counted from 1, or 0 where it isn't told.
+    /// The column number, starting at 1, or 0 if it is unknown.
     pub column: u32,
     /// The path of the source file, without the NUL that ends it.
     pub file_path: RawData<'a>,
 }
 
-/// How a function is unwound (`JIT_CODE_UNWINDING_INFO`).
+/// The unwinding information of a function (`JIT_CODE_UNWINDING_INFO`).
 #[derive(Clone, Debug, Drop)]
 pub struct JitCodeUnwindingInfoRecord<'a> {
-    /// How many bytes of the data are mapped, none or all.
+    /// Number of bytes of the data that are mapped: 0 or all.
     pub mapped_size: u64,
-    /// The index of the data, as the section `.eh_frame_hdr` of an ELF file.
+    /// The index of the data, in the format of the ELF section `.eh_frame_hdr`.
     pub eh_frame_hdr: RawData<'a>,
-    /// The data, as the section `.eh_frame` of an ELF file.
+    /// The data, in the format of the ELF section `.eh_frame`.
     pub eh_frame: RawData<'a>,
 }
 
-fn short() -> Error
+fn unexpected_eof() -> Error
     ensures { error_kind result ≡ UnexpectedEof }
 {
     Error::from(ErrorKind::UnexpectedEof)
 }
 
 impl<'a> JitCodeLoadRecord<'a> {
-    /// How many bytes stand between the start of the record's head and the function's name.
-    pub const NAME_OFFSET_FROM_RECORD_START: usize = JitDumpRecordHeader::SIZE + LOAD_HEAD;
+    /// The offset of the function's name from the start of the record header, in bytes.
+    pub const NAME_OFFSET_FROM_RECORD_START: usize = JitDumpRecordHeader::SIZE + LOAD_FIXED_SIZE;
 
-    /// The record in a body: the process and the thread of four bytes each, the address of the mapping, the code's address, its
-    /// size and its index of eight, the function's name up to a NUL, and the code. What stands behind it is passed over.
+    /// Parses a body: pid and tid of 4 bytes each, mapping address, code address, code size and code index of 8 bytes each,
+    /// the function's name up to a NUL, and the code. Bytes after the code are ignored.
     ///
-    /// An `UnexpectedEof` error where the 40 bytes or the code are cut, or no NUL ends the name.
+    /// Returns an `UnexpectedEof` error if the first 40 bytes or the code are truncated, or if no NUL ends the name.
     pub fn parse(endian: Endianness, bytes: RawData<'a>) -> Result<JitCodeLoadRecord<'a>>
         ensures value { IfOk result (λ load. IsLoad (number_in endian) (bytes_of bytes.entry) load) }
-        ensures refused { IfErr result (λ error. IsNoLoad (number_in endian) (bytes_of bytes.entry) error) }
+        ensures error { IfErr result (λ error. IsLoadError (number_in endian) (bytes_of bytes.entry) error) }
     {
         match endian {
             Endianness::LittleEndian => JitCodeLoadRecord::parse_impl::<LittleEndian>(bytes),
@@ -124,20 +124,20 @@ impl<'a> JitCodeLoadRecord<'a> {
         }
     }
 
-    /// The record in a body, as by `parse`, with its numbers in the order `O`.
+    /// Parses a body as `parse` does, in the byte order `O`.
     pub fn parse_impl<O: FileOrder>(bytes: RawData<'a>) -> Result<JitCodeLoadRecord<'a>>
         ensures value { IfOk result (λ load. IsLoad O.number_of (bytes_of bytes.entry) load) }
-        ensures refused { IfErr result (λ error. IsNoLoad O.number_of (bytes_of bytes.entry) error) }
+        ensures error { IfErr result (λ error. IsLoadError O.number_of (bytes_of bytes.entry) error) }
     {
         let mut rest = bytes;
-        let mut head = [0u8; LOAD_HEAD];
+        let mut head = [0u8; LOAD_FIXED_SIZE];
         match rest.read_exact(&mut head) {
             Ok(()) => {}
             Err(error) => return Err(error),
         }
         let function_name = match rest.read_string() {
             Some(name) => name,
-            None => return Err(short()),
+            None => return Err(unexpected_eof()),
         };
         let code_size = O::read_u64(&head[24..]);
         let code_bytes = match rest.split_off_prefix(code_size as usize) {
@@ -155,8 +155,8 @@ impl<'a> JitCodeLoadRecord<'a> {
         })
     }
 
-    /// How many bytes stand between the start of the record's head and the code: the name and its NUL are among them, and so
-    /// records differ.
+    /// Returns the offset of the code from the start of the record header, in bytes. It depends on the length of the name,
+    /// whose NUL it includes.
     pub fn code_bytes_offset_from_record_header_start(&self) -> usize
         requires { 57 + length (bytes_of self.now.function_name) < 2 ^ 64 }
         ensures { result ≡ 57 + length (bytes_of self.now.function_name) }
@@ -165,21 +165,21 @@ impl<'a> JitCodeLoadRecord<'a> {
     }
 }
 
-/// A law of the format, which runs nothing: `code_bytes_offset_from_record_header_start` says where the code's bytes stand in
-/// the bytes of the record that `parse` was given the body of.
-pub fn code_stands_at_its_place()
-    ensures { CodeStandsAtItsPlace }
+/// Proves that `code_bytes_offset_from_record_header_start` is the offset of the code in the bytes of the record whose body
+/// is given to `parse`. The call does nothing.
+pub fn code_is_at_offset()
+    ensures { CodeIsAtOffset }
 {}
 
 impl JitCodeMoveRecord {
-    /// The record in a body: the process and the thread of four bytes each, the new address of the mapping, the code's old
-    /// address, its new one, its size and its index of eight. What stands behind it is passed over.
+    /// Parses a body: pid and tid of 4 bytes each, new mapping address, old code address, new code address, code size and
+    /// code index of 8 bytes each. Bytes after them are ignored.
     ///
-    /// An `UnexpectedEof` error where these 48 bytes are cut.
+    /// Returns an `UnexpectedEof` error if there are fewer than 48 bytes.
     pub fn parse(endian: Endianness, bytes: RawData<'_>) -> Result<JitCodeMoveRecord>
         ensures enough { IfOk result (λ _. 48 ≤ length (bytes_of bytes.entry)) }
         ensures value { IfOk result (λ moved. moved ≡ move_of (number_in endian) (bytes_of bytes.entry)) }
-        ensures refused { IfErr result (λ error. IsShort 48 (bytes_of bytes.entry) error) }
+        ensures error { IfErr result (λ error. EndsBefore 48 (bytes_of bytes.entry) error) }
     {
         match endian {
             Endianness::LittleEndian => JitCodeMoveRecord::parse_impl::<LittleEndian>(bytes),
@@ -187,11 +187,11 @@ impl JitCodeMoveRecord {
         }
     }
 
-    /// The record in a body, as by `parse`, with its numbers in the order `O`.
+    /// Parses a body as `parse` does, in the byte order `O`.
     pub fn parse_impl<O: FileOrder>(bytes: RawData<'_>) -> Result<JitCodeMoveRecord>
         ensures enough { IfOk result (λ _. 48 ≤ length (bytes_of bytes.entry)) }
         ensures value { IfOk result (λ moved. moved ≡ move_of O.number_of (bytes_of bytes.entry)) }
-        ensures refused { IfErr result (λ error. IsShort 48 (bytes_of bytes.entry) error) }
+        ensures error { IfErr result (λ error. EndsBefore 48 (bytes_of bytes.entry) error) }
     {
         let mut rest = bytes;
         let mut body = [0u8; MOVE_SIZE];
@@ -211,19 +211,19 @@ impl JitCodeMoveRecord {
     }
 }
 
-// The entry at the front, which is taken off.
-fn take_entry<'a, O: FileOrder>(bytes: &mut RawData<'a>) -> Result<JitCodeDebugInfoEntry<'a>>
-    ensures value { IfOk result (λ entry. IsEntry O.number_of (bytes_of bytes.old) entry (bytes_of bytes.new)) }
-    ensures refused { IfErr result (λ error. (error_kind error ≡ UnexpectedEof) × CutsEntry (bytes_of bytes.old)) }
+// Parses the entry at the start of the bytes and removes it from them.
+fn read_entry<'a, O: FileOrder>(bytes: &mut RawData<'a>) -> Result<JitCodeDebugInfoEntry<'a>>
+    ensures value { IfOk result (λ entry. IsDebugEntry O.number_of (bytes_of bytes.old) entry (bytes_of bytes.new)) }
+    ensures error { IfErr result (λ error. (error_kind error ≡ UnexpectedEof) × IsTruncatedDebugEntry (bytes_of bytes.old)) }
 {
-    let mut head = [0u8; ENTRY_HEAD];
+    let mut head = [0u8; ENTRY_FIXED_SIZE];
     match bytes.read_exact(&mut head) {
         Ok(()) => {}
         Err(error) => return Err(error),
     }
     let file_path = match bytes.read_string() {
         Some(path) => path,
-        None => return Err(short()),
+        None => return Err(unexpected_eof()),
     };
     Ok(JitCodeDebugInfoEntry {
         code_addr: O::read_u64(&head),
@@ -233,18 +233,19 @@ fn take_entry<'a, O: FileOrder>(bytes: &mut RawData<'a>) -> Result<JitCodeDebugI
     })
 }
 
-// The entries at the front, so many. The count is a file's: it reserves no memory.
-fn take_entries<'a, O: FileOrder>(
+// Parses `count` entries at the start of the bytes and removes them. The count comes from the file, and no memory is
+// reserved for it in advance.
+fn read_entries<'a, O: FileOrder>(
     alloc: Global,
     count: u64,
     bytes: &mut RawData<'a>,
 ) -> Result<Vec<JitCodeDebugInfoEntry<'a>>>
-    ensures value { IfOk result (λ entries. TakesEntries O.number_of count (bytes_of bytes.old) entries.items (bytes_of bytes.new)) }
-    ensures refused { IfErr result (λ error. RefusesEntries O.number_of count (bytes_of bytes.old) error) }
+    ensures value { IfOk result (λ entries. ReadsDebugEntries O.number_of count (bytes_of bytes.old) entries.items (bytes_of bytes.new)) }
+    ensures error { IfErr result (λ error. IsDebugEntriesError O.number_of count (bytes_of bytes.old) error) }
 {
     let mut entries = Vec::new(alloc);
     'entries: for _index in 0..count {
-        let entry = match take_entry::<O>(bytes) {
+        let entry = match read_entry::<O>(bytes) {
             Ok(entry) => entry,
             Err(error) => return Err(error),
         };
@@ -257,18 +258,19 @@ fn take_entries<'a, O: FileOrder>(
 }
 
 impl<'a> JitCodeDebugInfoRecord<'a> {
-    /// The record in a body: the code's address and the number of entries of eight bytes each, and the entries, of which each has
-    /// an address of eight, a line and a column of four, and a path up to a NUL. What stands behind them is passed over.
+    /// Parses a body: code address and number of entries of 8 bytes each, and the entries. An entry has an address of 8
+    /// bytes, a line and a column of 4 bytes each, and a path up to a NUL. Bytes after the entries are ignored.
     ///
-    /// An `UnexpectedEof` error where the 16 bytes or an entry are cut, and an `OutOfMemory` error where memory for the entries
-    /// runs out. Memory is asked for as entries come, and not by their number.
+    /// Returns an `UnexpectedEof` error if the first 16 bytes or an entry are truncated, and an `OutOfMemory` error if the
+    /// allocation of memory for the entries fails. Memory is allocated as entries are parsed, not by the number of entries
+    /// that the body declares.
     pub fn parse(
         alloc: Global,
         endian: Endianness,
         bytes: RawData<'a>,
     ) -> Result<JitCodeDebugInfoRecord<'a>>
         ensures value { IfOk result (λ info. IsDebugInfo (number_in endian) (bytes_of bytes.entry) info) }
-        ensures refused { IfErr result (λ error. IsNoDebugInfo (number_in endian) (bytes_of bytes.entry) error) }
+        ensures error { IfErr result (λ error. IsDebugInfoError (number_in endian) (bytes_of bytes.entry) error) }
     {
         match endian {
             Endianness::LittleEndian => {
@@ -278,21 +280,21 @@ impl<'a> JitCodeDebugInfoRecord<'a> {
         }
     }
 
-    /// The record in a body, as by `parse`, with its numbers in the order `O`.
+    /// Parses a body as `parse` does, in the byte order `O`.
     pub fn parse_impl<O: FileOrder>(
         alloc: Global,
         bytes: RawData<'a>,
     ) -> Result<JitCodeDebugInfoRecord<'a>>
         ensures value { IfOk result (λ info. IsDebugInfo O.number_of (bytes_of bytes.entry) info) }
-        ensures refused { IfErr result (λ error. IsNoDebugInfo O.number_of (bytes_of bytes.entry) error) }
+        ensures error { IfErr result (λ error. IsDebugInfoError O.number_of (bytes_of bytes.entry) error) }
     {
         let mut rest = bytes;
-        let mut head = [0u8; DEBUG_INFO_HEAD];
+        let mut head = [0u8; DEBUG_INFO_FIXED_SIZE];
         match rest.read_exact(&mut head) {
             Ok(()) => {}
             Err(error) => return Err(error),
         }
-        match take_entries::<O>(alloc, O::read_u64(&head[8..]), &mut rest) {
+        match read_entries::<O>(alloc, O::read_u64(&head[8..]), &mut rest) {
             Ok(entries) => Ok(JitCodeDebugInfoRecord {
                 code_addr: O::read_u64(&head),
                 entries,
@@ -301,9 +303,9 @@ impl<'a> JitCodeDebugInfoRecord<'a> {
         }
     }
 
-    /// The entry of an address: one with the greatest address that isn't above it, or none where all are above it.
+    /// Returns an entry with the greatest address that is not above `addr`, or `None` if all addresses are above it.
     ///
-    /// This holds where the entries are in the order of their addresses. Where they aren't, any of them or none is answered.
+    /// This requires that the entries are sorted by address. Otherwise the result is any entry or `None`.
     pub fn lookup(&self, addr: u64) -> Option<&JitCodeDebugInfoEntry<'a>>
         ensures { IsNonDecreasingBy (λ e. e.code_addr) self.now.entries.items → IsLookup self.now.entries.items addr (option_copied result) }
     {
@@ -318,13 +320,14 @@ impl<'a> JitCodeDebugInfoRecord<'a> {
 }
 
 impl<'a> JitCodeUnwindingInfoRecord<'a> {
-    /// The record in a body: the sizes of the data, of its index and of what is mapped, of eight bytes each, and the data, which
-    /// the index begins. What stands behind it is passed over.
+    /// Parses a body: the sizes of the data, of its index and of its mapped part of 8 bytes each, and the data, which
+    /// starts with the index. Bytes after the data are ignored.
     ///
-    /// An `UnexpectedEof` error where the 24 bytes or the data are cut, or the index is to be longer than the data.
+    /// Returns an `UnexpectedEof` error if the first 24 bytes or the data are truncated, or if the index is longer than the
+    /// data.
     pub fn parse(endian: Endianness, bytes: RawData<'a>) -> Result<JitCodeUnwindingInfoRecord<'a>>
         ensures value { IfOk result (λ unwinding. IsUnwinding (number_in endian) (bytes_of bytes.entry) unwinding) }
-        ensures refused { IfErr result (λ error. IsNoUnwinding (number_in endian) (bytes_of bytes.entry) error) }
+        ensures error { IfErr result (λ error. IsUnwindingError (number_in endian) (bytes_of bytes.entry) error) }
     {
         match endian {
             Endianness::LittleEndian => {
@@ -334,13 +337,13 @@ impl<'a> JitCodeUnwindingInfoRecord<'a> {
         }
     }
 
-    /// The record in a body, as by `parse`, with its numbers in the order `O`.
+    /// Parses a body as `parse` does, in the byte order `O`.
     pub fn parse_impl<O: FileOrder>(bytes: RawData<'a>) -> Result<JitCodeUnwindingInfoRecord<'a>>
         ensures value { IfOk result (λ unwinding. IsUnwinding O.number_of (bytes_of bytes.entry) unwinding) }
-        ensures refused { IfErr result (λ error. IsNoUnwinding O.number_of (bytes_of bytes.entry) error) }
+        ensures error { IfErr result (λ error. IsUnwindingError O.number_of (bytes_of bytes.entry) error) }
     {
         let mut rest = bytes;
-        let mut head = [0u8; UNWINDING_HEAD];
+        let mut head = [0u8; UNWINDING_FIXED_SIZE];
         match rest.read_exact(&mut head) {
             Ok(()) => {}
             Err(error) => return Err(error),

@@ -1,12 +1,13 @@
-//! A fixed buffer used as a ring: bytes held may run over its end to its front.
+//! A buffer of fixed size that is used as a ring: its bytes may wrap around its end.
 ghost use Rattle.std.specs.Prelude.{◌≡◌, ℕ, ◌+◌, ◌-◌, ◌^◌, ◌<◌, ◌≤◌, List, [], ◌++◌, length, take, drop, slice_range, IfOk, vec_len};
 ghost use Rattle.perfdata_base.specs.Source.{Reads, CountsRead};
-ghost use Rattle.perfdata_jit.specs.Filling.{Fills};
+ghost use Rattle.perfdata_jit.specs.RingFilling.{FillsRing};
 
 use perfdata_base::source::Source;
 use std::io::Result;
 
-// The bytes held are `start..end`, and then, where those reach the buffer's end, `..front`.
+// The ring contains `buffer[start..end]` followed by `buffer[..front]`. The second part is empty unless `end` is the
+// buffer's end.
 #[derive(Drop)]
 pub struct Ring {
     buffer: Vec<u8>,
@@ -23,7 +24,7 @@ pub struct Ring {
 impl Ring {
     ghost use Rattle.perfdata_jit.specs.Ring.{ring_bytes, ring_len, ring_size};
 
-    // The bytes held are `buffer[start..end]`.
+    // The ring contains `buffer[start..end]`.
     pub(crate) fn new(buffer: Vec<u8>, start: usize, end: usize) -> Ring
         requires order { start ≤ end }
         requires within { end ≤ vec_len buffer }
@@ -55,8 +56,8 @@ impl Ring {
         self.buffer.len()
     }
 
-    // The bytes held, in two pieces.
-    pub(crate) fn pieces(&self) -> (&[u8], &[u8])
+    // The bytes of the ring, in two parts.
+    pub(crate) fn as_slices(&self) -> (&[u8], &[u8])
         ensures main { result.0.now ≡ slice_range self.now.buffer.items self.now.start self.now.end }
         ensures front { result.1.now ≡ take self.now.front self.now.buffer.items }
     {
@@ -66,7 +67,7 @@ impl Ring {
         )
     }
 
-    // Drops the bytes held; the ring begins again at its front.
+    // Removes all bytes. The next byte is written at index 0.
     pub(crate) fn clear(&mut self)
         ensures bytes { ring_bytes self.new ≡ [] }
         ensures len { ring_len self.new ≡ 0 }
@@ -78,13 +79,14 @@ impl Ring {
         self.front = 0;
     }
 
-    // Takes the first n bytes, and says where they lie: a range of the buffer, and how much of its front.
+    // Removes the first n bytes. Returns their position: the start and end of a range of the buffer, and the length of a
+    // prefix of the buffer.
     pub(crate) fn advance(&mut self, n: usize) -> (usize, usize, usize)
         requires { n ≤ ring_len self.old }
         ensures order { result.0 ≤ result.1 }
         ensures within { result.1 ≤ ring_size self.new }
         ensures front_within { result.2 ≤ ring_size self.new }
-        ensures taken { slice_range self.new.buffer.items result.0 result.1 ++ take result.2 self.new.buffer.items ≡ take n (ring_bytes self.old) }
+        ensures taken_bytes { slice_range self.new.buffer.items result.0 result.1 ++ take result.2 self.new.buffer.items ≡ take n (ring_bytes self.old) }
         ensures bytes { ring_bytes self.new ≡ drop n (ring_bytes self.old) }
         ensures size { ring_size self.new ≡ ring_size self.old }
         ensures at_front { self.old.start ≡ 0 → (result.0 ≡ 0) × (result.2 ≡ 0) × (result.1 ≡ n) }
@@ -104,7 +106,7 @@ impl Ring {
         }
     }
 
-    // What lies at a range that `advance` gave.
+    // The bytes of a range that `advance` returned.
     pub(crate) fn range(&self, start: usize, end: usize) -> &[u8]
         requires order { start ≤ end }
         requires within { end ≤ ring_size self.now }
@@ -113,18 +115,18 @@ impl Ring {
         &self.buffer[start..end]
     }
 
-    // One read into the free space that follows the bytes held.
+    // Reads once into the free space after the ring's bytes.
     pub(crate) fn fill<R: Source>(&mut self, source: &mut R) -> Result<usize>
         requires { ring_len self.old < ring_size self.old }
-        ensures fills { Fills (R.seen source.old) (ring_bytes self.old) result (ring_bytes self.new) (R.seen source.new) }
-        ensures counts { CountsRead (R.seen source.old) result (R.seen source.new) }
-        ensures lent { R.lent source.new ≡ R.lent source.old }
+        ensures fills { FillsRing (R.state source.old) (ring_bytes self.old) result (ring_bytes self.new) (R.state source.new) }
+        ensures counts { CountsRead (R.state source.old) result (R.state source.new) }
+        ensures same_loan { R.loan source.new ≡ R.loan source.old }
         ensures size { ring_size self.new ≡ ring_size self.old }
         ensures start { self.new.start ≡ self.old.start }
     {
         let size = self.buffer.len();
         if self.end < size {
-            match read_at(source, &mut self.buffer, self.end, size) {
+            match read_into_range(source, &mut self.buffer, self.end, size) {
                 Ok(count) => {
                     self.end += count;
                     Ok(count)
@@ -132,7 +134,7 @@ impl Ring {
                 Err(error) => Err(error),
             }
         } else {
-            match read_at(source, &mut self.buffer, self.front, self.start) {
+            match read_into_range(source, &mut self.buffer, self.front, self.start) {
                 Ok(count) => {
                     self.front += count;
                     Ok(count)
@@ -144,7 +146,7 @@ impl Ring {
 }
 
 // Reads once into `buffer[start..end]`.
-fn read_at<R: Source>(
+fn read_into_range<R: Source>(
     source: &mut R,
     buffer: &mut Vec<u8>,
     start: usize,
@@ -156,9 +158,9 @@ fn read_at<R: Source>(
     ensures before { take start buffer.new.items ≡ take start buffer.old.items }
     ensures after { drop end buffer.new.items ≡ drop end buffer.old.items }
     ensures bound { IfOk result (λ n. start + n ≤ end) }
-    ensures reads { Reads (R.seen source.old) (slice_range buffer.new.items start end) result (R.seen source.new) }
-    ensures counts { CountsRead (R.seen source.old) result (R.seen source.new) }
-    ensures lent { R.lent source.new ≡ R.lent source.old }
+    ensures reads { Reads (R.state source.old) (slice_range buffer.new.items start end) result (R.state source.new) }
+    ensures counts { CountsRead (R.state source.old) result (R.state source.new) }
+    ensures same_loan { R.loan source.new ≡ R.loan source.old }
 {
     source.read_front(&mut buffer[start..end])
 }

@@ -1,14 +1,14 @@
--- Two calls on a line buffer, one after the other, pass what both were given.
+-- Two consecutive calls on a `CountingBufWriter` have the effect of one call with the bytes of both.
 use Rattle.std.proofs.Common.{ℕ, List, ◌++◌, Option, sym, ap, ◌∙◌, append_assoc, arith}
 use Rattle.std.proofs.KnownBytes.{Appends-trans}
-use Rattle.perfdata_listing.specs.Buffer.{Passes, held}
-use Rattle.perfdata_listing.specs.declared.output.LineBuffer.{LineBuffer}
-use Rattle.perfdata_listing.proofs.Newlines.{newlines-append}
+use Rattle.perfdata_listing.specs.CountingBufWriter.{BuffersAndForwards, pending_bytes}
+use Rattle.perfdata_listing.specs.declared.output.CountingBufWriter.{CountingBufWriter}
+use Rattle.perfdata_listing.proofs.NewlineCounts.{newline_count-append}
 
-pub passes_more : {W : Type 0} {contents : W → Option (List ℕ)} {old mid new : LineBuffer W} {a b : List ℕ} → Passes contents old a mid → Passes contents mid b new → Passes contents old (a ++ b) new
-passes_more {contents} {old} {mid} {new} {a} {b} p q = record {
-  gone = p.gone ++ q.gone;
-  cut = sym (append_assoc (held old) a b) ∙ ap (λ l. l ++ b) p.cut ∙ append_assoc p.gone (held mid) b ∙ ap (λ l. p.gone ++ l) q.cut ∙ sym (append_assoc p.gone q.gone (held new));
-  left = Appends-trans _ _ _ p.gone q.gone p.left q.left;
-  counted = let sum = newlines-append p.gone q.gone in let first = p.counted in let second = q.counted in omega arith;
+pub forwards-compose : {W : Type 0} {contents : W → Option (List ℕ)} {old mid new : CountingBufWriter W} {a b : List ℕ} → BuffersAndForwards contents old a mid → BuffersAndForwards contents mid b new → BuffersAndForwards contents old (a ++ b) new
+forwards-compose {contents} {old} {mid} {new} {a} {b} p q = record {
+  forwarded = p.forwarded ++ q.forwarded;
+  split = sym (append_assoc (pending_bytes old) a b) ∙ ap (λ l. l ++ b) p.split ∙ append_assoc p.forwarded (pending_bytes mid) b ∙ ap (λ l. p.forwarded ++ l) q.split ∙ sym (append_assoc p.forwarded q.forwarded (pending_bytes new));
+  appended = Appends-trans _ _ _ p.forwarded q.forwarded p.appended q.appended;
+  counted = let sum = newline_count-append p.forwarded q.forwarded in let first = p.counted in let second = q.counted in omega arith;
 }

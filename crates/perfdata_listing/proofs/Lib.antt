@@ -1,5 +1,5 @@
-pub mod Newlines
-pub mod Passing
-pub mod Listings
-pub mod PipeListings
-pub mod JitListings
+pub mod NewlineCounts
+pub mod CountingBufWriterLemmas
+pub mod ListingLemmas
+pub mod PipeListingLemmas
+pub mod JitListingLemmas

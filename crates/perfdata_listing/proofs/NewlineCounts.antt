@@ -1,66 +1,66 @@
--- How many lines end among bytes: none among digits, one in a line.
+-- The number of newlines in bytes: none in digits, one in a line.
 use Rattle.std.proofs.Common.{◌≡◌, ℕ, zero, suc, ◌+◌, ◌/◌, ◌%◌, ◌==◌, true, false, cond, List, [], ◌∷◌, ◌++◌, Option, None, Some, refl, ap, ◌∙◌, decimal, length, option_map, flat_map, arith}
 use Rattle.std.proofs.lemmas.Bool.Decides.{nat_tests}
 use Rattle.std.proofs.lemmas.List.Sums.{sum_by-append}
 use Rattle.std.specs.Fmt.{digits, digits_onto, digit_glyph}
-use Rattle.linux_perf_data.specs.Layout.{Handed}
-use Rattle.perfdata_listing.specs.Line.{line_of, jit_line_of, handed_line, decimal_or_dash, spaced}
-use Rattle.perfdata_listing.specs.Output.{newlines}
+use Rattle.linux_perf_data.specs.Layout.{RecordView}
+use Rattle.perfdata_listing.specs.Line.{record_text, jit_record_text, record_line, decimal_or_dash, space_separated}
+use Rattle.perfdata_listing.specs.Output.{newline_count}
 
-pub newlines-append : (xs ys : List ℕ) → newlines (xs ++ ys) ≡ newlines xs + newlines ys
-newlines-append = sum_by-append (λ b. cond (b == 10) 1 0)
+pub newline_count-append : (xs ys : List ℕ) → newline_count (xs ++ ys) ≡ newline_count xs + newline_count ys
+newline_count-append = sum_by-append (λ b. cond (b == 10) 1 0)
 
-glyph_ends_none : (d : ℕ) (bytes : List ℕ) → newlines (digit_glyph false d ∷ bytes) ≡ newlines bytes
-glyph_ends_none d bytes = grind (arith, nat_tests)
+newline_count-glyph : (d : ℕ) (bytes : List ℕ) → newline_count (digit_glyph false d ∷ bytes) ≡ newline_count bytes
+newline_count-glyph d bytes = grind (arith, nat_tests)
 
-digits_end_none : (k n : ℕ) (bytes : List ℕ) → newlines (digits_onto k 10 false n bytes) ≡ newlines bytes
-digits_end_none zero n bytes = refl
-digits_end_none (suc k) n bytes =
+newline_count-digits : (k n : ℕ) (bytes : List ℕ) → newline_count (digits_onto k 10 false n bytes) ≡ newline_count bytes
+newline_count-digits zero n bytes = refl
+newline_count-digits (suc k) n bytes =
     let glyph = digit_glyph false (n % 10) in
-    elim (n / 10 == 0) as (λ b. newlines (cond b (glyph ∷ bytes) (digits_onto k 10 false (n / 10) (glyph ∷ bytes))) ≡ newlines bytes) [
-      | true ↦ glyph_ends_none (n % 10) bytes
-      | false ↦ digits_end_none k (n / 10) (glyph ∷ bytes) ∙ glyph_ends_none (n % 10) bytes
+    elim (n / 10 == 0) as (λ b. newline_count (cond b (glyph ∷ bytes) (digits_onto k 10 false (n / 10) (glyph ∷ bytes))) ≡ newline_count bytes) [
+      | true ↦ newline_count-glyph (n % 10) bytes
+      | false ↦ newline_count-digits k (n / 10) (glyph ∷ bytes) ∙ newline_count-glyph (n % 10) bytes
     ]
 
--- no line ends in a number
-pub newlines_decimal : (n : ℕ) → newlines (decimal n) ≡ 0
+-- a decimal number contains no newline
+pub newline_count-decimal : (n : ℕ) → newline_count (decimal n) ≡ 0
 unfolding digits
-newlines_decimal n = digits_end_none 64 n []
+newline_count-decimal n = newline_count-digits 64 n []
 
-newlines_optional : (n : Option ℕ) → newlines (decimal_or_dash n) ≡ 0
-newlines_optional None = refl
-newlines_optional (Some n) = newlines_decimal n
+newline_count-decimal_or_dash : (n : Option ℕ) → newline_count (decimal_or_dash n) ≡ 0
+newline_count-decimal_or_dash None = refl
+newline_count-decimal_or_dash (Some n) = newline_count-decimal n
 
-newlines_spaced : (field rest : List ℕ) → newlines field ≡ 0 → newlines (spaced field rest) ≡ newlines rest
-newlines_spaced field rest none = newlines-append field (32 ∷ rest) ∙ omega (arith, none)
+newline_count-space_separated : (field rest : List ℕ) → newline_count field ≡ 0 → newline_count (space_separated field rest) ≡ newline_count rest
+newline_count-space_separated field rest none = newline_count-append field (32 ∷ rest) ∙ omega (arith, none)
 
--- one line ends in a line
-pub newlines_line : (offset round : ℕ) (time attr : Option ℕ) (kind misc body_length : ℕ) → newlines (line_of offset round time attr kind misc body_length) ≡ 1
-newlines_line offset round time attr kind misc body_length =
+-- a record's line contains one newline
+pub newline_count-record_text : (offset round : ℕ) (time attr : Option ℕ) (kind misc body_length : ℕ) → newline_count (record_text offset round time attr kind misc body_length) ≡ 1
+newline_count-record_text offset round time attr kind misc body_length =
     let at_length = decimal body_length ++ (10 ∷ []) in
-    let at_misc = spaced (decimal misc) at_length in
-    let at_kind = spaced (decimal kind) at_misc in
-    let at_attr = spaced (decimal_or_dash attr) at_kind in
-    let at_time = spaced (decimal_or_dash time) at_attr in
-    let at_round = spaced (decimal round) at_time in
-    newlines_spaced (decimal offset) at_round (newlines_decimal offset) ∙ newlines_spaced (decimal round) at_time (newlines_decimal round)
-    ∙ newlines_spaced (decimal_or_dash time) at_attr (newlines_optional time) ∙ newlines_spaced (decimal_or_dash attr) at_kind (newlines_optional attr)
-    ∙ newlines_spaced (decimal kind) at_misc (newlines_decimal kind) ∙ newlines_spaced (decimal misc) at_length (newlines_decimal misc)
-    ∙ newlines-append (decimal body_length) (10 ∷ []) ∙ ap (λ n. n + 1) (newlines_decimal body_length)
+    let at_misc = space_separated (decimal misc) at_length in
+    let at_kind = space_separated (decimal kind) at_misc in
+    let at_attr = space_separated (decimal_or_dash attr) at_kind in
+    let at_time = space_separated (decimal_or_dash time) at_attr in
+    let at_round = space_separated (decimal round) at_time in
+    newline_count-space_separated (decimal offset) at_round (newline_count-decimal offset) ∙ newline_count-space_separated (decimal round) at_time (newline_count-decimal round)
+    ∙ newline_count-space_separated (decimal_or_dash time) at_attr (newline_count-decimal_or_dash time) ∙ newline_count-space_separated (decimal_or_dash attr) at_kind (newline_count-decimal_or_dash attr)
+    ∙ newline_count-space_separated (decimal kind) at_misc (newline_count-decimal kind) ∙ newline_count-space_separated (decimal misc) at_length (newline_count-decimal misc)
+    ∙ newline_count-append (decimal body_length) (10 ∷ []) ∙ ap (λ n. n + 1) (newline_count-decimal body_length)
 
-pub newlines_handed : (h : Handed) → newlines (handed_line h) ≡ 1
-newlines_handed h = newlines_line h.offset h.round h.time (option_map (λ e. e.index) h.event) h.kind h.misc (length h.body)
+pub newline_count-record_line : (h : RecordView) → newline_count (record_line h) ≡ 1
+newline_count-record_line h = newline_count-record_text h.offset h.round h.timestamp (option_map (λ e. e.index) h.event) h.record_type h.misc (length h.body)
 
--- one line ends in a line of a jitdump file
-pub newlines_jit_line : (offset time kind size : ℕ) → newlines (jit_line_of offset time kind size) ≡ 1
-newlines_jit_line offset time kind size =
+-- the line of a jitdump record contains one newline
+pub newline_count-jit_record_text : (offset time kind size : ℕ) → newline_count (jit_record_text offset time kind size) ≡ 1
+newline_count-jit_record_text offset time kind size =
     let at_size = decimal size ++ (10 ∷ []) in
-    let at_kind = spaced (decimal kind) at_size in
-    let at_time = spaced (decimal time) at_kind in
-    newlines_spaced (decimal offset) at_time (newlines_decimal offset) ∙ newlines_spaced (decimal time) at_kind (newlines_decimal time)
-    ∙ newlines_spaced (decimal kind) at_size (newlines_decimal kind) ∙ newlines-append (decimal size) (10 ∷ []) ∙ ap (λ n. n + 1) (newlines_decimal size)
+    let at_kind = space_separated (decimal kind) at_size in
+    let at_time = space_separated (decimal time) at_kind in
+    newline_count-space_separated (decimal offset) at_time (newline_count-decimal offset) ∙ newline_count-space_separated (decimal time) at_kind (newline_count-decimal time)
+    ∙ newline_count-space_separated (decimal kind) at_size (newline_count-decimal kind) ∙ newline_count-append (decimal size) (10 ∷ []) ∙ ap (λ n. n + 1) (newline_count-decimal size)
 
--- as many lines end in the records' lines as there are records
-pub newlines_lines : (hs : List Handed) → newlines (flat_map handed_line hs) ≡ length hs
-newlines_lines [] = refl
-newlines_lines (h ∷ hs) = newlines-append (handed_line h) (flat_map handed_line hs) ∙ omega (arith, newlines_handed h, newlines_lines hs)
+-- the lines of records contain one newline for each record
+pub newline_count-record_lines : (hs : List RecordView) → newline_count (flat_map record_line hs) ≡ length hs
+newline_count-record_lines [] = refl
+newline_count-record_lines (h ∷ hs) = newline_count-append (record_line h) (flat_map record_line hs) ∙ omega (arith, newline_count-record_line h, newline_count-record_lines hs)

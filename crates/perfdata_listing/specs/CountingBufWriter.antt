@@ -1,47 +1,47 @@
--- A writer that holds lines back, and counts those that have left it.
+-- A writer that buffers lines, and counts those that it wrote to the inner writer.
 use Rattle.std.specs.Prelude.{◌≡◌, ℕ, ◌+◌, ◌-◌, ◌^◌, min, Bool, true, List, [], ◌++◌, take, Option, Result, Ok, Err, vec_len, vec_capacity}
 use Rattle.std.specs.Io.KnownBytes.{Appends, append_known}
-use Rattle.perfdata_listing.specs.Output.{newlines}
-use Rattle.perfdata_listing.specs.declared.output.LineBuffer.{LineBuffer}
+use Rattle.perfdata_listing.specs.Output.{newline_count}
+use Rattle.perfdata_listing.specs.declared.output.CountingBufWriter.{CountingBufWriter}
 
--- the bytes that have not left yet
-abbrev pub held : {W : Type 0} → LineBuffer W → List ℕ
-held b = b.held.items
+-- the bytes that are not written to the inner writer yet
+abbrev pub pending_bytes : {W : Type 0} → CountingBufWriter W → List ℕ
+pending_bytes b = b.buffered.items
 
--- how many lines have left
-abbrev pub lines_left : {W : Type 0} → LineBuffer W → ℕ
-lines_left b = b.lines_left
+-- the number of lines that were written to the inner writer
+abbrev pub lines_written : {W : Type 0} → CountingBufWriter W → ℕ
+lines_written b = b.lines_written
 
--- whether the writer behind it has failed
-abbrev pub has_failed : {W : Type 0} → LineBuffer W → Bool
+-- whether the inner writer has failed
+abbrev pub has_failed : {W : Type 0} → CountingBufWriter W → Bool
 has_failed b = b.failed
 
--- how many bytes it takes before it writes
-abbrev pub room : {W : Type 0} → LineBuffer W → ℕ
-room b = vec_capacity b.held - vec_len b.held
+-- the number of bytes that fit in the buffer before a flush
+abbrev pub free_capacity : {W : Type 0} → CountingBufWriter W → ℕ
+free_capacity b = vec_capacity b.buffered - vec_len b.buffered
 
--- the writer behind it
-abbrev pub behind : {W : Type 0} → LineBuffer W → W
-behind b = b.inner
+-- the inner writer
+abbrev pub inner_writer : {W : Type 0} → CountingBufWriter W → W
+inner_writer b = b.inner
 
--- the bytes of the writer behind it, where they are known, and those that have not left yet
-abbrev pub all_contents : {W : Type 0} → (W → Option (List ℕ)) → LineBuffer W → Option (List ℕ)
-all_contents contents b = append_known (contents (behind b)) (held b)
+-- the bytes of the inner writer, if they are known, followed by the pending bytes
+abbrev pub contents_with_buffer : {W : Type 0} → (W → Option (List ℕ)) → CountingBufWriter W → Option (List ℕ)
+contents_with_buffer contents b = append_known (contents (inner_writer b)) (pending_bytes b)
 
--- It was given these bytes behind those that it held. A front of them left, the rest is held, and the lines that ended
--- among those that left are counted.
-pub record Passes {W : Type 0} (contents : W → Option (List ℕ)) (old : LineBuffer W) (given : List ℕ) (new : LineBuffer W) : Type 0 where
-  pub gone : List ℕ
-  pub cut : held old ++ given ≡ gone ++ held new
-  pub left : Appends (contents (behind old)) (contents (behind new)) gone
-  pub counted : lines_left new ≡ min (lines_left old + newlines gone) (2 ^ 64 - 1)
+-- The given bytes are appended to the pending ones. A prefix of all of these is written to the inner writer, the rest is
+-- pending, and the newlines in the prefix are counted.
+pub record BuffersAndForwards {W : Type 0} (contents : W → Option (List ℕ)) (old : CountingBufWriter W) (given : List ℕ) (new : CountingBufWriter W) : Type 0 where
+  pub forwarded : List ℕ
+  pub split : pending_bytes old ++ given ≡ forwarded ++ pending_bytes new
+  pub appended : Appends (contents (inner_writer old)) (contents (inner_writer new)) forwarded
+  pub counted : lines_written new ≡ min (lines_written old + newline_count forwarded) (2 ^ 64 - 1)
 
--- what a write does: it takes as many bytes as it says, or none where it is refused
-abbrev pub Takes : {W E : Type 0} → (W → Option (List ℕ)) → LineBuffer W → List ℕ → Result ℕ E → LineBuffer W → Type 0
-Takes contents old bytes (Ok n) new = Passes contents old (take n bytes) new
-Takes contents old bytes (Err e) new = Passes contents old [] new
+-- what a write does: it accepts as many bytes as it returns, and none if it fails
+abbrev pub AcceptsWrite : {W E : Type 0} → (W → Option (List ℕ)) → CountingBufWriter W → List ℕ → Result ℕ E → CountingBufWriter W → Type 0
+AcceptsWrite contents old bytes (Ok n) new = BuffersAndForwards contents old (take n bytes) new
+AcceptsWrite contents old bytes (Err e) new = BuffersAndForwards contents old [] new
 
--- a call that failed is remembered, and no other is
-abbrev pub Tries : {W T E : Type 0} → LineBuffer W → Result T E → LineBuffer W → Type 0
+-- `has_failed` is set by a call that fails, and unchanged by all others
+abbrev pub Tries : {W T E : Type 0} → CountingBufWriter W → Result T E → CountingBufWriter W → Type 0
 Tries old (Ok x) new = has_failed new ≡ has_failed old
 Tries old (Err e) new = has_failed new ≡ true

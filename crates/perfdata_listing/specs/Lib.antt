@@ -1,7 +1,7 @@
 pub mod Line
-pub mod Text
+pub mod LineText
 pub mod Output
-pub mod Buffer
+pub mod CountingBufWriter
 pub mod Listing
 pub mod JitListing
 pub mod PipeListing

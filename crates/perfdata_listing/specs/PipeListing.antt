@@ -1,96 +1,96 @@
--- What a listing of a pipe writes, and why it stops.
+-- What a listing of a pipe writes, and the causes of its errors.
 use Rattle.std.specs.Prelude.{◌≡◌, ◌≢◌, ◌⊎◌, ℕ, List, [], ◌∷◌, ◌++◌, length, Option, None, Some, Result, Ok, Err, IfSome}
 use Rattle.std.specs.Io.KnownBytes.{Appends}
-use Rattle.perfdata_base.specs.Source.{State, Paused}
+use Rattle.perfdata_base.specs.Source.{State, SourcePaused}
 use Rattle.perfdata_base.specs.declared.raw.Endianness.{Endianness}
 use Rattle.perfdata_sections.specs.declared.error.Error.{Error}
 use Rattle.perfdata_sections.specs.declared.error.Error.TheVariants.{Memory}
 use Rattle.linux_perf_data.specs.declared.perf_file.PerfFile.{PerfFile}
-use Rattle.linux_perf_data.specs.Layout.{Handed, faulty, Fault}
-use Rattle.linux_perf_data.specs.OpenedPipe.{unplaced}
-use Rattle.linux_perf_data.specs.Piece.{Answers}
-use Rattle.linux_perf_data.specs.PipeOpen.{Refused, StopsPipe}
-use Rattle.linux_perf_data.specs.PipeReading.{Behind, HoldsAll, IsWholePipe, OfPipe, OpensWith}
-use Rattle.linux_perf_data.specs.Reading.{ComeFirst, SourceOwesSome}
-use Rattle.perfdata_listing.specs.Listing.{IsWrite, WroteFront, lines_of}
+use Rattle.linux_perf_data.specs.Layout.{RecordView, ends_with_error, LayoutError}
+use Rattle.linux_perf_data.specs.OpenedPipe.{without_position}
+use Rattle.linux_perf_data.specs.RecordFraming.{IsErrorFor}
+use Rattle.linux_perf_data.specs.PipeOpening.{FailsBy, IsPipeError}
+use Rattle.linux_perf_data.specs.PipeReading.{HoldsForPipeRest, HoldsAllMetadata, IsCompletePipe, HoldsForPipe, OpensWith}
+use Rattle.linux_perf_data.specs.FileReading.{AreFirstRecords, SourceErrorInSomeRecord}
+use Rattle.perfdata_listing.specs.Listing.{IsWrite, WrotePrefix, record_lines}
 use Rattle.perfdata_listing.specs.declared.list.ListFault.{ListFault}
 use Rattle.perfdata_listing.specs.declared.list.ListCause.{ListCause}
 use Rattle.perfdata_listing.specs.declared.list.ListCause.TheVariants.{Perf, Write}
 
--- All records of a pipe were listed: its layout is whole, or the source paused. There are none where no head came behind its opening. The
--- `PerfFile` holds exactly what came.
+-- All records of a pipe are listed: its layout is complete, or the source paused. There are none if no record header
+-- follows its opening. The `PerfFile` contains exactly the metadata that was read.
 pub record ListedPipe (old : State) (before after : Option (List ℕ)) (lines : ℕ) (file : PerfFile) : Type 0 where
-  pub order : Endianness
+  pub endian : Endianness
   pub pieces : List (List ℕ)
-  pub head : Option (List ℕ)
-  pub opening : OpensWith order pieces old head
-  pub records : List Handed
-  pub none : head ≡ None → records ≡ []
+  pub pending_header : Option (List ℕ)
+  pub opening : OpensWith endian pieces old pending_header
+  pub records : List RecordView
+  pub none_without_header : pending_header ≡ None → records ≡ []
   pub count : lines ≡ length records
-  pub appends : Appends before after (lines_of records)
-  pub holds : HoldsAll order pieces records file
-  pub first : IfSome old.bytes (λ bytes. Behind order pieces bytes (λ Come. ComeFirst Come records))
-  pub last : State
-  pub are : IfSome old.bytes (IsWholePipe order pieces records) ⊎ Paused old last
+  pub appends : Appends before after (record_lines records)
+  pub file_updated : HoldsAllMetadata endian pieces records file
+  pub first : IfSome old.bytes (λ bytes. HoldsForPipeRest endian pieces bytes (λ Come. AreFirstRecords Come records))
+  pub source_after : State
+  pub complete : IfSome old.bytes (IsCompletePipe endian pieces records) ⊎ SourcePaused old source_after
 
--- The first records of a pipe were listed, and then it was refused: behind its opening its layout ends with this fault behind them, or the
--- source failed or paused.
-pub record StoppedBehind (old : State) (records : List Handed) (e : Error) : Type 0 where
-  pub order : Endianness
+-- The first records of a pipe are listed, and then its reading fails: after these records the layout ends with an error
+-- that this one reports, or the source failed or paused.
+pub record FailsAfterOpening (old : State) (records : List RecordView) (e : Error) : Type 0 where
+  pub endian : Endianness
   pub pieces : List (List ℕ)
-  pub head : List ℕ
-  pub opening : OpensWith order pieces old (Some head)
-  pub left : State
-  pub first : IfSome old.bytes (λ bytes. OfPipe order pieces bytes (λ Come. ComeFirst Come records))
-  pub why : e ≢ Memory → IfSome old.bytes (λ bytes. OfPipe order pieces bytes (λ Come. (f : Fault) × Come records (faulty f) × Answers f e))
-      ⊎ SourceOwesSome order None (unplaced old) e left
+  pub pending_header : List ℕ
+  pub opening : OpensWith endian pieces old (Some pending_header)
+  pub source_after : State
+  pub first : IfSome old.bytes (λ bytes. HoldsForPipe endian pieces bytes (λ Come. AreFirstRecords Come records))
+  pub cause : e ≢ Memory → IfSome old.bytes (λ bytes. HoldsForPipe endian pieces bytes (λ Come. (f : LayoutError) × Come records (ends_with_error f) × IsErrorFor f e))
+      ⊎ SourceErrorInSomeRecord endian None (without_position old) e source_after
 
--- Some records were listed, and then the pipe was refused: in its opening, and none was listed, or behind it.
-pub record StoppedPipe (old : State) (before after : Option (List ℕ)) (lines : ℕ) (e : Error) : Type 0 where
-  pub records : List Handed
+-- Some records are listed, and then the reading of the pipe fails: in its opening, with no record listed, or after it.
+pub record ListedPipeUntilError (old : State) (before after : Option (List ℕ)) (lines : ℕ) (e : Error) : Type 0 where
+  pub records : List RecordView
   pub count : lines ≡ length records
-  pub appends : Appends before after (lines_of records)
-  pub why : ((records ≡ []) × ((left : State) × Refused StopsPipe old e left)) ⊎ StoppedBehind old records e
+  pub appends : Appends before after (record_lines records)
+  pub cause : ((records ≡ []) × ((left : State) × FailsBy IsPipeError old e left)) ⊎ FailsAfterOpening old records e
 
--- the first records of a pipe were listed, and of the next one a front of its line
-pub record WrotePipe (old : State) (before after : Option (List ℕ)) (lines : ℕ) : Type 0 where
-  pub order : Endianness
+-- the first records of a pipe are listed, and a proper prefix of the next record's line is written
+pub record ListedPipePartOfNext (old : State) (before after : Option (List ℕ)) (lines : ℕ) : Type 0 where
+  pub endian : Endianness
   pub pieces : List (List ℕ)
-  pub head : List ℕ
-  pub opening : OpensWith order pieces old (Some head)
-  pub records : List Handed
-  pub next : Handed
+  pub pending_header : List ℕ
+  pub opening : OpensWith endian pieces old (Some pending_header)
+  pub records : List RecordView
+  pub next : RecordView
   pub count : lines ≡ length records
-  pub wrote : WroteFront before after records next
-  pub first : IfSome old.bytes (λ bytes. OfPipe order pieces bytes (λ Come. ComeFirst Come (records ++ next ∷ [])))
+  pub wrote : WrotePrefix before after records next
+  pub first : IfSome old.bytes (λ bytes. HoldsForPipe endian pieces bytes (λ Come. AreFirstRecords Come (records ++ next ∷ [])))
 
--- the first records of a pipe were listed, and then their lines were refused where the pipe may wait
-pub record HeldPipe (old : State) (before after : Option (List ℕ)) (lines : ℕ) : Type 0 where
-  pub order : Endianness
+-- the first records of a pipe are listed, and then the flush of their lines before a possible wait fails
+pub record ListedPipeUntilFlushError (old : State) (before after : Option (List ℕ)) (lines : ℕ) : Type 0 where
+  pub endian : Endianness
   pub pieces : List (List ℕ)
-  pub head : List ℕ
-  pub opening : OpensWith order pieces old (Some head)
-  pub records : List Handed
+  pub pending_header : List ℕ
+  pub opening : OpensWith endian pieces old (Some pending_header)
+  pub records : List RecordView
   pub count : lines ≡ length records
-  pub appends : Appends before after (lines_of records)
-  pub first : IfSome old.bytes (λ bytes. OfPipe order pieces bytes (λ Come. ComeFirst Come records))
+  pub appends : Appends before after (record_lines records)
+  pub first : IfSome old.bytes (λ bytes. HoldsForPipe endian pieces bytes (λ Come. AreFirstRecords Come records))
 
-abbrev pub StopsListingPipe : State → Option (List ℕ) → Option (List ℕ) → ℕ → ListCause → Type 0
-StopsListingPipe old before after lines (Perf e) = StoppedPipe old before after lines e
-StopsListingPipe old before after lines (Write e) = WrotePipe old before after lines
-StopsListingPipe old before after lines _ = ⊥
+abbrev pub PipeListingFails : State → Option (List ℕ) → Option (List ℕ) → ℕ → ListCause → Type 0
+PipeListingFails old before after lines (Perf e) = ListedPipeUntilError old before after lines e
+PipeListingFails old before after lines (Write e) = ListedPipePartOfNext old before after lines
+PipeListingFails old before after lines _ = ⊥
 
--- what a whole reading of a pipe does
-abbrev pub ReadsPipe : State → Option (List ℕ) → Result (ℕ × PerfFile) ListFault → Option (List ℕ) → Type 0
-ReadsPipe old before (Ok r) after = ListedPipe old before after r.0 r.1
-ReadsPipe old before (Err fault) after = StopsListingPipe old before after fault.lines fault.cause
+-- what reading a whole pipe does
+abbrev pub ListsPipeWithFile : State → Option (List ℕ) → Result (ℕ × PerfFile) ListFault → Option (List ℕ) → Type 0
+ListsPipeWithFile old before (Ok r) after = ListedPipe old before after r.0 r.1
+ListsPipeWithFile old before (Err fault) after = PipeListingFails old before after fault.lines fault.cause
 
 -- what a listing of a pipe does
 abbrev pub ListsPipe : State → Option (List ℕ) → Result ℕ ListFault → Option (List ℕ) → Type 0
 ListsPipe old before (Ok lines) after = (file : PerfFile) × ListedPipe old before after lines file
-ListsPipe old before (Err fault) after = StopsListingPipe old before after fault.lines fault.cause
+ListsPipe old before (Err fault) after = PipeListingFails old before after fault.lines fault.cause
 
--- what a listing of a live pipe does: the same, but its lines may also fail to be flushed
+-- what a listing of a live pipe does: the same, except that the flush of its lines may also fail
 abbrev pub ListsLivePipe : State → Option (List ℕ) → Result ℕ ListFault → Option (List ℕ) → Type 0
 ListsLivePipe old before (Ok lines) after = (file : PerfFile) × ListedPipe old before after lines file
-ListsLivePipe old before (Err fault) after = StopsListingPipe old before after fault.lines fault.cause ⊎ (IsWrite fault.cause × HeldPipe old before after fault.lines)
+ListsLivePipe old before (Err fault) after = PipeListingFails old before after fault.lines fault.cause ⊎ (IsWrite fault.cause × ListedPipeUntilFlushError old before after fault.lines)

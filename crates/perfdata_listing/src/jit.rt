@@ -1,10 +1,10 @@
-//! The records of a jitdump file as lines.
+//! Listing the records of a jitdump file, one line a record.
 ghost use Rattle.std.specs.Prelude.{◌≡◌, ◌+◌, ◌^◌, ◌<◌, ◌≤◌, IsTrue, OnOk, false, length};
 ghost use Rattle.std.specs.Io.KnownBytes.{Keeps};
-ghost use Rattle.perfdata_jit.specs.Answer.{IsHeld};
-ghost use Rattle.perfdata_jit.specs.JitDumpReader.{jit_held, jit_lost, jit_offset, jit_order, jit_size};
-ghost use Rattle.perfdata_listing.specs.Text.{text_of};
-ghost use Rattle.perfdata_listing.specs.JitListing.{raw_line, ListsJit, ListsJitRecords, ListsLiveJit, ListsLiveJitRecords, ListsNextJit, MayBlock, ReadsNothing};
+ghost use Rattle.perfdata_jit.specs.RecordBytes.{HasWholeRecord};
+ghost use Rattle.perfdata_jit.specs.JitDumpReader.{jit_buffered, jit_seek_failed, jit_offset, jit_endian, jit_ring_capacity};
+ghost use Rattle.perfdata_listing.specs.LineText.{text_of};
+ghost use Rattle.perfdata_listing.specs.JitListing.{raw_record_text, ListsJit, ListsJitRecords, ListsLiveJit, ListsLiveJitRecords, ListsNextJit, MayBlock, ReadsNothing};
 
 use crate::line::Line;
 use crate::list::{ListCause, ListFault};
@@ -15,12 +15,12 @@ use std::alloc::Global;
 use std::io;
 use std::io::Write;
 
-/// How many bytes are read at once from a live input.
+/// The size in bytes of the buffer for a live input.
 const LIVE_BUFFER_SIZE: usize = 65536;
 
-/// Makes a line that of a record.
-fn put_line(line: &mut Line, raw: &JitDumpRawRecord<'_>)
-    ensures { text_of line.new ≡ raw_line raw.now }
+/// Sets the line to that of a record.
+fn format_line(line: &mut Line, raw: &JitDumpRawRecord<'_>)
+    ensures { text_of line.new ≡ raw_record_text raw.now }
 {
     line.set_jit_record(
         raw.start_offset,
@@ -30,17 +30,17 @@ fn put_line(line: &mut Line, raw: &JitDumpRawRecord<'_>)
     );
 }
 
-/// Writes the line of the next record, and says whether it was there whole.
+/// Writes the line of the next record. Returns whether the record was complete.
 fn list_next<R: Source, W: Write>(
     reader: &mut JitDumpReader<R>,
     line: &mut Line,
     out: &mut W,
 ) -> Result<bool, ListCause>
-    ensures { ListsNextJit R.seen reader.old (W.contents out.old) result (W.contents out.new) reader.new }
+    ensures { ListsNextJit R.state reader.old (W.contents out.old) result (W.contents out.new) reader.new }
 {
     match reader.next_record() {
         Ok(Some(raw)) => {
-            put_line(line, &raw);
+            format_line(line, &raw);
             match write_line(out, line.as_bytes()) {
                 Ok(()) => Ok(true),
                 Err(error) => Err(ListCause::Write(error)),
@@ -51,25 +51,25 @@ fn list_next<R: Source, W: Write>(
     }
 }
 
-/// The same of a live input: nothing waits in the writer then, or the next record is buffered.
+/// Does what `list_next` does for a live input. Either the writer has no pending bytes, or the next record is buffered.
 fn list_next_live<R: Source, W: FlushPending>(
     reader: &mut JitDumpReader<R>,
     line: &mut Line,
     out: &mut W,
 ) -> Result<bool, ListCause>
     requires flushed { MayBlock reader.old (W.pending out.old) }
-    ensures { ListsNextJit R.seen reader.old (W.contents out.old) result (W.contents out.new) reader.new }
+    ensures { ListsNextJit R.state reader.old (W.contents out.old) result (W.contents out.new) reader.new }
 {
     list_next(reader, line, out)
 }
 
-/// Writes a line for each record that is to come, up to the first that isn't there yet, and says how many.
+/// Writes a line for each remaining record up to the first incomplete one. Returns the number of lines.
 fn list_jit_records<R: Source, W: Write>(
     reader: &mut JitDumpReader<R>,
     out: &mut W,
 ) -> Result<u64, ListFault>
-    requires { (jit_lost reader.old ≡ false) × (16 ≤ jit_size reader.old) }
-    ensures { ListsJitRecords R.seen reader.old (W.contents out.old) result (W.contents out.new) reader.new }
+    requires { (jit_seek_failed reader.old ≡ false) × (16 ≤ jit_ring_capacity reader.old) }
+    ensures { ListsJitRecords R.state reader.old (W.contents out.old) result (W.contents out.new) reader.new }
 {
     let mut lines = 0u64;
     let mut line = Line::new();
@@ -82,9 +82,9 @@ fn list_jit_records<R: Source, W: Write>(
     }
 }
 
-/// Whether a next record of this size is buffered whole, and is one that can be.
+/// Whether the next record, which has this size, is valid and completely buffered.
 fn holds_record<R: Source>(reader: &JitDumpReader<R>, size: u32) -> bool
-    ensures { IsTrue result → (16 ≤ size) × (jit_offset reader.now + size < 2 ^ 64) × (size ≤ length (jit_held reader.now)) }
+    ensures { IsTrue result → (16 ≤ size) × (jit_offset reader.now + size < 2 ^ 64) × (size ≤ length (jit_buffered reader.now)) }
 {
     let offset = reader.next_record_offset();
     if (size as usize) < JitDumpRecordHeader::SIZE {
@@ -96,11 +96,11 @@ fn holds_record<R: Source>(reader: &JitDumpReader<R>, size: u32) -> bool
     reader.has_buffered(size as usize)
 }
 
-/// Whether the next record is buffered whole. It asks the source for nothing.
+/// Whether the next record is completely buffered. The call doesn't read the source.
 fn is_next_buffered<R: Source>(reader: &mut JitDumpReader<R>) -> bool
-    requires found { jit_lost reader.old ≡ false }
-    ensures unread { ReadsNothing R.seen reader.old reader.new }
-    ensures buffered { IsTrue result → IsHeld (jit_order reader.new) (jit_offset reader.new) (jit_held reader.new) }
+    requires found { jit_seek_failed reader.old ≡ false }
+    ensures unread { ReadsNothing R.state reader.old reader.new }
+    ensures buffered { IsTrue result → HasWholeRecord (jit_endian reader.new) (jit_offset reader.new) (jit_buffered reader.new) }
 {
     if !reader.has_buffered(JitDumpRecordHeader::SIZE) {
         return false;
@@ -112,13 +112,13 @@ fn is_next_buffered<R: Source>(reader: &mut JitDumpReader<R>) -> bool
     }
 }
 
-/// Flushes the lines so far unless the next record is buffered, so that none of them waits while the input does.
+/// Flushes the pending lines unless the next record is buffered. No line is pending while the input blocks.
 fn flush_before_blocking<R: Source, W: FlushPending>(
     reader: &mut JitDumpReader<R>,
     out: &mut W,
 ) -> io::Result<()>
-    requires found { jit_lost reader.old ≡ false }
-    ensures unread { ReadsNothing R.seen reader.old reader.new }
+    requires found { jit_seek_failed reader.old ≡ false }
+    ensures unread { ReadsNothing R.state reader.old reader.new }
     ensures keeps { Keeps (W.contents out.old) (W.contents out.new) }
     ensures flushed { OnOk result (MayBlock reader.new (W.pending out.new)) }
 {
@@ -128,14 +128,14 @@ fn flush_before_blocking<R: Source, W: FlushPending>(
     out.flush_pending()
 }
 
-/// Writes a line for each record that is to come of a live input, and says how many. What was written is flushed before each
-/// call for a record that isn't buffered.
+/// Writes a line for each remaining record of a live input. Returns the number of lines. Pending lines are flushed before
+/// each call for a record that isn't buffered.
 fn list_live_jit_records<R: Source, W: FlushPending>(
     reader: &mut JitDumpReader<R>,
     out: &mut W,
 ) -> Result<u64, ListFault>
-    requires { (jit_lost reader.old ≡ false) × (16 ≤ jit_size reader.old) }
-    ensures { ListsLiveJitRecords R.seen reader.old (W.contents out.old) result (W.contents out.new) reader.new }
+    requires { (jit_seek_failed reader.old ≡ false) × (16 ≤ jit_ring_capacity reader.old) }
+    ensures { ListsLiveJitRecords R.state reader.old (W.contents out.old) result (W.contents out.new) reader.new }
 {
     let mut lines = 0u64;
     let mut line = Line::new();
@@ -155,18 +155,19 @@ fn list_live_jit_records<R: Source, W: FlushPending>(
     }
 }
 
-/// Writes a line for each record of a jitdump file, up to the first that isn't there whole, and says how many:
-/// `OFFSET TIME TYPE SIZE`, numbers in decimal, one space between.
+/// Writes a line for each record of a jitdump file up to the first incomplete one, and returns the number of lines.
 ///
-/// On an error `lines` says how many lines were written whole: none where the file doesn't open, and else all of the records
-/// before the one whose size is impossible or that the source failed in. Where the writer fails, a prefix of the next line was
-/// written; a write that takes no byte is of kind `WriteZero`, and no write is made a second time.
+/// A line is `OFFSET TIME TYPE SIZE`: decimal numbers, separated by one space.
+///
+/// On an error `lines` is the number of complete lines that are written: 0 if the file doesn't open, otherwise one for each
+/// record before the record that has an invalid size or that the source fails to read. If the writer fails, a prefix of the
+/// next line is written. A write of 0 bytes is an error of kind `WriteZero`. No write is repeated.
 pub fn list_jit<R: Source + Drop, W: Write>(
     alloc: Global,
     source: R,
     out: &mut W,
 ) -> Result<u64, ListFault>
-    ensures { ListsJit R.seen source 4096 (W.contents out.old) result (W.contents out.new) }
+    ensures { ListsJit R.state source 4096 (W.contents out.old) result (W.contents out.new) }
 {
     match JitDumpReader::new(alloc, source) {
         Ok(mut reader) => list_jit_records(&mut reader, out),
@@ -177,17 +178,17 @@ pub fn list_jit<R: Source + Drop, W: Write>(
     }
 }
 
-/// Lists a jitdump that may still grow, as [`list_jit`] does, into a writer that may hold lines back: they are flushed before
-/// each record that isn't buffered, so that all lines so far can be read while the source waits for more.
+/// Lists a jitdump that may still grow, as [`list_jit`] does, into a writer that may buffer lines. The lines are flushed
+/// before each record that isn't buffered. Thus all lines so far are readable while the source waits for data.
 ///
-/// It reads up to 64 KiB at once, so the source needs no buffer of its own. Where that flush fails, all `lines` were written,
-/// and nothing of a next one.
+/// The call reads up to 64 KiB at once, and the source needs no buffer of its own. If this flush fails, all `lines` lines
+/// are written, and no byte of a next line.
 pub fn list_live_jit<R: Source + Drop, W: FlushPending>(
     alloc: Global,
     source: R,
     out: &mut W,
 ) -> Result<u64, ListFault>
-    ensures { ListsLiveJit R.seen source 65536 (W.contents out.old) result (W.contents out.new) }
+    ensures { ListsLiveJit R.state source 65536 (W.contents out.old) result (W.contents out.new) }
 {
     match JitDumpReader::new_with_buffer_size(alloc, source, LIVE_BUFFER_SIZE) {
         Ok(mut reader) => list_live_jit_records(&mut reader, out),

@@ -1,27 +1,27 @@
-//! What holds of lines and of the buffer that counts them, whatever is listed.
+//! Laws of the lines and of the buffer that counts them, for all inputs.
 ghost use Rattle.std.specs.Prelude.{◌≡◌, ℕ, ◌++◌, List, length, flat_map};
-ghost use Rattle.linux_perf_data.specs.Layout.{Handed};
+ghost use Rattle.linux_perf_data.specs.Layout.{RecordView};
 ghost use Rattle.perfdata_base.specs.declared.raw.Endianness.{Endianness};
-ghost use Rattle.perfdata_listing.specs.Line.{handed_line};
-ghost use Rattle.perfdata_listing.specs.JitListing.{piece_lines};
-ghost use Rattle.perfdata_listing.specs.Output.{newlines};
-ghost use Rattle.perfdata_listing.specs.Buffer.{Passes};
-ghost use Rattle.perfdata_listing.specs.declared.output.LineBuffer.{LineBuffer};
+ghost use Rattle.perfdata_listing.specs.Line.{record_line};
+ghost use Rattle.perfdata_listing.specs.JitListing.{jit_lines};
+ghost use Rattle.perfdata_listing.specs.Output.{newline_count};
+ghost use Rattle.perfdata_listing.specs.CountingBufWriter.{BuffersAndForwards};
+ghost use Rattle.perfdata_listing.specs.declared.output.CountingBufWriter.{CountingBufWriter};
 
 use std::io::Write;
 
-/// Each record has one line: as many lines end in the lines of some records as there are records.
-pub fn one_line_each()
-    ensures { (records : List Handed) → newlines (flat_map handed_line records) ≡ length records }
+/// Each record has one line: the lines of a list of records contain as many newlines as there are records.
+pub fn one_line_per_record()
+    ensures { (records : List RecordView) → newline_count (flat_map record_line records) ≡ length records }
 {}
 
-/// So has each record of a jitdump file, at whatever offset they begin.
-pub fn one_jit_line_each()
-    ensures { (order : Endianness) (offset : ℕ) (pieces : List (List ℕ)) → newlines (piece_lines order offset pieces) ≡ length pieces }
+/// Each record of a jitdump file has one line, at any offset.
+pub fn one_line_per_jit_record()
+    ensures { (order : Endianness) (offset : ℕ) (pieces : List (List ℕ)) → newline_count (jit_lines order offset pieces) ≡ length pieces }
 {}
 
-/// Two calls on a line buffer, one after the other, do what one call does that is given what both were given: what has
-/// left is counted, whatever calls were made.
-pub fn calls_add_up<W: Write>()
-    ensures { (old mid new : LineBuffer W) (first second : List ℕ) → Passes W.contents old first mid → Passes W.contents mid second new → Passes W.contents old (first ++ second) new }
+/// Two consecutive calls on a `CountingBufWriter` have the effect of one call with the bytes of both. The count of the
+/// lines that it wrote thus doesn't depend on how the bytes are split into calls.
+pub fn consecutive_writes_compose<W: Write>()
+    ensures { (old mid new : CountingBufWriter W) (first second : List ℕ) → BuffersAndForwards W.contents old first mid → BuffersAndForwards W.contents mid second new → BuffersAndForwards W.contents old (first ++ second) new }
 {}

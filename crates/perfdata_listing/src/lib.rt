@@ -1,4 +1,4 @@
-//! The records of a `perf.data` file, of a pipe or of a jitdump file as lines of text, one a record.
+//! Lists the records of a `perf.data` file, of a pipe or of a jitdump file, one line of text a record.
 #![tactic(auto)]
 
 pub mod jit;
@@ -8,5 +8,5 @@ pub mod list;
 pub mod output;
 
 pub use jit::{list_jit, list_live_jit};
-pub use list::{ListCause, ListFault, list_file, list_live_pipe, list_pipe, settle};
-pub use output::{FlushPending, LineBuffer, finish, write_line};
+pub use list::{ListCause, ListFault, flush_listing, list_file, list_live_pipe, list_pipe};
+pub use output::{CountingBufWriter, FlushPending, finish, write_line};

@@ -1,23 +1,24 @@
-//! A line of the list as text, made in an array of the stack.
+//! The text of a listing's line, formatted in an array on the stack.
 ghost use Rattle.std.specs.Prelude.{◌≡◌, ℕ, ◌+◌, ◌≤◌, [], ◌∷◌, ◌++◌, length, take, drop, decimal, codes};
-ghost use Rattle.perfdata_listing.specs.Line.{decimal_or_dash, line_of, jit_line_of, fault_line};
+ghost use Rattle.perfdata_listing.specs.Line.{decimal_or_dash, record_text, jit_record_text, error_text};
 
 use itoa::write_digits;
 
-/// The longest line has 122 bytes: five numbers of at most 20 digits, one of 10, one of 5, and a byte behind each.
-const CAPACITY: usize = 128;
+/// The capacity of a line in bytes. The longest line has 122 bytes: five numbers of at most 20 digits, one of 10, one of 5,
+/// and a separator after each.
+const LINE_CAPACITY: usize = 128;
 
-/// A line of text, at the end of an array.
+/// A line of text, stored at the end of an array.
 #[derive(Drop)]
 pub struct Line {
-    bytes: [u8; CAPACITY],
+    bytes: [u8; LINE_CAPACITY],
     start: usize,
     ghost in_range: { start ≤ 128 },
 }
 
-/// Writes one byte before `end`, and returns where it stands.
+/// Writes one byte before index `end`, and returns its index.
 #[inline]
-fn put_byte(buf: &mut [u8], end: usize, byte: u8) -> usize
+fn prepend_byte(buf: &mut [u8], end: usize, byte: u8) -> usize
     requires { (1 ≤ end) × (end ≤ length buf.old) }
     ensures start { result + 1 ≡ end }
     ensures written { drop result buf.new ≡ byte ∷ drop end buf.old }
@@ -26,91 +27,97 @@ fn put_byte(buf: &mut [u8], end: usize, byte: u8) -> usize
     end - 1
 }
 
-/// Writes a number in decimal and a byte behind it, so that they end at `end`, and returns where they start.
+/// Writes a decimal number and a separator before index `end`, and returns the index of their first byte.
 #[inline]
-fn put_number(buf: &mut [u8], end: usize, n: u64, behind: u8) -> usize
+fn prepend_number(buf: &mut [u8], end: usize, n: u64, separator: u8) -> usize
     requires { (length (decimal n) + 1 ≤ end) × (end ≤ length buf.old) }
     ensures start { result + length (decimal n) + 1 ≡ end }
-    ensures written { drop result buf.new ≡ decimal n ++ behind ∷ drop end buf.old }
-    ensures short { end ≤ result + 21 }
+    ensures written { drop result buf.new ≡ decimal n ++ separator ∷ drop end buf.old }
+    ensures at_most_21 { end ≤ result + 21 }
 {
-    let at = put_byte(buf, end, behind);
+    let at = prepend_byte(buf, end, separator);
     write_digits(n, buf, at)
 }
 
-/// Writes a number, or a dash where there is none, and a space behind it.
+/// Writes a decimal number, or a dash for `None`, and a space before index `end`. Returns the index of their first byte.
 #[inline]
-fn put_optional(buf: &mut [u8], end: usize, n: Option<u64>) -> usize
+fn prepend_optional(buf: &mut [u8], end: usize, n: Option<u64>) -> usize
     requires { (21 ≤ end) × (end ≤ length buf.old) }
     ensures start { result + length (decimal_or_dash n) + 1 ≡ end }
     ensures written { drop result buf.new ≡ decimal_or_dash n ++ 32 ∷ drop end buf.old }
-    ensures short { end ≤ result + 21 }
+    ensures at_most_21 { end ≤ result + 21 }
 {
     match n {
-        Some(n) => put_number(buf, end, n, b' '),
+        Some(n) => prepend_number(buf, end, n, b' '),
         None => {
-            let at = put_byte(buf, end, b' ');
-            put_byte(buf, at, b'-')
+            let at = prepend_byte(buf, end, b' ');
+            prepend_byte(buf, at, b'-')
         }
     }
 }
 
-/// The numbers of a record's line.
+/// The fields of a record's line.
 #[derive(Clone, Copy)]
-pub struct Fields {
-    /// The place of the record's first byte in the data section or the pipe's records.
+pub struct RecordFields {
+    /// The offset of the record's first byte in the data section, or in the records of the pipe.
     pub offset: u64,
-    /// How many rounds ended before it.
+    /// Number of rounds that end before the record.
     pub round: u64,
-    /// Its time, in nanoseconds, if it has one.
-    pub time: Option<u64>,
-    /// The index of its attribute, if it belongs to one.
-    pub attr: Option<u64>,
-    /// Its type.
-    pub kind: u32,
-    /// Its `misc` flags.
+    /// The record's timestamp in nanoseconds, if it has one.
+    pub timestamp: Option<u64>,
+    /// The index of the record's attribute, if it has one.
+    pub attr_index: Option<u64>,
+    /// The type of the record.
+    pub record_type: u32,
+    /// The `misc` flags of the record.
     pub misc: u16,
-    /// The length of its body in bytes.
+    /// The size of the record's body in bytes.
     pub body_length: u64,
 }
 
-/// Writes a record's line, from its end to its front, so that it ends with the array, and returns where it starts.
-fn put_record(buf: &mut [u8; CAPACITY], fields: Fields) -> usize
+/// Writes a record's line at the end of the array, last field first, and returns the index of its first byte.
+fn format_record(buf: &mut [u8; LINE_CAPACITY], fields: RecordFields) -> usize
     ensures start { result ≤ 128 }
-    ensures written { drop result buf.new ≡ line_of fields.offset fields.round fields.time fields.attr fields.kind fields.misc fields.body_length }
+    ensures written { drop result buf.new ≡ record_text fields.offset fields.round fields.timestamp fields.attr_index fields.record_type fields.misc fields.body_length }
 {
-    let at_length = put_number(buf, CAPACITY, fields.body_length, b'\n');
-    let at_misc = put_number(buf, at_length, fields.misc as u64, b' ');
-    let at_kind = put_number(buf, at_misc, fields.kind as u64, b' ');
-    let at_attr = put_optional(buf, at_kind, fields.attr);
-    let at_time = put_optional(buf, at_attr, fields.time);
-    let at_round = put_number(buf, at_time, fields.round, b' ');
-    put_number(buf, at_round, fields.offset, b' ')
+    let body_length_start = prepend_number(buf, LINE_CAPACITY, fields.body_length, b'\n');
+    let misc_start = prepend_number(buf, body_length_start, fields.misc as u64, b' ');
+    let type_start = prepend_number(buf, misc_start, fields.record_type as u64, b' ');
+    let attr_start = prepend_optional(buf, type_start, fields.attr_index);
+    let timestamp_start = prepend_optional(buf, attr_start, fields.timestamp);
+    let round_start = prepend_number(buf, timestamp_start, fields.round, b' ');
+    prepend_number(buf, round_start, fields.offset, b' ')
 }
 
-/// Writes the line of a jitdump file's record, from its end to its front, and returns where it starts.
-fn put_jit_record(buf: &mut [u8; CAPACITY], offset: u64, time: u64, kind: u32, size: u64) -> usize
+/// Writes the line of a jitdump record at the end of the array, last field first, and returns the index of its first byte.
+fn format_jit_record(
+    buf: &mut [u8; LINE_CAPACITY],
+    offset: u64,
+    time: u64,
+    record_type: u32,
+    size: u64,
+) -> usize
     ensures start { result ≤ 128 }
-    ensures written { drop result buf.new ≡ jit_line_of offset time kind size }
+    ensures written { drop result buf.new ≡ jit_record_text offset time record_type size }
 {
-    let at_size = put_number(buf, CAPACITY, size, b'\n');
-    let at_kind = put_number(buf, at_size, kind as u64, b' ');
-    let at_time = put_number(buf, at_kind, time, b' ');
-    put_number(buf, at_time, offset, b' ')
+    let size_start = prepend_number(buf, LINE_CAPACITY, size, b'\n');
+    let type_start = prepend_number(buf, size_start, record_type as u64, b' ');
+    let timestamp_start = prepend_number(buf, type_start, time, b' ');
+    prepend_number(buf, timestamp_start, offset, b' ')
 }
 
-/// Writes the line of a fault after so many records, and returns where it starts.
-fn put_fault(buf: &mut [u8; CAPACITY], records: u64) -> usize
+/// Writes the line of an error after `records` records, and returns the index of its first byte.
+fn format_error(buf: &mut [u8; LINE_CAPACITY], records: u64) -> usize
     ensures start { result ≤ 128 }
-    ensures written { drop result buf.new ≡ fault_line records }
+    ensures written { drop result buf.new ≡ error_text records }
 {
-    let at_behind = put_text(buf, CAPACITY, b" records\n");
-    let at_number = write_digits(records, buf, at_behind);
-    put_text(buf, at_number, b"perflist: fault after ")
+    let suffix_start = prepend_bytes(buf, LINE_CAPACITY, b" records\n");
+    let number_start = write_digits(records, buf, suffix_start);
+    prepend_bytes(buf, number_start, b"perflist: fault after ")
 }
 
-/// Writes bytes before `end`, and returns where they start.
-fn put_text(buf: &mut [u8], end: usize, text: &[u8]) -> usize
+/// Writes the text before index `end`, and returns the index of its first byte.
+fn prepend_bytes(buf: &mut [u8], end: usize, text: &[u8]) -> usize
     requires { (length text.now ≤ end) × (end ≤ length buf.old) }
     ensures start { result + length text.now ≡ end }
     ensures written { drop result buf.new ≡ text.now ++ drop end buf.old }
@@ -121,45 +128,45 @@ fn put_text(buf: &mut [u8], end: usize, text: &[u8]) -> usize
 }
 
 impl Line {
-    ghost use Rattle.perfdata_listing.specs.Text.{text_of};
+    ghost use Rattle.perfdata_listing.specs.LineText.{text_of};
 
-    /// No line yet. Its array serves for one line after another.
+    /// Creates an empty line. It can be set to one line after another.
     pub fn new() -> Line
         ensures { text_of result ≡ [] }
     {
         Line {
-            bytes: [0; CAPACITY],
-            start: CAPACITY,
+            bytes: [0; LINE_CAPACITY],
+            start: LINE_CAPACITY,
         }
     }
 
-    /// Makes it the line of a record.
+    /// Sets it to the line of a record.
     #[inline]
-    pub fn set_record(&mut self, fields: Fields)
-        ensures { text_of self.new ≡ line_of fields.offset fields.round fields.time fields.attr fields.kind fields.misc fields.body_length }
+    pub fn set_record(&mut self, fields: RecordFields)
+        ensures { text_of self.new ≡ record_text fields.offset fields.round fields.timestamp fields.attr_index fields.record_type fields.misc fields.body_length }
     {
-        self.start = put_record(&mut self.bytes, fields);
+        self.start = format_record(&mut self.bytes, fields);
     }
 
-    /// Makes it the line of a record of a jitdump file: its offset in the file, its time, its type and its size in bytes, its
-    /// head included.
+    /// Sets it to the line of a jitdump record: its offset in the file, its timestamp, its type, and its size in bytes
+    /// including its record header.
     #[inline]
-    pub fn set_jit_record(&mut self, offset: u64, time: u64, kind: u32, size: u64)
-        ensures { text_of self.new ≡ jit_line_of offset time kind size }
+    pub fn set_jit_record(&mut self, offset: u64, time: u64, record_type: u32, size: u64)
+        ensures { text_of self.new ≡ jit_record_text offset time record_type size }
     {
-        self.start = put_jit_record(&mut self.bytes, offset, time, kind, size);
+        self.start = format_jit_record(&mut self.bytes, offset, time, record_type, size);
     }
 
-    /// The line that tells of a fault after so many records.
-    pub fn of_fault(records: u64) -> Line
-        ensures { text_of result ≡ fault_line records }
+    /// Creates the line of an error after `records` records.
+    pub fn for_error(records: u64) -> Line
+        ensures { text_of result ≡ error_text records }
     {
-        let mut bytes = [0; CAPACITY];
-        let start = put_fault(&mut bytes, records);
+        let mut bytes = [0; LINE_CAPACITY];
+        let start = format_error(&mut bytes, records);
         Line { bytes, start }
     }
 
-    /// The line's bytes, its newline included.
+    /// The bytes of the line, including its newline.
     pub fn as_bytes(&self) -> &[u8]
         ensures { result.now ≡ text_of self.now }
     {

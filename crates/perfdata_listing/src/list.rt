@@ -1,18 +1,18 @@
-//! The records of an input as lines.
+//! Listing the records of a perf.data file or of a pipe, one line a record.
 ghost use Rattle.std.specs.Prelude.{◌≡◌, ◌⊎◌, [], IfOk, IfErr, IsErr, IsTrue, OnOk, OnErr, Ok, false};
 ghost use Rattle.std.specs.Io.KnownBytes.{Keeps};
-ghost use Rattle.linux_perf_data.specs.AtHand.{IsOver};
-ghost use Rattle.perfdata_listing.specs.Buffer.{held, has_failed, lines_left, Passes};
-ghost use Rattle.linux_perf_data.specs.Iter.{handed_of};
-ghost use Rattle.perfdata_listing.specs.Line.{handed_line};
-ghost use Rattle.perfdata_listing.specs.Text.{text_of};
-ghost use Rattle.perfdata_listing.specs.Listing.{told_by};
-ghost use Rattle.linux_perf_data.specs.Reading.{IsOwn, IsUnfailed};
+ghost use Rattle.linux_perf_data.specs.BufferedRecord.{IsFinished};
+ghost use Rattle.perfdata_listing.specs.CountingBufWriter.{pending_bytes, has_failed, lines_written, BuffersAndForwards};
+ghost use Rattle.linux_perf_data.specs.Iter.{record_view_of};
+ghost use Rattle.perfdata_listing.specs.Line.{record_line};
+ghost use Rattle.perfdata_listing.specs.LineText.{text_of};
+ghost use Rattle.perfdata_listing.specs.Listing.{fields_text};
+ghost use Rattle.linux_perf_data.specs.FileReading.{HasMatchingFile, HasNotFailed};
 ghost use Rattle.perfdata_listing.specs.Listing.{ListsNext, ListsRecords, ListsLiveRecords, ListsFile, MayBlock};
-ghost use Rattle.perfdata_listing.specs.PipeListing.{ListsPipe, ListsLivePipe, ReadsPipe};
+ghost use Rattle.perfdata_listing.specs.PipeListing.{ListsPipe, ListsLivePipe, ListsPipeWithFile};
 
-use crate::line::{Fields, Line};
-use crate::output::{FlushPending, LineBuffer, write_line};
+use crate::line::{Line, RecordFields};
+use crate::output::{CountingBufWriter, FlushPending, write_line};
 use linux_perf_data::jitdump::JitDumpError;
 use linux_perf_data::source::{PlacedSource, Source};
 use linux_perf_data::{
@@ -22,73 +22,73 @@ use std::alloc::Global;
 use std::io;
 use std::io::Write;
 
-/// Why a listing stopped before its end.
+/// The cause of a listing's error.
 #[derive(Debug, Drop)]
 pub enum ListCause {
-    /// The input was refused, or its source failed.
+    /// The input is invalid, or its source failed.
     Perf(Error),
-    /// A jitdump file couldn't be opened.
+    /// The jitdump file couldn't be opened.
     Jit(JitDumpError),
-    /// The next record of a jitdump file can't be one, or its source failed.
+    /// The size of the next jitdump record is invalid, or the source failed.
     Read(io::Error),
-    /// The writer refused a line.
+    /// The writer failed.
     Write(io::Error),
 }
 
-/// How far a listing came, and why it stopped.
+/// An error of a listing, with the number of lines before it.
 #[derive(Debug, Drop)]
 pub struct ListFault {
-    /// How many lines were written whole.
+    /// Number of lines that are written completely.
     pub lines: u64,
-    /// What stopped it.
+    /// The cause of the error.
     pub cause: ListCause,
 }
 
-/// What a line tells of a record.
-fn fields_of(place: RecordPlace, found: &PerfFileRecord<'_>) -> Fields
-    ensures { told_by result ≡ handed_line (handed_of place found.now) }
+/// The fields of a record's line.
+fn record_fields(place: RecordPlace, file_record: &PerfFileRecord<'_>) -> RecordFields
+    ensures { fields_text result ≡ record_line (record_view_of place file_record.now) }
 {
-    match found {
-        PerfFileRecord::EventRecord { attr_index, event } => Fields {
+    match file_record {
+        PerfFileRecord::EventRecord { attr_index, event } => RecordFields {
             offset: place.offset,
             round: place.round,
-            time: place.timestamp,
-            attr: Some(*attr_index as u64),
-            kind: event.record_type.0,
+            timestamp: place.timestamp,
+            attr_index: Some(*attr_index as u64),
+            record_type: event.record_type.0,
             misc: event.misc,
             body_length: event.body.len() as u64,
         },
-        PerfFileRecord::UserRecord(user) => Fields {
+        PerfFileRecord::UserRecord(user) => RecordFields {
             offset: place.offset,
             round: place.round,
-            time: place.timestamp,
-            attr: None,
-            kind: user.record_type.record_type().0,
+            timestamp: place.timestamp,
+            attr_index: None,
+            record_type: user.record_type.record_type().0,
             misc: user.misc,
             body_length: user.body.len() as u64,
         },
     }
 }
 
-/// Makes a line that of a record.
-fn put_line(line: &mut Line, place: RecordPlace, found: &PerfFileRecord<'_>)
-    ensures { text_of line.new ≡ handed_line (handed_of place found.now) }
+/// Sets the line to that of a record.
+fn format_line(line: &mut Line, place: RecordPlace, file_record: &PerfFileRecord<'_>)
+    ensures { text_of line.new ≡ record_line (record_view_of place file_record.now) }
 {
-    line.set_record(fields_of(place, found));
+    line.set_record(record_fields(place, file_record));
 }
 
-/// Writes the line of the next record, and says whether there was one.
+/// Writes the line of the next record. Returns whether there is one.
 fn list_next<R: Source, W: Write>(
     iter: &mut PerfRecordIter<R>,
     file: &mut PerfFile,
     line: &mut Line,
     out: &mut W,
 ) -> Result<bool, ListCause>
-    ensures { ListsNext R.seen iter.old file.old (W.contents out.old) result (W.contents out.new) iter.new file.new }
+    ensures { ListsNext R.state iter.old file.old (W.contents out.old) result (W.contents out.new) iter.new file.new }
 {
     match iter.next_record(file) {
         Ok(Some((place, record))) => {
-            put_line(line, place, &record);
+            format_line(line, place, &record);
             match write_line(out, line.as_bytes()) {
                 Ok(()) => Ok(true),
                 Err(error) => Err(ListCause::Write(error)),
@@ -99,28 +99,28 @@ fn list_next<R: Source, W: Write>(
     }
 }
 
-/// The same of a live input: nothing waits in the writer then, or the next record is buffered.
+/// Does what `list_next` does for a live input. Either the writer has no pending bytes, or the next record is buffered.
 fn list_next_live<R: Source, W: FlushPending>(
     iter: &mut PerfRecordIter<R>,
     file: &mut PerfFile,
     line: &mut Line,
     out: &mut W,
 ) -> Result<bool, ListCause>
-    requires flushed { MayBlock R.seen iter.old (W.pending out.old) }
-    ensures { ListsNext R.seen iter.old file.old (W.contents out.old) result (W.contents out.new) iter.new file.new }
+    requires flushed { MayBlock R.state iter.old (W.pending out.old) }
+    ensures { ListsNext R.state iter.old file.old (W.contents out.old) result (W.contents out.new) iter.new file.new }
 {
     list_next(iter, file, line, out)
 }
 
-/// Writes a line for each record that is to come, and says how many.
+/// Writes a line for each remaining record. Returns the number of lines.
 fn list_records<R: Source, W: Write>(
     iter: &mut PerfRecordIter<R>,
     file: &mut PerfFile,
     out: &mut W,
 ) -> Result<u64, ListFault>
-    requires unfailed { IsUnfailed iter.old }
-    requires own { IsOwn R.seen iter.old file.old }
-    ensures { ListsRecords R.seen iter.old file.old (W.contents out.old) result (W.contents out.new) iter.new file.new }
+    requires not_failed { HasNotFailed iter.old }
+    requires matching_file { HasMatchingFile R.state iter.old file.old }
+    ensures { ListsRecords R.state iter.old file.old (W.contents out.old) result (W.contents out.new) iter.new file.new }
 {
     let mut lines = 0u64;
     let mut line = Line::new();
@@ -133,16 +133,16 @@ fn list_records<R: Source, W: Write>(
     }
 }
 
-/// Flushes the lines so far unless the next record is buffered, so that none of them waits while the input does.
+/// Flushes the pending lines unless the next record is buffered. No line is pending while the input blocks.
 fn flush_before_blocking<R: Source, W: FlushPending>(
     iter: &PerfRecordIter<R>,
     out: &mut W,
 ) -> io::Result<()>
     ensures keeps { Keeps (W.contents out.old) (W.contents out.new) }
-    ensures flushed { OnOk result (MayBlock R.seen iter.now (W.pending out.new)) }
-    ensures on_error { OnErr result (¬ IsOver R.seen iter.now) }
+    ensures flushed { OnOk result (MayBlock R.state iter.now (W.pending out.new)) }
+    ensures on_error { OnErr result (¬ IsFinished R.state iter.now) }
 {
-    if iter.is_at_hand() {
+    if iter.is_next_buffered() {
         return Ok(());
     }
     match out.flush_pending() {
@@ -151,16 +151,16 @@ fn flush_before_blocking<R: Source, W: FlushPending>(
     }
 }
 
-/// Writes a line for each record that is to come of a live input, and says how many. What was written is flushed before each
-/// call for a record that isn't buffered.
+/// Writes a line for each remaining record of a live input. Returns the number of lines. Pending lines are flushed before
+/// each call for a record that isn't buffered.
 fn list_live_records<R: Source, W: FlushPending>(
     iter: &mut PerfRecordIter<R>,
     file: &mut PerfFile,
     out: &mut W,
 ) -> Result<u64, ListFault>
-    requires unfailed { IsUnfailed iter.old }
-    requires own { IsOwn R.seen iter.old file.old }
-    ensures { ListsLiveRecords R.seen iter.old file.old (W.contents out.old) result (W.contents out.new) iter.new file.new }
+    requires not_failed { HasNotFailed iter.old }
+    requires matching_file { HasMatchingFile R.state iter.old file.old }
+    ensures { ListsLiveRecords R.state iter.old file.old (W.contents out.old) result (W.contents out.new) iter.new file.new }
 {
     let mut lines = 0u64;
     let mut line = Line::new();
@@ -180,18 +180,19 @@ fn list_live_records<R: Source, W: FlushPending>(
     }
 }
 
-/// Writes a line for each record of a perf.data file, and says how many:
-/// `OFFSET ROUND TIME ATTR TYPE MISC BODYLEN`, numbers in decimal, one space between, `-` for none.
+/// Writes a line for each record of a perf.data file, and returns the number of lines.
 ///
-/// On an error `lines` says how many lines were written whole: none where the file doesn't open, all of its records where its
-/// data section's layout has an error. Where the writer fails, a prefix of the next line was written; a write that takes no
-/// byte is of kind `WriteZero`, and no write is made a second time.
+/// A line is `OFFSET ROUND TIME ATTR TYPE MISC BODYLEN`: decimal numbers, separated by one space, `-` for a missing value.
+///
+/// On an error `lines` is the number of complete lines that are written: 0 if the file doesn't open, all of its records if
+/// the layout of its data section has an error. If the writer fails, a prefix of the next line is written. A write of 0
+/// bytes is an error of kind `WriteZero`. No write is repeated.
 pub fn list_file<C: PlacedSource + Drop, W: Write>(
     alloc: Global,
     source: C,
     out: &mut W,
 ) -> Result<u64, ListFault>
-    ensures { ListsFile (C.seen source) (W.contents out.old) result (W.contents out.new) }
+    ensures { ListsFile (C.state source) (W.contents out.old) result (W.contents out.new) }
 {
     match PerfFileReader::parse_file(alloc, source) {
         Ok(reader) => {
@@ -206,14 +207,14 @@ pub fn list_file<C: PlacedSource + Drop, W: Write>(
     }
 }
 
-/// Lists a whole pipe as [`list_pipe`] does, and returns beside the number of its records all metadata that it contains, of its
-/// opening and of later records.
+/// Lists a whole pipe as [`list_pipe`] does. Returns the number of records and all metadata of the pipe, from its opening
+/// and from later records.
 fn list_pipe_with_file<R: Source + Drop, W: Write>(
     alloc: Global,
     source: R,
     out: &mut W,
 ) -> Result<(u64, PerfFile), ListFault>
-    ensures { ReadsPipe (R.seen source) (W.contents out.old) result (W.contents out.new) }
+    ensures { ListsPipeWithFile (R.state source) (W.contents out.old) result (W.contents out.new) }
 {
     match PerfFileReader::parse_pipe(alloc, source) {
         Ok(reader) => {
@@ -231,21 +232,21 @@ fn list_pipe_with_file<R: Source + Drop, W: Write>(
     }
 }
 
-/// Writes a line for each record of a pipe, and says how many, as [`list_file`] does.
+/// Writes a line for each record of a pipe, as [`list_file`] does, and returns the number of lines.
 ///
-/// The source is read as far as the records go and no byte further: at the end of the records it stands after the last of
-/// them, and where the end is inside a record, after the bytes of that one that there were. Attributes and features that come
-/// after the first other record are taken in, and have their lines as records.
+/// No byte after the records is read: after the last record, the source's position is that record's end; after a truncated
+/// record, it is the end of that record's available bytes. Attributes and features after the first other record are added
+/// to the metadata, and each has a line as a record.
 ///
-/// On an error `lines` says how many lines were written whole: none where the pipe doesn't open, and else all of the records
-/// before the one that can't be read. A truncated record is the end and no error. Where the writer fails, a prefix of the next
-/// line was written; a write that takes no byte is of kind `WriteZero`, and no write is made a second time.
+/// On an error `lines` is the number of complete lines that are written: 0 if the pipe doesn't open, otherwise one for each
+/// record before the record that can't be read. A truncated record is the end and not an error. If the writer fails, a
+/// prefix of the next line is written. A write of 0 bytes is an error of kind `WriteZero`. No write is repeated.
 pub fn list_pipe<R: Source + Drop, W: Write>(
     alloc: Global,
     source: R,
     out: &mut W,
 ) -> Result<u64, ListFault>
-    ensures { ListsPipe (R.seen source) (W.contents out.old) result (W.contents out.new) }
+    ensures { ListsPipe (R.state source) (W.contents out.old) result (W.contents out.new) }
 {
     match list_pipe_with_file(alloc, source, out) {
         Ok((lines, _file)) => Ok(lines),
@@ -253,16 +254,16 @@ pub fn list_pipe<R: Source + Drop, W: Write>(
     }
 }
 
-/// Lists a live pipe as [`list_pipe`] does, into a writer that may hold lines back: they are flushed before each record that
-/// isn't buffered, so that all lines so far can be read while the pipe waits for more.
+/// Lists a live pipe as [`list_pipe`] does, into a writer that may buffer lines. The lines are flushed before each record
+/// that isn't buffered. Thus all lines so far are readable while the pipe waits for data.
 ///
-/// Where that flush fails, all `lines` were written, and nothing of a next one.
+/// If this flush fails, all `lines` lines are written, and no byte of a next line.
 pub fn list_live_pipe<R: Source + Drop, W: FlushPending>(
     alloc: Global,
     source: R,
     out: &mut W,
 ) -> Result<u64, ListFault>
-    ensures { ListsLivePipe (R.seen source) (W.contents out.old) result (W.contents out.new) }
+    ensures { ListsLivePipe (R.state source) (W.contents out.old) result (W.contents out.new) }
 {
     match PerfFileReader::parse_pipe(alloc, source) {
         Ok(reader) => {
@@ -277,14 +278,18 @@ pub fn list_live_pipe<R: Source + Drop, W: FlushPending>(
     }
 }
 
-/// Flushes the lines that are still buffered, unless the writer has failed before, and returns how many records were listed.
+/// Flushes the lines that are still buffered, unless the writer has already failed. Returns the number of listed records.
 ///
-/// On an error, which is the listing's or the writer's, it returns how many whole lines left the buffer.
-pub fn settle<W: Write>(listed: Result<u64, ListFault>, out: &mut LineBuffer<W>) -> Result<u64, u64>
-    ensures forwards { Passes W.contents out.old [] out.new }
-    ensures flushed { (held out.new ≡ []) ⊎ IsTrue (has_failed out.new) }
+/// If the listing or the writer failed, returns the number of complete lines that were written to the inner writer as
+/// `Err`.
+pub fn flush_listing<W: Write>(
+    listed: Result<u64, ListFault>,
+    out: &mut CountingBufWriter<W>,
+) -> Result<u64, u64>
+    ensures forwards { BuffersAndForwards W.contents out.old [] out.new }
+    ensures flushed { (pending_bytes out.new ≡ []) ⊎ IsTrue (has_failed out.new) }
     ensures on_ok { IfOk result (λ n. (listed ≡ Ok n) × (has_failed out.new ≡ false)) }
-    ensures on_error { IfErr result (λ n. (n ≡ lines_left out.new) × (IsErr listed ⊎ IsTrue (has_failed out.new))) }
+    ensures on_error { IfErr result (λ n. (n ≡ lines_written out.new) × (IsErr listed ⊎ IsTrue (has_failed out.new))) }
 {
     if !out.has_failed() {
         let _ = out.flush();
@@ -292,10 +297,10 @@ pub fn settle<W: Write>(listed: Result<u64, ListFault>, out: &mut LineBuffer<W>)
     match listed {
         Ok(records) => {
             if out.has_failed() {
-                return Err(out.lines_left());
+                return Err(out.lines_written());
             }
             Ok(records)
         }
-        Err(_) => Err(out.lines_left()),
+        Err(_) => Err(out.lines_written()),
     }
 }

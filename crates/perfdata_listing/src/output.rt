@@ -1,60 +1,60 @@
-//! Writing to a writer that may refuse: lines, a buffer that counts them, and the program's last word.
+//! Output to a writer that may fail: lines, a buffer that counts them, and the end of the program's output.
 ghost use Rattle.std.specs.Prelude.{◌≡◌, ◌≢◌, ◌+◌, ◌-◌, ◌^◌, ◌<◌, ◌≤◌, ◌++◌, ℕ, List, [], length, take, drop, vec_len, vec_capacity, IfOk, OnOk, OnErr, false};
 ghost use Rattle.std.specs.Io.{WritesAtMost};
 ghost use Rattle.std.specs.Io.KnownBytes.{Appends, Keeps, WriteAppends};
-ghost use Rattle.perfdata_listing.specs.Output.{Writes, Finishes, newlines};
+ghost use Rattle.perfdata_listing.specs.Output.{WritesAll, Finishes, newline_count};
 
 use crate::line::Line;
 use std::alloc::{AllocError, Global};
 use std::io;
 use std::io::{ErrorKind, Write};
 
-/// What a line buffer holds before it writes.
-const CAPACITY: usize = 65536;
+/// The capacity of a `CountingBufWriter` in bytes.
+const BUFFER_CAPACITY: usize = 65536;
 
-/// How many bytes are looked through for newlines at once.
-const COUNTED: usize = 128;
+/// Number of bytes that are searched for newlines at once.
+const NEWLINE_BLOCK_SIZE: usize = 128;
 
-/// Writes the bytes to the last, or as far as the writer takes them, and returns how many it took. It makes no write a
-/// second time. A write that takes none of some bytes is an error of kind `WriteZero`.
-fn write_front<W: Write>(out: &mut W, bytes: &[u8]) -> (usize, io::Result<()>)
+/// Writes all bytes or as many as the writer accepts, and returns the number of bytes written. No write is repeated. A
+/// write of 0 bytes is an error of kind `WriteZero`.
+fn write_all_counted<W: Write>(out: &mut W, bytes: &[u8]) -> (usize, io::Result<()>)
     ensures bound { result.0 ≤ length bytes.now }
-    ensures whole { OnOk result.1 (result.0 ≡ length bytes.now) }
-    ensures short { OnErr result.1 (result.0 < length bytes.now) }
+    ensures on_ok { OnOk result.1 (result.0 ≡ length bytes.now) }
+    ensures on_error { OnErr result.1 (result.0 < length bytes.now) }
     ensures appends { Appends (W.contents out.old) (W.contents out.new) (take result.0 bytes.now) }
 {
-    let mut taken = 0;
-    'pieces: while taken < bytes.len() {
-        match out.write(&bytes[taken..]) {
+    let mut total = 0;
+    'pieces: while total < bytes.len() {
+        match out.write(&bytes[total..]) {
             Ok(0) => {
                 let error = io::Error::new(ErrorKind::WriteZero, "the writer takes no byte");
-                return (taken, Err(error));
+                return (total, Err(error));
             }
-            Ok(count) => taken += count,
-            Err(error) => return (taken, Err(error)),
+            Ok(count) => total += count,
+            Err(error) => return (total, Err(error)),
         }
     }
-    (taken, Ok(()))
+    (total, Ok(()))
 }
 
-/// Writes a line. Where the writer refuses, a front of the line is written that is shorter than the line; the error is the
-/// writer's, or of kind `WriteZero` where it took no byte. No write is made a second time.
+/// Writes a line. If the writer fails, a proper prefix of the line is written. The error is the writer's own, or of kind
+/// `WriteZero` if it accepts no byte. No write is repeated.
 pub fn write_line<W: Write>(out: &mut W, line: &[u8]) -> io::Result<()>
-    ensures { Writes (W.contents out.old) (W.contents out.new) line.now result }
+    ensures { WritesAll (W.contents out.old) (W.contents out.new) line.now result }
 {
-    let (_, written) = write_front(out, line);
-    written
+    let (_, outcome) = write_all_counted(out, line);
+    outcome
 }
 
-/// Ends the listing: where it went to its end, the status is 0 and nothing is written; where a fault came behind so many
-/// records, the fault's line is written and the status is 2. Its refusal is that of `write_line`.
+/// Ends the listing. For `Ok` it writes nothing and returns the exit status 0. For an error after `records` records it
+/// writes the error's line and returns the exit status 2. Fails as `write_line` does.
 pub fn finish<W: Write>(outcome: Result<u64, u64>, err: &mut W) -> io::Result<u8>
     ensures { Finishes (W.contents err.old) (W.contents err.new) outcome result }
 {
     match outcome {
         Ok(_) => Ok(0),
         Err(records) => {
-            let line = Line::of_fault(records);
+            let line = Line::for_error(records);
             match write_line(err, line.as_bytes()) {
                 Ok(()) => Ok(2),
                 Err(error) => Err(error),
@@ -63,22 +63,22 @@ pub fn finish<W: Write>(outcome: Result<u64, u64>, err: &mut W) -> io::Result<u8
     }
 }
 
-/// A writer that holds lines back until it is full, and knows how many whole lines have left it for the writer behind it.
-/// Its memory is taken once, as it is made.
+/// A writer that buffers lines until its buffer is full, and counts the complete lines that it wrote to the inner writer.
+/// It allocates memory only when it is created.
 #[derive(Drop)]
-pub struct LineBuffer<W> {
+pub struct CountingBufWriter<W> {
     inner: W,
-    held: Vec<u8>,
-    lines_left: u64,
+    buffered: Vec<u8>,
+    lines_written: u64,
     failed: bool,
-    ghost has_room: { 0 < vec_capacity held },
-    ghost counts: { lines_left < 2 ^ 64 },
+    ghost has_capacity: { 0 < vec_capacity buffered },
+    ghost count_in_range: { lines_written < 2 ^ 64 },
 }
 
-/// How many lines end among a few bytes: so few that their number fits 8 bits, in which the compiler counts 16 bytes at once.
-fn few_newlines(bytes: &[u8]) -> u8
+/// The number of newlines in at most 255 bytes. An 8-bit count lets the compiler count 16 bytes at once.
+fn count_newlines_in_block(bytes: &[u8]) -> u8
     requires { length bytes.now ≤ 255 }
-    ensures { result ≡ newlines bytes.now }
+    ensures { result ≡ newline_count bytes.now }
 {
     let mut lines = 0;
     'bytes: for byte in bytes {
@@ -87,22 +87,22 @@ fn few_newlines(bytes: &[u8]) -> u8
     lines
 }
 
-/// How many lines end among the bytes.
+/// The number of newlines in the bytes.
 fn count_newlines(bytes: &[u8]) -> u64
-    ensures { result ≡ newlines bytes.now }
+    ensures { result ≡ newline_count bytes.now }
 {
     let mut lines = 0;
     let mut left = bytes;
     'pieces: while !left.is_empty() {
-        let (piece, behind) = left.split_at(left.len().min(COUNTED));
-        lines += few_newlines(piece) as u64;
+        let (piece, behind) = left.split_at(left.len().min(NEWLINE_BLOCK_SIZE));
+        lines += count_newlines_in_block(piece) as u64;
         left = behind;
     }
     lines
 }
 
-/// Takes the first bytes away.
-fn remove_front(bytes: &mut Vec<u8>, count: usize)
+/// Removes the first `count` bytes.
+fn drain_prefix(bytes: &mut Vec<u8>, count: usize)
     requires { count ≤ vec_len bytes.old }
     ensures items { bytes.new.items ≡ drop count bytes.old.items }
     ensures capacity { vec_capacity bytes.new ≡ vec_capacity bytes.old }
@@ -112,9 +112,9 @@ fn remove_front(bytes: &mut Vec<u8>, count: usize)
     bytes.truncate(length - count);
 }
 
-/// Puts bytes behind those that are held.
+/// Appends the bytes to the buffered ones, without an allocation.
 #[inline]
-fn append(held: &mut Vec<u8>, bytes: &[u8])
+fn append_within_capacity(held: &mut Vec<u8>, bytes: &[u8])
     requires { vec_len held.old + length bytes.now ≤ vec_capacity held.old }
     ensures items { held.new.items ≡ held.old.items ++ bytes.now }
     ensures capacity { vec_capacity held.old ≤ vec_capacity held.new }
@@ -124,110 +124,110 @@ fn append(held: &mut Vec<u8>, bytes: &[u8])
     };
 }
 
-impl<W: Write> LineBuffer<W> {
-    ghost use Rattle.perfdata_listing.specs.Buffer.{held, has_failed, lines_left, behind, Passes, Takes, Tries};
+impl<W: Write> CountingBufWriter<W> {
+    ghost use Rattle.perfdata_listing.specs.CountingBufWriter.{pending_bytes, has_failed, lines_written, inner_writer, BuffersAndForwards, AcceptsWrite, Tries};
 
-    /// A buffer of 64 KiB before a writer. It refuses where there is no memory, and drops the writer.
-    pub fn new(alloc: Global, inner: W) -> Result<LineBuffer<W>, AllocError>
+    /// Creates a buffer of 64 KiB for a writer. Fails if the allocation fails, and drops the writer.
+    pub fn new(alloc: Global, inner: W) -> Result<CountingBufWriter<W>, AllocError>
     where
         W: Drop,
-        ensures empty { IfOk result (λ b. held b ≡ []) }
-        ensures none_left { IfOk result (λ b. lines_left b ≡ 0) }
+        ensures empty { IfOk result (λ b. pending_bytes b ≡ []) }
+        ensures none_written { IfOk result (λ b. lines_written b ≡ 0) }
         ensures not_failed { IfOk result (λ b. has_failed b ≡ false) }
-        ensures inner { IfOk result (λ b. behind b ≡ inner) }
+        ensures inner { IfOk result (λ b. inner_writer b ≡ inner) }
     {
-        match Vec::with_capacity(alloc, CAPACITY) {
-            Ok(held) => Ok(LineBuffer {
+        match Vec::with_capacity(alloc, BUFFER_CAPACITY) {
+            Ok(held) => Ok(CountingBufWriter {
                 inner,
-                held,
-                lines_left: 0,
+                buffered: held,
+                lines_written: 0,
                 failed: false,
             }),
             Err(error) => Err(error),
         }
     }
 
-    /// How many whole lines have left for the writer behind it, up to `u64::MAX`.
-    pub fn lines_left(&self) -> u64
-        ensures { result ≡ lines_left self.now }
+    /// Number of complete lines that were written to the inner writer, at most `u64::MAX`.
+    pub fn lines_written(&self) -> u64
+        ensures { result ≡ lines_written self.now }
     {
-        self.lines_left
+        self.lines_written
     }
 
-    /// Whether the writer behind it has failed in a write or a flush.
+    /// Whether the inner writer has failed in a write or a flush.
     pub fn has_failed(&self) -> bool
         ensures { result ≡ has_failed self.now }
     {
         self.failed
     }
 
-    /// Writes what is held, as far as the writer behind takes it; what it doesn't take is still held.
-    fn hand_on(&mut self) -> io::Result<()>
-        ensures passes { Passes W.contents self.old [] self.new }
-        ensures empty { OnOk result (held self.new ≡ []) }
-        ensures left { OnErr result (held self.new ≢ []) }
+    /// Writes the buffered bytes to the inner writer. Bytes that it doesn't accept stay in the buffer.
+    fn flush_buffer(&mut self) -> io::Result<()>
+        ensures forwards { BuffersAndForwards W.contents self.old [] self.new }
+        ensures empty { OnOk result (pending_bytes self.new ≡ []) }
+        ensures not_empty_on_error { OnErr result (pending_bytes self.new ≢ []) }
         ensures tries { Tries self.old result self.new }
-        ensures capacity { vec_capacity self.new.held ≡ vec_capacity self.old.held }
+        ensures capacity { vec_capacity self.new.buffered ≡ vec_capacity self.old.buffered }
     {
-        let (taken, written) = write_front(&mut self.inner, self.held.as_slice());
-        let lines = count_newlines(&self.held[..taken]);
-        self.lines_left = self.lines_left.saturating_add(lines);
-        remove_front(&mut self.held, taken);
-        if written.is_err() {
+        let (count, outcome) = write_all_counted(&mut self.inner, self.buffered.as_slice());
+        let lines = count_newlines(&self.buffered[..count]);
+        self.lines_written = self.lines_written.saturating_add(lines);
+        drain_prefix(&mut self.buffered, count);
+        if outcome.is_err() {
             self.failed = true;
         }
-        written
+        outcome
     }
 
-    /// Makes room, and takes as many of the bytes as there is room for.
+    /// Flushes the buffer, and appends as many of the bytes as fit.
     #[cold]
     #[inline(never)]
-    fn write_over(&mut self, bytes: &[u8]) -> io::Result<usize>
+    fn flush_then_write(&mut self, bytes: &[u8]) -> io::Result<usize>
         ensures bound { WritesAtMost result bytes.now }
-        ensures takes { Takes W.contents self.old bytes.now result self.new }
-        ensures left { OnErr result (held self.new ≢ []) }
+        ensures accepts { AcceptsWrite W.contents self.old bytes.now result self.new }
+        ensures not_empty_on_error { OnErr result (pending_bytes self.new ≢ []) }
         ensures tries { Tries self.old result self.new }
         ensures progress { IfOk result (λ n. 0 < length bytes.now → 0 < n) }
     {
-        match self.hand_on() {
+        match self.flush_buffer() {
             Ok(()) => {}
             Err(error) => return Err(error),
         }
-        let count = bytes.len().min(self.held.capacity());
-        append(&mut self.held, &bytes[..count]);
+        let count = bytes.len().min(self.buffered.capacity());
+        append_within_capacity(&mut self.buffered, &bytes[..count]);
         Ok(count)
     }
 }
 
-impl<W: Write> Write for LineBuffer<W> {
-    ghost use Rattle.perfdata_listing.specs.Buffer.{held, room, all_contents, Passes, Takes, Tries};
+impl<W: Write> Write for CountingBufWriter<W> {
+    ghost use Rattle.perfdata_listing.specs.CountingBufWriter.{pending_bytes, free_capacity, contents_with_buffer, BuffersAndForwards, AcceptsWrite, Tries};
 
-    ghost contents = { all_contents W.contents };
+    ghost contents = { contents_with_buffer W.contents };
 
     #[inline]
     fn write(&mut self, bytes: &[u8]) -> io::Result<usize>
         ensures bound { WritesAtMost result bytes.now }
-        ensures bytes { WriteAppends (all_contents W.contents self.old) (all_contents W.contents self.new) result bytes.now }
-        ensures takes { Takes W.contents self.old bytes.now result self.new }
-        ensures left { OnErr result (held self.new ≢ []) }
+        ensures bytes { WriteAppends (contents_with_buffer W.contents self.old) (contents_with_buffer W.contents self.new) result bytes.now }
+        ensures accepts { AcceptsWrite W.contents self.old bytes.now result self.new }
+        ensures not_empty_on_error { OnErr result (pending_bytes self.new ≢ []) }
         ensures tries { Tries self.old result self.new }
         ensures progress { IfOk result (λ n. 0 < length bytes.now → 0 < n) }
-        ensures fits { length bytes.now ≤ room self.old → result ≡ Ok (length bytes.now) }
+        ensures fits { length bytes.now ≤ free_capacity self.old → result ≡ Ok (length bytes.now) }
     {
-        if bytes.len() <= self.held.capacity() - self.held.len() {
-            append(&mut self.held, bytes);
+        if bytes.len() <= self.buffered.capacity() - self.buffered.len() {
+            append_within_capacity(&mut self.buffered, bytes);
             return Ok(bytes.len());
         }
-        self.write_over(bytes)
+        self.flush_then_write(bytes)
     }
 
     fn flush(&mut self) -> io::Result<()>
-        ensures bytes { Keeps (all_contents W.contents self.old) (all_contents W.contents self.new) }
-        ensures passes { Passes W.contents self.old [] self.new }
+        ensures bytes { Keeps (contents_with_buffer W.contents self.old) (contents_with_buffer W.contents self.new) }
+        ensures forwards { BuffersAndForwards W.contents self.old [] self.new }
         ensures tries { Tries self.old result self.new }
-        ensures empty { OnOk result (held self.new ≡ []) }
+        ensures empty { OnOk result (pending_bytes self.new ≡ []) }
     {
-        self.hand_on()?;
+        self.flush_buffer()?;
         let flushed = self.inner.flush();
         if flushed.is_err() {
             self.failed = true;
@@ -236,21 +236,21 @@ impl<W: Write> Write for LineBuffer<W> {
     }
 }
 
-/// A writer that may hold bytes back, and says which.
+/// A writer that may buffer bytes, and whose contract says which bytes are pending.
 pub trait FlushPending: Write {
-    /// The bytes that have not left it yet.
+    /// The bytes that are buffered and not written yet.
     ghost pending: { Self → List ℕ };
 
-    /// Flushes all that it holds.
+    /// Flushes all pending bytes.
     fn flush_pending(&mut self) -> io::Result<()>
         ensures contents_kept { Keeps (Self.contents self.old) (Self.contents self.new) }
         ensures on_ok { OnOk result (pending self.new ≡ []) };
 }
 
-impl<W: Write> FlushPending for LineBuffer<W> {
-    ghost use Rattle.perfdata_listing.specs.Buffer.{held};
+impl<W: Write> FlushPending for CountingBufWriter<W> {
+    ghost use Rattle.perfdata_listing.specs.CountingBufWriter.{pending_bytes};
 
-    ghost pending = { held };
+    ghost pending = { pending_bytes };
 
     fn flush_pending(&mut self) -> io::Result<()> {
         self.flush()

@@ -1,4 +1,4 @@
 pub mod Threads
-pub mod Fronts
+pub mod NumberPrefixes
 pub mod Ids
 pub mod BuildIds

@@ -1,9 +1,9 @@
--- Numbers that stand in the first bytes.
+-- Numbers in a prefix of the bytes.
 use Rattle.std.proofs.Common.{◌≡◌, ℕ, ◌+◌, ◌≤◌, List, length, take, drop, sym, ap, ◌∙◌, arith, length-drop}
 use Rattle.std.proofs.lemmas.List.{take-append-drop, length-take-le}
 use Rattle.perfdata_base.proofs.Numbers.{ReadsFirst, first_take, first_drop_front}
 
--- a number at place k of the first m bytes, read from a piece of j bytes there
+-- a number at offset `k` of the first `m` bytes, read from the `j` bytes at that offset
 pub number_within : (number : ℕ → List ℕ → ℕ) → ReadsFirst number → (n k j m : ℕ) (xs head : List ℕ) → head ≡ take m xs → m ≤ length xs → n ≤ j → k + j ≤ m
     → number n (take j (drop k head)) ≡ number n (drop k xs)
 number_within number first n k j m xs head is room small within =

@@ -1,4 +1,4 @@
--- What stands before a NUL, and the threads of a map.
+-- The bytes before a NUL, and the threads of a map.
 use Rattle.std.proofs.Common.{◌≡◌, ◌≢◌, ℕ, zero, suc, ◌+◌, ◌*◌, ◌/◌, ◌<◌, ◌≤◌, ◌==◌, ◌++◌, true, not, cond, List, [], ◌∷◌, length, take, drop, refl, sym, ap, ◌∙◌, arith, length-drop}
 use Rattle.std.proofs.lemmas.Nat.{div-mul-add}
 use Rattle.std.proofs.Math.Nat.{mul-add-div}
@@ -7,14 +7,14 @@ use Rattle.std.proofs.lemmas.List.Sums.{take_while-cons}
 use Rattle.std.proofs.lemmas.List.Elements.{All-tail}
 use Rattle.perfdata_base.specs.Raw.{HasNoNul}
 use Rattle.perfdata_base.proofs.Numbers.{ReadsFirst}
-use Rattle.perfdata_sections.specs.Strings.{before_nul}
+use Rattle.perfdata_sections.specs.HeaderString.{before_nul}
 use Rattle.perfdata_records.specs.Thread.{thread_at}
 use Rattle.perfdata_records.specs.ThreadMap.{threads_in, IsThreadMap}
 
 no_nul : (x : ℕ) → x ≢ 0 → not (x == 0) ≡ true
 no_nul x h = grind arith
 
--- a string that a NUL ends stands before the first NUL
+-- a NUL-terminated string consists of the bytes before the first NUL
 pub before_string : (string rest : List ℕ) → HasNoNul string → before_nul (string ++ (0 ∷ rest)) ≡ string
 before_string [] rest none = take_while-cons (λ b. not (b == 0)) 0 rest
 before_string (x ∷ xs) rest none =
@@ -22,7 +22,7 @@ before_string (x ∷ xs) rest none =
     ∙ ap (λ t. cond t (x ∷ before_nul (xs ++ (0 ∷ rest))) []) (no_nul x (none 0 0 (omega arith)))
     ∙ ap (λ l. x ∷ l) (before_string xs rest (All-tail (λ b. b ≢ 0) x xs none))
 
--- where no byte is NUL, all do
+-- if no byte is NUL, all bytes are before the first NUL
 pub before_none : (bytes : List ℕ) → HasNoNul bytes → before_nul bytes ≡ bytes
 before_none [] none = refl
 before_none (x ∷ xs) none =
@@ -30,7 +30,7 @@ before_none (x ∷ xs) none =
     ∙ ap (λ t. cond t (x ∷ before_nul xs) []) (no_nul x (none 0 0 (omega arith)))
     ∙ ap (λ l. x ∷ l) (before_none xs (All-tail (λ b. b ≢ 0) x xs none))
 
--- bytes that whole entries take are as many as those entries have
+-- complete entries have 24 bytes each
 pub whole_entries : (n : ℕ) (xs : List ℕ) → length xs ≡ n * 24 → length xs ≡ 24 * (length xs / 24)
 whole_entries n xs long =
     let many : length xs / 24 ≡ n = ap (λ l. l / 24) (long ∙ omega arith) ∙ div-mul-add n 24 0 (omega arith) in
@@ -41,7 +41,7 @@ module _ (number : ℕ → List ℕ → ℕ) where
   threads_long zero xs = refl
   threads_long (suc n) xs = ap suc (threads_long n (drop 24 xs))
 
-  -- the first of the threads that whole entries hold, and the others
+  -- the first thread in complete entries, and the others
   pub threads_step : (xs : List ℕ) → 24 ≤ length xs
       → threads_in number (length xs / 24) xs ≡ thread_at number xs ∷ threads_in number (length (drop 24 xs) / 24) (drop 24 xs)
   threads_step xs room =
@@ -51,14 +51,14 @@ module _ (number : ℕ → List ℕ → ℕ) where
       in
       ap (λ n. threads_in number n xs) one
 
-  -- a cut entry holds none
+  -- a truncated entry contains no thread
   pub threads_none : (xs : List ℕ) → length xs < 24 → threads_in number (length xs / 24) xs ≡ []
   threads_none xs few =
       let long : length xs ≡ 0 * 24 + length xs = omega arith in
       ap (λ n. threads_in number n xs) (ap (λ n. n / 24) long ∙ div-mul-add 0 24 (length xs) few)
 
   module _ (first : ReadsFirst number) where
-    -- bytes behind the entries change nothing
+    -- bytes after the entries don't change the threads
     pub threads_front : (n : ℕ) (xs ys : List ℕ) → n * 24 ≤ length xs → threads_in number n (xs ++ ys) ≡ threads_in number n xs
     threads_front zero xs ys room = refl
     threads_front (suc n) xs ys room =
@@ -70,9 +70,9 @@ module _ (number : ℕ → List ℕ → ℕ) where
         let later : threads_in number n (drop 24 (xs ++ ys)) ≡ threads_in number n (drop 24 xs) =
         ap (threads_in number n) (drop-append-le 24 xs ys (omega arith)) ∙ threads_front n (drop 24 xs) ys (omega (arith, length-drop 24 xs))
         in
-        λ i. record { number = first 8 xs ys (omega arith) i; name = before_nul (name i) } ∷ later i
+        λ i. record { tid = first 8 xs ys (omega arith) i; name = before_nul (name i) } ∷ later i
 
-    -- entries that were cut off behind their count are a map
+    -- the entries after the count, as many as it says, are the threads of the map
     pub is_map : (other : ℕ → List ℕ → ℕ) → ((n : ℕ) (xs : List ℕ) → number n xs ≡ other n xs) → (body rest entries : List ℕ) → 8 ≤ length body → rest ≡ drop 8 body
         → number 8 body * 24 ≤ length rest → entries ≡ take (number 8 body * 24) rest
         → IsThreadMap number body (threads_in other (length entries / 24) entries)
@@ -82,9 +82,9 @@ module _ (number : ℕ → List ℕ → ℕ) where
         let many : length entries / 24 ≡ count = ap (λ n. n / 24) long ∙ div-mul-add count 24 0 (omega arith) in
         let order : other ≡ number = λ i n xs. sym (same n xs) i in
         record {
-          head = head;
-          there = omega (arith, length-drop 8 body, ap length behind);
-          are = ap (λ f. threads_in f (length entries / 24) entries) order ∙ ap (λ n. threads_in number n entries) many ∙ ap (threads_in number count) cut
+          has_fixed_part = head;
+          complete = omega (arith, length-drop 8 body, ap length behind);
+          elements = ap (λ f. threads_in f (length entries / 24) entries) order ∙ ap (λ n. threads_in number n entries) many ∙ ap (threads_in number count) cut
               ∙ sym (threads_front count (take (count * 24) rest) (drop (count * 24) rest) (omega (arith, length-take-le (count * 24) rest room)))
               ∙ ap (threads_in number count) (take-append-drop (count * 24) rest ∙ behind);
         }

@@ -1,4 +1,4 @@
-pub mod Record
+pub mod UserRecordType
 pub mod Auxtrace
 pub mod Thread
 pub mod ThreadMap
@@ -6,4 +6,4 @@ pub mod HeaderAttr
 pub mod HeaderFeature
 pub mod UserRecord
 pub mod DsoKey
-pub mod BuildId
+pub mod BuildIdEvent

@@ -1,18 +1,18 @@
--- An entry of a thread map, of 24 bytes: eight for the thread's number, and sixteen for its name, which ends at the first NUL of these.
+-- A thread map entry of 24 bytes: eight for the thread id, and 16 for the name, which ends at its first NUL.
 use Rattle.std.specs.Prelude.{ℕ, List, take, drop}
 use Rattle.perfdata_base.specs.Raw.{bytes_of}
-use Rattle.perfdata_sections.specs.Strings.{before_nul}
+use Rattle.perfdata_sections.specs.HeaderString.{before_nul}
 use Rattle.perfdata_records.specs.declared.thread_map.ThreadMapEntry.{ThreadMapEntry}
 
--- a thread by its number and the bytes of its name
+-- A thread id and the bytes of the thread's name.
 pub record Thread : Type 0 where
-  pub number : ℕ
+  pub tid : ℕ
   pub name : List ℕ
 
--- the thread that these bytes begin with
+-- The thread at the start of `bytes`.
 abbrev pub thread_at : (ℕ → List ℕ → ℕ) → List ℕ → Thread
-thread_at number bytes = record { number = number 8 bytes; name = before_nul (take 16 (drop 8 bytes)) }
+thread_at number bytes = record { tid = number 8 bytes; name = before_nul (take 16 (drop 8 bytes)) }
 
--- the thread of an entry
+-- The thread of an entry.
 abbrev pub thread_of : ThreadMapEntry → Thread
-thread_of entry = record { number = entry.tid; name = bytes_of entry.name }
+thread_of entry = record { tid = entry.tid; name = bytes_of entry.name }

@@ -1,7 +1,7 @@
--- The number of a type that a tool wrote.
+-- The number of a user record type.
 use Rattle.std.specs.Prelude.{ℕ}
 use Rattle.perfdata_records.specs.declared.record.UserRecordType.{UserRecordType}
 
--- its number among the types of all records
-abbrev pub type_of : UserRecordType → ℕ
-type_of t = t.record_type.0
+-- The number of the type as a `RecordType`.
+abbrev pub user_type_number : UserRecordType → ℕ
+user_type_number t = t.record_type.0

@@ -1,48 +1,51 @@
-//! A record of auxiliary data.
+//! Auxtrace records.
 ghost use Rattle.std.specs.Prelude.{◌↔◌, IsOk, IfOk, IfErr};
 ghost use Rattle.std.specs.IoError.{error_kind};
 ghost use Rattle.std.specs.declared.io.ErrorKind.TheVariants.{InvalidData};
 ghost use Rattle.perfdata_base.specs.Raw.{bytes_of, IsSingle};
-ghost use Rattle.perfdata_records.specs.Auxtrace.{AuxiliaryBodiesHold, HoldsAuxtrace, IsAuxtrace, IsNoAuxtrace};
+ghost use Rattle.perfdata_records.specs.Auxtrace.{AuxtraceBodiesParse, HoldsAuxtrace, IsAuxtrace, IsAuxtraceError};
 
 use perfdata_base::raw::{FileOrder, RawData};
 use std::io::{Error, ErrorKind, Result};
 
-/// How many bytes stand before the data.
-const HEAD_SIZE: usize = 40;
+/// The size of the part before the aux data, in bytes.
+const FIXED_SIZE: usize = 40;
 
-/// The body of a record with auxiliary data (`PERF_RECORD_AUXTRACE` of Linux's perf), as of Intel PT.
+/// The body of an auxtrace record (`PERF_RECORD_AUXTRACE` of Linux's perf), for example of Intel PT.
 #[derive(Clone, Debug, Drop, PartialEq, Eq)]
 pub struct Auxtrace<'a> {
-    /// How many bytes of data there are.
+    /// The size of the aux data in bytes.
     pub size: u64,
-    /// Where the data stands in the whole trace, in bytes.
+    /// The offset of this aux data in the complete aux data of the recording, in bytes.
     pub offset: u64,
-    /// What tells the buffers of the trace from one another, by the rules of the hardware.
+    /// The hardware-specific reference that distinguishes the buffers of the aux data.
     pub reference: u64,
-    /// Which buffer of the trace the data stood in.
+    /// The index of the buffer that contained the aux data.
     pub index: u32,
-    /// The thread that was traced.
+    /// The id of the recorded thread.
     pub tid: u32,
-    /// The CPU that was traced.
+    /// The recorded CPU.
     pub cpu: u32,
-    /// The data, of `size` bytes.
+    /// The aux data, of `size` bytes.
     pub aux_data: RawData<'a>,
 }
 
 impl<'a> Auxtrace<'a> {
-    /// The trace in the body of a record: size, offset and reference of eight bytes each, index, tid, cpu and a number that is reserved
-    /// of four each, and then the data.
+    /// Parses the body of an auxtrace record and the aux data after it.
     ///
-    /// An `UnexpectedEof` error where these 40 bytes are cut, and an `InvalidData` error unless exactly `size` bytes follow them.
+    /// The body is a size, an offset and a reference of eight bytes each, and an index, a thread id, a CPU and a
+    /// reserved number of four bytes each. The aux data follows.
+    ///
+    /// Fails with an `UnexpectedEof` error if these 40 bytes are truncated, and with an `InvalidData` error unless
+    /// exactly `size` bytes follow them.
     pub fn parse<T: FileOrder>(body: RawData<'a>) -> Result<Auxtrace<'a>>
         ensures accepts { IsOk result ↔ HoldsAuxtrace T.number_of (bytes_of body.entry) }
         ensures value { IfOk result (λ trace. IsAuxtrace T.number_of (bytes_of body.entry) trace) }
         ensures single { IfOk result (λ trace. IsSingle body.entry → IsSingle trace.aux_data) }
-        ensures refused { IfErr result (λ error. IsNoAuxtrace T.number_of (bytes_of body.entry) error) }
+        ensures error { IfErr result (λ error. IsAuxtraceError T.number_of (bytes_of body.entry) error) }
     {
         let mut rest = body;
-        let mut head = [0u8; HEAD_SIZE];
+        let mut head = [0u8; FIXED_SIZE];
         match rest.read_exact(&mut head) {
             Ok(()) => {}
             Err(error) => return Err(error),
@@ -63,8 +66,10 @@ impl<'a> Auxtrace<'a> {
     }
 }
 
-/// A law of the format, which runs nothing: `Auxtrace::parse` accepts the body of every whole record with auxiliary data whose head says 48
-/// bytes, which are its own and its body's 40.
-pub fn auxiliary_bodies_hold()
-    ensures { AuxiliaryBodiesHold }
+/// A law of the format, without code to run.
+///
+/// `Auxtrace::parse` accepts the body and aux data of every complete auxtrace record with a size of 48 bytes in its
+/// record header, which are the 8 of the record header and the 40 of the body.
+pub fn auxtrace_bodies_parse()
+    ensures { AuxtraceBodiesParse }
 {}

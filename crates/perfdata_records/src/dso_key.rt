@@ -1,43 +1,45 @@
-//! What a mapped object goes by.
+//! Keys that identify mapped objects.
 ghost use Rattle.std.specs.Prelude.{◌≡◌, ◌++◌, IfOk, string_bytes};
-ghost use Rattle.perfdata_records.specs.DsoKey.{name_of, lossy, file_name_of, is_unmapped, Detects, FindsOwn, FindsModule};
+ghost use Rattle.perfdata_records.specs.DsoKey.{name_of, lossy_text, file_name_of, is_unmapped, Detects, FindsSpecialName, FindsModuleName};
 
 use bstr::ByteSlice;
 use memchr::memrchr;
 use perfdata_base::event::CpuMode;
 use std::alloc::{AllocError, Global};
 
-/// What the paths of an object's mappings and of its build id have in common, though the paths themselves may differ:
-/// mappings of the kernel have `[kernel.kallsyms]_text`, and its build id `[kernel.kallsyms]` or `/boot/vmlinux`.
+/// The key that an object's mappings and its build id have in common, even if their paths differ.
+///
+/// The mappings of the kernel have the path `[kernel.kallsyms]_text`, and its build id has `[kernel.kallsyms]` or
+/// `/boot/vmlinux`.
 #[derive(Debug, PartialEq, Eq, Hash, Drop)]
 pub enum DsoKey {
     /// The kernel.
     Kernel,
     /// A guest's kernel.
     GuestKernel,
-    /// What the kernel maps into programs, of 32 bits.
+    /// The vDSO of 32-bit programs.
     Vdso32,
-    /// The same, of the x32 programs.
+    /// The vDSO of x32 programs.
     VdsoX32,
-    /// The same, of 64 bits.
+    /// The vDSO of 64-bit programs.
     Vdso64,
-    /// The page of old system calls.
+    /// The page of legacy system calls.
     Vsyscall,
-    /// A module of the kernel.
+    /// A kernel module.
     KernelModule {
-        /// The module's name in brackets, as `[snd-seq-device]`.
+        /// The module's name in brackets, such as `[snd-seq-device]`.
         name: String,
     },
     /// A file that a program maps.
     User {
-        /// The name of the file, with U+FFFD for what isn't UTF-8.
+        /// The name of the file, with U+FFFD for invalid UTF-8.
         file_name: String,
-        /// The whole path, as files of one name differ by it.
+        /// The full path, which distinguishes files of the same name.
         full_path: Vec<u8>,
     },
 }
 
-// The file's name: what stands behind the last slash, or all.
+// Returns the part of a path after the last slash, or all of it if there is none.
 fn file_name(path: &[u8]) -> &[u8]
     ensures { result.now ≡ file_name_of path.now }
 {
@@ -47,14 +49,14 @@ fn file_name(path: &[u8]) -> &[u8]
     }
 }
 
-// The text of bytes, between two others.
+// Returns the bytes as a string, between a prefix and a suffix, with U+FFFD for invalid UTF-8.
 fn lossy_between(
     alloc: Global,
     front: &str,
     bytes: &[u8],
     behind: &str,
 ) -> Result<String, AllocError>
-    ensures { IfOk result (λ text. string_bytes text ≡ front.now ++ lossy bytes.now ++ behind.now) }
+    ensures { IfOk result (λ text. string_bytes text ≡ front.now ++ lossy_text bytes.now ++ behind.now) }
 {
     let mut text = String::new(alloc);
     text.push_str(front)?;
@@ -63,8 +65,8 @@ fn lossy_between(
     Ok(text)
 }
 
-// Whether the path names no file that is mapped.
-fn names_no_file(path: &[u8]) -> bool
+// Returns whether the path names a mapping without an object.
+fn is_unmapped(path: &[u8]) -> bool
     ensures { result ≡ is_unmapped path.now }
 {
     path == b"//anon".as_slice()
@@ -73,9 +75,9 @@ fn names_no_file(path: &[u8]) -> bool
         || path == b"[vvar]".as_slice()
 }
 
-// The name of the kernel module that a path stands for.
+// Returns the name of the kernel module at a path, or `None` if the path is that of no module.
 fn module_name(alloc: Global, path: &[u8]) -> Result<Option<String>, AllocError>
-    ensures { FindsModule path.now result }
+    ensures { FindsModuleName path.now result }
 {
     if path.starts_with(b"[") {
         return Ok(Some(lossy_between(alloc, "", path, "")?));
@@ -91,9 +93,10 @@ fn module_name(alloc: Global, path: &[u8]) -> Result<Option<String>, AllocError>
 impl DsoKey {
     ghost use Rattle.perfdata_records.specs.DsoKey.{key_in};
 
-    // The key by a text that stands for the kernel or the processor's own code, whatever the mode.
-    fn by_text(path: &[u8], mode: CpuMode) -> Option<DsoKey>
-        ensures { FindsOwn path.now mode result }
+    // Returns the key for the special names of the kernel, the vDSOs and the vsyscall page. Only the kernel's key
+    // depends on the mode.
+    fn from_special_name(path: &[u8], mode: CpuMode) -> Option<DsoKey>
+        ensures { FindsSpecialName path.now mode result }
     {
         if path.starts_with(b"[kernel.kallsyms]") {
             return match mode {
@@ -119,21 +122,24 @@ impl DsoKey {
         None
     }
 
-    /// The key of a path, where the processor is in this mode; none for what is no mapped file, as `//anon`, and for a
-    /// file in a mode that tells nothing.
+    /// Returns the key of the object with this path in a CPU mode.
     ///
-    /// The first case that fits: `//anon`, `[stack]`, `[heap]` and `[vvar]` have none; what begins with
-    /// `[kernel.kallsyms]` is the kernel, and in a guest kernel's mode the guest's; what begins with
-    /// `[guest.kernel.kallsyms` is the guest's; `[vdso32]`, `[vdsox32]`, `[vdso]` and `[vsyscall]` stand for themselves.
-    /// In a kernel's mode, what begins with `[` is a module of that name, a file `NAME.ko` is the module `[NAME]`, and
-    /// all else is that kernel. In a program's mode all else is a file of its name and path.
+    /// Returns `None` for paths without an object, such as `//anon`, and for files in the modes `Hypervisor` and
+    /// `Unknown`. Fails if memory for the strings of the key runs out.
+    ///
+    /// The first matching case counts: `//anon`, `[stack]`, `[heap]` and `[vvar]` have no key. A path that starts with
+    /// `[kernel.kallsyms]` is the kernel, or the guest's kernel in `CpuMode::GuestKernel`. A path that starts with
+    /// `[guest.kernel.kallsyms` is the guest's kernel. `[vdso32]`, `[vdsox32]`, `[vdso]` and `[vsyscall]` have their
+    /// own keys. In a kernel mode, a path that starts with `[` is the module of that name, a file `NAME.ko` is the
+    /// module `[NAME]`, and every other path is the kernel of that mode. In a user mode, every other path is a file
+    /// with its name and path.
     pub fn detect(alloc: Global, path: &[u8], mode: CpuMode) -> Result<Option<DsoKey>, AllocError>
         ensures { Detects path.now mode result }
     {
-        if names_no_file(path) {
+        if is_unmapped(path) {
             return Ok(None);
         }
-        if let Some(key) = DsoKey::by_text(path, mode) {
+        if let Some(key) = DsoKey::from_special_name(path, mode) {
             return Ok(Some(key));
         }
         match mode {
@@ -157,7 +163,7 @@ impl DsoKey {
         }
     }
 
-    /// The name that is shown for the object.
+    /// Returns the display name of the object.
     pub fn name(&self) -> &str
         ensures { result.now ≡ name_of (key_in self.now) }
     {

@@ -1,4 +1,4 @@
-//! A record as it is handed out, and the types of those that tools write.
+//! Records as the reader returns them, and the types of the records that tools write.
 ghost use Rattle.std.specs.Prelude.{◌≡◌, ◌≤◌, IsSome, IfSome, ◌↔◌};
 
 pub use crate::user_record::{HeaderAttr, HeaderFeature, RawUserRecord, UserRecord};
@@ -7,26 +7,26 @@ use perfdata_base::raw::{Endianness, RawData};
 use perfdata_sections::constants::*;
 use std::fmt;
 
-/// The type of a record that a tool wrote, 64 and more.
+/// The type of a record that a tool wrote, which is 64 or above.
 #[derive(Clone, Copy, PartialEq, Eq, Hash, PartialOrd, Ord)]
 pub struct UserRecordType {
     record_type: RecordType,
-    ghost user: { 64 ≤ record_type.0 },
+    ghost is_user_type: { 64 ≤ record_type.0 },
 }
 
 /// The types that perf and simpleperf write.
 impl UserRecordType {
-    /// An attribute (type 64).
+    /// An event's attribute (64).
     pub const PERF_HEADER_ATTR: UserRecordType = UserRecordType {
         record_type: RecordType(PERF_RECORD_HEADER_ATTR),
     };
 
-    /// The name of an event, in old pipes (65).
+    /// The name of an event type, in old pipes (65).
     pub const PERF_HEADER_EVENT_TYPE: UserRecordType = UserRecordType {
         record_type: RecordType(PERF_RECORD_HEADER_EVENT_TYPE),
     };
 
-    /// The formats of tracepoints, behind it (66).
+    /// The formats of tracepoints, which follow the record (66).
     pub const PERF_HEADER_TRACING_DATA: UserRecordType = UserRecordType {
         record_type: RecordType(PERF_RECORD_HEADER_TRACING_DATA),
     };
@@ -36,67 +36,67 @@ impl UserRecordType {
         record_type: RecordType(PERF_RECORD_HEADER_BUILD_ID),
     };
 
-    /// The marker behind a round; never handed out (68).
+    /// The marker that ends a round; the reader never returns it (68).
     pub const PERF_FINISHED_ROUND: UserRecordType = UserRecordType {
         record_type: RecordType(PERF_RECORD_FINISHED_ROUND),
     };
 
-    /// Which identifier is which event (69).
+    /// The events that ids belong to (69).
     pub const PERF_ID_INDEX: UserRecordType = UserRecordType {
         record_type: RecordType(PERF_RECORD_ID_INDEX),
     };
 
-    /// What the auxiliary data are (70).
+    /// The format of the aux data (70).
     pub const PERF_AUXTRACE_INFO: UserRecordType = UserRecordType {
         record_type: RecordType(PERF_RECORD_AUXTRACE_INFO),
     };
 
-    /// Auxiliary data, behind it (71).
+    /// An auxtrace record, followed by its aux data (71).
     pub const PERF_AUXTRACE: UserRecordType = UserRecordType {
         record_type: RecordType(PERF_RECORD_AUXTRACE),
     };
 
-    /// A fault in auxiliary data (72).
+    /// An error in aux data (72).
     pub const PERF_AUXTRACE_ERROR: UserRecordType = UserRecordType {
         record_type: RecordType(PERF_RECORD_AUXTRACE_ERROR),
     };
 
-    /// The threads that were recorded (73).
+    /// The recorded threads (73).
     pub const PERF_THREAD_MAP: UserRecordType = UserRecordType {
         record_type: RecordType(PERF_RECORD_THREAD_MAP),
     };
 
-    /// The processors that were recorded (74).
+    /// The recorded CPUs (74).
     pub const PERF_CPU_MAP: UserRecordType = UserRecordType {
         record_type: RecordType(PERF_RECORD_CPU_MAP),
     };
 
-    /// How `perf stat` counted (75).
+    /// The options of `perf stat` (75).
     pub const PERF_STAT_CONFIG: UserRecordType = UserRecordType {
         record_type: RecordType(PERF_RECORD_STAT_CONFIG),
     };
 
-    /// A count (76).
+    /// The value of a counter (76).
     pub const PERF_STAT: UserRecordType = UserRecordType {
         record_type: RecordType(PERF_RECORD_STAT),
     };
 
-    /// A round of counts (77).
+    /// A round of counter values (77).
     pub const PERF_STAT_ROUND: UserRecordType = UserRecordType {
         record_type: RecordType(PERF_RECORD_STAT_ROUND),
     };
 
-    /// A further word on an event, as its unit or name (78).
+    /// Additional information on an event, such as its unit or name (78).
     pub const PERF_EVENT_UPDATE: UserRecordType = UserRecordType {
         record_type: RecordType(PERF_RECORD_EVENT_UPDATE),
     };
 
-    /// How times convert to those of the time stamp counter (79).
+    /// The conversion between times and the time stamp counter (79).
     pub const PERF_TIME_CONV: UserRecordType = UserRecordType {
         record_type: RecordType(PERF_RECORD_TIME_CONV),
     };
 
-    /// A feature (80).
+    /// The data of a feature section (80).
     pub const PERF_HEADER_FEATURE: UserRecordType = UserRecordType {
         record_type: RecordType(PERF_RECORD_HEADER_FEATURE),
     };
@@ -106,7 +106,7 @@ impl UserRecordType {
         record_type: RecordType(PERF_RECORD_COMPRESSED),
     };
 
-    /// Compressed records, filled up to eight bytes (83).
+    /// Compressed records, padded to a multiple of eight bytes (83).
     pub const PERF_COMPRESSED2: UserRecordType = UserRecordType {
         record_type: RecordType(PERF_RECORD_COMPRESSED2),
     };
@@ -126,27 +126,27 @@ impl UserRecordType {
         record_type: RecordType(SIMPLE_PERF_RECORD_SYMBOL),
     };
 
-    /// A piece of a record that is longer than 65,535 bytes.
+    /// A part of a record that is longer than 65,535 bytes.
     pub const SIMPLEPERF_SPLIT: UserRecordType = UserRecordType {
         record_type: RecordType(SIMPLE_PERF_RECORD_SPLIT),
     };
 
-    /// The end of such pieces.
+    /// The end of a split record.
     pub const SIMPLEPERF_SPLIT_END: UserRecordType = UserRecordType {
         record_type: RecordType(SIMPLE_PERF_RECORD_SPLIT_END),
     };
 
-    /// Which identifier is which event.
+    /// The events that ids belong to.
     pub const SIMPLEPERF_EVENT_ID: UserRecordType = UserRecordType {
         record_type: RecordType(SIMPLE_PERF_RECORD_EVENT_ID),
     };
 
-    /// A call chain that was unwound.
+    /// An unwound call chain.
     pub const SIMPLEPERF_CALLCHAIN: UserRecordType = UserRecordType {
         record_type: RecordType(SIMPLE_PERF_RECORD_CALLCHAIN),
     };
 
-    /// How an unwinding went.
+    /// The result of unwinding a stack.
     pub const SIMPLEPERF_UNWINDING_RESULT: UserRecordType = UserRecordType {
         record_type: RecordType(SIMPLE_PERF_RECORD_UNWINDING_RESULT),
     };
@@ -158,12 +158,12 @@ impl UserRecordType {
 }
 
 impl UserRecordType {
-    ghost use Rattle.perfdata_records.specs.Record.{type_of};
+    ghost use Rattle.perfdata_records.specs.UserRecordType.{user_type_number};
 
-    /// The user type of this number, or none where it is a type of the kernel's, below 64.
+    /// Returns the user type with this number, or `None` for the kernel's types, which are below 64.
     pub fn try_from(record_type: RecordType) -> Option<UserRecordType>
         ensures user { IsSome result ↔ (64 ≤ record_type.0) }
-        ensures same { IfSome result (λ t. type_of t ≡ record_type.0) }
+        ensures same_number { IfSome result (λ t. user_type_number t ≡ record_type.0) }
     {
         if record_type.0 >= 64 {
             Some(UserRecordType { record_type })
@@ -172,9 +172,9 @@ impl UserRecordType {
         }
     }
 
-    /// The type among those of all records.
+    /// Returns the type as a `RecordType`.
     pub fn record_type(&self) -> RecordType
-        ensures same { result.0 ≡ type_of self.now }
+        ensures same_number { result.0 ≡ user_type_number self.now }
         ensures user { 64 ≤ result.0 }
     {
         self.record_type
@@ -182,17 +182,17 @@ impl UserRecordType {
 }
 
 impl From<UserRecordType> for RecordType {
-    ghost use Rattle.perfdata_records.specs.Record.{type_of};
+    ghost use Rattle.perfdata_records.specs.UserRecordType.{user_type_number};
 
-    ghost from_gives = { λ user all. all.0 ≡ type_of user };
+    ghost from_gives = { λ user all. all.0 ≡ user_type_number user };
 
     fn from(user: UserRecordType) -> RecordType {
         user.record_type()
     }
 }
 
-// The name of a type's constant, for the types that perf and simpleperf write.
-fn name_of(number: u32) -> Option<&'static str> {
+// Returns the name of a type's constant, for the types that perf and simpleperf write.
+fn type_name_of(number: u32) -> Option<&'static str> {
     match number {
         PERF_RECORD_HEADER_ATTR => Some("PERF_HEADER_ATTR"),
         PERF_RECORD_HEADER_EVENT_TYPE => Some("PERF_HEADER_EVENT_TYPE"),
@@ -229,21 +229,21 @@ fn name_of(number: u32) -> Option<&'static str> {
 impl fmt::Debug for UserRecordType {
     fn fmt<W: fmt::Write>(&self, f: &mut fmt::Formatter<W>) -> fmt::Result {
         let number = self.record_type().0;
-        match name_of(number) {
+        match type_name_of(number) {
             Some(name) => write!(f, "\"{name}\""),
             None => write!(f, "Unknown UserRecordType {number}"),
         }
     }
 }
 
-/// A record as it is handed out.
+/// A record as the reader returns it.
 #[derive(Clone, Copy)]
 pub enum PerfFileRecord<'a> {
-    /// Written by the kernel, for the event with this attribute.
+    /// A record that the kernel wrote, for the event with the attribute of index `attr_index`.
     EventRecord {
         attr_index: usize,
         event: RawEventRecord<'a>,
     },
-    /// Written by a tool.
+    /// A record that a tool wrote.
     UserRecord(RawUserRecord<'a>),
 }

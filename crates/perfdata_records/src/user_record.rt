@@ -1,10 +1,10 @@
-//! Records that tools write, parsed.
+//! Parsed records of tools.
 ghost use Rattle.std.specs.Prelude.{◌≡◌, ◌/◌, ◌%◌, IfOk, IfErr, length};
-ghost use Rattle.perfdata_base.specs.Numbers.{number_in};
+ghost use Rattle.perfdata_base.specs.Endian.{number_in};
 ghost use Rattle.perfdata_base.specs.Raw.{bytes_of};
-ghost use Rattle.perfdata_records.specs.HeaderAttr.{HoldsAttributeBy, RefusesAttribute, RefusesIds, attribute_by, attribute_of, numbers};
-ghost use Rattle.perfdata_records.specs.HeaderFeature.{IsHeaderFeature, RefusesFeature};
-ghost use Rattle.perfdata_records.specs.UserRecord.{IsUserRecord, RefusesUserRecord};
+ghost use Rattle.perfdata_records.specs.HeaderAttr.{HoldsAttributeWith, IsHeaderAttrError, IsIdsError, attribute_with, attribute_of, u64s_of};
+ghost use Rattle.perfdata_records.specs.HeaderFeature.{IsHeaderFeature, IsHeaderFeatureError};
+ghost use Rattle.perfdata_records.specs.UserRecord.{IsUserRecord, IsUserRecordError};
 
 use crate::auxtrace::Auxtrace;
 use crate::record::UserRecordType;
@@ -20,57 +20,57 @@ use perfdata_sections::constants::{
 use std::alloc::Global;
 use std::io::{Error, ErrorKind, Result};
 
-/// An event's attribute that came as a record (`PERF_RECORD_HEADER_ATTR` of Linux's perf).
+/// An event's attribute from a record (`PERF_RECORD_HEADER_ATTR` of Linux's perf).
 #[derive(Debug, Drop)]
 pub struct HeaderAttr {
     /// The attribute.
     pub attr: PerfEventAttr,
-    /// The ids by which the event's records are told.
+    /// The ids of the event's records.
     pub ids: Vec<u64>,
 }
 
-/// A feature's data that came as a record (`PERF_RECORD_HEADER_FEATURE` of Linux's perf).
+/// A feature's data from a record (`PERF_RECORD_HEADER_FEATURE` of Linux's perf).
 #[derive(Debug, Drop)]
 pub struct HeaderFeature {
-    /// Which feature.
+    /// The feature.
     pub feature: Feature,
-    /// The feature's data, in the form that it would have in a file's section.
+    /// The feature's data, in the format of the feature section of a file.
     pub bytes: Vec<u8>,
 }
 
-/// A record that a tool wrote, as perf or simpleperf, whose body is lent.
+/// A record that a tool such as perf or simpleperf wrote, with a borrowed body.
 #[derive(Clone, Copy, Debug)]
 pub struct RawUserRecord<'a> {
-    /// The record's type, 64 or above.
+    /// The record's type, which is 64 or above.
     pub record_type: UserRecordType,
-    /// The order of its numbers.
+    /// The byte order of its numbers.
     pub endian: Endianness,
-    /// Bits of the record.
+    /// The `misc` field of its record header.
     pub misc: u16,
-    /// All bytes behind the head, auxiliary data included.
+    /// All bytes after the record header, including aux data.
     pub body: RawData<'a>,
 }
 
-/// A record that a tool wrote, in the form that its type has.
+/// A record that a tool wrote, parsed by its type.
 #[derive(Debug, Drop)]
 pub enum UserRecord<'a> {
-    /// The threads that were recorded.
+    /// The recorded threads.
     ThreadMap(ThreadMap<'a>),
-    /// An attribute.
+    /// An event's attribute.
     HeaderAttr(HeaderAttr),
-    /// A feature.
+    /// A feature's data.
     HeaderFeature(HeaderFeature),
-    /// Auxiliary data.
+    /// An auxtrace record with its aux data.
     Auxtrace(Auxtrace<'a>),
     /// A record of any other type.
     Raw(RawUserRecord<'a>),
 }
 
-// The numbers of eight bytes each, to the end.
+// Parses ids of eight bytes each, to the end of the bytes.
 fn parse_ids<T: FileOrder>(alloc: Global, bytes: RawData<'_>) -> Result<Vec<u64>>
     ensures whole { IfOk result (λ _. length (bytes_of bytes.entry) % 8 ≡ 0) }
-    ensures ids { IfOk result (λ ids. ids.items ≡ numbers T.number_of (length (bytes_of bytes.entry) / 8) (bytes_of bytes.entry)) }
-    ensures refused { IfErr result (λ error. RefusesIds (bytes_of bytes.entry) error) }
+    ensures ids { IfOk result (λ ids. ids.items ≡ u64s_of T.number_of (length (bytes_of bytes.entry) / 8) (bytes_of bytes.entry)) }
+    ensures error { IfErr result (λ error. IsIdsError (bytes_of bytes.entry) error) }
 {
     if bytes.len() % 8 != 0 {
         return Err(Error::from(ErrorKind::UnexpectedEof));
@@ -91,14 +91,15 @@ fn parse_ids<T: FileOrder>(alloc: Global, bytes: RawData<'_>) -> Result<Vec<u64>
 }
 
 impl HeaderAttr {
-    /// The attribute in the body of a record: the attribute, and ids of eight bytes each to the body's end.
+    /// Parses the body of a record: an attribute, and ids of eight bytes each to the end of the body.
     ///
-    /// An `UnexpectedEof` error where the attribute or the last id is cut, an `InvalidData` error where the attribute's own size is 1 to 63,
-    /// and an `OutOfMemory` error where there are ids and memory runs out for them.
+    /// Fails with an `UnexpectedEof` error if the attribute or the last id is truncated, with an `InvalidData` error if
+    /// the attribute's own size is 1 to 63, and with an `OutOfMemory` error if there are ids and memory runs out for
+    /// them.
     pub fn parse<T: FileOrder>(alloc: Global, body: RawData<'_>) -> Result<HeaderAttr>
-        ensures holds { IfOk result (λ _. HoldsAttributeBy T.number_of (bytes_of body.entry)) }
-        ensures value { IfOk result (λ header. attribute_of header ≡ attribute_by T.number_of (bytes_of body.entry)) }
-        ensures refused { IfErr result (λ error. RefusesAttribute T.number_of (bytes_of body.entry) error) }
+        ensures valid { IfOk result (λ _. HoldsAttributeWith T.number_of (bytes_of body.entry)) }
+        ensures value { IfOk result (λ header. attribute_of header ≡ attribute_with T.number_of (bytes_of body.entry)) }
+        ensures error { IfErr result (λ error. IsHeaderAttrError T.number_of (bytes_of body.entry) error) }
     {
         let mut rest = body;
         let attr = match PerfEventAttr::parse_from::<_, T>(&mut rest) {
@@ -113,12 +114,14 @@ impl HeaderAttr {
 }
 
 impl HeaderFeature {
-    /// The feature in the body of a record: a number of eight bytes, whose low half is the feature's, and the feature's data.
+    /// Parses the body of a record: a number of eight bytes, and the feature's data. The low 32 bits of the number are
+    /// the feature.
     ///
-    /// An `UnexpectedEof` error where the number is cut, and an `OutOfMemory` error where there is data and memory runs out for it.
+    /// Fails with an `UnexpectedEof` error if the number is truncated, and with an `OutOfMemory` error if there is data
+    /// and memory runs out for it.
     pub fn parse<T: FileOrder>(alloc: Global, body: RawData<'_>) -> Result<HeaderFeature>
         ensures value { IfOk result (λ header. IsHeaderFeature T.number_of (bytes_of body.entry) header) }
-        ensures refused { IfErr result (λ error. RefusesFeature (bytes_of body.entry) error) }
+        ensures error { IfErr result (λ error. IsHeaderFeatureError (bytes_of body.entry) error) }
     {
         let mut rest = body;
         let number = match rest.read_u64::<T>() {
@@ -144,12 +147,13 @@ impl HeaderFeature {
 }
 
 impl<'a> RawUserRecord<'a> {
-    /// The record in the form that its type has: types 64, 71, 73 and 80 are parsed, and all others stay as they are.
+    /// Parses the body by the record's type. Types 64, 71, 73 and 80 are parsed, and records of other types remain raw.
     ///
-    /// A body that isn't of that form is refused as by the `parse` of `HeaderAttr`, `Auxtrace`, `ThreadMap` and `HeaderFeature`.
+    /// Fails with the error of `HeaderAttr::parse`, `Auxtrace::parse`, `ThreadMap::parse` or `HeaderFeature::parse` if
+    /// the body is invalid for its type.
     pub fn parse(&self, alloc: Global) -> Result<UserRecord<'a>>
         ensures value { IfOk result (λ parsed. IsUserRecord (number_in self.now.endian) self.now parsed) }
-        ensures refused { IfErr result (λ error. RefusesUserRecord (number_in self.now.endian) self.now error) }
+        ensures error { IfErr result (λ error. IsUserRecordError (number_in self.now.endian) self.now error) }
     {
         match self.endian {
             Endianness::LittleEndian => self.parse_impl::<LittleEndian>(alloc),
@@ -157,10 +161,10 @@ impl<'a> RawUserRecord<'a> {
         }
     }
 
-    /// The record in the form that its type has, as by `parse`, with its numbers in the order `T`.
+    /// Parses the body by the record's type, like `parse`, with numbers in the byte order `T`.
     pub fn parse_impl<T: FileOrder>(&self, alloc: Global) -> Result<UserRecord<'a>>
         ensures value { IfOk result (λ parsed. IsUserRecord T.number_of self.now parsed) }
-        ensures refused { IfErr result (λ error. RefusesUserRecord T.number_of self.now error) }
+        ensures error { IfErr result (λ error. IsUserRecordError T.number_of self.now error) }
     {
         match self.record_type.record_type().0 {
             PERF_RECORD_HEADER_ATTR => match HeaderAttr::parse::<T>(alloc, self.body) {

@@ -1,4 +1,4 @@
--- Bytes begin with one list of the events that EVENT_DESC tells, or with none, which is decided.
+-- Bytes begin with one list of the events of EVENT_DESC or with none, which is decidable.
 use Rattle.std.proofs.Common.{◌≡◌, ℕ, zero, suc, ◌+◌, ◌*◌, ◌<◌, ◌≤◌, List, [], ◌∷◌, ◌++◌, length, take, drop, refl, sym, ap, ◌∙◌, subst, inl, inr, arith, length-append, append_assoc, append-nil, length-drop, Option}
 use Rattle.std.specs.Prelude.{◌⊎◌}
 use Rattle.std.proofs.Math.Seq.{drop-append_seam, take-append_seam}
@@ -8,23 +8,23 @@ use Rattle.perfdata_base.specs.Attr.{own_size, attr_of}
 use Rattle.perfdata_base.specs.declared.attr.PerfEventAttr.{PerfEventAttr}
 use Rattle.perfdata_base.proofs.Numbers.{ReadsFirst}
 use Rattle.perfdata_sections.specs.AttributeDescription.{DescribedEvent}
-use Rattle.perfdata_sections.specs.Attributes.{IsFramed, IsNoFrame}
-use Rattle.perfdata_sections.specs.Error.{IsShort}
-use Rattle.perfdata_sections.specs.EventDesc.{IsTail, IsCutTail, IsEvent, AreEvents, IsNoEvent, TellsByEventDesc, NoEventDesc, count_in, size_in}
-use Rattle.perfdata_sections.specs.EventIds.{numbers}
-use Rattle.perfdata_sections.specs.Strings.{before_nul, utf8_text}
+use Rattle.perfdata_sections.specs.AttrFrames.{IsAttrInFrame, IsFrameError}
+use Rattle.perfdata_sections.specs.Error.{IsUnexpectedEof}
+use Rattle.perfdata_sections.specs.EventDesc.{IsNameAndIds, IsTruncatedNameAndIds, IsEvent, AreEvents, IsEventError, BeginsWithEventDesc, IsEventDescError, event_count_of, frame_size_of}
+use Rattle.perfdata_sections.specs.EventIds.{u64s_of}
+use Rattle.perfdata_sections.specs.HeaderString.{before_nul, utf8_text}
 use Rattle.perfdata_sections.specs.declared.error.Error.{Error}
 use Rattle.perfdata_sections.specs.declared.error.Error.TheVariants.{Read, InconsistentAttributeSizes}
 use Rattle.perfdata_sections.specs.declared.error.ReadError.TheVariants.{PerfEventAttr as OfAttr}
-use Rattle.perfdata_sections.proofs.Frames.{frame_stays, framed_front}
-use Rattle.perfdata_sections.proofs.Parts.{drop_front}
+use Rattle.perfdata_sections.proofs.Frames.{frame_stays, frame_prefix}
+use Rattle.perfdata_sections.proofs.PartLemmas.{drop_front}
 
 take_front : (n : ℕ) (xs ys : List ℕ) → length xs ≡ n → take n (xs ++ ys) ≡ xs
 take_front n xs ys long = ap (λ k. take k (xs ++ ys)) (sym long) ∙ take-append_seam xs ys
 
--- fronts of one length are the same
-pub same_cut : (a b c d : List ℕ) → length a ≡ length c → a ++ b ≡ c ++ d → (a ≡ c) × (b ≡ d)
-same_cut a b c d long same = (
+-- prefixes of one length are equal
+pub same_split : (a b c d : List ℕ) → length a ≡ length c → a ++ b ≡ c ++ d → (a ≡ c) × (b ≡ d)
+same_split a b c d long same = (
   sym (take-append_seam a b) ∙ ap (take (length a)) same ∙ take_front (length a) c d (sym long),
   sym (drop-append_seam a b) ∙ ap (drop (length a)) same ∙ drop_front (length a) c d (sym long),
 )
@@ -37,16 +37,16 @@ described_same d a n i attr name ids =
     one ∙ two ∙ three
 
 module _ (number : ℕ → List ℕ → ℕ) (first : ReadsFirst number) where
-  -- ---- what stands behind a frame
+  -- ---- the bytes after a frame
 
-  -- how many bytes a name takes, as the bytes say that begin with it
+  -- the size of a name, from the bytes that begin with it
   abbrev text_length : List ℕ → ℕ
   text_length xs = 4 + number 4 xs
 
   abbrev tail_length : List ℕ → ℕ
   tail_length xs = 4 + (text_length (drop 4 xs) + 8 * number 4 xs)
 
-  -- a tail in front of other bytes, in its parts
+  -- the parts of a name and ids, followed by other bytes
   pub record Behind (xs : List ℕ) (name : Option (List ℕ)) (ids rest : List ℕ) : Type 0 where
     pub text : List ℕ
     pub words : List ℕ
@@ -56,31 +56,31 @@ module _ (number : ℕ → List ℕ → ℕ) (first : ReadsFirst number) where
     pub long : length text ≡ text_length (drop 4 xs)
     pub longs : length words ≡ 8 * number 4 xs
     pub named : name ≡ utf8_text (before_nul (drop 4 text))
-    pub are : ids ≡ numbers number (number 4 xs) words
+    pub are : ids ≡ u64s_of number (number 4 xs) words
 
-  behind_of : (xs rest : List ℕ) (name : Option (List ℕ)) (ids : List ℕ) → IsTail number xs name ids → Behind (xs ++ rest) name ids rest
+  behind_of : (xs rest : List ℕ) (name : Option (List ℕ)) (ids : List ℕ) → IsNameAndIds number xs name ids → Behind (xs ++ rest) name ids rest
   behind_of xs rest name ids t =
-      let long = t.long in
-      let cut : xs ++ rest ≡ t.count ++ (t.text ++ (t.words ++ rest)) = ap (λ l. l ++ rest) t.is ∙ append_assoc t.count (t.text ++ t.words) rest ∙ ap (λ l. t.count ++ l) (append_assoc t.text t.words rest) in
-      let later : drop 4 (xs ++ rest) ≡ t.text ++ (t.words ++ rest) = ap (drop 4) cut ∙ drop_front 4 t.count (t.text ++ (t.words ++ rest)) long in
-      let counted : number 4 (xs ++ rest) ≡ number 4 t.count = ap (number 4) cut ∙ first 4 t.count (t.text ++ (t.words ++ rest)) (omega (arith, long)) in
-      let texted : number 4 (drop 4 (xs ++ rest)) ≡ number 4 t.text = ap (number 4) later ∙ first 4 t.text (t.words ++ rest) t.named.0.0 in
+      let long = t.exact_len in
+      let cut : xs ++ rest ≡ t.count_bytes ++ (t.name_bytes ++ (t.id_bytes ++ rest)) = ap (λ l. l ++ rest) t.matches ∙ append_assoc t.count_bytes (t.name_bytes ++ t.id_bytes) rest ∙ ap (λ l. t.count_bytes ++ l) (append_assoc t.name_bytes t.id_bytes rest) in
+      let later : drop 4 (xs ++ rest) ≡ t.name_bytes ++ (t.id_bytes ++ rest) = ap (drop 4) cut ∙ drop_front 4 t.count_bytes (t.name_bytes ++ (t.id_bytes ++ rest)) long in
+      let counted : number 4 (xs ++ rest) ≡ number 4 t.count_bytes = ap (number 4) cut ∙ first 4 t.count_bytes (t.name_bytes ++ (t.id_bytes ++ rest)) (omega (arith, long)) in
+      let texted : number 4 (drop 4 (xs ++ rest)) ≡ number 4 t.name_bytes = ap (number 4) later ∙ first 4 t.name_bytes (t.id_bytes ++ rest) t.valid_string.0.0 in
       let whole = ap length cut in
-      let texts = t.named.0.1 in
-      let words = t.are.0 in
+      let texts = t.valid_string.0.1 in
+      let words = t.elements.0 in
       record {
-        text = t.text;
-        words = t.words;
-        head = omega (arith, whole, long, length-append t.count (t.text ++ (t.words ++ rest)));
+        text = t.name_bytes;
+        words = t.id_bytes;
+        head = omega (arith, whole, long, length-append t.count_bytes (t.name_bytes ++ (t.id_bytes ++ rest)));
         is = later;
-        least = t.named.0.0;
+        least = t.valid_string.0.0;
         long = omega (arith, texts, texted);
         longs = words ∙ ap (λ n. 8 * n) (sym counted);
-        named = t.named.1;
-        are = t.are.1 ∙ ap (λ n. numbers number n t.words) (sym counted);
+        named = t.valid_string.1;
+        are = t.elements.1 ∙ ap (λ n. u64s_of number n t.id_bytes) (sym counted);
       }
 
-  tail_whole : (xs rest : List ℕ) (name : Option (List ℕ)) (ids : List ℕ) → IsTail number xs name ids → length xs ≡ tail_length (xs ++ rest)
+  tail_whole : (xs rest : List ℕ) (name : Option (List ℕ)) (ids : List ℕ) → IsNameAndIds number xs name ids → length xs ≡ tail_length (xs ++ rest)
   tail_whole xs rest name ids t =
       let b = behind_of xs rest name ids t in
       let head = b.head in
@@ -89,8 +89,8 @@ module _ (number : ℕ → List ℕ → ℕ) (first : ReadsFirst number) where
       let longs = b.longs in
       omega (arith, head, is, long, longs, length-drop 4 (xs ++ rest), length-append b.text (b.words ++ rest), length-append b.words rest, length-append xs rest)
 
-  -- a tail is never cut
-  tail_not_cut : (xs rest : List ℕ) (name : Option (List ℕ)) (ids : List ℕ) → IsTail number xs name ids → IsCutTail number (xs ++ rest) → ⊥
+  -- a complete name with ids isn't truncated
+  tail_not_cut : (xs rest : List ℕ) (name : Option (List ℕ)) (ids : List ℕ) → IsNameAndIds number xs name ids → IsTruncatedNameAndIds number (xs ++ rest) → ⊥
   tail_not_cut xs rest name ids t (inl short) = let b = behind_of xs rest name ids t in let head = b.head in omega (arith, short, head)
   tail_not_cut xs rest name ids t (inr (inl (there, cut))) =
       let b = behind_of xs rest name ids t in
@@ -102,16 +102,16 @@ module _ (number : ℕ → List ℕ → ℕ) (first : ReadsFirst number) where
       omega (arith, is, long, few, sum)
   tail_not_cut xs rest name ids t (inr (inr c)) =
       let b = behind_of xs rest name ids t in
-      let head = c.long in
-      let later : drop 4 (xs ++ rest) ≡ c.text ++ c.words = ap (drop 4) c.is ∙ drop_front 4 c.count (c.text ++ c.words) head in
-      let counted : number 4 (xs ++ rest) ≡ number 4 c.count = ap (number 4) c.is ∙ first 4 c.count (c.text ++ c.words) (omega (arith, head)) in
-      let texted : number 4 (drop 4 (xs ++ rest)) ≡ number 4 c.text = ap (number 4) later ∙ first 4 c.text c.words c.named.0 in
+      let head = c.exact_len in
+      let later : drop 4 (xs ++ rest) ≡ c.name_bytes ++ c.id_bytes = ap (drop 4) c.matches ∙ drop_front 4 c.count_bytes (c.name_bytes ++ c.id_bytes) head in
+      let counted : number 4 (xs ++ rest) ≡ number 4 c.count_bytes = ap (number 4) c.matches ∙ first 4 c.count_bytes (c.name_bytes ++ c.id_bytes) (omega (arith, head)) in
+      let texted : number 4 (drop 4 (xs ++ rest)) ≡ number 4 c.name_bytes = ap (number 4) later ∙ first 4 c.name_bytes c.id_bytes c.valid_string.0 in
       let cut = ap length (sym later ∙ b.is) in
-      let few = c.few in
-      let texts = c.named.1 in
+      let few = c.too_few in
+      let texts = c.valid_string.1 in
       let long = b.long in
       let longs = b.longs in
-      omega (arith, cut, few, texts, texted, counted, long, longs, length-append c.text c.words, length-append b.text (b.words ++ rest), length-append b.words rest)
+      omega (arith, cut, few, texts, texted, counted, long, longs, length-append c.name_bytes c.id_bytes, length-append b.text (b.words ++ rest), length-append b.words rest)
 
   -- ---- an event
 
@@ -119,68 +119,68 @@ module _ (number : ℕ → List ℕ → ℕ) (first : ReadsFirst number) where
     abbrev event_length : List ℕ → ℕ
     event_length xs = size + tail_length (drop size xs)
 
-    -- the event that these bytes are, if they are one
+    -- the event in these bytes, if they are an event
     abbrev event_at : List ℕ → DescribedEvent
     event_at xs =
         let behind = drop 4 (drop size xs) in
         record {
           attr = attr_of number (take size xs);
           name = utf8_text (before_nul (drop 4 (take (text_length behind) behind)));
-          ids = numbers number (number 4 (drop size xs)) (drop (text_length behind) behind);
+          ids = u64s_of number (number 4 (drop size xs)) (drop (text_length behind) behind);
         }
 
-    event_behind : (xs rest : List ℕ) (d : DescribedEvent) → (e : IsEvent number size xs d) → drop size (xs ++ rest) ≡ e.behind ++ rest
-    event_behind xs rest d e = ap (λ l. drop size (l ++ rest)) e.is ∙ ap (drop size) (append_assoc e.frame e.behind rest) ∙ drop_front size e.frame (e.behind ++ rest) e.long
+    event_behind : (xs rest : List ℕ) (d : DescribedEvent) → (e : IsEvent number size xs d) → drop size (xs ++ rest) ≡ e.after_frame ++ rest
+    event_behind xs rest d e = ap (λ l. drop size (l ++ rest)) e.matches ∙ ap (drop size) (append_assoc e.frame_bytes e.after_frame rest) ∙ drop_front size e.frame_bytes (e.after_frame ++ rest) e.exact_len
 
-    event_frame : (xs rest : List ℕ) (d : DescribedEvent) → (e : IsEvent number size xs d) → take size (xs ++ rest) ≡ e.frame
-    event_frame xs rest d e = ap (λ l. take size (l ++ rest)) e.is ∙ ap (take size) (append_assoc e.frame e.behind rest) ∙ take_front size e.frame (e.behind ++ rest) e.long
+    event_frame : (xs rest : List ℕ) (d : DescribedEvent) → (e : IsEvent number size xs d) → take size (xs ++ rest) ≡ e.frame_bytes
+    event_frame xs rest d e = ap (λ l. take size (l ++ rest)) e.matches ∙ ap (take size) (append_assoc e.frame_bytes e.after_frame rest) ∙ take_front size e.frame_bytes (e.after_frame ++ rest) e.exact_len
 
-    -- an event is as long as its bytes say, whatever follows
+    -- the bytes of an event determine its size, whatever follows
     event_whole : (xs rest : List ℕ) (d : DescribedEvent) → IsEvent number size xs d → length xs ≡ event_length (xs ++ rest)
     event_whole xs rest d e =
-        let long = e.long in
-        let is = ap length e.is in
-        let tail : length e.behind ≡ tail_length (drop size (xs ++ rest)) = tail_whole e.behind rest d.name d.ids e.tail ∙ ap tail_length (sym (event_behind xs rest d e)) in
-        omega (arith, long, is, tail, length-append e.frame e.behind)
+        let long = e.exact_len in
+        let is = ap length e.matches in
+        let tail : length e.after_frame ≡ tail_length (drop size (xs ++ rest)) = tail_whole e.after_frame rest d.name d.ids e.name_and_ids ∙ ap tail_length (sym (event_behind xs rest d e)) in
+        omega (arith, long, is, tail, length-append e.frame_bytes e.after_frame)
 
-    -- it is the one that its bytes tell
+    -- the bytes of an event determine it
     event_told : (xs : List ℕ) (d : DescribedEvent) → IsEvent number size xs d → d ≡ event_at xs
     event_told xs d e =
         let whole : xs ++ [] ≡ xs = append-nil xs in
-        let frame : take size xs ≡ e.frame = ap (take size) (sym whole) ∙ event_frame xs [] d e in
-        let behind : drop size xs ≡ e.behind = ap (drop size) (sym whole) ∙ event_behind xs [] d e ∙ append-nil e.behind in
-        let tail = subst (λ l. IsTail number l d.name d.ids) (sym behind) e.tail in
+        let frame : take size xs ≡ e.frame_bytes = ap (take size) (sym whole) ∙ event_frame xs [] d e in
+        let behind : drop size xs ≡ e.after_frame = ap (drop size) (sym whole) ∙ event_behind xs [] d e ∙ append-nil e.after_frame in
+        let tail = subst (λ l. IsNameAndIds number l d.name d.ids) (sym behind) e.name_and_ids in
         let b = subst (λ l. Behind l d.name d.ids []) (append-nil (drop size xs)) (behind_of (drop size xs) [] d.name d.ids tail) in
         let text : take (text_length (drop 4 (drop size xs))) (drop 4 (drop size xs)) ≡ b.text = ap (take (text_length (drop 4 (drop size xs)))) b.is ∙ take_front (text_length (drop 4 (drop size xs))) b.text (b.words ++ []) b.long in
         let words : drop (text_length (drop 4 (drop size xs))) (drop 4 (drop size xs)) ≡ b.words =
         ap (drop (text_length (drop 4 (drop size xs)))) b.is ∙ drop_front (text_length (drop 4 (drop size xs))) b.text (b.words ++ []) b.long ∙ append-nil b.words in
-        described_same d (attr_of number (take size xs)) (utf8_text (before_nul (drop 4 (take (text_length (drop 4 (drop size xs))) (drop 4 (drop size xs)))))) (numbers number (number 4 (drop size xs)) (drop (text_length (drop 4 (drop size xs))) (drop 4 (drop size xs))))
-        (e.framed.is.is ∙ ap (attr_of number) (sym frame))
+        described_same d (attr_of number (take size xs)) (utf8_text (before_nul (drop 4 (take (text_length (drop 4 (drop size xs))) (drop 4 (drop size xs)))))) (u64s_of number (number 4 (drop size xs)) (drop (text_length (drop 4 (drop size xs))) (drop 4 (drop size xs))))
+        (e.attr_in_frame.matches.matches ∙ ap (attr_of number) (sym frame))
         (b.named ∙ ap (λ t. utf8_text (before_nul (drop 4 t))) (sym text))
-        (b.are ∙ ap (numbers number (number 4 (drop size xs))) (sym words))
+        (b.are ∙ ap (u64s_of number (number 4 (drop size xs))) (sym words))
 
-    -- no event is a proper front of another
+    -- no event is a proper prefix of another
     pub same_event : (xs ys a b : List ℕ) (d e : DescribedEvent) → IsEvent number size xs d → IsEvent number size ys e → xs ++ a ≡ ys ++ b → (xs ≡ ys) × (a ≡ b) × (d ≡ e)
     same_event xs ys a b d e x y same =
         let long : length xs ≡ length ys = event_whole xs a d x ∙ ap event_length same ∙ sym (event_whole ys b e y) in
-        let cut = same_cut xs a ys b long same in
+        let cut = same_split xs a ys b long same in
         (cut.0, cut.1, event_told xs d x ∙ ap event_at cut.0 ∙ sym (event_told ys e y))
 
-    pub framed_or_none : (e : Error) (xs : List ℕ) (a : PerfEventAttr) → IsFramed number size xs a → IsNoFrame number size e xs → ⊥
-    framed_or_none (Read OfAttr) xs a framed (inl (inl short)) = let least = framed.is.least in let there = framed.is.there in omega (arith, short, least, there)
-    framed_or_none (Read OfAttr) xs a framed (inl (inr (least, within, short))) = let there = framed.is.there in omega (arith, short, there)
-    framed_or_none (Read OfAttr) xs a framed (inr (head, small)) = let least = framed.is.least in omega (arith, small, least)
-    framed_or_none (InconsistentAttributeSizes own all) xs a framed (head, is, are, least, above) = let within = framed.within in omega (arith, is, within, above)
-    framed_or_none _ xs a framed none = absurd none
+    pub frame_or_error : (e : Error) (xs : List ℕ) (a : PerfEventAttr) → IsAttrInFrame number size xs a → IsFrameError number size e xs → ⊥
+    frame_or_error (Read OfAttr) xs a framed (inl (inl short)) = let least = framed.matches.min_size in let there = framed.matches.complete in omega (arith, short, least, there)
+    frame_or_error (Read OfAttr) xs a framed (inl (inr (least, within, short))) = let there = framed.matches.complete in omega (arith, short, there)
+    frame_or_error (Read OfAttr) xs a framed (inr (head, small)) = let least = framed.matches.min_size in omega (arith, small, least)
+    frame_or_error (InconsistentAttributeSizes own all) xs a framed (head, is, are, least, above) = let within = framed.within in omega (arith, is, within, above)
+    frame_or_error _ xs a framed none = absurd none
 
-    -- where an event stands, none is refused
-    pub event_or_none : (err : Error) (xs rest : List ℕ) (d : DescribedEvent) → IsEvent number size xs d → IsNoEvent number size err (xs ++ rest) → ⊥
+    -- bytes that begin with an event have no error in it
+    pub event_or_none : (err : Error) (xs rest : List ℕ) (d : DescribedEvent) → IsEvent number size xs d → IsEventError number size err (xs ++ rest) → ⊥
     event_or_none err xs rest d e (inl none) =
-        let whole : xs ++ rest ≡ e.frame ++ (e.behind ++ rest) = ap (λ l. l ++ rest) e.is ∙ append_assoc e.frame e.behind rest in
-        framed_or_none err (xs ++ rest) d.attr (subst (λ l. IsFramed number size l d.attr) (sym whole) (frame_stays number first size e.frame (e.behind ++ rest) d.attr e.framed)) none
-    event_or_none err xs rest d e (inr (framed, short, cut)) = tail_not_cut e.behind rest d.name d.ids e.tail (subst (IsCutTail number) (event_behind xs rest d e) cut)
+        let whole : xs ++ rest ≡ e.frame_bytes ++ (e.after_frame ++ rest) = ap (λ l. l ++ rest) e.matches ∙ append_assoc e.frame_bytes e.after_frame rest in
+        frame_or_error err (xs ++ rest) d.attr (subst (λ l. IsAttrInFrame number size l d.attr) (sym whole) (frame_stays number first size e.frame_bytes (e.after_frame ++ rest) d.attr e.attr_in_frame)) none
+    event_or_none err xs rest d e (inr (framed, short, cut)) = tail_not_cut e.after_frame rest d.name d.ids e.name_and_ids (subst (IsTruncatedNameAndIds number) (event_behind xs rest d e) cut)
 
-    -- ---- events, one behind another
+    -- ---- consecutive events
 
     events_one : (ds es : List DescribedEvent) (xs ys a b : List ℕ) → AreEvents number size xs ds → AreEvents number size ys es → xs ++ a ≡ ys ++ b → length ds ≡ length es → ds ≡ es
     events_one [] [] xs ys a b x y same long = refl
@@ -191,25 +191,25 @@ module _ (number : ℕ → List ℕ → ℕ) (first : ReadsFirst number) where
         let here = same_event one two (more ++ a) (others ++ b) d e is is' whole in
         ap (λ x. x ∷ ds) here.2 ∙ ap (λ l. e ∷ l) (events_one ds es more others a b are are' here.1 (omega (arith, long)))
 
-    -- fewer events than stand there don't end in one that is refused
+    -- a list of fewer events than the bytes contain isn't followed by an error
     events_go_on : (err : Error) (before told : List DescribedEvent) (came rest xs behind : List ℕ) → AreEvents number size came before → AreEvents number size xs told → came ++ rest ≡ xs ++ behind → length before < length told
-        → IsNoEvent number size err rest → ⊥
+        → IsEventError number size err rest → ⊥
     events_go_on err before [] came rest xs behind x y same few none = omega (arith, few)
     events_go_on err [] (e ∷ es) came rest xs behind x (two, others, cut, is, are) same few none =
         let whole : rest ≡ two ++ (others ++ behind) = ap (λ l. l ++ rest) (sym x) ∙ same ∙ ap (λ l. l ++ behind) cut ∙ append_assoc two others behind in
-        event_or_none err two (others ++ behind) e is (subst (IsNoEvent number size err) whole none)
+        event_or_none err two (others ++ behind) e is (subst (IsEventError number size err) whole none)
     events_go_on err (d ∷ ds) (e ∷ es) came rest xs behind (one, more, cut, is, are) (two, others, cut', is', are') same few none =
         let whole : one ++ (more ++ rest) ≡ two ++ (others ++ behind) = sym (append_assoc one more rest) ∙ ap (λ l. l ++ rest) (sym cut) ∙ same ∙ ap (λ l. l ++ behind) cut' ∙ append_assoc two others behind in
         let here = same_event one two (more ++ rest) (others ++ behind) d e is is' whole in
         events_go_on err ds es more rest others behind are are' here.1 (omega (arith, few)) none
 
-    -- ---- whether events stand there
+    -- ---- whether bytes begin with events
 
-    -- bytes begin with an event
+    -- the bytes begin with an event
     abbrev EventHere : List ℕ → Type 0
     EventHere xs = (d : DescribedEvent) × (front : List ℕ) × (rest : List ℕ) × (xs ≡ front ++ rest) × IsEvent number size front d
 
-    -- bytes as long as an event, with an attribute in the frame, begin with one
+    -- bytes of the size of an event, with an attribute in the frame, begin with an event
     event_made : (xs : List ℕ) → event_length xs ≤ length xs → 64 ≤ own_size number (take size xs) → own_size number (take size xs) ≤ size → EventHere xs
     event_made xs there least within =
         let a = drop size xs in
@@ -234,31 +234,31 @@ module _ (number : ℕ → List ℕ → ℕ) (first : ReadsFirst number) where
         sym (take-append-drop size xs)
         ∙ ap (λ l. frame ++ l) (sym (take-append-drop 4 a) ∙ ap (λ l. count ++ l) (sym (take-append-drop n b) ∙ ap (λ l. text ++ l) (sym (take-append-drop m c)) ∙ sym (append_assoc text words (drop m c))) ∙ sym (append_assoc count (text ++ words) (drop m c)))
         ∙ sym (append_assoc frame (count ++ (text ++ words)) (drop m c)) in (
-          record { attr = attr_of number frame; name = utf8_text (before_nul (drop 4 text)); ids = numbers number (number 4 count) words },
+          record { attr = attr_of number frame; name = utf8_text (before_nul (drop 4 text)); ids = u64s_of number (number 4 count) words },
           frame ++ (count ++ (text ++ words)),
           drop m c,
           whole,
           record {
-            frame = frame;
-            behind = count ++ (text ++ words);
-            is = refl;
-            long = long_frame;
-            framed = record { is = record { least = least; there = omega (arith, within, long_frame); is = refl }; within = within };
-            tail = record {
-              count = count;
-              text = text;
-              words = words;
-              is = refl;
-              long = long_count;
-              named = ((omega (arith, long_text), omega (arith, long_text, texted)), refl);
-              are = (long_words ∙ ap (λ k. 8 * k) (sym counted), refl);
+            frame_bytes = frame;
+            after_frame = count ++ (text ++ words);
+            matches = refl;
+            exact_len = long_frame;
+            attr_in_frame = record { matches = record { min_size = least; complete = omega (arith, within, long_frame); matches = refl }; within = within };
+            name_and_ids = record {
+              count_bytes = count;
+              name_bytes = text;
+              id_bytes = words;
+              matches = refl;
+              exact_len = long_count;
+              valid_string = ((omega (arith, long_text), omega (arith, long_text, texted)), refl);
+              elements = (long_words ∙ ap (λ k. 8 * k) (sym counted), refl);
             };
           },
         )
 
-    -- where an event stands, its frame holds an attribute
-    frame_here : (xs : List ℕ) → (h : EventHere xs) → IsFramed number size (take size xs) h.0.attr
-    frame_here xs (d, front, rest, cut, is) = subst (λ l. IsFramed number size l d.attr) (sym (ap (take size) cut ∙ event_frame front rest d is)) is.framed
+    -- the frame of an event contains an attribute
+    frame_here : (xs : List ℕ) → (h : EventHere xs) → IsAttrInFrame number size (take size xs) h.0.attr
+    frame_here xs (d, front, rest, cut, is) = subst (λ l. IsAttrInFrame number size l d.attr) (sym (ap (take size) cut ∙ event_frame front rest d is)) is.attr_in_frame
 
     whole_here : (xs : List ℕ) → EventHere xs → event_length xs ≤ length xs
     whole_here xs (d, front, rest, cut, is) =
@@ -271,7 +271,7 @@ module _ (number : ℕ → List ℕ → ℕ) (first : ReadsFirst number) where
     event_or_not xs = elim (cases_lt (length xs) (event_length xs)) [
       | inl short ↦ inr (λ h. let there = whole_here xs h in omega (arith, short, there))
       | inr there ↦ elim (cases_lt (own_size number (take size xs)) 64) [
-        | inl small ↦ inr (λ h. let least = (frame_here xs h).is.least in omega (arith, small, least))
+        | inl small ↦ inr (λ h. let least = (frame_here xs h).matches.min_size in omega (arith, small, least))
         | inr least ↦ elim (cases_lt size (own_size number (take size xs))) [
           | inl above ↦ inr (λ h. let within = (frame_here xs h).within in omega (arith, above, within))
           | inr within ↦ inl (event_made xs there least within)
@@ -279,7 +279,7 @@ module _ (number : ℕ → List ℕ → ℕ) (first : ReadsFirst number) where
       ]
     ]
 
-    -- bytes begin with so many
+    -- the bytes begin with `n` events
     abbrev EventsHere : ℕ → List ℕ → Type 0
     EventsHere n xs = (ds : List DescribedEvent) × (front : List ℕ) × (rest : List ℕ) × (xs ≡ front ++ rest) × (length ds ≡ n) × AreEvents number size front ds
 
@@ -307,9 +307,9 @@ module _ (number : ℕ → List ℕ → ℕ) (first : ReadsFirst number) where
       ]
     ]
 
-    -- ---- why none stands there
+    -- ---- the error of bytes that begin with no event
 
-    -- one of the errors says it: this short one, that of an attribute, or that of two sizes
+    -- one of the errors holds: the given unexpected end, the one of an attribute, or the one of two sizes
     abbrev Refusal : Error → (Error → Type 0) → Type 0
     Refusal short P = P short ⊎ (P (Read OfAttr) ⊎ ((own : ℕ) × (all : ℕ) × P (InconsistentAttributeSizes own all)))
 
@@ -318,8 +318,8 @@ module _ (number : ℕ → List ℕ → ℕ) (first : ReadsFirst number) where
     refusal_of short P Q go (inr (inl x)) = inr (inl (go (Read OfAttr) x))
     refusal_of short P Q go (inr (inr (own, all, x))) = inr (inr (own, all, go (InconsistentAttributeSizes own all) x))
 
-    -- behind a frame stands what an event has, or it is cut
-    tail_or_cut : (xs : List ℕ) → (tail_length xs ≤ length xs) ⊎ IsCutTail number xs
+    -- a frame is followed by the rest of an event, or the bytes are truncated
+    tail_or_cut : (xs : List ℕ) → (tail_length xs ≤ length xs) ⊎ IsTruncatedNameAndIds number xs
     tail_or_cut xs = elim (cases_lt (length xs) 4) [
       | inl few ↦ inr (inl few)
       | inr head ↦ elim (cases_lt (length (drop 4 xs)) 4) [
@@ -340,30 +340,30 @@ module _ (number : ℕ → List ℕ → ℕ) (first : ReadsFirst number) where
                 let counts : number 4 xs ≡ number 4 count = ap (number 4) (sym (take-append-drop 4 xs)) ∙ first 4 count b (omega (arith, long_count)) in
                 let texted : number 4 b ≡ number 4 text = ap (number 4) (sym (take-append-drop n b)) ∙ first 4 text (drop n b) (omega (arith, long_text)) in
                 inr (inr (inr (record {
-                  count = count;
-                  text = text;
-                  words = drop n b;
-                  is = sym (take-append-drop 4 xs) ∙ ap (λ l. count ++ l) (sym (take-append-drop n b));
-                  long = long_count;
-                  named = (omega (arith, long_text), omega (arith, long_text, texted));
-                  few = omega (arith, few, counts, long_b, long_c, named, head);
+                  count_bytes = count;
+                  name_bytes = text;
+                  id_bytes = drop n b;
+                  matches = sym (take-append-drop 4 xs) ∙ ap (λ l. count ++ l) (sym (take-append-drop n b));
+                  exact_len = long_count;
+                  valid_string = (omega (arith, long_text), omega (arith, long_text, texted));
+                  too_few = omega (arith, few, counts, long_b, long_c, named, head);
                 })))
           ]
         ]
       ]
     ]
 
-    event_or_cut : (short : Error) (xs : List ℕ) → IsShort short → IsFramed number size xs (attr_of number xs) → EventHere xs ⊎ Refusal short (λ e. IsNoEvent number size e xs)
+    event_or_cut : (short : Error) (xs : List ℕ) → IsUnexpectedEof short → IsAttrInFrame number size xs (attr_of number xs) → EventHere xs ⊎ Refusal short (λ e. IsEventError number size e xs)
     event_or_cut short xs is framed = elim (tail_or_cut (drop size xs)) [
       | inr cut ↦ inr (inl (inr ((attr_of number xs, framed), is, cut)))
       | inl tail ↦
           let long = length-drop size xs in
           let there : event_length xs ≤ length xs = omega (arith, tail, long) in
-          let front = framed_front number first size xs (attr_of number xs) framed (omega (arith, there)) in
-          inl (event_made xs there front.is.least front.within)
+          let front = frame_prefix number first size xs (attr_of number xs) framed (omega (arith, there)) in
+          inl (event_made xs there front.matches.min_size front.within)
     ]
 
-    event_or_refusal : (short : Error) (xs : List ℕ) → IsShort short → EventHere xs ⊎ Refusal short (λ e. IsNoEvent number size e xs)
+    event_or_refusal : (short : Error) (xs : List ℕ) → IsUnexpectedEof short → EventHere xs ⊎ Refusal short (λ e. IsEventError number size e xs)
     event_or_refusal short xs is = elim (cases_lt (length xs) 8) [
       | inl few ↦ inr (inr (inl (inl (inl (inl few)))))
       | inr head ↦ elim (cases_lt (own_size number xs) 64) [
@@ -372,27 +372,27 @@ module _ (number : ℕ → List ℕ → ℕ) (first : ReadsFirst number) where
           | inl above ↦ inr (inr (inr (own_size number xs, size, inl (head, refl, refl, least, above))))
           | inr within ↦ elim (cases_lt (length xs) (own_size number xs)) [
             | inl cut ↦ inr (inr (inl (inl (inl (inr (least, within, cut))))))
-            | inr there ↦ event_or_cut short xs is (record { is = record { least = least; there = there; is = refl }; within = within })
+            | inr there ↦ event_or_cut short xs is (record { matches = record { min_size = least; complete = there; matches = refl }; within = within })
           ]
         ]
       ]
     ]
 
-    -- fewer stand there, and the next is refused
+    -- fewer than `n` events, followed by an error
     abbrev StopsHere : ℕ → List ℕ → Error → Type 0
-    StopsHere n xs e = (before : List DescribedEvent) × (came : List ℕ) × (rest : List ℕ) × (xs ≡ came ++ rest) × (length before < n) × AreEvents number size came before × IsNoEvent number size e rest
+    StopsHere n xs e = (before : List DescribedEvent) × (came : List ℕ) × (rest : List ℕ) × (xs ≡ came ++ rest) × (length before < n) × AreEvents number size came before × IsEventError number size e rest
 
-    stops_first : (n : ℕ) (xs : List ℕ) (e : Error) → IsNoEvent number size e xs → StopsHere (suc n) xs e
+    stops_first : (n : ℕ) (xs : List ℕ) (e : Error) → IsEventError number size e xs → StopsHere (suc n) xs e
     stops_first n xs e none = ([], [], xs, refl, omega arith, refl, none)
 
     stops_later : (n : ℕ) (xs : List ℕ) → (h : EventHere xs) → (e : Error) → StopsHere n h.2 e → StopsHere (suc n) xs e
     stops_later n xs (d, one, later, cut, is) e (before, came, rest, split, few, are, none) =
         (d ∷ before, one ++ came, rest, cut ∙ ap (λ l. one ++ l) split ∙ sym (append_assoc one came rest), omega (arith, few), (one, came, refl, is, are), none)
 
-    events_or_refusal : (short : Error) → IsShort short → (n : ℕ) (xs : List ℕ) → EventsHere n xs ⊎ Refusal short (StopsHere n xs)
+    events_or_refusal : (short : Error) → IsUnexpectedEof short → (n : ℕ) (xs : List ℕ) → EventsHere n xs ⊎ Refusal short (StopsHere n xs)
     events_or_refusal short is zero xs = inl ([], [], xs, refl, refl, refl)
     events_or_refusal short is (suc n) xs = elim (event_or_refusal short xs is) [
-      | inr none ↦ inr (refusal_of short (λ e. IsNoEvent number size e xs) (StopsHere (suc n) xs) (stops_first n xs) none)
+      | inr none ↦ inr (refusal_of short (λ e. IsEventError number size e xs) (StopsHere (suc n) xs) (stops_first n xs) none)
       | inl one ↦ elim (events_or_refusal short is n one.2) [
         | inl more ↦ inl (events_put n xs one more)
         | inr none ↦ inr (refusal_of short (StopsHere n one.2) (StopsHere (suc n) xs) (stops_later n xs one) none)
@@ -401,51 +401,51 @@ module _ (number : ℕ → List ℕ → ℕ) (first : ReadsFirst number) where
 
   -- ---- the section
 
-  pub told_cut : (xs : List ℕ) (ds : List DescribedEvent) → (t : TellsByEventDesc number xs ds) → xs ≡ t.3.head ++ (t.3.events ++ t.1)
-  told_cut xs ds (front, rest, cut, is) = cut ∙ ap (λ l. l ++ rest) is.is ∙ append_assoc is.head is.events rest
+  pub event_desc_split : (xs : List ℕ) (ds : List DescribedEvent) → (t : BeginsWithEventDesc number xs ds) → xs ≡ t.3.header ++ (t.3.event_bytes ++ t.1)
+  event_desc_split xs ds (front, rest, cut, is) = cut ∙ ap (λ l. l ++ rest) is.matches ∙ append_assoc is.header is.event_bytes rest
 
-  -- bytes tell one list of events
-  pub told_one : (xs : List ℕ) (ds es : List DescribedEvent) → TellsByEventDesc number xs ds → TellsByEventDesc number xs es → ds ≡ es
-  told_one xs ds es x y =
-      let long : length x.3.head ≡ length y.3.head = x.3.long ∙ sym y.3.long in
-      let cut = same_cut x.3.head (x.3.events ++ x.1) y.3.head (y.3.events ++ y.1) long (sym (told_cut xs ds x) ∙ told_cut xs es y) in
-      let are = subst (λ h. AreEvents number (size_in number h) x.3.events ds) cut.0 x.3.are in
-      events_one (size_in number y.3.head) ds es x.3.events y.3.events x.1 y.1 are y.3.are cut.1 (x.3.count ∙ ap (count_in number) cut.0 ∙ sym y.3.count)
+  -- bytes contain one list of events
+  pub event_desc_is_unique : (xs : List ℕ) (ds es : List DescribedEvent) → BeginsWithEventDesc number xs ds → BeginsWithEventDesc number xs es → ds ≡ es
+  event_desc_is_unique xs ds es x y =
+      let long : length x.3.header ≡ length y.3.header = x.3.exact_len ∙ sym y.3.exact_len in
+      let cut = same_split x.3.header (x.3.event_bytes ++ x.1) y.3.header (y.3.event_bytes ++ y.1) long (sym (event_desc_split xs ds x) ∙ event_desc_split xs es y) in
+      let are = subst (λ h. AreEvents number (frame_size_of number h) x.3.event_bytes ds) cut.0 x.3.elements in
+      events_one (frame_size_of number y.3.header) ds es x.3.event_bytes y.3.event_bytes x.1 y.1 are y.3.elements cut.1 (x.3.count ∙ ap (event_count_of number) cut.0 ∙ sym y.3.count)
 
-  -- bytes that tell events are never refused
-  pub told_or_refused : (err : Error) (xs : List ℕ) (ds : List DescribedEvent) → NoEventDesc number err xs → TellsByEventDesc number xs ds → ⊥
-  told_or_refused err xs ds (inl (short, few)) t =
-      let whole = ap length (told_cut xs ds t) in
-      let long = t.3.long in
-      omega (arith, few, whole, long, length-append t.3.head (t.3.events ++ t.1))
-  told_or_refused err xs ds (inr s) t =
-      let long : length s.head ≡ length t.3.head = s.long ∙ sym t.3.long in
-      let cut = same_cut s.head (s.came ++ s.rest) t.3.head (t.3.events ++ t.1) long (sym s.is ∙ told_cut xs ds t) in
-      let are = subst (λ h. AreEvents number (size_in number h) s.came s.before) cut.0 s.are in
-      let here = subst (λ h. IsNoEvent number (size_in number h) err s.rest) cut.0 s.here in
-      let few = s.few in
+  -- bytes that contain events have no error
+  pub event_desc_or_error : (err : Error) (xs : List ℕ) (ds : List DescribedEvent) → IsEventDescError number err xs → BeginsWithEventDesc number xs ds → ⊥
+  event_desc_or_error err xs ds (inl (short, few)) t =
+      let whole = ap length (event_desc_split xs ds t) in
+      let long = t.3.exact_len in
+      omega (arith, few, whole, long, length-append t.3.header (t.3.event_bytes ++ t.1))
+  event_desc_or_error err xs ds (inr s) t =
+      let long : length s.header ≡ length t.3.header = s.exact_len ∙ sym t.3.exact_len in
+      let cut = same_split s.header (s.bytes_before ++ s.rest) t.3.header (t.3.event_bytes ++ t.1) long (sym s.matches ∙ event_desc_split xs ds t) in
+      let are = subst (λ h. AreEvents number (frame_size_of number h) s.bytes_before s.before) cut.0 s.elements in
+      let here = subst (λ h. IsEventError number (frame_size_of number h) err s.rest) cut.0 s.error_here in
+      let few = s.too_few in
       let count = t.3.count in
-      let says : count_in number s.head ≡ count_in number t.3.head = ap (count_in number) cut.0 in
-      events_go_on (size_in number t.3.head) err s.before ds s.came s.rest t.3.events t.1 are t.3.are cut.1 (omega (arith, few, count, says)) here
+      let says : event_count_of number s.header ≡ event_count_of number t.3.header = ap (event_count_of number) cut.0 in
+      events_go_on (frame_size_of number t.3.header) err s.before ds s.bytes_before s.rest t.3.event_bytes t.1 are t.3.elements cut.1 (omega (arith, few, count, says)) here
 
   abbrev Tells : List ℕ → Type 0
-  Tells xs = (ds : List DescribedEvent) × TellsByEventDesc number xs ds
+  Tells xs = (ds : List DescribedEvent) × BeginsWithEventDesc number xs ds
 
-  told_events : (xs : List ℕ) → Tells xs → EventsHere (size_in number (take 8 xs)) (count_in number (take 8 xs)) (drop 8 xs)
+  told_events : (xs : List ℕ) → Tells xs → EventsHere (frame_size_of number (take 8 xs)) (event_count_of number (take 8 xs)) (drop 8 xs)
   told_events xs (ds, t) =
-      let cut = told_cut xs ds t in
-      let head : take 8 xs ≡ t.3.head = ap (take 8) cut ∙ take_front 8 t.3.head (t.3.events ++ t.1) t.3.long in
-      let later : drop 8 xs ≡ t.3.events ++ t.1 = ap (drop 8) cut ∙ drop_front 8 t.3.head (t.3.events ++ t.1) t.3.long in
-      let are = subst (λ h. AreEvents number (size_in number h) t.3.events ds) (sym head) t.3.are in
-      (ds, t.3.events, t.1, later, t.3.count ∙ ap (count_in number) (sym head), are)
+      let cut = event_desc_split xs ds t in
+      let head : take 8 xs ≡ t.3.header = ap (take 8) cut ∙ take_front 8 t.3.header (t.3.event_bytes ++ t.1) t.3.exact_len in
+      let later : drop 8 xs ≡ t.3.event_bytes ++ t.1 = ap (drop 8) cut ∙ drop_front 8 t.3.header (t.3.event_bytes ++ t.1) t.3.exact_len in
+      let are = subst (λ h. AreEvents number (frame_size_of number h) t.3.event_bytes ds) (sym head) t.3.elements in
+      (ds, t.3.event_bytes, t.1, later, t.3.count ∙ ap (event_count_of number) (sym head), are)
 
   told_head : (xs : List ℕ) → Tells xs → 8 ≤ length xs
   told_head xs (ds, t) =
-      let whole = ap length (told_cut xs ds t) in
-      let long = t.3.long in
-      omega (arith, whole, long, length-append t.3.head (t.3.events ++ t.1))
+      let whole = ap length (event_desc_split xs ds t) in
+      let long = t.3.exact_len in
+      omega (arith, whole, long, length-append t.3.header (t.3.event_bytes ++ t.1))
 
-  told_made : (xs : List ℕ) → 8 ≤ length xs → EventsHere (size_in number (take 8 xs)) (count_in number (take 8 xs)) (drop 8 xs) → Tells xs
+  told_made : (xs : List ℕ) → 8 ≤ length xs → EventsHere (frame_size_of number (take 8 xs)) (event_count_of number (take 8 xs)) (drop 8 xs) → Tells xs
   told_made xs long (ds, events, rest, cut, count, are) =
       let head = take 8 xs in (
         ds,
@@ -453,41 +453,41 @@ module _ (number : ℕ → List ℕ → ℕ) (first : ReadsFirst number) where
           head ++ events,
           rest,
           sym (take-append-drop 8 xs) ∙ ap (λ l. head ++ l) cut ∙ sym (append_assoc head events rest),
-          record { head = head; events = events; is = refl; long = length-take-le 8 xs long; count = count; are = are },
+          record { header = head; event_bytes = events; matches = refl; exact_len = length-take-le 8 xs long; count = count; elements = are },
         ),
       )
 
-  -- bytes tell events, or they don't
-  pub told_or_not : (xs : List ℕ) → ((ds : List DescribedEvent) × TellsByEventDesc number xs ds) ⊎ ¬ ((ds : List DescribedEvent) × TellsByEventDesc number xs ds)
-  told_or_not xs = elim (cases_lt (length xs) 8) [
+  -- bytes either contain events or don't
+  pub event_desc_or_not : (xs : List ℕ) → ((ds : List DescribedEvent) × BeginsWithEventDesc number xs ds) ⊎ ¬ ((ds : List DescribedEvent) × BeginsWithEventDesc number xs ds)
+  event_desc_or_not xs = elim (cases_lt (length xs) 8) [
     | inl short ↦ inr (λ t. let long = told_head xs t in omega (arith, short, long))
-    | inr long ↦ elim (events_or_not (size_in number (take 8 xs)) (count_in number (take 8 xs)) (drop 8 xs)) [
+    | inr long ↦ elim (events_or_not (frame_size_of number (take 8 xs)) (event_count_of number (take 8 xs)) (drop 8 xs)) [
       | inl all ↦ inl (told_made xs long all)
       | inr none ↦ inr (λ t. none (told_events xs t))
     ]
   ]
 
-  -- or some refusal of them is true
-  pub told_or_refusal : (short : Error) (xs : List ℕ) → IsShort short
-      → ((ds : List DescribedEvent) × TellsByEventDesc number xs ds)
-      ⊎ (NoEventDesc number short xs ⊎ (NoEventDesc number (Read OfAttr) xs ⊎ ((own : ℕ) × (all : ℕ) × NoEventDesc number (InconsistentAttributeSizes own all) xs)))
-  told_or_refusal short xs is = elim (cases_lt (length xs) 8) [
+  -- or they have one of the errors
+  pub event_desc_or_some_error : (short : Error) (xs : List ℕ) → IsUnexpectedEof short
+      → ((ds : List DescribedEvent) × BeginsWithEventDesc number xs ds)
+      ⊎ (IsEventDescError number short xs ⊎ (IsEventDescError number (Read OfAttr) xs ⊎ ((own : ℕ) × (all : ℕ) × IsEventDescError number (InconsistentAttributeSizes own all) xs)))
+  event_desc_or_some_error short xs is = elim (cases_lt (length xs) 8) [
     | inl few ↦ inr (inl (inl (is, few)))
     | inr long ↦
         let head = take 8 xs in
-        elim (events_or_refusal (size_in number head) short is (count_in number head) (drop 8 xs)) [
+        elim (events_or_refusal (frame_size_of number head) short is (event_count_of number head) (drop 8 xs)) [
           | inl all ↦ inl (told_made xs long all)
-          | inr none ↦ inr (refusal_of (size_in number head) short (StopsHere (size_in number head) (count_in number head) (drop 8 xs)) (λ e. NoEventDesc number e xs)
+          | inr none ↦ inr (refusal_of (frame_size_of number head) short (StopsHere (frame_size_of number head) (event_count_of number head) (drop 8 xs)) (λ e. IsEventDescError number e xs)
               (λ e s. inr (record {
-                head = head;
-                came = s.1;
+                header = head;
+                bytes_before = s.1;
                 rest = s.2;
                 before = s.0;
-                is = sym (take-append-drop 8 xs) ∙ ap (λ l. head ++ l) s.3;
-                long = length-take-le 8 xs long;
-                few = s.4;
-                are = s.5;
-                here = s.6;
+                matches = sym (take-append-drop 8 xs) ∙ ap (λ l. head ++ l) s.3;
+                exact_len = length-take-le 8 xs long;
+                too_few = s.4;
+                elements = s.5;
+                error_here = s.6;
               })) none)
         ]
   ]

@@ -1,10 +1,10 @@
-pub mod Runs
+pub mod ItemRuns
 pub mod Frames
-pub mod Parts
+pub mod PartLemmas
 pub mod Texts
 pub mod Pmus
 pub mod IdLists
 pub mod Entries
 pub mod Events
-pub mod EventFronts
-pub mod EventRefusals
+pub mod EventPrefixes
+pub mod EventErrors

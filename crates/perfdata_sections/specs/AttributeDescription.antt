@@ -1,28 +1,28 @@
--- What the description of an attribute tells.
+-- The contents of an `AttributeDescription`.
 use Rattle.std.specs.Prelude.{ℕ, List, map, Option, string_bytes}
 use Rattle.std.specs.Option.{option_map}
 use Rattle.perfdata_base.specs.declared.attr.PerfEventAttr.{PerfEventAttr}
 use Rattle.perfdata_sections.specs.declared.feature_sections.AttributeDescription.{AttributeDescription}
 
--- the attribute
+-- The attribute.
 abbrev pub attr_in : AttributeDescription → PerfEventAttr
 attr_in d = d.attr
 
--- the bytes of its name
+-- The bytes of the event's name.
 abbrev pub name_in : AttributeDescription → Option (List ℕ)
 name_in d = option_map string_bytes d.name
 
--- its ids
+-- The ids of the event's records.
 abbrev pub ids_in : AttributeDescription → List ℕ
 ids_in d = d.event_ids.items
 
--- an attribute with the bytes of its name and with its ids, as plain values
+-- An attribute, the bytes of its name, and its ids, as plain values.
 pub record DescribedEvent : Type 0 where
   pub attr : PerfEventAttr
   pub name : Option (List ℕ)
   pub ids : List ℕ
 
--- all that a description tells
+-- The contents of a description as plain values.
 abbrev pub event_in : AttributeDescription → DescribedEvent
 event_in d = record { attr = attr_in d; name = name_in d; ids = ids_in d }
 

@@ -1,27 +1,27 @@
--- The ids of an event: numbers of eight bytes each, one behind another.
+-- The ids of an event: consecutive numbers of eight bytes each.
 use Rattle.std.specs.Prelude.{◌≡◌, ℕ, zero, suc, ◌*◌, ◌≤◌, List, [], ◌∷◌, length, drop, Result, Ok, Err, Vec}
 use Rattle.std.specs.declared.alloc.Global.{Global}
-use Rattle.perfdata_base.specs.Source.{State, CutShort}
-use Rattle.perfdata_base.specs.declared.source.AppendFault.{AppendFault}
-use Rattle.perfdata_base.specs.declared.source.AppendFault.TheVariants.{Memory, Source}
-use Rattle.perfdata_sections.specs.Part.{Took, CameSome}
+use Rattle.perfdata_base.specs.Source.{State, ReadExactError}
+use Rattle.perfdata_base.specs.declared.source.AppendError.{AppendError}
+use Rattle.perfdata_base.specs.declared.source.AppendError.TheVariants.{Memory, Source}
+use Rattle.perfdata_sections.specs.ParsedPart.{PartRead, PartPartlyRead}
 
--- so many numbers of eight bytes, one behind another
-abbrev pub numbers : (ℕ → List ℕ → ℕ) → ℕ → List ℕ → List ℕ
-numbers number zero bytes = []
-numbers number (suc n) bytes = number 8 bytes ∷ numbers number n (drop 8 bytes)
+-- The first numbers of eight bytes each.
+abbrev pub u64s_of : (ℕ → List ℕ → ℕ) → ℕ → List ℕ → List ℕ
+u64s_of number zero bytes = []
+u64s_of number (suc n) bytes = number 8 bytes ∷ u64s_of number n (drop 8 bytes)
 
 module _ (number : ℕ → List ℕ → ℕ) (count : ℕ) where
-  -- these bytes are so many ids
+  -- `xs` consists of exactly `count` ids.
   abbrev pub AreIds : List ℕ → List ℕ → Type 0
-  AreIds xs ids = (length xs ≡ 8 * count) × (ids ≡ numbers number count xs)
+  AreIds xs ids = (length xs ≡ 8 * count) × (ids ≡ u64s_of number count xs)
 
-  -- these bytes begin with so many
-  abbrev pub BeginWithIds : List ℕ → List ℕ → Type 0
-  BeginWithIds xs ids = (8 * count ≤ length xs) × (ids ≡ numbers number count xs)
+  -- `xs` starts with `count` ids.
+  abbrev pub BeginsWithIds : List ℕ → List ℕ → Type 0
+  BeginsWithIds xs ids = (8 * count ≤ length xs) × (ids ≡ u64s_of number count xs)
 
-  -- what a reading of so many at the front of a source does
-  abbrev pub ReadsIds : State → Result (Vec ℕ Global) AppendFault → State → Type 0
-  ReadsIds old (Ok v) new = Took AreIds old v.items new
-  ReadsIds old (Err Memory) new = CameSome (λ xs. length xs ≤ 8 * count) old new
-  ReadsIds old (Err (Source e)) new = CutShort old (8 * count) e new
+  -- What reading `count` ids at the source's position does.
+  abbrev pub ReadsIds : State → Result (Vec ℕ Global) AppendError → State → Type 0
+  ReadsIds old (Ok v) new = PartRead AreIds old v.items new
+  ReadsIds old (Err Memory) new = PartPartlyRead (λ xs. length xs ≤ 8 * count) old new
+  ReadsIds old (Err (Source e)) new = ReadExactError old (8 * count) e new

@@ -1,212 +1,214 @@
--- The event types section: entries of a frame and of where the ids of its event stand (`perf_file_attr` of Linux's perf).
+-- The event types section. An entry consists of a frame and the section of the event's ids (`perf_file_attr` of Linux's perf).
 use Rattle.std.specs.Prelude.{◌≡◌, ◌≢◌, ℕ, ◌+◌, ◌*◌, ◌/◌, ◌^◌, ◌<◌, ◌≤◌, ◌⊎◌, List, [], ◌∷◌, ◌++◌, length, drop, slice_get, Option, Some, Result, Ok, Err, IfSome, Vec, String, string_bytes}
 use Rattle.std.specs.Option.{option_map}
 use Rattle.std.specs.declared.alloc.Global.{Global}
-use Rattle.perfdata_base.specs.Source.{State, Place, Stood, put_at, all_of}
-use Rattle.perfdata_base.specs.Section.{IsSection}
+use Rattle.perfdata_base.specs.Source.{State, Position, AfterSeek, at_offset, all_bytes_of}
+use Rattle.perfdata_base.specs.Section.{IsSectionEntry}
 use Rattle.perfdata_base.specs.declared.attr.PerfEventAttr.{PerfEventAttr}
 use Rattle.perfdata_base.specs.declared.section.PerfFileSection.{PerfFileSection}
 use Rattle.perfdata_sections.specs.AttributeDescription.{attr_in, name_in, ids_in}
-use Rattle.perfdata_sections.specs.Attributes.{IsFramed, IsNoFrame, SeesNoFrame, IsUnread}
-use Rattle.perfdata_sections.specs.Error.{IsShort}
-use Rattle.perfdata_sections.specs.EventIds.{BeginWithIds}
-use Rattle.perfdata_sections.specs.Run.{SomeBytes, RefusedAt, IsShortOf, IsUnreadOf, IsFewer, Run, IsRun, TookRun, StopsRunBy, ReadsAt, ReadsAtBy, ReadsRunBy}
+use Rattle.perfdata_sections.specs.AttrFrames.{IsAttrInFrame, IsFrameError, ConsumesFrameError, IsFrameReadError}
+use Rattle.perfdata_sections.specs.Error.{IsUnexpectedEof}
+use Rattle.perfdata_sections.specs.EventIds.{BeginsWithIds}
+use Rattle.perfdata_sections.specs.Items.{SomeBytes, ReadOrSeekErrorAt, IsTruncationOf, IsReadErrorOf, IsShorterThan, ItemsAt, AreItems, ItemsRead, ItemsReadErrorBy, ReadsItemAt, ReadsItemAtBy, ReadsItemsBy}
 use Rattle.perfdata_sections.specs.declared.feature_sections.AttributeDescription.{AttributeDescription}
-use Rattle.perfdata_sections.specs.declared.feature_sections.event_types.Entry.{Entry}
+use Rattle.perfdata_sections.specs.declared.feature_sections.event_types.EventTypeEntry.{EventTypeEntry}
 use Rattle.perfdata_sections.specs.declared.event_type.SimplePerfEventType.{SimplePerfEventType}
 use Rattle.perfdata_sections.specs.declared.error.Error.{Error}
 use Rattle.perfdata_sections.specs.declared.error.Error.TheVariants.{Read, Memory}
 use Rattle.perfdata_sections.specs.declared.error.ReadError.TheVariants.{PerfEventAttr as OfAttr}
 
--- the name of the event type at an index, or none where there is no such type
-abbrev pub name_at : List SimplePerfEventType → ℕ → Option (List ℕ)
-name_at types i = option_map (λ t. string_bytes t.name) (slice_get types i)
+-- The name of the event type at an index, or `None` if there is no such type.
+abbrev pub type_name_at : List SimplePerfEventType → ℕ → Option (List ℕ)
+type_name_at types i = option_map (λ t. string_bytes t.name) (slice_get types i)
 
--- what a copying of a name does
-abbrev pub TellsName : Option (List ℕ) → Result (Option (String Global)) Error → Type 0
-TellsName name (Ok copy) = option_map string_bytes copy ≡ name
-TellsName name (Err e) = e ≡ Memory
+-- What cloning a name does.
+abbrev pub CopiesName : Option (List ℕ) → Result (Option (String Global)) Error → Type 0
+CopiesName name (Ok copy) = option_map string_bytes copy ≡ name
+CopiesName name (Err e) = e ≡ Memory
 
--- a section that ends within 64 bits
-abbrev pub IsNear : PerfFileSection → Type 0
-IsNear s = s.offset + s.size < 2 ^ 64
+-- The end of the section is below 2^64.
+abbrev pub EndFitsU64 : PerfFileSection → Type 0
+EndFitsU64 s = s.offset + s.size < 2 ^ 64
 
--- one that doesn't
-abbrev pub IsFar : PerfFileSection → Type 0
-IsFar s = 2 ^ 64 ≤ s.offset + s.size
+-- The end of the section is 2^64 or above.
+abbrev pub EndOverflowsU64 : PerfFileSection → Type 0
+EndOverflowsU64 s = 2 ^ 64 ≤ s.offset + s.size
 
--- the place behind the whole ids that a section has room for
+-- The offset after the last whole id of a section.
 abbrev pub ids_end : PerfFileSection → ℕ
 ids_end s = s.offset + 8 * (s.size / 8)
 
--- the place behind the ids of these entries, or that before them where there are no entries
-abbrev pub behind_ids : Option Place → List Entry → Option Place
-behind_ids place [] = place
-behind_ids place (entry ∷ entries) = behind_ids (put_at (ids_end entry.ids) place) entries
+-- The position after the ids of these entries, or the given position if there are no entries.
+abbrev pub position_after_ids : Option Position → List EventTypeEntry → Option Position
+position_after_ids place [] = place
+position_after_ids place (entry ∷ entries) = position_after_ids (at_offset (ids_end entry.ids) place) entries
 
--- the source wasn't touched behind the ids of these entries, the first of which were sought from a place
-pub record StandsBehindIds (old : State) (start : Option Place) (entries : List Entry) (new : State) : Type 0 where
-  pub place : new.place ≡ behind_ids start entries
+-- The source's position is after the ids of `entries`, or `start` if there are none. Its number of pauses is unchanged.
+pub record IsAfterIds (old : State) (start : Option Position) (entries : List EventTypeEntry) (new : State) : Type 0 where
+  pub position : new.position ≡ position_after_ids start entries
   pub pauses : new.pauses ≡ old.pauses
 
 module _ (number : ℕ → List ℕ → ℕ) where
-  -- ---- an entry
+  -- ---- entries
 
-  -- these bytes begin with this entry of a section
-  abbrev pub IsSectionThere : List ℕ → PerfFileSection → Type 0
-  IsSectionThere xs s = (16 ≤ length xs) × IsSection number xs s
+  -- `xs` starts with this section entry.
+  abbrev pub HoldsSectionEntry : List ℕ → PerfFileSection → Type 0
+  HoldsSectionEntry xs s = (16 ≤ length xs) × IsSectionEntry number xs s
 
-  -- what a reading of it at a place does
-  abbrev pub ReadsSectionAt : State → ℕ → Result PerfFileSection Error → State → Type 0
-  ReadsSectionAt old at result new = ReadsAt IsSectionThere (IsShortOf (IsFewer 16)) (IsUnreadOf (IsFewer 16)) old at result new
+  -- What reading a section entry at an offset does.
+  abbrev pub ReadsSectionEntryAt : State → ℕ → Result PerfFileSection Error → State → Type 0
+  ReadsSectionEntryAt old at result new = ReadsItemAt HoldsSectionEntry (IsTruncationOf (IsShorterThan 16)) (IsReadErrorOf (IsShorterThan 16)) old at result new
 
   module _ (attr_size : ℕ) where
-    -- these bytes begin with a frame, and behind it stands where its ids are
-    pub record IsEntry (xs : List ℕ) (entry : Entry) : Type 0 where
-      pub framed : IsFramed number attr_size xs entry.attr
-      pub ids : IsSectionThere (drop attr_size xs) entry.ids
+    -- `xs` starts with a frame and the section entry of its ids.
+    pub record IsEventTypeEntry (xs : List ℕ) (entry : EventTypeEntry) : Type 0 where
+      pub attr_in_frame : IsAttrInFrame number attr_size xs entry.attr
+      pub ids : HoldsSectionEntry (drop attr_size xs) entry.ids
 
-    -- they begin with no frame, or with one, and behind it there are too few bytes
-    abbrev pub IsNoEntry : Error → List ℕ → Type 0
-    IsNoEntry e xs = IsNoFrame number attr_size e xs ⊎ (((a : PerfEventAttr) × IsFramed number attr_size xs a) × IsShort e × (length (drop attr_size xs) < 16))
+    -- `xs` doesn't start with a frame, or has fewer than 16 bytes after the frame.
+    abbrev pub IsEventTypeEntryError : Error → List ℕ → Type 0
+    IsEventTypeEntryError e xs = IsFrameError number attr_size e xs ⊎ (((a : PerfEventAttr) × IsAttrInFrame number attr_size xs a) × IsUnexpectedEof e × (length (drop attr_size xs) < 16))
 
-    -- a frame came from a place, and what should stand behind it wasn't read
-    pub record CutEntry (old : State) (at : ℕ) (e : Error) (new : State) : Type 0 where
+    -- A frame at the offset `at` is read, and reading the section entry after it fails.
+    pub record IdsEntryReadError (old : State) (at : ℕ) (e : Error) (new : State) : Type 0 where
       pub attr : PerfEventAttr
-      pub some : SomeBytes (λ xs. IsFramed number attr_size xs attr)
-      pub is : IfSome (all_of old.place) (λ all. IsFramed number attr_size (drop at all) attr)
-      pub next : RefusedAt (IsShortOf (IsFewer 16)) (IsUnreadOf (IsFewer 16)) old (at + attr_size) e new
+      pub is_possible : SomeBytes (λ xs. IsAttrInFrame number attr_size xs attr)
+      pub matches : IfSome (all_bytes_of old.position) (λ all. IsAttrInFrame number attr_size (drop at all) attr)
+      pub error : ReadOrSeekErrorAt (IsTruncationOf (IsShorterThan 16)) (IsReadErrorOf (IsShorterThan 16)) old (at + attr_size) e new
 
-    -- an entry wasn't read from a place: its frame wasn't, or what stands behind it
-    abbrev pub RefusedEntry : State → ℕ → Error → State → Type 0
-    RefusedEntry old at e new = RefusedAt (SeesNoFrame number attr_size) (IsUnread number attr_size) old at e new ⊎ CutEntry old at e new
+    -- Reading an entry at an offset fails at its frame or at the section entry after the frame.
+    abbrev pub EventTypeEntryReadError : State → ℕ → Error → State → Type 0
+    EventTypeEntryReadError old at e new = ReadOrSeekErrorAt (ConsumesFrameError number attr_size) (IsFrameReadError number attr_size) old at e new ⊎ IdsEntryReadError old at e new
 
-    -- what a reading of an entry at a place does
-    abbrev pub ReadsEntryAt : State → ℕ → Result Entry Error → State → Type 0
-    ReadsEntryAt old at result new = ReadsAtBy IsEntry RefusedEntry old at result new
+    -- What reading an entry at an offset does.
+    abbrev pub ReadsEventTypeEntryAt : State → ℕ → Result EventTypeEntry Error → State → Type 0
+    ReadsEventTypeEntryAt old at result new = ReadsItemAtBy IsEventTypeEntry EventTypeEntryReadError old at result new
 
-    -- what a reading of all entries of a section does
-    abbrev pub ReadsEntries : State → PerfFileSection → Result (Vec Entry Global) Error → State → Type 0
-    ReadsEntries old s result new = ReadsRunBy IsEntry RefusedEntry (attr_size + 16) old s.offset s.size result new
+    -- What reading all whole entries of a section does.
+    abbrev pub ReadsEventTypeEntries : State → PerfFileSection → Result (Vec EventTypeEntry Global) Error → State → Type 0
+    ReadsEventTypeEntries old s result new = ReadsItemsBy IsEventTypeEntry EventTypeEntryReadError (attr_size + 16) old s.offset s.size result new
 
   -- ---- the ids of an entry
 
-  -- the ids that a section holds, as many whole ones as it has room for
-  pub record IsIdsOf (told : Option (List ℕ)) (s : PerfFileSection) (ids : List ℕ) : Type 0 where
-    pub near : IsNear s
+  -- `ids` has one element for each whole id of the section. They are the ids in the section if all bytes are known.
+  pub record AreSectionIds (told : Option (List ℕ)) (s : PerfFileSection) (ids : List ℕ) : Type 0 where
+    pub end_fits : EndFitsU64 s
     pub count : length ids ≡ s.size / 8
-    pub are : IfSome told (λ all. BeginWithIds number (s.size / 8) (drop s.offset all) ids)
+    pub elements : IfSome told (λ all. BeginsWithIds number (s.size / 8) (drop s.offset all) ids)
 
-  -- a section holds no such ids, as all bytes show: it ends too far, or its last whole id does
-  abbrev pub IsNoIds : Error → PerfFileSection → List ℕ → Type 0
-  IsNoIds e s all = (IsFar s × (e ≡ Read OfAttr)) ⊎ (IsNear s × IsShort e × (length (drop s.offset all) < 8 * (s.size / 8)))
+  -- The section doesn't contain its ids: its end is 2^64 or above, or its last whole id is truncated.
+  abbrev pub IsSectionIdsError : Error → PerfFileSection → List ℕ → Type 0
+  IsSectionIdsError e s all = (EndOverflowsU64 s × (e ≡ Read OfAttr)) ⊎ (EndFitsU64 s × IsUnexpectedEof e × (length (drop s.offset all) < 8 * (s.size / 8)))
 
-  -- The ids of a section weren't read: it ends too far, and the source is as `Stands` says; or they weren't read from their place.
-  abbrev pub RefusedIds : (State → Type 0) → State → PerfFileSection → Error → State → Type 0
-  RefusedIds Stands old s e new = (IsFar s × (e ≡ Read OfAttr) × Stands new) ⊎ (IsNear s × RefusedAt (IsShortOf (IsFewer (8 * (s.size / 8)))) (IsUnreadOf (IsFewer (8 * (s.size / 8)))) old s.offset e new)
+  -- Reading the ids of a section fails. Either its end is 2^64 or above, and `Stands` holds for the source; or reading them at
+  -- their offset fails.
+  abbrev pub SectionIdsReadError : (State → Type 0) → State → PerfFileSection → Error → State → Type 0
+  SectionIdsReadError Stands old s e new = (EndOverflowsU64 s × (e ≡ Read OfAttr) × Stands new) ⊎ (EndFitsU64 s × ReadOrSeekErrorAt (IsTruncationOf (IsShorterThan (8 * (s.size / 8)))) (IsReadErrorOf (IsShorterThan (8 * (s.size / 8)))) old s.offset e new)
 
-  -- what a reading of them does; where their section ends too far, the source isn't touched
-  abbrev pub ReadsIdsOf : State → PerfFileSection → Result (Vec ℕ Global) Error → State → Type 0
-  ReadsIdsOf old s (Ok v) new = Stood old new × IsIdsOf (all_of old.place) s v.items
-  ReadsIdsOf old s (Err e) new = Stood old new × (e ≢ Memory → RefusedIds (λ left. left ≡ old) old s e new)
+  -- What reading the ids of a section does. If the end of the section is 2^64 or above, the source is unchanged.
+  abbrev pub ReadsSectionIds : State → PerfFileSection → Result (Vec ℕ Global) Error → State → Type 0
+  ReadsSectionIds old s (Ok v) new = AfterSeek old new × AreSectionIds (all_bytes_of old.position) s v.items
+  ReadsSectionIds old s (Err e) new = AfterSeek old new × (e ≢ Memory → SectionIdsReadError (λ left. left ≡ old) old s e new)
 
-  -- ---- what entries describe
+  -- ---- descriptions
 
   module _ (told : Option (List ℕ)) (names : ℕ → Option (List ℕ)) where
-    -- an entry is described: its attribute, the name that its place has, the ids of its section
-    pub record IsGiven (i : ℕ) (entry : Entry) (d : AttributeDescription) : Type 0 where
+    -- `d` describes an entry: its attribute, the name for its index, and the ids of its section.
+    pub record IsEntryDescription (i : ℕ) (entry : EventTypeEntry) (d : AttributeDescription) : Type 0 where
       pub attr : attr_in d ≡ entry.attr
       pub name : name_in d ≡ names i
-      pub ids : IsIdsOf told entry.ids (ids_in d)
+      pub ids : AreSectionIds told entry.ids (ids_in d)
 
-    -- entries are described one by one, the first of them being that of index i
-    abbrev pub Given : ℕ → List Entry → List AttributeDescription → Type 0
-    Given i [] [] = Unit {0}
-    Given i [] (d ∷ ds) = ⊥
-    Given i (entry ∷ entries) [] = ⊥
-    Given i (entry ∷ entries) (d ∷ ds) = IsGiven i entry d × Given (i + 1) entries ds
+    -- The descriptions describe the entries one by one. The first has the index `i`.
+    abbrev pub AreEntryDescriptions : ℕ → List EventTypeEntry → List AttributeDescription → Type 0
+    AreEntryDescriptions i [] [] = Unit {0}
+    AreEntryDescriptions i [] (d ∷ ds) = ⊥
+    AreEntryDescriptions i (entry ∷ entries) [] = ⊥
+    AreEntryDescriptions i (entry ∷ entries) (d ∷ ds) = IsEntryDescription i entry d × AreEntryDescriptions (i + 1) entries ds
 
-    -- the first entries are described, and the ids of the next aren't, as this says of those and of its section
-    pub record StopsGiven (entries : List Entry) (Stops : List Entry → PerfFileSection → Type 0) : Type 0 where
-      pub before : List Entry
-      pub next : Entry
-      pub after : List Entry
-      pub are : entries ≡ before ++ next ∷ after
-      pub ds : List AttributeDescription
-      pub given : Given 0 before ds
-      pub here : Stops before next.ids
+    -- The entries `before` are described, and `Stops` holds for them and the section of the next entry's ids.
+    pub record ErrorAtSectionIds (entries : List EventTypeEntry) (Stops : List EventTypeEntry → PerfFileSection → Type 0) : Type 0 where
+      pub before : List EventTypeEntry
+      pub failing_entry : EventTypeEntry
+      pub after : List EventTypeEntry
+      pub elements : entries ≡ before ++ failing_entry ∷ after
+      pub descriptions : List AttributeDescription
+      pub descriptions_match : AreEntryDescriptions 0 before descriptions
+      pub error_here : Stops before failing_entry.ids
 
-  -- What a reading of what entries describe does. Where ids end too far, the source stands behind those before them. No reason is told where memory
-  -- ran out.
-  abbrev pub ReadsGivenOf : (ℕ → Option (List ℕ)) → State → List Entry → Result (Vec AttributeDescription Global) Error → State → Type 0
-  ReadsGivenOf names old entries (Ok v) new = Stood old new × Given (all_of old.place) names 0 entries v.items
-  ReadsGivenOf names old entries (Err e) new = Stood old new × (e ≢ Memory → StopsGiven (all_of old.place) names entries (λ before s. RefusedIds (StandsBehindIds old old.place before) old s e new))
+  -- What describing entries does. If the end of an id section is 2^64 or above, the source's position is after the ids before it.
+  -- If memory runs out, no cause is specified.
+  abbrev pub DescribesEntries : (ℕ → Option (List ℕ)) → State → List EventTypeEntry → Result (Vec AttributeDescription Global) Error → State → Type 0
+  DescribesEntries names old entries (Ok v) new = AfterSeek old new × AreEntryDescriptions (all_bytes_of old.position) names 0 entries v.items
+  DescribesEntries names old entries (Err e) new = AfterSeek old new × (e ≢ Memory → ErrorAtSectionIds (all_bytes_of old.position) names entries (λ before s. SectionIdsReadError (IsAfterIds old old.position before) old s e new))
 
   -- ---- the section
 
   module _ (attr_size : ℕ) (names : ℕ → Option (List ℕ)) (section : PerfFileSection) where
-    -- no list can stand there, whatever the bytes are
-    abbrev pub IsTooFar : Type 0
-    IsTooFar = (2 ^ 64 ≤ attr_size + 16) ⊎ IsFar section
+    -- The section is invalid whatever the bytes are: the size of an entry or the end of the section is 2^64 or above.
+    abbrev pub IsOutOfRange : Type 0
+    IsOutOfRange = (2 ^ 64 ≤ attr_size + 16) ⊎ EndOverflowsU64 section
 
-    -- the section holds as many entries as it has room for, and they are described by these
+    -- The section contains as many entries as fit into its size, and these describe them.
     pub record DescribesByEntries (all : List ℕ) (ds : List AttributeDescription) : Type 0 where
-      pub entries : List Entry
-      pub run : IsRun (IsEntry attr_size) (attr_size + 16) section.offset section.size all entries
-      pub given : Given (Some all) names 0 entries ds
+      pub entries : List EventTypeEntry
+      pub entries_match : AreItems (IsEventTypeEntry attr_size) (attr_size + 16) section.offset section.size all entries
+      pub descriptions_match : AreEntryDescriptions (Some all) names 0 entries ds
 
-    -- the first entries stand there, fewer than it has room for, and the next is none, as this error says
-    pub record StopsAtEntry (e : Error) (all : List ℕ) : Type 0 where
-      pub before : List Entry
-      pub few : length before < section.size / (attr_size + 16)
-      pub each : Run (IsEntry attr_size) (attr_size + 16) all section.offset before
-      pub here : IsNoEntry attr_size e (drop (section.offset + length before * (attr_size + 16)) all)
+    -- The first entries are valid, fewer than fit into the section, and `e` is the error of the next.
+    pub record ErrorAtEntry (e : Error) (all : List ℕ) : Type 0 where
+      pub before : List EventTypeEntry
+      pub too_few : length before < section.size / (attr_size + 16)
+      pub items_match : ItemsAt (IsEventTypeEntry attr_size) (attr_size + 16) all section.offset before
+      pub error_here : IsEventTypeEntryError attr_size e (drop (section.offset + length before * (attr_size + 16)) all)
 
-    -- all entries stand there, and the ids of one aren't there, as this error says
-    pub record StopsAtIds (e : Error) (all : List ℕ) : Type 0 where
-      pub entries : List Entry
-      pub run : IsRun (IsEntry attr_size) (attr_size + 16) section.offset section.size all entries
-      pub stops : StopsGiven (Some all) names entries (λ before s. IsNoIds e s all)
+    -- All entries are valid, and `e` is the error of the ids of one of them.
+    pub record ErrorAtIds (e : Error) (all : List ℕ) : Type 0 where
+      pub entries : List EventTypeEntry
+      pub entries_match : AreItems (IsEventTypeEntry attr_size) (attr_size + 16) section.offset section.size all entries
+      pub error : ErrorAtSectionIds (Some all) names entries (λ before s. IsSectionIdsError e s all)
 
-    -- the first thing that isn't there
-    abbrev pub NoEntries : Error → List ℕ → Type 0
-    NoEntries e all = StopsAtEntry e all ⊎ StopsAtIds e all
+    -- The first error in the section.
+    abbrev pub IsEntriesError : Error → List ℕ → Type 0
+    IsEntriesError e all = ErrorAtEntry e all ⊎ ErrorAtIds e all
 
-    -- all entries came, and are described by these
-    pub record TookEntries (old : State) (ds : List AttributeDescription) (new : State) : Type 0 where
-      pub entries : List Entry
-      pub run : TookRun (IsEntry attr_size) (attr_size + 16) old section.offset section.size entries new
-      pub given : Given (all_of old.place) names 0 entries ds
+    -- All entries are read, and these describe them.
+    pub record EntriesRead (old : State) (ds : List AttributeDescription) (new : State) : Type 0 where
+      pub entries : List EventTypeEntry
+      pub entries_match : ItemsRead (IsEventTypeEntry attr_size) (attr_size + 16) old section.offset section.size entries new
+      pub descriptions_match : AreEntryDescriptions (all_bytes_of old.position) names 0 entries ds
 
-    -- All entries came, and the ids of one weren't read. Where these end too far, the source stands behind the ids before them, or behind the last entry.
-    pub record StopsIds (old : State) (e : Error) (new : State) : Type 0 where
-      pub entries : List Entry
-      pub run : TookRun (IsEntry attr_size) (attr_size + 16) old section.offset section.size entries new
-      pub stops : StopsGiven (all_of old.place) names entries
-          (λ before s. RefusedIds (StandsBehindIds old (put_at (section.offset + length entries * (attr_size + 16)) old.place) before) old s e new)
+    -- All entries are read, and reading the ids of one of them fails. If the end of these ids is 2^64 or above, the source's
+    -- position is after the ids before them, or after the last entry.
+    pub record IdsReadError (old : State) (e : Error) (new : State) : Type 0 where
+      pub entries : List EventTypeEntry
+      pub entries_match : ItemsRead (IsEventTypeEntry attr_size) (attr_size + 16) old section.offset section.size entries new
+      pub error : ErrorAtSectionIds (all_bytes_of old.position) names entries
+          (λ before s. SectionIdsReadError (IsAfterIds old (at_offset (section.offset + length entries * (attr_size + 16)) old.position) before) old s e new)
 
-    -- the first thing that wasn't read: an entry, or ids, of which none are read before all entries
-    abbrev pub StopsEntries : State → Error → State → Type 0
-    StopsEntries old e new = StopsRunBy (IsEntry attr_size) (RefusedEntry attr_size) (attr_size + 16) old section.offset section.size e new ⊎ StopsIds old e new
+    -- The first failure: of an entry or, after all entries are read, of ids.
+    abbrev pub EntriesReadError : State → Error → State → Type 0
+    EntriesReadError old e new = ItemsReadErrorBy (IsEventTypeEntry attr_size) (EventTypeEntryReadError attr_size) (attr_size + 16) old section.offset section.size e new ⊎ IdsReadError old e new
 
-    -- what a reading of the section does, where a list can stand there; no reason is told where memory ran out
-    abbrev pub ReadsGiven : State → Result (Vec AttributeDescription Global) Error → State → Type 0
-    ReadsGiven old (Ok v) new = TookEntries old v.items new
-    ReadsGiven old (Err e) new = Stood old new × (e ≢ Memory → StopsEntries old e new)
+    -- What reading the section does if it isn't invalid. If memory runs out, no cause is specified.
+    abbrev pub ReadsDescriptionsInRange : State → Result (Vec AttributeDescription Global) Error → State → Type 0
+    ReadsDescriptionsInRange old (Ok v) new = EntriesRead old v.items new
+    ReadsDescriptionsInRange old (Err e) new = AfterSeek old new × (e ≢ Memory → EntriesReadError old e new)
 
-    -- what a reading of the section does; where no list can stand there, the source isn't touched
-    abbrev pub ReadsDescribed : State → Result (Vec AttributeDescription Global) Error → State → Type 0
-    ReadsDescribed old (Ok v) new = (¬ IsTooFar) × ReadsGiven old (Ok v) new
-    ReadsDescribed old (Err e) new = (IsTooFar × (e ≡ Read OfAttr) × (new ≡ old)) ⊎ ((¬ IsTooFar) × ReadsGiven old (Err e) new)
+    -- What reading the section does. An invalid section leaves the source unchanged.
+    abbrev pub ReadsDescriptions : State → Result (Vec AttributeDescription Global) Error → State → Type 0
+    ReadsDescriptions old (Ok v) new = (¬ IsOutOfRange) × ReadsDescriptionsInRange old (Ok v) new
+    ReadsDescriptions old (Err e) new = (IsOutOfRange × (e ≡ Read OfAttr) × (new ≡ old)) ⊎ ((¬ IsOutOfRange) × ReadsDescriptionsInRange old (Err e) new)
 
-  -- the event types section holds these attributes and no others, without names
+  -- The event types section contains exactly these attributes, without names.
   abbrev pub DescribesByEventTypes : ℕ → PerfFileSection → List ℕ → List AttributeDescription → Type 0
-  DescribesByEventTypes attr_size section all ds = DescribesByEntries attr_size (name_at []) section all ds
+  DescribesByEventTypes attr_size section all ds = DescribesByEntries attr_size (type_name_at []) section all ds
 
-  -- the first thing of the event types section that isn't there
-  abbrev pub NoEventTypes : ℕ → PerfFileSection → Error → List ℕ → Type 0
-  NoEventTypes attr_size section e all = NoEntries attr_size (name_at []) section e all
+  -- The first error in the event types section.
+  abbrev pub IsEventTypesError : ℕ → PerfFileSection → Error → List ℕ → Type 0
+  IsEventTypesError attr_size section e all = IsEntriesError attr_size (type_name_at []) section e all
 
-  -- what a reading of the event types section does
+  -- What reading the event types section does.
   abbrev pub ReadsEventTypes : ℕ → PerfFileSection → State → Result (Vec AttributeDescription Global) Error → State → Type 0
-  ReadsEventTypes attr_size section old result new = ReadsDescribed attr_size (name_at []) section old result new
+  ReadsEventTypes attr_size section old result new = ReadsDescriptions attr_size (type_name_at []) section old result new

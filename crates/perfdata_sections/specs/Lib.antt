@@ -1,11 +1,11 @@
 pub mod Error
-pub mod Run
+pub mod Items
 pub mod AttributeDescription
-pub mod Attributes
-pub mod Part
+pub mod AttrFrames
+pub mod ParsedPart
 pub mod NumberSections
-pub mod Strings
-pub mod Pmu
+pub mod HeaderString
+pub mod PmuMappings
 pub mod EventIds
 pub mod EventTypes
 pub mod SimpleperfAttrs

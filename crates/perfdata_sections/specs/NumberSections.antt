@@ -1,14 +1,14 @@
--- The sections of numbers, as their bytes describe them.
+-- The sections that consist of numbers.
 use Rattle.std.specs.Prelude.{◌≡◌, ◌≢◌, ℕ, ◌<◌, ◌≤◌, ◌⊎◌, List, length, drop, Result, Ok, Err}
 use Rattle.std.specs.IoError.{error_kind}
 use Rattle.std.specs.declared.io.Error.{Error}
 use Rattle.std.specs.declared.io.ErrorKind.TheVariants.{InvalidData}
-use Rattle.perfdata_base.specs.Source.{State, Gave}
-use Rattle.perfdata_sections.specs.Part.{Took, Stopped}
-use Rattle.perfdata_sections.specs.declared.feature_sections.numbers.NrCpus.{NrCpus}
-use Rattle.perfdata_sections.specs.declared.feature_sections.numbers.SampleTimeRange.{SampleTimeRange}
-use Rattle.perfdata_sections.specs.declared.feature_sections.numbers.CompressionInfo.{CompressionInfo}
-use Rattle.perfdata_sections.specs.declared.feature_sections.numbers.ClockData.{ClockData}
+use Rattle.perfdata_base.specs.Source.{State, Consumed}
+use Rattle.perfdata_sections.specs.ParsedPart.{PartRead, PartReadError}
+use Rattle.perfdata_sections.specs.declared.feature_sections.number_sections.NrCpus.{NrCpus}
+use Rattle.perfdata_sections.specs.declared.feature_sections.number_sections.SampleTimeRange.{SampleTimeRange}
+use Rattle.perfdata_sections.specs.declared.feature_sections.number_sections.CompressionInfo.{CompressionInfo}
+use Rattle.perfdata_sections.specs.declared.feature_sections.number_sections.ClockData.{ClockData}
 
 module _ (number : ℕ → List ℕ → ℕ) where
   abbrev pub nr_cpus_of : List ℕ → NrCpus
@@ -26,27 +26,27 @@ module _ (number : ℕ → List ℕ → ℕ) where
     mmap_len = number 4 (drop 16 xs);
   }
 
-  -- what the clock's section tells behind its version
+  -- The clock data after the version.
   abbrev pub clock_of : List ℕ → ClockData
   clock_of xs = record { clockid = number 4 (drop 4 xs); wall_clock_ns = number 8 (drop 8 xs); clockid_time_ns = number 8 (drop 16 xs) }
 
-  -- a clock's section of version 1
-  abbrev pub IsClock : List ℕ → ClockData → Type 0
-  IsClock xs d = (length xs ≡ 24) × (number 4 xs ≡ 1) × (d ≡ clock_of xs)
+  -- `xs` is a clock section of version 1.
+  abbrev pub IsClockSection : List ℕ → ClockData → Type 0
+  IsClockSection xs d = (length xs ≡ 24) × (number 4 xs ≡ 1) × (d ≡ clock_of xs)
 
-  -- too few bytes for it, of version 1 as far as they tell
-  abbrev pub IsCutClock : List ℕ → Type 0
-  IsCutClock xs = (length xs < 24) × (4 ≤ length xs → number 4 xs ≡ 1)
+  -- `xs` is a truncated clock section. Its version is 1 if it contains the version.
+  abbrev pub IsTruncatedClock : List ℕ → Type 0
+  IsTruncatedClock xs = (length xs < 24) × (4 ≤ length xs → number 4 xs ≡ 1)
 
-  -- the version is another, and no more of the section was read
-  pub record OtherVersion (old : State) (e : Error) (new : State) : Type 0 where
+  -- The version isn't 1, and only the version is consumed.
+  pub record ClockVersionError (old : State) (e : Error) (new : State) : Type 0 where
     pub bytes : List ℕ
-    pub gave : Gave old bytes new
-    pub long : length bytes ≡ 4
-    pub other : number 4 bytes ≢ 1
+    pub consumes : Consumed old bytes new
+    pub exact_len : length bytes ≡ 4
+    pub version_differs : number 4 bytes ≢ 1
     pub kind : error_kind e ≡ InvalidData
 
-  -- what a reading of a clock's section does
+  -- What reading a clock section does.
   abbrev pub ParsesClock : State → Result ClockData Error → State → Type 0
-  ParsesClock old (Ok d) new = Took IsClock old d new
-  ParsesClock old (Err e) new = OtherVersion old e new ⊎ Stopped IsCutClock old e new
+  ParsesClock old (Ok d) new = PartRead IsClockSection old d new
+  ParsesClock old (Err e) new = ClockVersionError old e new ⊎ PartReadError IsTruncatedClock old e new

@@ -1,4 +1,4 @@
--- The list of performance monitoring units: a count of four bytes, and for each a number of four bytes and a string, its name.
+-- The PMU mappings: a count of four bytes, and for each unit a number of four bytes and a string, the unit's name.
 use Rattle.std.specs.BTreeMap.{BTreeMap, get as get_kept}
 use Rattle.std.specs.Prelude.{◌≡◌, ℕ, ◌+◌, ◌<◌, ◌≤◌, ◌++◌, ◌⊎◌, List, [], ◌∷◌, length, drop, filter_map, nat_eq, Option, None, Result, Ok, Err, String, string_bytes}
 use Rattle.std.specs.IoError.{error_kind}
@@ -10,118 +10,118 @@ use Rattle.std.specs.declared.alloc.Global.{Global}
 use Rattle.std.specs.declared.io.Error.{Error}
 use Rattle.std.specs.declared.io.ErrorKind.TheVariants.{OutOfMemory}
 use Rattle.indexmap.specs.IndexMap.{IndexMap, get, keys}
-use Rattle.perfdata_base.specs.Source.{State, Gave}
-use Rattle.perfdata_base.specs.declared.source.AppendFault.{AppendFault}
-use Rattle.perfdata_base.specs.declared.source.AppendFault.TheVariants.{Memory, Source}
-use Rattle.perfdata_sections.specs.Part.{Took, CameSome, Stopped}
-use Rattle.perfdata_sections.specs.Strings.{IsStringOf, IsCutString}
-use Rattle.perfdata_sections.specs.declared.feature_sections.pmu.PmuMappings.{PmuMappings}
+use Rattle.perfdata_base.specs.Source.{State, Consumed}
+use Rattle.perfdata_base.specs.declared.source.AppendError.{AppendError}
+use Rattle.perfdata_base.specs.declared.source.AppendError.TheVariants.{Memory, Source}
+use Rattle.perfdata_sections.specs.ParsedPart.{PartRead, PartPartlyRead, PartReadError}
+use Rattle.perfdata_sections.specs.HeaderString.{IsHeaderStringOf, IsTruncatedString}
+use Rattle.perfdata_sections.specs.declared.feature_sections.pmu_mappings.PmuMappings.{PmuMappings}
 
--- a unit's number, and its name where that is UTF-8
+-- A unit's number, and its name if it is UTF-8.
 abbrev pub PmuUnit : Type 0
 PmuUnit = ℕ × Option (List ℕ)
 
--- the units that have a name
-abbrev pub named : List PmuUnit → List (ℕ × List ℕ)
-named us = filter_map (λ u. option_map (λ name. (u.0, name)) u.1) us
+-- The units with a name, as pairs of number and name.
+abbrev pub named_units : List PmuUnit → List (ℕ × List ℕ)
+named_units us = filter_map (λ u. option_map (λ name. (u.0, name)) u.1) us
 
--- the last of a number's names
+-- The last name of a number.
 abbrev pub last_name : List PmuUnit → ℕ → Option (List ℕ)
-last_name us = update_all nat_eq (λ _. None) (named us)
+last_name us = update_all nat_eq (λ _. None) (named_units us)
 
--- the name that a map has for a number
+-- The name of a number in an index map.
 abbrev pub unit_name : {S : Type 0} → IndexMap ℕ (String Global) S → ℕ → Option (List ℕ)
 unit_name m k = option_map string_bytes (get nat_eq m k)
 
--- the name that is kept of a number while the units are read
-abbrev pub kept_name : BTreeMap ℕ (String Global) → ℕ → Option (List ℕ)
-kept_name m k = option_map string_bytes (get_kept nat_cmp m k)
+-- The name of a number in the map that is built while the units are read.
+abbrev pub collected_name : BTreeMap ℕ (String Global) → ℕ → Option (List ℕ)
+collected_name m k = option_map string_bytes (get_kept nat_cmp m k)
 
--- Where the last of each number's names is kept, it is so with one unit more; or there was no memory for it.
-abbrev pub KeepsUnit : {A : Type 0} → BTreeMap ℕ (String Global) → PmuUnit → Result A AppendFault → BTreeMap ℕ (String Global) → Type 0
-KeepsUnit old u (Ok _) new = (us : List PmuUnit) → ((q : ℕ) → kept_name old q ≡ last_name us q) → (q : ℕ) → kept_name new q ≡ last_name (us ++ u ∷ []) q
-KeepsUnit old u (Err fault) new = fault ≡ Memory
+-- If the map has the last name of each number before, it has that after one more unit; or an allocation failed.
+abbrev pub CollectsUnit : {A : Type 0} → BTreeMap ℕ (String Global) → PmuUnit → Result A AppendError → BTreeMap ℕ (String Global) → Type 0
+CollectsUnit old u (Ok _) new = (us : List PmuUnit) → ((q : ℕ) → collected_name old q ≡ last_name us q) → (q : ℕ) → collected_name new q ≡ last_name (us ++ u ∷ []) q
+CollectsUnit old u (Err fault) new = fault ≡ Memory
 
--- a map that ascends by the numbers and has the names that were kept
-pub record OrdersUnits {S : Type 0} (kept : BTreeMap ℕ (String Global)) (m : IndexMap ℕ (String Global) S) : Type 0 where
-  pub ascends : IsStrictlyIncreasing (keys m)
-  pub names : (k : ℕ) → unit_name m k ≡ kept_name kept k
+-- `m` has the same names as the B-tree map, in ascending order of their numbers.
+pub record SortsUnits {S : Type 0} (kept : BTreeMap ℕ (String Global)) (m : IndexMap ℕ (String Global) S) : Type 0 where
+  pub is_ascending : IsStrictlyIncreasing (keys m)
+  pub names : (k : ℕ) → unit_name m k ≡ collected_name kept k
 
--- a map that ascends by the units' numbers, each number once with the last of its names
+-- `m` has the last name of each unit number, each number once, in ascending order.
 pub record MapsUnits {S : Type 0} (m : IndexMap ℕ (String Global) S) (us : List PmuUnit) : Type 0 where
-  pub ascends : IsStrictlyIncreasing (keys m)
+  pub is_ascending : IsStrictlyIncreasing (keys m)
   pub names : (k : ℕ) → unit_name m k ≡ last_name us k
 
 module _ (number : ℕ → List ℕ → ℕ) where
-  -- these bytes are a unit
-  abbrev pub IsUnit : List ℕ → PmuUnit → Type 0
-  IsUnit xs u = (4 ≤ length xs) × (u.0 ≡ number 4 xs) × IsStringOf number (drop 4 xs) u.1
+  -- `xs` is exactly one unit.
+  abbrev pub IsPmuUnit : List ℕ → PmuUnit → Type 0
+  IsPmuUnit xs u = (4 ≤ length xs) × (u.0 ≡ number 4 xs) × IsHeaderStringOf number (drop 4 xs) u.1
 
-  -- these bytes are too few for one
-  abbrev pub IsCutUnit : List ℕ → Type 0
-  IsCutUnit xs = 4 ≤ length xs → IsCutString number (drop 4 xs)
+  -- `xs` is a truncated unit.
+  abbrev pub IsTruncatedUnit : List ℕ → Type 0
+  IsTruncatedUnit xs = 4 ≤ length xs → IsTruncatedString number (drop 4 xs)
 
-  -- these bytes are units, one after the other
-  abbrev pub AreUnits : List ℕ → List PmuUnit → Type 0
-  AreUnits xs [] = xs ≡ []
-  AreUnits xs (u ∷ us) = (first : List ℕ) × (rest : List ℕ) × (xs ≡ first ++ rest) × IsUnit first u × AreUnits rest us
+  -- `xs` consists of these units, one after another.
+  abbrev pub ArePmuUnits : List ℕ → List PmuUnit → Type 0
+  ArePmuUnits xs [] = xs ≡ []
+  ArePmuUnits xs (u ∷ us) = (first : List ℕ) × (rest : List ℕ) × (xs ≡ first ++ rest) × IsPmuUnit first u × ArePmuUnits rest us
 
-  -- these bytes are fewer than so many units, and then too few for one
-  pub record CutUnits (count : ℕ) (xs : List ℕ) : Type 0 where
+  -- `xs` consists of fewer than `count` units and a truncated unit.
+  pub record TruncatedUnits (count : ℕ) (xs : List ℕ) : Type 0 where
     pub units : List PmuUnit
-    pub front : List ℕ
+    pub unit_bytes : List ℕ
     pub rest : List ℕ
-    pub few : length units < count
-    pub is : xs ≡ front ++ rest
-    pub are : AreUnits front units
-    pub cut : IsCutUnit rest
+    pub too_few : length units < count
+    pub matches : xs ≡ unit_bytes ++ rest
+    pub elements : ArePmuUnits unit_bytes units
+    pub is_truncated : IsTruncatedUnit rest
 
-  -- these bytes are a section of units
+  -- `xs` is a PMU section of these units.
   pub record IsPmuSection (xs : List ℕ) (us : List PmuUnit) : Type 0 where
-    pub head : 4 ≤ length xs
+    pub has_count : 4 ≤ length xs
     pub count : number 4 xs ≡ length us
-    pub are : AreUnits (drop 4 xs) us
+    pub elements : ArePmuUnits (drop 4 xs) us
 
-  -- these bytes are a section of units, and this is its map
+  -- `xs` is a PMU section, and `m` is its map.
   abbrev pub IsPmuSectionOf : List ℕ → PmuMappings → Type 0
   IsPmuSectionOf xs m = (us : List PmuUnit) × IsPmuSection xs us × MapsUnits m.0 us
 
-  -- these bytes are too few for a section: they end in the count, or before the units that it says are whole
-  abbrev pub IsCutPmuSection : List ℕ → Type 0
-  IsCutPmuSection xs = 4 ≤ length xs → CutUnits (number 4 xs) (drop 4 xs)
+  -- `xs` is a truncated section: it ends in the count, or before the end of the counted units.
+  abbrev pub IsTruncatedPmuSection : List ℕ → Type 0
+  IsTruncatedPmuSection xs = 4 ≤ length xs → TruncatedUnits (number 4 xs) (drop 4 xs)
 
-  -- these bytes are no more than a section
-  abbrev pub IsInPmuSection : List ℕ → Type 0
-  IsInPmuSection xs = 4 ≤ length xs → CutUnits (number 4 xs + 1) (drop 4 xs)
+  -- `xs` is a prefix of a section, or a whole section.
+  abbrev pub IsPrefixOfPmuSection : List ℕ → Type 0
+  IsPrefixOfPmuSection xs = 4 ≤ length xs → TruncatedUnits (number 4 xs + 1) (drop 4 xs)
 
-  -- what a reading of a unit does, which tells want of memory
-  abbrev pub ReadsUnit : State → Result (ℕ × Option (String Global)) AppendFault → State → Type 0
-  ReadsUnit old (Ok u) new = Took IsUnit old (u.0, option_map string_bytes u.1) new
-  ReadsUnit old (Err Memory) new = CameSome IsCutUnit old new
-  ReadsUnit old (Err (Source e)) new = Stopped IsCutUnit old e new
+  -- What reading a unit does. `Memory` reports an allocation failure.
+  abbrev pub ReadsPmuUnit : State → Result (ℕ × Option (String Global)) AppendError → State → Type 0
+  ReadsPmuUnit old (Ok u) new = PartRead IsPmuUnit old (u.0, option_map string_bytes u.1) new
+  ReadsPmuUnit old (Err Memory) new = PartPartlyRead IsTruncatedUnit old new
+  ReadsPmuUnit old (Err (Source e)) new = PartReadError IsTruncatedUnit old e new
 
-  -- so many units came, and the last of each number's names is kept
-  pub record TookUnits (count : ℕ) (old : State) (m : BTreeMap ℕ (String Global)) (new : State) : Type 0 where
+  -- `count` units are read, and the map has the last name of each number.
+  pub record PmuUnitsRead (count : ℕ) (old : State) (m : BTreeMap ℕ (String Global)) (new : State) : Type 0 where
     pub units : List PmuUnit
     pub bytes : List ℕ
-    pub long : length units ≡ count
-    pub gave : Gave old bytes new
-    pub are : AreUnits bytes units
-    pub names : (k : ℕ) → kept_name m k ≡ last_name units k
+    pub exact_len : length units ≡ count
+    pub consumes : Consumed old bytes new
+    pub elements : ArePmuUnits bytes units
+    pub names : (k : ℕ) → collected_name m k ≡ last_name units k
 
-  -- what a reading of so many units does
-  abbrev pub ReadsUnits : ℕ → State → Result (BTreeMap ℕ (String Global)) AppendFault → State → Type 0
-  ReadsUnits count old (Ok m) new = TookUnits count old m new
-  ReadsUnits count old (Err Memory) new = CameSome (CutUnits (count + 1)) old new
-  ReadsUnits count old (Err (Source e)) new = Stopped (CutUnits count) old e new
+  -- What reading `count` units does.
+  abbrev pub ReadsPmuUnits : ℕ → State → Result (BTreeMap ℕ (String Global)) AppendError → State → Type 0
+  ReadsPmuUnits count old (Ok m) new = PmuUnitsRead count old m new
+  ReadsPmuUnits count old (Err Memory) new = PartPartlyRead (TruncatedUnits (count + 1)) old new
+  ReadsPmuUnits count old (Err (Source e)) new = PartReadError (TruncatedUnits count) old e new
 
-  -- what a reading of the section does, which tells want of memory
-  abbrev pub ReadsPmus : State → Result PmuMappings AppendFault → State → Type 0
-  ReadsPmus old (Ok m) new = Took IsPmuSectionOf old m new
-  ReadsPmus old (Err Memory) new = CameSome IsInPmuSection old new
-  ReadsPmus old (Err (Source e)) new = Stopped IsCutPmuSection old e new
+  -- What reading the section does. `Memory` reports an allocation failure.
+  abbrev pub ReadsPmus : State → Result PmuMappings AppendError → State → Type 0
+  ReadsPmus old (Ok m) new = PartRead IsPmuSectionOf old m new
+  ReadsPmus old (Err Memory) new = PartPartlyRead IsPrefixOfPmuSection old new
+  ReadsPmus old (Err (Source e)) new = PartReadError IsTruncatedPmuSection old e new
 
-  -- the same, where want of memory is an error of that kind
+  -- Like `ReadsPmus`, but an allocation failure is an I/O error of kind `OutOfMemory`.
   abbrev pub ParsesPmus : State → Result PmuMappings Error → State → Type 0
-  ParsesPmus old (Ok m) new = Took IsPmuSectionOf old m new
-  ParsesPmus old (Err e) new = ((error_kind e ≡ OutOfMemory) × CameSome IsInPmuSection old new) ⊎ Stopped IsCutPmuSection old e new
+  ParsesPmus old (Ok m) new = PartRead IsPmuSectionOf old m new
+  ParsesPmus old (Err e) new = ((error_kind e ≡ OutOfMemory) × PartPartlyRead IsPrefixOfPmuSection old new) ⊎ PartReadError IsTruncatedPmuSection old e new

@@ -1,31 +1,31 @@
-//! Bytes of a promised length.
+//! Reading a given number of bytes, and converting the errors.
 ghost use Rattle.std.specs.Prelude.{◌≡◌};
-ghost use Rattle.perfdata_base.specs.Source.{PausesOnce};
-ghost use Rattle.perfdata_sections.specs.Part.{ReadsBytes, TellsFault, error_of};
+ghost use Rattle.perfdata_base.specs.Source.{PausesOnlyOnError};
+ghost use Rattle.perfdata_sections.specs.ParsedPart.{ReadsBytes, IsIoErrorOf, file_error_of};
 
 use crate::error::Error as FileError;
-use perfdata_base::source::{AppendFault, Source, append, short};
+use perfdata_base::source::{AppendError, Source, append_up_to, unexpected_eof};
 use std::alloc::Global;
 use std::io::{Error, ErrorKind};
 
-/// Reads so many bytes into memory of their own, in pieces of at most 4,096.
+/// Reads `count` bytes into a new `Vec`, in chunks of at most 4,096 bytes.
 ///
-/// An `UnexpectedEof` error of the source's where fewer come. Where memory runs out, or the source fails, some of them may
-/// have been taken.
+/// Fails with an `UnexpectedEof` source error if the source returns fewer bytes. If memory runs out or the source
+/// fails, some of the bytes may be consumed.
 pub fn read_bytes<R: Source>(
     alloc: Global,
     source: &mut R,
     count: usize,
-) -> Result<Vec<u8>, AppendFault>
-    ensures reads { ReadsBytes (R.seen source.old) count result (R.seen source.new) }
-    ensures pauses { PausesOnce (R.seen source.old) result (R.seen source.new) }
-    ensures lent { R.lent source.new ≡ R.lent source.old }
+) -> Result<Vec<u8>, AppendError>
+    ensures reads { ReadsBytes (R.state source.old) count result (R.state source.new) }
+    ensures pauses { PausesOnlyOnError (R.state source.old) result (R.state source.new) }
+    ensures same_loan { R.loan source.new ≡ R.loan source.old }
 {
     let mut bytes = Vec::new(alloc);
-    match append(source, &mut bytes, count) {
+    match append_up_to(source, &mut bytes, count) {
         Ok(came) => {
             if came < count {
-                return Err(AppendFault::Source(short()));
+                return Err(AppendError::Source(unexpected_eof()));
             }
             Ok(bytes)
         }
@@ -33,22 +33,22 @@ pub fn read_bytes<R: Source>(
     }
 }
 
-/// The fault of a reading into memory as an error of the source's, want of memory as an `OutOfMemory` error.
-pub fn as_io(fault: AppendFault) -> Error
-    ensures { TellsFault fault result }
+/// Converts to an I/O error. `Memory` becomes an `OutOfMemory` error.
+pub fn into_io_error(fault: AppendError) -> Error
+    ensures { IsIoErrorOf fault result }
 {
     match fault {
-        AppendFault::Memory => Error::from(ErrorKind::OutOfMemory),
-        AppendFault::Source(error) => error,
+        AppendError::Memory => Error::from(ErrorKind::OutOfMemory),
+        AppendError::Source(error) => error,
     }
 }
 
-/// The fault of a reading into memory as an error of a file.
-pub fn as_error(fault: AppendFault) -> FileError
-    ensures { result ≡ error_of fault }
+/// Converts to the error of a file.
+pub fn into_file_error(fault: AppendError) -> FileError
+    ensures { result ≡ file_error_of fault }
 {
     match fault {
-        AppendFault::Memory => FileError::Memory,
-        AppendFault::Source(error) => FileError::IoError(error),
+        AppendError::Memory => FileError::Memory,
+        AppendError::Source(error) => FileError::IoError(error),
     }
 }

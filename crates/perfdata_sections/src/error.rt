@@ -1,6 +1,6 @@
-//! The errors of an opening and of a reading.
+//! The errors of opening and reading a file or a pipe.
 ghost use Rattle.std.specs.Prelude.{◌≡◌};
-ghost use Rattle.perfdata_sections.specs.Error.{IsShort, IsUnsupported};
+ghost use Rattle.perfdata_sections.specs.Error.{IsUnexpectedEof, IsUnsupported};
 ghost use Rattle.perfdata_sections.specs.declared.error.Error.TheVariants.{Memory as OfMemory, Read as OfRead, IoError as OfIo, StringUtf8 as OfUtf8};
 
 use crate::decode_error::DecodeError;
@@ -11,102 +11,102 @@ use std::io::ErrorKind;
 use std::str::Utf8Error;
 use thiserror::Error;
 
-/// Which part of a file could not be read.
+/// The part of a file that could not be read.
 #[derive(Clone, Copy, Debug, PartialEq, Eq, Error)]
 pub enum ReadError {
-    /// The header of a file: never answered, a header that is cut is `IoError`.
+    /// The file header. Never returned: a truncated file header is an `IoError`.
     #[error("Could not read PerfHeader")]
     PerfHeader,
-    /// The data section ends past 2^64 - 1, so no section can stand behind it.
+    /// The data section ends past 2^64 - 1, and no section can follow it.
     #[error("Could not read FeatureSection")]
     FeatureSection,
-    /// The section of build ids: never answered, entries end where one is cut.
+    /// The build id section. Never returned: reading stops at a truncated entry.
     #[error("Could not read BuildIdSection")]
     BuildIdSection,
-    /// The length of a string: never answered, see `NotEnoughSpaceForStringLen`.
+    /// The length of a string. Never returned: see `NotEnoughSpaceForStringLen`.
     #[error("Could not read StringLen")]
     StringLen,
-    /// A string: never answered, see `StringLengthTooLong`.
+    /// A string. Never returned: see `StringLengthTooLong`.
     #[error("Could not read String")]
     String,
-    /// The number of processors: never answered, a section that is cut is `IoError`.
+    /// The number of CPUs. Never returned: a truncated section is an `IoError`.
     #[error("Could not read NrCpus")]
     NrCpus,
-    /// The attribute section: never answered, see `PerfEventAttr`.
+    /// The attribute section. Never returned: see `PerfEventAttr`.
     #[error("Could not read AttrsSection")]
     AttrsSection,
-    /// An attribute, or its ids, ended early or can't lie where the file says.
+    /// An attribute is truncated, invalid or unreadable, or it or its ids can't be at the offset that the file states.
     #[error("Could not read PerfEventAttr")]
     PerfEventAttr,
-    /// A record's head: never answered, a head that is cut is `IoError`.
+    /// A record header. Never returned: a truncated record header is an `IoError`.
     #[error("Could not read PerfEventHeader")]
     PerfEventHeader,
-    /// A record's body or auxiliary data ended early, the source failed there, or they end past 2^64 - 1.
+    /// A record's body or aux data is truncated or ends past 2^64 - 1, or the source failed while it was read.
     #[error("Could not read PerfEvent data")]
     PerfEventData,
 }
 
-/// Why a file or a pipe could not be opened or read on.
+/// The error of opening or reading a file or a pipe.
 #[derive(Debug, Drop, Error)]
 pub enum Error {
-    /// A part of the file ended early, or can't lie where the file says.
+    /// A part of the file is truncated, or can't be at the offset that the file states.
     #[error("Read error: {0}")]
     Read(ReadError),
-    /// The source failed, or ended early where no part is to be named.
+    /// The source failed, or the input is truncated and no `ReadError` applies.
     #[error("I/O error: {0}")]
     IoError(io::Error),
-    /// The first eight bytes are those of no perf.data file.
+    /// The first eight bytes, which are those of no perf.data file.
     #[error("Did not recognize magic value {0:?}")]
     UnrecognizedMagicValue([u8; 8]),
-    /// Never answered: sizes are numbers of 64 bits here.
+    /// Never returned: sizes are 64-bit numbers.
     #[error("Section size did not fit into usize")]
     SectionSizeTooBig,
-    /// No attribute came, or its section has no room for one.
+    /// The input has no attribute, or the attribute section is too small for one.
     #[error("The file declares no perf event attributes, so samples cannot be parsed")]
     NoAttributes,
-    /// An attribute's own size, in bytes, is above the size of an entry of the attribute section.
+    /// The own size of an attribute and the attribute size of its section, in bytes. The first is above the second.
     #[error("Inconsistent attribute sizes: The self-reported size in the attribute was {0} bytes, which is larger than the the attribute size specified in the file header ({1} bytes)")]
     InconsistentAttributeSizes(u64, u64),
-    /// The index of the first attribute without IDENTIFIER, where there are several.
+    /// The index of the first attribute without IDENTIFIER in a file with several attributes.
     #[error("The file contains multiple events but attr {0} does not specify IDENTIFIER")]
     NoIdentifierDespiteMultiEvent(usize),
-    /// The index of the first attribute that differs from the first in SAMPLE_ID_ALL.
+    /// The index of the first attribute whose SAMPLE_ID_ALL differs from that of the first attribute.
     #[error("The file contains multiple events but attr {0} does not agree with attr zero about SAMPLE_ID_ALL")]
     InconsistentSampleIdAllWithMultiEvent(usize),
-    /// A section of a string has fewer than four bytes.
+    /// A string section has fewer than four bytes.
     #[error("The section wasn't big enough to contain the u32 string length")]
     NotEnoughSpaceForStringLen,
-    /// A section of strings has fewer than four bytes.
+    /// A string list section has fewer than four bytes.
     #[error("The section wasn't big enough to contain the u32 string list length")]
     NotEnoughSpaceForStringListLen,
-    /// A section of a fixed size is shorter than it.
+    /// A section of fixed size has too few bytes.
     #[error("The feature section wasn't big enough")]
     FeatureSectionTooSmall,
-    /// Simpleperf's meta info has no event types, or not of the form name, type, config.
+    /// Simpleperf's meta info has no event types, or an event type isn't of the form name, type, config.
     #[error("No event types found in the simpleperf meta info section")]
     NoEventTypesInSimpleperfMetaInfo,
-    /// A message of the section SIMPLEPERF_FILE2 has this fault.
+    /// A message of the section SIMPLEPERF_FILE2 can't be decoded, with this cause.
     #[error("Protobuf parsing error in Simpleperf file feature: {0}")]
     ProtobufParsingSimpleperfFileSection(DecodeError),
-    /// A record of the section SIMPLEPERF_FILE ends early or isn't one.
+    /// A record of the section SIMPLEPERF_FILE is truncated or invalid, with this cause.
     #[error("Parsing error in Simpleperf file v1 feature: {0}")]
     ParsingSimpleperfFileV1Section(io::Error),
-    /// A string is to be longer than its section.
+    /// The length of a string is above the size of its section.
     #[error("The indicated string length wouldn't fit in the indicated section size")]
     StringLengthTooLong,
-    /// Never answered: a count of four bytes fits.
+    /// Never returned: a four-byte count fits into `usize`.
     #[error("The indicated string list length wouldn't fit into usize")]
     StringListLengthBiggerThanUsize,
-    /// Never answered: a length of four bytes fits.
+    /// Never returned: a four-byte length fits into `usize`.
     #[error("The indicated string length wouldn't fit into usize")]
     StringLengthBiggerThanUsize,
-    /// A text isn't UTF-8.
+    /// A string isn't valid UTF-8.
     #[error("The string was not valid utf-8")]
     StringUtf8,
-    /// A record's size is below the eight bytes of its head.
+    /// The size in a record header is below 8, the size of the record header itself.
     #[error("The specified size in the perf event header was smaller than the header itself")]
     InvalidPerfEventSize,
-    /// An earlier call refused, and nothing is read any more.
+    /// An earlier call failed, and nothing more is read.
     #[error("The iterator has failed")]
     Failed,
     /// Memory ran out.
@@ -146,7 +146,7 @@ impl From<AllocError> for Error {
     }
 }
 
-// What a collection refuses with where memory runs out: so that a caller's `vec.push(x)?` converts.
+// The error that collections return when memory runs out. The conversion allows `vec.push(x)?`.
 impl<T: Drop> From<AllocFailed<T>> for Error {
     ghost from_gives = { λ _ error. error ≡ OfMemory };
 
@@ -155,14 +155,14 @@ impl<T: Drop> From<AllocFailed<T>> for Error {
     }
 }
 
-/// The error of bytes that ended early where no part is to be named.
-pub fn short() -> Error
-    ensures { IsShort result }
+/// Returns the error of truncated input where no `ReadError` applies.
+pub fn unexpected_eof() -> Error
+    ensures { IsUnexpectedEof result }
 {
-    Error::IoError(source::short())
+    Error::IoError(source::unexpected_eof())
 }
 
-/// The error of a record that can't be handled, as one whose bytes are compressed.
+/// Returns the error of a record that can't be handled, such as one with compressed bytes.
 pub fn unsupported() -> Error
     ensures { IsUnsupported result }
 {

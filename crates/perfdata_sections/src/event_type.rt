@@ -1,19 +1,19 @@
-//! An event type of simpleperf.
+//! Event types of simpleperf.
 ghost use Rattle.std.specs.Prelude.{◌≡◌};
 
-/// An event of a recording by simpleperf, as the recording's meta info tells it.
+/// An event type from the meta info of a simpleperf recording.
 #[derive(Drop)]
 pub struct SimplePerfEventType {
     /// The event's name.
     pub name: String,
-    /// The kind of event, as in an attribute.
+    /// The type of the event, as in `perf_event_attr`.
     pub type_: u64,
-    /// Which event of its kind, as in an attribute.
+    /// The event within its type, as in `perf_event_attr`.
     pub config: u64,
 }
 
 impl SimplePerfEventType {
-    /// The event of this name, this type and this config (those of its `perf_event_attr`).
+    /// Creates an event type with a name, and the type and config of its `perf_event_attr`.
     pub fn new(name: String, type_: u64, config: u64) -> SimplePerfEventType
         ensures name { result.name ≡ name }
         ensures kind { result.type_ ≡ type_ }

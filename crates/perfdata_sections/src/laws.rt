@@ -1,28 +1,32 @@
-//! Laws of the sections that describe a file, over their definitions alone.
+//! Laws about the definitions of the sections that describe a file.
 ghost use Rattle.std.specs.Prelude.{◌≡◌, ◌⊎◌, ℕ, List};
-ghost use Rattle.perfdata_base.specs.Numbers.{number_in};
+ghost use Rattle.perfdata_base.specs.Endian.{number_in};
 ghost use Rattle.perfdata_base.specs.declared.raw.Endianness.{Endianness};
 ghost use Rattle.perfdata_sections.specs.AttributeDescription.{DescribedEvent};
-ghost use Rattle.perfdata_sections.specs.Error.{IsShort};
-ghost use Rattle.perfdata_sections.specs.EventDesc.{TellsByEventDesc, NoEventDesc};
+ghost use Rattle.perfdata_sections.specs.Error.{IsUnexpectedEof};
+ghost use Rattle.perfdata_sections.specs.EventDesc.{BeginsWithEventDesc, IsEventDescError};
 ghost use Rattle.perfdata_sections.specs.declared.error.Error.{Error};
 ghost use Rattle.perfdata_sections.specs.declared.error.Error.TheVariants.{Read, InconsistentAttributeSizes};
 ghost use Rattle.perfdata_sections.specs.declared.error.ReadError.TheVariants.{PerfEventAttr};
 
-/// Bytes are an EVENT_DESC of at most one list of events, and then no refusal of them is true. Of bytes that are none two refusals are the
-/// same error, or both say that bytes are missing.
-pub fn one_event_desc()
-    ensures value { (order : Endianness) (xs : List ℕ) (ds es : List DescribedEvent) → TellsByEventDesc (number_in order) xs ds → TellsByEventDesc (number_in order) xs es → ds ≡ es }
-    ensures whole { (order : Endianness) (e : Error) (xs : List ℕ) (ds : List DescribedEvent) → NoEventDesc (number_in order) e xs → TellsByEventDesc (number_in order) xs ds → ⊥ }
-    ensures cause { (order : Endianness) (e f : Error) (xs : List ℕ) → NoEventDesc (number_in order) e xs → NoEventDesc (number_in order) f xs → (e ≡ f) ⊎ (IsShort e × IsShort f) }
+/// An EVENT_DESC determines its events, and its error.
+///
+/// Bytes start with an EVENT_DESC of at most one list of events, and then no error applies to them. Two errors that
+/// apply to the same bytes are equal, or both are an unexpected end of file.
+pub fn event_desc_is_unique()
+    ensures value { (order : Endianness) (xs : List ℕ) (ds es : List DescribedEvent) → BeginsWithEventDesc (number_in order) xs ds → BeginsWithEventDesc (number_in order) xs es → ds ≡ es }
+    ensures whole { (order : Endianness) (e : Error) (xs : List ℕ) (ds : List DescribedEvent) → IsEventDescError (number_in order) e xs → BeginsWithEventDesc (number_in order) xs ds → ⊥ }
+    ensures same_cause { (order : Endianness) (e f : Error) (xs : List ℕ) → IsEventDescError (number_in order) e xs → IsEventDescError (number_in order) f xs → (e ≡ f) ⊎ (IsUnexpectedEof e × IsUnexpectedEof f) }
 {}
 
-/// Whether bytes are an EVENT_DESC is decided, and where they are none some refusal of them is true: that bytes are missing, that
-/// an attribute isn't there, or that it is longer than its frame.
-pub fn event_desc_or_none()
-    ensures refused { (order : Endianness) (short : Error) (xs : List ℕ) → IsShort short →
-        ((ds : List DescribedEvent) × TellsByEventDesc (number_in order) xs ds)
-        ⊎ (NoEventDesc (number_in order) short xs ⊎ (NoEventDesc (number_in order) (Read PerfEventAttr) xs
-        ⊎ ((own : ℕ) × (all : ℕ) × NoEventDesc (number_in order) (InconsistentAttributeSizes own all) xs))) }
-    ensures decided { (order : Endianness) (xs : List ℕ) → ((ds : List DescribedEvent) × TellsByEventDesc (number_in order) xs ds) ⊎ ¬ ((ds : List DescribedEvent) × TellsByEventDesc (number_in order) xs ds) }
+/// It is decidable whether bytes start with an EVENT_DESC.
+///
+/// If they don't, at least one of these errors applies to them: an unexpected end of file, `Read(PerfEventAttr)`, or
+/// `InconsistentAttributeSizes`.
+pub fn event_desc_is_decidable()
+    ensures if_error { (order : Endianness) (short : Error) (xs : List ℕ) → IsUnexpectedEof short →
+        ((ds : List DescribedEvent) × BeginsWithEventDesc (number_in order) xs ds)
+        ⊎ (IsEventDescError (number_in order) short xs ⊎ (IsEventDescError (number_in order) (Read PerfEventAttr) xs
+        ⊎ ((own : ℕ) × (all : ℕ) × IsEventDescError (number_in order) (InconsistentAttributeSizes own all) xs))) }
+    ensures decided { (order : Endianness) (xs : List ℕ) → ((ds : List DescribedEvent) × BeginsWithEventDesc (number_in order) xs ds) ⊎ ¬ ((ds : List DescribedEvent) × BeginsWithEventDesc (number_in order) xs ds) }
 {}

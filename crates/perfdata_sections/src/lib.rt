@@ -1,4 +1,4 @@
-//! The parts of perf.data files: errors, numbers of record types, and the sections that describe a file.
+//! The parts of perf.data files: errors, record type numbers, and the sections that describe a file.
 #![tactic(auto)]
 
 pub mod bytes;

@@ -1,10 +1,10 @@
--- How the pieces that a split gives come to the parts of a line, and the lines to the events of a text.
+-- From the items of a split to the fields of a line, and from the lines to the events of a text.
 use Rattle.std.proofs.Common.{◌≡◌, ℕ, List, [], ◌∷◌, ◌++◌, Bor, refl, sym, ap, ◌∙◌, subst, append_assoc, Some, None}
 use Rattle.std.specs.Prelude.{Option, map}
 use Rattle.std.specs.Iterator.{AlwaysYields}
 use Rattle.std.proofs.lemmas.Iterator.{YieldsList}
 use Rattle.std.proofs.lemmas.List.{append-nil, map_push}
-use Rattle.perfdata_simpleperf.specs.SimpleperfEvents.{EventType, event_type_of, lines, parts, TellsEvent, TellEvents, IsFirstThree}
+use Rattle.perfdata_simpleperf.specs.EventTypeInfo.{EventType, event_type_of, text_lines, line_fields, DescribesEvent, DescribeEvents, IsFirstThree}
 use Rattle.perfdata_sections.specs.declared.event_type.SimplePerfEventType.{SimplePerfEventType}
 
 module _ {S : Type 0} (steps : S → Option (Bor (List ℕ)) → S → Type 0) where
@@ -36,60 +36,60 @@ module _ {S : Type 0} (steps : S → Option (Bor (List ℕ)) → S → Type 0) w
 
   -- ---- the lines
 
-  -- these events were told by the lines before those that the iterator has still to give
+  -- the lines before the iterator's remaining ones describe these events
   pub record EventsSoFar (text : List ℕ) (s : S) (items : List SimplePerfEventType) : Type 0 where
     pub rest : List (List ℕ)
     pub runs : YieldsList steps (λ x. x.now) s rest
-    pub whole : (es : List EventType) → TellEvents rest es → TellEvents (lines text) (map event_type_of items ++ es)
-    pub only : (es : List EventType) → TellEvents (lines text) es → (more : List EventType) × TellEvents rest more
+    pub whole : (es : List EventType) → DescribeEvents rest es → DescribeEvents (text_lines text) (map event_type_of items ++ es)
+    pub only : (es : List EventType) → DescribeEvents (text_lines text) es → (more : List EventType) × DescribeEvents rest more
 
-  pub events_none : (text : List ℕ) (s : S) (items : List SimplePerfEventType) → items ≡ [] → YieldsList steps (λ x. x.now) s (lines text) → EventsSoFar text s items
+  pub events_none : (text : List ℕ) (s : S) (items : List SimplePerfEventType) → items ≡ [] → YieldsList steps (λ x. x.now) s (text_lines text) → EventsSoFar text s items
   events_none text s items none runs = record {
-    rest = lines text;
+    rest = text_lines text;
     runs = runs;
-    whole = λ es tell. subst (λ l. TellEvents (lines text) (map event_type_of l ++ es)) (sym none) tell;
+    whole = λ es tell. subst (λ l. DescribeEvents (text_lines text) (map event_type_of l ++ es)) (sym none) tell;
     only = λ es tell. (es, tell);
   }
 
-  first_of : (line : List ℕ) (left : List (List ℕ)) (es : List EventType) → TellEvents (line ∷ left) es → (e : EventType) × (more : List EventType) × TellsEvent (parts line) e × TellEvents left more
+  first_of : (line : List ℕ) (left : List (List ℕ)) (es : List EventType) → DescribeEvents (line ∷ left) es → (e : EventType) × (more : List EventType) × DescribesEvent (line_fields line) e × DescribeEvents left more
   first_of line left [] tell = absurd tell
   first_of line left (e ∷ more) tell = (e, more, tell.0, tell.1)
 
   events_more_in : (text : List ℕ) (s t : S) (items new : List SimplePerfEventType) (x : Bor (List ℕ)) (e : SimplePerfEventType) (rest : List (List ℕ)) → AlwaysYields steps (λ y. y.now) s rest
-      → ((es : List EventType) → TellEvents rest es → TellEvents (lines text) (map event_type_of items ++ es))
-      → ((es : List EventType) → TellEvents (lines text) es → (more : List EventType) × TellEvents rest more)
-      → steps s (Some x) t → TellsEvent (parts x.now) (event_type_of e) → new ≡ items ++ e ∷ [] → EventsSoFar text t new
+      → ((es : List EventType) → DescribeEvents rest es → DescribeEvents (text_lines text) (map event_type_of items ++ es))
+      → ((es : List EventType) → DescribeEvents (text_lines text) es → (more : List EventType) × DescribeEvents rest more)
+      → steps s (Some x) t → DescribesEvent (line_fields x.now) (event_type_of e) → new ≡ items ++ e ∷ [] → EventsSoFar text t new
   events_more_in text s t items new x e [] runs whole only step tells pushed = absurd (runs x t step)
   events_more_in text s t items new x e (line ∷ left) runs whole only step tells pushed =
       let next = runs.1 x t step in
-      let here : TellsEvent (parts line) (event_type_of e) = subst (λ l. TellsEvent (parts l) (event_type_of e)) next.0 tells in
+      let here : DescribesEvent (line_fields line) (event_type_of e) = subst (λ l. DescribesEvent (line_fields l) (event_type_of e)) next.0 tells in
       let all : map event_type_of new ≡ map event_type_of items ++ event_type_of e ∷ [] = ap (map event_type_of) pushed ∙ map_push event_type_of items e in
       record {
         rest = left;
         runs = record { runs = next.1 };
-        whole = λ es tell. subst (TellEvents (lines text)) (sym (ap (λ l. l ++ es) all ∙ append_assoc (map event_type_of items) (event_type_of e ∷ []) es)) (whole (event_type_of e ∷ es) (here, tell));
+        whole = λ es tell. subst (DescribeEvents (text_lines text)) (sym (ap (λ l. l ++ es) all ∙ append_assoc (map event_type_of items) (event_type_of e ∷ []) es)) (whole (event_type_of e ∷ es) (here, tell));
         only = λ es tell. let old = only es tell in let parted = first_of line left old.0 old.1 in (parted.1, parted.3);
       }
 
   pub events_more : (text : List ℕ) (s t : S) (items new : List SimplePerfEventType) (x : Bor (List ℕ)) (e : SimplePerfEventType) → EventsSoFar text s items → steps s (Some x) t
-      → TellsEvent (parts x.now) (event_type_of e) → new ≡ items ++ e ∷ [] → EventsSoFar text t new
+      → DescribesEvent (line_fields x.now) (event_type_of e) → new ≡ items ++ e ∷ [] → EventsSoFar text t new
   events_more text s t items new x e so_far step tells pushed = events_more_in text s t items new x e so_far.rest so_far.runs.runs so_far.whole so_far.only step tells pushed
 
-  stops_in : (s t : S) (x : Bor (List ℕ)) (rest : List (List ℕ)) → AlwaysYields steps (λ y. y.now) s rest → steps s (Some x) t → ((e : EventType) → ¬ TellsEvent (parts x.now) e)
-      → (es : List EventType) → ¬ TellEvents rest es
+  stops_in : (s t : S) (x : Bor (List ℕ)) (rest : List (List ℕ)) → AlwaysYields steps (λ y. y.now) s rest → steps s (Some x) t → ((e : EventType) → ¬ DescribesEvent (line_fields x.now) e)
+      → (es : List EventType) → ¬ DescribeEvents rest es
   stops_in s t x [] runs step none es = λ tell. runs x t step
   stops_in s t x (line ∷ left) runs step none es = λ tell.
       let next = runs.1 x t step in
       let parted = first_of line left es tell in
-      none parted.0 (subst (λ l. TellsEvent (parts l) parted.0) (sym next.0) parted.2)
+      none parted.0 (subst (λ l. DescribesEvent (line_fields l) parted.0) (sym next.0) parted.2)
 
-  pub events_stop : (text : List ℕ) (s t : S) (items : List SimplePerfEventType) (x : Bor (List ℕ)) → EventsSoFar text s items → steps s (Some x) t → ((e : EventType) → ¬ TellsEvent (parts x.now) e)
-      → (es : List EventType) → ¬ TellEvents (lines text) es
+  pub events_stop : (text : List ℕ) (s t : S) (items : List SimplePerfEventType) (x : Bor (List ℕ)) → EventsSoFar text s items → steps s (Some x) t → ((e : EventType) → ¬ DescribesEvent (line_fields x.now) e)
+      → (es : List EventType) → ¬ DescribeEvents (text_lines text) es
   events_stop text s t items x so_far step none es = λ tell. let old = so_far.only es tell in stops_in s t x so_far.rest so_far.runs.runs step none old.0 old.1
 
-  whole_in : (s t : S) (rest : List (List ℕ)) → AlwaysYields steps (λ y. y.now) s rest → steps s None t → TellEvents rest []
+  whole_in : (s t : S) (rest : List (List ℕ)) → AlwaysYields steps (λ y. y.now) s rest → steps s None t → DescribeEvents rest []
   whole_in s t [] runs step = refl
   whole_in s t (line ∷ left) runs step = absurd (runs.0 t step)
 
-  pub events_whole : (text : List ℕ) (s t : S) (items : List SimplePerfEventType) → EventsSoFar text s items → steps s None t → TellEvents (lines text) (map event_type_of items)
-  events_whole text s t items so_far step = subst (TellEvents (lines text)) (append-nil (map event_type_of items)) (so_far.whole [] (whole_in s t so_far.rest so_far.runs.runs step))
+  pub events_whole : (text : List ℕ) (s t : S) (items : List SimplePerfEventType) → EventsSoFar text s items → steps s None t → DescribeEvents (text_lines text) (map event_type_of items)
+  events_whole text s t items so_far step = subst (DescribeEvents (text_lines text)) (append-nil (map event_type_of items)) (so_far.whole [] (whole_in s t so_far.rest so_far.runs.runs step))

@@ -1,4 +1,4 @@
--- How the pieces between NULs come to the pairs of meta info, and these to its map.
+-- From the segments between NULs to the pairs of meta info, and from the pairs to its map.
 use Rattle.std.proofs.Common.{◌≡◌, ℕ, List, [], ◌∷◌, ◌++◌, Bor, refl, sym, ap, ◌∙◌, subst, true, false, append_assoc, Some, None, length, get_or, drop, All}
 use Rattle.std.specs.Prelude.{cond, Ok, Err, ◌==◌}
 use Rattle.std.specs.HashMap.{HashMap, UpdatesBy, IsEmpty, get_by}
@@ -13,79 +13,79 @@ use Rattle.std.proofs.lemmas.List.Splits.{slice_split_at, slice_split_none}
 use Rattle.std.proofs.lemmas.List.Sums.{fold_push}
 use Rattle.std.proofs.lemmas.Map.Text.{hash_map_updates_str}
 use Rattle.perfdata_base.specs.Raw.{HasNoNul}
-use Rattle.perfdata_simpleperf.specs.MetaInfo.{Pair, pieces, meta_pairs, last_value, text_at, IsPairOfTexts, PutsPair, IsMetaInfo, ParsesMetaInfo}
+use Rattle.perfdata_simpleperf.specs.MetaInfo.{Pair, nul_segments, meta_pairs, last_value, map_text_at, IsUtf8Pair, InsertsPair, IsMetaInfo, ParsesMetaInfo}
 use Rattle.perfdata_sections.specs.declared.error.Error.{Error}
 use Rattle.perfdata_sections.specs.declared.error.Error.TheVariants.{StringUtf8, Memory}
-use Rattle.perfdata_simpleperf.specs.NulText.{EndsAtNul}
+use Rattle.perfdata_simpleperf.specs.NulText.{SplitsAtNul}
 
--- no byte passes the test for NUL
+-- no byte is NUL
 none_passes : (xs : List ℕ) → HasNoNul xs → All (λ b. (b == 0) ≡ false) xs
 none_passes xs plain = λ k d low. false_from_ne_true (get_or xs k d == 0) (λ is. plain k d low (eqb-true (get_or xs k d) 0 is))
 
--- the first piece ends at the first NUL
-pub piece_ends : (bytes piece rest : List ℕ) → EndsAtNul bytes piece rest → pieces bytes ≡ piece ∷ pieces rest
-piece_ends bytes piece rest ends = ap pieces ends.cut ∙ slice_split_at (λ b. b == 0) piece 0 rest (none_passes piece ends.plain) refl
+-- the first segment ends at the first NUL
+pub segment_ends : (bytes piece rest : List ℕ) → SplitsAtNul bytes piece rest → nul_segments bytes ≡ piece ∷ nul_segments rest
+segment_ends bytes piece rest ends = ap nul_segments ends.split ∙ slice_split_at (λ b. b == 0) piece 0 rest (none_passes piece ends.no_nul) refl
 
--- the last piece has none
-pub piece_last : (bytes : List ℕ) → HasNoNul bytes → pieces bytes ≡ bytes ∷ []
-piece_last bytes plain = slice_split_none (λ b. b == 0) bytes (none_passes bytes plain)
+-- bytes without a NUL are the last segment
+pub segment_last : (bytes : List ℕ) → HasNoNul bytes → nul_segments bytes ≡ bytes ∷ []
+segment_last bytes plain = slice_split_none (λ b. b == 0) bytes (none_passes bytes plain)
 
--- a pair is its key's last
+-- an appended pair is the last of its key
 last_push : (ps : List Pair) (p : Pair) (key : List ℕ) → last_value (ps ++ p ∷ []) key ≡ cond (bytes_eq p.0 key) (Some p.1) (last_value ps key)
 last_push ps p key = ap (λ f. f key) (fold_push (λ g q. update bytes_eq g q.0 (Some q.1)) (λ _. None) ps p)
 
 module _ {S : Type 0} where
-  -- what a map has for a key, once a pair was put into it
+  -- the values of a map after a pair is inserted
   pub pair_put : (old new : HashMap (Bor (List ℕ)) (Bor (List ℕ)) S) (key value : Bor (List ℕ)) (p : Pair) → key.now ≡ p.0 → value.now ≡ p.1
       → UpdatesBy (λ x y. bytes_eq x.now y.now) (λ k. bytes_eq key.now k.now) old new (Some value) → (ps : List Pair)
-      → ((q : List ℕ) → text_at old q ≡ last_value ps q) → (q : List ℕ) → text_at new q ≡ last_value (ps ++ p ∷ []) q
+      → ((q : List ℕ) → map_text_at old q ≡ last_value ps q) → (q : List ℕ) → map_text_at new q ≡ last_value (ps ++ p ∷ []) q
   pair_put old new key value p same_key same_value updates ps before q =
       ap (option_map (λ v. v.now)) (hash_map_updates_str key.now old new (Some value) updates q)
       ∙ elim (bytes_eq key.now q) as (λ b. option_map (λ v. v.now) (cond b (Some value) (get_by (λ k. bytes_eq q k.now) old)) ≡ cond b (Some value.now) (last_value ps q)) [ true ↦ refl | false ↦ before q ]
       ∙ sym (last_push ps (key.now, value.now) q)
       ∙ ap (λ r. last_value (ps ++ r ∷ []) q) (λ i. (same_key i, same_value i))
 
-  -- the pairs up to these are in the map, and all of texts
+  -- the map contains the pairs before `rest`, which are all UTF-8
   pub record PairsSoFar (bytes : List ℕ) (m : HashMap (Bor (List ℕ)) (Bor (List ℕ)) S) (rest : List Pair) : Type 0 where
     pub before : List Pair
     pub all : meta_pairs bytes ≡ before ++ rest
-    pub texts : All IsPairOfTexts before
-    pub has : (key : List ℕ) → text_at m key ≡ last_value before key
+    pub texts : All IsUtf8Pair before
+    pub has : (key : List ℕ) → map_text_at m key ≡ last_value before key
 
   pub pairs_none : (bytes : List ℕ) (m : HashMap (Bor (List ℕ)) (Bor (List ℕ)) S) → IsEmpty m → PairsSoFar bytes m (meta_pairs bytes)
   pairs_none bytes m empty = record {
     before = [];
     all = refl;
-    texts = All-nil IsPairOfTexts;
+    texts = All-nil IsUtf8Pair;
     has = λ key. ap (λ es. option_map (λ v. v.now) (lookup (λ k. bytes_eq key k.now) es)) empty;
   }
 
-  pub pairs_more : (bytes : List ℕ) (old new : HashMap (Bor (List ℕ)) (Bor (List ℕ)) S) (rest left : List Pair) (p : Pair) → PairsSoFar bytes old rest → rest ≡ p ∷ left → PutsPair old p (Ok tt) new
+  pub pairs_more : (bytes : List ℕ) (old new : HashMap (Bor (List ℕ)) (Bor (List ℕ)) S) (rest left : List Pair) (p : Pair) → PairsSoFar bytes old rest → rest ≡ p ∷ left → InsertsPair old p (Ok tt) new
       → PairsSoFar bytes new left
   pairs_more bytes old new rest left p so_far is put = record {
     before = so_far.before ++ p ∷ [];
     all = so_far.all ∙ ap (λ l. so_far.before ++ l) is ∙ sym (append_assoc so_far.before (p ∷ []) left);
-    texts = All-push IsPairOfTexts so_far.before p so_far.texts put.0;
+    texts = All-push IsUtf8Pair so_far.before p so_far.texts put.0;
     has = put.1 so_far.before so_far.has;
   }
 
-  pairs_stop : (bytes : List ℕ) (m : HashMap (Bor (List ℕ)) (Bor (List ℕ)) S) (rest left : List Pair) (p : Pair) → PairsSoFar bytes m rest → rest ≡ p ∷ left → ¬ IsPairOfTexts p
-      → ¬ All IsPairOfTexts (meta_pairs bytes)
+  pairs_stop : (bytes : List ℕ) (m : HashMap (Bor (List ℕ)) (Bor (List ℕ)) S) (rest left : List Pair) (p : Pair) → PairsSoFar bytes m rest → rest ≡ p ∷ left → ¬ IsUtf8Pair p
+      → ¬ All IsUtf8Pair (meta_pairs bytes)
   pairs_stop bytes m rest left p so_far is bad = λ texts.
       let all : meta_pairs bytes ≡ so_far.before ++ p ∷ left = so_far.all ∙ ap (λ l. so_far.before ++ l) is in
       let here : drop (length so_far.before) (meta_pairs bytes) ≡ p ∷ left = ap (drop (length so_far.before)) all ∙ drop-append_seam so_far.before (p ∷ left) in
-      bad (All-head IsPairOfTexts p left (subst (All IsPairOfTexts) here (All-drop IsPairOfTexts (length so_far.before) (meta_pairs bytes) texts)))
+      bad (All-head IsUtf8Pair p left (subst (All IsUtf8Pair) here (All-drop IsUtf8Pair (length so_far.before) (meta_pairs bytes) texts)))
 
-  pub pairs_refused : (bytes : List ℕ) (m new : HashMap (Bor (List ℕ)) (Bor (List ℕ)) S) (rest left : List Pair) (p : Pair) (e : Error) → PairsSoFar bytes m rest → rest ≡ p ∷ left → PutsPair m p (Err e) new
+  pub pairs_error : (bytes : List ℕ) (m new : HashMap (Bor (List ℕ)) (Bor (List ℕ)) S) (rest left : List Pair) (p : Pair) (e : Error) → PairsSoFar bytes m rest → rest ≡ p ∷ left → InsertsPair m p (Err e) new
       → ParsesMetaInfo {S = S} bytes (Err e)
-  pairs_refused bytes m new rest left p StringUtf8 so_far is bad = pairs_stop bytes m rest left p so_far is bad
-  pairs_refused bytes m new rest left p Memory so_far is memory = tt
-  pairs_refused bytes m new rest left p e so_far is none = absurd none
+  pairs_error bytes m new rest left p StringUtf8 so_far is bad = pairs_stop bytes m rest left p so_far is bad
+  pairs_error bytes m new rest left p Memory so_far is memory = tt
+  pairs_error bytes m new rest left p e so_far is none = absurd none
 
   pub pairs_whole : (bytes : List ℕ) (m : HashMap (Bor (List ℕ)) (Bor (List ℕ)) S) (rest : List Pair) → PairsSoFar bytes m rest → rest ≡ [] → IsMetaInfo bytes m
   pairs_whole bytes m rest so_far is =
       let all : meta_pairs bytes ≡ so_far.before = so_far.all ∙ ap (λ l. so_far.before ++ l) is ∙ append-nil so_far.before in
       record {
-        texts = subst (All IsPairOfTexts) (sym all) so_far.texts;
+        all_utf8 = subst (All IsUtf8Pair) (sym all) so_far.texts;
         map = λ key. so_far.has key ∙ ap (λ l. last_value l key) (sym all);
       }

@@ -1,11 +1,11 @@
--- The events that simpleperf names in a file's meta info: a line for each, with its name, type and config between commas.
+-- The events in simpleperf's meta info: a line for each, with its name, type and config, separated by commas.
 use Rattle.std.specs.Prelude.{◌≡◌, ℕ, ◌^◌, ◌<◌, ◌==◌, List, [], ◌∷◌, map, Option, None, Some, Vec, string_bytes, ⊤}
 use Rattle.std.specs.List.{slice_split}
 use Rattle.std.specs.Str.Parse.{IsNumeral, digits_value, without_leading_plus}
 use Rattle.std.specs.declared.alloc.Global.{Global}
 use Rattle.perfdata_sections.specs.declared.event_type.SimplePerfEventType.{SimplePerfEventType}
 
--- an event by its name, type and config
+-- the name, type and config of an event
 pub record EventType : Type 0 where
   pub name : List ℕ
   pub type_ : ℕ
@@ -14,51 +14,51 @@ pub record EventType : Type 0 where
 abbrev pub event_type_of : SimplePerfEventType → EventType
 event_type_of e = record { name = string_bytes e.name; type_ = e.type_; config = e.config }
 
--- the lines of a text, between newlines
-abbrev pub lines : List ℕ → List (List ℕ)
-lines text = slice_split (λ b. b == 10) text
+-- the lines of a text, separated by newlines
+abbrev pub text_lines : List ℕ → List (List ℕ)
+text_lines text = slice_split (λ b. b == 10) text
 
--- the parts of a line, between commas
-abbrev pub parts : List ℕ → List (List ℕ)
-parts line = slice_split (λ b. b == 44) line
+-- the fields of a line, separated by commas
+abbrev pub line_fields : List ℕ → List (List ℕ)
+line_fields line = slice_split (λ b. b == 44) line
 
--- this text is a number below 2^64: one decimal digit or more, behind a plus sign or none
+-- the text is a number below 2^64: one decimal digit or more, optionally after a plus sign
 pub record IsNumber (text : List ℕ) (n : ℕ) : Type 0 where
   pub numeral : IsNumeral 10 (without_leading_plus text)
   pub value : n ≡ digits_value 10 (without_leading_plus text)
-  pub low : n < 2 ^ 64
+  pub fits_u64 : n < 2 ^ 64
 
--- the first three parts of a line are an event's name, type and config
-abbrev pub TellsEvent : List (List ℕ) → EventType → Type 0
-TellsEvent (name ∷ type_ ∷ config ∷ more) e = (e.name ≡ name) × IsNumber type_ e.type_ × IsNumber config e.config
-TellsEvent _ e = ⊥
+-- the first three fields of a line are an event's name, type and config
+abbrev pub DescribesEvent : List (List ℕ) → EventType → Type 0
+DescribesEvent (name ∷ type_ ∷ config ∷ more) e = (e.name ≡ name) × IsNumber type_ e.type_ × IsNumber config e.config
+DescribesEvent _ e = ⊥
 
--- each of these lines tells an event
-abbrev pub TellEvents : List (List ℕ) → List EventType → Type 0
-TellEvents [] es = es ≡ []
-TellEvents (line ∷ more) [] = ⊥
-TellEvents (line ∷ more) (e ∷ es) = TellsEvent (parts line) e × TellEvents more es
+-- each of these lines describes an event
+abbrev pub DescribeEvents : List (List ℕ) → List EventType → Type 0
+DescribeEvents [] es = es ≡ []
+DescribeEvents (line ∷ more) [] = ⊥
+DescribeEvents (line ∷ more) (e ∷ es) = DescribesEvent (line_fields line) e × DescribeEvents more es
 
--- the value of this key has the lines
+-- the key whose value lists the events
 abbrev pub event_type_info : List ℕ
 event_type_info = 101 ∷ 118 ∷ 101 ∷ 110 ∷ 116 ∷ 95 ∷ 116 ∷ 121 ∷ 112 ∷ 101 ∷ 95 ∷ 105 ∷ 110 ∷ 102 ∷ 111 ∷ []
 
--- this value, where there is one, tells these events and no others
-abbrev pub TellsEventTypes : Option (List ℕ) → List EventType → Type 0
-TellsEventTypes None es = ⊥
-TellsEventTypes (Some text) es = TellEvents (lines text) es
+-- there is a value, and it describes these events and no others
+abbrev pub DescribesEventTypes : Option (List ℕ) → List EventType → Type 0
+DescribesEventTypes None es = ⊥
+DescribesEventTypes (Some text) es = DescribeEvents (text_lines text) es
 
--- what is answered: the events, or none where the value tells none
-abbrev pub GivesEventTypes : Option (List ℕ) → Option (Vec SimplePerfEventType Global) → Type 0
-GivesEventTypes value (Some v) = TellsEventTypes value (map event_type_of v.items)
-GivesEventTypes value None = (es : List EventType) → ¬ TellsEventTypes value es
+-- the result of parsing: the events, or `None` if the value describes no list of events
+abbrev pub ParsesEventTypes : Option (List ℕ) → Option (Vec SimplePerfEventType Global) → Type 0
+ParsesEventTypes value (Some v) = DescribesEventTypes value (map event_type_of v.items)
+ParsesEventTypes value None = (es : List EventType) → ¬ DescribesEventTypes value es
 
--- the same of one line
-abbrev pub GivesEvent : List (List ℕ) → Option SimplePerfEventType → Type 0
-GivesEvent ps (Some e) = TellsEvent ps (event_type_of e)
-GivesEvent ps None = (e : EventType) → ¬ TellsEvent ps e
+-- the result of parsing one line
+abbrev pub ParsesEvent : List (List ℕ) → Option SimplePerfEventType → Type 0
+ParsesEvent ps (Some e) = DescribesEvent ps (event_type_of e)
+ParsesEvent ps None = (e : EventType) → ¬ DescribesEvent ps e
 
--- the first three of a list, or none where there are fewer
+-- the first three items of a list, or `None` if there are fewer
 abbrev pub IsFirstThree : {A : Type 0} → (A → List ℕ) → List (List ℕ) → Option (A × A × A) → Type 0
 IsFirstThree bytes (p ∷ q ∷ r ∷ more) (Some (a, b, c)) = (bytes a ≡ p) × (bytes b ≡ q) × (bytes c ≡ r)
 IsFirstThree bytes (p ∷ q ∷ r ∷ more) None = ⊥

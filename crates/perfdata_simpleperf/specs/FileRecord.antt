@@ -1,4 +1,4 @@
--- What a file record of simpleperf holds, without where it lies in memory.
+-- The value of a file record of simpleperf, apart from its location in memory.
 use Rattle.std.specs.Prelude.{ℕ, List, map, Option, Some, None, string_bytes}
 use Rattle.perfdata_simpleperf.specs.declared.simpleperf.file_record.SimpleperfSymbol.{SimpleperfSymbol}
 use Rattle.perfdata_simpleperf.specs.declared.simpleperf.file_record.SimpleperfFileRecord.{SimpleperfFileRecord}

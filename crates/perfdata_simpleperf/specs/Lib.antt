@@ -1,10 +1,10 @@
 pub mod NulText
 pub mod MetaInfo
-pub mod Pairs
-pub mod SimpleperfEvents
+pub mod MetaInfoPairs
+pub mod EventTypeInfo
 pub mod FileRecord
 pub mod Protobuf
-pub mod Pieces
+pub mod Chunks
 pub mod File2
 pub mod FileV1
 pub mod FileSection

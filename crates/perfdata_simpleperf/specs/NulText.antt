@@ -1,4 +1,4 @@
--- Texts that end at a NUL.
+-- NUL-terminated strings.
 use Rattle.std.specs.Prelude.{◌≡◌, ◌⊎◌, ℕ, List, ◌∷◌, ◌++◌, Result, Ok, Err}
 use Rattle.std.specs.Borrow.{Bor}
 use Rattle.std.specs.IoError.{error_kind}
@@ -8,28 +8,28 @@ use Rattle.std.specs.declared.io.ErrorKind.{ErrorKind}
 use Rattle.std.specs.declared.io.ErrorKind.TheVariants.{UnexpectedEof, InvalidData}
 use Rattle.perfdata_base.specs.Raw.{HasNoNul}
 
--- these bytes begin with those of a text and its NUL, and the rest stands behind that
-pub record EndsAtNul (bytes text rest : List ℕ) : Type 0 where
-  pub cut : bytes ≡ text ++ 0 ∷ rest
-  pub plain : HasNoNul text
+-- the bytes begin with a string and its NUL, followed by `rest`
+pub record SplitsAtNul (bytes text rest : List ℕ) : Type 0 where
+  pub split : bytes ≡ text ++ 0 ∷ rest
+  pub no_nul : HasNoNul text
 
--- the same, where the text is UTF-8
+-- the same with a string of UTF-8
 pub record TextAt (bytes text rest : List ℕ) : Type 0 where
-  pub ends : EndsAtNul bytes text rest
+  pub splits_at_nul : SplitsAtNul bytes text rest
   pub utf8 : IsUtf8 text
 
--- some bytes that aren't UTF-8 end at the first NUL
-pub record EndsBadly (bytes : List ℕ) : Type 0 where
+-- the bytes before the first NUL aren't UTF-8
+pub record HasInvalidUtf8 (bytes : List ℕ) : Type 0 where
   pub text : List ℕ
   pub rest : List ℕ
-  pub ends : EndsAtNul bytes text rest
-  pub bad : ¬ IsUtf8 text
+  pub splits_at_nul : SplitsAtNul bytes text rest
+  pub not_utf8 : ¬ IsUtf8 text
 
--- these bytes begin with no text, and this is the kind of error that says how: there is no NUL, or what stands before the first isn't UTF-8
-abbrev pub TextFault : List ℕ → ErrorKind → Type 0
-TextFault bytes kind = ((kind ≡ UnexpectedEof) × HasNoNul bytes) ⊎ ((kind ≡ InvalidData) × EndsBadly bytes)
+-- the bytes begin with no string, and this is the kind of error: there is no NUL, or the bytes before the first aren't UTF-8
+abbrev pub TextError : List ℕ → ErrorKind → Type 0
+TextError bytes kind = ((kind ≡ UnexpectedEof) × HasNoNul bytes) ⊎ ((kind ≡ InvalidData) × HasInvalidUtf8 bytes)
 
--- what taking the text off the front does; a refusal takes nothing
-abbrev pub TakesText : List ℕ → Result (Bor (List ℕ)) Error → List ℕ → Type 0
-TakesText old (Ok text) new = TextAt old text.now new
-TakesText old (Err e) new = (new ≡ old) × TextFault old (error_kind e)
+-- the result of reading a string from the start of the bytes; an error leaves the bytes unchanged
+abbrev pub ReadsNulText : List ℕ → Result (Bor (List ℕ)) Error → List ℕ → Type 0
+ReadsNulText old (Ok text) new = TextAt old text.now new
+ReadsNulText old (Err e) new = (new ≡ old) × TextError old (error_kind e)

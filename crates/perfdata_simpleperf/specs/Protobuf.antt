@@ -1,5 +1,5 @@
--- Messages of protobuf, as its encoding guide has them.
-pub mod Wire
+-- Protobuf messages, as the protobuf encoding guide defines them.
+pub mod WireFormat
 pub mod Groups
 pub mod Fields
 pub mod Messages

@@ -1,4 +1,4 @@
-//! What Android's simpleperf adds to perf.data files, and the protobuf messages that it keeps there.
+//! Parsers for the sections that Android's simpleperf adds to perf.data files, and for the protobuf messages in them.
 #![tactic(auto)]
 
 pub mod protobuf;

@@ -1,4 +1,4 @@
-//! Protobuf messages in which simpleperf keeps the symbol tables of files.
+//! Decodes the protobuf messages in which simpleperf stores the symbol tables of files.
 
 mod field;
 mod groups;
@@ -6,5 +6,5 @@ mod laws;
 pub(crate) mod messages;
 mod wire;
 
-pub use laws::{groups_nest, one_message, one_number, one_value};
+pub use laws::{groups_nest, message_is_unique, value_is_unique, varint_is_unique};
 pub use perfdata_sections::decode_error::DecodeError;

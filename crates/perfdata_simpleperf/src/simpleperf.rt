@@ -1,5 +1,6 @@
-//! What Android's simpleperf adds to a file: its meta info, the names of its events, and symbol tables of the files that it met.
+//! Parsers for what Android's simpleperf adds to a file: meta info, event names, and symbol tables of the sampled files.
 
+pub(crate) mod chunks;
 mod event_types;
 mod file2;
 mod file_record;
@@ -7,7 +8,6 @@ mod file_section;
 mod file_v1;
 mod meta_info;
 mod nul_text;
-pub(crate) mod pieces;
 pub mod simpleperf_dso_type;
 
 pub use event_types::get_event_types;

@@ -1,38 +1,38 @@
-//! The words behind the program's name.
+//! The command-line arguments.
 ghost use Rattle.std.specs.Prelude.{◌≡◌, ◌↔◌, codes, Some, IsNone, IfSome, IfNone};
 
-use crate::fault::Fault;
+use crate::error::InfoError;
 use std::env;
 use std::env::Args;
 use std::io::ErrorKind;
 use std::rt::Env;
 
-/// What the words ask for.
+/// The command that the arguments select.
 #[derive(Drop)]
-pub enum Asked {
-    /// To tell of the perf.data file of this path.
+pub enum Command {
+    /// Report on the perf.data file at this path.
     File(String),
-    /// To tell of the pipe on standard input.
+    /// Report on the pipe on standard input.
     Pipe,
-    /// To tell of the jitdump file of this path.
+    /// Report on the jitdump file at this path.
     Jit(String),
-    /// Nothing that the program does.
+    /// The arguments are invalid.
     Other,
 }
 
-/// Reads the words. A word that isn't UTF-8 makes them other words.
-pub fn read_words<R: Env + AllocGlobal>(rt: &R) -> Result<Asked, Fault> {
+/// Parses the command-line arguments. Arguments that aren't UTF-8 are invalid. Fails only if out of memory.
+pub fn parse_args<R: Env + AllocGlobal>(rt: &R) -> Result<Command, InfoError> {
     match env::args(rt) {
         Ok(mut words) => {
             let _program = words.next();
-            Ok(asked_by(words))
+            Ok(command_from_args(words))
         }
-        Err(error) if error.kind() == ErrorKind::OutOfMemory => Err(Fault::Memory),
-        Err(_) => Ok(Asked::Other),
+        Err(error) if error.kind() == ErrorKind::OutOfMemory => Err(InfoError::OutOfMemory),
+        Err(_) => Ok(Command::Other),
     }
 }
 
-/// What the first word names.
+/// The first argument.
 #[derive(Clone, Copy)]
 enum Verb {
     File,
@@ -41,8 +41,8 @@ enum Verb {
 }
 
 impl Verb {
-    /// What a word names.
-    fn of(word: &str) -> Option<Verb>
+    /// Parses the first argument. Returns `None` if it is invalid.
+    fn parse(word: &str) -> Option<Verb>
         ensures file { (result ≡ Some Verb.File) ↔ (word.now ≡ codes "file") }
         ensures pipe { (result ≡ Some Verb.Pipe) ↔ (word.now ≡ codes "pipe") }
         ensures jit { (result ≡ Some Verb.Jit) ↔ (word.now ≡ codes "jit") }
@@ -56,29 +56,29 @@ impl Verb {
     }
 }
 
-/// What the words ask for.
-fn asked_by(mut words: Args) -> Asked {
+/// Returns the command that the arguments after the program's name select.
+fn command_from_args(mut words: Args) -> Command {
     let Some(word) = words.next() else {
-        return Asked::Other;
+        return Command::Other;
     };
     let path = words.next();
     if words.next().is_some() {
-        return Asked::Other;
+        return Command::Other;
     }
-    asked_of(word.as_str(), path)
+    command_of(word.as_str(), path)
 }
 
-/// What a word asks for, with the path behind it or with none.
-fn asked_of(word: &str, path: Option<String>) -> Asked
-    ensures file { IfSome path (λ name. (result ≡ Asked.File name) ↔ (word.now ≡ codes "file")) }
-    ensures jit { IfSome path (λ name. (result ≡ Asked.Jit name) ↔ (word.now ≡ codes "jit")) }
-    ensures pipe { IfNone path ((result ≡ Asked.Pipe) ↔ (word.now ≡ codes "pipe")) }
-    ensures alone { result ≡ Asked.Pipe → IsNone path }
+/// Returns the command of the first argument and of the path, if there is one.
+fn command_of(word: &str, path: Option<String>) -> Command
+    ensures file { IfSome path (λ name. (result ≡ Command.File name) ↔ (word.now ≡ codes "file")) }
+    ensures jit { IfSome path (λ name. (result ≡ Command.Jit name) ↔ (word.now ≡ codes "jit")) }
+    ensures pipe { IfNone path ((result ≡ Command.Pipe) ↔ (word.now ≡ codes "pipe")) }
+    ensures pipe_has_no_path { result ≡ Command.Pipe → IsNone path }
 {
-    match (Verb::of(word), path) {
-        (Some(Verb::File), Some(path)) => Asked::File(path),
-        (Some(Verb::Pipe), None) => Asked::Pipe,
-        (Some(Verb::Jit), Some(path)) => Asked::Jit(path),
-        _ => Asked::Other,
+    match (Verb::parse(word), path) {
+        (Some(Verb::File), Some(path)) => Command::File(path),
+        (Some(Verb::Pipe), None) => Command::Pipe,
+        (Some(Verb::Jit), Some(path)) => Command::Jit(path),
+        _ => Command::Other,
     }
 }

@@ -1,6 +1,6 @@
-//! The mapped objects: their build ids, and simpleperf's symbol files.
+//! Prints the build ids of the mapped objects, and simpleperf's symbol files.
 use crate::escape::{Escaped, Hex};
-use crate::page::Page;
+use crate::report::Report;
 use linux_perf_data::simpleperf_dso_type::{
     DSO_DEX_FILE, DSO_ELF_FILE, DSO_KERNEL, DSO_KERNEL_MODULE, DSO_SYMBOL_MAP_FILE,
 };
@@ -10,17 +10,17 @@ use std::collections::HashMap;
 use std::io::Write;
 
 /// A mapped object and its key.
-type Mapped<'a> = (&'a DsoKey, &'a DsoInfo);
+type DsoEntry<'a> = (&'a DsoKey, &'a DsoInfo);
 
-/// Prints the build ids, in the order of their paths, and the symbol files.
-pub fn show<W: Write>(alloc: Global, file: &PerfFile, page: &mut Page<W>) {
-    if let Some(ids) = page.told("build ids", file.build_ids(alloc).map(Some)) {
+/// Writes the build ids, ordered by path, and the symbol files.
+pub fn show<W: Write>(alloc: Global, file: &PerfFile, page: &mut Report<W>) {
+    if let Some(ids) = page.value_or_note("build ids", file.build_ids(alloc).map(Some)) {
         show_build_ids(alloc, &ids, page);
     }
-    if let Some(files) = page.told("symbol files", file.simpleperf_symbol_tables(alloc)) {
+    if let Some(files) = page.value_or_note("symbol files", file.simpleperf_symbol_tables(alloc)) {
         page.line("symbol files", files.len());
         for file in files.iter() {
-            let (kind, count) = (kind_of_file(file.type_), file.symbol.len());
+            let (kind, count) = (symbol_file_kind_name(file.type_), file.symbol.len());
             page.item(
                 Escaped(file.path.as_bytes()),
                 format_args!("{kind} symbols {count}"),
@@ -29,12 +29,12 @@ pub fn show<W: Write>(alloc: Global, file: &PerfFile, page: &mut Page<W>) {
     }
 }
 
-/// Prints the build ids.
-fn show_build_ids<W: Write>(alloc: Global, ids: &HashMap<DsoKey, DsoInfo>, page: &mut Page<W>) {
+/// Writes the build ids, ordered by path.
+fn show_build_ids<W: Write>(alloc: Global, ids: &HashMap<DsoKey, DsoInfo>, page: &mut Report<W>) {
     page.line("build ids", ids.len());
-    if let Some(objects) = page.told("build ids", by_path(alloc, ids)) {
+    if let Some(objects) = page.value_or_note("build ids", sorted_by_path(alloc, ids)) {
         for (key, object) in objects.iter() {
-            let (kind, path) = (kind_of(key), Escaped(object.path.as_slice()));
+            let (kind, path) = (dso_kind_name(key), Escaped(object.path.as_slice()));
             page.item(
                 Hex(object.build_id.as_slice()),
                 format_args!("{kind} {path}"),
@@ -43,21 +43,21 @@ fn show_build_ids<W: Write>(alloc: Global, ids: &HashMap<DsoKey, DsoInfo>, page:
     }
 }
 
-/// The objects in the order of their paths.
-fn by_path(
+/// Returns the objects, ordered by path.
+fn sorted_by_path(
     alloc: Global,
     ids: &HashMap<DsoKey, DsoInfo>,
-) -> Result<Option<Vec<Mapped<'_>>>, Error> {
+) -> Result<Option<Vec<DsoEntry<'_>>>, Error> {
     let mut objects = Vec::with_capacity(alloc, ids.len())?;
     for object in ids.iter() {
         objects.push(object)?;
     }
-    objects.sort_by(|a: &Mapped<'_>, b: &Mapped<'_>| a.1.path.cmp(&b.1.path))?;
+    objects.sort_by(|a: &DsoEntry<'_>, b: &DsoEntry<'_>| a.1.path.cmp(&b.1.path))?;
     Ok(Some(objects))
 }
 
-/// The kind of a mapped object.
-fn kind_of(key: &DsoKey) -> &'static str {
+/// Returns the name of a mapped object's kind.
+fn dso_kind_name(key: &DsoKey) -> &'static str {
     match key {
         DsoKey::Kernel => "kernel",
         DsoKey::GuestKernel => "guest-kernel",
@@ -68,8 +68,8 @@ fn kind_of(key: &DsoKey) -> &'static str {
     }
 }
 
-/// The kind of a symbol file.
-fn kind_of_file(number: u32) -> &'static str {
+/// Returns the name of a symbol file's kind.
+fn symbol_file_kind_name(number: u32) -> &'static str {
     match number {
         DSO_KERNEL => "kernel",
         DSO_KERNEL_MODULE => "module",

@@ -1,68 +1,71 @@
-//! Why the program ends before its end, in words, and its status.
+//! Errors of the program: their messages and exit status.
 ghost use Rattle.std.specs.Prelude.{◌≡◌, ◌⊎◌, OnOk, OnErr, IsErrOf};
 
 use linux_perf_data::Error;
 use linux_perf_data::jitdump::JitDumpError;
 use std::{fmt, io};
 
-/// What kept the program from telling all.
+/// An error that ends the program or makes its report incomplete.
 #[derive(Debug, Drop)]
-pub enum Fault {
-    /// The words ask for nothing that the program does.
-    Words,
-    /// The file doesn't open, or there is no memory to read it.
+pub enum InfoError {
+    /// The command-line arguments are invalid.
+    Usage,
+    /// The file can't be opened, or there isn't enough memory for its buffer.
     Open(io::Error),
-    /// It is no perf.data file or pipe that can be read.
-    Refused(Error),
-    /// A record was refused. The records before it end so many bytes behind the first one's begin.
+    /// The input can't be parsed as a perf.data file or pipe.
+    Parse(Error),
+    /// A record can't be read. The records before it end `behind` bytes after the start of the first record.
     Record { behind: u64, cause: Error },
-    /// It is no jitdump file that can be read.
-    JitRefused(JitDumpError),
-    /// A jitdump's record was refused. The records before it end so many bytes behind the file's begin.
+    /// The input can't be parsed as a jitdump file.
+    JitParse(JitDumpError),
+    /// A jitdump record can't be read. The records before it end `behind` bytes after the start of the file.
     JitRecord { behind: u64, cause: io::Error },
-    /// So many sections can't be read; their lines say why.
-    Sections(u64),
-    /// Standard output refused a line.
+    /// Number of sections that can't be read. Each section's line states its error.
+    UnreadableSections(u64),
+    /// Writing to standard output fails.
     Write(io::Error),
-    /// Memory ran out.
-    Memory,
+    /// Out of memory.
+    OutOfMemory,
 }
 
-impl fmt::Display for Fault {
+impl fmt::Display for InfoError {
     fn fmt<W: fmt::Write>(&self, f: &mut fmt::Formatter<W>) -> fmt::Result {
         match self {
-            Fault::Words => write!(f, "usage: perfinfo file PATH | pipe | jit PATH"),
-            Fault::Open(cause) => write!(f, "perfinfo: can't open: {cause}"),
-            Fault::Refused(cause) => write!(f, "perfinfo: can't open: {cause}"),
-            Fault::JitRefused(cause) => write!(f, "perfinfo: can't open: {cause}"),
-            Fault::Record { behind, cause } => {
+            InfoError::Usage => write!(f, "usage: perfinfo file PATH | pipe | jit PATH"),
+            InfoError::Open(cause) => write!(f, "perfinfo: can't open: {cause}"),
+            InfoError::Parse(cause) => write!(f, "perfinfo: can't open: {cause}"),
+            InfoError::JitParse(cause) => write!(f, "perfinfo: can't open: {cause}"),
+            InfoError::Record { behind, cause } => {
                 write!(
                     f,
                     "perfinfo: fault behind {behind} bytes of records: {cause}"
                 )
             }
-            Fault::JitRecord { behind, cause } => {
+            InfoError::JitRecord { behind, cause } => {
                 write!(
                     f,
                     "perfinfo: fault behind {behind} bytes of the file: {cause}"
                 )
             }
-            Fault::Sections(count) => write!(f, "perfinfo: sections that can't be read: {count}"),
-            Fault::Write(cause) => write!(f, "perfinfo: can't write: {cause}"),
-            Fault::Memory => write!(f, "perfinfo: out of memory"),
+            InfoError::UnreadableSections(count) => write!(
+                f,
+                "perfinfo: sections that can't be read: {count}"
+            ),
+            InfoError::Write(cause) => write!(f, "perfinfo: can't write: {cause}"),
+            InfoError::OutOfMemory => write!(f, "perfinfo: out of memory"),
         }
     }
 }
 
-/// The program's status: 0 where all was told, 1 for other words, else 2.
-pub fn status(outcome: &Result<(), Fault>) -> u8
-    ensures told { OnOk outcome.now (result ≡ 0) }
-    ensures words { IsErrOf outcome.now Fault.Words → result ≡ 1 }
-    ensures fault { OnErr outcome.now ((result ≡ 2) ⊎ IsErrOf outcome.now Fault.Words) }
+/// Returns the exit status: 0 on success, 1 for invalid arguments, 2 for other errors.
+pub fn exit_status(outcome: &Result<(), InfoError>) -> u8
+    ensures on_ok { OnOk outcome.now (result ≡ 0) }
+    ensures on_usage { IsErrOf outcome.now InfoError.Usage → result ≡ 1 }
+    ensures on_error { OnErr outcome.now ((result ≡ 2) ⊎ IsErrOf outcome.now InfoError.Usage) }
 {
     match outcome {
         Ok(()) => 0,
-        Err(Fault::Words) => 1,
+        Err(InfoError::Usage) => 1,
         Err(_) => 2,
     }
 }

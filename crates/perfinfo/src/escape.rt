@@ -1,21 +1,21 @@
-//! Texts that may hold anything, printed on one line.
+//! Displays arbitrary bytes on one line.
 ghost use Rattle.std.specs.Prelude.{◌≢◌, ◌<◌, ◌≤◌, ◌↔◌, IsTrue};
 
 use std::fmt::Write;
 use std::{fmt, str};
 
-/// Shows a text with its control characters and backslashes escaped, or bytes that are no text with all escaped but
-/// printable ASCII.
+/// Displays bytes on one line. In UTF-8 text, control characters and backslashes are escaped. In other bytes, everything but
+/// printable ASCII is escaped, and so are backslashes.
 #[derive(Clone, Copy)]
 pub struct Escaped<'a>(pub &'a [u8]);
 
-/// Whether a character is shown as it is.
-fn is_plain(letter: char) -> bool {
-    !letter.is_control() && letter != '\\'
+/// Whether a character of UTF-8 text is written unescaped.
+fn is_shown(character: char) -> bool {
+    !character.is_control() && character != '\\'
 }
 
-/// Whether a byte of what is no text is shown as it is.
-fn is_plain_byte(byte: u8) -> bool
+/// Whether a byte is written unescaped if the bytes aren't UTF-8.
+fn is_shown_byte(byte: u8) -> bool
     ensures { IsTrue result ↔ ((32 ≤ byte) × (byte < 127) × (byte ≢ 92)) }
 {
     (b' '..=b'~').contains(&byte) && byte != b'\\'
@@ -24,15 +24,15 @@ fn is_plain_byte(byte: u8) -> bool
 impl fmt::Display for Escaped<'_> {
     fn fmt<W: fmt::Write>(&self, f: &mut fmt::Formatter<W>) -> fmt::Result {
         match str::from_utf8(self.0) {
-            Ok(text) => show_text(text, f),
-            Err(_) => show_bytes(self.0, f),
+            Ok(text) => write_escaped_text(text, f),
+            Err(_) => write_escaped_bytes(self.0, f),
         }
     }
 }
 
-fn show_text<W: fmt::Write>(text: &str, f: &mut fmt::Formatter<W>) -> fmt::Result {
+fn write_escaped_text<W: fmt::Write>(text: &str, f: &mut fmt::Formatter<W>) -> fmt::Result {
     for letter in text.chars() {
-        if is_plain(letter) {
+        if is_shown(letter) {
             f.write_char(letter)?;
         } else {
             write!(f, "\\x{:02x}", letter as u32)?;
@@ -41,9 +41,9 @@ fn show_text<W: fmt::Write>(text: &str, f: &mut fmt::Formatter<W>) -> fmt::Resul
     Ok(())
 }
 
-fn show_bytes<W: fmt::Write>(bytes: &[u8], f: &mut fmt::Formatter<W>) -> fmt::Result {
+fn write_escaped_bytes<W: fmt::Write>(bytes: &[u8], f: &mut fmt::Formatter<W>) -> fmt::Result {
     for byte in bytes {
-        if is_plain_byte(*byte) {
+        if is_shown_byte(*byte) {
             f.write_char(char::from(*byte))?;
         } else {
             write!(f, "\\x{:02x}", *byte)?;
@@ -52,7 +52,7 @@ fn show_bytes<W: fmt::Write>(bytes: &[u8], f: &mut fmt::Formatter<W>) -> fmt::Re
     Ok(())
 }
 
-/// Shows bytes as hexadecimal digits.
+/// Displays bytes as hexadecimal digits.
 #[derive(Clone, Copy)]
 pub struct Hex<'a>(pub &'a [u8]);
 

@@ -1,54 +1,54 @@
-//! The events: what each one's attribute says, and what was counted of its records.
+//! Prints the events: the fields of their attributes and the counts of their records.
 use crate::escape::Escaped;
-use crate::names::{Bits, FLAGS, READ_FORMAT, SAMPLE_FORMAT, event_type_name};
-use crate::page::Page;
-use crate::records::{Count, Tally};
+use crate::names::{ATTR_FLAGS, BitNames, READ_FORMAT, SAMPLE_FORMAT, event_type_name};
+use crate::records::{EventCounts, RecordCounts};
+use crate::report::Report;
 use linux_perf_data::PerfFile;
 use linux_perf_data::attr::PerfEventAttr;
 use std::fmt;
 use std::io::Write;
 
-/// The flag by which `period_or_freq` is a frequency.
-const FREQ: u64 = 1 << 10;
+/// The attribute flag that makes `period_or_freq` a frequency.
+const FREQ_FLAG: u64 = 1 << 10;
 
-/// Prints each event.
-pub fn show<W: Write>(file: &PerfFile, tally: &Tally, page: &mut Page<W>) {
+/// Writes one item for each event, with the fields of its attribute, its ids and its counts.
+pub fn show<W: Write>(file: &PerfFile, tally: &RecordCounts, page: &mut Report<W>) {
     page.line("events", file.event_attributes().len());
     for (index, event) in file.event_attributes().iter().enumerate() {
         page.item(
             format_args!("event {index}"),
             Escaped(event.name().unwrap_or("unnamed").as_bytes()),
         );
-        show_attribute(event.attributes(), page);
-        page.detail("ids", Ids(event.ids()));
-        show_count(tally.of_event(index), page);
+        show_attr(event.attributes(), page);
+        page.detail("ids", IdList(event.ids()));
+        show_counts(tally.event_counts(index), page);
     }
 }
 
-/// What an attribute says.
-fn show_attribute<W: Write>(attr: &PerfEventAttr, page: &mut Page<W>) {
+/// Writes the fields of an attribute.
+fn show_attr<W: Write>(attr: &PerfEventAttr, page: &mut Report<W>) {
     page.detail("type", event_type_name(attr.type_));
     page.detail("type number", attr.type_);
     page.detail("config", attr.config);
-    let name = if attr.flags.0 & FREQ == 0 {
+    let name = if attr.flags.0 & FREQ_FLAG == 0 {
         "period"
     } else {
         "frequency"
     };
     page.detail(name, attr.period_or_freq);
     let (bits, names) = (attr.sample_format.0, SAMPLE_FORMAT);
-    page.detail("sample format", Bits { bits, names });
+    page.detail("sample format", BitNames { bits, names });
     let (bits, names) = (attr.read_format, READ_FORMAT);
-    page.detail("read format", Bits { bits, names });
-    let (bits, names) = (attr.flags.0, FLAGS);
-    page.detail("flags", Bits { bits, names });
+    page.detail("read format", BitNames { bits, names });
+    let (bits, names) = (attr.flags.0, ATTR_FLAGS);
+    page.detail("flags", BitNames { bits, names });
 }
 
-/// Shows the ids of an event's records.
+/// Displays the number of ids and then each id.
 #[derive(Clone, Copy)]
-struct Ids<'a>(&'a [u64]);
+struct IdList<'a>(&'a [u64]);
 
-impl fmt::Display for Ids<'_> {
+impl fmt::Display for IdList<'_> {
     fn fmt<W: fmt::Write>(&self, f: &mut fmt::Formatter<W>) -> fmt::Result {
         write!(f, "{}", self.0.len())?;
         let mut separator = ":";
@@ -60,11 +60,11 @@ impl fmt::Display for Ids<'_> {
     }
 }
 
-/// What was counted of an event's records.
-fn show_count<W: Write>(count: Count, page: &mut Page<W>) {
+/// Writes the counts of an event and the times of its first and last sample.
+fn show_counts<W: Write>(count: EventCounts, page: &mut Report<W>) {
     page.detail("records", count.records);
     page.detail("samples", count.samples);
-    if let (Some(first), Some(last)) = (count.first, count.last) {
+    if let (Some(first), Some(last)) = (count.first_sample, count.last_sample) {
         page.detail("first sample in ns", first);
         page.detail("last sample in ns", last);
     }

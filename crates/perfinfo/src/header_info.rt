@@ -1,68 +1,68 @@
-//! The machine and the recording: what the sections of a file or a pipe tell.
+//! Prints the machine and the recording from the feature sections of a file or pipe.
 use crate::escape::Escaped;
 use crate::names::clock_name;
-use crate::page::Page;
+use crate::report::Report;
 use linux_perf_data::{Endianness, Error, PerfFile};
 use std::alloc::Global;
 use std::collections::HashMap;
 use std::fmt;
 use std::io::Write;
 
-/// Prints all of it. What isn't told has no line.
-pub fn show<W: Write>(alloc: Global, file: &PerfFile, page: &mut Page<W>) {
-    show_texts(file, page);
+/// Writes all lines. A missing value has no line.
+pub fn show<W: Write>(alloc: Global, file: &PerfFile, page: &mut Report<W>) {
+    show_strings(file, page);
     show_numbers(file, page);
-    show_command(alloc, file, page);
+    show_command_line(alloc, file, page);
     show_times(file, page);
     show_clock(file, page);
     show_compression(file, page);
     show_features(file, page);
-    show_units(alloc, file, page);
+    show_pmu_mappings(alloc, file, page);
     show_meta_info(alloc, file, page);
 }
 
-/// The texts.
-fn show_texts<W: Write>(file: &PerfFile, page: &mut Page<W>) {
-    page.text("host name", file.hostname());
-    page.text("OS release", file.os_release());
-    page.text("perf version", file.perf_version());
-    page.text("architecture", file.arch());
-    page.text("CPU description", file.cpu_desc());
-    page.text("CPU id", file.cpu_id());
+/// Writes the feature sections that contain a string.
+fn show_strings<W: Write>(file: &PerfFile, page: &mut Report<W>) {
+    page.string_line("host name", file.hostname());
+    page.string_line("OS release", file.os_release());
+    page.string_line("perf version", file.perf_version());
+    page.string_line("architecture", file.arch());
+    page.string_line("CPU description", file.cpu_desc());
+    page.string_line("CPU id", file.cpu_id());
 }
 
-/// The name of the order of a file's numbers.
-pub fn order_name(order: Endianness) -> &'static str {
+/// Returns the name of a byte order.
+pub fn byte_order_name(order: Endianness) -> &'static str {
     match order {
         Endianness::LittleEndian => "little-endian",
         Endianness::BigEndian => "big-endian",
     }
 }
 
-/// The numbers.
-fn show_numbers<W: Write>(file: &PerfFile, page: &mut Page<W>) {
-    if let Some(cpus) = page.told("CPUs", file.nr_cpus()) {
+/// Writes the numeric values and the byte order.
+fn show_numbers<W: Write>(file: &PerfFile, page: &mut Report<W>) {
+    if let Some(cpus) = page.value_or_note("CPUs", file.nr_cpus()) {
         page.line("CPUs available", cpus.nr_cpus_available);
         page.line("CPUs online", cpus.nr_cpus_online);
     }
-    page.number("memory in kB", file.total_mem());
-    page.line("byte order", order_name(file.endian()));
+    page.number_line("memory in kB", file.total_mem());
+    page.line("byte order", byte_order_name(file.endian()));
     let stat = if file.is_stats() { "yes" } else { "no" };
     page.line("written by perf stat", stat);
 }
 
-/// The command line that recorded, its words with a space between.
-fn show_command<W: Write>(alloc: Global, file: &PerfFile, page: &mut Page<W>) {
-    if let Some(words) = page.told("command line", file.cmdline(alloc)) {
-        page.line("command line", Command(words.as_slice()));
+/// Writes the recording's command line, with spaces between the arguments.
+fn show_command_line<W: Write>(alloc: Global, file: &PerfFile, page: &mut Report<W>) {
+    if let Some(words) = page.value_or_note("command line", file.cmdline(alloc)) {
+        page.line("command line", CommandLine(words.as_slice()));
     }
 }
 
-/// Shows the words of a command line.
+/// Displays the arguments of a command line, with spaces between them.
 #[derive(Clone, Copy)]
-struct Command<'a>(&'a [&'a str]);
+struct CommandLine<'a>(&'a [&'a str]);
 
-impl fmt::Display for Command<'_> {
+impl fmt::Display for CommandLine<'_> {
     fn fmt<W: fmt::Write>(&self, f: &mut fmt::Formatter<W>) -> fmt::Result {
         let mut separator = "";
         for word in self.0 {
@@ -73,18 +73,18 @@ impl fmt::Display for Command<'_> {
     }
 }
 
-/// The times of the first and of the last sample, as the section says.
-fn show_times<W: Write>(file: &PerfFile, page: &mut Page<W>) {
-    if let Some(times) = page.told("sample times", file.sample_time_range()) {
+/// Writes the times of the first and the last sample from the sample time section.
+fn show_times<W: Write>(file: &PerfFile, page: &mut Report<W>) {
+    if let Some(times) = page.value_or_note("sample times", file.sample_time_range()) {
         page.line("first sample in ns", times.first_sample_time);
         page.line("last sample in ns", times.last_sample_time);
     }
 }
 
-/// The clock that times were taken from.
-fn show_clock<W: Write>(file: &PerfFile, page: &mut Page<W>) {
-    page.number("clock tick in ns", file.clock_frequency());
-    if let Some(clock) = page.told("clock", file.clock_data()) {
+/// Writes the clock of the timestamps.
+fn show_clock<W: Write>(file: &PerfFile, page: &mut Report<W>) {
+    page.number_line("clock tick in ns", file.clock_frequency());
+    if let Some(clock) = page.value_or_note("clock", file.clock_data()) {
         page.line("clock", clock_name(clock.clockid));
         page.line("clock number", clock.clockid);
         page.line("clock time in ns", clock.clockid_time_ns);
@@ -92,9 +92,9 @@ fn show_clock<W: Write>(file: &PerfFile, page: &mut Page<W>) {
     }
 }
 
-/// How records were compressed.
-fn show_compression<W: Write>(file: &PerfFile, page: &mut Page<W>) {
-    if let Some(compression) = page.told("compression", file.compression_info()) {
+/// Writes how the records are compressed.
+fn show_compression<W: Write>(file: &PerfFile, page: &mut Report<W>) {
+    if let Some(compression) = page.value_or_note("compression", file.compression_info()) {
         page.line("compression type", compression.type_);
         page.line("compression version", compression.version);
         page.line("compression level", compression.level);
@@ -103,8 +103,8 @@ fn show_compression<W: Write>(file: &PerfFile, page: &mut Page<W>) {
     }
 }
 
-/// The features, each with the bytes of its section.
-fn show_features<W: Write>(file: &PerfFile, page: &mut Page<W>) {
+/// Writes the features, each with the size of its section in bytes.
+fn show_features<W: Write>(file: &PerfFile, page: &mut Report<W>) {
     page.line("features", file.features().len());
     for feature in file.features().iter() {
         if let Some(section) = file.feature_section_data(feature) {
@@ -113,9 +113,9 @@ fn show_features<W: Write>(file: &PerfFile, page: &mut Page<W>) {
     }
 }
 
-/// The performance monitoring units by their numbers.
-fn show_units<W: Write>(alloc: Global, file: &PerfFile, page: &mut Page<W>) {
-    if let Some(units) = page.told("PMU mappings", file.pmu_mappings(alloc)) {
+/// Writes the performance monitoring units, ordered by number.
+fn show_pmu_mappings<W: Write>(alloc: Global, file: &PerfFile, page: &mut Report<W>) {
+    if let Some(units) = page.value_or_note("PMU mappings", file.pmu_mappings(alloc)) {
         page.line("PMU mappings", units.0.len());
         for (number, name) in units.0.iter() {
             page.item(*number, Escaped(name.as_bytes()));
@@ -123,11 +123,11 @@ fn show_units<W: Write>(alloc: Global, file: &PerfFile, page: &mut Page<W>) {
     }
 }
 
-/// What simpleperf says, in the order of its keys.
-fn show_meta_info<W: Write>(alloc: Global, file: &PerfFile, page: &mut Page<W>) {
-    if let Some(map) = page.told("meta info", file.simpleperf_meta_info(alloc)) {
+/// Writes simpleperf's meta info, ordered by key.
+fn show_meta_info<W: Write>(alloc: Global, file: &PerfFile, page: &mut Report<W>) {
+    if let Some(map) = page.value_or_note("meta info", file.simpleperf_meta_info(alloc)) {
         page.line("meta info", map.len());
-        if let Some(pairs) = page.told("meta info", by_key(alloc, &map)) {
+        if let Some(pairs) = page.value_or_note("meta info", sorted_pairs(alloc, &map)) {
             for (key, value) in pairs.iter() {
                 page.item(Escaped(key.as_bytes()), Escaped(value.as_bytes()));
             }
@@ -138,8 +138,8 @@ fn show_meta_info<W: Write>(alloc: Global, file: &PerfFile, page: &mut Page<W>) 
 /// A key and its value.
 type Pair<'a> = (&'a str, &'a str);
 
-/// The pairs in the order of their keys.
-fn by_key<'a>(
+/// Returns the pairs, ordered by key.
+fn sorted_pairs<'a>(
     alloc: Global,
     map: &HashMap<&'a str, &'a str>,
 ) -> Result<Option<Vec<Pair<'a>>>, Error> {

@@ -1,11 +1,11 @@
-//! A jitdump file: its header, its records by type, and the code in it.
+//! Prints a jitdump file: its header, its records by type, and its code.
 ghost use Rattle.std.specs.Prelude.{◌↔◌, IsOk, IsNone};
 
+use crate::error::InfoError;
 use crate::escape::Escaped;
-use crate::fault::Fault;
-use crate::machine::order_name;
-use crate::names::jit_record_name;
-use crate::page::Page;
+use crate::header_info::byte_order_name;
+use crate::names::jit_record_type_name;
+use crate::report::Report;
 use linux_perf_data::jitdump::{JitDumpRawRecord, JitDumpReader, JitDumpRecord};
 use linux_perf_data::raw::RawData;
 use linux_perf_data::source::Source;
@@ -15,52 +15,52 @@ use std::collections::BTreeMap;
 use std::io;
 use std::io::Write;
 
-/// How many of the largest functions are told.
-const MOST: usize = 10;
+/// Maximum number of largest functions in the report.
+const MAX_FUNCTIONS: usize = 10;
 
-/// A function that was made.
+/// A function of a load record.
 #[derive(Drop)]
-struct Function {
+struct JitFunction {
     size: u64,
     name: Vec<u8>,
 }
 
-/// What is counted of a jitdump's records.
+/// Counts of a jitdump file's records.
 #[derive(Drop)]
-struct Tally {
-    kinds: BTreeMap<u32, u64>,
+struct JitCounts {
+    per_type: BTreeMap<u32, u64>,
     code: u64,
-    /// The largest functions, the largest first.
-    largest: Vec<Function>,
-    /// Where the records end that were read, in bytes of the file.
+    /// The largest functions, ordered by decreasing size.
+    largest: Vec<JitFunction>,
+    /// File offset of the end of the records that were read, in bytes.
     end: u64,
 }
 
-/// A jitdump file that was read as far as it goes.
+/// A jitdump file that was read to its end or to the first error.
 #[derive(Drop)]
-pub struct Dump<R> {
+pub struct JitSummary<R> {
     reader: JitDumpReader<R>,
-    tally: Tally,
-    fault: Option<io::Error>,
+    counts: JitCounts,
+    error: Option<io::Error>,
 }
 
-/// The bytes of one piece or two.
-fn copied(alloc: Global, bytes: RawData<'_>) -> Result<Vec<u8>, AllocError> {
+/// Copies the bytes to a `Vec`.
+fn to_vec(alloc: Global, bytes: RawData<'_>) -> Result<Vec<u8>, AllocError> {
     bytes.as_slice(alloc)?.into_owned(alloc)
 }
 
-impl Tally {
-    /// Of no record.
-    fn new(alloc: Global) -> Tally {
-        Tally {
-            kinds: BTreeMap::new(alloc),
+impl JitCounts {
+    /// Creates counts with no records.
+    fn new(alloc: Global) -> JitCounts {
+        JitCounts {
+            per_type: BTreeMap::new(alloc),
             code: 0,
             largest: Vec::new(alloc),
             end: 0,
         }
     }
 
-    /// Counts a function of so many bytes of code.
+    /// Adds a function with `size` bytes of code to the counts.
     fn add_function(
         &mut self,
         alloc: Global,
@@ -68,31 +68,31 @@ impl Tally {
         name: RawData<'_>,
     ) -> Result<(), AllocError> {
         self.code = self.code.saturating_add(size);
-        let name = copied(alloc, name)?;
-        self.largest.push(Function { size, name })?;
+        let name = to_vec(alloc, name)?;
+        self.largest.push(JitFunction { size, name })?;
         self.largest
-            .sort_by_key(|function: &Function| Reverse(function.size))?;
-        self.largest.truncate(MOST);
+            .sort_by_key(|function: &JitFunction| Reverse(function.size))?;
+        self.largest.truncate(MAX_FUNCTIONS);
         Ok(())
     }
 
-    /// Counts a record.
+    /// Adds a record to the counts.
     fn add(&mut self, alloc: Global, raw: &JitDumpRawRecord<'_>) -> io::Result<()> {
         if let JitDumpRecord::CodeLoad(load) = raw.parse(alloc)? {
             self.add_function(alloc, load.code_bytes.len() as u64, load.function_name)?;
         }
-        let count = self.kinds.entry(raw.record_type.0)?.or_insert(0);
+        let count = self.per_type.entry(raw.record_type.0)?.or_insert(0);
         *count = count.saturating_add(1);
         self.end = raw.start_offset.saturating_add(raw.record_size as u64);
         Ok(())
     }
 }
 
-/// Counts the records that are to come.
-fn read_records<R: Source>(
+/// Counts the remaining records until the end or the first error.
+fn count_records<R: Source>(
     alloc: Global,
     reader: &mut JitDumpReader<R>,
-    tally: &mut Tally,
+    tally: &mut JitCounts,
 ) -> io::Result<()> {
     for _ in 0..u64::MAX {
         let Some(raw) = reader.next_record()? else {
@@ -103,50 +103,53 @@ fn read_records<R: Source>(
     Ok(())
 }
 
-impl<R: Source + Drop> Dump<R> {
-    /// Reads a jitdump file up to the first record that isn't there whole.
-    pub fn read(alloc: Global, source: R) -> Result<Dump<R>, Fault> {
-        let mut reader = JitDumpReader::new(alloc, source).map_err(Fault::JitRefused)?;
-        let mut tally = Tally::new(alloc);
+impl<R: Source + Drop> JitSummary<R> {
+    /// Reads a jitdump file until its last complete record or the first error. Fails if the header can't be parsed.
+    pub fn read(alloc: Global, source: R) -> Result<JitSummary<R>, InfoError> {
+        let mut reader = JitDumpReader::new(alloc, source).map_err(InfoError::JitParse)?;
+        let mut tally = JitCounts::new(alloc);
         tally.end = reader.next_record_offset();
-        let fault = read_records(alloc, &mut reader, &mut tally).err();
-        Ok(Dump {
+        let fault = count_records(alloc, &mut reader, &mut tally).err();
+        Ok(JitSummary {
             reader,
-            tally,
-            fault,
+            counts: tally,
+            error: fault,
         })
     }
 
-    /// Whether the records came to their end.
-    pub fn end(self) -> Result<(), Fault>
-        ensures { IsOk result ↔ IsNone self.fault }
+    /// Fails with the error that ends the records, if there is one.
+    pub fn into_result(self) -> Result<(), InfoError>
+        ensures { IsOk result ↔ IsNone self.error }
     {
-        let behind = self.tally.end;
-        match self.fault {
-            Some(cause) => Err(Fault::JitRecord { behind, cause }),
+        let behind = self.counts.end;
+        match self.error {
+            Some(cause) => Err(InfoError::JitRecord { behind, cause }),
             None => Ok(()),
         }
     }
 
-    /// Prints what was read.
-    pub fn show<W: Write>(&self, page: &mut Page<W>) {
+    /// Writes the header and the counts.
+    pub fn show<W: Write>(&self, page: &mut Report<W>) {
         let header = self.reader.header();
-        page.line("byte order", order_name(self.reader.endian()));
+        page.line("byte order", byte_order_name(self.reader.endian()));
         page.line("version", header.version);
         page.line("machine number", header.elf_machine_arch);
         page.line("process", header.pid);
         page.line("time", header.timestamp);
         page.line("flags", header.flags);
-        self.tally.show(page);
+        self.counts.show(page);
     }
 }
 
-impl Tally {
-    /// Prints what was counted.
-    fn show<W: Write>(&self, page: &mut Page<W>) {
-        page.line("records by type", self.kinds.len());
-        for (kind, count) in self.kinds.iter() {
-            page.item(format_args!("{} ({kind})", jit_record_name(*kind)), *count);
+impl JitCounts {
+    /// Writes the counts.
+    fn show<W: Write>(&self, page: &mut Report<W>) {
+        page.line("records by type", self.per_type.len());
+        for (kind, count) in self.per_type.iter() {
+            page.item(
+                format_args!("{} ({kind})", jit_record_type_name(*kind)),
+                *count,
+            );
         }
         page.line("bytes of records", self.end);
         page.line("bytes of code", self.code);

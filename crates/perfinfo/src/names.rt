@@ -1,7 +1,7 @@
-//! The names that Linux gives to numbers.
+//! The names of Linux constants.
 use std::fmt;
 
-/// The clocks of `clock_gettime` that a recording may have.
+/// Returns the name of a clock of `clock_gettime`.
 pub fn clock_name(number: u32) -> &'static str {
     match number {
         0 => "realtime",
@@ -13,7 +13,7 @@ pub fn clock_name(number: u32) -> &'static str {
     }
 }
 
-/// The types of events (`perf_type_id`); higher ones are units by PMU_MAPPINGS.
+/// Returns the name of an event type (`perf_type_id`). Higher numbers are dynamic units of PMU_MAPPINGS.
 pub fn event_type_name(number: u32) -> &'static str {
     match number {
         0 => "hardware",
@@ -26,27 +26,27 @@ pub fn event_type_name(number: u32) -> &'static str {
     }
 }
 
-/// What a sample holds, from the lowest bit on (`perf_event_sample_format`).
+/// Names of the sample format's bits, from the lowest (`perf_event_sample_format`).
 pub const SAMPLE_FORMAT: &str =
     "IP TID TIME ADDR READ CALLCHAIN ID CPU PERIOD STREAM_ID RAW BRANCH_STACK REGS_USER STACK_USER WEIGHT DATA_SRC IDENTIFIER TRANSACTION REGS_INTR PHYS_ADDR AUX CGROUP DATA_PAGE_SIZE CODE_PAGE_SIZE WEIGHT_STRUCT";
 
-/// An attribute's flags, from the lowest bit on (`perf_event_attr`); the precision has two bits.
-pub const FLAGS: &str =
+/// Names of an attribute's flags, from the lowest (`perf_event_attr`). `precise_ip` has two bits.
+pub const ATTR_FLAGS: &str =
     "disabled inherit pinned exclusive exclude_user exclude_kernel exclude_hv exclude_idle mmap comm freq inherit_stat enable_on_exec task watermark precise_ip_1 precise_ip_2 mmap_data sample_id_all exclude_host exclude_guest exclude_callchain_kernel exclude_callchain_user mmap2 comm_exec use_clockid context_switch write_backward namespaces ksymbol bpf_event aux_output cgroup text_poke build_id inherit_thread remove_on_exec sigtrap";
 
-/// What a read of an event's count holds, from the lowest bit on (`perf_event_read_format`).
+/// Names of the read format's bits, from the lowest (`perf_event_read_format`).
 pub const READ_FORMAT: &str = "TOTAL_TIME_ENABLED TOTAL_TIME_RUNNING ID GROUP LOST";
 
-/// Shows a number and the names of the bits that it has, from the lowest on.
+/// Displays a number in hexadecimal and the names of its set bits, from the lowest.
 #[derive(Clone, Copy)]
-pub struct Bits {
+pub struct BitNames {
     /// The number.
     pub bits: u64,
-    /// The names of its bits, with a space between.
+    /// The names of the bits from the lowest, separated by spaces.
     pub names: &'static str,
 }
 
-impl fmt::Display for Bits {
+impl fmt::Display for BitNames {
     fn fmt<W: fmt::Write>(&self, f: &mut fmt::Formatter<W>) -> fmt::Result {
         write!(f, "{:#x}", self.bits)?;
         let mut left = self.bits;
@@ -60,36 +60,36 @@ impl fmt::Display for Bits {
     }
 }
 
-/// The kernel's types of records from 1 on (`perf_event_type`).
-const KERNEL_RECORDS: &str =
+/// Names of the kernel's record types from 1 (`perf_event_type`).
+const KERNEL_RECORD_NAMES: &str =
     "MMAP LOST COMM EXIT THROTTLE UNTHROTTLE FORK READ SAMPLE MMAP2 AUX ITRACE_START LOST_SAMPLES SWITCH SWITCH_CPU_WIDE NAMESPACES KSYMBOL BPF_EVENT CGROUP TEXT_POKE AUX_OUTPUT_HW_ID";
 
-/// The tools' types of records from 64 on, of perf.
-const TOOL_RECORDS: &str =
+/// Names of perf's user record types from 64.
+const USER_RECORD_NAMES: &str =
     "HEADER_ATTR HEADER_EVENT_TYPE HEADER_TRACING_DATA HEADER_BUILD_ID FINISHED_ROUND ID_INDEX AUXTRACE_INFO AUXTRACE AUXTRACE_ERROR THREAD_MAP CPU_MAP STAT_CONFIG STAT STAT_ROUND EVENT_UPDATE TIME_CONV HEADER_FEATURE COMPRESSED FINISHED_INIT COMPRESSED2";
 
-/// The tools' types of records from 32,769 on, of simpleperf.
-const SIMPLEPERF_RECORDS: &str =
+/// Names of simpleperf's user record types from 32,769.
+const SIMPLEPERF_RECORD_NAMES: &str =
     "SIMPLEPERF_KERNEL_SYMBOL SIMPLEPERF_DSO SIMPLEPERF_SYMBOL SIMPLEPERF_SPLIT SIMPLEPERF_SPLIT_END SIMPLEPERF_EVENT_ID SIMPLEPERF_CALLCHAIN SIMPLEPERF_UNWINDING_RESULT SIMPLEPERF_TRACING_DATA";
 
-/// The types of a jitdump's records.
-const JIT_RECORDS: &str = "CODE_LOAD CODE_MOVE CODE_DEBUG_INFO CODE_CLOSE CODE_UNWINDING_INFO";
+/// Names of the record types of jitdump files from 0.
+const JIT_RECORD_NAMES: &str = "CODE_LOAD CODE_MOVE CODE_DEBUG_INFO CODE_CLOSE CODE_UNWINDING_INFO";
 
-/// The name at a number's place in a list whose first is this.
+/// Returns the name of a number in a list that starts with the name of `first`.
 fn name_at(names: &'static str, first: u32, number: u32) -> Option<&'static str> {
     let place = number.checked_sub(first)?;
     names.split(' ').nth(place as usize)
 }
 
-/// The name of a type of records.
-pub fn record_name(number: u32) -> &'static str {
-    name_at(KERNEL_RECORDS, 1, number)
-        .or(name_at(TOOL_RECORDS, 64, number))
-        .or(name_at(SIMPLEPERF_RECORDS, 32769, number))
+/// Returns the name of a record type.
+pub fn record_type_name(number: u32) -> &'static str {
+    name_at(KERNEL_RECORD_NAMES, 1, number)
+        .or(name_at(USER_RECORD_NAMES, 64, number))
+        .or(name_at(SIMPLEPERF_RECORD_NAMES, 32769, number))
         .unwrap_or("unknown")
 }
 
-/// The name of a type of a jitdump's records.
-pub fn jit_record_name(number: u32) -> &'static str {
-    name_at(JIT_RECORDS, 0, number).unwrap_or("unknown")
+/// Returns the name of a record type of jitdump files.
+pub fn jit_record_type_name(number: u32) -> &'static str {
+    name_at(JIT_RECORD_NAMES, 0, number).unwrap_or("unknown")
 }

@@ -1,10 +1,10 @@
-//! The records: how many there are of each event and of each type.
+//! Counts the records by event and by type.
 ghost use Rattle.std.specs.Prelude.{◌≡◌, ◌≢◌, ◌+◌, ◌-◌, ◌^◌, ◌<◌, ◌↔◌, IsOk, IsNone, IfSome, IfNone};
 ghost use Rattle.perfinfo.specs.Times.{IsEarliest, IsLatest};
 
-use crate::fault::Fault;
-use crate::names::record_name;
-use crate::page::Page;
+use crate::error::InfoError;
+use crate::names::record_type_name;
+use crate::report::Report;
 use linux_perf_data::source::Source;
 use linux_perf_data::{
     Error, PerfFile, PerfFileReader, PerfFileRecord, PerfRecordIter, RawUserRecord, UserRecord,
@@ -14,121 +14,126 @@ use std::alloc::{AllocError, Global};
 use std::collections::BTreeMap;
 use std::io::Write;
 
-/// The type of samples.
+/// The record type of samples.
 const SAMPLE: u32 = 9;
 
-/// How many bytes a record's head has.
-const HEAD: u64 = 8;
+/// Size of a record header in bytes.
+const RECORD_HEADER_SIZE: u64 = 8;
 
-/// What is counted of an event's records.
+/// Counts of an event's records.
 #[derive(Clone, Copy)]
-pub struct Count {
-    /// Of any type.
+pub struct EventCounts {
+    /// Number of records of any type.
     pub records: u64,
-    /// Those of the type of samples.
+    /// Number of samples.
     pub samples: u64,
-    /// The earliest time of a sample.
-    pub first: Option<u64>,
-    /// The latest time of a sample.
-    pub last: Option<u64>,
+    /// The earliest timestamp of a sample.
+    pub first_sample: Option<u64>,
+    /// The latest timestamp of a sample.
+    pub last_sample: Option<u64>,
 }
 
-impl Count {
-    /// No record.
-    pub const NONE: Count = Count {
+impl EventCounts {
+    /// The counts before the first record.
+    pub const ZERO: EventCounts = EventCounts {
         records: 0,
         samples: 0,
-        first: None,
-        last: None,
+        first_sample: None,
+        last_sample: None,
     };
 
-    /// Counts a record.
-    fn add(&mut self, step: Step)
+    /// Adds a record to the counts.
+    fn add(&mut self, summary: RecordSummary)
         ensures records { self.old.records < 2 ^ 64 - 1 → self.new.records ≡ self.old.records + 1 }
-        ensures sample { step.kind ≡ 9 → self.old.samples < 2 ^ 64 - 1 → self.new.samples ≡ self.old.samples + 1 }
-        ensures other { step.kind ≢ 9 → (self.new ≡ record self.old { records = self.new.records }) }
-        ensures first { step.kind ≡ 9 → IfSome step.time (λ time. IsEarliest self.old.first time self.new.first) }
-        ensures last { step.kind ≡ 9 → IfSome step.time (λ time. IsLatest self.old.last time self.new.last) }
-        ensures same_first { IfNone step.time (self.new.first ≡ self.old.first) }
-        ensures same_last { IfNone step.time (self.new.last ≡ self.old.last) }
+        ensures sample { summary.record_type ≡ 9 → self.old.samples < 2 ^ 64 - 1 → self.new.samples ≡ self.old.samples + 1 }
+        ensures other { summary.record_type ≢ 9 → (self.new ≡ record self.old { records = self.new.records }) }
+        ensures first { summary.record_type ≡ 9 → IfSome summary.timestamp (λ time. IsEarliest self.old.first_sample time self.new.first_sample) }
+        ensures last { summary.record_type ≡ 9 → IfSome summary.timestamp (λ time. IsLatest self.old.last_sample time self.new.last_sample) }
+        ensures same_first { IfNone summary.timestamp (self.new.first_sample ≡ self.old.first_sample) }
+        ensures same_last { IfNone summary.timestamp (self.new.last_sample ≡ self.old.last_sample) }
     {
         self.records = self.records.saturating_add(1);
-        if step.kind == SAMPLE {
+        if summary.record_type == SAMPLE {
             self.samples = self.samples.saturating_add(1);
-            if let Some(time) = step.time {
-                self.first = Some(self.first.unwrap_or(time).min(time));
-                self.last = Some(self.last.unwrap_or(time).max(time));
+            if let Some(time) = summary.timestamp {
+                self.first_sample = Some(self.first_sample.unwrap_or(time).min(time));
+                self.last_sample = Some(self.last_sample.unwrap_or(time).max(time));
             }
         }
     }
 }
 
-/// What is counted of a record.
+/// The values of a record that are counted.
 #[derive(Clone, Copy)]
-struct Step {
-    kind: u32,
-    event: Option<usize>,
-    time: Option<u64>,
+struct RecordSummary {
+    record_type: u32,
+    attr_index: Option<usize>,
+    timestamp: Option<u64>,
     round: u64,
-    /// Where it ends, in bytes from the first record.
+    /// Offset of the record's end in bytes, from the start of the first record.
     end: u64,
-    auxiliary: u64,
+    aux_size: u64,
 }
 
-/// What is counted of all records.
+/// Counts of all records.
 #[derive(Drop)]
-pub struct Tally {
-    events: Vec<Count>,
-    kinds: BTreeMap<u32, u64>,
+pub struct RecordCounts {
+    per_event: Vec<EventCounts>,
+    per_type: BTreeMap<u32, u64>,
     rounds: u64,
-    auxiliary: u64,
+    aux_bytes: u64,
     end: u64,
 }
 
-impl Tally {
-    /// Of no record.
-    fn new(alloc: Global) -> Tally {
-        Tally {
-            events: Vec::new(alloc),
-            kinds: BTreeMap::new(alloc),
+impl RecordCounts {
+    /// Creates counts with no records.
+    fn new(alloc: Global) -> RecordCounts {
+        RecordCounts {
+            per_event: Vec::new(alloc),
+            per_type: BTreeMap::new(alloc),
             rounds: 0,
-            auxiliary: 0,
+            aux_bytes: 0,
             end: 0,
         }
     }
 
-    /// What was counted of an event's records.
-    pub fn of_event(&self, index: usize) -> Count {
-        self.events.get(index).copied().unwrap_or(Count::NONE)
+    /// Returns the counts of an event's records, which are zero if there are none.
+    pub fn event_counts(&self, index: usize) -> EventCounts {
+        self.per_event
+            .get(index)
+            .copied()
+            .unwrap_or(EventCounts::ZERO)
     }
 
-    /// Counts a record for its event.
-    fn add_to_event(&mut self, index: usize, step: Step) -> Result<(), AllocError> {
-        if self.events.len() <= index {
-            self.events.resize(index.saturating_add(1), Count::NONE)?;
+    /// Adds a record to the counts of its event.
+    fn count_for_event(&mut self, index: usize, summary: RecordSummary) -> Result<(), AllocError> {
+        if self.per_event.len() <= index {
+            self.per_event
+                .resize(index.saturating_add(1), EventCounts::ZERO)?;
         }
-        if let Some(count) = self.events.get_mut(index) {
-            count.add(step);
+        if let Some(count) = self.per_event.get_mut(index) {
+            count.add(summary);
         }
         Ok(())
     }
 
-    /// Counts a record.
-    fn add(&mut self, step: Step) -> Result<(), AllocError> {
-        if let Some(index) = step.event {
-            self.add_to_event(index, step)?;
+    /// Adds a record to all counts.
+    fn add(&mut self, summary: RecordSummary) -> Result<(), AllocError> {
+        if let Some(index) = summary.attr_index {
+            self.count_for_event(index, summary)?;
         }
-        let count = self.kinds.entry(step.kind)?.or_insert(0);
+        let count = self.per_type.entry(summary.record_type)?.or_insert(0);
         *count = count.saturating_add(1);
-        self.rounds = step.round;
-        self.auxiliary = self.auxiliary.saturating_add(step.auxiliary);
-        self.end = step.end;
+        self.rounds = summary.round;
+        self.aux_bytes = self.aux_bytes.saturating_add(summary.aux_size);
+        self.end = summary.end;
         Ok(())
     }
 }
 
-/// How many bytes of auxiliary data stand behind a tool's record, or why a record of such data is refused.
-fn auxiliary_of(alloc: Global, user: &RawUserRecord<'_>) -> Result<u64, Error> {
+/// Returns the size in bytes of the aux data of an auxtrace record, or 0 for other records. Fails if an auxtrace record can't be
+/// parsed.
+fn aux_data_size(alloc: Global, user: &RawUserRecord<'_>) -> Result<u64, Error> {
     if user.record_type != UserRecordType::PERF_AUXTRACE {
         return Ok(0);
     }
@@ -138,12 +143,12 @@ fn auxiliary_of(alloc: Global, user: &RawUserRecord<'_>) -> Result<u64, Error> {
     }
 }
 
-/// The next record.
-fn next<R: Source>(
+/// Reads the next record and returns its summary, or `None` at the end.
+fn next_summary<R: Source>(
     alloc: Global,
     records: &mut PerfRecordIter<R>,
     file: &mut PerfFile,
-) -> Result<Option<Step>, Error> {
+) -> Result<Option<RecordSummary>, Error> {
     let Some((place, record)) = records.next_record(file)? else {
         return Ok(None);
     };
@@ -162,61 +167,68 @@ fn next<R: Source>(
                 kind,
                 None,
                 user.body.len() as u64,
-                auxiliary_of(alloc, &user)?,
+                aux_data_size(alloc, &user)?,
             )
         }
     };
-    Ok(Some(Step {
-        kind,
-        event,
-        time: place.timestamp,
+    Ok(Some(RecordSummary {
+        record_type: kind,
+        attr_index: event,
+        timestamp: place.timestamp,
         round: place.round,
-        end: place.offset.saturating_add(size).saturating_add(HEAD),
-        auxiliary,
+        end: place
+            .offset
+            .saturating_add(size)
+            .saturating_add(RECORD_HEADER_SIZE),
+        aux_size: auxiliary,
     }))
 }
 
-/// A file or a pipe that was read as far as it goes.
+/// A file or pipe that was read to its end or to the first error.
 #[derive(Drop)]
 pub struct Recording {
-    /// What it tells beside its records.
+    /// The metadata of the file or pipe.
     pub file: PerfFile,
-    /// What was counted of the records up to the first that was refused.
-    pub tally: Tally,
-    fault: Option<Error>,
+    /// Counts of the records before the first error.
+    pub counts: RecordCounts,
+    error: Option<Error>,
 }
 
 impl Recording {
-    /// Reads all records.
+    /// Reads records until the end or the first error.
     pub fn read<R: Source + Drop>(alloc: Global, reader: PerfFileReader<R>) -> Recording {
         let mut file = reader.perf_file;
         let mut records = reader.record_iter;
-        let mut tally = Tally::new(alloc);
-        let fault = read_records(alloc, &mut records, &mut file, &mut tally).err();
-        Recording { file, tally, fault }
+        let mut tally = RecordCounts::new(alloc);
+        let fault = count_records(alloc, &mut records, &mut file, &mut tally).err();
+        Recording {
+            file,
+            counts: tally,
+            error: fault,
+        }
     }
 
-    /// Whether the records came to their end.
-    pub fn end(self) -> Result<(), Fault>
-        ensures { IsOk result ↔ IsNone self.fault }
+    /// Fails with the error that ends the records, if there is one.
+    pub fn into_result(self) -> Result<(), InfoError>
+        ensures { IsOk result ↔ IsNone self.error }
     {
-        let behind = self.tally.end;
-        match self.fault {
-            Some(cause) => Err(Fault::Record { behind, cause }),
+        let behind = self.counts.end;
+        match self.error {
+            Some(cause) => Err(InfoError::Record { behind, cause }),
             None => Ok(()),
         }
     }
 }
 
-/// Counts the records that are to come.
-fn read_records<R: Source>(
+/// Counts the remaining records until the end or the first error.
+fn count_records<R: Source>(
     alloc: Global,
     records: &mut PerfRecordIter<R>,
     file: &mut PerfFile,
-    tally: &mut Tally,
+    tally: &mut RecordCounts,
 ) -> Result<(), Error> {
     for _ in 0..u64::MAX {
-        let Some(step) = next(alloc, records, file)? else {
+        let Some(step) = next_summary(alloc, records, file)? else {
             break;
         };
         tally.add(step)?;
@@ -224,13 +236,13 @@ fn read_records<R: Source>(
     Ok(())
 }
 
-/// Prints how many records there are of each type, and what stands between and behind them.
-pub fn show<W: Write>(tally: &Tally, page: &mut Page<W>) {
-    page.line("records by type", tally.kinds.len());
-    for (kind, count) in tally.kinds.iter() {
-        page.item(format_args!("{} ({kind})", record_name(*kind)), *count);
+/// Writes the number of records of each type, the number of rounds, and the total sizes of aux data and of all records.
+pub fn show<W: Write>(tally: &RecordCounts, page: &mut Report<W>) {
+    page.line("records by type", tally.per_type.len());
+    for (kind, count) in tally.per_type.iter() {
+        page.item(format_args!("{} ({kind})", record_type_name(*kind)), *count);
     }
     page.line("rounds before the last record", tally.rounds);
-    page.line("bytes of auxiliary data", tally.auxiliary);
+    page.line("bytes of auxiliary data", tally.aux_bytes);
     page.line("bytes of records", tally.end);
 }

@@ -1,101 +1,108 @@
-//! What is printed: a name and a value a line, and lists that stand further in.
+//! Writes the report: one `name: value` pair a line, with indented lists.
 ghost use Rattle.std.specs.Prelude.{◌≡◌, IsNone, OnOk};
 
+use crate::error::InfoError;
 use crate::escape::Escaped;
-use crate::fault::Fault;
 use linux_perf_data::Error;
 use std::fmt::Display;
 use std::io;
 use std::io::Write;
 
-/// Lines on their way to a writer. Once the writer refuses one, none is written any more.
+/// Writes the lines of the report. No line is written after the first write error.
 #[derive(Drop)]
-pub struct Page<W> {
+pub struct Report<W> {
     out: W,
-    refused: Option<io::Error>,
-    unread: u64,
+    write_error: Option<io::Error>,
+    unreadable_sections: u64,
 }
 
-impl<W: Write> Page<W> {
-    /// A page with no line.
-    pub fn new(out: W) -> Page<W> {
-        Page {
+impl<W: Write> Report<W> {
+    /// Creates a report without lines.
+    pub fn new(out: W) -> Report<W> {
+        Report {
             out,
-            refused: None,
-            unread: 0,
+            write_error: None,
+            unreadable_sections: 0,
         }
     }
 
-    /// A line this far in.
-    fn put<N: Display + Drop, V: Display + Drop>(&mut self, indent: &str, name: N, value: V) {
-        if self.refused.is_some() {
+    /// Writes a line with this indentation.
+    fn write_indented<N: Display + Drop, V: Display + Drop>(
+        &mut self,
+        indent: &str,
+        name: N,
+        value: V,
+    ) {
+        if self.write_error.is_some() {
             return;
         }
         if let Err(error) = writeln!(self.out, "{indent}{name}: {value}") {
-            self.refused = Some(error);
+            self.write_error = Some(error);
         }
     }
 
-    /// A line of the page.
+    /// Writes a line without indentation.
     pub fn line<N: Display + Drop, V: Display + Drop>(&mut self, name: N, value: V) {
-        self.put("", name, value);
+        self.write_indented("", name, value);
     }
 
-    /// A line of a list.
+    /// Writes a line for an item of a list.
     pub fn item<N: Display + Drop, V: Display + Drop>(&mut self, name: N, value: V) {
-        self.put("  ", name, value);
+        self.write_indented("  ", name, value);
     }
 
-    /// A line of what an item tells.
+    /// Writes a line for a detail of an item.
     pub fn detail<N: Display + Drop, V: Display + Drop>(&mut self, name: N, value: V) {
-        self.put("    ", name, value);
+        self.write_indented("    ", name, value);
     }
 
-    /// What a section tells, or none where it isn't there or can't be read, which is then said.
-    pub fn told<T>(&mut self, name: &str, answer: Result<Option<T>, Error>) -> Option<T> {
+    /// Returns the value of a section, or `None` if the section is missing or can't be read. For an unreadable section it writes
+    /// a line with the error.
+    pub fn value_or_note<T>(&mut self, name: &str, answer: Result<Option<T>, Error>) -> Option<T> {
         match answer {
             Ok(value) => value,
             Err(error) => {
-                self.unread = self.unread.saturating_add(1);
+                self.unreadable_sections = self.unreadable_sections.saturating_add(1);
                 self.line(name, format_args!("can't be read: {error}"));
                 None
             }
         }
     }
 
-    /// The line of a section that tells a text.
-    pub fn text(&mut self, name: &str, answer: Result<Option<&str>, Error>) {
-        if let Some(text) = self.told(name, answer) {
+    /// Writes the line of a section that contains a string.
+    pub fn string_line(&mut self, name: &str, answer: Result<Option<&str>, Error>) {
+        if let Some(text) = self.value_or_note(name, answer) {
             self.line(name, Escaped(text.as_bytes()));
         }
     }
 
-    /// The line of a section that tells a number.
-    pub fn number(&mut self, name: &str, answer: Result<Option<u64>, Error>) {
-        if let Some(number) = self.told(name, answer) {
+    /// Writes the line of a section that contains a number.
+    pub fn number_line(&mut self, name: &str, answer: Result<Option<u64>, Error>) {
+        if let Some(number) = self.value_or_note(name, answer) {
             self.line(name, number);
         }
     }
 
-    /// Lets the last lines leave, and says whether all was told.
-    pub fn finish(self) -> Result<(), Fault>
+    /// Flushes the writer. Fails with `Write` if a write or the flush fails, or else with the number of unreadable sections if
+    /// it isn't 0.
+    pub fn finish(self) -> Result<(), InfoError>
     where
         W: Drop,
-        ensures lines { OnOk result (IsNone self.refused) }
-        ensures sections { OnOk result (self.unread ≡ 0) }
+        ensures no_write_error { OnOk result (IsNone self.write_error) }
+        ensures no_unreadable_section { OnOk result (self.unreadable_sections ≡ 0) }
     {
-        let Page {
+        let Report {
             mut out,
-            refused,
-            unread,
+            write_error: refused,
+            unreadable_sections: unread,
         } = self;
         if let Some(error) = refused {
-            return Err(Fault::Write(error));
+            return Err(InfoError::Write(error));
         }
-        out.flush().map_err(Fault::Write)?;
+        out.flush().map_err(InfoError::Write)?;
         match unread {
             0 => Ok(()),
-            count => Err(Fault::Sections(count)),
+            count => Err(InfoError::UnreadableSections(count)),
         }
     }
 }

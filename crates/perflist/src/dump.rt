@@ -1,14 +1,14 @@
-//! A jitdump that may come through a pipe: opening it waits for its header and for nothing after it.
+//! A jitdump that may be a pipe. Opening it waits for its file header and for nothing after it.
 use linux_perf_data::jitdump::{JitDumpError, JitDumpHeader};
 use linux_perf_data::raw::RawData;
 use std::alloc::Global;
 use std::io::{self, Read};
 
-/// How many bytes are read in search of a header's end: as many as a reader of a jitdump fills at its opening, where its
-/// caller doesn't choose. A longer header is refused, as `list_jit` refuses it.
+/// The maximum size of a header in bytes, which is the buffer size of `JitDumpReader::new`. The listing of a jitdump with a
+/// longer header fails, as `list_jit` does.
 const HEADER_LIMIT: usize = 4096;
 
-/// A jitdump whose header was read already: a reader is given the header, then one empty read, and then what follows.
+/// A jitdump whose file header is already read. A reader of it reads the header, then one empty read, and then the rest.
 #[derive(Drop)]
 pub struct Dump<R> {
     header: Vec<u8>,
@@ -17,7 +17,7 @@ pub struct Dump<R> {
     rest: R,
 }
 
-/// Whether these bytes hold a header, or can't begin one.
+/// Whether the bytes contain a complete header, or can't be the start of one.
 fn ends_header(bytes: &[u8]) -> bool {
     match JitDumpHeader::parse(RawData::Single(bytes)) {
         Err(JitDumpError::NotEnoughBytesForHeader) => false,
@@ -26,7 +26,7 @@ fn ends_header(bytes: &[u8]) -> bool {
 }
 
 impl<R: Read + Drop> Dump<R> {
-    /// Reads the header, or what there is of it, byte by byte.
+    /// Reads the header, or as much of it as there is, byte by byte.
     pub fn new(alloc: Global, mut rest: R) -> io::Result<Dump<R>> {
         let mut header = Vec::new(alloc);
         for _ in 0..HEADER_LIMIT {

@@ -1,4 +1,4 @@
-//! Attributes of each size: their fields, in both orders, and which sizes are refused.
+//! Attributes of each size: their fields in both byte orders, and the sizes that are errors.
 use crate::compare::{same, same_at};
 use bitflags::Flags;
 use byteorder::{BigEndian, LittleEndian};
@@ -7,7 +7,7 @@ use std::io::ErrorKind;
 use std::test::Fail;
 use test_support::values::by_kind;
 
-// Bytes each of which is its index, but for the clock's, which are 255, and the little-endian own size.
+// Each byte is its own index, but the clock's bytes are 255, and the attribute's own size is little-endian.
 fn attribute(own: u8) -> [u8; 150] {
     let mut bytes = [0u8; 150];
     for (index, byte) in bytes.iter_mut().enumerate() {
@@ -23,7 +23,7 @@ fn attribute(own: u8) -> [u8; 150] {
     bytes
 }
 
-// The fields of four bytes, and those of eight.
+// The four-byte fields and the eight-byte fields.
 fn fields(attr: &PerfEventAttr) -> ([u32; 7], [u64; 12]) {
     (
         [
@@ -112,7 +112,7 @@ fn reads_big_endian(rt: HostRuntime) -> Result<(), Fail> {
 fn takes_zero_beyond_its_own_size(rt: HostRuntime) -> Result<(), Fail> {
     const CONFIG1: u64 = 0x3f3e_3d3c_3b3a_3938;
     const CONFIG2: u64 = 0x4746_4544_4342_4140;
-    // own size in the bytes, own size told, config2, branch_sample_type, bytes left
+    // own size in the bytes, parsed own size, config2, branch_sample_type, remaining bytes
     for (size, own, config2, branch, left) in [
         (0u8, 64u64, 0u64, 0u64, 86usize),
         (64, 64, 0, 0, 86),

@@ -1,4 +1,4 @@
-//! Parsers that take their source by value consume their own bytes and no more.
+//! Parsers that own their source consume exactly their own bytes.
 use crate::compare::same_at;
 use byteorder::{BigEndian, LittleEndian};
 use perfdata_base::attr::PerfEventAttr;
@@ -8,7 +8,7 @@ use perfdata_base::section::PerfFileSection;
 use perfdata_base::source::Source;
 use std::io::Cursor;
 
-/// What is parsed.
+/// The part that is parsed.
 #[derive(Clone, Copy, Debug)]
 enum Part {
     Head,
@@ -17,7 +17,7 @@ enum Part {
     PipeHeader,
 }
 
-/// Whether a part is parsed from a source.
+/// Whether parsing the part from a source succeeds.
 fn is_parsed<R: Source + Drop>(part: Part, is_little: bool, source: R) -> bool {
     match (part, is_little) {
         (Part::Head, true) => PerfEventHeader::parse::<R, LittleEndian>(source).is_ok(),
@@ -30,7 +30,7 @@ fn is_parsed<R: Source + Drop>(part: Part, is_little: bool, source: R) -> bool {
     }
 }
 
-// 200 bytes: at 3 an attribute whose own size is this, in an order.
+// 200 bytes with an attribute of this own size at offset 3.
 fn attribute(size: u8, is_little: bool) -> [u8; 200] {
     let mut bytes = [0; 200];
     if is_little {
@@ -41,7 +41,7 @@ fn attribute(size: u8, is_little: bool) -> [u8; 200] {
     bytes
 }
 
-// At 3 a header of a pipe or of a file that tells this size.
+// 200 bytes with a pipe header or file header of this size at offset 3.
 fn header(size: u8, is_little: bool) -> [u8; 200] {
     let mut bytes = [0; 200];
     if is_little {

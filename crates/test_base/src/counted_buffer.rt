@@ -1,11 +1,11 @@
-//! What a reader behind a buffer is asked for, and what is taken from the buffer.
+//! The reads and seeks of a reader under a buffer, and the bytes that come from the buffer.
 use crate::compare::{same, same_at};
 use perfdata_base::source::{CountedBuffer, PlacedSource, Source};
 use std::alloc::Global;
 use std::io::{BufReader, Cursor, Error, Read, Seek, SeekFrom};
 use std::test::Fail;
 
-/// A reader that counts what it is asked for.
+/// A reader that counts its reads and seeks.
 #[derive(Drop)]
 struct Tally<'a> {
     inner: Cursor<&'a [u8]>,
@@ -36,7 +36,7 @@ fn bytes() -> [u8; 64] {
     bytes
 }
 
-/// The byte at each place, one read after a seek each.
+/// Seeks and returns the byte at the new position.
 fn byte_at<S: PlacedSource>(source: &mut S, to: SeekFrom) -> Result<u8, Error> {
     let mut place = [0u8; 1];
     source.seek_to(to)?;
@@ -44,8 +44,8 @@ fn byte_at<S: PlacedSource>(source: &mut S, to: SeekFrom) -> Result<u8, Error> {
     Ok(place[0])
 }
 
-/// How often the reader behind a buffer of 16 bytes is read and sought where a byte is read at each of these places, or none
-/// where another byte came.
+/// The number of reads and of seeks of the reader under a buffer of 16 bytes, after a byte is read at each of these positions.
+/// Returns `None` if a byte isn't the expected one.
 fn asked(alloc: Global, places: &[SeekFrom], wanted: &[u8]) -> Result<Option<(u32, u32)>, Fail> {
     let bytes = bytes();
     let mut reader = Tally {
@@ -67,7 +67,7 @@ fn asked(alloc: Global, places: &[SeekFrom], wanted: &[u8]) -> Result<Option<(u3
 fn seeks_only_elsewhere(rt: HostRuntime) -> Result<(), Fail> {
     let start = SeekFrom::Start;
     let on = SeekFrom::Current;
-    // one behind the other; about the buffer; past it and back
+    // consecutive positions; positions inside and before the buffer; positions after the buffer and back; positions from the end
     for (places, wanted, reads, seeks) in [
         ([start(8), start(9), on(0), start(11)], [8, 9, 10, 11], 1, 1),
         ([start(8), on(6), start(9), on(-3)], [8, 15, 9, 7], 2, 2),
@@ -96,17 +96,17 @@ fn takes_what_is_at_hand(rt: HostRuntime) -> Result<(), Fail> {
     let reader = BufReader::with_capacity(rt.alloc(), 8, Cursor::new(bytes.as_slice()))?;
     let mut source = CountedBuffer::new(reader);
     let mut place = [0u8; 2];
-    same(&rt, &source.at_hand(), &[].as_slice());
-    same(&rt, &source.take_at_hand(&mut place), &false);
+    same(&rt, &source.buffer(), &[].as_slice());
+    same(&rt, &source.read_buffered(&mut place), &false);
     same(&rt, &source.read_front(&mut place)?, &2);
-    same(&rt, &source.at_hand(), &[2, 3, 4, 5, 6, 7].as_slice());
-    same(&rt, &source.take_at_hand(&mut place), &true);
+    same(&rt, &source.buffer(), &[2, 3, 4, 5, 6, 7].as_slice());
+    same(&rt, &source.read_buffered(&mut place), &true);
     same(&rt, &place, &[2, 3]);
     let mut buffer = Vec::from_array(rt.alloc(), [9])?;
-    same(&rt, &source.append_at_hand(&mut buffer, 5)?, &false);
-    same(&rt, &source.append_at_hand(&mut buffer, 3)?, &true);
+    same(&rt, &source.append_buffered(&mut buffer, 5)?, &false);
+    same(&rt, &source.append_buffered(&mut buffer, 3)?, &true);
     same(&rt, &buffer.as_slice(), &[9, 4, 5, 6].as_slice());
-    same(&rt, &source.at_hand(), &[7].as_slice());
+    same(&rt, &source.buffer(), &[7].as_slice());
     same(&rt, &source.seek_to(SeekFrom::Current(0))?, &7);
     Ok(())
 }

@@ -1,4 +1,4 @@
-//! Heads of records, types of users' records, and modes of processors.
+//! Record headers, user record types and CPU modes.
 use crate::compare::{same, same_at};
 use byteorder::{BigEndian, LittleEndian};
 use perfdata_base::event::{CpuMode, PerfEventHeader, RecordType};

@@ -56,7 +56,7 @@ fn shows_names(rt: HostRuntime) -> Result<(), Fail> {
     Ok(())
 }
 
-// How many there are, whether there is none, and the debug form.
+// The length of the set, whether it is empty, and its debug text.
 fn described(alloc: Global, set: &FeatureSet) -> Result<(usize, bool, String), Fail> {
     let debug = format!(in alloc; "{set:?}")?;
     Ok((set.len(), set.is_empty(), debug))

@@ -1,11 +1,11 @@
-//! Headers of files: their fields, in both orders, and what is refused.
+//! File headers: their fields in both byte orders, and their errors.
 use crate::compare::{same, same_at};
 use perfdata_base::header::PerfHeader;
 use std::io::{Cursor, ErrorKind};
 use std::test::Fail;
 use test_support::values::by_kind;
 
-// Bytes each of which is its index, but for this first byte and these of the header's size.
+// Each byte is its own index, except the first byte and the bytes of the header's size.
 fn header(first: u8, size: [u8; 8]) -> [u8; 120] {
     let mut bytes = [0u8; 120];
     for (index, byte) in bytes.iter_mut().enumerate() {

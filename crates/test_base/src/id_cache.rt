@@ -1,8 +1,8 @@
-//! The cache of identifiers, where two share a slot.
+//! The id cache, with ids that share a slot.
 use crate::compare::{same, same_at};
 use perfdata_base::place::IdCache;
 
-// Of two identifiers of one slot the later stays, and an empty slot answers for none.
+// Of two ids with the same slot the later one remains. An empty slot has no value for any id.
 #[test]
 fn keeps_the_last_of_a_slot(rt: HostRuntime) {
     let mut cache = IdCache::new();

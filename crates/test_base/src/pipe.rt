@@ -1,4 +1,4 @@
-//! Headers of pipes, whole, with bytes behind them, and cut.
+//! Pipe headers: complete, followed by other bytes, and truncated.
 use crate::compare::same;
 use perfdata_base::header::PerfPipeHeader;
 use std::io::ErrorKind;
@@ -18,7 +18,7 @@ fn reads_pipe_headers(rt: HostRuntime) -> Result<(), Fail> {
         (far, b'P', u64::MAX, 0),
     ] {
         let mut source = &bytes[..];
-        let (_, whole) = PerfPipeHeader::parse_front(&mut source)?;
+        let (_, whole) = PerfPipeHeader::parse_with_extra(&mut source)?;
         same(&rt, &(whole, source.len()), &(left > 0, left));
         let mut source = &bytes[..];
         let header = PerfPipeHeader::parse_from(&mut source)?;

@@ -1,4 +1,4 @@
-//! Where times and identifiers stand by a format, and the words that are read there.
+//! The parse info of a sample format, and the timestamps and ids that are read with it.
 use super::raw::split;
 use crate::compare::{same, same_at};
 use byteorder::{BigEndian, LittleEndian};
@@ -9,7 +9,7 @@ use perfdata_base::place::{
 };
 use perfdata_base::raw::{Endianness, RawData};
 
-// The places of an attribute of this format and these flags.
+// The parse info of an attribute with this format and these flags.
 fn places(sample_format: u64, flags: u64) -> RecordParseInfo {
     let attr = PerfEventAttr {
         type_: 0,
@@ -37,8 +37,8 @@ fn places(sample_format: u64, flags: u64) -> RecordParseInfo {
     RecordParseInfo::new(&attr, Endianness::LittleEndian)
 }
 
-// Formats and flags, with the places of the identifier and of the time, each in a sample from the start and in
-// another record from the end.
+// Formats and flags, with the offsets of the id and of the time: in a sample from the start of the body, and in another record
+// from its end.
 #[test]
 fn places_follow_the_format(rt: HostRuntime) {
     for (format, flags, id, time) in [
@@ -65,7 +65,7 @@ fn places_follow_the_format(rt: HostRuntime) {
     }
 }
 
-// The time of a record as each call tells it, and its identifier.
+// The time of a record as each function returns it, and its id.
 fn told(
     info: &RecordParseInfo,
     record_type: RecordType,
@@ -90,7 +90,7 @@ fn told(
     )
 }
 
-// The words TID, TIME and IDENTIFIER (or in a sample IDENTIFIER, TID and TIME) in three words of eight bytes.
+// Three u64 fields: TID, TIME and IDENTIFIER, or in a sample IDENTIFIER, TID and TIME.
 #[test]
 fn numbers_stand_at_their_places(rt: HostRuntime) {
     let mut body = [0u8; 24];

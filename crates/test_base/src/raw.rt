@@ -1,7 +1,7 @@
-//! Bytes in one piece and in two: each call answers the same wherever they are split.
+//! Raw data of one slice and of two: each call returns the same, whatever the split.
 use crate::compare::{check, same, same_at};
 use byteorder::{BigEndian, LittleEndian};
-use perfdata_base::order::{read_u16, read_u32, read_u64};
+use perfdata_base::endian::{read_u16, read_u32, read_u64};
 use perfdata_base::raw::{Endianness, RawData};
 use std::io;
 use std::io::ErrorKind;
@@ -9,7 +9,7 @@ use std::test::Fail;
 
 const FIVE: [u8; 5] = [1, 2, 3, 4, 5];
 
-// The bytes in two pieces, the first of at most so many.
+// Splits the bytes at an index, or at their end if the index is greater.
 pub fn split(bytes: &[u8], at: usize) -> RawData<'_> {
     let (front, back) = bytes.split_at(at.min(bytes.len()));
     RawData::Split(front, back)
@@ -22,7 +22,7 @@ fn is_short<T: Drop>(answer: io::Result<T>) -> bool {
     }
 }
 
-// Whether it is the five bytes, whether it is less or other ones, how many it has, and whether it has none.
+// Whether the data equals the five bytes, whether it equals fewer or different bytes, its length, and whether it is empty.
 fn compared(data: RawData<'_>) -> (bool, [bool; 2], usize, bool) {
     let whole = RawData::from(&FIVE[..]);
     let less = RawData::Single(&FIVE[..4]);
@@ -47,7 +47,7 @@ fn one_value_wherever_it_is_split(rt: HostRuntime) -> Result<(), Fail> {
     Ok(())
 }
 
-// Whether ranges within hold their bytes, and whether ranges that are turned or too far hold some.
+// Whether valid ranges return their bytes, and whether ranges that are reversed or out of bounds return some.
 fn ranges(data: RawData<'_>) -> ([bool; 2], [bool; 2]) {
     (
         [
@@ -58,20 +58,20 @@ fn ranges(data: RawData<'_>) -> ([bool; 2], [bool; 2]) {
     )
 }
 
-// Takes two bytes off after six were too many: whether those were, and whether the two are the first.
+// Splits off two bytes after six are too many. Returns whether six fail, and whether the two are the first ones.
 fn takes_two(data: &mut RawData<'_>) -> (bool, bool) {
     let short = is_short(data.split_off_prefix(6));
     let two = data.split_off_prefix(2).ok();
     (short, two == Some(RawData::Single(&[1, 2])))
 }
 
-// Passes over one byte, and then finds three too many.
+// Skips one byte, after which three are too many. Returns whether the first skip succeeds, and whether the second fails.
 fn skips_one(data: &mut RawData<'_>) -> (bool, bool) {
     let skipped = data.skip(1).is_ok();
     (skipped, is_short(data.skip(3)))
 }
 
-// The last two bytes, whether two more are too many, and whether none is left.
+// Reads the last two bytes. Returns them, whether reading two more fails, and whether the data is then empty.
 fn reads_two(data: &mut RawData<'_>) -> (Option<[u8; 2]>, bool, bool) {
     let mut place = [0; 2];
     let read = data.read_exact(&mut place).is_ok();
@@ -92,7 +92,7 @@ fn parts_wherever_it_is_split(rt: HostRuntime) -> Result<(), Fail> {
     Ok(())
 }
 
-// A number of each size, and whether one more is too many.
+// Reads a number of each size. Returns the numbers, and whether reading one more fails.
 fn numbers(data: RawData<'_>) -> (Option<(u8, u16)>, Option<i32>, Option<u64>, bool) {
     let mut data = data;
     let small = match (data.read_u8(), data.read_u16::<LittleEndian>()) {

@@ -1,11 +1,11 @@
-//! The source that follows a script.
+//! The scripted source.
 use crate::compare::{same, same_at};
 use crate::source::reads;
 use perfdata_base::source::{PlacedSource, Script, Step};
 use std::io::{ErrorKind, SeekFrom};
 use std::test::Fail;
 
-// One read into a place of five bytes: how many came, and the place.
+// Reads once into a buffer of five bytes, and returns the number of bytes and the buffer.
 fn five(source: &mut Script) -> (Option<usize>, [u8; 5]) {
     let mut place = [0u8; 5];
     (reads(source, &mut place), place)
@@ -13,7 +13,7 @@ fn five(source: &mut Script) -> (Option<usize>, [u8; 5]) {
 
 #[test]
 fn follows_its_steps(rt: HostRuntime) -> Result<(), Fail> {
-    // ten bytes of which four are shown, whose second seek fails
+    // ten bytes, of which four are available at first; the second seek fails
     let steps = [
         Step::Give(1),
         Step::Pause,

@@ -1,4 +1,4 @@
-//! Entries of sections, in both orders, and cut.
+//! Section entries: in both byte orders, and truncated.
 use crate::compare::same;
 use byteorder::{BigEndian, LittleEndian};
 use perfdata_base::section::PerfFileSection;

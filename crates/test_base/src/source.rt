@@ -1,11 +1,12 @@
-//! Sources of each kind: what comes, what is passed over, where seeks go, and which faults are repeated and counted.
+//! Sources of each type: reads, skips, seeks, and which errors are retried and counted.
 ghost use Rattle.std.specs.Prelude.{◌≡◌, ◌<◌, ℕ, length, Some, IfNone, IfSome};
-ghost use Rattle.perfdata_base.specs.Source.{Rose};
+ghost use Rattle.perfdata_base.specs.Source.{CountIncreases};
 
 use crate::compare::{same, same_at};
 use perfdata_base::raw::RawData;
 use perfdata_base::source::{
-    Counted, CountedBuffer, PlacedSource, Source, append, fill, pass_over, read_all, skip_all,
+    Counted, CountedBuffer, PlacedSource, Source, append_up_to, fill, read_exact, skip_exact,
+    skip_up_to,
 };
 use std::io::{BufReader, Cursor, Error, ErrorKind, Read, SeekFrom};
 use std::process::Abort;
@@ -14,7 +15,7 @@ use test_support::values::by_kind;
 
 const BYTES: &[u8] = b"0123456789";
 
-// Gives one byte a read, and faults of a kind before each.
+// Returns one byte a read, after `faults` errors of this kind before each byte and before the end.
 #[derive(Drop)]
 struct Faulty {
     bytes: &'static [u8],
@@ -50,41 +51,41 @@ impl Read for Faulty {
     }
 }
 
-// Takes the bytes 0 to 2, and passes over one.
+// Reads the bytes 0 to 2 and skips one.
 fn takes_front<S: Source>(rt: &impl Abort, source: &mut S) {
     let mut place = [0u8; 3];
     same(rt, &by_kind(fill(source, &mut place)), &Ok(3));
     same(rt, &place, b"012");
-    same(rt, &by_kind(pass_over(source, 1)), &Ok(1));
+    same(rt, &by_kind(skip_up_to(source, 1)), &Ok(1));
 }
 
-// Passes over one byte, and fills all but the first of a place.
+// Skips one byte and fills the buffer after its first byte.
 fn takes_middle<S: Source>(rt: &impl Abort, source: &mut S) {
     let mut place = *b"012";
-    same(rt, &by_kind(skip_all(source, 1)), &Ok(()));
-    same(rt, &by_kind(read_all(source, &mut place[1..])), &Ok(()));
+    same(rt, &by_kind(skip_exact(source, 1)), &Ok(()));
+    same(rt, &by_kind(read_exact(source, &mut place[1..])), &Ok(()));
     same(rt, &place, b"078");
 }
 
-// Asks for more where no byte is left.
+// Reads and skips at the end of the source.
 fn takes_none<S: Source>(rt: &impl Abort, source: &mut S) {
     let mut place = [0u8; 3];
     same(rt, &by_kind(fill(source, &mut place)), &Ok(0));
-    same(rt, &by_kind(pass_over(source, 600)), &Ok(0));
+    same(rt, &by_kind(skip_up_to(source, 600)), &Ok(0));
     let short = Err(ErrorKind::UnexpectedEof);
-    same(rt, &by_kind(read_all(source, &mut place)), &short);
-    same(rt, &by_kind(skip_all(source, 1)), &short);
+    same(rt, &by_kind(read_exact(source, &mut place)), &short);
+    same(rt, &by_kind(skip_exact(source, 1)), &short);
 }
 
-// Takes ten bytes by each helper in turn, and asks each for more than there are.
+// Consumes all ten bytes with each helper in turn, and calls the helpers again at the end.
 fn takes_ten<S: Source + Drop>(rt: &(impl Abort + AllocGlobal), mut source: S) -> Result<(), Fail> {
     let source = &mut source;
     takes_front(rt, source);
     let mut buffer = Vec::new(rt.alloc());
-    same(rt, &append(source, &mut buffer, 2)?, &2);
+    same(rt, &append_up_to(source, &mut buffer, 2)?, &2);
     same(rt, &buffer.as_slice(), &b"45".as_slice());
     takes_middle(rt, source);
-    same(rt, &append(source, &mut buffer, 5000)?, &1);
+    same(rt, &append_up_to(source, &mut buffer, 5000)?, &1);
     same(rt, &buffer.as_slice(), &b"459".as_slice());
     takes_none(rt, source);
     Ok(())
@@ -104,7 +105,7 @@ fn takes_bytes_from_each_source(rt: HostRuntime) -> Result<(), Fail> {
     )
 }
 
-// Goes to a place: where that is, and the byte there.
+// Seeks, and returns the new position and the byte there.
 fn goes<S: PlacedSource>(source: &mut S, to: SeekFrom) -> Result<(Option<u64>, Option<u8>), Error> {
     let mut place = [0u8; 1];
     let at = source.seek_to(to).ok();
@@ -115,7 +116,7 @@ fn goes<S: PlacedSource>(source: &mut S, to: SeekFrom) -> Result<(Option<u64>, O
     }
 }
 
-// Goes to each place, and reads the byte there.
+// Seeks to each position and reads the byte there.
 fn seeks<S: PlacedSource + Drop>(rt: &impl Abort, mut source: S) -> Result<(), Fail> {
     for (to, at, byte) in [
         (SeekFrom::Start(4), Some(4), Some(b'4')),
@@ -143,7 +144,7 @@ fn seeks_in_each_source(rt: HostRuntime) -> Result<(), Fail> {
     seeks(&rt, CountedBuffer::new(buffer))
 }
 
-// How many bytes fill a place of two behind so many faults of a kind before each, and those bytes.
+// The result of filling a buffer of two bytes with `faults` errors of this kind before each byte, and the buffer.
 fn repeats(kind: ErrorKind, faults: u32) -> (Result<usize, ErrorKind>, [u8; 2]) {
     let mut source = Counted::new(Faulty::new(kind, faults));
     let mut place = [0u8; 2];
@@ -159,13 +160,14 @@ fn repeats_interrupted_reads(rt: HostRuntime) -> Result<(), Fail> {
     Ok(())
 }
 
-// One read into a place that isn't empty: how many bytes came, or none where it failed. How often the source failed and
-// paused so far only its contract tells: a fault and an answer of no byte are counted, and bytes are not.
+// Reads once into a nonempty buffer, and returns the number of bytes, or `None` if the read fails. The contract states the
+// counts: a failed read increases the number of I/O errors only, an empty read may increase the number of pauses, and a read of
+// some bytes changes neither number.
 pub fn reads<S: Source>(source: &mut S, place: &mut [u8]) -> Option<usize>
     requires { 0 < length place.old }
-    ensures fault { IfNone result (Rose (S.seen source.old).faults (S.seen source.new).faults × ((S.seen source.new).pauses ≡ (S.seen source.old).pauses)) }
-    ensures answer { IfSome result (λ count. (S.seen source.new).faults ≡ (S.seen source.old).faults) }
-    ensures bytes { IfSome result (λ count. 0 < count → (S.seen source.new).pauses ≡ (S.seen source.old).pauses) }
+    ensures fault { IfNone result (CountIncreases (S.state source.old).errors (S.state source.new).errors × ((S.state source.new).pauses ≡ (S.state source.old).pauses)) }
+    ensures answer { IfSome result (λ count. (S.state source.new).errors ≡ (S.state source.old).errors) }
+    ensures bytes { IfSome result (λ count. 0 < count → (S.state source.new).pauses ≡ (S.state source.old).pauses) }
 {
     match source.read_front(place) {
         Ok(count) => Some(count),

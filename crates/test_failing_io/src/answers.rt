@@ -1,4 +1,4 @@
-//! What an opening and the calls for records answer over sources that fail, pause or end early.
+//! The results of an opening and of the calls for records, over sources that fail, pause or end early.
 use crate::compare::same_at;
 use linux_perf_data::raw::RawData;
 use linux_perf_data::source::{PlacedSource, Script, Source, Step};
@@ -10,19 +10,19 @@ use std::test::Fail;
 use test_support::error_key::{ATTRIBUTE, DATA, ErrorKey, SHORT};
 use test_support::sources::{scripted, steps_of};
 
-/// What a record's body is, byte for byte.
+/// The contents of a record's body.
 #[derive(Clone, Copy, Debug, PartialEq, Eq)]
 pub enum Body {
     /// The eight bytes of this little-endian number.
     Long(u64),
-    /// Those of `TRACED`.
+    /// The bytes of `TRACED`.
     Traced,
-    /// Something else.
+    /// Other bytes.
     Other,
 }
 
-/// The body of the pipe's record of auxiliary data: that they are one byte, then their offset, their reference, their
-/// index, thread, processor and a word of 0; and the byte itself.
+/// The body of the pipe's auxtrace record: the size of the aux data (one byte), its offset, reference, index, tid, CPU and a
+/// reserved u32 of 0; and then the aux data.
 pub const TRACED: [u8; 41] = [
     1, 0, 0, 0, 0, 0, 0, 0, 0, 0, 0, 0, 0, 0, 0, 0, 0xf9, 0xcd, 0x2a, 0x49, 0x28, 4, 0, 0, 8, 0, 0,
     0, 0x7a, 0x24, 0, 0, 8, 0, 0, 0, 0, 0, 0, 0, 7,
@@ -43,18 +43,18 @@ pub fn body_of(body: RawData<'_>) -> Body {
     }
 }
 
-/// A record, whole.
+/// A record with all its values.
 #[derive(Clone, Copy, Debug, PartialEq, Eq)]
 pub struct RecordValue {
     pub place: RecordPlace,
-    /// None for a record of a tool.
+    /// `None` for a user record.
     pub attr_index: Option<usize>,
     pub record_type: u32,
     pub misc: u16,
     pub body: Body,
 }
 
-/// What a call answers.
+/// The result of a call.
 #[derive(Clone, Copy, Debug, PartialEq, Eq)]
 pub enum Answer {
     Opened,
@@ -86,7 +86,7 @@ pub fn answer_of(next: Result<Option<(RecordPlace, PerfFileRecord<'_>)>, Error>)
     }
 }
 
-/// The answers of an opening and, where it opened, of so many calls for the next record.
+/// The results of an opening and, if it succeeds, of `calls` calls for the next record.
 pub fn answers_of<R: Source + Drop>(
     alloc: Global,
     opened: Result<PerfFileReader<R>, Error>,
@@ -109,7 +109,7 @@ pub fn answers_of<R: Source + Drop>(
     Ok(answers)
 }
 
-/// Those of a file.
+/// The results for a file.
 pub fn of_file<C: PlacedSource + Drop>(
     alloc: Global,
     source: C,
@@ -118,7 +118,7 @@ pub fn of_file<C: PlacedSource + Drop>(
     answers_of(alloc, PerfFileReader::parse_file(alloc, source), calls)
 }
 
-/// Those of a pipe.
+/// The results for a pipe.
 pub fn of_pipe<R: Source + Drop>(
     alloc: Global,
     source: R,
@@ -127,14 +127,14 @@ pub fn of_pipe<R: Source + Drop>(
     answers_of(alloc, PerfFileReader::parse_pipe(alloc, source), calls)
 }
 
-/// What is promised: an error of the opening, or records and then an answer after which each call returns the other one.
+/// The expected results: an error of the opening, or an opening, records, a last result, and the result of each later call.
 #[derive(Clone, Copy, Debug)]
 pub enum Promise<'a> {
     Unopened(ErrorKey),
     Opens(&'a [Answer], Answer, Answer),
 }
 
-/// An opening, these records, and an error after which each call is `Failed`.
+/// An opening, these records, and an error, after which each call returns `Failed`.
 pub fn fails<'a>(records: &'a [Answer], error: ErrorKey) -> Promise<'a> {
     let failed = Answer::Error(ErrorKey::Failed);
     Promise::Opens(records, Answer::Error(error), failed)
@@ -145,7 +145,7 @@ pub fn ends<'a>(records: &'a [Answer]) -> Promise<'a> {
     Promise::Opens(records, Answer::Nothing, Answer::Nothing)
 }
 
-/// The answers that a promise comes to, of which the last three are those of later calls.
+/// The list of the expected results, of which the last three belong to later calls.
 pub fn answers_to(alloc: Global, promise: Promise<'_>) -> Result<Vec<Answer>, AllocError> {
     let mut answers = Vec::new(alloc);
     match promise {
@@ -159,10 +159,10 @@ pub fn answers_to(alloc: Global, promise: Promise<'_>) -> Result<Vec<Answer>, Al
     Ok(answers)
 }
 
-/// The error of the last read of a script, which shows that no call reads on.
+/// The error of a script's last read, which shows that no earlier call reached it.
 pub const UNREAD: ErrorKind = ErrorKind::PermissionDenied;
 
-/// A source of these bytes, one a read, that does this after so many of them, and then fails with a kind of its own.
+/// A source of these bytes, one a read, that performs this step after `at` bytes and then fails with `UNREAD`.
 pub fn stopping(alloc: Global, bytes: &[u8], at: usize, step: Step) -> Result<Script, AllocError> {
     let mut steps = steps_of(alloc, Step::Give(1), at)?;
     steps.push(step)?;
@@ -170,7 +170,7 @@ pub fn stopping(alloc: Global, bytes: &[u8], at: usize, step: Step) -> Result<Sc
     scripted(alloc, bytes, steps)
 }
 
-/// Whether the last step of such a source is still to come.
+/// Whether the last step of such a source is still unused.
 pub fn is_unread(source: &mut Script) -> bool {
     match source.read_front(&mut [0]) {
         Ok(_) => false,
@@ -178,7 +178,7 @@ pub fn is_unread(source: &mut Script) -> bool {
     }
 }
 
-/// The answers of a file that does this after so many bytes, and whether no call read on.
+/// The results for a file that performs this step after `at` bytes, and whether no call reads after the step.
 pub fn stopped_file(
     alloc: Global,
     bytes: &[u8],
@@ -190,7 +190,7 @@ pub fn stopped_file(
     Ok((answers, is_unread(&mut source)))
 }
 
-/// Those of a pipe.
+/// The results for a pipe that performs this step after `at` bytes, and whether no call reads after the step.
 pub fn stopped_pipe(
     alloc: Global,
     bytes: &[u8],
@@ -202,7 +202,7 @@ pub fn stopped_pipe(
     Ok((answers, is_unread(&mut source)))
 }
 
-/// The records of the first file.
+/// The records of `first_file`.
 pub const FILE_RECORDS: [Answer; 2] = [
     Answer::Record(RecordValue {
         place: RecordPlace {
@@ -228,7 +228,7 @@ pub const FILE_RECORDS: [Answer; 2] = [
     }),
 ];
 
-/// Those of the pipe with auxiliary data.
+/// The records of the pipe with an auxtrace record.
 pub const PIPE_RECORDS: [Answer; 2] = [
     Answer::Record(RecordValue {
         place: RecordPlace {
@@ -254,7 +254,8 @@ pub const PIPE_RECORDS: [Answer; 2] = [
     }),
 ];
 
-/// What the first file comes to where it stops after so many bytes, by this kind in its header and in record headers.
+/// The expected results for `first_file` if it stops after `at` bytes. In its header and in record headers the error has this
+/// kind.
 pub fn of_first(at: usize, kind: ErrorKind) -> Promise<'static> {
     match at {
         0..=103 => Promise::Unopened(ErrorKey::IoError(kind)),
@@ -267,7 +268,7 @@ pub fn of_first(at: usize, kind: ErrorKind) -> Promise<'static> {
     }
 }
 
-/// What the pipe comes to where it has no more than so many bytes.
+/// The expected results for the first `at` bytes of the pipe.
 pub fn of_truncated_pipe(at: usize) -> Promise<'static> {
     match at {
         0..=15 | 24..=87 => Promise::Unopened(SHORT),
@@ -279,7 +280,7 @@ pub fn of_truncated_pipe(at: usize) -> Promise<'static> {
     }
 }
 
-/// Each call comes to what is promised, and none after the stop reads.
+/// Compares the results of the calls with the expected ones, and checks that no call reads after the stop.
 pub fn holds(
     rt: &(impl Abort + AllocGlobal),
     name: &str,
@@ -298,7 +299,7 @@ pub fn holds(
     Ok(())
 }
 
-/// How many calls a promise speaks of.
+/// The number of calls that the expected results describe.
 pub fn calls_of(promise: Promise<'_>) -> usize {
     match promise {
         Promise::Unopened(_) => 7,
@@ -306,7 +307,7 @@ pub fn calls_of(promise: Promise<'_>) -> usize {
     }
 }
 
-/// A file that does this after so many bytes comes to what is promised.
+/// Compares the results for a file that performs this step after this many bytes with the expected ones.
 pub fn file_holds(
     rt: &(impl Abort + AllocGlobal),
     bytes: &[u8],
@@ -317,7 +318,7 @@ pub fn file_holds(
     holds(rt, "a file", stop.0, came, promise)
 }
 
-/// A pipe that does.
+/// Compares the results for a pipe that performs this step after this many bytes with the expected ones.
 pub fn pipe_holds(
     rt: &(impl Abort + AllocGlobal),
     bytes: &[u8],

@@ -1,4 +1,4 @@
-//! An empty read at each byte in turn though bytes remain: the answers are those of an input that ends there.
+//! An empty read at each byte in turn, although bytes remain: the results are those of an input that ends there.
 use crate::answers::{Promise, file_holds, of_first, of_truncated_pipe, pipe_holds};
 use crate::compare::same;
 use linux_perf_data::Endianness;
@@ -11,7 +11,7 @@ use test_support::recordings::traced_pipe;
 
 #[test]
 fn a_pause_at_each_read_of_a_file(rt: HostRuntime) -> Result<(), Fail> {
-    let image = Image::first(rt.alloc(), Endianness::LittleEndian)?;
+    let image = Image::first_file(rt.alloc(), Endianness::LittleEndian)?;
     for at in 0..208usize {
         let promise = of_first(at, ErrorKind::UnexpectedEof);
         file_holds(&rt, &image.bytes, (at, Step::Pause), promise)?;

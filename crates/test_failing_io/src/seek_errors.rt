@@ -1,4 +1,4 @@
-//! Each seek of an opening failing in turn.
+//! An I/O error at each seek of an opening in turn.
 use crate::answers::{Answer, of_file};
 use crate::compare::{same, same_at};
 use linux_perf_data::source::{PlacedSource, Script};
@@ -12,8 +12,7 @@ use test_support::recordings::{
     EVENT_TYPES, META_INFO, simpleperf_file, two_features, with_section,
 };
 
-/// What the opening of a file comes to where the seek of this number fails with this kind, and whether that seek is still to
-/// come.
+/// The results of opening a file if the seek with this number fails with this kind, and whether that seek is still outstanding.
 fn opening_of(
     alloc: Global,
     bytes: &[u8],
@@ -27,8 +26,8 @@ fn opening_of(
     Ok((answers, to_come))
 }
 
-/// How many seeks in turn end an opening by their own kind of error, and whether it opens in the run after them, which makes
-/// no other seek.
+/// The number of seeks that each end the opening with their own kind of error, and whether the opening succeeds if the seek after
+/// them would fail, which shows that there are no other seeks.
 fn failing_seeks(alloc: Global, bytes: &[u8], kind: ErrorKind) -> Result<(u64, bool), AllocError> {
     let failed = Answer::Error(ErrorKey::IoError(kind));
     for number in 0..64u64 {
@@ -43,7 +42,7 @@ fn failing_seeks(alloc: Global, bytes: &[u8], kind: ErrorKind) -> Result<(u64, b
     Ok((64, false))
 }
 
-/// The first file with a host's name.
+/// `first_file` with a host name.
 fn named(alloc: Global) -> Result<Image, AllocError> {
     let text = [5, 0, 0, 0, b'a', b'b', 0, b'c', b'd'];
     with_section(alloc, Endianness::LittleEndian, Feature::HOSTNAME, &text)
@@ -51,25 +50,26 @@ fn named(alloc: Global) -> Result<Image, AllocError> {
 
 #[test]
 fn each_seek_of_an_opening_fails(rt: HostRuntime) -> Result<(), Fail> {
-    // A seek each: past a header's bytes after the first 104 (where there are any), to the table of features, to each feature's
-    // bytes, to each attribute and, where it has ids, to the entry with their offset and to the ids; to the data.
-    let longer = Image::patched(rt.alloc(), Endianness::LittleEndian, &[(8, 112)])?;
+    // There is one seek to each of these: past the header bytes after the first 104 (if there are any), to the feature table, to
+    // each feature section, to each attribute and, if it has ids, to the section entry of the ids and to the ids; and to the data
+    // section.
+    let longer = Image::patched_first_file(rt.alloc(), Endianness::LittleEndian, &[(8, 112)])?;
     for (image, length, wanted) in [
-        // the table, one attribute without ids, the data
+        // the feature table, one attribute without ids, the data
         (
-            Image::first(rt.alloc(), Endianness::LittleEndian)?,
+            Image::first_file(rt.alloc(), Endianness::LittleEndian)?,
             208usize,
             3u64,
         ),
-        // the 8 bytes more of its header, and the same
+        // the 8 extra header bytes, and the same
         (longer, 208, 4),
-        // the table, the host's name, one attribute without ids, the data
+        // the feature table, the host name, one attribute without ids, the data
         (named(rt.alloc())?, 233, 4),
-        // the table, two features, one attribute without ids, the data
+        // the feature table, two features, one attribute without ids, the data
         (two_features(rt.alloc())?, 255, 5),
-        // the table, two event types with an entry and ids each, the data
+        // the feature table, two event types with a section entry and ids each, the data
         (EVENT_TYPES.image(rt.alloc())?, 352, 8),
-        // the table, the meta info, one attribute with an entry and ids, the data
+        // the feature table, the meta info, one attribute with a section entry and ids, the data
         (simpleperf_file(rt.alloc(), 80, META_INFO)?, 254, 6),
     ] {
         same(&rt, &image.bytes.len(), &length);

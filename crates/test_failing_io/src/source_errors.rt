@@ -1,4 +1,4 @@
-//! An error at each read in turn.
+//! An I/O error at each read in turn.
 use crate::answers::{
     Answer, Body, FILE_RECORDS, PIPE_RECORDS, Promise, RecordValue, ends, fails, file_holds,
     of_first, pipe_holds,
@@ -16,7 +16,7 @@ use test_support::recordings::{
 
 #[test]
 fn an_error_at_each_read_of_a_file(rt: HostRuntime) -> Result<(), Fail> {
-    let image = Image::first(rt.alloc(), Endianness::LittleEndian)?;
+    let image = Image::first_file(rt.alloc(), Endianness::LittleEndian)?;
     same(&rt, &image.bytes.len(), &208);
     for kind in [ErrorKind::Other, ErrorKind::TimedOut] {
         for at in 0..208usize {
@@ -27,7 +27,7 @@ fn an_error_at_each_read_of_a_file(rt: HostRuntime) -> Result<(), Fail> {
     Ok(())
 }
 
-/// What two samples with a marker of 16 bytes between them come to where its source fails after so many bytes of it.
+/// The expected results for two samples and a round marker of 16 bytes between them, if the source fails after `at` bytes.
 fn of_marked(at: usize) -> Promise<'static> {
     match at {
         192..=199 => fails(&FILE_RECORDS[..1], DATA),
@@ -39,7 +39,7 @@ fn of_marked(at: usize) -> Promise<'static> {
 
 #[test]
 fn an_error_at_each_read_of_a_marker(rt: HostRuntime) -> Result<(), Fail> {
-    let parts = [Part::Sample(20), Part::Marker(16), Part::Sample(10)];
+    let parts = [Part::Sample(20), Part::RoundMarker(16), Part::Sample(10)];
     let image = little_file(rt.alloc(), (48, 4, 0), &parts)?;
     same(&rt, &image.bytes.len(), &216);
     for at in 184..216usize {
@@ -49,7 +49,7 @@ fn an_error_at_each_read_of_a_marker(rt: HostRuntime) -> Result<(), Fail> {
     Ok(())
 }
 
-/// What stands in a region of a file.
+/// A region of a file.
 #[derive(Clone, Copy)]
 enum Region {
     /// A header, an entry of a table, a section or ids.
@@ -59,8 +59,8 @@ enum Region {
     Body,
 }
 
-/// What a file of these regions, so many bytes each in the order in which they are read, comes to where its source fails with
-/// this kind after so many bytes.
+/// The expected results for a file that consists of these regions with their sizes in bytes, in the order of reading, if the
+/// source fails with this kind after `at` bytes.
 fn of_regions<'a>(
     regions: &[(Region, usize)],
     records: &'a [Answer],
@@ -86,7 +86,7 @@ fn of_regions<'a>(
     ends(records)
 }
 
-/// The header, two entries of 16 bytes and two sections; the attribute; two samples, and a marker between them.
+/// The header, two entries of 16 bytes and two sections; the attribute; two samples with a round marker between them.
 const OF_TWO_FEATURES: [(Region, usize); 7] = [
     (Region::Metadata, 104 + 32 + 9 + 6),
     (Region::Attribute, 64),
@@ -97,7 +97,7 @@ const OF_TWO_FEATURES: [(Region, usize); 7] = [
     (Region::Body, 8),
 ];
 
-/// The header; two attributes, with 16 bytes each that tell where the ids are; the ids; three samples.
+/// The header; two attributes, each with 16 bytes for the section of its ids; the ids; three samples.
 const OF_EVENT_TYPES: [(Region, usize); 12] = [
     (Region::Metadata, 104),
     (Region::Attribute, 64),
@@ -113,7 +113,7 @@ const OF_EVENT_TYPES: [(Region, usize); 12] = [
     (Region::Body, 16),
 ];
 
-/// The header, an entry and meta info; an attribute, and 16 bytes that tell where its id is; the id; a sample.
+/// The header, an entry and meta info; an attribute and 16 bytes for the section of its id; the id; a sample.
 const OF_SIMPLEPERF: [(Region, usize); 5] = [
     (Region::Metadata, 104 + 16 + 30),
     (Region::Attribute, 64),
@@ -122,7 +122,7 @@ const OF_SIMPLEPERF: [(Region, usize); 5] = [
     (Region::Body, 8),
 ];
 
-/// A sample of this attribute, at this offset and time, with a body of an identifier and the time.
+/// A sample of this attribute, with this offset and time. Its body contains an id and the time.
 fn identified(attr_index: usize, offset: u64, time: u64) -> Answer {
     Answer::Record(RecordValue {
         place: RecordPlace {
@@ -175,7 +175,7 @@ fn an_error_at_each_read_of_other_files(rt: HostRuntime) -> Result<(), Fail> {
     Ok(())
 }
 
-/// What the pipe comes to where its source fails by this kind after so many bytes.
+/// The expected results for the pipe if the source fails with this kind after `at` bytes.
 fn of_pipe(at: usize, kind: ErrorKind) -> Promise<'static> {
     match at {
         0..=95 => Promise::Unopened(ErrorKey::IoError(kind)),
@@ -197,7 +197,7 @@ fn an_error_at_each_read_of_a_pipe(rt: HostRuntime) -> Result<(), Fail> {
     ] {
         let image = traced_pipe(rt.alloc(), more)?;
         for at in 0..154usize {
-            // after the longer header a place is as many bytes later
+            // a longer header shifts the offsets after it
             let place = if at < 16 {
                 at
             } else {

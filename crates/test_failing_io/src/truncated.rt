@@ -10,7 +10,7 @@ use std::test::Fail;
 use test_support::image::Image;
 use test_support::recordings::traced_pipe;
 
-/// The answers of the first so many bytes of a file or of a pipe.
+/// The results for the first `at` bytes of a file or pipe.
 fn answers_of_prefix(
     alloc: Global,
     bytes: &[u8],
@@ -37,7 +37,7 @@ fn promise_of(at: usize, is_file: bool) -> Promise<'static> {
 fn each_prefix_of_a_file_and_of_a_pipe(rt: HostRuntime) -> Result<(), Fail> {
     for (image, is_file, length) in [
         (
-            Image::first(rt.alloc(), Endianness::LittleEndian)?,
+            Image::first_file(rt.alloc(), Endianness::LittleEndian)?,
             true,
             208usize,
         ),

@@ -9,7 +9,7 @@ use std::process::Abort;
 use std::test::Fail;
 use test_support::recordings::with_section;
 
-/// Appends an entry of a misc and a size, with one byte of build id and these bytes after the 36.
+/// Appends an entry with this misc and size, one byte of build id, and these bytes after the first 36.
 fn push(
     bytes: &mut Vec<u8>,
     endian: Endianness,
@@ -36,7 +36,7 @@ fn push(
     bytes.extend_from_slice(path)
 }
 
-/// The build ids of a file whose section holds these bytes.
+/// The build ids of a file whose section contains these bytes.
 fn ids(
     alloc: Global,
     endian: Endianness,
@@ -47,7 +47,7 @@ fn ids(
     Ok(file.build_ids(alloc)?)
 }
 
-/// Asserts that the map has this path and build id for the path's key, and nothing else.
+/// Asserts that the map contains exactly this path and build id, with the path's key.
 fn has_one(
     rt: &(impl Abort + AllocGlobal),
     ids: &HashMap<DsoKey, DsoInfo>,
@@ -101,7 +101,7 @@ fn entries_of_other_kinds(rt: HostRuntime) -> Result<(), Fail> {
         b"[kernel.kallsyms]",
         &[1, 0, 0, 0],
     )?;
-    // an entry that isn't whole ends the list
+    // a truncated entry ends the list
     push(&mut content, endian, (2, u16::MAX), 1, b"")?;
     push(&mut content, endian, (2, 41), 1, b"/a/x\0")?;
     let found = ids(rt.alloc(), endian, content.as_slice())?;

@@ -1,4 +1,4 @@
-//! Features and what their accessors return.
+//! Features and the results of their accessors.
 use crate::compare::{check, same, same_at};
 use linux_perf_data::feature_sections::PmuMappings;
 use linux_perf_data::{Endianness, Error, Feature, PerfFile, PerfFileReader};
@@ -17,7 +17,7 @@ pub fn opened(alloc: Global, image: &Image) -> Result<PerfFile, Error> {
     Ok(reader.perf_file)
 }
 
-/// What the first little-endian file says of itself with one feature, whose section holds these bytes.
+/// `first_file`, little-endian, opened with one feature whose section contains these bytes.
 pub fn little(alloc: Global, feature: Feature, content: &[u8]) -> Result<PerfFile, Fail> {
     let image = with_section(alloc, Endianness::LittleEndian, feature, content)?;
     Ok(opened(alloc, &image)?)
@@ -40,7 +40,7 @@ fn what_a_file_says_with_a_host_name(rt: HostRuntime) -> Result<(), Fail> {
     Ok(())
 }
 
-/// The first little-endian file with a host name's bit, these entries and these bytes.
+/// `first_file`, little-endian, with the bit of a host name, these entries and these bytes.
 fn with_entries(
     alloc: Global,
     entries: &[(u64, u64)],
@@ -94,7 +94,7 @@ fn many_features(rt: HostRuntime) -> Result<(), Fail> {
     Ok(())
 }
 
-/// An accessor of a text.
+/// An accessor of a string.
 #[derive(Clone, Copy)]
 enum Text {
     Hostname,
@@ -129,7 +129,7 @@ impl Text {
     }
 }
 
-/// The accessor returns this text for a section of these bytes.
+/// Asserts that the accessor returns this string for a section of these bytes.
 fn contains_text(
     rt: &(impl Abort + AllocGlobal),
     endian: Endianness,
@@ -150,7 +150,7 @@ fn contains_text(
 fn texts_in_both_orders(rt: HostRuntime) -> Result<(), Fail> {
     for endian in ORDERS {
         let mut content = Image::empty(rt.alloc(), endian);
-        content.string(b"x86_64\0\0")?;
+        content.push_string(b"x86_64\0\0")?;
         for text in [
             Text::Release,
             Text::Version,
@@ -284,7 +284,7 @@ fn sections_that_end_early(rt: HostRuntime) -> Result<(), Fail> {
     Ok(())
 }
 
-/// What a file in this order says of itself with one feature, whose section is of words of these numbers of bytes.
+/// A file of this byte order, opened with one feature whose section consists of integers of these sizes in bytes.
 fn file_of_numbers(
     alloc: Global,
     endian: Endianness,
@@ -294,9 +294,9 @@ fn file_of_numbers(
     let mut content = Image::empty(alloc, endian);
     for (number, bytes) in words {
         if *bytes == 8 {
-            content.long(*number)?;
+            content.push_u64(*number)?;
         } else {
-            content.word(u32::try_from(*number).unwrap_or(u32::MAX))?;
+            content.push_u32(u32::try_from(*number).unwrap_or(u32::MAX))?;
         }
     }
     let image = with_section(alloc, endian, feature, &content.bytes)?;
@@ -366,18 +366,18 @@ fn clock_in_both_orders(rt: HostRuntime) -> Result<(), Fail> {
     Ok(())
 }
 
-/// A section of four units that counts so many.
+/// A section of four units whose count is `count`.
 fn units(alloc: Global, endian: Endianness, count: u32) -> Result<Image, AllocError> {
     let mut content = Image::empty(alloc, endian);
-    content.word(count)?;
+    content.push_u32(count)?;
     for (number, name) in [(7, b"b" as &[u8]), (1, b"\xff"), (2, b"a"), (7, b"c")] {
-        content.word(number)?;
-        content.string(name)?;
+        content.push_u32(number)?;
+        content.push_string(name)?;
     }
     Ok(content)
 }
 
-/// The units are 2, named a, and 7, named c.
+/// Asserts that the units are 2, named a, and 7, named c.
 fn are_two(rt: &impl Abort, units: &PmuMappings) {
     let mut names = units.0.iter();
     for wanted in [(2, "a"), (7, "c")] {
@@ -412,7 +412,7 @@ fn fewer_units_than_are_counted(rt: HostRuntime) -> Result<(), Fail> {
     Ok(())
 }
 
-/// Whether an accessor found no section.
+/// Whether an accessor returns `None`.
 fn is_absent<T: Drop>(answer: Result<Option<T>, Error>) -> bool {
     match answer {
         Ok(found) => found.is_none(),

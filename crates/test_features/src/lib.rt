@@ -1,4 +1,4 @@
-//! The tests of what a file says of itself: its features, build ids, symbol tables and meta info.
+//! The tests of a file's metadata: its features, build ids, symbol tables and meta info.
 #![tactic(auto)]
 
 #[cfg(test)]

@@ -1,4 +1,4 @@
-//! The buffered reader: parts that run over the buffer's end, and bytes that are skipped.
+//! The buffered reader: parts that cross the end of the buffer, and skipped bytes.
 use crate::compare::{check_at, same, same_at};
 use perfdata_base::raw::RawData;
 use perfdata_jit::{BufferedReader, ReadExactOrUntilEof};
@@ -9,7 +9,7 @@ const BYTES: &[u8] = b"123456789";
 
 #[test]
 fn a_part_runs_over_the_end(rt: HostRuntime) -> Result<(), Fail> {
-    // a buffer of six bytes, into which two were read, of which one is consumed
+    // a buffer of six bytes: two are filled, and one of these is consumed
     let mut source = Cursor::new(BYTES);
     let mut buffer = Vec::new(rt.alloc());
     buffer.resize(6, 0)?;
@@ -40,7 +40,7 @@ fn a_part_runs_over_the_end(rt: HostRuntime) -> Result<(), Fail> {
 
 #[test]
 fn passes_over_bytes(rt: HostRuntime) -> Result<(), Fail> {
-    // a buffer of four bytes, none of which is read
+    // a buffer of four bytes: none is filled
     let mut buffer = Vec::new(rt.alloc());
     buffer.resize(4, 0)?;
     let source = Cursor::new(BYTES);

@@ -3,7 +3,7 @@ use linux_perf_data::source::Counted;
 use std::alloc::Global;
 use std::io::Read;
 
-/// The bytes of code in a jitdump, up to its first record that isn't there whole.
+/// The number of bytes of code in a jitdump file, before its first incomplete record.
 pub fn code_size<R: Read + Drop>(alloc: Global, file: R) -> Result<u64, JitDumpError> {
     let mut reader = JitDumpReader::new(alloc, Counted::new(file))?;
     let mut size = 0u64;

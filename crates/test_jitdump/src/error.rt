@@ -1,4 +1,4 @@
-//! The texts of errors.
+//! The messages of errors.
 use crate::compare::same;
 use perfdata_jit::JitDumpError;
 use std::io::{Error, ErrorKind};

@@ -1,4 +1,4 @@
-//! Headers of jitdump files, wherever they are split, and the first reason why there is none.
+//! Jitdump headers: whatever the split, and which error has priority.
 use crate::compare::{same, same_at};
 use byteorder::LittleEndian;
 use perfdata_base::raw::RawData;
@@ -6,13 +6,13 @@ use perfdata_jit::{JitDumpError, JitDumpHeader};
 use std::io::ErrorKind;
 use test_support::recordings::JITDUMP;
 
-// Of version 1 and 40 bytes, with other numbers all different.
+// Version 1 and 40 bytes. All other numbers differ.
 const BIG: [u8; 40] = [
     0x4a, 0x69, 0x54, 0x44, 0, 0, 0, 1, 0, 0, 0, 40, 0, 0, 0, 2, 0, 0, 0, 3, 0, 0, 0, 4, 0, 0, 0,
     0, 0, 0, 0, 5, 0, 0, 0, 0, 0, 0, 0, 6,
 ];
 
-// The magic, the version and the size, the machine and the process, the time and the flags.
+// The magic, the version and the size, the machine and the pid, the time and the flags.
 type Fields = ([u8; 4], (u32, u32), (u32, u32), (u64, u64));
 
 fn fields_of(header: &JitDumpHeader) -> Fields {
@@ -42,7 +42,7 @@ fn parse(bytes: RawData<'_>) -> Result<Fields, HeaderError> {
     }
 }
 
-// The file's first bytes, so many, with a byte changed.
+// Parses the first `count` bytes of the file with one byte changed.
 fn changed(at: usize, byte: u8, count: usize) -> Result<Fields, HeaderError> {
     let mut bytes = JITDUMP;
     if let Some(slot) = bytes.get_mut(at) {
@@ -54,7 +54,7 @@ fn changed(at: usize, byte: u8, count: usize) -> Result<Fields, HeaderError> {
     }
 }
 
-// The size and the time of the header after its magic.
+// Parses a header after its magic, and returns its size and time.
 fn after_magic(after: &[u8]) -> Result<(u32, u64), ErrorKind> {
     let magic = [0x44, 0x54, 0x69, 0x4a];
     match JitDumpHeader::parse_after_magic::<LittleEndian>(magic, RawData::Single(after)) {

@@ -1,4 +1,4 @@
-//! The reader, over sources that show their bytes bit by bit, pause, fail and grow.
+//! The jitdump reader, over sources that grow in small steps, pause and fail.
 use crate::code_size::code_size;
 use crate::compare::{check, same, same_at};
 use perfdata_base::raw::RawData;
@@ -12,10 +12,10 @@ use std::test::Fail;
 use test_support::recordings::JITDUMP;
 use test_support::values::by_kind;
 
-// What a call for the next record answers.
+// The result of a call for the next record.
 #[derive(Clone, Copy, Debug, PartialEq, Eq)]
 pub enum Answer {
-    // A record's place, time, type and size, and whether its body is that of the file's record.
+    // A record's offset, time, type and size, and whether its body is that of the file's record.
     Record((u64, u64, u32, u32), bool),
     Nothing,
     Error(ErrorKind),
@@ -34,7 +34,7 @@ fn answer_of(next: IoResult<Option<JitDumpRawRecord<'_>>>) -> Answer {
     }
 }
 
-// The answer of a call for the next record, and where the next record begins then.
+// The result of a call for the next record, and the offset of the next record after it.
 pub fn next<R: Source>(reader: &mut JitDumpReader<R>) -> (Answer, u64) {
     let answer = answer_of(reader.next_record());
     (answer, reader.next_record_offset())
@@ -52,7 +52,7 @@ fn type_and_size<R: Source>(reader: &mut JitDumpReader<R>) -> Option<(u32, u32)>
     }
 }
 
-// Appends so many of a step.
+// Appends `count` times the same step.
 fn push_steps(steps: &mut Vec<Step>, count: usize, step: Step) -> Result<(), Fail> {
     for _ in 0..count {
         steps.push(step)?;
@@ -60,7 +60,7 @@ fn push_steps(steps: &mut Vec<Step>, count: usize, step: Step) -> Result<(), Fai
     Ok(())
 }
 
-// So many reads of a byte each, and then this step.
+// `count` reads of one byte each, and then this step.
 fn bytes_then(alloc: Global, count: usize, step: Step) -> Result<Vec<Step>, Fail> {
     let mut steps = Vec::new(alloc);
     push_steps(&mut steps, count, Step::Give(1))?;
@@ -68,13 +68,13 @@ fn bytes_then(alloc: Global, count: usize, step: Step) -> Result<Vec<Step>, Fail
     Ok(steps)
 }
 
-// The file after these steps, of which so many bytes are shown.
+// A source of the first 102 bytes of the file with these steps. At first `shown` bytes are available.
 fn script(alloc: Global, shown: usize, steps: Vec<Step>) -> Result<Script, Fail> {
     let bytes = JITDUMP[..102].to_vec(alloc)?;
     Ok(Script::new(bytes, shown, steps, Vec::new(alloc)))
 }
 
-// A header of this size after the header, and then these bytes.
+// The jitdump header, a record header that declares this size, and then these bytes.
 pub fn header_of_size(alloc: Global, size: u32, after: &[u8]) -> Result<Vec<u8>, Fail> {
     let mut bytes = JITDUMP[..102].to_vec(alloc)?;
     bytes.truncate(44);
@@ -92,7 +92,7 @@ fn opened<R: Source + Drop>(
     Ok(JitDumpReader::new_with_buffer_size(alloc, source, size)?)
 }
 
-// The first answers of a reader with a buffer of this size, so many.
+// The first `count` results of a reader with a buffer of this size.
 fn answers<R: Source + Drop>(
     alloc: Global,
     source: R,
@@ -107,7 +107,7 @@ fn answers<R: Source + Drop>(
     Ok(answers)
 }
 
-// The file, of which so many bytes are shown and which grows by a byte at a time.
+// The file, of which `at` bytes are available at first and which grows by one byte at a time.
 fn growing(alloc: Global, at: usize, stops_again: bool) -> Result<Script, Fail> {
     let mut steps = bytes_then(alloc, at, Step::Pause)?;
     for _ in at..102 {
@@ -137,7 +137,7 @@ fn loses_nothing_where_the_file_grows_by_a_byte(rt: HostRuntime) -> Result<(), F
     Ok(())
 }
 
-// The kind of error that an opening returns where this comes after so many bytes.
+// The kind of error that the opening returns if this error occurs after `at` bytes.
 fn error_of_opening(alloc: Global, at: usize, kind: ErrorKind) -> Result<Option<ErrorKind>, Fail> {
     let steps = bytes_then(alloc, at, Step::Fault(kind))?;
     let source = script(alloc, 102, steps)?;
@@ -158,7 +158,7 @@ fn an_opening_returns_an_error_at_once(rt: HostRuntime) -> Result<(), Fail> {
     Ok(())
 }
 
-// The first answer of bytes, or whether they are too few for a header.
+// The first result for these bytes. If the opening fails, whether they are too few for a header.
 fn first_answer(alloc: Global, bytes: &[u8]) -> Result<(Answer, u64), bool> {
     match JitDumpReader::new_with_buffer_size(alloc, bytes, 40) {
         Ok(mut reader) => Ok(next(&mut reader)),
@@ -184,7 +184,7 @@ fn a_truncated_file_waits(rt: HostRuntime) {
     }
 }
 
-// Where the code of a function with a short name begins in its record, and whether the code is the two bytes of the file.
+// The offset of the code in a load record with a name below 100 bytes, and whether the code is the file's two bytes.
 fn code_in(alloc: Global, record: &JitDumpRawRecord<'_>) -> Option<(usize, bool)> {
     match record.parse(alloc) {
         Ok(JitDumpRecord::CodeLoad(load)) => {
@@ -198,7 +198,7 @@ fn code_in(alloc: Global, record: &JitDumpRawRecord<'_>) -> Option<(usize, bool)
     }
 }
 
-// The code of the next record.
+// The result for the next record, and the result of `code_in` for it.
 fn next_code<R: Source>(
     alloc: Global,
     reader: &mut JitDumpReader<R>,
@@ -240,7 +240,7 @@ fn a_record_comes_in_single_bytes(rt: HostRuntime) -> Result<(), Fail> {
     Ok(())
 }
 
-// Whether the body of the next record is the file's, and the lengths of its pieces.
+// Whether the body of the next record is that of the file, and the sizes of its slices.
 fn next_pieces<R: Source>(reader: &mut JitDumpReader<R>) -> Option<(bool, usize, usize)> {
     match reader.next_record() {
         Ok(Some(record)) => {
@@ -277,7 +277,7 @@ fn records_begin_after_the_whole_header(rt: HostRuntime) -> Result<(), Fail> {
     Ok(())
 }
 
-// The two first answers where a header has this size, and the type and the size that are reported then.
+// The first two results if a record header has this size, and the type and the size that the header reports after them.
 fn answers_of_size(
     alloc: Global,
     size: u32,
@@ -288,7 +288,7 @@ fn answers_of_size(
     Ok((answers, type_and_size(&mut reader)))
 }
 
-// The first answer where the header has the greatest size, whether the record is skipped, and where the next begins.
+// The first result if a record header has the greatest size, whether the record is skipped, and the offset of the next record.
 fn answer_of_greatest(
     alloc: Global,
     after: &[u8],
@@ -322,7 +322,8 @@ fn neither_returns_nor_skips_a_record_longer_than_its_file(rt: HostRuntime) -> R
     Ok(())
 }
 
-// A source of a header of the greatest size, a body of 46 bytes, and a closing record, which comes after so many pauses.
+// A source of a record header of the greatest size, a body of 46 bytes, and a close record that becomes available after `pauses`
+// pauses.
 fn greatest(alloc: Global, pauses: usize) -> Result<Script, Fail> {
     let mut bytes = header_of_size(alloc, u32::MAX, &JITDUMP[56..102])?;
     bytes.extend_from_slice(&JITDUMP[102..])?;
@@ -332,7 +333,7 @@ fn greatest(alloc: Global, pauses: usize) -> Result<Script, Fail> {
     Ok(Script::new(bytes, 102, steps, Vec::new(alloc)))
 }
 
-// A reader of that source, with a buffer of this size or of the usual one.
+// A reader of that source, with a buffer of this size or of the default size.
 fn waiting(
     alloc: Global,
     size: Option<usize>,
@@ -345,7 +346,7 @@ fn waiting(
     }
 }
 
-// The same bytes by the reader of buffers, which asks in vain for the record's three times and gives the 62 that came.
+// The same bytes in a `BufferedReader`: three calls for the record's body return nothing, and a call for 62 bytes returns them.
 fn parts_of_greatest(alloc: Global, size: usize) -> Result<([Option<usize>; 5], bool), Fail> {
     let mut buffer = Vec::new(alloc);
     buffer.resize(size.max(1), 0)?;
@@ -391,14 +392,15 @@ fn skips_records(rt: HostRuntime) -> Result<(), Fail> {
     Ok(())
 }
 
-// What the skipping of a record answers and where the next one begins then, its time, and the answer of a call for it.
+// The result of skipping a record and the offset of the next record after it, the time of the next record, and the result of a
+// call for it.
 type Skipped = (
     (Result<bool, ErrorKind>, u64),
     Result<Option<u64>, ErrorKind>,
     (Answer, u64),
 );
 
-// What comes where a record of 100 bytes, of which so many bytes are shown with its header, is skipped.
+// Skips a record of 100 bytes, over a source of which `shown` bytes are available at first.
 pub fn skipped(
     alloc: Global,
     shown: usize,
@@ -428,7 +430,7 @@ fn skips_only_what_is_shown(rt: HostRuntime) -> Result<(), Fail> {
     Ok(())
 }
 
-// A file of ten records that comes in single bytes.
+// A source of ten records that returns one byte a read.
 fn ten_records(alloc: Global) -> Result<Script, Fail> {
     let mut bytes = JITDUMP[..102].to_vec(alloc)?;
     for _ in 0..9 {

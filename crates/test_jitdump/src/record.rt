@@ -1,4 +1,4 @@
-//! Headers of records, the numbers of types, and each record in the form that its type has.
+//! Record headers, the numbers of record types, and the parsed form of each type.
 use crate::compare::{same, same_at};
 use crate::records::{
     debug_info, unwinding, values_of_info, values_of_unwinding, with_code_missing, without_nul,
@@ -14,10 +14,10 @@ use std::test::Fail;
 use test_support::recordings::JITDUMP;
 use test_support::values::by_kind;
 
-// A header of type 0 and size 62 at 9, big-endian; the file has it little-endian.
+// A big-endian header of type 0, size 62 and time 9. The file contains it in little-endian.
 const BIG: [u8; 16] = [0, 0, 0, 0, 0, 0, 0, 62, 0, 0, 0, 0, 0, 0, 0, 9];
 
-// Whether this is what the body says, with the code 60 bytes after the start of the head.
+// Whether the record is the file's load record, with its code 60 bytes after the start of the record header.
 fn is_foo(load: &JitCodeLoadRecord<'_>) -> bool {
     let numbers = (
         load.pid,
@@ -35,17 +35,17 @@ fn is_foo(load: &JitCodeLoadRecord<'_>) -> bool {
     (numbers, name, code, offset) == ((7, 7, 0, 0x1000, 0x1000), true, true, 60)
 }
 
-// What a record is parsed to.
+// The parsed form of a record.
 #[derive(Clone, Copy, Debug, PartialEq, Eq)]
 enum Parsed {
-    // Whether it is what the body says.
+    // Whether the record is the file's load record.
     Load(bool),
     Move,
-    // What the body says, by `values_of_info`.
+    // The result of `values_of_info`.
     DebugInfo((u64, usize, bool)),
     Close,
     Unwinding((u64, bool, bool)),
-    // The body's length.
+    // The size of the body.
     Other(usize),
 }
 

@@ -1,4 +1,4 @@
-//! The bodies of records: their fields, errors, and the entry of an address.
+//! The bodies of records: their fields and errors, and the lookup of an address.
 use crate::compare::{same, same_at};
 use byteorder::{ByteOrder, LittleEndian};
 use perfdata_base::raw::{Endianness, RawData};
@@ -12,14 +12,14 @@ use std::test::Fail;
 use test_support::recordings::JITDUMP;
 use test_support::values::by_kind;
 
-// The file, whose record counts a byte of code more than it has.
+// The file, with a load record that declares one more byte of code than it contains.
 pub fn with_code_missing() -> [u8; 118] {
     let mut bytes = JITDUMP;
     bytes[56 + 24] = 3;
     bytes
 }
 
-// The file, whose record has no NUL after the name.
+// The file, with a load record without a NUL after the name.
 pub fn without_nul() -> [u8; 118] {
     let mut bytes = JITDUMP;
     bytes[56 + 43] = b'o';
@@ -44,7 +44,7 @@ fn loads_are_short_without_code_or_nul(rt: HostRuntime) -> Result<(), Fail> {
     Ok(())
 }
 
-// The process, the thread and the mapping, the old and the new address, the size and the index.
+// The pid, the tid and the vma, the old and the new address, the size and the index.
 type Move = ((u32, u32, u64), (u64, u64), (u64, u64));
 
 fn big_move(bytes: &[u8]) -> Result<Move, ErrorKind> {
@@ -58,7 +58,7 @@ fn big_move(bytes: &[u8]) -> Result<Move, ErrorKind> {
     }
 }
 
-// A process and a thread, a mapping, the old and the new address, the size and the index, and a byte after them.
+// A pid and a tid, a vma, the old and the new address, the size and the index, and one extra byte.
 const MOVE: [u8; 49] = [
     0, 0, 0, 1, 0, 0, 0, 2, 0, 0, 0, 0, 0, 0, 0, 3, 0, 0, 0, 0, 0, 0, 0, 4, 0, 0, 0, 0, 0, 0, 0, 5,
     0, 0, 0, 0, 0, 0, 0, 6, 0, 0, 0, 0, 0, 0, 0, 7, 0,
@@ -70,7 +70,7 @@ fn reads_moves(rt: HostRuntime) {
     same(&rt, &big_move(&MOVE[..47]), &Err(ErrorKind::UnexpectedEof));
 }
 
-// Debug info for the address 0x10 that counts so many entries and has one, for 0x20, line 3, column 4 and `a.js`.
+// Debug info for the address 0x10 that declares `count` entries and contains one, for 0x20, line 3, column 4 and `a.js`.
 pub fn debug_info(count: u64) -> [u8; 37] {
     let mut body = [0; 37];
     LittleEndian::write_u64(&mut body, 0x10);
@@ -82,7 +82,7 @@ pub fn debug_info(count: u64) -> [u8; 37] {
     body
 }
 
-// The address, how many entries there are, and whether the first is that entry.
+// The address, the number of entries, and whether the first is the entry of `debug_info`.
 pub fn values_of_info(info: &JitCodeDebugInfoRecord<'_>) -> (u64, usize, bool) {
     let is_expected = match info.entries.first() {
         Some(entry) => {
@@ -114,7 +114,7 @@ fn reads_debug_info(rt: HostRuntime) {
     }
 }
 
-// Unwinding info for two bytes of data and two mapped, with an index of so many.
+// Unwinding info for two bytes of data and a mapped size of two. The size of its index is `index`.
 pub fn unwinding(index: u8) -> [u8; 26] {
     let mut body = [0; 26];
     body[0] = 2;
@@ -125,7 +125,7 @@ pub fn unwinding(index: u8) -> [u8; 26] {
     body
 }
 
-// How many bytes are mapped, and whether the index is 0xaa and the data 0xbb.
+// The mapped size, whether the index is 0xaa, and whether the data is 0xbb.
 pub fn values_of_unwinding(info: &JitCodeUnwindingInfoRecord<'_>) -> (u64, bool, bool) {
     (
         info.mapped_size,
@@ -175,7 +175,7 @@ fn with_entries(
     })
 }
 
-// The address of the entry of an address.
+// The address of the entry that `lookup` returns for an address.
 fn looked_up(info: &JitCodeDebugInfoRecord<'_>, addr: u64) -> Option<u64> {
     match info.lookup(addr) {
         Some(entry) => Some(entry.code_addr),

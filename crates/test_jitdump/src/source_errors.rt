@@ -1,4 +1,4 @@
-//! Jitdump files whose source fails, pauses or grows at each place in turn.
+//! Jitdump files whose source fails, pauses or grows at each byte in turn.
 use crate::compare::{same, same_at};
 use crate::jitdump_reader::{Answer, LOAD, header_of_size, next, skipped};
 use perfdata_base::source::{Script, Step};
@@ -9,7 +9,7 @@ use std::test::Fail;
 use test_support::recordings::JITDUMP;
 use test_support::values::by_kind;
 
-/// The first two answers over a source with a buffer of this size, or the kind of error that the opening returns.
+/// The first two results over a source with a buffer of this size, or the kind of error that the opening returns.
 fn two_answers(
     alloc: Global,
     source: Script,
@@ -22,18 +22,18 @@ fn two_answers(
     }
 }
 
-/// What comes after so many reads of a byte.
+/// The event after a number of reads of one byte.
 #[derive(Clone, Copy, Debug)]
 enum Stop {
     Error(ErrorKind),
     Pause,
-    /// No more is shown; then one byte more for each read.
+    /// No further byte is available. Then one byte becomes available for each read.
     Shown,
-    /// No more is shown, and the read finds nothing; then all is.
+    /// No further byte is available, and one read is empty. Then all bytes are available.
     Late,
 }
 
-/// The file, one byte a read, that stops after so many.
+/// The first 102 bytes of the file, one a read, with this stop after `at` bytes.
 fn stopping(alloc: Global, at: usize, stop: Stop) -> Result<Script, AllocError> {
     let mut steps = Vec::new(alloc);
     for _ in 0..at {
@@ -66,7 +66,7 @@ fn stopping(alloc: Global, at: usize, stop: Stop) -> Result<Script, AllocError> 
     Ok(Script::new(bytes, shown, steps, Vec::new(alloc)))
 }
 
-/// What is promised where it stops after so many bytes, of which an opening takes this many.
+/// The expected results if the source stops after `at` bytes and the opening consumes `taken` bytes.
 fn promised(taken: usize, at: usize, stop: Stop) -> Result<[(Answer, u64); 2], Option<ErrorKind>> {
     match stop {
         Stop::Error(kind) if at < taken => Err(Some(kind)),
@@ -121,7 +121,8 @@ fn each_seek_of_skipping_fails(rt: HostRuntime) -> Result<(), Fail> {
     Ok(())
 }
 
-/// How skipping a record of this size fails, twice, and the size that its header reports then.
+/// The errors of two attempts to skip a record of this size, the offset of the next record, and the size that its header reports
+/// after them.
 fn too_small(alloc: Global, size: u32) -> Result<([Option<ErrorKind>; 2], u64, Option<u32>), Fail> {
     let source = Cursor::new(header_of_size(alloc, size, &[0xee; 84])?);
     let mut reader = JitDumpReader::new_with_buffer_size(alloc, source, 40)?;

@@ -1,4 +1,4 @@
-//! Several attributes, by event types, by EVENT_DESC and by the attribute section.
+//! Several attributes: in event types, in EVENT_DESC and in the attribute section.
 use crate::compare::same;
 use crate::listing::{FIRST, opens, shows};
 use linux_perf_data::{Endianness, PerfFileReader};
@@ -36,9 +36,9 @@ fn identifiers_choose_attributes(rt: HostRuntime) -> Result<(), Fail> {
     let mut other = EVENT_TYPES;
     other.second = (0x10006, 0);
     let mut image = other.front(rt.alloc(), 32)?;
-    image.head(9, 0, 32)?;
+    image.push_record_header(9, 0, 32)?;
     for word in [6, 1, 33] {
-        image.long(word)?;
+        image.push_u64(word)?;
     }
     opens(
         &rt,
@@ -71,15 +71,15 @@ fn event_types_with_errors(rt: HostRuntime) -> Result<(), Fail> {
     Ok(())
 }
 
-/// A file of one sample, whose attribute EVENT_DESC describes: the event `c` with the id 5, and frames of this size.
+/// A file of one sample, whose attribute is in EVENT_DESC: the event `c` with the id 5, with this attribute size.
 fn described(alloc: Global, size: u32) -> Result<Image, AllocError> {
     let numbers = [104, 64, 0, 0, 104, 16, 0, 0, 1 << 12, 0, 0, 0];
     let mut image = Image::header(alloc, numbers)?;
-    image.sample(20)?;
-    image.long(136)?;
-    image.long(90)?;
+    image.push_sample(20)?;
+    image.push_u64(136)?;
+    image.push_u64(90)?;
     let events = event_desc(alloc, Endianness::LittleEndian, size)?;
-    image.raw(&events.bytes)?;
+    image.push_bytes(&events.bytes)?;
     Ok(image)
 }
 
@@ -98,15 +98,15 @@ fn event_desc_describes_attributes(rt: HostRuntime) -> Result<(), Fail> {
     Ok(())
 }
 
-/// Two attributes that stand in the attribute section alone, and two samples: no identifier is listed.
+/// Two attributes that are only in the attribute section, which lists no ids, and two samples.
 #[test]
 fn attributes_without_identifiers(rt: HostRuntime) -> Result<(), Fail> {
     let numbers = [104, 64, 104, 128, 232, 40, 0, 0, 0, 0, 0, 0];
     let mut image = Image::header(rt.alloc(), numbers)?;
-    image.attribute(4, 0)?;
-    image.attribute(4, 0)?;
-    image.sample(20)?;
-    image.marker(8)?;
-    image.sample(10)?;
+    image.push_attr(4, 0)?;
+    image.push_attr(4, 0)?;
+    image.push_sample(20)?;
+    image.push_round_marker(8)?;
+    image.push_sample(10)?;
     opens(&rt, "two attributes", &image.bytes, FIRST, End::Whole)
 }

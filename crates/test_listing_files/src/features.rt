@@ -21,7 +21,7 @@ fn a_file_with_a_host_name(rt: HostRuntime) -> Result<(), Fail> {
     opens(&rt, "a host name", &image.bytes, FIRST, End::Whole)
 }
 
-/// The first little-endian file with a host name's bit, these entries and these bytes.
+/// `first_file`, little-endian, with the bit of a host name, these entries and these bytes.
 fn with_entries(
     alloc: Global,
     entries: &[(u64, u64)],
@@ -31,7 +31,7 @@ fn with_entries(
     with_features(alloc, little, [8, 0, 0, 0], entries, content)
 }
 
-/// Such a file is truncated.
+/// Asserts that such a file doesn't open, because of an unexpected end of file.
 fn is_truncated(
     rt: &(impl Abort + AllocGlobal),
     name: &str,

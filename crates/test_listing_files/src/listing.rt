@@ -1,4 +1,4 @@
-//! Listings of files, compared with the lines and the end that are wanted.
+//! Listings of files, compared with the expected lines and end.
 use crate::compare::{same, same_at};
 use linux_perf_data::Endianness;
 use linux_perf_data::source::{Counted, PlacedSource};
@@ -27,7 +27,7 @@ pub fn lines_of(listed: &Result<u64, ListFault>) -> u64 {
     }
 }
 
-/// Lists a file from a source, and compares the lines, their number and the end with what is wanted.
+/// Lists a file from a source, and compares the lines, their number and the end with the expected ones.
 pub fn lists<C: PlacedSource + Drop>(
     rt: &(impl Abort + AllocGlobal),
     name: &str,
@@ -48,7 +48,7 @@ pub fn lists<C: PlacedSource + Drop>(
     same_at(rt, &(name, way), &out.as_slice(), &wanted.as_bytes());
 }
 
-/// Lists a file in three ways.
+/// Lists a file from a borrowed, an owned and a counted source.
 pub fn shows(
     rt: &(impl Abort + AllocGlobal),
     name: &str,
@@ -64,7 +64,7 @@ pub fn shows(
     Ok(())
 }
 
-/// The same for a file that opens, and what the plain program says of it.
+/// Lists a file that opens in the same ways, and compares the reference implementation's result too.
 pub fn opens(
     rt: &(impl Abort + AllocGlobal),
     name: &str,
@@ -78,7 +78,7 @@ pub fn opens(
     Ok(())
 }
 
-/// What such a file, which opens, comes to.
+/// Lists a file of these parts, which opens, and compares the lines and the end.
 pub fn reads(
     rt: &(impl Abort + AllocGlobal),
     name: &str,
@@ -93,7 +93,7 @@ pub fn reads(
 
 pub const FIRST: &str = "0 0 20 0 9 0 8\n24 1 10 0 9 0 8\n";
 
-/// The first file with numbers written over, which doesn't open.
+/// Lists `first_file` with these numbers written at these offsets, which doesn't open.
 pub fn patched(
     rt: &(impl Abort + AllocGlobal),
     name: &str,
@@ -101,6 +101,6 @@ pub fn patched(
     patches: &[(usize, u64)],
     end: End,
 ) -> Result<(), Fail> {
-    let image = Image::patched(rt.alloc(), endian, patches)?;
+    let image = Image::patched_first_file(rt.alloc(), endian, patches)?;
     shows(rt, name, &image.bytes, "", end)
 }

@@ -1,4 +1,4 @@
-//! Listings of files whose attributes are named by simpleperf's meta info.
+//! Listings of files whose attributes have the names of simpleperf's meta info.
 use crate::compare::same;
 use crate::listing::shows;
 use std::test::Fail;

@@ -14,8 +14,8 @@ const FIRST: &[u8] = b"40 9 0 62\n";
 
 const LINES: &[u8] = b"40 9 0 62\n102 11 3 16\n";
 
-/// Of what node 20.20 wrote by `--perf-prof`: the header, its first record (of unwinding), and the smallest of debug info and
-/// of code, cut out at their boundaries.
+/// Excerpts of a file that node 20.20 wrote with `--perf-prof`: the header, the first record (unwinding info), and the smallest
+/// debug info and load records. All are complete.
 const NODE: [u8; 369] = [
     68, 84, 105, 74, 1, 0, 0, 0, 40, 0, 0, 0, 62, 0, 0, 0, 239, 190, 173, 222, 13, 106, 0, 0, 214,
     11, 75, 21, 221, 96, 6, 0, 0, 0, 0, 0, 0, 0, 0, 0, 4, 0, 0, 0, 64, 0, 0, 0, 22, 195, 80, 160,
@@ -37,7 +37,7 @@ const NODE: [u8; 369] = [
 const NODE_LINES: &[u8] =
     b"40 2991986885398 4 64\n104 2992056366563 2 128\n232 2992056367332 0 137\n";
 
-/// How a listing ends.
+/// The end of a listing.
 #[derive(Clone, Copy, Debug, PartialEq, Eq)]
 pub enum End {
     Whole,
@@ -47,7 +47,7 @@ pub enum End {
     Other,
 }
 
-// How it ended, and how many lines it counts.
+// The end of a listing and the number of lines that it reports.
 pub fn end_of(listed: Result<u64, ListFault>) -> (End, u64) {
     match listed {
         Ok(lines) => (End::Whole, lines),
@@ -63,14 +63,14 @@ pub fn end_of(listed: Result<u64, ListFault>) -> (End, u64) {
     }
 }
 
-// How the listing of a jitdump file ends, how many lines it counts, and the lines.
+// The end of a listing of a jitdump file, the number of lines that it reports, and the lines.
 fn listed<R: Source + Drop>(alloc: Global, source: R) -> (End, u64, Vec<u8>) {
     let mut out: Vec<u8> = Vec::new(alloc);
     let (end, lines) = end_of(list_jit(alloc, source, &mut out));
     (end, lines, out)
 }
 
-/// Lists a jitdump file from a source, and compares the end, the number of lines and the lines with what is wanted.
+/// Lists a jitdump file from a source, and compares the end, the number of lines and the lines with the expected ones.
 fn lists<R: Source + Drop>(
     rt: &(impl Abort + AllocGlobal),
     source: R,
@@ -98,7 +98,7 @@ fn lists_what_node_wrote(rt: HostRuntime) -> Result<(), Fail> {
 
 #[test]
 fn lists_what_is_whole(rt: HostRuntime) -> Result<(), Fail> {
-    // how many bytes there are, how it ends, how many lines it counts, and which
+    // the number of bytes, the end, the number of lines that the listing reports, and the lines
     let cases: [(usize, End, u64, &[u8]); 7] = [
         (0, End::Unopened, 0, b""),
         (39, End::Unopened, 0, b""),
@@ -141,7 +141,7 @@ fn lists_lines_before_an_error(rt: HostRuntime) -> Result<(), Fail> {
 
 #[test]
 fn a_listing_ends_at_an_empty_read(rt: HostRuntime) -> Result<(), Fail> {
-    // the first record comes whole
+    // the first record arrives completely
     let steps = [Step::Give(102), Step::Pause, Step::Pause];
     let source = scripted(rt.alloc(), &JITDUMP, Vec::from_array(rt.alloc(), steps)?)?;
     let mut out: Vec<u8> = Vec::new(rt.alloc());

@@ -2,7 +2,7 @@
 use std::alloc::Global;
 use std::io::{Error, ErrorKind, Result, Write};
 
-/// Takes at most `most` bytes a call, and fails, or takes none, once it has `capacity` bytes.
+/// Accepts at most `most` bytes a call. Once it contains `capacity` bytes, it fails, or accepts no more.
 #[derive(Drop)]
 pub struct LimitedWriter {
     pub taken: Vec<u8>,

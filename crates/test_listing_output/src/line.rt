@@ -1,14 +1,14 @@
-//! Lines as text.
+//! The text of lines.
 use crate::compare::check;
-use perfdata_listing::line::{Fields, Line};
+use perfdata_listing::line::{Line, RecordFields};
 use std::test::Fail;
 
-const NONE: Fields = Fields {
+const NONE: RecordFields = RecordFields {
     offset: 0,
     round: 0,
-    time: None,
-    attr: None,
-    kind: 0,
+    timestamp: None,
+    attr_index: None,
+    record_type: 0,
     misc: 0,
     body_length: 0,
 };
@@ -25,30 +25,30 @@ fn is_jit(line: &mut Line, numbers: (u64, u64, u32, u64), text: &[u8]) -> bool {
 
 #[test]
 fn writes_lines(rt: HostRuntime) -> Result<(), Fail> {
-    let sample = Fields {
+    let sample = RecordFields {
         offset: 104,
         round: 3,
-        time: Some(1_000_200_030_004),
-        attr: Some(0),
-        kind: 9,
+        timestamp: Some(1_000_200_030_004),
+        attr_index: Some(0),
+        record_type: 9,
         misc: 2,
         body_length: 40,
     };
-    let longest = Fields {
+    let longest = RecordFields {
         offset: u64::MAX,
         round: u64::MAX,
-        time: Some(u64::MAX),
-        attr: Some(u64::MAX),
-        kind: u32::MAX,
+        timestamp: Some(u64::MAX),
+        attr_index: Some(u64::MAX),
+        record_type: u32::MAX,
         misc: u16::MAX,
         body_length: u64::MAX,
     };
-    let of_tool = Fields {
-        kind: 73,
+    let of_tool = RecordFields {
+        record_type: 73,
         body_length: 10_000,
         ..NONE
     };
-    let cases: [(Fields, &[u8]); 4] = [
+    let cases: [(RecordFields, &[u8]); 4] = [
         (NONE, b"0 0 - - 0 0 0\n"),
         (sample, b"104 3 1000200030004 0 9 2 40\n"),
         (of_tool, b"0 0 - - 73 0 10000\n"),
@@ -94,7 +94,7 @@ fn writes_error_lines(rt: HostRuntime) -> Result<(), Fail> {
         ),
     ];
     for (records, text) in cases {
-        check(&rt, holds(&Line::of_fault(records), text));
+        check(&rt, holds(&Line::for_error(records), text));
     }
     Ok(())
 }

@@ -11,7 +11,7 @@ use std::test::Fail;
 use test_support::recordings::{JITDUMP, traced_pipe};
 use test_support::sources::scripted;
 
-/// Notes how many bytes it has at each flush. It takes all bytes, and fails at the flush after so many.
+/// Records its number of bytes at each flush. It accepts all bytes, and fails after `flushes` flushes.
 #[derive(Drop)]
 struct FlushLog {
     taken: Vec<u8>,
@@ -42,7 +42,7 @@ impl FlushPending for FlushLog {
     }
 }
 
-/// How a listing ends into a writer that can be flushed so often, and what the writer has and noted then.
+/// The end of a listing into a writer that accepts `flushes` flushes, and the writer after it.
 fn listed<R: Source + Drop>(
     alloc: Global,
     source: R,
@@ -68,14 +68,14 @@ const PIPE_LINES: &[u8] = b"0 0 - - 71 0 41\n49 0 20 0 9 2 8\n";
 fn lines_of_a_pipe_are_flushed(rt: HostRuntime) -> Result<(), Fail> {
     let bytes = traced_pipe(rt.alloc(), 0)?.bytes;
     let ((end, lines), out) = listed(rt.alloc(), bytes.as_slice(), true, 9);
-    // before the first record, whose header was read with the opening, and before the end
+    // flushes before the first record, whose header is read with the opening, and before the end
     same_at(
         &rt,
         &"in memory",
         &(end, lines, out.taken.as_slice(), out.flushed.as_slice()),
         &(End::Whole, 2, PIPE_LINES, [0, 32].as_slice()),
     );
-    // before each record and the end, of a source that shows nothing
+    // flushes before each record and before the end, over an unbuffered source
     let source = scripted(rt.alloc(), &bytes, Vec::new(rt.alloc()))?;
     let ((end, lines), out) = listed(rt.alloc(), source, true, 9);
     same_at(
@@ -91,7 +91,8 @@ const JIT_LINES: &[u8] = b"40 9 0 62\n102 11 3 16\n";
 
 #[test]
 fn lines_of_a_jitdump_are_flushed(rt: HostRuntime) -> Result<(), Fail> {
-    // The header has 40 bytes, the records 62 and 16, of which 16 each are their headers. The opening reads up to the pause.
+    // The header has 40 bytes, and the records have 62 and 16 bytes, of which 16 each are the record header. The opening reads up
+    // to the pause.
     let cases: [(&[Step], &[usize]); 7] = [
         // all in one read
         (&[Step::Give(118)], &[22]),
@@ -144,7 +145,7 @@ fn lines_of_a_jitdump_are_flushed(rt: HostRuntime) -> Result<(), Fail> {
 fn a_failing_flush_ends_the_listing(rt: HostRuntime) -> Result<(), Fail> {
     let bytes = traced_pipe(rt.alloc(), 0)?.bytes;
     let broken = End::Write(ErrorKind::BrokenPipe);
-    // the input, whether it is a pipe, how often its lines can be flushed, the end, the lines, and their bytes
+    // the input, whether it is a pipe, the number of flushes that succeed, the end, the lines, and their size in bytes
     for (input, is_pipe, flushes, end, lines, length) in [
         (bytes.as_slice(), true, 0usize, broken, 0u64, 0usize),
         (bytes.as_slice(), true, 1, broken, 2, 32),

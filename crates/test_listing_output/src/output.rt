@@ -1,7 +1,7 @@
-//! Writing to a writer that may fail.
+//! Output to a writer that may fail.
 use crate::compare::{check, check_at};
 use crate::limited_writer::LimitedWriter;
-use perfdata_listing::output::{LineBuffer, finish, write_line};
+use perfdata_listing::output::{CountingBufWriter, finish, write_line};
 use std::io;
 use std::io::{ErrorKind, Write};
 use std::test::Fail;
@@ -18,7 +18,8 @@ fn writes_a_line_or_a_prefix(rt: HostRuntime) -> Result<(), Fail> {
     let line = b"104 3 77 0 9 2 40\n";
     let interrupted = Some(ErrorKind::Interrupted);
     let full = Some(ErrorKind::StorageFull);
-    // the most bytes a call, the capacity, the error, how many bytes are taken, the calls, and the kind answered
+    // the maximum size of a write, the capacity, the writer's error, the number of bytes written, the number of calls, the kind
+    // of error returned
     let cases = [
         (1000, 1000, None, 18, 1, None),
         (1, 1000, None, 18, 18, None),
@@ -69,18 +70,18 @@ fn finishes(rt: HostRuntime) -> Result<(), Fail> {
 #[test]
 fn counts_written_lines(rt: HostRuntime) -> Result<(), Fail> {
     let full = Some(ErrorKind::StorageFull);
-    // the capacity of the writer after the buffer, and how many of ten lines of four bytes leave whole
+    // the capacity of the writer after the buffer, and how many of ten lines of four bytes are written completely
     let cases = [(0, 0), (3, 0), (4, 1), (5, 1), (39, 9), (40, 10), (100, 10)];
     for (capacity, lines) in cases {
         let mut inner = LimitedWriter::new(rt.alloc(), 3, capacity, full);
-        let mut out = LineBuffer::new(rt.alloc(), &mut inner)?;
+        let mut out = CountingBufWriter::new(rt.alloc(), &mut inner)?;
         for _ in 0..10 {
             write_line(&mut out, b"abc\n")?;
         }
-        check_at(&rt, &capacity, out.lines_left() == 0);
+        check_at(&rt, &capacity, out.lines_written() == 0);
         let flushed = out.flush();
         check_at(&rt, &capacity, flushed.is_ok() == (capacity >= 40));
-        check_at(&rt, &capacity, out.lines_left() == lines);
+        check_at(&rt, &capacity, out.lines_written() == lines);
         drop(out);
         check_at(&rt, &capacity, inner.taken.len() == capacity.min(40));
     }
@@ -92,10 +93,10 @@ fn writes_more_than_it_holds(rt: HostRuntime) -> Result<(), Fail> {
     let line = b"0123456789abcde\n".as_slice();
     let many = line.repeat(rt.alloc(), 10_000)?;
     let mut inner = LimitedWriter::new(rt.alloc(), 1_000_000, 100_000, None);
-    let mut out = LineBuffer::new(rt.alloc(), &mut inner)?;
+    let mut out = CountingBufWriter::new(rt.alloc(), &mut inner)?;
     let written = write_line(&mut out, many.as_slice());
     check(&rt, kind_of(written) == Some(ErrorKind::WriteZero));
-    check(&rt, out.lines_left() == 100_000 / 16);
+    check(&rt, out.lines_written() == 100_000 / 16);
     drop(out);
     check(&rt, inner.taken.len() == 100_000);
     check(&rt, many.as_slice().starts_with(inner.taken.as_slice()));

@@ -1,8 +1,8 @@
-//! What a listing returns once its last lines are flushed.
+//! The result of a listing after its last lines are flushed.
 use crate::compare::check;
 use linux_perf_data::Error;
-use perfdata_listing::list::{ListCause, ListFault, settle};
-use perfdata_listing::output::{LineBuffer, write_line};
+use perfdata_listing::list::{ListCause, ListFault, flush_listing};
+use perfdata_listing::output::{CountingBufWriter, write_line};
 use std::io;
 use std::io::ErrorKind;
 use std::test::Fail;
@@ -17,17 +17,17 @@ fn error() -> io::Error {
 
 #[test]
 fn settles(rt: HostRuntime) -> Result<(), Fail> {
-    // what the listing came to, what is answered where the writer takes two lines, and how many of them it has
+    // the result of the listing, the result after the flush of two lines, and the number of lines written
     let cases = [
         (Ok(2), Ok(2), 2),
         (stopped_by(ListCause::Perf(Error::Failed)), Err(2), 2),
     ];
     for (listed, answer, lines) in cases {
-        let mut out = LineBuffer::new(rt.alloc(), Vec::new(rt.alloc()))?;
+        let mut out = CountingBufWriter::new(rt.alloc(), Vec::new(rt.alloc()))?;
         write_line(&mut out, b"one\n")?;
         write_line(&mut out, b"two\n")?;
-        check(&rt, settle(listed, &mut out) == answer);
-        check(&rt, out.lines_left() == lines);
+        check(&rt, flush_listing(listed, &mut out) == answer);
+        check(&rt, out.lines_written() == lines);
     }
     Ok(())
 }
@@ -35,14 +35,14 @@ fn settles(rt: HostRuntime) -> Result<(), Fail> {
 #[test]
 fn settles_where_the_last_flush_fails(rt: HostRuntime) -> Result<(), Fail> {
     let mut capacity = [0u8; 6];
-    let mut out = LineBuffer::new(rt.alloc(), capacity.as_mut_slice())?;
+    let mut out = CountingBufWriter::new(rt.alloc(), capacity.as_mut_slice())?;
     write_line(&mut out, b"one\n")?;
     write_line(&mut out, b"two\n")?;
-    check(&rt, settle(Ok(2), &mut out) == Err(1));
-    // a writer that has failed isn't asked again
+    check(&rt, flush_listing(Ok(2), &mut out) == Err(1));
+    // a writer that has failed isn't called again
     check(
         &rt,
-        settle(stopped_by(ListCause::Write(error())), &mut out) == Err(1),
+        flush_listing(stopped_by(ListCause::Write(error())), &mut out) == Err(1),
     );
     Ok(())
 }

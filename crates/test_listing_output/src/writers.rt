@@ -1,18 +1,18 @@
-//! Writers that take so many bytes and then fail, or take none.
+//! Writers that accept a number of bytes and then fail, or accept no more.
 use crate::compare::{same, same_at};
 use crate::jitdump::{End, end_of};
 use crate::limited_writer::LimitedWriter;
 use linux_perf_data::Endianness;
 use perfdata_listing::jit::list_jit;
 use perfdata_listing::list::{list_file, list_pipe};
-use perfdata_listing::output::{LineBuffer, write_line};
+use perfdata_listing::output::{CountingBufWriter, write_line};
 use std::alloc::{AllocError, Global};
 use std::io::{Cursor, ErrorKind, Write};
 use std::test::Fail;
 use test_support::image::{Image, little_pipe};
 use test_support::recordings::{JITDUMP, TWO_ATTRIBUTES, traced_pipe};
 
-/// What is listed.
+/// The input of a listing.
 #[derive(Clone, Copy, Debug)]
 enum Input {
     File,
@@ -30,13 +30,13 @@ fn list(alloc: Global, input: Input, bytes: &[u8], out: &mut LimitedWriter) -> (
 
 fn bytes_of(alloc: Global, input: Input) -> Result<Vec<u8>, AllocError> {
     match input {
-        Input::File => Ok(Image::first(alloc, Endianness::LittleEndian)?.bytes),
+        Input::File => Ok(Image::first_file(alloc, Endianness::LittleEndian)?.bytes),
         Input::Pipe => Ok(traced_pipe(alloc, 0)?.bytes),
         Input::Jit => Vec::from_slice(alloc, &JITDUMP),
     }
 }
 
-/// How a listing ends into a writer with this capacity, and what the writer took.
+/// The end of a listing into a writer with this capacity, and the bytes that the writer accepts.
 fn listed(
     alloc: Global,
     input: Input,
@@ -48,7 +48,7 @@ fn listed(
     (end, out.taken)
 }
 
-/// How many lines end in a text.
+/// The number of lines that end in a text.
 fn lines_in(text: &[u8]) -> u64 {
     text.iter().filter(|byte| **byte == b'\n').count() as u64
 }
@@ -82,7 +82,7 @@ fn a_writer_takes_each_prefix(rt: HostRuntime) -> Result<(), Fail> {
 
 #[test]
 fn a_writer_takes_twenty_bytes(rt: HostRuntime) -> Result<(), Fail> {
-    let file = Image::first(rt.alloc(), Endianness::LittleEndian)?;
+    let file = Image::first_file(rt.alloc(), Endianness::LittleEndian)?;
     let pipe = little_pipe(rt.alloc(), &TWO_ATTRIBUTES)?;
     let full = ErrorKind::StorageFull;
     for (input, bytes) in [(Input::File, &file.bytes), (Input::Pipe, &pipe.bytes)] {
@@ -97,11 +97,11 @@ fn a_writer_takes_twenty_bytes(rt: HostRuntime) -> Result<(), Fail> {
     Ok(())
 }
 
-/// Whether the flush of a line buffer succeeds, how often its writer is flushed then, and how many bytes it took.
+/// Whether the flush of a line buffer succeeds, the number of flushes of its writer, and the number of bytes in the writer.
 fn flushed(alloc: Global, capacity: usize) -> Result<(bool, u64, usize), Fail> {
     let full = Some(ErrorKind::StorageFull);
     let mut inner = LimitedWriter::new(alloc, usize::MAX, capacity, full);
-    let mut out = LineBuffer::new(alloc, &mut inner)?;
+    let mut out = CountingBufWriter::new(alloc, &mut inner)?;
     write_line(&mut out, b"abc\n")?;
     let done = out.flush().is_ok();
     drop(out);

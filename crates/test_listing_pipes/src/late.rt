@@ -1,4 +1,4 @@
-//! Attributes and features that come late in a pipe.
+//! Late attributes and features of a pipe.
 use crate::compare::{check, same};
 use crate::pipes::{first_name, opened, reads, shows};
 use linux_perf_data::source::Source;
@@ -13,37 +13,37 @@ use test_support::ending::End;
 use test_support::image::{Part, little_file, little_pipe, piped};
 use test_support::recordings::{META_INFO, TWO_ATTRIBUTES, event_desc, simpleperf_file};
 
-/// An attribute that comes between two samples.
+/// An attribute between two samples.
 const LATE: [Part<'_>; 4] = [
-    Part::Attribute(0x10004, 0, &[5]),
-    Part::Identified(6, 7),
-    Part::Attribute(0x10004, 0, &[6]),
-    Part::Identified(6, 8),
+    Part::HeaderAttr(0x10004, 0, &[5]),
+    Part::SampleWithId(6, 7),
+    Part::HeaderAttr(0x10004, 0, &[6]),
+    Part::SampleWithId(6, 8),
 ];
 
 const LATE_LINES: &str = "0 0 7 0 9 0 16\n24 0 - - 64 0 72\n104 0 8 1 9 0 16\n";
 
 const LATE_PREFIX: &str = "0 0 7 0 9 0 16\n";
 
-/// A pipe's one attribute, a sample, and these.
+/// A pipe with one attribute, a sample, and this part.
 fn after_one<'a>(part: Part<'a>) -> [Part<'a>; 3] {
-    [Part::Attribute(4, 0, &[]), Part::Sample(1), part]
+    [Part::HeaderAttr(4, 0, &[]), Part::Sample(1), part]
 }
 
 const ONE_LINE: &str = "0 0 1 0 9 0 8\n";
 
 /// A late host name.
-const HOST: Part<'_> = Part::Feature(3, &[1, 0, 0, 0, b'a']);
+const HOST: Part<'_> = Part::HeaderFeature(3, &[1, 0, 0, 0, b'a']);
 
 #[test]
 fn late_attributes(rt: HostRuntime) -> Result<(), Fail> {
     reads(&rt, "a late attribute", &LATE, LATE_LINES, End::Whole)?;
     let cached = [
-        Part::Attribute(0x10004, 0, &[5]),
-        Part::Attribute(0x10004, 0, &[7]),
-        Part::Identified(6, 1),
-        Part::Attribute(0x10004, 0, &[6]),
-        Part::Identified(6, 2),
+        Part::HeaderAttr(0x10004, 0, &[5]),
+        Part::HeaderAttr(0x10004, 0, &[7]),
+        Part::SampleWithId(6, 1),
+        Part::HeaderAttr(0x10004, 0, &[6]),
+        Part::SampleWithId(6, 2),
     ];
     let wanted = "0 0 1 0 9 0 16\n24 0 - - 64 0 72\n104 0 2 2 9 0 16\n";
     reads(
@@ -54,21 +54,21 @@ fn late_attributes(rt: HostRuntime) -> Result<(), Fail> {
         End::Whole,
     )?;
     let again = [
-        Part::Attribute(0x10004, 0, &[5]),
-        Part::Attribute(0x10004, 0, &[6]),
-        Part::Identified(6, 1),
-        Part::Attribute(0x10004, 0, &[6, 5]),
-        Part::Identified(5, 2),
-        Part::Identified(6, 3),
+        Part::HeaderAttr(0x10004, 0, &[5]),
+        Part::HeaderAttr(0x10004, 0, &[6]),
+        Part::SampleWithId(6, 1),
+        Part::HeaderAttr(0x10004, 0, &[6, 5]),
+        Part::SampleWithId(5, 2),
+        Part::SampleWithId(6, 3),
     ];
     let wanted = "0 0 1 1 9 0 16\n24 0 - - 64 0 80\n112 0 2 2 9 0 16\n136 0 3 2 9 0 16\n";
     reads(&rt, "identifiers listed again", &again, wanted, End::Whole)?;
     let marked = [
-        Part::Attribute(0x10004, 0, &[5]),
-        Part::Marker(8),
-        Part::Attribute(0x10004, 0, &[6]),
-        Part::Head(73, 1, 8),
-        Part::Identified(6, 2),
+        Part::HeaderAttr(0x10004, 0, &[5]),
+        Part::RoundMarker(8),
+        Part::HeaderAttr(0x10004, 0, &[6]),
+        Part::RecordHeader(73, 1, 8),
+        Part::SampleWithId(6, 2),
     ];
     let wanted = "8 1 - - 64 0 72\n88 1 - - 73 1 0\n96 1 2 1 9 0 16\n";
     reads(&rt, "behind a marker", &marked, wanted, End::Whole)
@@ -76,18 +76,18 @@ fn late_attributes(rt: HostRuntime) -> Result<(), Fail> {
 
 #[test]
 fn late_metadata_with_errors(rt: HostRuntime) -> Result<(), Fail> {
-    let no_identifier = after_one(Part::Attribute(0x10004, 0, &[6]));
+    let no_identifier = after_one(Part::HeaderAttr(0x10004, 0, &[6]));
     let cut_number = [
-        Part::Attribute(4, 0, &[]),
+        Part::HeaderAttr(4, 0, &[]),
         Part::Sample(1),
-        Part::Head(80, 0, 12),
-        Part::Filled(0, 4),
+        Part::RecordHeader(80, 0, 12),
+        Part::Fill(0, 4),
     ];
     let cut_id = [
-        Part::Attribute(4, 0, &[]),
+        Part::HeaderAttr(4, 0, &[]),
         Part::Sample(1),
-        Part::Head(64, 0, 76),
-        Part::Filled(0, 68),
+        Part::RecordHeader(64, 0, 76),
+        Part::Fill(0, 68),
     ];
     for (name, parts, end) in [
         ("no IDENTIFIER", no_identifier.as_slice(), End::Lacks(0)),
@@ -97,9 +97,9 @@ fn late_metadata_with_errors(rt: HostRuntime) -> Result<(), Fail> {
         reads(&rt, name, parts, ONE_LINE, end)?;
     }
     let differs = [
-        Part::Attribute(0x10004, 0, &[5]),
+        Part::HeaderAttr(0x10004, 0, &[5]),
         Part::Sample(1),
-        Part::Attribute(0x10004, 0x40000, &[6]),
+        Part::HeaderAttr(0x10004, 0x40000, &[6]),
     ];
     let line = "0 0 - 0 9 0 8\n";
     reads(&rt, "SAMPLE_ID_ALL", &differs, line, End::Differs(1))
@@ -107,14 +107,14 @@ fn late_metadata_with_errors(rt: HostRuntime) -> Result<(), Fail> {
 
 #[test]
 fn late_contents_with_errors(rt: HostRuntime) -> Result<(), Fail> {
-    let mut own = little_pipe(rt.alloc(), &[Part::Attribute(4, 0, &[]), Part::Sample(1)])?;
-    own.head(64, 0, 72)?;
-    own.word(0)?;
-    own.word(63)?;
-    own.filled(0, 56)?;
+    let mut own = little_pipe(rt.alloc(), &[Part::HeaderAttr(4, 0, &[]), Part::Sample(1)])?;
+    own.push_record_header(64, 0, 72)?;
+    own.push_u32(0)?;
+    own.push_u32(63)?;
+    own.push_fill(0, 56)?;
     shows(&rt, "a size of 63", &own.bytes, ONE_LINE, End::Invalid)?;
     let small = event_desc(rt.alloc(), Endianness::LittleEndian, 56)?;
-    let parts = after_one(Part::Feature(12, &small.bytes));
+    let parts = after_one(Part::HeaderFeature(12, &small.bytes));
     reads(&rt, "a small frame", &parts, ONE_LINE, End::Sizes)
 }
 
@@ -134,10 +134,10 @@ fn a_truncated_late_record_is_the_end(rt: HostRuntime) -> Result<(), Fail> {
     Ok(())
 }
 
-/// Whether a record came, or how the call failed, and how many attributes there are then.
+/// Whether a call returns a record, or its error, and the number of attributes after the call.
 type Answer = (Result<bool, End>, usize);
 
-/// Asks for a record.
+/// Calls for the next record.
 fn asked<R: Source>(records: &mut PerfRecordIter<R>, file: &mut PerfFile) -> Answer {
     let came = match records.next_record(file) {
         Ok(record) => Ok(record.is_some()),
@@ -146,7 +146,7 @@ fn asked<R: Source>(records: &mut PerfRecordIter<R>, file: &mut PerfFile) -> Ans
     (came, file.event_attributes().len())
 }
 
-/// Asks for one record after another, and compares the answers.
+/// Calls for records, and compares the results.
 fn answers<R: Source>(
     rt: &impl Abort,
     records: &mut PerfRecordIter<R>,
@@ -158,7 +158,7 @@ fn answers<R: Source>(
     }
 }
 
-/// Compares the first answers of a reader, and returns what the input then says of itself.
+/// Compares the first results of a reader, and returns the metadata after them.
 fn come<R: Source + Drop>(
     rt: &impl Abort,
     reader: PerfFileReader<R>,
@@ -184,11 +184,11 @@ fn attributes_as_they_come(rt: HostRuntime) -> Result<(), Fail> {
     Ok(())
 }
 
-/// The values of a record: its offset, round and time, the attribute of an event's, its type and misc, and how long its
-/// body is.
+/// The values of a record: its offset, round and time, the attribute index of an event record, its type and misc, and the size of
+/// its body in bytes.
 type RecordValue = ((u64, u64, Option<u64>), Option<usize>, (u32, u16, usize));
 
-/// Asks for a record, and reports its values.
+/// Reads the next record and returns its values.
 fn next_value<R: Source>(
     records: &mut PerfRecordIter<R>,
     file: &mut PerfFile,
@@ -210,16 +210,16 @@ fn next_value<R: Source>(
     Ok(Some((place, index, parts)))
 }
 
-/// Nothing is taken into the `PerfFile` of a pipe with two attributes, whatever else is wrong with the late record.
+/// Late metadata isn't applied to the `PerfFile` of a pipe with two attributes, whatever other error the late record has.
 #[test]
 fn another_pipes_attributes(rt: HostRuntime) -> Result<(), Fail> {
     let other = little_pipe(rt.alloc(), &TWO_ATTRIBUTES)?;
-    let breaks = after_one(Part::Attribute(0x10004, 0, &[6]));
+    let breaks = after_one(Part::HeaderAttr(0x10004, 0, &[6]));
     let cut = [
-        Part::Attribute(4, 0, &[]),
+        Part::HeaderAttr(4, 0, &[]),
         Part::Sample(1),
-        Part::Head(80, 0, 12),
-        Part::Filled(0, 4),
+        Part::RecordHeader(80, 0, 12),
+        Part::Fill(0, 4),
     ];
     for (parts, time, long) in [
         (LATE.as_slice(), 7u64, 16usize),
@@ -234,8 +234,8 @@ fn another_pipes_attributes(rt: HostRuntime) -> Result<(), Fail> {
     Ok(())
 }
 
-/// Compares the values of the first record, a sample of attribute 0, where the `PerfFile` is of another pipe, and how that
-/// one and its own then fail.
+/// Compares the values of the first record, a sample of attribute 0, with the `PerfFile` of another pipe. Then compares the
+/// errors with that `PerfFile` and with the pipe's own.
 fn is_foreign(
     rt: &(impl Abort + AllocGlobal),
     reader: PerfFileReader<&[u8]>,
@@ -253,15 +253,15 @@ fn is_foreign(
     Ok(())
 }
 
-/// A pipe of the other order names its attribute by an EVENT_DESC that can't be read in this one, whether or not the late
-/// attribute breaks the rule.
+/// The attribute of a pipe with the other byte order has its name from an EVENT_DESC that can't be parsed in this byte order. The
+/// error is the same if the late attribute is inconsistent.
 #[test]
 fn another_orders_names(rt: HostRuntime) -> Result<(), Fail> {
     let events = event_desc(rt.alloc(), Endianness::BigEndian, 64)?;
     let mut other = piped(rt.alloc(), Endianness::BigEndian, &[])?;
-    other.described(4, 0, &[5])?;
-    other.feature(12, &events.bytes)?;
-    let breaks = after_one(Part::Attribute(0x10004, 0, &[6]));
+    other.push_header_attr(4, 0, &[5])?;
+    other.push_header_feature(12, &events.bytes)?;
+    let breaks = after_one(Part::HeaderAttr(0x10004, 0, &[6]));
     for parts in [LATE.as_slice(), &breaks] {
         let image = little_pipe(rt.alloc(), parts)?;
         keeps_name(&rt, &image.bytes, &other.bytes)?;
@@ -269,7 +269,8 @@ fn another_orders_names(rt: HostRuntime) -> Result<(), Fail> {
     Ok(())
 }
 
-/// Compares the answers where a pipe's records are read into the `PerfFile` of the other order, and the name that is kept.
+/// Compares the results of reading a pipe's records with the `PerfFile` of the other byte order, and checks that the name is
+/// unchanged.
 fn keeps_name(rt: &(impl Abort + AllocGlobal), bytes: &[u8], other: &[u8]) -> Result<(), Fail> {
     let reader = PerfFileReader {
         perf_file: opened(rt.alloc(), other)?.perf_file,
@@ -292,7 +293,7 @@ fn has_name(file: &PerfFile) -> bool {
         .any(|one| one.name().is_some())
 }
 
-/// A file named its attribute by simpleperf's meta info, and no EVENT_DESC names it anew.
+/// A late attribute makes the names come from EVENT_DESC. There is none here, so the name from simpleperf's meta info is removed.
 #[test]
 fn names_are_given_anew(rt: HostRuntime) -> Result<(), Fail> {
     let recorded = simpleperf_file(rt.alloc(), 80, META_INFO)?;
@@ -308,7 +309,7 @@ fn names_are_given_anew(rt: HostRuntime) -> Result<(), Fail> {
 
 #[test]
 fn a_broken_rule_stays(rt: HostRuntime) -> Result<(), Fail> {
-    let image = little_pipe(rt.alloc(), &after_one(Part::Attribute(0x10004, 0, &[6])))?;
+    let image = little_pipe(rt.alloc(), &after_one(Part::HeaderAttr(0x10004, 0, &[6])))?;
     let reader = opened(rt.alloc(), image.bytes.as_slice())?;
     let wanted: [Answer; 3] = [
         (Ok(true), 1),
@@ -319,7 +320,7 @@ fn a_broken_rule_stays(rt: HostRuntime) -> Result<(), Fail> {
     Ok(())
 }
 
-/// Whether there are no features, how many there are, and whether this is the host's name.
+/// Whether there are no features, the number of features, and whether the host name is this one.
 pub fn has_host(file: &PerfFile, name: Option<&str>) -> Result<(bool, usize, bool), Error> {
     let has = file.hostname()? == name;
     let features = file.features();
@@ -343,7 +344,7 @@ fn late_features(rt: HostRuntime) -> Result<(), Fail> {
     Ok(())
 }
 
-/// The name that the first attribute has, and the second, once all of a pipe is read.
+/// Compares the names of the first two attributes after the whole pipe is read.
 fn names_of(
     rt: &(impl Abort + AllocGlobal),
     parts: &[Part<'_>],
@@ -358,7 +359,7 @@ fn names_of(
     Ok(())
 }
 
-/// What a pipe of at most so many records says of itself at its end.
+/// The metadata of a pipe of at most `records` records after it is read to its end.
 fn at_end<R: Source + Drop>(reader: PerfFileReader<R>, records: usize) -> Result<PerfFile, Error> {
     let mut file = reader.perf_file;
     let mut iter = reader.record_iter;
@@ -373,11 +374,11 @@ fn at_end<R: Source + Drop>(reader: PerfFileReader<R>, records: usize) -> Result
 #[test]
 fn late_names(rt: HostRuntime) -> Result<(), Fail> {
     let events = event_desc(rt.alloc(), Endianness::LittleEndian, 64)?;
-    let five = Part::Attribute(0x10004, 0, &[5]);
-    let six = Part::Attribute(0x10004, 0, &[6]);
-    let sample = Part::Identified(5, 1);
-    let told = Part::Feature(12, &events.bytes);
-    let none = Part::Feature(12, &[0, 0, 0, 0, 64, 0, 0, 0]);
+    let five = Part::HeaderAttr(0x10004, 0, &[5]);
+    let six = Part::HeaderAttr(0x10004, 0, &[6]);
+    let sample = Part::SampleWithId(5, 1);
+    let told = Part::HeaderFeature(12, &events.bytes);
+    let none = Part::HeaderFeature(12, &[0, 0, 0, 0, 64, 0, 0, 0]);
     for (parts, names) in [
         ([six, sample, told, five], [None, Some("c")]),
         ([five, six, sample, told], [Some("c"), None]),
@@ -391,7 +392,7 @@ fn late_names(rt: HostRuntime) -> Result<(), Fail> {
 
 #[test]
 fn a_file_takes_nothing_in(rt: HostRuntime) -> Result<(), Fail> {
-    let parts = [Part::Sample(1), Part::Attribute(4, 0, &[])];
+    let parts = [Part::Sample(1), Part::HeaderAttr(4, 0, &[])];
     let image = little_file(rt.alloc(), (88, 4, 0), &parts)?;
     let reader = opened_file(rt.alloc(), &image.bytes)?;
     let wanted: [Answer; 3] = [(Ok(true), 1), (Ok(true), 1), (Ok(false), 1)];
@@ -399,7 +400,7 @@ fn a_file_takes_nothing_in(rt: HostRuntime) -> Result<(), Fail> {
     Ok(())
 }
 
-/// The reader of a file.
+/// Opens a file.
 fn opened_file(alloc: Global, bytes: &[u8]) -> Result<PerfFileReader<Cursor<&[u8]>>, Fail> {
     Ok(PerfFileReader::parse_file(alloc, Cursor::new(bytes))?)
 }

@@ -1,4 +1,4 @@
-//! The tests of listings of pipes, and of attributes and features that come late in them.
+//! The tests of listings of pipes, and of late attributes and features in pipes.
 #![tactic(auto)]
 
 #[cfg(test)]

@@ -1,4 +1,4 @@
-//! Pipes: their lines, how their reading ends, and how far their source is read.
+//! Listings of pipes: their lines and their end, and how far their source is read.
 use crate::compare::{check, check_at, same, same_at};
 use crate::late::has_host;
 use linux_perf_data::source::{Counted, Script, Source, Step};
@@ -32,14 +32,14 @@ fn lines_of(listed: &Result<u64, ListFault>) -> u64 {
     }
 }
 
-/// How the listing of a pipe ends, how many lines it counts, and the lines.
+/// The end of a listing of a pipe, the number of lines that it reports, and the lines.
 pub fn listed<R: Source + Drop>(alloc: Global, source: R) -> (End, u64, Vec<u8>) {
     let mut out: Vec<u8> = Vec::new(alloc);
     let listed = list_pipe(alloc, source, &mut out);
     (end_of(&listed), lines_of(&listed), out)
 }
 
-/// Lists a pipe from a source, and compares the end, the number of lines and the lines with what is wanted.
+/// Lists a pipe from a source, and compares the end, the number of lines and the lines with the expected ones.
 fn pipes<R: Source + Drop>(
     rt: &(impl Abort + AllocGlobal),
     name: &str,
@@ -58,7 +58,7 @@ fn pipes<R: Source + Drop>(
     );
 }
 
-/// Lists a pipe in four ways.
+/// Lists a pipe from a borrowed, an owned and a counted source, and from a source that returns one byte a read.
 pub fn shows(
     rt: &(impl Abort + AllocGlobal),
     name: &str,
@@ -76,7 +76,7 @@ pub fn shows(
     Ok(())
 }
 
-/// What such a pipe comes to.
+/// Lists a little-endian pipe of these parts, and compares the lines and the end.
 pub fn reads(
     rt: &(impl Abort + AllocGlobal),
     name: &str,
@@ -88,18 +88,18 @@ pub fn reads(
     shows(rt, name, &image.bytes, wanted, end)
 }
 
-const PLAIN: Part<'_> = Part::Attribute(4, 0, &[]);
+const PLAIN: Part<'_> = Part::HeaderAttr(4, 0, &[]);
 
 const TWO_LINES: &str = "0 0 7 1 9 0 16\n24 0 8 0 9 0 16\n";
 
-/// An attribute, a record with one byte of auxiliary data, and a sample: 153 bytes.
-const TRACED: [Part<'_>; 3] = [PLAIN, Part::Trace(1, &[0]), Part::Sample(20)];
+/// An attribute, an auxtrace record with one byte of aux data, and a sample: 153 bytes.
+const TRACED: [Part<'_>; 3] = [PLAIN, Part::Auxtrace(1, &[0]), Part::Sample(20)];
 
 const TRACED_LINES: &str = "0 0 - - 71 0 41\n49 0 20 0 9 0 8\n";
 
 const TRACE_LINE: &str = "0 0 - - 71 0 41\n";
 
-/// What a pipe of this order and these parts comes to, and how many bytes it has.
+/// Lists a pipe with this byte order and these parts, compares the lines, and returns its size in bytes.
 fn reads_in(
     rt: &(impl Abort + AllocGlobal),
     name: &str,
@@ -122,7 +122,7 @@ fn lines_of_pipes(rt: HostRuntime) -> Result<(), Fail> {
     reads(
         &rt,
         "a marker's body",
-        &[PLAIN, Part::Marker(16), Part::Sample(3)],
+        &[PLAIN, Part::RoundMarker(16), Part::Sample(3)],
         "16 1 3 0 9 0 8\n",
         End::Whole,
     )
@@ -130,9 +130,9 @@ fn lines_of_pipes(rt: HostRuntime) -> Result<(), Fail> {
 
 #[test]
 fn attributes_of_pipes_with_errors(rt: HostRuntime) -> Result<(), Fail> {
-    let first = Part::Attribute(0x10004, 0, &[]);
-    let lacks = [first, Part::Attribute(4, 0, &[])];
-    let differs = [first, Part::Attribute(0x10004, 0x40000, &[])];
+    let first = Part::HeaderAttr(0x10004, 0, &[]);
+    let lacks = [first, Part::HeaderAttr(4, 0, &[])];
+    let differs = [first, Part::HeaderAttr(0x10004, 0x40000, &[])];
     for (name, parts, end) in [
         ("no IDENTIFIER", lacks.as_slice(), End::Lacks(1)),
         ("another SAMPLE_ID_ALL", &differs, End::Differs(1)),
@@ -146,14 +146,18 @@ fn attributes_of_pipes_with_errors(rt: HostRuntime) -> Result<(), Fail> {
 
 #[test]
 fn ends_of_pipes(rt: HostRuntime) -> Result<(), Fail> {
-    // the first 12 bytes of a sample of the time 20
-    let sample = [PLAIN, Part::Head(9, 0, 16), Part::Raw(&[20, 0, 0, 0])];
-    let compressed = [PLAIN, Part::Head(81, 0, 16), Part::Filled(0, 4)];
-    let marker = [PLAIN, Part::Head(68, 0, 16), Part::Filled(0, 4)];
-    let small = [PLAIN, Part::Head(9, 0, 7)];
-    let small_first = [Part::Head(64, 0, 7)];
-    let whole = [PLAIN, Part::Head(81, 0, 16), Part::Filled(0, 8)];
-    let trace = [PLAIN, Part::Head(71, 0, 47), Part::Filled(0, 39)];
+    // the first 12 bytes of a sample with the time 20
+    let sample = [
+        PLAIN,
+        Part::RecordHeader(9, 0, 16),
+        Part::Bytes(&[20, 0, 0, 0]),
+    ];
+    let compressed = [PLAIN, Part::RecordHeader(81, 0, 16), Part::Fill(0, 4)];
+    let marker = [PLAIN, Part::RecordHeader(68, 0, 16), Part::Fill(0, 4)];
+    let small = [PLAIN, Part::RecordHeader(9, 0, 7)];
+    let small_first = [Part::RecordHeader(64, 0, 7)];
+    let whole = [PLAIN, Part::RecordHeader(81, 0, 16), Part::Fill(0, 8)];
+    let trace = [PLAIN, Part::RecordHeader(71, 0, 47), Part::Fill(0, 39)];
     for (name, parts, end) in [
         ("a cut sample", sample.as_slice(), End::Whole),
         ("a cut compressed record", &compressed, End::Whole),
@@ -170,23 +174,28 @@ fn ends_of_pipes(rt: HostRuntime) -> Result<(), Fail> {
 
 #[test]
 fn an_opening_takes_all_of_its_metadata(rt: HostRuntime) -> Result<(), Fail> {
-    let two = [PLAIN, PLAIN, Part::Head(81, 0, 16), Part::Filled(0, 8)];
+    let two = [
+        PLAIN,
+        PLAIN,
+        Part::RecordHeader(81, 0, 16),
+        Part::Fill(0, 8),
+    ];
     reads(&rt, "two attributes", &two, "", End::Unsupported)?;
-    let none = [Part::Head(81, 0, 16), Part::Filled(0, 8)];
+    let none = [Part::RecordHeader(81, 0, 16), Part::Fill(0, 8)];
     reads(&rt, "no attribute", &none, "", End::NoAttributes)?;
     let small = event_desc(rt.alloc(), Endianness::LittleEndian, 56)?;
     let later = event_desc(rt.alloc(), Endianness::LittleEndian, 64)?;
-    // names that come later don't stand for those of the opening
+    // later names don't replace the names of the opening
     let named = [
         PLAIN,
-        Part::Feature(12, &small.bytes),
+        Part::HeaderFeature(12, &small.bytes),
         Part::Sample(3),
-        Part::Feature(12, &later.bytes),
+        Part::HeaderFeature(12, &later.bytes),
     ];
     reads(&rt, "names that come later", &named, "", End::Sizes)
 }
 
-/// How a pipe's opening ends, whatever comes of its records.
+/// The end of a pipe's opening, whatever its records are.
 fn opening_of(rt: &impl AllocGlobal, bytes: &[u8]) -> End {
     match PerfFileReader::parse_pipe(rt.alloc(), bytes) {
         Ok(_) => End::Whole,
@@ -203,7 +212,7 @@ fn every_prefix_of_a_pipe(rt: HostRuntime) -> Result<(), Fail> {
     Ok(())
 }
 
-/// What so many of the traced pipe's bytes come to: how its opening ends, their lines, and how those end.
+/// Compares the results for the first `length` bytes of `TRACED`: the end of the opening, the lines, and the end of the listing.
 fn is_truncated(rt: &(impl Abort + AllocGlobal), bytes: &[u8], length: usize) -> Result<(), Fail> {
     let cut = bytes.get(..length).unwrap_or(&[]);
     let name = format!(in rt.alloc(); "cut to {length}")?;
@@ -219,18 +228,18 @@ fn is_truncated(rt: &(impl Abort + AllocGlobal), bytes: &[u8], length: usize) ->
     shows(rt, &name, cut, lines, end)
 }
 
-/// The reader of a pipe.
+/// Opens a pipe.
 pub fn opened<R: Source + Drop>(alloc: Global, source: R) -> Result<PerfFileReader<R>, Fail> {
     Ok(PerfFileReader::parse_pipe(alloc, source)?)
 }
 
-/// What a pipe of these parts says of itself in its opening.
+/// The metadata of a pipe of these parts after its opening.
 fn metadata_of(alloc: Global, parts: &[Part<'_>]) -> Result<PerfFile, Fail> {
     let image = little_pipe(alloc, parts)?;
     Ok(opened(alloc, image.bytes.as_slice())?.perf_file)
 }
 
-/// Whether a pipe's reader has so many records more.
+/// Whether the reader of a pipe returns `count` more records.
 fn has_records<R: Source + Drop>(reader: PerfFileReader<R>, count: usize) -> Result<bool, Fail> {
     let PerfFileReader {
         mut perf_file,
@@ -244,7 +253,7 @@ fn has_records<R: Source + Drop>(reader: PerfFileReader<R>, count: usize) -> Res
     Ok(true)
 }
 
-/// How many of a pipe's bytes are left once it is opened and so many records are asked for.
+/// The number of remaining bytes of a pipe after it is opened and `calls` records are read.
 fn left_after(rt: &(impl Abort + AllocGlobal), bytes: &[u8], calls: usize) -> Result<usize, Fail> {
     let mut rest = bytes;
     let came = has_records(opened(rt.alloc(), &mut rest)?, calls)?;
@@ -263,8 +272,8 @@ fn nothing_is_read_ahead(rt: HostRuntime) -> Result<(), Fail> {
 
 #[test]
 fn a_longer_header(rt: HostRuntime) -> Result<(), Fail> {
-    let early = [Part::Filled(7, 2)];
-    let whole = [Part::Filled(7, 4), PLAIN, Part::Sample(3)];
+    let early = [Part::Fill(7, 2)];
+    let whole = [Part::Fill(7, 4), PLAIN, Part::Sample(3)];
     for (name, parts, wanted, end) in [
         ("it ends early", early.as_slice(), "", End::NoAttributes),
         ("four bytes more", &whole, LINE, End::Whole),
@@ -275,23 +284,23 @@ fn a_longer_header(rt: HostRuntime) -> Result<(), Fail> {
     shows(&rt, "zeros", &[0u8; 16], "", End::ZeroMagic)
 }
 
-/// A pipe of these parts whose header has 20 bytes by its own words.
+/// A pipe of these parts whose header declares a size of 20 bytes.
 fn with_header_of_twenty(alloc: Global, parts: &[Part<'_>]) -> Result<Image, AllocError> {
     let mut image = little_pipe(alloc, parts)?;
-    image.put(8, 20);
+    image.overwrite_u64(8, 20);
     Ok(image)
 }
 
 const LINE: &str = "0 0 3 0 9 0 8\n";
 
-/// A feature that no set has, and its data.
-const FEATURE_300: [Part<'_>; 3] = [PLAIN, Part::Feature(300, b"a"), Part::Sample(3)];
+/// A feature that no set contains, and its data.
+const FEATURE_300: [Part<'_>; 3] = [PLAIN, Part::HeaderFeature(300, b"a"), Part::Sample(3)];
 
-/// A host name, and another whose feature has a number of 64 bits.
+/// A host name, and another one whose feature number has 64 bits.
 const TWO_NAMES: [Part<'_>; 3] = [
-    Part::Feature(3, &[1, 0, 0, 0, b'a']),
+    Part::HeaderFeature(3, &[1, 0, 0, 0, b'a']),
     PLAIN,
-    Part::Feature((1 << 32) + 3, &[1, 0, 0, 0, b'b']),
+    Part::HeaderFeature((1 << 32) + 3, &[1, 0, 0, 0, b'b']),
 ];
 
 #[test]
@@ -303,7 +312,7 @@ fn features_of_pipes(rt: HostRuntime) -> Result<(), Fail> {
     same(&rt, &data, &Some(b"a".as_slice()));
     let file = metadata_of(rt.alloc(), &TWO_NAMES)?;
     same(&rt, &has_host(&file, Some("b"))?, &(false, 1, true));
-    let cut = [PLAIN, Part::Head(80, 0, 12), Part::Filled(0, 4)];
+    let cut = [PLAIN, Part::RecordHeader(80, 0, 12), Part::Fill(0, 4)];
     reads(&rt, "a cut number", &cut, "", End::Short)
 }
 
@@ -317,8 +326,8 @@ fn the_first_description_names(rt: HostRuntime) -> Result<(), Fail> {
     ] {
         let events = event_desc_of(rt.alloc(), Endianness::LittleEndian, 64, letters)?;
         let parts = [
-            Part::Feature(12, &events.bytes),
-            Part::Attribute(4, 0, &[5]),
+            Part::HeaderFeature(12, &events.bytes),
+            Part::HeaderAttr(4, 0, &[5]),
         ];
         let file = metadata_of(rt.alloc(), &parts)?;
         same_at(&rt, &letters, &first_name(&file), &name);
@@ -331,7 +340,7 @@ pub fn first_name(file: &PerfFile) -> Option<&str> {
     file.event_attributes().first()?.name()
 }
 
-/// The name that EVENT_DESC gives an attribute with these identifiers, and the pipe's line.
+/// Compares the name that EVENT_DESC contains for an attribute with these ids, and the pipe's line.
 fn is_named(
     rt: &(impl Abort + AllocGlobal),
     events: &[u8],
@@ -339,8 +348,8 @@ fn is_named(
     name: Option<&str>,
 ) -> Result<(), Fail> {
     let parts = [
-        Part::Attribute(4, 0, ids),
-        Part::Feature(12, events),
+        Part::HeaderAttr(4, 0, ids),
+        Part::HeaderFeature(12, events),
         Part::Sample(3),
     ];
     reads(rt, "EVENT_DESC", &parts, LINE, End::Whole)?;
@@ -362,7 +371,7 @@ fn event_desc_names_attributes(rt: HostRuntime) -> Result<(), Fail> {
     is_named(&rt, &events.bytes, &[5], Some("c"))?;
     is_named(&rt, &events.bytes, &[6], None)?;
     let small = event_desc(rt.alloc(), Endianness::LittleEndian, 56)?;
-    let parts = [PLAIN, Part::Feature(12, &small.bytes)];
+    let parts = [PLAIN, Part::HeaderFeature(12, &small.bytes)];
     reads(&rt, "a small frame", &parts, "", End::Sizes)
 }
 
@@ -372,14 +381,14 @@ fn symbol_tables_of_pipes(rt: HostRuntime) -> Result<(), Fail> {
         (132, SYMBOLS_FILE2.as_slice(), 128),
         (128, SYMBOLS_FILE.as_slice(), 16),
     ] {
-        let file = metadata_of(rt.alloc(), &[PLAIN, Part::Feature(feature, content)])?;
+        let file = metadata_of(rt.alloc(), &[PLAIN, Part::HeaderFeature(feature, content)])?;
         let tables = file.simpleperf_symbol_tables(rt.alloc())?;
         check_at(&rt, &feature, are_one(&tables, "a", address));
     }
     Ok(())
 }
 
-/// Whether there is just one symbol table, of this path and this least address.
+/// Whether there is exactly one symbol table, with this path and this minimum address.
 fn are_one(tables: &Option<Vec<SimpleperfFileRecord>>, path: &str, address: u64) -> bool {
     let Some(records) = tables else {
         return false;
@@ -399,13 +408,13 @@ fn memory_is_there_for_pipes(rt: HostRuntime) -> Result<(), Fail> {
     Ok(())
 }
 
-/// One sample of this size whose body is of zeros.
+/// Lists one sample of this size, whose body consists of zeros.
 fn body_of(rt: &(impl Abort + AllocGlobal), size: u16) -> Result<(), Fail> {
     let long = (size as usize).saturating_sub(8);
     let parts = [
-        Part::Attribute(0, 0, &[]),
-        Part::Head(9, 0, size),
-        Part::Filled(0, long),
+        Part::HeaderAttr(0, 0, &[]),
+        Part::RecordHeader(9, 0, size),
+        Part::Fill(0, long),
     ];
     let wanted = format!(in rt.alloc(); "0 0 - 0 9 0 {long}\n")?;
     let image = little_pipe(rt.alloc(), &parts)?;
@@ -428,7 +437,7 @@ fn interrupted_reads_of_pipes(rt: HostRuntime) -> Result<(), Fail> {
     Ok(())
 }
 
-/// A source that gives so many bytes and then fails once.
+/// A source that returns `given` bytes, then an interrupted error and then a timeout.
 fn failing(alloc: Global, bytes: &[u8], given: usize) -> Result<Script, AllocError> {
     let mut steps = steps_of(alloc, Step::Give(1), given)?;
     steps.push(Step::Fault(ErrorKind::Interrupted))?;
@@ -447,10 +456,10 @@ fn an_error_is_no_end(rt: HostRuntime) -> Result<(), Fail> {
     Ok(())
 }
 
-/// The lines of the traced pipe where its source fails after so many bytes, and how they end.
+/// The lines of `TRACED` and the end, if its source fails after `given` bytes.
 fn of_error(given: usize) -> (&'static str, End) {
     match given {
-        // in the header and the attribute's record, and in a head
+        // in the pipe header and the attribute's record, and in a record header
         0..=95 => ("", End::Other),
         96..=136 => ("", End::Data),
         137..=144 => (TRACE_LINE, End::Other),

@@ -1,14 +1,14 @@
-//! What a file says of itself, each asked for twice where it takes memory. What is told is compared with what the gate's
-//! file says: the words `perf record`, the units 1 and 4, one build id, one key of simpleperf's, and one DEX file.
+//! Calls each accessor of a file's metadata that allocates, twice. The results are compared with the gate's file, which contains
+//! the command line `perf record`, the PMU mappings 1 and 4, one build id, one key of simpleperf's meta info, and one DEX file.
 
-use crate::words::name_of;
+use crate::error_names::error_name;
 use linux_perf_data::source::Counted;
 use linux_perf_data::{DsoInfo, Error, PerfFile, PerfFileReader, SimpleperfFileRecord};
 use std::alloc::Global;
 use std::fs::File;
 use std::io;
 
-/// The names of the accessors, in the order in which they are called.
+/// The names of the accessors, in the order of the calls.
 const NAMES: [&str; 5] = [
     "cmdline",
     "pmu_mappings",
@@ -17,32 +17,32 @@ const NAMES: [&str; 5] = [
     "simpleperf_symbol_tables",
 ];
 
-/// Whether the text of an entry is this one.
-fn is_text(entry: Option<&String>, wanted: &str) -> bool {
+/// Whether the entry has this text.
+fn has_text(entry: Option<&String>, wanted: &str) -> bool {
     match entry {
         Some(text) => text.as_str() == wanted,
         None => false,
     }
 }
 
-/// Whether what is told of an object is `/bin/sh` and the build id 1 to 20.
-fn is_shell(info: &DsoInfo) -> bool {
+/// Whether the object has the path `/bin/sh` and the build id 1 to 20.
+fn is_bin_sh(info: &DsoInfo) -> bool {
     let id = [
         1, 2, 3, 4, 5, 6, 7, 8, 9, 10, 11, 12, 13, 14, 15, 16, 17, 18, 19, 20,
     ];
     (info.path.as_slice(), info.build_id.as_slice()) == (b"/bin/sh", &id)
 }
 
-/// Whether the records are that of the file `a` alone.
-fn is_dex(records: &[SimpleperfFileRecord]) -> bool {
+/// Whether the records are the single record of the file `a`.
+fn is_single_dex_file(records: &[SimpleperfFileRecord]) -> bool {
     match records {
         [record] => (record.path.as_str(), record.type_, record.min_vaddr) == ("a", 2, 128),
         _ => false,
     }
 }
 
-/// Whether a value is what the file says, where it has one.
-fn asked(file: &PerfFile, alloc: Global, which: &str) -> Result<Option<bool>, Error> {
+/// Calls an accessor. Returns whether the value is the expected one, or `None` if there is no value.
+fn call_accessor(file: &PerfFile, alloc: Global, which: &str) -> Result<Option<bool>, Error> {
     match which {
         "cmdline" => Ok(
             file.cmdline(alloc)?
@@ -50,7 +50,7 @@ fn asked(file: &PerfFile, alloc: Global, which: &str) -> Result<Option<bool>, Er
         ),
         "build_ids" => {
             let ids = file.build_ids(alloc)?;
-            Ok(ids.values().next().map(is_shell))
+            Ok(ids.values().next().map(is_bin_sh))
         }
         "simpleperf_meta_info" => Ok(
             file.simpleperf_meta_info(alloc)?
@@ -58,36 +58,36 @@ fn asked(file: &PerfFile, alloc: Global, which: &str) -> Result<Option<bool>, Er
         ),
         "simpleperf_symbol_tables" => Ok(
             file.simpleperf_symbol_tables(alloc)?
-                .map(|records| is_dex(&records)),
+                .map(|records| is_single_dex_file(&records)),
         ),
         _ => Ok(
-            file.pmu_mappings(alloc)?.map(|units| is_text(units.0.get(&1), "software")
-                && is_text(units.0.get(&4), "cpu")),
+            file.pmu_mappings(alloc)?.map(|units| has_text(units.0.get(&1), "software")
+                && has_text(units.0.get(&4), "cpu")),
         ),
     }
 }
 
 /// Calls each accessor twice.
-fn ask_each(rt: &HostRuntime, file: &PerfFile) -> io::Result<()> {
+fn call_each_twice(rt: &HostRuntime, file: &PerfFile) -> io::Result<()> {
     for name in NAMES {
         for _ in 0..2 {
-            match asked(file, rt.alloc(), name) {
+            match call_accessor(file, rt.alloc(), name) {
                 Ok(Some(right)) => println!(rt; "{name} {right}")?,
                 Ok(None) => println!(rt; "{name} none")?,
-                Err(error) => println!(rt; "{name} {}", name_of(&error))?,
+                Err(error) => println!(rt; "{name} {}", error_name(&error))?,
             }
         }
     }
     Ok(())
 }
 
-/// Opens a file, a second time where it was refused, and asks for what it says of itself.
-pub fn ask_accessors(rt: &HostRuntime, path: &str) -> io::Result<()> {
+/// Opens a file, a second time if the first call fails, and calls its accessors.
+pub fn run_accessors(rt: &HostRuntime, path: &str) -> io::Result<()> {
     for _ in 0..2 {
         let source = Counted::new(File::open(rt, path)?);
         match PerfFileReader::parse_file(rt.alloc(), source) {
-            Ok(reader) => return ask_each(rt, &reader.perf_file),
-            Err(error) => println!(rt; "opening {}", name_of(&error))?,
+            Ok(reader) => return call_each_twice(rt, &reader.perf_file),
+            Err(error) => println!(rt; "opening {}", error_name(&error))?,
         }
     }
     Ok(())

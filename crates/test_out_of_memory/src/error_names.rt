@@ -1,11 +1,11 @@
-//! Refusals in one word each.
+//! Names of errors, one word each.
 
 use linux_perf_data::Error;
 use linux_perf_data::protobuf::DecodeError;
 use std::io::{self, ErrorKind};
 
-/// What the library refuses with.
-pub fn name_of(error: &Error) -> &'static str {
+/// The name of a library error.
+pub fn error_name(error: &Error) -> &'static str {
     match error {
         Error::Memory => "Memory",
         Error::Failed => "Failed",
@@ -13,16 +13,16 @@ pub fn name_of(error: &Error) -> &'static str {
     }
 }
 
-/// What a message is refused with.
-pub fn decode_name(error: &DecodeError) -> &'static str {
+/// The name of a decode error.
+pub fn decode_error_name(error: &DecodeError) -> &'static str {
     match error {
         DecodeError::Memory => "Memory",
         _ => "another",
     }
 }
 
-/// The kind of a fault.
-pub fn kind_name(error: &io::Error) -> &'static str {
+/// The name of an I/O error.
+pub fn io_error_name(error: &io::Error) -> &'static str {
     match error.kind() {
         ErrorKind::OutOfMemory => "OutOfMemory",
         _ => "another",

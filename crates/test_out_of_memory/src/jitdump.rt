@@ -1,48 +1,49 @@
-//! The records of a jitdump file, asked for one by one and one byte a read.
+//! Reads the records of a jitdump file one by one, from a source that returns one byte a read.
 
-use crate::words::kind_name;
+use crate::error_names::io_error_name;
 use linux_perf_data::jitdump::{JitDumpError, JitDumpReader};
 use linux_perf_data::raw::RawData;
 use linux_perf_data::source::{Counted, Source};
 use std::fs::File;
 use std::io::{self, Read};
 
-/// How often the next record is asked for: more often than any input has records.
-const CALLS: usize = 12;
+/// Number of calls for the next record, more than any input has records.
+const MAX_CALLS: usize = 12;
 
-/// A file that gives one byte a read.
+/// A file that returns one byte a read.
 #[derive(Drop)]
-struct OneByte {
+struct ByteByByte {
     file: File,
 }
 
-impl Read for OneByte {
+impl Read for ByteByByte {
     fn read(&mut self, place: &mut [u8]) -> io::Result<usize> {
         let count = place.len().min(1);
         self.file.read(&mut place[..count])
     }
 }
 
-/// What a call for the next record answers: its time, type and size and the lengths of its body's pieces, or a word.
-enum Came {
+/// The result of a call for the next record: its time, type, size and the sizes of its body's slices, or the name of the error or
+/// of the end.
+enum CallResult {
     Record(u64, u32, u32, usize, usize),
-    Word(&'static str),
+    Name(&'static str),
 }
 
-/// The lengths of the pieces.
-fn pieces(body: RawData<'_>) -> (usize, usize) {
+/// The sizes of the slices.
+fn slice_sizes(body: RawData<'_>) -> (usize, usize) {
     match body {
         RawData::Single(bytes) => (bytes.len(), 0),
         RawData::Split(first, second) => (first.len(), second.len()),
     }
 }
 
-/// Asks for the next record.
-fn next<R: Source>(reader: &mut JitDumpReader<R>) -> Came {
+/// Calls for the next record.
+fn next_result<R: Source>(reader: &mut JitDumpReader<R>) -> CallResult {
     match reader.next_record() {
         Ok(Some(raw)) => {
-            let (first, second) = pieces(raw.body);
-            Came::Record(
+            let (first, second) = slice_sizes(raw.body);
+            CallResult::Record(
                 raw.timestamp,
                 raw.record_type.0,
                 raw.record_size,
@@ -50,41 +51,44 @@ fn next<R: Source>(reader: &mut JitDumpReader<R>) -> Came {
                 second,
             )
         }
-        Ok(None) => Came::Word("none"),
-        Err(error) => Came::Word(kind_name(&error)),
+        Ok(None) => CallResult::Name("none"),
+        Err(error) => CallResult::Name(io_error_name(&error)),
     }
 }
 
-/// Asks for each record. A line begins with the offset that stood before the call.
-fn ask_records<R: Source + Drop>(rt: &HostRuntime, mut reader: JitDumpReader<R>) -> io::Result<()> {
-    for _ in 0..CALLS {
+/// Prints the result of each call. A line begins with the offset of the next record before the call.
+fn print_records<R: Source + Drop>(
+    rt: &HostRuntime,
+    mut reader: JitDumpReader<R>,
+) -> io::Result<()> {
+    for _ in 0..MAX_CALLS {
         let offset = reader.next_record_offset();
-        match next(&mut reader) {
-            Came::Record(time, kind, size, first, second) => {
+        match next_result(&mut reader) {
+            CallResult::Record(time, kind, size, first, second) => {
                 println!(rt; "{offset} {time} {kind} {size} {first} {second}")?
             }
-            Came::Word(word) => println!(rt; "{offset} {word}")?,
+            CallResult::Name(word) => println!(rt; "{offset} {word}")?,
         }
     }
     Ok(())
 }
 
-/// Why a jitdump file doesn't open, in one word.
-fn refusal(error: &JitDumpError) -> &'static str {
+/// The name of an error of opening a jitdump file.
+fn error_name(error: &JitDumpError) -> &'static str {
     match error {
-        JitDumpError::Io(error) => kind_name(error),
+        JitDumpError::Io(error) => io_error_name(error),
         _ => "another",
     }
 }
 
-/// Opens a jitdump file with a buffer of this length, a second time where it was refused, and asks for its records.
-pub fn follow(rt: &HostRuntime, path: &str, size: usize) -> io::Result<()> {
+/// Opens a jitdump file with a buffer of this size, a second time if the first call fails, and prints its records.
+pub fn run_jit(rt: &HostRuntime, path: &str, size: usize) -> io::Result<()> {
     for _ in 0..2 {
         let file = File::open(rt, path)?;
-        let source = Counted::new(OneByte { file });
+        let source = Counted::new(ByteByByte { file });
         match JitDumpReader::new_with_buffer_size(rt.alloc(), source, size) {
-            Ok(reader) => return ask_records(rt, reader),
-            Err(error) => println!(rt; "opening {}", refusal(&error))?,
+            Ok(reader) => return print_records(rt, reader),
+            Err(error) => println!(rt; "opening {}", error_name(&error))?,
         }
     }
     Ok(())

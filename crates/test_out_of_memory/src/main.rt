@@ -1,21 +1,22 @@
-//! Makes the library's calls one by one on an input, and prints each answer on a line. The gate runs it with each of its
-//! requests for memory refused (`.ci/refused_calls`). It ends with status 3 where it has no memory for its own words.
+//! Makes the library's calls one by one on an input, and prints a line for each result. The gate runs it once for each of its
+//! allocations, and makes that allocation fail (`.ci/refused_calls`). The exit status is 3 if there is no memory for its own
+//! strings.
 #![tactic(auto)]
 
 mod accessors;
-mod dumps;
+mod error_names;
+mod jitdump;
 mod parsers;
-mod readings;
-mod words;
+mod records;
 
-use accessors::ask_accessors;
-use dumps::follow;
-use parsers::ask_parsers;
-use readings::{read_file, read_pipe};
+use accessors::run_accessors;
+use jitdump::run_jit;
+use parsers::run_parsers;
+use records::{run_file, run_pipe};
 use std::process::ExitCode;
 use std::{env, io};
 
-/// Does what the two words ask for: `SCENARIO PATH`.
+/// Runs the scenario of the arguments `SCENARIO PATH`.
 fn run(rt: &HostRuntime) -> io::Result<()> {
     let mut words = env::args(rt)?;
     let _program = words.next();
@@ -23,12 +24,12 @@ fn run(rt: &HostRuntime) -> io::Result<()> {
         return Ok(());
     };
     match scenario.as_str() {
-        "file" => read_file(rt, path.as_str()),
-        "pipe" => read_pipe(rt, path.as_str()),
-        "jit40" => follow(rt, path.as_str(), 40),
-        "jit64" => follow(rt, path.as_str(), 64),
-        "accessors" => ask_accessors(rt, path.as_str()),
-        "parsers" => ask_parsers(rt),
+        "file" => run_file(rt, path.as_str()),
+        "pipe" => run_pipe(rt, path.as_str()),
+        "jit40" => run_jit(rt, path.as_str(), 40),
+        "jit64" => run_jit(rt, path.as_str(), 64),
+        "accessors" => run_accessors(rt, path.as_str()),
+        "parsers" => run_parsers(rt),
         _ => Ok(()),
     }
 }

@@ -1,4 +1,4 @@
-//! Parsers that take memory, each called twice over bytes that stand here. What it reads is compared with what they spell.
+//! Calls each parser that allocates, twice, on constant bytes. The results are compared with the expected values.
 
 mod records;
 mod sections;
@@ -7,10 +7,10 @@ mod symbols;
 use std::alloc::Global;
 use std::io;
 
-/// Whether a parser reads what its bytes spell, or its refusal in one word.
-type Answer = Result<bool, &'static str>;
+/// Whether the parsed value is the expected one, or the name of the error.
+type ParserResult = Result<bool, &'static str>;
 
-/// The names of the parsers, in the order in which they are called.
+/// The names of the parsers, in the order of the calls.
 const NAMES: [&str; 18] = [
     "detect",
     "as_slice",
@@ -32,29 +32,29 @@ const NAMES: [&str; 18] = [
     "meta_info",
 ];
 
-/// Calls a parser of records.
-fn ask(alloc: Global, name: &str) -> Answer {
+/// Calls a parser of records, or one of the others.
+fn call_parser(alloc: Global, name: &str) -> ParserResult {
     match name {
         "detect" => records::detect(alloc),
-        "as_slice" => records::joined(alloc),
-        "attribute" => records::attribute(alloc),
-        "feature" => records::feature(alloc),
+        "as_slice" => records::as_slice(alloc),
+        "attribute" => records::header_attr(alloc),
+        "feature" => records::header_feature(alloc),
         "user_record" => records::user_record(alloc),
         "build_id" => records::build_id(alloc),
         "debug_info" => records::debug_info(alloc),
-        _ => ask_sections(alloc, name),
+        _ => call_section_parser(alloc, name),
     }
 }
 
-/// Calls a parser of sections.
-fn ask_sections(alloc: Global, name: &str) -> Answer {
+/// Calls a parser of sections, or one of the others.
+fn call_section_parser(alloc: Global, name: &str) -> ParserResult {
     match name {
         "string" => sections::string(alloc),
-        "units" => sections::units(alloc),
-        "attributes" => sections::attributes(alloc),
+        "units" => sections::pmu_mappings(alloc),
+        "attributes" => sections::attr_section(alloc),
         "event_desc" => sections::event_desc(alloc),
         "event_types" => sections::event_types(alloc),
-        "named_types" => sections::named_types(alloc),
+        "named_types" => sections::simpleperf_attrs(alloc),
         "decode" => symbols::decode(alloc),
         "decode_v1" => symbols::decode_v1(alloc),
         "file_section" => symbols::file_section(alloc),
@@ -64,10 +64,10 @@ fn ask_sections(alloc: Global, name: &str) -> Answer {
 }
 
 /// Calls each parser twice.
-pub fn ask_parsers(rt: &HostRuntime) -> io::Result<()> {
+pub fn run_parsers(rt: &HostRuntime) -> io::Result<()> {
     for name in NAMES {
         for _ in 0..2 {
-            match ask(rt.alloc(), name) {
+            match call_parser(rt.alloc(), name) {
                 Ok(right) => println!(rt; "{name} {right}")?,
                 Err(word) => println!(rt; "{name} {word}")?,
             }

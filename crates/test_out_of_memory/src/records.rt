@@ -1,77 +1,79 @@
-//! The records of a file or of a pipe, asked for one by one.
+//! Reads the records of a file or pipe one by one.
 
-use crate::words::name_of;
+use crate::error_names::error_name;
 use linux_perf_data::source::{Counted, Source};
 use linux_perf_data::{PerfFile, PerfFileReader, PerfFileRecord, PerfRecordIter};
 use std::fs::File;
 use std::io;
 
-/// How often the next record is asked for: more often than any input has records.
-const CALLS: usize = 6;
+/// Number of calls for the next record, more than any input has records.
+const MAX_CALLS: usize = 6;
 
-/// What a call for the next record answers: its offset, type and length of body, or a word.
-enum Came {
+/// The result of a call for the next record: its offset, type and body size, or the name of the error or of the end.
+enum CallResult {
     Record(u64, u32, usize),
-    Word(&'static str),
+    Name(&'static str),
 }
 
-/// What a record's line tells.
-fn told(offset: u64, record: &PerfFileRecord<'_>) -> Came {
+/// The offset, type and body size of a record.
+fn summary_of(offset: u64, record: &PerfFileRecord<'_>) -> CallResult {
     match record {
         PerfFileRecord::EventRecord { event, .. } => {
-            Came::Record(offset, event.record_type.0, event.body.len())
+            CallResult::Record(offset, event.record_type.0, event.body.len())
         }
         PerfFileRecord::UserRecord(user) => {
-            Came::Record(offset, user.record_type.record_type().0, user.body.len())
+            CallResult::Record(offset, user.record_type.record_type().0, user.body.len())
         }
     }
 }
 
-/// Asks for the next record.
-fn next<R: Source>(records: &mut PerfRecordIter<R>, file: &mut PerfFile) -> Came {
+/// Calls for the next record.
+fn next_result<R: Source>(records: &mut PerfRecordIter<R>, file: &mut PerfFile) -> CallResult {
     match records.next_record(file) {
-        Ok(Some((place, record))) => told(place.offset, &record),
-        Ok(None) => Came::Word("end"),
-        Err(error) => Came::Word(name_of(&error)),
+        Ok(Some((place, record))) => summary_of(place.offset, &record),
+        Ok(None) => CallResult::Name("end"),
+        Err(error) => CallResult::Name(error_name(&error)),
     }
 }
 
-/// Asks for each record, and says how many attributes the file has after each call.
-fn ask_records<R: Source + Drop>(rt: &HostRuntime, reader: PerfFileReader<R>) -> io::Result<()> {
+/// Prints the result of each call and the number of attributes after it.
+fn print_records<R: Source + Drop>(rt: &HostRuntime, reader: PerfFileReader<R>) -> io::Result<()> {
     let PerfFileReader {
         mut perf_file,
         mut record_iter,
     } = reader;
-    for _ in 0..CALLS {
-        let came = next(&mut record_iter, &mut perf_file);
+    for _ in 0..MAX_CALLS {
+        let came = next_result(&mut record_iter, &mut perf_file);
         let count = perf_file.event_attributes().len();
         match came {
-            Came::Record(offset, kind, long) => println!(rt; "{offset} {kind} {long} {count}")?,
-            Came::Word(word) => println!(rt; "{word} {count}")?,
+            CallResult::Record(offset, kind, long) => println!(rt;
+                "{offset} {kind} {long} {count}"
+            )?,
+            CallResult::Name(word) => println!(rt; "{word} {count}")?,
         }
     }
     Ok(())
 }
 
-/// Opens a file, a second time where it was refused, and asks for its records.
-pub fn read_file(rt: &HostRuntime, path: &str) -> io::Result<()> {
+/// Opens a file, a second time if the first call fails, and prints its records.
+pub fn run_file(rt: &HostRuntime, path: &str) -> io::Result<()> {
     for _ in 0..2 {
         let source = Counted::new(File::open(rt, path)?);
         match PerfFileReader::parse_file(rt.alloc(), source) {
-            Ok(reader) => return ask_records(rt, reader),
-            Err(error) => println!(rt; "opening {}", name_of(&error))?,
+            Ok(reader) => return print_records(rt, reader),
+            Err(error) => println!(rt; "opening {}", error_name(&error))?,
         }
     }
     Ok(())
 }
 
-/// Opens a pipe in the same way.
-pub fn read_pipe(rt: &HostRuntime, path: &str) -> io::Result<()> {
+/// Opens a pipe, a second time if the first call fails, and prints its records.
+pub fn run_pipe(rt: &HostRuntime, path: &str) -> io::Result<()> {
     for _ in 0..2 {
         let source = Counted::new(File::open(rt, path)?);
         match PerfFileReader::parse_pipe(rt.alloc(), source) {
-            Ok(reader) => return ask_records(rt, reader),
-            Err(error) => println!(rt; "opening {}", name_of(&error))?,
+            Ok(reader) => return print_records(rt, reader),
+            Err(error) => println!(rt; "opening {}", error_name(&error))?,
         }
     }
     Ok(())

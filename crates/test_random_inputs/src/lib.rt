@@ -1,4 +1,4 @@
-//! Files and pipes made at random, listed by the library and by a plain reader.
+//! The tests of random files and pipes, listed by the library and by a reference implementation.
 #![tactic(auto)]
 
 #[cfg(test)]

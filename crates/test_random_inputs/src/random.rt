@@ -1,4 +1,4 @@
-//! Many small inputs, each read by the library and by the plain reader.
+//! Random small inputs, each read by the library and by the reference implementation.
 use crate::compare::{check_at, same, same_at};
 use linux_perf_data::{AttributeDescription, Endianness, Feature, PerfFile, PerfFileReader};
 use perfdata_listing::list::{ListCause, ListFault, list_file, list_pipe};
@@ -22,14 +22,14 @@ fn end_of(listed: &Result<u64, ListFault>) -> End {
     }
 }
 
-/// Numbers that look like chance, and are the same in each run.
+/// Pseudo-random numbers, the same in each run.
 #[derive(Drop)]
 struct Dice {
     state: u64,
 }
 
 impl Dice {
-    /// A number below this one.
+    /// A number below `sides`.
     fn roll(&mut self, sides: u64) -> u64 {
         self.state = self
             .state
@@ -38,7 +38,7 @@ impl Dice {
         (self.state / 4294967296).checked_rem(sides).unwrap_or(0)
     }
 
-    /// One of these.
+    /// One of these values.
     fn pick<T: Copy + Default>(&mut self, from: &[T]) -> T {
         let index = self.roll(from.len() as u64) as usize;
         from.get(index).copied().unwrap_or_default()
@@ -63,7 +63,7 @@ fn usual_of(dice: &mut Dice) -> Usual {
     }
 }
 
-/// An attribute like most of them, or, now and then, another one.
+/// An attribute's sample type and flags: mostly the usual ones, sometimes others.
 fn event(dice: &mut Dice, usual: Usual) -> (u64, u64) {
     match dice.roll(12) {
         0 => (dice.pick(&FORMATS), usual.flags),
@@ -72,7 +72,7 @@ fn event(dice: &mut Dice, usual: Usual) -> (u64, u64) {
     }
 }
 
-/// Up to three identifiers.
+/// Up to three ids.
 fn ids(alloc: Global, dice: &mut Dice) -> Result<Vec<u64>, AllocError> {
     let mut ids = Vec::new(alloc);
     for _ in 0..dice.roll(4) {
@@ -81,7 +81,7 @@ fn ids(alloc: Global, dice: &mut Dice) -> Result<Vec<u64>, AllocError> {
     Ok(ids)
 }
 
-/// A record of this type with up to six words for a body, and at times some bytes more.
+/// A record of this type with up to six u64 fields in its body, and sometimes five extra bytes.
 fn words(image: &mut Image, dice: &mut Dice, kind: u32) -> Result<(), AllocError> {
     let count = dice.pick(&[0u16, 1, 2, 3, 4, 5, 6]);
     let more = dice.pick(&[0u16, 0, 0, 5]);
@@ -89,35 +89,35 @@ fn words(image: &mut Image, dice: &mut Dice, kind: u32) -> Result<(), AllocError
         .saturating_mul(8)
         .saturating_add(more)
         .saturating_add(8);
-    image.head(kind, dice.pick(&[0, 1, 2]), size)?;
+    image.push_record_header(kind, dice.pick(&[0, 1, 2]), size)?;
     for _ in 0..count {
-        image.long(dice.pick(&[0, 1, 2, 65, 66, 7]))?;
+        image.push_u64(dice.pick(&[0, 1, 2, 65, 66, 7]))?;
     }
-    image.filled(1, more as usize)
+    image.push_fill(1, more as usize)
 }
 
-/// EVENT_DESC of up to two events, which can't be read now and then.
+/// EVENT_DESC of up to two events, which is sometimes malformed.
 fn described(alloc: Global, dice: &mut Dice, endian: Endianness) -> Result<Image, AllocError> {
     let mut image = Image::empty(alloc, endian);
     let count = dice.pick(&[0u32, 1, 2]);
-    image.word(count)?;
-    image.word(dice.pick(&[64, 64, 64, 64, 72, 63]))?;
+    image.push_u32(count)?;
+    image.push_u32(dice.pick(&[64, 64, 64, 64, 72, 63]))?;
     for _ in 0..count {
         let ids = ids(alloc, dice)?;
-        image.event(&ids, dice.pick(b"abc\0\xff"))?;
+        image.push_event_desc_entry(&ids, dice.pick(b"abc\0\xff"))?;
     }
     Ok(image)
 }
 
-/// Something that is no ordinary record.
+/// A malformed or unusual record.
 fn oddity(image: &mut Image, dice: &mut Dice) -> Result<(), AllocError> {
     let kind = dice.pick(&[9, 64, 68, 71, 80, 81, 83]);
     match dice.roll(3) {
-        0 => image.head(kind, 0, 7),
+        0 => image.push_record_header(kind, 0, 7),
         1 => words(image, dice, kind),
         _ => {
-            image.head(kind, 0, 76)?;
-            image.filled(dice.pick(&[0, 1]), 68)
+            image.push_record_header(kind, 0, 76)?;
+            image.push_fill(dice.pick(&[0, 1]), 68)
         }
     }
 }
@@ -134,29 +134,29 @@ fn put(
         0..=3 => {
             let (format, flags) = event(dice, usual);
             let ids = ids(alloc, dice)?;
-            image.described(format, flags, &ids)
+            image.push_header_attr(format, flags, &ids)
         }
         4..=10 => words(image, dice, 9),
         11..=12 => words(image, dice, 3),
-        13 => image.marker(dice.pick(&[8, 16])),
+        13 => image.push_round_marker(dice.pick(&[8, 16])),
         14 => {
             let number = dice.pick(&[3, 255, 256, 4294967299]);
-            image.feature(number, &[dice.pick(&[0, 1, 2])])
+            image.push_header_feature(number, &[dice.pick(&[0, 1, 2])])
         }
         15..=16 => {
             let events = described(alloc, dice, endian)?;
-            image.feature(12, &events.bytes)
+            image.push_header_feature(12, &events.bytes)
         }
         17 => {
             let content = dice.pick(&[b"".as_slice(), b"a", b"ab"]);
-            image.trace(content.len() as u64, content)
+            image.push_auxtrace(content.len() as u64, content)
         }
         18 => words(image, dice, 73),
         _ => oddity(image, dice),
     }
 }
 
-/// A pipe of some records, which may be cut off.
+/// A pipe of some records, which may be truncated.
 fn made(alloc: Global, dice: &mut Dice) -> Result<Image, AllocError> {
     let endian = if dice.roll(4) == 0 {
         Endianness::BigEndian
@@ -164,11 +164,11 @@ fn made(alloc: Global, dice: &mut Dice) -> Result<Image, AllocError> {
         Endianness::LittleEndian
     };
     let usual = usual_of(dice);
-    let mut image = Image::pipe(alloc, endian)?;
+    let mut image = Image::pipe_header(alloc, endian)?;
     for _ in 0..dice.roll(3) {
         let (format, flags) = event(dice, usual);
         let ids = ids(alloc, dice)?;
-        image.described(format, flags, &ids)?;
+        image.push_header_attr(format, flags, &ids)?;
     }
     for _ in 0..dice.roll(12) {
         put(alloc, &mut image, dice, usual, endian)?;
@@ -180,7 +180,7 @@ fn made(alloc: Global, dice: &mut Dice) -> Result<Image, AllocError> {
     Ok(image)
 }
 
-/// What a pipe says of itself is what the plain program found.
+/// Compares the metadata of a pipe with that of the reference implementation.
 fn same_file(
     rt: &(impl Abort + AllocGlobal),
     file: &PerfFile,
@@ -204,7 +204,7 @@ fn same_file(
     Ok(())
 }
 
-/// The attributes are those that the plain program found.
+/// Compares the attributes with those of the reference implementation.
 fn same_events(rt: &impl Abort, attributes: &[AttributeDescription], events: &[Event]) {
     same(rt, &attributes.len(), &events.len());
     for (attribute, event) in attributes.iter().zip(events.iter()) {
@@ -219,7 +219,7 @@ fn same_events(rt: &impl Abort, attributes: &[AttributeDescription], events: &[E
     }
 }
 
-/// What a pipe of at most so many records says of itself at its end, or before its first error.
+/// The metadata of a pipe of at most this many records, at its end or before its first error.
 fn at_end(reader: PerfFileReader<&[u8]>, records: usize) -> PerfFile {
     let mut file = reader.perf_file;
     let mut iter = reader.record_iter;
@@ -232,13 +232,13 @@ fn at_end(reader: PerfFileReader<&[u8]>, records: usize) -> PerfFile {
     file
 }
 
-/// Compares both programs on a pipe, and says whether it opens.
+/// Compares both implementations on a pipe, and returns whether it opens.
 fn agree(rt: &(impl Abort + AllocGlobal), bytes: &[u8]) -> Result<bool, Fail> {
     match pipe_of(rt.alloc(), bytes)? {
         Ok(pipe) => {
             let lines = pipe.lines(rt.alloc())?;
             comes_to(rt, bytes, lines.as_str(), pipe.end);
-            // what it says of itself once it is read to its end
+            // the metadata after all records are read
             let file = at_end(PerfFileReader::parse_pipe(rt.alloc(), bytes)?, bytes.len());
             same_file(rt, &file, &pipe)?;
             Ok(true)
@@ -250,7 +250,7 @@ fn agree(rt: &(impl Abort + AllocGlobal), bytes: &[u8]) -> Result<bool, Fail> {
     }
 }
 
-/// Compares the end and the lines of a pipe with what the plain program found.
+/// Compares the end and the lines of a pipe with those of the reference implementation.
 fn comes_to(rt: &(impl Abort + AllocGlobal), bytes: &[u8], lines: &str, end: End) {
     let mut out: Vec<u8> = Vec::new(rt.alloc());
     let listed = list_pipe(rt.alloc(), bytes, &mut out);
@@ -286,20 +286,20 @@ fn file(alloc: Global, dice: &mut Dice) -> Result<Image, AllocError> {
     }
     let (count, entries) = dice.pick(&[(1u64, 80u64), (2, 160), (3, 240)]);
     let size = records.bytes.len() as u64;
-    // header, records, event types, and then the identifiers of all
+    // header, records, event types, and then the ids of all event types
     let types = size.saturating_add(104);
     let listed = types.saturating_add(entries);
     let numbers = [104, 64, 0, 0, 104, size, types, entries, 0, 0, 0, 0];
     let mut image = Image::header(alloc, numbers)?;
-    image.raw(&records.bytes)?;
+    image.push_bytes(&records.bytes)?;
     for _ in 0..count {
         let (format, flags) = event(dice, usual);
-        image.attribute(format, flags)?;
-        image.long(listed.saturating_add(dice.pick(&[0, 8, 16])))?;
-        image.long(dice.pick(&[0, 8, 16]))?;
+        image.push_attr(format, flags)?;
+        image.push_u64(listed.saturating_add(dice.pick(&[0, 8, 16])))?;
+        image.push_u64(dice.pick(&[0, 8, 16]))?;
     }
     for id in [1, 65, 0, 2] {
-        image.long(id)?;
+        image.push_u64(id)?;
     }
     Ok(image)
 }

@@ -1,4 +1,4 @@
-//! Auxiliary traces, wherever they are split, in both orders, and errors.
+//! Auxtrace records: whatever the split, in both byte orders, and errors.
 use crate::compare::{check_at, same, same_at};
 use byteorder::{BigEndian, LittleEndian};
 use perfdata_base::raw::{FileOrder, RawData};
@@ -6,16 +6,16 @@ use perfdata_parts::auxtrace::Auxtrace;
 use std::io::ErrorKind;
 use test_support::values::by_kind;
 
-// A trace of one byte of data, and a byte after it.
+// The body of an auxtrace record with one byte of aux data, and an extra byte.
 pub const BODY: [u8; 42] = [
     1, 0, 0, 0, 0, 0, 0, 0, 0, 0, 0, 0, 0, 0, 0, 0, 0xf9, 0xcd, 0x2a, 0x49, 0x28, 4, 0, 0, 8, 0, 0,
     0, 0x7a, 0x24, 0, 0, 8, 0, 0, 0, 0, 0, 0, 0, 0, 7,
 ];
 
-// The size, the offset and the reference, and the index, the thread and the CPU.
+// The size, the offset and the reference, and the index, the tid and the CPU.
 type Numbers = ((u64, u64, u64), (u32, u32, u32));
 
-// What a trace says, where this is its data.
+// The numbers of an auxtrace record, if this is its aux data.
 fn numbers_of<T: FileOrder>(body: RawData<'_>, aux_data: &[u8]) -> Option<Numbers> {
     match Auxtrace::parse::<T>(body) {
         Ok(trace) if trace.aux_data == RawData::Single(aux_data) => Some((
@@ -26,7 +26,7 @@ fn numbers_of<T: FileOrder>(body: RawData<'_>, aux_data: &[u8]) -> Option<Number
     }
 }
 
-// Whether the trace of two pieces is that of one.
+// Whether parsing the two slices returns the same as parsing the single slice.
 fn is_same(front: &[u8], back: &[u8], whole: &[u8]) -> bool {
     let split = Auxtrace::parse::<LittleEndian>(RawData::Split(front, back));
     let single = Auxtrace::parse::<LittleEndian>(RawData::Single(whole));

@@ -1,4 +1,4 @@
-//! Entries of build ids: the length of an id, the size of an entry, and truncated entries.
+//! Build id entries: the length of an id, the size of an entry, and truncated entries.
 use crate::compare::{check, check_at, same, same_at};
 use byteorder::{BigEndian, LittleEndian};
 use perfdata_parts::build_id_event::BuildIdEvent;
@@ -7,10 +7,10 @@ use std::io::ErrorKind;
 use std::test::Fail;
 use test_support::values::joined;
 
-// What an entry says: its type, misc and size, its process, its build id and its path.
+// The fields of an entry: its type, misc and size, its pid, its build id and its path.
 type Fields = ((u32, u16, u16), i32, Vec<u8>, Vec<u8>);
 
-// Whether these are its fields.
+// Whether the fields have these values.
 fn are_fields(
     values: &Option<Fields>,
     numbers: ((u32, u16, u16), i32),
@@ -38,7 +38,7 @@ fn little(alloc: Global, bytes: &[u8]) -> Option<Fields> {
     }
 }
 
-// The same from a source that is kept, and how many bytes are left in it.
+// Parses an entry from a borrowed source. Returns its fields and the number of remaining bytes.
 fn from_kept(alloc: Global, bytes: &[u8]) -> (Option<Fields>, usize) {
     let mut source = bytes;
     let values = match BuildIdEvent::read_from::<_, LittleEndian>(alloc, &mut source) {
@@ -55,7 +55,7 @@ fn big(alloc: Global, bytes: &[u8]) -> Result<Fields, ErrorKind> {
     }
 }
 
-// The start of an entry of this misc and size, with these bytes for the build id.
+// The first 36 bytes of an entry with this misc and size, and these bytes of build id.
 fn front(misc: u16, size: u16, id: [u8; 24]) -> [u8; 36] {
     let mut bytes = [0xffu8; 36];
     bytes[..4].copy_from_slice(&67u32.to_le_bytes());
@@ -65,7 +65,7 @@ fn front(misc: u16, size: u16, id: [u8; 24]) -> [u8; 36] {
     bytes
 }
 
-// Zeros, but for the bytes 1 to 5 in front and one further byte.
+// The bytes 1 to 5 and then zeros, except for one more byte at an index.
 fn id_bytes(place: usize, byte: u8) -> [u8; 24] {
     let mut bytes = [0u8; 24];
     bytes[..5].copy_from_slice(&[1, 2, 3, 4, 5]);

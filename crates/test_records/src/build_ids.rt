@@ -1,4 +1,4 @@
-//! Entries of build ids, taken one by one off a reader that is lent.
+//! Build id entries that are parsed one by one from a borrowed reader.
 use crate::compare::same;
 use byteorder::LittleEndian;
 use linux_perf_data::build_id_event::BuildIdEvent;
@@ -6,7 +6,7 @@ use std::alloc::Global;
 use std::test::Fail;
 use test_support::values::joined;
 
-// An entry of 41 bytes, with a path of five.
+// An entry of 41 bytes, with a path of five bytes.
 fn entry(path: &[u8; 5]) -> [u8; 41] {
     let mut bytes = [0; 41];
     bytes[..8].copy_from_slice(&[67, 0, 0, 0, 2, 0, 41, 0]);
@@ -14,7 +14,7 @@ fn entry(path: &[u8; 5]) -> [u8; 41] {
     bytes
 }
 
-// Whether the entry at the start of a lent reader has this path, and how many bytes are left then.
+// Whether the entry at the start of a borrowed reader has this path, and the number of remaining bytes after it.
 fn take(alloc: Global, left: &mut &[u8], path: &[u8]) -> (bool, usize) {
     let is_path = match BuildIdEvent::parse::<_, LittleEndian>(alloc, &mut *left) {
         Ok(entry) => entry.file_path.as_slice() == path,
@@ -23,7 +23,7 @@ fn take(alloc: Global, left: &mut &[u8], path: &[u8]) -> (bool, usize) {
     (is_path, left.len())
 }
 
-// A reader that is lent returns entry by entry, and no byte after one is consumed.
+// A borrowed reader returns entry after entry, and no byte after an entry is consumed.
 #[test]
 fn entries_of_a_lent_reader(rt: HostRuntime) -> Result<(), Fail> {
     let content = joined(rt.alloc(), &entry(b"/a/x\0"), &entry(b"/a/y\0"))?;

@@ -1,4 +1,4 @@
-//! Keys of mapped objects: each kind of path in each mode, and which keys are equal.
+//! Keys of mapped objects: each type of path in each CPU mode, and which keys are equal.
 use crate::compare::{check_at, same_at};
 use perfdata_base::event::CpuMode;
 use perfdata_parts::dso_key::DsoKey;
@@ -15,7 +15,7 @@ const MODES: [CpuMode; 6] = [
     CpuMode::Unknown,
 ];
 
-// A path, the letter of its key in each of the modes, the name of its module and that of its file.
+// A path, the letter of its key in each CPU mode, the name of its module, and the name of its file.
 type Row = (&'static [u8], [u8; 6], &'static str, &'static str);
 
 const ROWS: [Row; 26] = [
@@ -72,7 +72,7 @@ fn letter(key: &Option<DsoKey>) -> u8 {
     }
 }
 
-// The name that a key of this letter has.
+// The name of a key with this letter.
 fn name(letter: u8, module: &'static str, file: &'static str) -> &'static str {
     match letter {
         b'K' => "[kernel.kallsyms]",
@@ -87,7 +87,7 @@ fn name(letter: u8, module: &'static str, file: &'static str) -> &'static str {
     }
 }
 
-// The path of a key that is a file's, or nothing.
+// The full path of a user key. For other keys it is empty.
 fn full_path(key: &Option<DsoKey>) -> &[u8] {
     match key {
         Some(DsoKey::User { full_path, .. }) => full_path.as_slice(),
@@ -103,7 +103,7 @@ fn name_of(key: &Option<DsoKey>) -> &str {
     }
 }
 
-// Whether a path has a key of this letter in a mode, with the name that such a key has, and with this path where it is a file's.
+// Whether a path has a key with this letter in a CPU mode, with the key's name, and with this path if it is a user key.
 fn is_detected(
     alloc: Global,
     mode: CpuMode,

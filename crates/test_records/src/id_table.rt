@@ -1,4 +1,4 @@
-//! Which attribute samples belong to, by the lists of identifiers.
+//! The lookup of a sample's attribute by its id.
 use crate::compare::same;
 use crate::stream::{IDENTIFIER, SAMPLE_ID_ALL, indices_of, pipe_answers};
 use linux_perf_data::Endianness;
@@ -6,34 +6,36 @@ use std::alloc::{AllocError, Global};
 use std::test::Fail;
 use test_support::image::Image;
 
-// Appends an attribute for each of these lists of identifiers.
+// Appends an attribute for each of these lists of ids.
 fn push_lists(image: &mut Image, lists: &[&[u64]]) -> Result<(), AllocError> {
     for ids in lists {
-        image.described(IDENTIFIER, SAMPLE_ID_ALL, ids)?;
+        image.push_header_attr(IDENTIFIER, SAMPLE_ID_ALL, ids)?;
     }
     Ok(())
 }
 
-// The indices of samples of these identifiers after an attribute without any, attributes with these, a sample of 9, and late attributes with these.
+// The attribute indices of samples with these ids, in a pipe of an attribute without ids, attributes with these lists, a sample
+// with the id 9, and late attributes with these lists.
 fn indices(
     alloc: Global,
     first: &[&[u64]],
     late: &[&[u64]],
     samples: &[u64],
 ) -> Result<Vec<usize>, Fail> {
-    let mut image = Image::pipe(alloc, Endianness::LittleEndian)?;
-    image.described(IDENTIFIER, SAMPLE_ID_ALL, &[])?;
+    let mut image = Image::pipe_header(alloc, Endianness::LittleEndian)?;
+    image.push_header_attr(IDENTIFIER, SAMPLE_ID_ALL, &[])?;
     push_lists(&mut image, first)?;
-    image.sample(9)?;
+    image.push_sample(9)?;
     push_lists(&mut image, late)?;
     for id in samples {
-        image.sample(*id)?;
+        image.push_sample(*id)?;
     }
     let answers = pipe_answers(alloc, image.bytes.as_slice(), 20)?;
     Ok(indices_of(alloc, &answers)?)
 }
 
-// Of the pairs of one identifier the one with the greatest index stays. What no attribute lists is the first one's.
+// If several attributes list an id, the one with the greatest index counts. An id that no attribute lists belongs to the first
+// attribute.
 #[test]
 fn finds_the_last_index(rt: HostRuntime) -> Result<(), Fail> {
     let lists: [&[u64]; 3] = [&[70, 5, u64::MAX, 0], &[6, 5], &[5, 0]];
@@ -47,7 +49,7 @@ fn finds_the_last_index(rt: HostRuntime) -> Result<(), Fail> {
     Ok(())
 }
 
-// An identifier that comes again gets the later index, wherever it stands.
+// An id that is listed again gets the later index, wherever it is in a list.
 #[test]
 fn inserts(rt: HostRuntime) -> Result<(), Fail> {
     let lists: [&[u64]; 4] = [&[70, 5, u64::MAX, 0, 5], &[], &[6, 5], &[5, 0, 71]];

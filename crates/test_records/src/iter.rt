@@ -1,7 +1,7 @@
-//! The records of a file and of a pipe, with their places, and errors.
+//! The records of a file and of a pipe, with their `RecordPlace`, and errors.
 use crate::compare::{check, same, same_at};
 use crate::stream::{Answer, file_answers, pipe_answers};
-use counted::count_records;
+use example_proved_count::count_records;
 use linux_perf_data::RecordPlace;
 use linux_perf_data::source::{Counted, Script, Step};
 use std::alloc::{AllocError, Global};
@@ -11,13 +11,13 @@ use test_support::error_key::{DATA, ErrorKey, SHORT};
 use test_support::image::{Part, little_file, little_pipe};
 use test_support::sources::steps_of;
 
-// The sample type and the flags of an attribute whose samples begin with TID and TIME, with which other records end.
+// The sample type and the flags of an attribute whose samples begin with TID and TIME, and whose other records end with them.
 const TYPE_AND_FLAGS: (u64, u64) = (6, 0x40000);
 
 // The error of a compressed record, whatever it contains.
 const UNSUPPORTED: ErrorKey = ErrorKey::IoError(ErrorKind::Unsupported);
 
-// A sample, a marker, a record with three bytes of auxiliary data, and a record of type 3.
+// A sample, a round marker, an auxtrace record with three bytes of aux data, and a record of type 3.
 const RECORDS: [u8; 107] = [
     9, 0, 0, 0, 2, 0, 24, 0, 7, 0, 0, 0, 8, 0, 0, 0, 100, 0, 0, 0, 0, 0, 0, 0, 68, 0, 0, 0, 0, 0,
     8, 0, 71, 0, 0, 0, 0, 0, 48, 0, 3, 0, 0, 0, 0, 0, 0, 0, 0, 0, 0, 0, 0, 0, 0, 0, 0, 0, 0, 0, 0,
@@ -35,7 +35,7 @@ const SAMPLE: Answer = Answer::Record(
     (9, 2, 16),
 );
 
-// The answers that those records come to.
+// The results for these records.
 const ANSWERS: [Answer; 5] = [
     SAMPLE,
     Answer::Record(
@@ -60,14 +60,14 @@ const ANSWERS: [Answer; 5] = [
     Answer::Nothing,
 ];
 
-// A file of the attribute and these records, whose data section has this size.
+// A file of the attribute and these records, with a data section of this size.
 fn filed(alloc: Global, records: &[u8], size: u64) -> Result<Vec<u8>, AllocError> {
     let (sample_type, flags) = TYPE_AND_FLAGS;
-    let image = little_file(alloc, (size, sample_type, flags), &[Part::Raw(records)])?;
+    let image = little_file(alloc, (size, sample_type, flags), &[Part::Bytes(records)])?;
     Ok(image.bytes)
 }
 
-// The answers of such a file.
+// The results for such a file.
 fn of_file(alloc: Global, records: &[u8], size: u64, count: usize) -> Result<Vec<Answer>, Fail> {
     let bytes = filed(alloc, records, size)?;
     file_answers(alloc, Counted::new(Cursor::new(bytes)), count)
@@ -76,12 +76,12 @@ fn of_file(alloc: Global, records: &[u8], size: u64, count: usize) -> Result<Vec
 // A pipe of the attribute and these bytes.
 fn piped<'a>(alloc: Global, first: &'a [u8], after: &'a [u8]) -> Result<Vec<u8>, AllocError> {
     let (sample_type, flags) = TYPE_AND_FLAGS;
-    let attribute = Part::Attribute(sample_type, flags, &[]);
-    let image = little_pipe(alloc, &[attribute, Part::Raw(first), Part::Raw(after)])?;
+    let attribute = Part::HeaderAttr(sample_type, flags, &[]);
+    let image = little_pipe(alloc, &[attribute, Part::Bytes(first), Part::Bytes(after)])?;
     Ok(image.bytes)
 }
 
-// The answers of such a pipe.
+// The results for such a pipe.
 fn of_pipe<'a>(
     alloc: Global,
     first: &'a [u8],
@@ -125,7 +125,7 @@ fn what_is_no_record_is_an_error(rt: HostRuntime) -> Result<(), Fail> {
     Ok(())
 }
 
-// The records as a pipe whose opening read the first head.
+// The records as a pipe whose opening reads the first record header.
 #[test]
 fn returns_records_of_a_pipe(rt: HostRuntime) -> Result<(), Fail> {
     let answers = of_pipe(rt.alloc(), &RECORDS, &[], 5)?;
@@ -133,7 +133,7 @@ fn returns_records_of_a_pipe(rt: HostRuntime) -> Result<(), Fail> {
     Ok(())
 }
 
-// Headers and bodies that are truncated after a sample, and auxiliary data.
+// Record headers and bodies that are truncated after a sample, and truncated aux data.
 #[test]
 fn a_truncated_record_ends_a_pipe(rt: HostRuntime) -> Result<(), Fail> {
     let (nothing, failed) = (Answer::Nothing, Answer::Error(ErrorKey::Failed));
@@ -170,7 +170,7 @@ fn a_truncated_record_ends_a_pipe(rt: HostRuntime) -> Result<(), Fail> {
     Ok(())
 }
 
-// The answers where a pipe comes in single bytes and pauses after so many.
+// The results for a pipe that is read one byte a read and pauses after `before` bytes.
 fn pausing(alloc: Global, before: usize, count: usize) -> Result<Vec<Answer>, Fail> {
     let bytes = piped(alloc, &RECORDS, &[])?;
     let mut steps = steps_of(alloc, Step::Give(1), before)?;
@@ -183,7 +183,7 @@ fn pausing(alloc: Global, before: usize, count: usize) -> Result<Vec<Answer>, Fa
     )
 }
 
-// A pause in a body ends a pipe, also where more bytes come after it: four bytes after the header of the third record.
+// A pause inside a body ends a pipe, even if more bytes follow. It is four bytes after the record header of the third record.
 #[test]
 fn a_pause_ends_a_pipe(rt: HostRuntime) -> Result<(), Fail> {
     let answers = pausing(rt.alloc(), 132, 3)?;
@@ -194,7 +194,7 @@ fn a_pause_ends_a_pipe(rt: HostRuntime) -> Result<(), Fail> {
 
 #[test]
 fn counts_the_records_of_a_file(rt: HostRuntime) -> Result<(), Fail> {
-    // the bytes that are there, how many of them the data section has, and how many records that are no markers
+    // the records, the size of the data section, and the number of records without round markers
     let cases = [
         (&RECORDS[..], 107, Some(3)),
         (&RECORDS[..], 83, Some(2)),

@@ -1,4 +1,4 @@
-//! What is known of attributes as more of them come in a pipe.
+//! The attribute lookup of a pipe with late attributes.
 use crate::compare::{same, same_at};
 use crate::stream::{Answer, IDENTIFIER, SAMPLE_ID_ALL, indices_of, pipe_answers};
 use linux_perf_data::Endianness;
@@ -7,25 +7,25 @@ use std::test::Fail;
 use test_support::error_key::ErrorKey;
 use test_support::image::{Image, Part, little_pipe};
 
-// Where it is alone, it stands where IDENTIFIER would.
+// If it is the only bit, the id is at the offset that IDENTIFIER would have.
 const ID: u64 = 0x40;
 
-// The indices of samples of 7, 9 and 71 after each of these lists of identifiers.
+// The attribute indices of samples with the ids 7, 9 and 71 after each attribute with one of these lists of ids.
 fn indices(alloc: Global, lists: &[&[u64]]) -> Result<Vec<usize>, Fail> {
-    let mut image = Image::pipe(alloc, Endianness::LittleEndian)?;
-    image.described(IDENTIFIER, SAMPLE_ID_ALL, &[])?;
-    image.sample(7)?;
+    let mut image = Image::pipe_header(alloc, Endianness::LittleEndian)?;
+    image.push_header_attr(IDENTIFIER, SAMPLE_ID_ALL, &[])?;
+    image.push_sample(7)?;
     for ids in lists {
-        image.described(IDENTIFIER, SAMPLE_ID_ALL, ids)?;
+        image.push_header_attr(IDENTIFIER, SAMPLE_ID_ALL, ids)?;
         for id in [7, 9, 71] {
-            image.sample(id)?;
+            image.push_sample(id)?;
         }
     }
     let answers = pipe_answers(alloc, image.bytes.as_slice(), 20)?;
     Ok(indices_of(alloc, &answers)?)
 }
 
-// What was known of an identifier doesn't outlast an attribute that lists it again.
+// An attribute that lists an id again replaces what the lookup returns for the id.
 #[test]
 fn finds_attributes_that_come_later(rt: HostRuntime) -> Result<(), Fail> {
     let lists: [&[u64]; 4] = [&[9, 7], &[71, 7], &[], &[9]];
@@ -35,8 +35,8 @@ fn finds_attributes_that_come_later(rt: HostRuntime) -> Result<(), Fail> {
     Ok(())
 }
 
-// Of a pipe of an attribute, a record, and two more attributes: the number of records before the third attribute, and what that
-// is answered with, unless it is handed out.
+// For a pipe of an attribute, a record and two more attributes: the number of records that the first three calls return, and the
+// last other result.
 fn breach_of(
     alloc: Global,
     first: u64,
@@ -44,10 +44,10 @@ fn breach_of(
     (third, flags): (u64, u64),
 ) -> Result<(usize, Option<Answer>), Fail> {
     let parts = [
-        Part::Attribute(first, SAMPLE_ID_ALL, &[]),
-        Part::Head(73, 0, 8),
-        Part::Attribute(second, SAMPLE_ID_ALL, &[]),
-        Part::Attribute(third, flags, &[]),
+        Part::HeaderAttr(first, SAMPLE_ID_ALL, &[]),
+        Part::RecordHeader(73, 0, 8),
+        Part::HeaderAttr(second, SAMPLE_ID_ALL, &[]),
+        Part::HeaderAttr(third, flags, &[]),
     ];
     let image = little_pipe(alloc, &parts)?;
     let answers = pipe_answers(alloc, image.bytes.as_slice(), 3)?;
@@ -62,18 +62,18 @@ fn breach_of(
     Ok((records, breach))
 }
 
-// The attribute of this index lacks IDENTIFIER.
+// The error of an attribute with this index that lacks IDENTIFIER.
 fn lacks(index: usize) -> Option<Answer> {
     Some(Answer::Error(ErrorKey::NoIdentifierDespiteMultiEvent(index)))
 }
 
-// The attribute of this index differs about SAMPLE_ID_ALL.
+// The error of an attribute with this index that differs in SAMPLE_ID_ALL.
 fn differs(index: usize) -> Option<Answer> {
     let error = ErrorKey::InconsistentSampleIdAllWithMultiEvent(index);
     Some(Answer::Error(error))
 }
 
-// Two attributes that agree, and a third.
+// Two attributes, and a third one that may be inconsistent with them.
 #[test]
 fn names_the_first_breach(rt: HostRuntime) -> Result<(), Fail> {
     for (first, second, third, breach) in [

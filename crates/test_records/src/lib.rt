@@ -1,4 +1,4 @@
-//! The tests of records and of build ids, and of how files and pipes are read record by record.
+//! The tests of records and build ids, and of reading files and pipes record by record.
 #![tactic(auto)]
 
 #[cfg(test)]

@@ -1,4 +1,4 @@
-//! Types of users' records: their constants, numbers and texts.
+//! User record types: their constants, numbers and texts.
 use crate::compare::{same, same_at};
 use perfdata_base::event::RecordType;
 use perfdata_parts::constants::*;
@@ -6,7 +6,7 @@ use perfdata_parts::record::UserRecordType;
 use std::alloc::{AllocError, Global};
 use std::test::Fail;
 
-// A type, the constant of its number, the number, and what is shown of the type.
+// A type, the constant of its number, the number, and the text of the type.
 type Row = (UserRecordType, u32, u32, &'static str);
 
 const ROWS: [Row; 28] = [
@@ -180,7 +180,7 @@ const ROWS: [Row; 28] = [
     ),
 ];
 
-// Whether a type has this number, and is shown by this text.
+// Whether a type has this number and this text.
 fn belongs(
     alloc: Global,
     user: UserRecordType,
@@ -200,7 +200,7 @@ fn distinguishes_user_types(rt: HostRuntime) {
         (64, Some((64, 64))),
         (u32::MAX, Some((u32::MAX, u32::MAX))),
     ] {
-        // by both ways
+        // through both conversions
         let numbers = match UserRecordType::try_from(RecordType(number)) {
             Some(user) => Some((user.record_type().0, RecordType::from(user).0)),
             None => None,

@@ -1,4 +1,4 @@
-//! What the readers of files and pipes answer.
+//! The results of the readers of files and pipes.
 use linux_perf_data::source::{PlacedSource, Source};
 use linux_perf_data::{
     Error, PerfFile, PerfFileReader, PerfFileRecord, PerfRecordIter, RecordPlace,
@@ -7,16 +7,16 @@ use std::alloc::{AllocError, Global};
 use std::test::Fail;
 use test_support::error_key::ErrorKey;
 
-/// The sample type of records that begin, or end, with an identifier.
+/// The sample type of records that begin or end with an id.
 pub const IDENTIFIER: u64 = 0x10000;
 
-/// The flag of attributes whose records other than samples end with fields of the sample type.
+/// The attribute flag that makes records other than samples end with fields of the sample type.
 pub const SAMPLE_ID_ALL: u64 = 0x40000;
 
-/// What a call for the next record answers.
+/// The result of a call for the next record.
 #[derive(Clone, Copy, Debug, PartialEq, Eq)]
 pub enum Answer {
-    /// A record's place, its attribute's index if the kernel wrote it, and its type, its flags and the length of its body.
+    /// A record's `RecordPlace`, its attribute index if it is an event record, and its type, its misc and the size of its body.
     Record(RecordPlace, Option<usize>, (u32, u16, usize)),
     Nothing,
     Error(ErrorKey),
@@ -37,7 +37,7 @@ fn answer_of(next: Result<Option<(RecordPlace, PerfFileRecord<'_>)>, Error>) -> 
     }
 }
 
-// Only the functions that open hold a file and its records: to hold them, and not to borrow them, is dear to prove.
+// Borrows the file and its records, because proofs over owned ones are expensive.
 fn answers_of<R: Source>(
     alloc: Global,
     file: &mut PerfFile,
@@ -51,7 +51,7 @@ fn answers_of<R: Source>(
     Ok(answers)
 }
 
-/// The first answers of a file, so many.
+/// The first `count` results of a file.
 pub fn file_answers<C: PlacedSource + Drop>(
     alloc: Global,
     source: C,
@@ -64,7 +64,7 @@ pub fn file_answers<C: PlacedSource + Drop>(
     Ok(answers_of(alloc, &mut file, &mut records, count)?)
 }
 
-/// The first answers of a pipe, so many.
+/// The first `count` results of a pipe.
 pub fn pipe_answers<R: Source + Drop>(
     alloc: Global,
     source: R,
@@ -77,7 +77,7 @@ pub fn pipe_answers<R: Source + Drop>(
     Ok(answers_of(alloc, &mut file, &mut records, count)?)
 }
 
-/// The indices of attributes of the records that the kernel wrote.
+/// The attribute indices of the event records.
 pub fn indices_of(alloc: Global, answers: &[Answer]) -> Result<Vec<usize>, AllocError> {
     let mut indices = Vec::new(alloc);
     for answer in answers {

@@ -1,4 +1,4 @@
-//! Thread maps, wherever they are split, in both orders, and errors.
+//! Thread maps: whatever the split, in both byte orders, and errors.
 use crate::compare::{same, same_at};
 use byteorder::{BigEndian, ByteOrder, LittleEndian};
 use perfdata_base::raw::{FileOrder, RawData};
@@ -10,7 +10,7 @@ const TIDS: [u64; 12] = [
     95141, 95145, 95147, 95148, 95163, 95164, 95165, 95166, 95167, 95170, 95173, 95175,
 ];
 
-// A map of these threads without names, whose count is another.
+// A map of the threads `TIDS` without names, with this count.
 fn twelve(count: u64) -> [u8; 296] {
     let mut body = [0; 296];
     LittleEndian::write_u64(&mut body, count);
@@ -24,7 +24,7 @@ fn parsed<T: FileOrder>(body: RawData<'_>) -> Result<ThreadMap<'_>, ErrorKind> {
     by_kind(ThreadMap::parse::<T>(body))
 }
 
-// Whether a map is empty, its length, and how many threads come.
+// Whether a map is empty, its length, and the number of threads that its iterator returns.
 fn lengths(map: &Result<ThreadMap<'_>, ErrorKind>) -> Option<(bool, usize, usize)> {
     match map {
         Ok(map) => Some((map.is_empty(), map.len(), map.iter().count())),
@@ -32,7 +32,7 @@ fn lengths(map: &Result<ThreadMap<'_>, ErrorKind>) -> Option<(bool, usize, usize
     }
 }
 
-// The number of the thread at a place, where its name is this.
+// The tid of the thread at an index, if its name is this one.
 fn nth(map: &Result<ThreadMap<'_>, ErrorKind>, place: usize, name: &[u8]) -> Option<u64> {
     match map {
         Ok(map) => match map.iter().nth(place) {
@@ -49,7 +49,7 @@ fn nth(map: &Result<ThreadMap<'_>, ErrorKind>, place: usize, name: &[u8]) -> Opt
     }
 }
 
-// The number of the last thread.
+// The tid of the last thread.
 fn last(map: &Result<ThreadMap<'_>, ErrorKind>) -> Option<u64> {
     match map {
         Ok(map) => match map.iter().last() {
@@ -60,7 +60,7 @@ fn last(map: &Result<ThreadMap<'_>, ErrorKind>) -> Option<u64> {
     }
 }
 
-// How many threads come, in order, with these numbers and no names.
+// The number of threads that have the tid in `TIDS` and no name.
 fn in_order(map: &Result<ThreadMap<'_>, ErrorKind>) -> usize {
     let mut count = 0usize;
     if let Ok(map) = map {
@@ -103,7 +103,7 @@ fn passes_over_what_follows(rt: HostRuntime) {
     );
 }
 
-// One thread, in each order, with these sixteen bytes of name.
+// A map of one thread with this name of 16 bytes, in little-endian and in big-endian.
 fn named(name: &[u8; 16]) -> ([u8; 32], [u8; 32]) {
     let mut little = [0; 32];
     let mut big = [0; 32];

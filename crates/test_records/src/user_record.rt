@@ -1,4 +1,4 @@
-//! Users' records in the form that their type has, wherever they are split, and errors.
+//! User records in the parsed form of their type: whatever the split, and errors.
 use super::auxtrace::BODY;
 use crate::compare::{check, check_at, same, same_at};
 use byteorder::{BigEndian, ByteOrder, LittleEndian};
@@ -13,13 +13,13 @@ use test_support::values::by_kind;
 
 const FEATURE: [u8; 9] = [3, 0, 0, 0, 1, 0, 0, 0, 0x61];
 
-// One thread without a name.
+// A map of one thread without a name.
 const THREAD: [u8; 32] = [
     1, 0, 0, 0, 0, 0, 0, 0, 0x6c, 0x47, 8, 0, 0, 0, 0, 0, 0, 0, 0, 0, 0, 0, 0, 0, 0, 0, 0, 0, 0, 0,
     0, 0,
 ];
 
-// An attribute of 64 bytes whose samples have their time, and the ids 5 and 6.
+// An attribute of 64 bytes whose samples contain the time, and the ids 5 and 6.
 fn attribute() -> [u8; 80] {
     let mut bytes = [0; 80];
     bytes[4] = 64;
@@ -29,7 +29,7 @@ fn attribute() -> [u8; 80] {
     bytes
 }
 
-// The size, the format and the ids of the attribute in two pieces.
+// The size, the format and the ids of the attribute that is parsed from two slices.
 fn attribute_of(
     alloc: Global,
     front: &[u8],
@@ -41,7 +41,7 @@ fn attribute_of(
     }
 }
 
-// Whether it is of 64 bytes and format 4, and has these ids.
+// Whether the attribute has 64 bytes, the format 4 and these ids.
 fn has_ids(alloc: Global, front: &[u8], back: &[u8], ids: &[u64]) -> bool {
     let got = attribute_of(alloc, front, back);
     matches!(&got, Ok((size, format, values)) if (*size, *format, values.as_slice()) == (64, 4, ids))
@@ -132,7 +132,7 @@ enum Fields {
     Raw,
 }
 
-// The values of a little-endian record whose body is split at a place, at most its end.
+// The values of a little-endian record whose body is split at an index, or at its end if the index is greater.
 fn split(alloc: Global, record_type: UserRecordType, body: &[u8], at: usize) -> Option<Fields> {
     let (front, back) = body.split_at(at.min(body.len()));
     let body = RawData::Split(front, back);
@@ -175,7 +175,7 @@ fn parses_by_type_wherever_it_is_split(rt: HostRuntime) {
     }
 }
 
-// Whether a record of this type stays as it is.
+// Whether a record of this type isn't parsed but returned unchanged.
 fn stays(alloc: Global, kind: UserRecordType, body: RawData<'_>) -> bool {
     match parse(alloc, kind, Endianness::BigEndian, body) {
         Ok(UserRecord::Raw(raw)) => {
@@ -197,7 +197,7 @@ fn leaves_other_types(rt: HostRuntime) {
     }
 }
 
-// The number of the first thread of a map, in an order.
+// The tid of the first thread of a map with this byte order.
 fn first_thread(
     alloc: Global,
     endian: Endianness,

@@ -1,4 +1,4 @@
-//! The numbers behind names that no section of the tests shows.
+//! The values of constants that no section in the tests contains.
 use crate::compare::same;
 use perfdata_base::features::Feature;
 use perfdata_parts::feature_sections::{ClockData, CompressionInfo};

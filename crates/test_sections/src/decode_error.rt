@@ -1,4 +1,4 @@
-//! The texts of the errors of protobuf messages.
+//! The texts of protobuf decode errors.
 use crate::compare::same;
 use perfdata_parts::decode_error::DecodeError;
 use std::test::Fail;

@@ -1,7 +1,7 @@
-//! The texts of errors, and what they are made of.
+//! The texts of errors, and their conversions.
 use crate::compare::{check, same};
 use perfdata_parts::decode_error::DecodeError;
-use perfdata_parts::error::{Error, ReadError, short, unsupported};
+use perfdata_parts::error::{Error, ReadError, unexpected_eof, unsupported};
 use std::alloc::{AllocError, AllocFailed};
 use std::io;
 use std::io::ErrorKind;
@@ -54,10 +54,10 @@ fn shows_each_part(rt: HostRuntime) -> Result<(), Fail> {
     Ok(())
 }
 
-// The errors that hold something, but for a part, in the order of the texts below.
+// The errors with a value except `Read`, in the order of the texts below.
 fn holding(index: u32) -> Error {
     match index {
-        0 => short(),
+        0 => unexpected_eof(),
         1 => Error::UnrecognizedMagicValue([0, 1, 2, 3, 4, 5, 6, 255]),
         2 => Error::InconsistentAttributeSizes(64, 56),
         3 => Error::NoIdentifierDespiteMultiEvent(1),
@@ -101,7 +101,7 @@ fn shows_what_errors_hold(rt: HostRuntime) -> Result<(), Fail> {
     Ok(())
 }
 
-// The errors that hold nothing, in the order of the texts below.
+// The errors without a value, in the order of the texts below.
 fn plain(index: u32) -> Error {
     match index {
         0 => Error::SectionSizeTooBig,

@@ -1,4 +1,4 @@
-//! The section EVENT_DESC: its events, in both orders, and what is refused.
+//! The section EVENT_DESC: its events in both byte orders, and its errors.
 use crate::compare::{same, same_at};
 use byteorder::{BigEndian, LittleEndian};
 use perfdata_parts::feature_sections::AttributeDescription;
@@ -7,7 +7,7 @@ use std::process::Abort;
 use std::test::Fail;
 use test_support::error_key::{ATTRIBUTE, ErrorKey, SHORT};
 
-// One event, `c`, with the id 5; its attribute has 64 bytes, and samples with their time.
+// One event, `c`, with the id 5. Its attribute has 64 bytes, and its samples contain the time.
 fn one_event() -> [u8; 90] {
     let mut bytes = [0; 90];
     bytes[0] = 1;
@@ -21,7 +21,7 @@ fn one_event() -> [u8; 90] {
     bytes
 }
 
-// What the event at an index says: its size, its format, whether this is its name or it has none, and its ids.
+// The values of the event at an index: its size, its format, whether its name is this one (or missing), and its first two ids.
 fn told(
     all: &[AttributeDescription],
     index: usize,
@@ -55,7 +55,7 @@ fn reads_an_event(rt: HostRuntime) -> Result<(), Fail> {
     Ok(())
 }
 
-// The same event behind one other byte, in a frame of 72 bytes, with a name that isn't UTF-8 and no id.
+// The same event after one other byte, in an attr frame of 72 bytes, with a name that isn't UTF-8 and no id.
 #[test]
 fn goes_on_at_the_end_of_the_frame(rt: HostRuntime) -> Result<(), Fail> {
     let mut bytes = [0u8; 90];

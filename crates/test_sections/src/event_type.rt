@@ -1,4 +1,4 @@
-//! Event types hold what they are made of.
+//! Event types contain the values that they are created with.
 use crate::compare::same;
 use perfdata_parts::event_type::SimplePerfEventType;
 use std::test::Fail;

@@ -1,4 +1,4 @@
-//! The section of event types: its entries with their ids, and what is refused.
+//! The event types section: its entries with their ids, and its errors.
 use crate::compare::{same, same_at};
 use byteorder::LittleEndian;
 use perfdata_base::section::PerfFileSection;
@@ -10,8 +10,8 @@ use std::process::Abort;
 use std::test::Fail;
 use test_support::error_key::{ATTRIBUTE, ErrorKey, SHORT};
 
-// Two entries of 80 bytes, whose attributes have 64 and the configs 1 and 2. The ids of the first are the 8 bytes at
-// 160, those of the second the 23 from 168 on.
+// Two entries of 80 bytes, whose attributes have 64 bytes and the configs 1 and 2. The ids of the first entry are the 8 bytes at
+// offset 160, and those of the second are the 23 bytes at offset 168.
 pub fn two_entries() -> [u8; 192] {
     let mut bytes = [0; 192];
     bytes[4] = 64;
@@ -87,7 +87,7 @@ fn refusal(
     ErrorKey::of_answer(parsed(rt.alloc(), bytes, &section, attr_size))
 }
 
-// The same, with ids of the first at the last place, and with this own size of the second.
+// The two entries, with the ids of the first one at the greatest offset, and with this own size of the second one.
 fn far_ids(own: u8) -> [u8; 192] {
     let mut bytes = two_entries();
     bytes[64..72].copy_from_slice(&[0xff; 8]);

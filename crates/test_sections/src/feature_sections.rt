@@ -1,4 +1,4 @@
-//! The attribute section: its frames, and what is refused.
+//! The attribute section: its attr frames, and its errors.
 use crate::compare::{same, same_at};
 use byteorder::{BigEndian, LittleEndian};
 use perfdata_base::attr::PerfEventAttr;
@@ -12,8 +12,8 @@ use std::process::Abort;
 use std::test::Fail;
 use test_support::error_key::{ATTRIBUTE, ErrorKey};
 
-// Eight other bytes, then two attributes whose size is told as 64 and as 0, every 72 bytes. The second frame's end
-// isn't there.
+// Eight other bytes, then two attributes with the own sizes 64 and 0 in attr frames of 72 bytes. The end of the second frame is
+// missing.
 fn two_frames() -> [u8; 144] {
     let mut bytes = [0; 144];
     bytes[12] = 64;
@@ -33,7 +33,7 @@ fn parsed<C: PlacedSource + Drop>(
     AttributeDescription::parse_attr_section::<C, LittleEndian>(alloc, source, &section, attr_size)
 }
 
-// The size and the config of the attribute at an index, whether it has a name, and how many ids.
+// The size and the config of the attribute at an index, whether it has a name, and the number of its ids.
 fn told(all: &[AttributeDescription], index: usize) -> Option<(u32, u64, bool, usize)> {
     let description = all.get(index)?;
     let attr = description.attributes();
@@ -55,7 +55,7 @@ fn reads_frames(rt: HostRuntime) -> Result<(), Fail> {
         &[told(&all, 0), told(&all, 1), told(&all, 2)],
         &[Some((64, 5, false, 0)), Some((64, 6, false, 0)), None],
     );
-    // no byte, at the last place
+    // an empty section at the greatest offset
     let section = PerfFileSection {
         offset: u64::MAX,
         size: 0,
@@ -70,7 +70,7 @@ fn reads_frames(rt: HostRuntime) -> Result<(), Fail> {
     Ok(())
 }
 
-// How many attributes there are, and the first one's size and fields.
+// The number of attributes, and the size and the fields of the first one.
 fn first(all: &[AttributeDescription]) -> Option<(usize, u32, [u64; 4])> {
     let attr = all.first()?.attributes();
     let fields = [
@@ -82,7 +82,7 @@ fn first(all: &[AttributeDescription]) -> Option<(usize, u32, [u64; 4])> {
     Some((all.len(), attr.size, fields))
 }
 
-// Of a field that isn't told nothing is read, whatever stands behind the attribute's own size.
+// A field that the attribute's own size doesn't include isn't read, whatever bytes follow the attribute.
 #[test]
 fn reads_as_many_fields_as_the_size_tells(rt: HostRuntime) -> Result<(), Fail> {
     const SEVENS: u64 = 0x0707_0707_0707_0707;
@@ -91,7 +91,7 @@ fn reads_as_many_fields_as_the_size_tells(rt: HostRuntime) -> Result<(), Fail> {
         (72, 72, SEVENS, 0),
         (136, 136, SEVENS, SEVENS),
     ] {
-        // one frame of 136 bytes, all 7 but for the size that is told
+        // one attr frame of 136 bytes, all 7 except for the attribute's own size
         let mut bytes = [7u8; 136];
         bytes[4..8].copy_from_slice(&[told, 0, 0, 0]);
         let all = parsed(rt.alloc(), Cursor::new(&bytes[..]), 0, 136, 136)?;
@@ -144,7 +144,7 @@ fn refuses_frames(rt: HostRuntime) {
     same(&rt, &refusal(&rt, small, 8, 64, 64), &Some(ATTRIBUTE));
 }
 
-// Fails at each read, and at each seek or at none.
+// Fails at each read, and at each seek unless `seeks` is set.
 #[derive(Drop)]
 struct Broken {
     seeks: bool,

@@ -1,4 +1,4 @@
-//! Ids at an offset that no file has are an error before anything is read there.
+//! Ids at an offset that no file can have are an error, and nothing is read there.
 use crate::compare::same_at;
 use crate::event_types::two_entries;
 use byteorder::LittleEndian;
@@ -12,8 +12,8 @@ use std::io::{Cursor, Read, Seek, SeekFrom};
 use std::slice;
 use std::test::Fail;
 
-/// A reader that notes the farthest place that it was sent to, the bytes that it gave, and how often it was asked for
-/// anything once 80 bytes were given.
+/// A reader that records the greatest position that it seeks to, the number of bytes that it returns, and the number of calls
+/// after 80 bytes are returned.
 #[derive(Drop)]
 struct Noting<'a> {
     inner: Cursor<&'a [u8]>,
@@ -54,7 +54,7 @@ const SECTION: PerfFileSection = PerfFileSection {
     size: 80,
 };
 
-/// How many attributes have a name and how many have none, or whether the refusal is of an attribute.
+/// The number of attributes with and without a name, or whether the error is that of an attribute.
 fn told(read: Result<Vec<AttributeDescription>, Error>) -> Result<(usize, usize), bool> {
     match read {
         Ok(events) => {
@@ -66,9 +66,9 @@ fn told(read: Result<Vec<AttributeDescription>, Error>) -> Result<(usize, usize)
     }
 }
 
-/// What the first of two entries, with its ids at this place, comes to in the section of event types, or in simpleperf's where
-/// event types name it, whose frames count the 16 bytes that tell the place of the ids, too; and what its reader noted: the
-/// farthest place, the bytes that it gave, and whether it was asked once the entry was read.
+/// Parses the first of two entries, with its ids at this offset, as the event types section, or with `types` as simpleperf's
+/// attribute section, whose attr frames include the 16 bytes for the section of the ids. Returns the result, and what the reader
+/// records: its greatest position, the number of bytes that it returns, and whether it is called after the entry is read.
 fn noted(
     alloc: Global,
     offset: u64,

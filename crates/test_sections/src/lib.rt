@@ -1,4 +1,4 @@
-//! The tests of feature sections, of attributes, of errors and of what simpleperf adds to a file.
+//! The tests of feature sections, attributes, errors and simpleperf's additions to a file.
 #![tactic(auto)]
 
 #[cfg(test)]

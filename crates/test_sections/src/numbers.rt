@@ -1,4 +1,4 @@
-//! Sections of numbers: processors, times, compression and clocks.
+//! Sections of numbers: CPUs, times, compression and clocks.
 use crate::compare::{same, same_at};
 use byteorder::{BigEndian, LittleEndian};
 use perfdata_parts::feature_sections::{ClockData, CompressionInfo, NrCpus, SampleTimeRange};
@@ -10,7 +10,7 @@ const COUNTING: [u8; 25] = [
     1, 0, 0, 0, 2, 0, 0, 0, 3, 0, 0, 0, 4, 0, 0, 0, 5, 0, 0, 0, 6, 0, 0, 0, 7,
 ];
 
-// The clocks of a section, or why they aren't there, and the bytes that are left.
+// The clocks of a section or the error, and the remaining bytes.
 fn clock(bytes: &[u8]) -> (Result<(u32, u64, u64), ErrorKind>, &[u8]) {
     let mut source = bytes;
     match ClockData::parse_from::<_, LittleEndian>(&mut source) {

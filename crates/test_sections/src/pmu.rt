@@ -1,4 +1,4 @@
-//! PMU mappings: the names that are kept, and units that are missing.
+//! PMU mappings: which names are kept, and missing units.
 use crate::compare::{same, same_at};
 use byteorder::LittleEndian;
 use perfdata_parts::feature_sections::PmuMappings;
@@ -19,7 +19,7 @@ fn parsed(alloc: Global, bytes: &[u8]) -> Result<PmuMappings, Error> {
     PmuMappings::parse::<_, LittleEndian>(alloc, bytes)
 }
 
-// The number at an index, and whether this is its name.
+// The number of the unit at an index, and whether its name is this one.
 fn told(all: &PmuMappings, index: usize, expected: &str) -> Option<(u32, bool)> {
     let (number, name) = all.0.get_index(index)?;
     Some((*number, name.as_str() == expected))

@@ -1,4 +1,4 @@
-//! The tests of what simpleperf adds to a file.
+//! The tests of simpleperf's additions to a file.
 mod event_types;
 mod file2;
 mod file_record;

@@ -1,4 +1,4 @@
-//! The attribute section of simpleperf, with names by event types.
+//! The attribute section of simpleperf, with the names of event types.
 use crate::compare::same;
 use crate::event_types::two_entries;
 use byteorder::LittleEndian;
@@ -12,7 +12,7 @@ use std::slice;
 use std::test::Fail;
 use test_support::error_key::{ATTRIBUTE, ErrorKey};
 
-// The attributes of the two entries, by one event type of this name.
+// The attributes of the two entries, with one event type of this name.
 fn named(alloc: Global, name: String, attr_size: u64) -> Result<Vec<AttributeDescription>, Error> {
     let section = PerfFileSection {
         offset: 0,
@@ -29,7 +29,7 @@ fn named(alloc: Global, name: String, attr_size: u64) -> Result<Vec<AttributeDes
     )
 }
 
-// Whether the event at an index has this name or has none, and whether it has ids.
+// Whether the name of the event at an index is this one (or missing), and whether it has ids.
 fn told(all: &[AttributeDescription], index: usize, name: Option<&str>) -> Option<(bool, bool)> {
     let description = all.get(index)?;
     Some((description.name() == name, !description.ids().is_empty()))

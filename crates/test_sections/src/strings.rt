@@ -1,4 +1,4 @@
-//! Strings of sections, up to their first NUL, and cut.
+//! Strings of sections: up to their first NUL, and truncated.
 use crate::compare::{same, same_at};
 use byteorder::{BigEndian, LittleEndian};
 use perfdata_parts::feature_sections::{HeaderString, before_nul};

@@ -1,37 +1,37 @@
-//! How a reading ends, in a form that can be compared.
+//! The end of a read or a listing, in a form that can be compared.
 use perfdata_sections::error::{Error, ReadError};
 use std::io::ErrorKind;
 
-/// How a reading ends.
+/// The end of a read or a listing.
 #[derive(Clone, Copy, Debug, PartialEq, Eq)]
 pub enum End {
     Whole,
-    /// An input ended early where no part is named.
+    /// Unexpected end of file, without the name of a part.
     Short,
-    /// Data of a record could not be read.
+    /// The data of a record can't be read.
     Data,
-    /// An attribute could not be read.
+    /// An attribute can't be read.
     Attribute,
-    /// A feature's section could not be read.
+    /// A feature section can't be read.
     Feature,
-    /// The magic of a file was not found, and eight zeros were.
+    /// The magic of the file is eight zeros.
     ZeroMagic,
     /// A record's size is below 8.
     Size,
     Unsupported,
-    /// A read was interrupted too often.
+    /// A read is interrupted too often.
     Interrupted,
-    /// What was handed in isn't what came with the records.
+    /// The `PerfFile` belongs to another input than the records.
     Foreign,
-    /// A value that can't be.
+    /// A value is invalid.
     Invalid,
     NoAttributes,
-    /// An attribute's own size is above what there is for it.
+    /// An attribute's own size exceeds the available size.
     Sizes,
-    /// The attribute of this index has no IDENTIFIER, or differs about SAMPLE_ID_ALL.
+    /// The attribute with this index lacks IDENTIFIER, or differs in SAMPLE_ID_ALL.
     Lacks(usize),
     Differs(usize),
-    /// Simpleperf's meta info has no event types, or a text of it isn't UTF-8.
+    /// Simpleperf's meta info has no event types, or a string in it isn't UTF-8.
     NoEventTypes,
     Text,
     Failed,
@@ -39,7 +39,7 @@ pub enum End {
 }
 
 impl End {
-    /// The end that an error makes.
+    /// Converts an error.
     pub fn of(error: &Error) -> End {
         match error {
             Error::IoError(error) => match error.kind() {

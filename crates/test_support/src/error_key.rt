@@ -3,7 +3,7 @@ use perfdata_sections::decode_error::DecodeError;
 use perfdata_sections::error::{Error, ReadError};
 use std::io::ErrorKind;
 
-/// An error, with the kind of an I/O error in its place, and without the bytes of a magic.
+/// An error, with the kind of an I/O error instead of the error itself, and without the bytes of a magic.
 #[derive(Clone, Copy, Debug, PartialEq, Eq)]
 pub enum ErrorKey {
     IoError(ErrorKind),
@@ -29,7 +29,7 @@ pub enum ErrorKey {
     Memory,
 }
 
-/// Bytes are missing, where no part is named.
+/// Unexpected end of file, without the name of a part.
 pub const SHORT: ErrorKey = ErrorKey::IoError(ErrorKind::UnexpectedEof);
 
 /// An attribute can't be read.
@@ -39,7 +39,7 @@ pub const ATTRIBUTE: ErrorKey = ErrorKey::Read(ReadError::PerfEventAttr);
 pub const DATA: ErrorKey = ErrorKey::Read(ReadError::PerfEventData);
 
 impl ErrorKey {
-    /// The key of an error.
+    /// Converts an error.
     pub fn of(error: &Error) -> ErrorKey {
         match error {
             Error::IoError(error) => ErrorKey::IoError(error.kind()),
@@ -76,7 +76,7 @@ impl ErrorKey {
         }
     }
 
-    /// The key of an answer's error, where it is one.
+    /// Converts the error of a result, if it is one.
     pub fn of_answer<T: Drop>(answer: Result<T, Error>) -> Option<ErrorKey> {
         match answer {
             Ok(_) => None,

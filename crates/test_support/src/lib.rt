@@ -1,4 +1,5 @@
-//! What the tests of several crates use: recordings in memory, sources that follow a script, and a plain reader of files and pipes.
+//! Support for the tests of several crates: recordings in memory, scripted sources, and a reference implementation of files and
+//! pipes.
 #![tactic(auto)]
 
 pub mod ending;

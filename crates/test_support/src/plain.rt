@@ -1,4 +1,4 @@
-//! The records of a file, computed from the definitions in a plain and slow way.
+//! Reference implementation of files: their records, computed from the definitions in a simple and slow way.
 pub mod events;
 pub mod pipe;
 
@@ -6,7 +6,7 @@ use crate::ending::End;
 use events::{Event, breach_of, event_of, events_in, index_of, word_of};
 use std::alloc::{AllocError, Global};
 
-/// The number of n bytes from a place on, or none where they aren't there.
+/// The number of `n` bytes at an offset, or `None` if the bytes end before it does.
 pub fn number_at(bytes: &[u8], at: usize, n: usize, big: bool) -> Option<u64> {
     let part = bytes.get(at..at.checked_add(n)?)?;
     let mut value = 0u64;
@@ -30,7 +30,7 @@ pub struct Piece<'a> {
     pub bytes: &'a [u8],
 }
 
-/// What stands at an offset: a whole record, or an error.
+/// The record at an offset, or the error.
 pub fn piece_at<'a>(rest: &'a [u8], offset: u64, big: bool) -> Result<Piece<'a>, End> {
     let kind = number_at(rest, 0, 4, big).ok_or(End::Short)?;
     let misc = number_at(rest, 4, 2, big).ok_or(End::Short)?;
@@ -59,7 +59,7 @@ pub fn piece_at<'a>(rest: &'a [u8], offset: u64, big: bool) -> Result<Piece<'a>,
     Ok(Piece { kind, misc, bytes })
 }
 
-/// How many bytes these records have.
+/// The total size of these records in bytes.
 pub fn sum_of(pieces: &[Piece<'_>]) -> u64 {
     let mut sum = 0u64;
     for piece in pieces {
@@ -68,7 +68,7 @@ pub fn sum_of(pieces: &[Piece<'_>]) -> u64 {
     sum
 }
 
-/// The line of the record after these, where these events are known.
+/// The line of a record. `before` contains the records before it, and `events` the known events.
 pub fn line_of(
     alloc: Global,
     before: &[Piece<'_>],
@@ -91,7 +91,7 @@ pub fn line_of(
     }
 }
 
-/// Where a file that opens has its records, and its events.
+/// The data section of a file that opens, and its events.
 #[derive(Drop)]
 struct Facts {
     big: bool,
@@ -100,7 +100,7 @@ struct Facts {
     events: Vec<Event>,
 }
 
-/// The bytes from a place on.
+/// The bytes from an offset on.
 fn behind(bytes: &[u8], place: u64) -> &[u8] {
     bytes.get(place as usize..).unwrap_or(&[])
 }
@@ -112,7 +112,7 @@ fn facts_of(alloc: Global, file: &[u8]) -> Result<Facts, AllocError> {
     let features = number_at(file, 72, 8, big).unwrap_or(0);
     let mut events = Vec::new(alloc);
     if features / 4096 % 2 == 1 {
-        // the entry of feature 12 stands after those of the features below it
+        // the entry of feature 12 follows those of the lower features
         let before = (features % 4096).count_ones() as u64;
         let table = behind(file, from.saturating_add(size));
         let entry = behind(table, before.saturating_mul(16));
@@ -132,7 +132,7 @@ fn facts_of(alloc: Global, file: &[u8]) -> Result<Facts, AllocError> {
     })
 }
 
-/// The events of the event types section, which has this size, or, where it is empty, of the attribute section.
+/// The events of the event types section, which has this size. If the size is 0, those of the attribute section.
 fn events_at(alloc: Global, file: &[u8], size: u64, big: bool) -> Result<Vec<Event>, AllocError> {
     let long = number_at(file, 16, 8, big).unwrap_or(0);
     let (section, size, step) = if size == 0 {
@@ -156,7 +156,7 @@ fn events_at(alloc: Global, file: &[u8], size: u64, big: bool) -> Result<Vec<Eve
     Ok(events)
 }
 
-/// The records of a file that opens, and how its data section ends.
+/// The records of a file that opens, and the end of its data section.
 fn pieces_of<'a>(
     alloc: Global,
     file: &'a [u8],
@@ -177,7 +177,7 @@ fn pieces_of<'a>(
     Ok((pieces, End::Whole))
 }
 
-/// The lines of a file whose sections and attributes can be read, and how its data section ends.
+/// The lines of a file whose sections and attributes can be read, and the end of its data section.
 pub fn lines_of(alloc: Global, file: &[u8]) -> Result<(String, End), AllocError> {
     let facts = facts_of(alloc, file)?;
     let mut text = String::new(alloc);

@@ -1,39 +1,39 @@
-//! Recordings that the tests of several crates read.
+//! Recordings for the tests of several crates.
 use crate::image::{Image, Part};
 use perfdata_base::features::Feature;
 use perfdata_base::raw::Endianness;
 use std::alloc::{AllocError, Global};
 
-/// Two attributes that list the same identifier, and two samples.
+/// Two attributes with the same id, and two samples.
 pub const TWO_ATTRIBUTES: [Part<'_>; 4] = [
-    Part::Attribute(0x10004, 0, &[5]),
-    Part::Attribute(0x10004, 0, &[5]),
-    Part::Identified(5, 7),
-    Part::Identified(6, 8),
+    Part::HeaderAttr(0x10004, 0, &[5]),
+    Part::HeaderAttr(0x10004, 0, &[5]),
+    Part::SampleWithId(5, 7),
+    Part::SampleWithId(6, 8),
 ];
 
-/// The pipe with auxiliary data, after a header of its usual 16 bytes or of so many more.
+/// A pipe with an auxtrace record. Its header has 16 bytes and `more` extra bytes.
 pub fn traced_pipe(alloc: Global, more: u8) -> Result<Image, AllocError> {
-    let mut image = Image::pipe(alloc, Endianness::LittleEndian)?;
-    image.put(8, 16u64.saturating_add(more as u64));
-    image.filled(0xee, more as usize)?;
+    let mut image = Image::pipe_header(alloc, Endianness::LittleEndian)?;
+    image.overwrite_u64(8, 16u64.saturating_add(more as u64));
+    image.push_fill(0xee, more as usize)?;
     for part in [
-        Part::Attribute(4, 0, &[]),
-        Part::Trace(1, &[7]),
-        Part::Head(9, 2, 16),
-        Part::Long(20),
+        Part::HeaderAttr(4, 0, &[]),
+        Part::Auxtrace(1, &[7]),
+        Part::RecordHeader(9, 2, 16),
+        Part::U64(20),
     ] {
-        image.part(part)?;
+        image.push_part(part)?;
     }
     Ok(image)
 }
 
-/// EVENT_DESC of 90 bytes: the event `c` with the id 5, and frames of this size.
+/// EVENT_DESC of 90 bytes: the event `c` with the id 5, with this attribute size.
 pub fn event_desc(alloc: Global, endian: Endianness, size: u32) -> Result<Image, AllocError> {
     event_desc_of(alloc, endian, size, b"c")
 }
 
-/// EVENT_DESC of events with these letters for names, each with the id 5, and frames of this size.
+/// EVENT_DESC with an event for each of these letters as its name, each with the id 5, with this attribute size.
 pub fn event_desc_of(
     alloc: Global,
     endian: Endianness,
@@ -41,15 +41,15 @@ pub fn event_desc_of(
     letters: &[u8],
 ) -> Result<Image, AllocError> {
     let mut image = Image::empty(alloc, endian);
-    image.word(u32::try_from(letters.len()).unwrap_or(0))?;
-    image.word(size)?;
+    image.push_u32(u32::try_from(letters.len()).unwrap_or(0))?;
+    image.push_u32(size)?;
     for letter in letters {
-        image.event(&[5], *letter)?;
+        image.push_event_desc_entry(&[5], *letter)?;
     }
     Ok(image)
 }
 
-/// The first file with these words of feature bits, and after its 208 bytes these entries and bytes.
+/// `first_file` with these u64 fields of feature bits. The entries and their contents follow its 208 bytes.
 pub fn with_features(
     alloc: Global,
     endian: Endianness,
@@ -57,21 +57,21 @@ pub fn with_features(
     entries: &[(u64, u64)],
     content: &[u8],
 ) -> Result<Image, AllocError> {
-    let mut image = Image::first(alloc, endian)?;
+    let mut image = Image::first_file(alloc, endian)?;
     let [first, second, third, fourth] = words;
-    image.put(72, first);
-    image.put(80, second);
-    image.put(88, third);
-    image.put(96, fourth);
+    image.overwrite_u64(72, first);
+    image.overwrite_u64(80, second);
+    image.overwrite_u64(88, third);
+    image.overwrite_u64(96, fourth);
     for (offset, size) in entries {
-        image.long(*offset)?;
-        image.long(*size)?;
+        image.push_u64(*offset)?;
+        image.push_u64(*size)?;
     }
-    image.raw(content)?;
+    image.push_bytes(content)?;
     Ok(image)
 }
 
-/// The word of feature bits with this one set.
+/// The u64 field of feature bits from `from` on, with only this feature's bit set.
 fn word_of(feature: Feature, from: u32) -> u64 {
     if feature.0 >= from && feature.0 - from < 64 {
         1 << (feature.0 - from)
@@ -80,7 +80,7 @@ fn word_of(feature: Feature, from: u32) -> u64 {
     }
 }
 
-/// The first file with one feature, whose section holds these bytes.
+/// `first_file` with one feature, whose section contains these bytes.
 pub fn with_section(
     alloc: Global,
     endian: Endianness,
@@ -102,10 +102,10 @@ pub fn with_section(
     )
 }
 
-/// A host's name: a text of five bytes, of which two stand before a NUL.
+/// A host name: a string of five bytes with a NUL after the first two.
 pub const HOST_NAME: &[u8] = &[5, 0, 0, 0, b'a', b'b', 0, b'c', b'd'];
 
-/// The first file with a host's name and the release of its system: 255 bytes.
+/// `first_file` with a host name and an OS release: 255 bytes.
 pub fn two_features(alloc: Global) -> Result<Image, AllocError> {
     let sections = [
         5, 0, 0, 0, b'a', b'b', 0, b'c', b'd', 2, 0, 0, 0, b'6', b'0',
@@ -115,7 +115,7 @@ pub fn two_features(alloc: Global) -> Result<Image, AllocError> {
     with_features(alloc, Endianness::LittleEndian, words, &entries, &sections)
 }
 
-/// A file of 352 bytes: two event types, the ids of each, and three samples of an identifier and a time.
+/// A file of 352 bytes: two event types, the ids of each, and three samples with an id and a time.
 #[derive(Clone, Copy)]
 pub struct EventTypes {
     pub attr_size: u64,
@@ -135,45 +135,45 @@ pub const EVENT_TYPES: EventTypes = EventTypes {
 };
 
 impl EventTypes {
-    /// The bytes before the samples, which have this size.
+    /// The bytes before the samples. The data section has this size.
     pub fn front(&self, alloc: Global, size: u64) -> Result<Image, AllocError> {
         let numbers = [104, self.attr_size, 0, 0, 280, size, 104, 160, 0, 0, 0, 0];
         let mut image = Image::header(alloc, numbers)?;
         let [(first, first_size), (second, second_size)] = self.ids_at;
-        image.attribute(0x10004, 0)?;
-        image.long(first)?;
-        image.long(first_size)?;
-        image.attribute(self.second.0, self.second.1)?;
-        image.long(second)?;
-        image.long(second_size)?;
+        image.push_attr(0x10004, 0)?;
+        image.push_u64(first)?;
+        image.push_u64(first_size)?;
+        image.push_attr(self.second.0, self.second.1)?;
+        image.push_u64(second)?;
+        image.push_u64(second_size)?;
         for id in self.ids {
-            image.long(id)?;
+            image.push_u64(id)?;
         }
         Ok(image)
     }
 
-    /// The file, whose records are the samples.
+    /// The whole file: its records are the samples.
     pub fn image(&self, alloc: Global) -> Result<Image, AllocError> {
         let mut image = self.front(alloc, 72)?;
         for (id, time) in self.samples {
-            image.identified(id, time)?;
+            image.push_sample_with_id(id, time)?;
         }
         Ok(image)
     }
 }
 
-/// A length, and a message of path `a`, type 2, address 128 and the DEX offsets 1, 2, 3.
+/// A length, and a message with the path `a`, type 2, address 128 and the DEX offsets 1, 2, 3.
 pub const SYMBOLS_FILE2: [u8; 24] = [
     0x14, 0, 0, 0, 0x0a, 1, b'a', 0x10, 2, 0x18, 0x80, 1, 0x40, 5, 0x2a, 4, 0x0a, 2, 1, 2, 0x2a, 2,
     8, 3,
 ];
 
-/// A length, and an older record of path `a`, type 2, address 16 and no symbols.
+/// A length, and a version 1 record with the path `a`, type 2, address 16 and no symbols.
 pub const SYMBOLS_FILE: [u8; 22] = [
     0x12, 0, 0, 0, b'a', 0, 2, 0, 0, 0, 16, 0, 0, 0, 0, 0, 0, 0, 0, 0, 0, 0,
 ];
 
-/// A file of 254 bytes: an attribute with the id 5, a sample of the time 20, and meta info of 30 bytes.
+/// A file of 254 bytes: an attribute with the id 5, a sample with the time 20, and meta info of 30 bytes.
 pub fn simpleperf_file(
     alloc: Global,
     attr_size: u64,
@@ -181,22 +181,22 @@ pub fn simpleperf_file(
 ) -> Result<Image, AllocError> {
     let numbers = [104, attr_size, 104, 80, 192, 16, 0, 0, 0, 0, 2, 0];
     let mut image = Image::header(alloc, numbers)?;
-    image.attribute(4, 0)?;
+    image.push_attr(4, 0)?;
     for number in [184, 8, 5] {
-        image.long(number)?;
+        image.push_u64(number)?;
     }
-    image.sample(20)?;
-    image.long(224)?;
-    image.long(30)?;
-    image.raw(meta_info)?;
+    image.push_sample(20)?;
+    image.push_u64(224)?;
+    image.push_u64(30)?;
+    image.push_bytes(meta_info)?;
     Ok(image)
 }
 
 /// Meta info that names an event type.
 pub const META_INFO: &[u8] = b"event_type_info\0cpu-clock,1,0\0";
 
-/// A jitdump: a header of version 1 and 40 bytes, for the machine 62, by the process 7 at 5; a load record of 62 bytes at 9, with
-/// process and thread 7, addresses 0x1000, index 0, `foo` and two bytes of code; and a closing record of 16 bytes at 11.
+/// A jitdump file. Its header has version 1, 40 bytes, machine 62, pid 7 and time 5. A load record of 62 bytes at time 9 has pid
+/// and tid 7, addresses 0x1000, index 0, the name `foo` and two bytes of code. A close record of 16 bytes has time 11.
 pub const JITDUMP: [u8; 118] = [
     0x44, 0x54, 0x69, 0x4a, 1, 0, 0, 0, 40, 0, 0, 0, 62, 0, 0, 0, 0, 0, 0, 0, 7, 0, 0, 0, 5, 0, 0,
     0, 0, 0, 0, 0, 0, 0, 0, 0, 0, 0, 0, 0, 0, 0, 0, 0, 62, 0, 0, 0, 9, 0, 0, 0, 0, 0, 0, 0, 7, 0,

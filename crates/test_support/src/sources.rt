@@ -3,13 +3,13 @@ use perfdata_base::source::{Script, Step};
 use std::alloc::{AllocError, Global};
 use std::io::ErrorKind;
 
-/// A source of these bytes whose reads do these steps in turn.
+/// A source of these bytes whose reads follow these steps in order.
 pub fn scripted(alloc: Global, bytes: &[u8], steps: Vec<Step>) -> Result<Script, AllocError> {
     let copy = Vec::from_slice(alloc, bytes)?;
     Ok(Script::new(copy, bytes.len(), steps, Vec::new(alloc)))
 }
 
-/// So many steps of one kind.
+/// `count` times the same step.
 pub fn steps_of(alloc: Global, step: Step, count: usize) -> Result<Vec<Step>, AllocError> {
     let mut steps = Vec::new(alloc);
     for _ in 0..count {
@@ -18,13 +18,13 @@ pub fn steps_of(alloc: Global, step: Step, count: usize) -> Result<Vec<Step>, Al
     Ok(steps)
 }
 
-/// A source of these bytes that gives them one by one.
+/// A source that returns these bytes one a read.
 pub fn one_by_one(alloc: Global, bytes: &[u8]) -> Result<Script, AllocError> {
     let steps = steps_of(alloc, Step::Give(1), bytes.len())?;
     scripted(alloc, bytes, steps)
 }
 
-/// A source that gives so many bytes one by one, is then interrupted so often, and gives the rest.
+/// A source that returns `given` bytes one a read, then `times` interrupted errors, and then the rest.
 pub fn interrupted(
     alloc: Global,
     bytes: &[u8],

@@ -2,7 +2,7 @@
 use std::alloc::{AllocError, Global};
 use std::io::{ErrorKind, Result as IoResult};
 
-/// An answer in a form that can be compared, with the error's kind in its place.
+/// A result in a form that can be compared, with the error's kind instead of the error.
 pub fn by_kind<T>(answer: IoResult<T>) -> Result<T, ErrorKind> {
     match answer {
         Ok(value) => Ok(value),
@@ -10,7 +10,7 @@ pub fn by_kind<T>(answer: IoResult<T>) -> Result<T, ErrorKind> {
     }
 }
 
-/// Bytes, and more.
+/// Concatenates two slices.
 pub fn joined(alloc: Global, front: &[u8], back: &[u8]) -> Result<Vec<u8>, AllocError> {
     let mut bytes = Vec::from_slice(alloc, front)?;
     bytes.extend_from_slice(back)?;

@@ -1,51 +1,49 @@
-use Rattle.std.proofs.Common.{arith, ◌≡◌, ℕ, ◌+◌, ◌<◌, ◌^◌, [], ◌∷◌, ◌++◌, length-append, refl, ap, ◌∙◌, sym, subst, Some, Ok}
-use Rattle.linux_perf_data.specs.Iter.{Nexts, handed_of}
-use Rattle.linux_perf_data.specs.PerfFile.{order_of_file, attributes_of_file}
-use Rattle.linux_perf_data.specs.Reading.{HandsOutAll}
-use Rattle.counted.proofs.count_records.Invariants.{seen}
-use Rattle.counted.proofs.count_records.Goals as goal
+use Rattle.std.proofs.Common.{arith, [], ◌∷◌, ◌++◌, length-append, refl, ap, ◌∙◌, subst, Some, Ok}
+use Rattle.linux_perf_data.specs.Iter.{NextRecord, record_view_of}
+use Rattle.example_proved_count.proofs.count_records.Invariants.{state}
+use Rattle.example_proved_count.proofs.count_records.Goals as goal
 
 pub records-init : goal.records-init
 records-init c =
     let opened = c.in_ok-reader.ensures.parses in
-    let start = opened.first.offset in
+    let start = opened.at_first_record.offset in
     record {
       fits = omega (arith, start);
       few = omega arith;
-      opened = (seen c.new.result, (λ i. Some (record { all = (c.new.ensures.inner i).now; at = c.new.ensures.position i })), opened);
-      read = ([], refl, c.several_calls.ensures.none _ _);
+      opened = (state c.new.result, (λ i. Some (record { all_bytes = (c.new.ensures.inner i).now; offset = c.new.ensures.position i })), opened);
+      read = ([], refl, c.consecutive_calls.ensures.none _ _);
     }
 
 pub overflow_add-count : goal.overflow_add-count
 overflow_add-count c =
     let rested = c.next_record.follows.lender-at-none in
-    let nexts = subst (λ r. Nexts seen (λ _. 0) c.records.iter c.records.file r rested c.next_record.new.perf_file) (c.in-Ok-Some.is ∙ ap Ok c.in-Ok-Some.field-0-is) c.next_record.follows.holds-at-none in
+    let nexts = subst (λ r. NextRecord state (λ _. 0) c.records.iter c.records.file r rested c.next_record.new.perf_file) (c.in-Ok-Some.is ∙ ap Ok c.in-Ok-Some.field-0-is) c.next_record.follows.holds-at-none in
     let step = nexts.0 in
     let few = c.records.invariant.few in
-    let place = step.place in
+    let place = step.record_offset in
     let offset = step.offset in
-    let fits = step.fits in
+    let fits = step.offset_fits in
     omega (arith, few, place, offset, fits)
 
 pub records-preserved : goal.records-preserved
 records-preserved c =
     let before = c.records.invariant in
     let rested = c.next_record.follows.lender-at-none in
-    let nexts = subst (λ r. Nexts seen (λ _. 0) c.records.iter c.records.file r rested c.next_record.new.perf_file) (c.in-Ok-Some.is ∙ ap Ok c.in-Ok-Some.field-0-is) c.next_record.follows.holds-at-none in
+    let nexts = subst (λ r. NextRecord state (λ _. 0) c.records.iter c.records.file r rested c.next_record.new.perf_file) (c.in-Ok-Some.is ∙ ap Ok c.in-Ok-Some.field-0-is) c.next_record.follows.holds-at-none in
     let step = nexts.0 in
     let few = before.few in
-    let place = step.place in
+    let place = step.record_offset in
     let offset = step.offset in
     let count = before.read.1 in
-    let h = handed_of c.in-Ok-Some._place c.in-Ok-Some._record in
+    let h = record_view_of c.in-Ok-Some._place c.in-Ok-Some._record in
     record {
-      fits = step.fits;
+      fits = step.offset_fits;
       few = omega (arith, few, place, offset);
       opened = before.opened;
       read = (
         before.read.0 ++ h ∷ [],
         omega (arith, count, length-append before.read.0 (h ∷ [])),
-        c.several_calls.ensures.more _ c.records.iter rested _ c.records.file c.next_record.new.perf_file before.read.0 h before.read.2 step,
+        c.consecutive_calls.ensures.more _ c.records.iter rested _ c.records.file c.next_record.new.perf_file before.read.0 h before.read.2 step,
       );
     }
 
@@ -53,6 +51,6 @@ pub returns-in-Ok-None : goal.returns-in-Ok-None
 returns-in-Ok-None c =
     let before = c.records.invariant in
     let rested = c.next_record.follows.lender-at-none in
-    let ended = subst (λ r. Nexts seen (λ _. 0) c.records.iter c.records.file r rested c.next_record.new.perf_file) (c.in-Ok-None.is ∙ ap Ok c.in-Ok-None.field-0-is) c.next_record.follows.holds-at-none in
-    let whole = (c.a_reading.ensures.end _ before.opened.0 _ c.records.file c.next_record.new.perf_file _ c.records.iter rested before.read.0 before.opened.1 before.opened.2 before.read.2 ended.0).0 in
-    (c.in_ok-reader.reader.perf_file, (whole.header, whole.describes, (before.read.0, whole.all, before.read.1)))
+    let ended = subst (λ r. NextRecord state (λ _. 0) c.records.iter c.records.file r rested c.next_record.new.perf_file) (c.in-Ok-None.is ∙ ap Ok c.in-Ok-None.field-0-is) c.next_record.follows.holds-at-none in
+    let whole = (c.file_reading.ensures.end _ before.opened.0 _ c.records.file c.next_record.new.perf_file _ c.records.iter rested before.read.0 before.opened.1 before.opened.2 before.read.2 ended.0).0 in
+    (c.in_ok-reader.reader.perf_file, (whole.header, whole.describes, (before.read.0, whole.all_records, before.read.1)))

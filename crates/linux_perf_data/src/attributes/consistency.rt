@@ -1,9 +1,9 @@
-//! The rule of attributes: where identifiers stand at other places, each needs IDENTIFIER.
+//! Attribute consistency: if the identifiers of records are at different offsets, each attribute needs IDENTIFIER.
 ghost use Rattle.std.specs.Prelude.{◌≡◌, if◌then◌else◌, None, Some};
 ghost use Rattle.std.specs.Option.{option_or};
-ghost use Rattle.perfdata_base.specs.Place.{is_set};
-ghost use Rattle.linux_perf_data.specs.Described.{attribute_by, attributes_by};
-ghost use Rattle.linux_perf_data.specs.Rules.{unidentified, TestsPlaces, TestsTrailing, ChecksEach, ChecksRule};
+ghost use Rattle.perfdata_base.specs.ParseInfo.{is_set};
+ghost use Rattle.linux_perf_data.specs.Descriptions.{described_attribute, described_attributes};
+ghost use Rattle.linux_perf_data.specs.Consistency.{first_without_identifier, TestsIdOffsets, TestsSampleIdAll, ChecksEach, ChecksConsistency};
 
 use bitflags::Flags;
 use perfdata_base::attr::{AttrFlags, PerfEventAttr, SampleFormat};
@@ -11,9 +11,9 @@ use perfdata_base::place::RecordIdParseInfo;
 use perfdata_parts::error::Error;
 use perfdata_parts::feature_sections::AttributeDescription;
 
-// Whether the identifiers of all records stand at the first attribute's places.
-fn places_agree(first: &AttributeDescription, attributes: &[AttributeDescription]) -> bool
-    ensures { TestsPlaces (attribute_by first.now) (attributes_by attributes.now) result }
+// Whether the records of all attributes have their identifiers at the offsets of the first attribute's records.
+fn id_offsets_agree(first: &AttributeDescription, attributes: &[AttributeDescription]) -> bool
+    ensures { TestsIdOffsets (described_attribute first.now) (described_attributes attributes.now) result }
 {
     let places = RecordIdParseInfo::new(first.attributes());
     'attributes: for attribute in attributes {
@@ -24,7 +24,7 @@ fn places_agree(first: &AttributeDescription, attributes: &[AttributeDescription
     true
 }
 
-// Whether an attribute's records have the word IDENTIFIER.
+// Whether the records of an attribute have the field IDENTIFIER.
 pub(crate) fn has_identifier(attr: &PerfEventAttr) -> bool
     ensures { result ≡ is_set attr.now.sample_format.0 16 }
 {
@@ -32,8 +32,8 @@ pub(crate) fn has_identifier(attr: &PerfEventAttr) -> bool
 }
 
 // The index of the first attribute whose records lack IDENTIFIER.
-pub(crate) fn first_unidentified(attributes: &[AttributeDescription]) -> Option<usize>
-    ensures { result ≡ unidentified 0 (attributes_by attributes.now) }
+pub(crate) fn first_without_identifier(attributes: &[AttributeDescription]) -> Option<usize>
+    ensures { result ≡ first_without_identifier 0 (described_attributes attributes.now) }
 {
     let mut index = 0;
     'attributes: for attribute in attributes {
@@ -45,8 +45,8 @@ pub(crate) fn first_unidentified(attributes: &[AttributeDescription]) -> Option<
     None
 }
 
-// The same with one attribute more, at this index, behind those of which this is known.
-pub(crate) fn unidentified_with(
+// The same with one more attribute, at `index`. `before` is the result for the attributes before it.
+pub(crate) fn first_without_identifier_with(
     before: Option<usize>,
     attr: &PerfEventAttr,
     index: usize,
@@ -65,21 +65,21 @@ pub(crate) fn unidentified_with(
     }
 }
 
-// Whether two attributes agree about SAMPLE_ID_ALL.
-fn agree_about_trailing(first: &PerfEventAttr, attr: &PerfEventAttr) -> bool
-    ensures { TestsTrailing (is_set first.now.flags.0 18) (is_set attr.now.flags.0 18) result }
+// Whether both or neither of two attributes have SAMPLE_ID_ALL.
+fn sample_id_all_agrees(first: &PerfEventAttr, attr: &PerfEventAttr) -> bool
+    ensures { TestsSampleIdAll (is_set first.now.flags.0 18) (is_set attr.now.flags.0 18) result }
 {
     let first = first.flags.contains(AttrFlags::SAMPLE_ID_ALL);
     let own = attr.flags.contains(AttrFlags::SAMPLE_ID_ALL);
     if first { own } else { !own }
 }
 
-// Looks at each attribute in turn: it has to have IDENTIFIER, and the first one's SAMPLE_ID_ALL.
+// Checks each attribute in order: it needs IDENTIFIER, and the same SAMPLE_ID_ALL as the first attribute.
 fn check_each(
     first: &AttributeDescription,
     attributes: &[AttributeDescription],
 ) -> Result<(), Error>
-    ensures { ChecksEach (attribute_by first.now) (attributes_by attributes.now) result }
+    ensures { ChecksEach (described_attribute first.now) (described_attributes attributes.now) result }
 {
     let mut index = 0;
     'attributes: for attribute in attributes {
@@ -87,7 +87,7 @@ fn check_each(
         if !has_identifier(attr) {
             return Err(Error::NoIdentifierDespiteMultiEvent(index));
         }
-        if !agree_about_trailing(first.attributes(), attr) {
+        if !sample_id_all_agrees(first.attributes(), attr) {
             return Err(Error::InconsistentSampleIdAllWithMultiEvent(index));
         }
         index += 1;
@@ -95,17 +95,17 @@ fn check_each(
     Ok(())
 }
 
-// The rule of attributes: where the identifiers of their records don't stand at the same places, each attribute has to
-// have IDENTIFIER, and all of them SAMPLE_ID_ALL or none. As they would then stand at the same places after all, some
-// attribute breaks the rule.
-pub(crate) fn check_rule(attributes: &[AttributeDescription]) -> Result<(), Error>
-    ensures { ChecksRule (attributes_by attributes.now) result }
+// Checks attribute consistency. If the identifiers of records are at different offsets, each attribute needs IDENTIFIER, and
+// all attributes or none need SAMPLE_ID_ALL. Attributes that meet both conditions have their identifiers at the same
+// offsets, and therefore `check_each` always finds an error here.
+pub(crate) fn check_consistency(attributes: &[AttributeDescription]) -> Result<(), Error>
+    ensures { ChecksConsistency (described_attributes attributes.now) result }
 {
     if attributes.is_empty() {
         return Ok(());
     }
     let first = &attributes[0];
-    if places_agree(first, attributes) {
+    if id_offsets_agree(first, attributes) {
         return Ok(());
     }
     check_each(first, attributes)

@@ -1,23 +1,23 @@
-//! Which attribute lists an identifier.
+//! The lookup of the attribute that lists an identifier.
 ghost use Rattle.std.specs.Prelude.{◌≡◌, ◌++◌, ◌<◌, ℕ, length, map, IfOk, OnOk};
 ghost use Rattle.std.specs.List.Sorted.{IsPermutation};
-ghost use Rattle.linux_perf_data.specs.Described.{attributes_by};
-ghost use Rattle.linux_perf_data.specs.Pairs.{last_listing, pairs_by, rank, AreOrdered, Ascend, IsPlace, TestsLast, TestsPair};
+ghost use Rattle.linux_perf_data.specs.Descriptions.{described_attributes};
+ghost use Rattle.linux_perf_data.specs.IdPairs.{last_index_of_id, id_pairs_of, rank_of_id, AreOrdered, AreAscending, IsInsertionPoint, TestsLastOfId, TestsPairAt};
 
 use perfdata_parts::feature_sections::AttributeDescription;
 use std::alloc::{AllocError, Global};
 use std::collections::BTreeMap;
 
-// Which attribute lists an identifier: those that came late by a map, which is asked first, and those of an opening by
-// pairs of an identifier and an index, ascending, each identifier once.
+// Maps an identifier to the index of the attribute that lists it. `late_ids` contains the identifiers of late attributes,
+// and is searched first. `pairs` contains the identifiers of the opening with their indices, ascending, each identifier once.
 #[derive(Drop)]
 pub(crate) struct IdTable {
-    late: BTreeMap<u64, usize>,
+    late_ids: BTreeMap<u64, usize>,
     pairs: Vec<(u64, usize)>,
-    ghost ascending: { Ascend pairs.items },
+    ghost ascending: { AreAscending pairs.items },
 }
 
-// Appends the pairs of one attribute.
+// Appends the id pairs of one attribute.
 fn push_ids(pairs: &mut Vec<(u64, usize)>, ids: &[u64], index: usize) -> Result<(), AllocError>
     ensures { OnOk result (pairs.new.items ≡ pairs.old.items ++ map (λ id. (id, index)) ids.now) }
 {
@@ -27,12 +27,12 @@ fn push_ids(pairs: &mut Vec<(u64, usize)>, ids: &[u64], index: usize) -> Result<
     Ok(())
 }
 
-// All pairs of the attributes.
-fn pairs_of(
+// The id pairs of all attributes.
+fn id_pairs_of(
     alloc: Global,
     attributes: &[AttributeDescription],
 ) -> Result<Vec<(u64, usize)>, AllocError>
-    ensures { IfOk result (λ v. v.items ≡ pairs_by 0 (attributes_by attributes.now)) }
+    ensures { IfOk result (λ v. v.items ≡ id_pairs_of 0 (described_attributes attributes.now)) }
 {
     let mut pairs = Vec::new(alloc);
     let mut index = 0;
@@ -43,18 +43,18 @@ fn pairs_of(
     Ok(pairs)
 }
 
-// Brings pairs into their order.
-fn order(pairs: &mut Vec<(u64, usize)>)
+// Sorts pairs by identifier, then by index.
+fn sort_pairs(pairs: &mut Vec<(u64, usize)>)
     ensures ordered { AreOrdered pairs.new.items }
     ensures permutation { IsPermutation pairs.old.items pairs.new.items }
 {
     pairs.sort_unstable();
 }
 
-// Whether a pair is the last of its identifier.
-fn is_last(ordered: &[(u64, usize)], at: usize) -> bool
+// Whether the pair at index `at` is the last one of its identifier.
+fn is_last_of_id(ordered: &[(u64, usize)], at: usize) -> bool
     requires { at < length ordered.now }
-    ensures { TestsLast ordered.now at result }
+    ensures { TestsLastOfId ordered.now at result }
 {
     at + 1 == ordered.len() || ordered[at + 1].0 != ordered[at].0
 }
@@ -62,11 +62,11 @@ fn is_last(ordered: &[(u64, usize)], at: usize) -> bool
 // The last pair of each identifier.
 fn last_of_each(alloc: Global, ordered: &[(u64, usize)]) -> Result<Vec<(u64, usize)>, AllocError>
     requires { AreOrdered ordered.now }
-    ensures { IfOk result (λ v. Ascend v.items × ((id : ℕ) → rank id v.items ≡ rank id ordered.now)) }
+    ensures { IfOk result (λ v. AreAscending v.items × ((id : ℕ) → rank_of_id id v.items ≡ rank_of_id id ordered.now)) }
 {
     let mut last = Vec::new(alloc);
     'pairs: for at in 0..ordered.len() {
-        if is_last(ordered, at) {
+        if is_last_of_id(ordered, at) {
             last.push(ordered[at])?;
         }
     }
@@ -74,27 +74,27 @@ fn last_of_each(alloc: Global, ordered: &[(u64, usize)]) -> Result<Vec<(u64, usi
 }
 
 impl IdTable {
-    ghost use Rattle.linux_perf_data.specs.IdTable.{found, found_first, Inserts, InsertsAll};
+    ghost use Rattle.linux_perf_data.specs.IdTable.{id_lookup, id_lookup_in_pairs, InsertsId, InsertsIds};
 
-    // The table of what these attributes list. An identifier that several list is the last one's.
+    // Builds the table of the identifiers of these attributes. If several list an identifier, it maps to the last one.
     pub(crate) fn new(
         alloc: Global,
         attributes: &[AttributeDescription],
     ) -> Result<IdTable, AllocError>
-        ensures { IfOk result (λ t. (id : ℕ) → found t id ≡ last_listing id 0 (attributes_by attributes.now)) }
+        ensures { IfOk result (λ t. (id : ℕ) → id_lookup t id ≡ last_index_of_id id 0 (described_attributes attributes.now)) }
     {
-        let mut pairs = pairs_of(alloc, attributes)?;
-        order(&mut pairs);
+        let mut pairs = id_pairs_of(alloc, attributes)?;
+        sort_pairs(&mut pairs);
         let pairs = last_of_each(alloc, &pairs)?;
         Ok(IdTable {
-            late: BTreeMap::new(alloc),
+            late_ids: BTreeMap::new(alloc),
             pairs,
         })
     }
 
-    // The place of an identifier, found by halving.
-    fn place_of(&self, id: u64) -> usize
-        ensures { IsPlace self.now.pairs.items id result }
+    // The insertion point of an identifier in `pairs`, by bisection.
+    fn insertion_point(&self, id: u64) -> usize
+        ensures { IsInsertionPoint self.now.pairs.items id result }
     {
         let mut low = 0;
         let mut high = self.pairs.len();
@@ -110,19 +110,19 @@ impl IdTable {
         low
     }
 
-    // Whether an identifier's pair stands at a place.
-    fn stands_at(&self, id: u64, at: usize) -> bool
-        ensures { TestsPair self.now.pairs.items id at result }
+    // Whether the pair at index `at` exists and is that of the identifier.
+    fn is_at(&self, id: u64, at: usize) -> bool
+        ensures { TestsPairAt self.now.pairs.items id at result }
     {
         at < self.pairs.len() && self.pairs[at].0 == id
     }
 
-    // The index that an opening's pairs have of an identifier.
-    fn find_first(&self, id: u64) -> Option<usize>
-        ensures { result ≡ found_first self.now id }
+    // The index of the attribute that lists an identifier, among those of the opening.
+    fn find_in_pairs(&self, id: u64) -> Option<usize>
+        ensures { result ≡ id_lookup_in_pairs self.now id }
     {
-        let at = self.place_of(id);
-        if self.stands_at(id, at) {
+        let at = self.insertion_point(id);
+        if self.is_at(id, at) {
             let (_, index) = self.pairs[at];
             Some(index)
         } else {
@@ -131,28 +131,28 @@ impl IdTable {
     }
 
     // The index of the attribute that lists an identifier.
-    pub(crate) fn find(&self, id: u64) -> Option<usize>
-        ensures { result ≡ found self.now id }
+    pub(crate) fn get(&self, id: u64) -> Option<usize>
+        ensures { result ≡ id_lookup self.now id }
     {
-        match self.late.get(&id) {
+        match self.late_ids.get(&id) {
             Some(index) => Some(*index),
-            None => self.find_first(id),
+            None => self.find_in_pairs(id),
         }
     }
 
-    // Has an identifier stand with this index, in place of the one that it had.
+    // Maps an identifier to this index, which replaces its previous one.
     pub(crate) fn insert(&mut self, id: u64, index: usize) -> Result<(), AllocError>
-        ensures { Inserts self.old id index result self.new }
+        ensures { InsertsId self.old id index result self.new }
     {
-        match self.late.insert(id, index) {
+        match self.late_ids.insert(id, index) {
             Ok(_) => Ok(()),
             Err(_) => Err(AllocError),
         }
     }
 
-    // Has identifiers stand with this index, one after the other.
+    // Maps each of the identifiers to this index, in order.
     pub(crate) fn insert_all(&mut self, ids: &[u64], index: usize) -> Result<(), AllocError>
-        ensures { InsertsAll self.old ids.now index result self.new }
+        ensures { InsertsIds self.old ids.now index result self.new }
     {
         'ids: for id in ids {
             match self.insert(*id, index) {

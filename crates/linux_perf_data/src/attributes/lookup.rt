@@ -1,11 +1,13 @@
-//! What an iterator keeps of the attributes: which of them a record belongs to, and where its numbers stand.
+//! The attribute of each record, and the parse info of its records, for an iterator.
 ghost use Rattle.std.specs.Prelude.{◌≡◌, ◌<◌, length, vec_len};
-ghost use Rattle.linux_perf_data.specs.Attribute.{Rule};
-ghost use Rattle.linux_perf_data.specs.Described.{attributes_by, ListsPlaces};
-ghost use Rattle.linux_perf_data.specs.Indices.{TableBelow, CacheBelow};
+ghost use Rattle.linux_perf_data.specs.Attribute.{AreConsistent};
+ghost use Rattle.linux_perf_data.specs.Descriptions.{described_attributes, CollectsParseInfos};
+ghost use Rattle.linux_perf_data.specs.IdBounds.{TableIndicesBelow, CacheIndicesBelow};
 
-use crate::id_table::IdTable;
-use crate::rule::{first_unidentified, has_identifier, unidentified_with};
+use crate::attributes::consistency::{
+    first_without_identifier, first_without_identifier_with, has_identifier,
+};
+use crate::attributes::id_table::IdTable;
 use perfdata_base::attr::PerfEventAttr;
 use perfdata_base::event::RecordType;
 use perfdata_base::place::{IdCache, RecordIdParseInfo, RecordParseInfo};
@@ -14,29 +16,29 @@ use perfdata_parts::error::Error;
 use perfdata_parts::feature_sections::AttributeDescription;
 use std::alloc::Global;
 
-// What an iterator keeps of the attributes: where their records' numbers stand, which of them an identifier tells, and
-// what it takes to see whether one more keeps the rule.
+// The data on attributes that an iterator needs: the parse infos of their records, the lookup of an attribute by an
+// identifier, and what the consistency check of a late attribute uses.
 #[derive(Drop)]
-pub(crate) struct Known {
-    // Those of attribute 0, by which identifiers are read.
-    first: RecordParseInfo,
-    places: Vec<RecordParseInfo>,
+pub(crate) struct AttributeLookup {
+    // The parse info of attribute 0. Identifiers are read with it.
+    first_parse_info: RecordParseInfo,
+    parse_infos: Vec<RecordParseInfo>,
     // The first attribute whose records lack IDENTIFIER.
-    unidentified: Option<usize>,
+    first_without_identifier: Option<usize>,
     table: IdTable,
     cache: IdCache,
-    ghost some: { 0 < vec_len places },
-    ghost table_below: { TableBelow table (vec_len places) },
-    ghost cache_below: { CacheBelow cache (vec_len places) },
+    ghost nonempty: { 0 < vec_len parse_infos },
+    ghost table_indices_below: { TableIndicesBelow table (vec_len parse_infos) },
+    ghost cache_indices_below: { CacheIndicesBelow cache (vec_len parse_infos) },
 }
 
-// The places of the records of each attribute.
-fn places_by(
+// The parse info of the records of each attribute.
+fn collect_parse_infos(
     alloc: Global,
     attributes: &[AttributeDescription],
     endian: Endianness,
 ) -> Result<Vec<RecordParseInfo>, Error>
-    ensures { ListsPlaces endian (attributes_by attributes.now) result }
+    ensures { CollectsParseInfos endian (described_attributes attributes.now) result }
 {
     let mut places = Vec::new(alloc);
     'attributes: for attribute in attributes {
@@ -48,28 +50,28 @@ fn places_by(
     Ok(places)
 }
 
-impl Known {
-    ghost use Rattle.linux_perf_data.specs.Known.{Adds, ChecksMore, KnowsAll, StillKnows, TellsEvent, TellsIndex, places_at};
+impl AttributeLookup {
+    ghost use Rattle.linux_perf_data.specs.AttributeLookup.{AddsAttribute, ChecksNextAttribute, BuildsLookup, KeepsAttributes, ResolvesEvent, ResolvesId, parse_info_at};
 
-    // What is kept of attributes that keep the rule.
+    // Builds the lookup of consistent attributes.
     pub(crate) fn new(
         alloc: Global,
         attributes: &[AttributeDescription],
         endian: Endianness,
-    ) -> Result<Known, Error>
+    ) -> Result<AttributeLookup, Error>
         requires some { 0 < length attributes.now }
-        requires rule { Rule (attributes_by attributes.now) }
-        ensures { KnowsAll endian (attributes_by attributes.now) result }
+        requires rule { AreConsistent (described_attributes attributes.now) }
+        ensures { BuildsLookup endian (described_attributes attributes.now) result }
     {
-        let places = match places_by(alloc, attributes, endian) {
+        let places = match collect_parse_infos(alloc, attributes, endian) {
             Ok(places) => places,
             Err(error) => return Err(error),
         };
         match IdTable::new(alloc, attributes) {
-            Ok(table) => Ok(Known {
-                first: RecordParseInfo::new(attributes[0].attributes(), endian),
-                places,
-                unidentified: first_unidentified(attributes),
+            Ok(table) => Ok(AttributeLookup {
+                first_parse_info: RecordParseInfo::new(attributes[0].attributes(), endian),
+                parse_infos: places,
+                first_without_identifier: first_without_identifier(attributes),
                 table,
                 cache: IdCache::new(),
             }),
@@ -77,42 +79,42 @@ impl Known {
         }
     }
 
-    // The rule of attributes where one more comes. It is kept where that one has the places of those that are known. Else
-    // the first of them that lacks IDENTIFIER breaks it. Where none does, the new one lacks it or, as the places differ,
-    // differs about SAMPLE_ID_ALL.
-    fn check_more(&self, attr: &PerfEventAttr) -> Result<(), Error>
-        ensures { ChecksMore self.now attr.now result }
+    // Checks one more attribute for consistency, in constant time. It is consistent if its identifiers are at the offsets of
+    // the known ones. Otherwise the error names the first known attribute without IDENTIFIER. If all known ones have it, the
+    // error names the new attribute: it lacks IDENTIFIER or, as the offsets differ, its SAMPLE_ID_ALL differs.
+    fn check_next(&self, attr: &PerfEventAttr) -> Result<(), Error>
+        ensures { ChecksNextAttribute self.now attr.now result }
     {
-        if RecordIdParseInfo::new(attr) == self.first.id_parse_info {
+        if RecordIdParseInfo::new(attr) == self.first_parse_info.id_parse_info {
             return Ok(());
         }
-        match self.unidentified {
+        match self.first_without_identifier {
             Some(index) => Err(Error::NoIdentifierDespiteMultiEvent(index)),
             None => {
                 if has_identifier(attr) {
-                    Err(Error::InconsistentSampleIdAllWithMultiEvent(self.places.len()))
+                    Err(Error::InconsistentSampleIdAllWithMultiEvent(self.parse_infos.len()))
                 } else {
-                    Err(Error::NoIdentifierDespiteMultiEvent(self.places.len()))
+                    Err(Error::NoIdentifierDespiteMultiEvent(self.parse_infos.len()))
                 }
             }
         }
     }
 
-    // Takes in one attribute more, with the identifiers of its records. After an error it isn't to be used.
+    // Adds one more attribute, with the identifiers of its records. The lookup must not be used after an error.
     pub(crate) fn add(
         &mut self,
         attr: &PerfEventAttr,
         ids: &[u64],
         endian: Endianness,
     ) -> Result<(), Error>
-        ensures { Adds endian self.old (record { attr = attr.now; ids = ids.now }) result self.new }
+        ensures { AddsAttribute endian self.old (record { attr = attr.now; ids = ids.now }) result self.new }
     {
-        match self.check_more(attr) {
+        match self.check_next(attr) {
             Ok(()) => {}
             Err(error) => return Err(error),
         }
-        let index = self.places.len();
-        match self.places.push(RecordParseInfo::new(attr, endian)) {
+        let index = self.parse_infos.len();
+        match self.parse_infos.push(RecordParseInfo::new(attr, endian)) {
             Ok(()) => {}
             Err(_) => return Err(Error::Memory),
         }
@@ -120,22 +122,26 @@ impl Known {
             Ok(()) => {}
             Err(_) => return Err(Error::Memory),
         }
-        self.unidentified = unidentified_with(self.unidentified, attr, index);
+        self.first_without_identifier = first_without_identifier_with(
+            self.first_without_identifier,
+            attr,
+            index,
+        );
         self.cache.clear();
         Ok(())
     }
 
-    // The index that the table has of an identifier, 0 where it has none. The cache is asked first.
-    fn index_of(&mut self, id: u64) -> usize
-        ensures inside { result < vec_len self.old.places }
-        ensures places { (self.new.places ≡ self.old.places) × (self.new.first ≡ self.old.first) }
-        ensures tells { TellsIndex self.old id result }
-        ensures knows { StillKnows self.old self.new }
+    // The index of the attribute that lists an identifier, or 0 if none does. The cache is searched before the table.
+    fn attr_index_by_id(&mut self, id: u64) -> usize
+        ensures index_in_bounds { result < vec_len self.old.parse_infos }
+        ensures same_parse_infos { (self.new.parse_infos ≡ self.old.parse_infos) × (self.new.first_parse_info ≡ self.old.first_parse_info) }
+        ensures tells { ResolvesId self.old id result }
+        ensures keeps_attributes { KeepsAttributes self.old self.new }
     {
         match self.cache.get(id) {
             Some(index) => index,
             None => {
-                let index = self.table.find(id).unwrap_or(0);
+                let index = self.table.get(id).unwrap_or(0);
                 self.cache.put(id, index);
                 index
             }
@@ -143,34 +149,34 @@ impl Known {
     }
 
     // The index of the attribute of a kernel record with this body.
-    pub(crate) fn attribute_of(&mut self, record_type: RecordType, body: &[u8]) -> usize
-        ensures tells { TellsEvent self.old record_type.0 body.now result self.new }
-        ensures knows { StillKnows self.old self.new }
+    pub(crate) fn attr_index_of(&mut self, record_type: RecordType, body: &[u8]) -> usize
+        ensures tells { ResolvesEvent self.old record_type.0 body.now result self.new }
+        ensures keeps_attributes { KeepsAttributes self.old self.new }
     {
-        if self.places.len() == 1 {
+        if self.parse_infos.len() == 1 {
             return 0;
         }
-        let ids = self.first.id_parse_info;
-        match ids.identifier_of(self.first.endian, record_type, body) {
-            Some(id) => self.index_of(id),
+        let ids = self.first_parse_info.id_parse_info;
+        match ids.identifier_of(self.first_parse_info.endian, record_type, body) {
+            Some(id) => self.attr_index_by_id(id),
             None => 0,
         }
     }
 
-    // Where the numbers of the records of the attribute with this index stand.
-    pub(crate) fn places_of(&self, index: usize) -> &RecordParseInfo
-        ensures { result.now ≡ places_at self.now index }
+    // The parse info of the records of the attribute with this index, or that of attribute 0 if the index is out of range.
+    pub(crate) fn parse_info_of(&self, index: usize) -> &RecordParseInfo
+        ensures { result.now ≡ parse_info_at self.now index }
     {
-        match self.places.as_slice().get(index) {
+        match self.parse_infos.as_slice().get(index) {
             Some(places) => places,
-            None => &self.first,
+            None => &self.first_parse_info,
         }
     }
 
-    // How many attributes are known.
-    pub(crate) fn count(&self) -> usize
-        ensures { result ≡ vec_len self.now.places }
+    // The number of attributes in the lookup.
+    pub(crate) fn attribute_count(&self) -> usize
+        ensures { result ≡ vec_len self.now.parse_infos }
     {
-        self.places.len()
+        self.parse_infos.len()
     }
 }

@@ -1,14 +1,14 @@
-//! The opening of a file: header, sections, attributes, and a seek to the data.
-ghost use Rattle.perfdata_base.specs.Source.{PausesOnce};
+//! The opening of a file: header, sections, attributes, and a seek to the data section.
+ghost use Rattle.perfdata_base.specs.Source.{PausesOnlyOnError};
 ghost use Rattle.std.specs.Prelude.{◌≡◌};
 ghost use Rattle.std.specs.Option.{option_map};
-ghost use Rattle.linux_perf_data.specs.AttributeSources.{told_by, ReadsAttributes, ReadsTypes, ReadsMeta, ReadsNamed, ReadsAttrs};
-ghost use Rattle.linux_perf_data.specs.Open.{TellsOrder, ReadsBehind, ReadsFile};
-ghost use Rattle.linux_perf_data.specs.Sections.{data_in};
+ghost use Rattle.linux_perf_data.specs.AttributeSources.{known_sections, ReadsAttributes, ReadsTypesSection, ParsesMetaEventTypes, ReadsSimpleperfSection, ReadsAttrsSection};
+ghost use Rattle.linux_perf_data.specs.FileOpening.{RecognizesMagic, OpensAfterHeader, OpensPerfFile};
+ghost use Rattle.linux_perf_data.specs.FeatureData.{feature_data_of};
 
-use crate::names::read_event_desc;
-use crate::rule::check_rule;
-use crate::sections::{go_to, read_sections};
+use crate::attributes::consistency::check_consistency;
+use crate::attributes::names::read_event_desc;
+use crate::file::feature_data::{read_features, seek_to_offset};
 use byteorder::{BigEndian, LittleEndian};
 use indexmap::IndexMap;
 use perfdata_base::features::{Feature, FeatureSet};
@@ -25,19 +25,19 @@ const LITTLE_MAGIC: [u8; 8] = *b"PERFILE2";
 
 const BIG_MAGIC: [u8; 8] = *b"2ELIFREP";
 
-// What a file says of itself, and where its records are.
+// The metadata of a file, and the size of its data section.
 #[derive(Drop)]
-pub(crate) struct Opening {
+pub(crate) struct FileOpening {
     pub(crate) endian: Endianness,
     pub(crate) features: FeatureSet,
     pub(crate) sections: IndexMap<Feature, Vec<u8>>,
     pub(crate) attributes: Vec<AttributeDescription>,
-    pub(crate) size: u64,
+    pub(crate) data_size: u64,
 }
 
-// The order that a magic value tells.
-pub(crate) fn order_of(magic: [u8; 8]) -> Result<Endianness, Error>
-    ensures { TellsOrder magic result }
+// The byte order of a file or pipe with this magic.
+pub(crate) fn endian_of_magic(magic: [u8; 8]) -> Result<Endianness, Error>
+    ensures { RecognizesMagic magic result }
 {
     if magic == LITTLE_MAGIC {
         return Ok(Endianness::LittleEndian);
@@ -48,9 +48,12 @@ pub(crate) fn order_of(magic: [u8; 8]) -> Result<Endianness, Error>
     Err(Error::UnrecognizedMagicValue(magic))
 }
 
-// The bytes of a feature's section, where the file has it.
-pub(crate) fn section_of(sections: &IndexMap<Feature, Vec<u8>>, feature: Feature) -> Option<&[u8]>
-    ensures { option_map (λ s. s.now) result ≡ data_in sections.now feature.0 }
+// The bytes of a feature's section, if `sections` contains it.
+pub(crate) fn feature_bytes(
+    sections: &IndexMap<Feature, Vec<u8>>,
+    feature: Feature,
+) -> Option<&[u8]>
+    ensures { option_map (λ s. s.now) result ≡ feature_data_of sections.now feature.0 }
 {
     match sections.get(&feature) {
         Some(bytes) => Some(bytes.as_slice()),
@@ -58,7 +61,7 @@ pub(crate) fn section_of(sections: &IndexMap<Feature, Vec<u8>>, feature: Feature
     }
 }
 
-// The attributes of the event types section.
+// Reads the attributes of the event types section.
 fn read_event_types<C: PlacedSource>(
     alloc: Global,
     source: &mut C,
@@ -66,9 +69,9 @@ fn read_event_types<C: PlacedSource>(
     section: &PerfFileSection,
     attr_size: u64,
 ) -> Result<Vec<AttributeDescription>, Error>
-    ensures reads { ReadsTypes endian attr_size section.now (C.seen source.old) result (C.seen source.new) }
-    ensures pauses { PausesOnce (C.seen source.old) result (C.seen source.new) }
-    ensures lent { C.lent source.new ≡ C.lent source.old }
+    ensures reads { ReadsTypesSection endian attr_size section.now (C.state source.old) result (C.state source.new) }
+    ensures pauses { PausesOnlyOnError (C.state source.old) result (C.state source.new) }
+    ensures lent { C.loan source.new ≡ C.loan source.old }
 {
     match endian {
         Endianness::LittleEndian => {
@@ -84,7 +87,7 @@ fn read_event_types<C: PlacedSource>(
     }
 }
 
-// The attributes of the attribute section.
+// Reads the attributes of the attribute section.
 fn read_attr_section<C: PlacedSource>(
     alloc: Global,
     source: &mut C,
@@ -92,9 +95,9 @@ fn read_attr_section<C: PlacedSource>(
     section: &PerfFileSection,
     attr_size: u64,
 ) -> Result<Vec<AttributeDescription>, Error>
-    ensures reads { ReadsAttrs endian attr_size section.now (C.seen source.old) result (C.seen source.new) }
-    ensures pauses { PausesOnce (C.seen source.old) result (C.seen source.new) }
-    ensures lent { C.lent source.new ≡ C.lent source.old }
+    ensures reads { ReadsAttrsSection endian attr_size section.now (C.state source.old) result (C.state source.new) }
+    ensures pauses { PausesOnlyOnError (C.state source.old) result (C.state source.new) }
+    ensures lent { C.loan source.new ≡ C.loan source.old }
 {
     match endian {
         Endianness::LittleEndian => {
@@ -108,9 +111,9 @@ fn read_attr_section<C: PlacedSource>(
     }
 }
 
-// The event types that simpleperf's meta info of these bytes names.
-fn event_types_in(alloc: Global, bytes: &[u8]) -> Result<Vec<SimplePerfEventType>, Error>
-    ensures { ReadsMeta bytes.now result }
+// Parses the event types in simpleperf's meta info.
+fn parse_event_types(alloc: Global, bytes: &[u8]) -> Result<Vec<SimplePerfEventType>, Error>
+    ensures { ParsesMetaEventTypes bytes.now result }
 {
     let map = parse_meta_info_map(alloc, bytes)?;
     match get_event_types(alloc, &map) {
@@ -120,17 +123,17 @@ fn event_types_in(alloc: Global, bytes: &[u8]) -> Result<Vec<SimplePerfEventType
     }
 }
 
-// The attributes of simpleperf's attribute section, named by these event types.
-fn read_named<C: PlacedSource>(
+// Reads the attributes of simpleperf's attribute section, named by these event types.
+fn read_simpleperf_attrs<C: PlacedSource>(
     alloc: Global,
     source: &mut C,
     endian: Endianness,
     header: &PerfHeader,
     types: &[SimplePerfEventType],
 ) -> Result<Vec<AttributeDescription>, Error>
-    ensures reads { ReadsNamed endian header.now.attr_size header.now.attr_section types.now (C.seen source.old) result (C.seen source.new) }
-    ensures pauses { PausesOnce (C.seen source.old) result (C.seen source.new) }
-    ensures lent { C.lent source.new ≡ C.lent source.old }
+    ensures reads { ReadsSimpleperfSection endian header.now.attr_size header.now.attr_section types.now (C.state source.old) result (C.state source.new) }
+    ensures pauses { PausesOnlyOnError (C.state source.old) result (C.state source.new) }
+    ensures lent { C.loan source.new ≡ C.loan source.old }
 {
     let section = &header.attr_section;
     let attr_size = header.attr_size;
@@ -148,7 +151,7 @@ fn read_named<C: PlacedSource>(
     }
 }
 
-// The attributes of a file, from the first of their sources that it has.
+// Reads the attributes of a file from the first section that the file has for them.
 fn read_attributes<C: PlacedSource>(
     alloc: Global,
     source: &mut C,
@@ -157,9 +160,9 @@ fn read_attributes<C: PlacedSource>(
     event_desc: Option<&[u8]>,
     meta_info: Option<&[u8]>,
 ) -> Result<Vec<AttributeDescription>, Error>
-    ensures reads { ReadsAttributes endian header.now (told_by (option_map (λ s. s.now) event_desc.entry) (option_map (λ s. s.now) meta_info.entry)) (C.seen source.old) result (C.seen source.new) }
-    ensures pauses { PausesOnce (C.seen source.old) result (C.seen source.new) }
-    ensures lent { C.lent source.new ≡ C.lent source.old }
+    ensures reads { ReadsAttributes endian header.now (known_sections (option_map (λ s. s.now) event_desc.entry) (option_map (λ s. s.now) meta_info.entry)) (C.state source.old) result (C.state source.new) }
+    ensures pauses { PausesOnlyOnError (C.state source.old) result (C.state source.new) }
+    ensures lent { C.loan source.new ≡ C.loan source.old }
 {
     match event_desc {
         Some(bytes) => return read_event_desc(alloc, endian, bytes),
@@ -170,8 +173,8 @@ fn read_attributes<C: PlacedSource>(
         return read_event_types(alloc, source, endian, section, header.attr_size);
     }
     match meta_info {
-        Some(bytes) => match event_types_in(alloc, bytes) {
-            Ok(types) => read_named(alloc, source, endian, header, &types),
+        Some(bytes) => match parse_event_types(alloc, bytes) {
+            Ok(types) => read_simpleperf_attrs(alloc, source, endian, header, &types),
             Err(error) => Err(error),
         },
         None => {
@@ -181,28 +184,28 @@ fn read_attributes<C: PlacedSource>(
     }
 }
 
-// What stands behind a header of this order. Leaves the source at the first record.
-fn open_behind<C: PlacedSource>(
+// Opens the file with this header and byte order. Leaves the source at the first record.
+fn open_after_header<C: PlacedSource>(
     alloc: Global,
     source: &mut C,
     endian: Endianness,
     header: &PerfHeader,
-) -> Result<Opening, Error>
-    ensures reads { ReadsBehind endian header.now (C.seen source.old) result (C.seen source.new) }
-    ensures pauses { PausesOnce (C.seen source.old) result (C.seen source.new) }
-    ensures lent { C.lent source.new ≡ C.lent source.old }
+) -> Result<FileOpening, Error>
+    ensures reads { OpensAfterHeader endian header.now (C.state source.old) result (C.state source.new) }
+    ensures pauses { PausesOnlyOnError (C.state source.old) result (C.state source.new) }
+    ensures lent { C.loan source.new ≡ C.loan source.old }
 {
     let data = header.data_section;
     let table = match data.offset.checked_add(data.size) {
         Some(table) => table,
         None => return Err(Error::Read(ReadError::FeatureSection)),
     };
-    let sections = match read_sections(alloc, source, endian, &header.features, table) {
+    let sections = match read_features(alloc, source, endian, &header.features, table) {
         Ok(sections) => sections,
         Err(error) => return Err(error),
     };
-    let event_desc = section_of(&sections, Feature::EVENT_DESC);
-    let meta_info = section_of(&sections, Feature::SIMPLEPERF_META_INFO);
+    let event_desc = feature_bytes(&sections, Feature::EVENT_DESC);
+    let meta_info = feature_bytes(&sections, Feature::SIMPLEPERF_META_INFO);
     let attributes = match read_attributes(alloc, source, endian, header, event_desc, meta_info) {
         Ok(attributes) => attributes,
         Err(error) => return Err(error),
@@ -210,35 +213,38 @@ fn open_behind<C: PlacedSource>(
     if attributes.is_empty() {
         return Err(Error::NoAttributes);
     }
-    match check_rule(&attributes) {
+    match check_consistency(&attributes) {
         Ok(()) => {}
         Err(error) => return Err(error),
     }
-    match go_to(source, data.offset) {
+    match seek_to_offset(source, data.offset) {
         Ok(()) => {}
         Err(error) => return Err(error),
     }
-    Ok(Opening {
+    Ok(FileOpening {
         endian,
         features: header.features,
         sections,
         attributes,
-        size: data.size,
+        data_size: data.size,
     })
 }
 
-// What a file says of itself. Leaves the source at the first record.
-pub(crate) fn open<C: PlacedSource>(alloc: Global, source: &mut C) -> Result<Opening, Error>
-    ensures reads { ReadsFile (C.seen source.old) result (C.seen source.new) }
-    ensures pauses { PausesOnce (C.seen source.old) result (C.seen source.new) }
-    ensures lent { C.lent source.new ≡ C.lent source.old }
+// Opens a file: reads its header and all metadata. Leaves the source at the first record.
+pub(crate) fn open_file<C: PlacedSource>(
+    alloc: Global,
+    source: &mut C,
+) -> Result<FileOpening, Error>
+    ensures reads { OpensPerfFile (C.state source.old) result (C.state source.new) }
+    ensures pauses { PausesOnlyOnError (C.state source.old) result (C.state source.new) }
+    ensures lent { C.loan source.new ≡ C.loan source.old }
 {
     let header = match PerfHeader::parse_from::<C>(source) {
         Ok(header) => header,
         Err(error) => return Err(Error::IoError(error)),
     };
-    match order_of(header.magic) {
-        Ok(endian) => open_behind(alloc, source, endian, &header),
+    match endian_of_magic(header.magic) {
+        Ok(endian) => open_after_header(alloc, source, endian, &header),
         Err(error) => Err(error),
     }
 }

@@ -1,12 +1,12 @@
-//! The map of build ids by the keys of their paths.
+//! The map from the keys of paths to build ids.
 ghost use Rattle.std.specs.Prelude.{◌≡◌};
-ghost use Rattle.perfdata_records.specs.BuildId.{build_id_in};
-ghost use Rattle.linux_perf_data.specs.BuildIds.{TakesEntry, KeepsEntry, TellsIds};
+ghost use Rattle.perfdata_records.specs.BuildIdEvent.{build_id_entry_of};
+ghost use Rattle.linux_perf_data.specs.BuildIds.{ReadsFirstEntry, InsertsEntry, ParsesBuildIds};
 
 use byteorder::{BigEndian, LittleEndian};
 use perfdata_base::event::CpuMode;
 use perfdata_base::raw::Endianness;
-use perfdata_base::source::AppendFault;
+use perfdata_base::source::AppendError;
 use perfdata_parts::build_id_event::BuildIdEvent;
 use perfdata_parts::dso_info::DsoInfo;
 use perfdata_parts::dso_key::DsoKey;
@@ -14,13 +14,13 @@ use perfdata_parts::error::Error;
 use std::alloc::Global;
 use std::collections::HashMap;
 
-// The entry at the front of these bytes, which are left behind it.
-fn take_entry(
+// Reads the entry at the start of `bytes`, and leaves the rest after it in `bytes`.
+fn read_entry(
     alloc: Global,
     endian: Endianness,
     bytes: &mut &[u8],
-) -> Result<BuildIdEvent, AppendFault>
-    ensures { TakesEntry endian bytes.old.now result bytes.new.now }
+) -> Result<BuildIdEvent, AppendError>
+    ensures { ReadsFirstEntry endian bytes.old.now result bytes.new.now }
 {
     match endian {
         Endianness::LittleEndian => { BuildIdEvent::read_from::<&[u8], LittleEndian>(alloc, bytes) }
@@ -28,13 +28,13 @@ fn take_entry(
     }
 }
 
-// Gives an entry's key its path and build id, where the path has a key.
-fn keep_entry(
+// Maps the key of an entry's path to the path and the build id, if the path has a key.
+fn insert_entry(
     alloc: Global,
     ids: &mut HashMap<DsoKey, DsoInfo>,
     entry: BuildIdEvent,
 ) -> Result<(), Error>
-    ensures { KeepsEntry ids.old (build_id_in entry) result ids.new }
+    ensures { InsertsEntry ids.old (build_id_entry_of entry) result ids.new }
 {
     let BuildIdEvent {
         header,
@@ -58,23 +58,23 @@ fn keep_entry(
     }
 }
 
-// The build ids that a section tells: for each key those of the last entry with it.
-pub(crate) fn build_ids(
+// The build ids of a section: for each key the path and the build id of the last entry with it.
+pub(crate) fn parse_build_ids(
     alloc: Global,
     endian: Endianness,
     bytes: &[u8],
 ) -> Result<HashMap<DsoKey, DsoInfo>, Error>
-    ensures { TellsIds endian bytes.now result }
+    ensures { ParsesBuildIds endian bytes.now result }
 {
     let mut behind = bytes;
     let mut ids = HashMap::new(alloc);
     'entries: while !behind.is_empty() {
-        let entry = match take_entry(alloc, endian, &mut behind) {
+        let entry = match read_entry(alloc, endian, &mut behind) {
             Ok(entry) => entry,
-            Err(AppendFault::Memory) => return Err(Error::Memory),
-            Err(AppendFault::Source(_)) => return Ok(ids),
+            Err(AppendError::Memory) => return Err(Error::Memory),
+            Err(AppendError::Source(_)) => return Ok(ids),
         };
-        match keep_entry(alloc, &mut ids, entry) {
+        match insert_entry(alloc, &mut ids, entry) {
             Ok(()) => {}
             Err(error) => return Err(error),
         }

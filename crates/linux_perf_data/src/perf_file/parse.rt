@@ -1,21 +1,21 @@
-//! What the bytes of a section tell, without a source.
+//! Parses the bytes of sections, without a source.
 ghost use Rattle.std.specs.Prelude.{◌≡◌, ◌≤◌, length, take, drop};
-ghost use Rattle.perfdata_base.specs.Numbers.{number_in};
-ghost use Rattle.linux_perf_data.specs.Values.{TellsText, TellsTexts, TellsNumber, TellsCpus, TellsTimes, TellsCompression, TellsClock, TellsUnits, TellsTextBefore};
+ghost use Rattle.perfdata_base.specs.Endian.{number_in};
+ghost use Rattle.linux_perf_data.specs.Values.{ParsesStringSection, ParsesStringList, ParsesU64, ParsesNrCpus, ParsesSampleTimes, ParsesCompression, ParsesClockData, ParsesPmuMappings, SplitsString};
 
 use byteorder::{BigEndian, LittleEndian};
-use perfdata_base::order::{read_u32, read_u64};
+use perfdata_base::endian::{read_u32, read_u64};
 use perfdata_base::raw::Endianness;
-use perfdata_parts::bytes::as_error;
+use perfdata_parts::bytes::into_file_error;
 use perfdata_parts::error::Error;
 use perfdata_parts::feature_sections::{
     ClockData, CompressionInfo, NrCpus, PmuMappings, SampleTimeRange, before_nul,
 };
 use std::alloc::Global;
 
-// The text of the string at the front, and what stands behind that.
-fn split_text(endian: Endianness, bytes: &[u8]) -> Result<(&str, &[u8]), Error>
-    ensures { TellsTextBefore endian bytes.now result }
+// The text of the string at the start of `bytes`, and the rest after it.
+fn split_string(endian: Endianness, bytes: &[u8]) -> Result<(&str, &[u8]), Error>
+    ensures { SplitsString endian bytes.now result }
 {
     if bytes.len() < 4 {
         return Err(Error::NotEnoughSpaceForStringLen);
@@ -31,19 +31,23 @@ fn split_text(endian: Endianness, bytes: &[u8]) -> Result<(&str, &[u8]), Error>
     }
 }
 
-// The text of a string's section.
-pub(crate) fn text(endian: Endianness, bytes: &[u8]) -> Result<&str, Error>
-    ensures { TellsText endian bytes.now result }
+// The text of a section that contains one string.
+pub(crate) fn parse_string(endian: Endianness, bytes: &[u8]) -> Result<&str, Error>
+    ensures { ParsesStringSection endian bytes.now result }
 {
-    match split_text(endian, bytes) {
+    match split_string(endian, bytes) {
         Ok((text, _)) => Ok(text),
         Err(error) => Err(error),
     }
 }
 
-// The texts of the section of a list of strings.
-pub(crate) fn texts(alloc: Global, endian: Endianness, bytes: &[u8]) -> Result<Vec<&str>, Error>
-    ensures { TellsTexts endian bytes.now result }
+// The texts of a section that contains a list of strings.
+pub(crate) fn parse_string_list(
+    alloc: Global,
+    endian: Endianness,
+    bytes: &[u8],
+) -> Result<Vec<&str>, Error>
+    ensures { ParsesStringList endian bytes.now result }
 {
     if bytes.len() < 4 {
         return Err(Error::NotEnoughSpaceForStringListLen);
@@ -52,7 +56,7 @@ pub(crate) fn texts(alloc: Global, endian: Endianness, bytes: &[u8]) -> Result<V
     let mut behind = &bytes[4..];
     let mut texts = Vec::new(alloc);
     'texts: for _index in 0..count {
-        let (text, rest) = match split_text(endian, behind) {
+        let (text, rest) = match split_string(endian, behind) {
             Ok(split) => split,
             Err(error) => return Err(error),
         };
@@ -65,9 +69,9 @@ pub(crate) fn texts(alloc: Global, endian: Endianness, bytes: &[u8]) -> Result<V
     Ok(texts)
 }
 
-// The number of a number's section.
-pub(crate) fn number(endian: Endianness, bytes: &[u8]) -> Result<u64, Error>
-    ensures { TellsNumber endian bytes.now result }
+// The number of a section that contains one u64.
+pub(crate) fn parse_u64(endian: Endianness, bytes: &[u8]) -> Result<u64, Error>
+    ensures { ParsesU64 endian bytes.now result }
 {
     if bytes.len() < 8 {
         return Err(Error::FeatureSectionTooSmall);
@@ -75,8 +79,8 @@ pub(crate) fn number(endian: Endianness, bytes: &[u8]) -> Result<u64, Error>
     Ok(read_u64(endian, bytes))
 }
 
-pub(crate) fn nr_cpus(endian: Endianness, bytes: &[u8]) -> Result<NrCpus, Error>
-    ensures { TellsCpus endian bytes.now result }
+pub(crate) fn parse_nr_cpus(endian: Endianness, bytes: &[u8]) -> Result<NrCpus, Error>
+    ensures { ParsesNrCpus endian bytes.now result }
 {
     let parsed = match endian {
         Endianness::LittleEndian => NrCpus::parse::<&[u8], LittleEndian>(bytes),
@@ -88,8 +92,8 @@ pub(crate) fn nr_cpus(endian: Endianness, bytes: &[u8]) -> Result<NrCpus, Error>
     }
 }
 
-pub(crate) fn sample_times(endian: Endianness, bytes: &[u8]) -> Result<SampleTimeRange, Error>
-    ensures { TellsTimes endian bytes.now result }
+pub(crate) fn parse_sample_times(endian: Endianness, bytes: &[u8]) -> Result<SampleTimeRange, Error>
+    ensures { ParsesSampleTimes endian bytes.now result }
 {
     let parsed = match endian {
         Endianness::LittleEndian => SampleTimeRange::parse::<&[u8], LittleEndian>(bytes),
@@ -101,8 +105,8 @@ pub(crate) fn sample_times(endian: Endianness, bytes: &[u8]) -> Result<SampleTim
     }
 }
 
-pub(crate) fn compression(endian: Endianness, bytes: &[u8]) -> Result<CompressionInfo, Error>
-    ensures { TellsCompression endian bytes.now result }
+pub(crate) fn parse_compression(endian: Endianness, bytes: &[u8]) -> Result<CompressionInfo, Error>
+    ensures { ParsesCompression endian bytes.now result }
 {
     let parsed = match endian {
         Endianness::LittleEndian => CompressionInfo::parse::<&[u8], LittleEndian>(bytes),
@@ -114,8 +118,8 @@ pub(crate) fn compression(endian: Endianness, bytes: &[u8]) -> Result<Compressio
     }
 }
 
-pub(crate) fn clock(endian: Endianness, bytes: &[u8]) -> Result<ClockData, Error>
-    ensures { TellsClock endian bytes.now result }
+pub(crate) fn parse_clock_data(endian: Endianness, bytes: &[u8]) -> Result<ClockData, Error>
+    ensures { ParsesClockData endian bytes.now result }
 {
     let parsed = match endian {
         Endianness::LittleEndian => ClockData::parse::<&[u8], LittleEndian>(bytes),
@@ -127,8 +131,12 @@ pub(crate) fn clock(endian: Endianness, bytes: &[u8]) -> Result<ClockData, Error
     }
 }
 
-pub(crate) fn units(alloc: Global, endian: Endianness, bytes: &[u8]) -> Result<PmuMappings, Error>
-    ensures { TellsUnits endian bytes.now result }
+pub(crate) fn parse_pmu_mappings(
+    alloc: Global,
+    endian: Endianness,
+    bytes: &[u8],
+) -> Result<PmuMappings, Error>
+    ensures { ParsesPmuMappings endian bytes.now result }
 {
     let mut source = bytes;
     let read = match endian {
@@ -139,6 +147,6 @@ pub(crate) fn units(alloc: Global, endian: Endianness, bytes: &[u8]) -> Result<P
     };
     match read {
         Ok(units) => Ok(units),
-        Err(fault) => Err(as_error(fault)),
+        Err(fault) => Err(into_file_error(fault)),
     }
 }

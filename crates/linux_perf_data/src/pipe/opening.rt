@@ -1,75 +1,80 @@
-//! The opening of a pipe: its header, and its records of metadata up to the head that ends them.
+//! The opening of a pipe: its header, and its metadata records up to the record header that ends them.
 ghost use Rattle.std.specs.Prelude.{◌≡◌, ◌≤◌, []};
-ghost use Rattle.linux_perf_data.specs.Late.{IsMetadata};
-ghost use Rattle.perfdata_base.specs.Source.{PausesOnce};
-ghost use Rattle.linux_perf_data.specs.Pauses.{PausesTaken, PausesMetadata, PausesOpening};
-ghost use Rattle.linux_perf_data.specs.PipeOpen.{ReadsPipe};
-ghost use Rattle.linux_perf_data.specs.PipeParts.{Finishes, Gathers, OpensBehind, ParsesAttribute, ParsesFeature, ReadsMetadata, TakesBody, TakesNext, GathersRecord, Tells, TellsRefusal, TestsMetadata};
+ghost use Rattle.linux_perf_data.specs.LateMetadata.{IsMetadataType};
+ghost use Rattle.perfdata_base.specs.Source.{PausesOnlyOnError};
+ghost use Rattle.linux_perf_data.specs.Pauses.{PausesOnlyWithoutHeader, PausesOnlyWithoutPendingHeader, PausesOnlyInEndedOpening};
+ghost use Rattle.linux_perf_data.specs.PipeOpening.{OpensPerfPipe};
+ghost use Rattle.linux_perf_data.specs.PipeSteps.{FinishesOpening, AddsRecord, OpensAfterPipeHeader, ParsesAttribute, ParsesFeature, ReadsMetadata, ReadsMetadataBody, ReadsNext, ReadsMetadataRecord, HoldsMetadataOf, ReportsContentsError, TestsMetadataType};
 
-use crate::input::read_eight;
-use crate::names::name_all;
-use crate::opening::{order_of, section_of};
-use crate::piece::{HEAD, end_of, head_in};
-use crate::pipe_told::PipeOpening;
-use crate::rule::check_rule;
+use crate::attributes::consistency::check_consistency;
+use crate::attributes::names::name_attributes;
+use crate::file::opening::{endian_of_magic, feature_bytes};
+use crate::pipe::pipe_opening::PipeOpening;
+use crate::records::framing::{HEADER_SIZE_U16, record_end, record_header_of};
+use crate::records::input::read_header_bytes;
 use byteorder::{BigEndian, LittleEndian};
 use indexmap::IndexMap;
 use perfdata_base::event::PerfEventHeader;
 use perfdata_base::features::{Feature, FeatureSet};
 use perfdata_base::header::PerfPipeHeader;
 use perfdata_base::raw::{Endianness, RawData};
-use perfdata_base::source::{AppendFault, Source, append};
+use perfdata_base::source::{AppendError, Source, append_up_to};
 use perfdata_parts::constants::{PERF_RECORD_HEADER_ATTR, PERF_RECORD_HEADER_FEATURE};
-use perfdata_parts::error::{Error, short};
+use perfdata_parts::error::{Error, unexpected_eof};
 use perfdata_parts::feature_sections::AttributeDescription;
 use perfdata_parts::record::{HeaderAttr, HeaderFeature};
 use std::alloc::Global;
 use std::io;
 use std::io::ErrorKind;
 
-// What records of metadata have told.
+// The metadata of the records that were read so far.
 #[derive(Drop)]
-pub(crate) struct Metadata {
+pub(crate) struct PipeMetadata {
     features: FeatureSet,
     sections: IndexMap<Feature, Vec<u8>>,
     attributes: Vec<AttributeDescription>,
 }
 
-// What a look at the front of a pipe found: a record of metadata, which was taken in and ends here, or the end of those.
+// The next part of a pipe opening: a metadata record, added, with its end offset; or the end of the metadata records, with
+// the record header that ends them, if the pipe has one.
 #[derive(Clone, Copy)]
-pub(crate) enum Next {
-    Taken(u64),
+pub(crate) enum NextInOpening {
+    Record(u64),
     End(Option<[u8; 8]>),
 }
 
 pub(crate) fn is_metadata(record_type: u32) -> bool
-    ensures { TestsMetadata record_type result }
+    ensures { TestsMetadataType record_type result }
 {
     record_type == PERF_RECORD_HEADER_ATTR || record_type == PERF_RECORD_HEADER_FEATURE
 }
 
-// Reads so many bytes in place of those that the body held.
-fn take_body<R: Source>(source: &mut R, body: &mut Vec<u8>, count: usize) -> Result<(), Error>
-    ensures takes { TakesBody (R.seen source.old) count result body.new.items (R.seen source.new) }
-    ensures pauses { PausesOnce (R.seen source.old) result (R.seen source.new) }
-    ensures lent { R.lent source.new ≡ R.lent source.old }
+// Reads `count` bytes into `body`, which replace its previous bytes.
+fn read_metadata_body<R: Source>(
+    source: &mut R,
+    body: &mut Vec<u8>,
+    count: usize,
+) -> Result<(), Error>
+    ensures takes { ReadsMetadataBody (R.state source.old) count result body.new.items (R.state source.new) }
+    ensures pauses { PausesOnlyOnError (R.state source.old) result (R.state source.new) }
+    ensures lent { R.loan source.new ≡ R.loan source.old }
 {
     body.clear();
-    match append(source, body, count) {
+    match append_up_to(source, body, count) {
         Ok(came) => {
             if came < count {
-                return Err(short());
+                return Err(unexpected_eof());
             }
             Ok(())
         }
-        Err(AppendFault::Memory) => Err(Error::Memory),
-        Err(AppendFault::Source(error)) => Err(Error::IoError(error)),
+        Err(AppendError::Memory) => Err(Error::Memory),
+        Err(AppendError::Source(error)) => Err(Error::IoError(error)),
     }
 }
 
-// The error of contents that were refused.
-fn refusal(error: io::Error) -> Error
-    ensures { TellsRefusal error result }
+// Converts the parse error of a metadata body: an allocation failure is `Error::Memory`.
+fn contents_error(error: io::Error) -> Error
+    ensures { ReportsContentsError error result }
 {
     if error.kind() == ErrorKind::OutOfMemory {
         return Error::Memory;
@@ -77,7 +82,7 @@ fn refusal(error: io::Error) -> Error
     Error::IoError(error)
 }
 
-// The attribute in the body of a record of type 64.
+// Parses the attribute in the body of a record of type 64.
 pub(crate) fn parse_attribute(
     alloc: Global,
     endian: Endianness,
@@ -91,11 +96,11 @@ pub(crate) fn parse_attribute(
     };
     match parsed {
         Ok(header) => Ok(header),
-        Err(error) => Err(refusal(error)),
+        Err(error) => Err(contents_error(error)),
     }
 }
 
-// The feature in the body of a record of type 80.
+// Parses the feature in the body of a record of type 80.
 pub(crate) fn parse_feature(
     alloc: Global,
     endian: Endianness,
@@ -110,30 +115,25 @@ pub(crate) fn parse_feature(
     };
     match parsed {
         Ok(header) => Ok(header),
-        Err(error) => Err(refusal(error)),
+        Err(error) => Err(contents_error(error)),
     }
 }
 
-impl Metadata {
-    // Nothing was told yet.
-    fn new(alloc: Global) -> Metadata
-        ensures { (endian : Endianness) → Tells endian [] result }
+impl PipeMetadata {
+    // Empty metadata.
+    fn new(alloc: Global) -> PipeMetadata
+        ensures { (endian : Endianness) → HoldsMetadataOf endian [] result }
     {
-        Metadata {
+        PipeMetadata {
             features: FeatureSet([0; 4]),
             sections: IndexMap::new(alloc),
             attributes: Vec::new(alloc),
         }
     }
 
-    // Puts the attribute of a record of type 64 behind the others.
-    fn gather_attribute(
-        &mut self,
-        alloc: Global,
-        endian: Endianness,
-        body: &[u8],
-    ) -> Result<(), Error>
-        ensures { Gathers endian 64 body.now self.old result self.new }
+    // Appends the attribute of a record of type 64 to the others.
+    fn add_attribute(&mut self, alloc: Global, endian: Endianness, body: &[u8]) -> Result<(), Error>
+        ensures { AddsRecord endian 64 body.now self.old result self.new }
     {
         let header = parse_attribute(alloc, endian, body)?;
         let attribute = AttributeDescription::new(header.attr, None, header.ids);
@@ -143,14 +143,9 @@ impl Metadata {
         }
     }
 
-    // Keeps the data of a record of type 80 in place of those that its feature had.
-    fn gather_feature(
-        &mut self,
-        alloc: Global,
-        endian: Endianness,
-        body: &[u8],
-    ) -> Result<(), Error>
-        ensures { Gathers endian 80 body.now self.old result self.new }
+    // Stores the feature data of a record of type 80, which replace the feature's previous data.
+    fn add_feature(&mut self, alloc: Global, endian: Endianness, body: &[u8]) -> Result<(), Error>
+        ensures { AddsRecord endian 80 body.now self.old result self.new }
     {
         let header = match parse_feature(alloc, endian, body) {
             Ok(header) => header,
@@ -164,117 +159,117 @@ impl Metadata {
         Ok(())
     }
 
-    // Puts what a record of metadata brings to what was told.
-    fn gather(
+    // Adds the attribute or the feature of a metadata record.
+    fn add_record(
         &mut self,
         alloc: Global,
         endian: Endianness,
         record_type: u32,
         body: &[u8],
     ) -> Result<(), Error>
-        requires { IsMetadata record_type }
-        ensures { Gathers endian record_type body.now self.old result self.new }
+        requires { IsMetadataType record_type }
+        ensures { AddsRecord endian record_type body.now self.old result self.new }
     {
         if record_type == PERF_RECORD_HEADER_ATTR {
-            return self.gather_attribute(alloc, endian, body);
+            return self.add_attribute(alloc, endian, body);
         }
-        self.gather_feature(alloc, endian, body)
+        self.add_feature(alloc, endian, body)
     }
 }
 
-// Reads what belongs to the head of a record of metadata, and takes it in. Says where the record ends.
-fn take_record<R: Source>(
+// Reads the body of a metadata record and adds it to `metadata`. Returns the end offset of the record.
+fn read_metadata_record<R: Source>(
     alloc: Global,
     source: &mut R,
     endian: Endianness,
     offset: u64,
     head: PerfEventHeader,
     body: &mut Vec<u8>,
-    metadata: &mut Metadata,
+    metadata: &mut PipeMetadata,
 ) -> Result<u64, Error>
     requires size { 8 ≤ head.size }
-    requires metadata { IsMetadata head.type_ }
-    ensures takes { GathersRecord endian offset head (R.seen source.old) metadata.old result (R.seen source.new) metadata.new }
-    ensures pauses { PausesOnce (R.seen source.old) result (R.seen source.new) }
-    ensures lent { R.lent source.new ≡ R.lent source.old }
+    requires metadata { IsMetadataType head.type_ }
+    ensures takes { ReadsMetadataRecord endian offset head (R.state source.old) metadata.old result (R.state source.new) metadata.new }
+    ensures pauses { PausesOnlyOnError (R.state source.old) result (R.state source.new) }
+    ensures lent { R.loan source.new ≡ R.loan source.old }
 {
-    let end = match end_of(offset, head.size) {
+    let end = match record_end(offset, head.size) {
         Ok(end) => end,
         Err(error) => return Err(error),
     };
-    match take_body(source, body, (head.size - HEAD) as usize) {
+    match read_metadata_body(source, body, (head.size - HEADER_SIZE_U16) as usize) {
         Ok(()) => {}
         Err(error) => return Err(error),
     }
-    match metadata.gather(alloc, endian, head.type_, body.as_slice()) {
+    match metadata.add_record(alloc, endian, head.type_, body.as_slice()) {
         Ok(()) => Ok(end),
         Err(error) => Err(error),
     }
 }
 
-// Takes in the record of metadata at the front, or the head that ends those.
-fn take_next<R: Source>(
+// Reads the next metadata record and adds it to `metadata`, or reads the record header that ends the metadata records.
+fn read_next<R: Source>(
     alloc: Global,
     source: &mut R,
     endian: Endianness,
     offset: u64,
     body: &mut Vec<u8>,
-    metadata: &mut Metadata,
-) -> Result<Next, Error>
-    ensures takes { TakesNext endian offset (R.seen source.old) metadata.old result (R.seen source.new) metadata.new }
-    ensures pauses { PausesTaken (R.seen source.old) result (R.seen source.new) }
-    ensures lent { R.lent source.new ≡ R.lent source.old }
+    metadata: &mut PipeMetadata,
+) -> Result<NextInOpening, Error>
+    ensures takes { ReadsNext endian offset (R.state source.old) metadata.old result (R.state source.new) metadata.new }
+    ensures pauses { PausesOnlyWithoutHeader (R.state source.old) result (R.state source.new) }
+    ensures lent { R.loan source.new ≡ R.loan source.old }
 {
-    let bytes = match read_eight(source) {
+    let bytes = match read_header_bytes(source) {
         Ok(Some(bytes)) => bytes,
-        Ok(None) => return Ok(Next::End(None)),
+        Ok(None) => return Ok(NextInOpening::End(None)),
         Err(error) => return Err(error),
     };
-    let head = head_in(endian, &bytes);
-    if head.size < HEAD {
+    let head = record_header_of(endian, &bytes);
+    if head.size < HEADER_SIZE_U16 {
         return Err(Error::InvalidPerfEventSize);
     }
     if !is_metadata(head.type_) {
-        return Ok(Next::End(Some(bytes)));
+        return Ok(NextInOpening::End(Some(bytes)));
     }
-    match take_record(alloc, source, endian, offset, head, body, metadata) {
-        Ok(end) => Ok(Next::Taken(end)),
+    match read_metadata_record(alloc, source, endian, offset, head, body, metadata) {
+        Ok(end) => Ok(NextInOpening::Record(end)),
         Err(error) => Err(error),
     }
 }
 
-// Takes in all records of metadata at the front, and the head that ends them; none where no whole head is left.
+// Reads all metadata records and the record header that ends them, which is `None` if no whole record header remains.
 fn read_metadata<R: Source>(
     alloc: Global,
     source: &mut R,
     endian: Endianness,
-) -> Result<(Metadata, Option<[u8; 8]>), Error>
-    ensures reads { ReadsMetadata endian (R.seen source.old) result (R.seen source.new) }
-    ensures pauses { PausesMetadata (R.seen source.old) result (R.seen source.new) }
-    ensures lent { R.lent source.new ≡ R.lent source.old }
+) -> Result<(PipeMetadata, Option<[u8; 8]>), Error>
+    ensures reads { ReadsMetadata endian (R.state source.old) result (R.state source.new) }
+    ensures pauses { PausesOnlyWithoutPendingHeader (R.state source.old) result (R.state source.new) }
+    ensures lent { R.loan source.new ≡ R.loan source.old }
 {
-    let mut metadata = Metadata::new(alloc);
+    let mut metadata = PipeMetadata::new(alloc);
     let mut body = Vec::new(alloc);
     let mut offset: u64 = 0;
     'records: loop {
-        match take_next(alloc, source, endian, offset, &mut body, &mut metadata) {
-            Ok(Next::Taken(end)) => offset = end,
-            Ok(Next::End(head)) => return Ok((metadata, head)),
+        match read_next(alloc, source, endian, offset, &mut body, &mut metadata) {
+            Ok(NextInOpening::Record(end)) => offset = end,
+            Ok(NextInOpening::End(head)) => return Ok((metadata, head)),
             Err(error) => return Err(error),
         }
     }
 }
 
-// What is made of what records of metadata told, and of the head that ended them.
-fn finish(
+// Builds the opening from the metadata and from the record header that ends the metadata records.
+fn finish_opening(
     alloc: Global,
     endian: Endianness,
-    metadata: Metadata,
+    metadata: PipeMetadata,
     head: Option<[u8; 8]>,
 ) -> Result<PipeOpening, Error>
-    ensures { Finishes endian metadata head result }
+    ensures { FinishesOpening endian metadata head result }
 {
-    let Metadata {
+    let PipeMetadata {
         features,
         sections,
         attributes,
@@ -283,12 +278,12 @@ fn finish(
     if attributes.is_empty() {
         return Err(Error::NoAttributes);
     }
-    let event_desc = section_of(&sections, Feature::EVENT_DESC);
-    let told = match name_all(alloc, endian, event_desc, &mut attributes) {
+    let event_desc = feature_bytes(&sections, Feature::EVENT_DESC);
+    let told = match name_attributes(alloc, endian, event_desc, &mut attributes) {
         Ok(told) => told,
         Err(error) => return Err(error),
     };
-    match check_rule(&attributes) {
+    match check_consistency(&attributes) {
         Ok(()) => {}
         Err(error) => return Err(error),
     }
@@ -297,43 +292,43 @@ fn finish(
         features,
         sections,
         attributes,
-        told,
-        head,
+        name_table: told,
+        pending_header: head,
     })
 }
 
-// What stands behind a header of this order.
-fn open_behind<R: Source>(
+// Opens the pipe after its header, in this byte order.
+fn open_after_header<R: Source>(
     alloc: Global,
     source: &mut R,
     endian: Endianness,
 ) -> Result<PipeOpening, Error>
-    ensures opens { OpensBehind endian (R.seen source.old) result (R.seen source.new) }
-    ensures pauses { PausesOpening (R.seen source.old) result (R.seen source.new) }
-    ensures lent { R.lent source.new ≡ R.lent source.old }
+    ensures opens { OpensAfterPipeHeader endian (R.state source.old) result (R.state source.new) }
+    ensures pauses { PausesOnlyInEndedOpening (R.state source.old) result (R.state source.new) }
+    ensures lent { R.loan source.new ≡ R.loan source.old }
 {
     match read_metadata(alloc, source, endian) {
-        Ok((metadata, head)) => finish(alloc, endian, metadata, head),
+        Ok((metadata, head)) => finish_opening(alloc, endian, metadata, head),
         Err(error) => Err(error),
     }
 }
 
-// What a pipe says of itself. Takes its header, its metadata and the head that ends them, and no byte more.
+// Opens a pipe. Consumes its header, its metadata records and the record header that ends them, and no byte more.
 pub(crate) fn open_pipe<R: Source>(alloc: Global, source: &mut R) -> Result<PipeOpening, Error>
-    ensures reads { ReadsPipe (R.seen source.old) result (R.seen source.new) }
-    ensures pauses { PausesOpening (R.seen source.old) result (R.seen source.new) }
-    ensures lent { R.lent source.new ≡ R.lent source.old }
+    ensures reads { OpensPerfPipe (R.state source.old) result (R.state source.new) }
+    ensures pauses { PausesOnlyInEndedOpening (R.state source.old) result (R.state source.new) }
+    ensures lent { R.loan source.new ≡ R.loan source.old }
 {
-    let (header, whole) = match PerfPipeHeader::parse_front(source) {
+    let (header, whole) = match PerfPipeHeader::parse_with_extra(source) {
         Ok(front) => front,
         Err(error) => return Err(Error::IoError(error)),
     };
-    let endian = match order_of(header.magic) {
+    let endian = match endian_of_magic(header.magic) {
         Ok(endian) => endian,
         Err(error) => return Err(error),
     };
     if !whole {
         return Err(Error::NoAttributes);
     }
-    open_behind(alloc, source, endian)
+    open_after_header(alloc, source, endian)
 }

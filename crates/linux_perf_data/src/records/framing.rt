@@ -1,31 +1,31 @@
-//! The parts of a record at a source: head, body, auxiliary data.
+//! Reads the parts of a record from a source: record header, body, aux data.
 ghost use Rattle.std.specs.Prelude.{◌≡◌, ◌≤◌, []};
-ghost use Rattle.perfdata_base.specs.Event.{head_of};
-ghost use Rattle.perfdata_base.specs.Numbers.{number_in};
-ghost use Rattle.perfdata_base.specs.Source.{PausesOnce};
-ghost use Rattle.linux_perf_data.specs.Input.{TookKept, view_in};
-ghost use Rattle.linux_perf_data.specs.Pauses.{PausesNext, PausesWhole};
-ghost use Rattle.linux_perf_data.specs.Piece.{Checks, PassesBody, ReadsBody, ReadsContent, ReadsHead, ReadsTrace, TestsCompressed};
+ghost use Rattle.perfdata_base.specs.Event.{record_header_of};
+ghost use Rattle.perfdata_base.specs.Endian.{number_in};
+ghost use Rattle.perfdata_base.specs.Source.{PausesOnlyOnError};
+ghost use Rattle.linux_perf_data.specs.Input.{TakesPendingHeader, input_source_state};
+ghost use Rattle.linux_perf_data.specs.Pauses.{PausesOnlyAtEndOrError, PausesOnlyIfTruncated};
+ghost use Rattle.linux_perf_data.specs.RecordFraming.{ChecksRecordEnd, SkipsBody, AppendsExactly, ReadsRecordBody, ReadsRecordHeader, ReadsAuxData, TestsCompressed};
 
-use crate::input::{HEAD_BYTES, Input, take_head};
+use crate::records::input::{HEADER_SIZE, Input, next_header_bytes};
+use perfdata_base::endian::{read_u16, read_u32, read_u64};
 use perfdata_base::event::PerfEventHeader;
-use perfdata_base::order::{read_u16, read_u32, read_u64};
 use perfdata_base::raw::Endianness;
-use perfdata_base::source::{AppendFault, Source, append, pass_over};
+use perfdata_base::source::{AppendError, Source, append_up_to, skip_up_to};
 use perfdata_parts::constants::{
     PERF_RECORD_AUXTRACE, PERF_RECORD_COMPRESSED, PERF_RECORD_COMPRESSED2,
 };
-use perfdata_parts::error::{Error, ReadError, short, unsupported};
+use perfdata_parts::error::{Error, ReadError, unexpected_eof, unsupported};
 
-/// How many bytes a head has.
-pub(crate) const HEAD: u16 = HEAD_BYTES as u16;
+/// The size of a record header in bytes, as a `u16`.
+pub(crate) const HEADER_SIZE_U16: u16 = HEADER_SIZE as u16;
 
-/// How many bytes the body of a record with auxiliary data has at the least.
-const LEAST_TRACE: usize = 40;
+/// The minimum size of the body of an auxtrace record in bytes, without its aux data.
+const AUX_BODY_MIN_SIZE: usize = 40;
 
-// The head of a record that these bytes are.
-pub(crate) fn head_in(endian: Endianness, bytes: &[u8; HEAD_BYTES]) -> PerfEventHeader
-    ensures { result ≡ head_of (number_in endian) bytes.now }
+// Parses a record header.
+pub(crate) fn record_header_of(endian: Endianness, bytes: &[u8; HEADER_SIZE]) -> PerfEventHeader
+    ensures { result ≡ record_header_of (number_in endian) bytes.now }
 {
     PerfEventHeader {
         type_: read_u32(endian, bytes),
@@ -34,29 +34,29 @@ pub(crate) fn head_in(endian: Endianness, bytes: &[u8; HEAD_BYTES]) -> PerfEvent
     }
 }
 
-// The head at the front of the source, or the head that is kept. None where the source has fewer bytes.
-pub(crate) fn read_head<R: Source>(
+// The pending header, or the record header at the position of the source. `None` if the source has fewer bytes.
+pub(crate) fn read_header<R: Source>(
     source: &mut R,
     input: &mut Input,
     endian: Endianness,
 ) -> Result<Option<PerfEventHeader>, Error>
-    ensures kept { TookKept input.old input.new }
-    ensures head { ReadsHead endian (view_in input.old (R.seen source.old)) result (view_in input.new (R.seen source.new)) }
-    ensures pauses { PausesNext (R.seen source.old) result (R.seen source.new) }
-    ensures lent { R.lent source.new ≡ R.lent source.old }
+    ensures pending_header { TakesPendingHeader input.old input.new }
+    ensures header { ReadsRecordHeader endian (input_source_state input.old (R.state source.old)) result (input_source_state input.new (R.state source.new)) }
+    ensures pauses { PausesOnlyAtEndOrError (R.state source.old) result (R.state source.new) }
+    ensures lent { R.loan source.new ≡ R.loan source.old }
 {
-    match take_head(source, input) {
-        Ok(Some(bytes)) => Ok(Some(head_in(endian, &bytes))),
+    match next_header_bytes(source, input) {
+        Ok(Some(bytes)) => Ok(Some(record_header_of(endian, &bytes))),
         Ok(None) => Ok(None),
         Err(error) => Err(error),
     }
 }
 
-// Where a record of this size ends that begins at this offset.
-pub(crate) fn end_of(offset: u64, size: u16) -> Result<u64, Error>
-    ensures { Checks offset size result }
+// The end offset of a record of this size that starts at `offset`.
+pub(crate) fn record_end(offset: u64, size: u16) -> Result<u64, Error>
+    ensures { ChecksRecordEnd offset size result }
 {
-    if size < HEAD {
+    if size < HEADER_SIZE_U16 {
         return Err(Error::InvalidPerfEventSize);
     }
     match offset.checked_add(size as u64) {
@@ -65,13 +65,13 @@ pub(crate) fn end_of(offset: u64, size: u16) -> Result<u64, Error>
     }
 }
 
-// Passes over so many bytes, and keeps none. False where the source has fewer.
-pub(crate) fn pass_body<R: Source>(source: &mut R, count: u64) -> Result<bool, Error>
-    ensures passes { PassesBody (R.seen source.old) count result (R.seen source.new) }
-    ensures pauses { PausesWhole (R.seen source.old) result (R.seen source.new) }
-    ensures lent { R.lent source.new ≡ R.lent source.old }
+// Skips `count` bytes. `false` if the source has fewer.
+pub(crate) fn skip_body<R: Source>(source: &mut R, count: u64) -> Result<bool, Error>
+    ensures skips { SkipsBody (R.state source.old) count result (R.state source.new) }
+    ensures pauses { PausesOnlyIfTruncated (R.state source.old) result (R.state source.new) }
+    ensures lent { R.loan source.new ≡ R.loan source.old }
 {
-    match pass_over(source, count) {
+    match skip_up_to(source, count) {
         Ok(came) => {
             if came < count {
                 return Ok(false);
@@ -82,60 +82,60 @@ pub(crate) fn pass_body<R: Source>(source: &mut R, count: u64) -> Result<bool, E
     }
 }
 
-// Appends so many bytes to what the body holds. False where the source has fewer.
-fn read_body<R: Source>(source: &mut R, body: &mut Vec<u8>, count: usize) -> Result<bool, Error>
-    ensures reads { ReadsBody (R.seen source.old) body.old.items count result body.new.items (R.seen source.new) }
-    ensures pauses { PausesWhole (R.seen source.old) result (R.seen source.new) }
-    ensures lent { R.lent source.new ≡ R.lent source.old }
+// Appends `count` bytes of the source to `body`. `false` if the source has fewer.
+fn append_exact<R: Source>(source: &mut R, body: &mut Vec<u8>, count: usize) -> Result<bool, Error>
+    ensures reads { AppendsExactly (R.state source.old) body.old.items count result body.new.items (R.state source.new) }
+    ensures pauses { PausesOnlyIfTruncated (R.state source.old) result (R.state source.new) }
+    ensures lent { R.loan source.new ≡ R.loan source.old }
 {
-    match append(source, body, count) {
+    match append_up_to(source, body, count) {
         Ok(came) => {
             if came < count {
                 return Ok(false);
             }
             Ok(true)
         }
-        Err(AppendFault::Memory) => Err(Error::Memory),
-        Err(AppendFault::Source(_)) => Err(Error::Read(ReadError::PerfEventData)),
+        Err(AppendError::Memory) => Err(Error::Memory),
+        Err(AppendError::Source(_)) => Err(Error::Read(ReadError::PerfEventData)),
     }
 }
 
-// Whether a type is that of a compressed record.
+// Whether this is the type of a compressed record.
 pub(crate) fn is_compressed(record_type: u32) -> bool
     ensures { TestsCompressed record_type result }
 {
     record_type == PERF_RECORD_COMPRESSED || record_type == PERF_RECORD_COMPRESSED2
 }
 
-// Appends the auxiliary data whose size the body begins with. Says where the record then ends.
-fn read_trace<R: Source>(
+// Appends the aux data to `body`, whose first eight bytes contain their size. Returns the end offset of the record with them.
+fn read_aux_data<R: Source>(
     source: &mut R,
     endian: Endianness,
     body: &mut Vec<u8>,
     end: u64,
 ) -> Result<u64, Error>
-    ensures reads { ReadsTrace endian (R.seen source.old) body.old.items end result body.new.items (R.seen source.new) }
-    ensures pauses { PausesOnce (R.seen source.old) result (R.seen source.new) }
-    ensures lent { R.lent source.new ≡ R.lent source.old }
+    ensures reads { ReadsAuxData endian (R.state source.old) body.old.items end result body.new.items (R.state source.new) }
+    ensures pauses { PausesOnlyOnError (R.state source.old) result (R.state source.new) }
+    ensures lent { R.loan source.new ≡ R.loan source.old }
 {
-    if body.len() < LEAST_TRACE {
-        return Err(short());
+    if body.len() < AUX_BODY_MIN_SIZE {
+        return Err(unexpected_eof());
     }
     let count = read_u64(endian, body.as_slice());
     let whole = match end.checked_add(count) {
         Some(whole) => whole,
         None => return Err(Error::Read(ReadError::PerfEventData)),
     };
-    match read_body(source, body, count as usize) {
+    match append_exact(source, body, count as usize) {
         Ok(true) => Ok(whole),
         Ok(false) => Err(Error::Read(ReadError::PerfEventData)),
         Err(error) => Err(error),
     }
 }
 
-// Reads what belongs to a head that isn't a marker's into an empty body. Says where the record ends; None where the source
-// has less than the head counts.
-pub(crate) fn read_content<R: Source>(
+// Reads the body and the aux data of a record that is no marker into an empty `body`. Returns the end offset of the record,
+// or `None` if the source has fewer bytes than the size in the record header.
+pub(crate) fn read_record_body<R: Source>(
     source: &mut R,
     endian: Endianness,
     head: PerfEventHeader,
@@ -144,11 +144,11 @@ pub(crate) fn read_content<R: Source>(
 ) -> Result<Option<u64>, Error>
     requires size { 8 ≤ head.size }
     requires empty { body.old.items ≡ [] }
-    ensures reads { ReadsContent endian (R.seen source.old) head end result body.new.items (R.seen source.new) }
-    ensures pauses { PausesNext (R.seen source.old) result (R.seen source.new) }
-    ensures lent { R.lent source.new ≡ R.lent source.old }
+    ensures reads { ReadsRecordBody endian (R.state source.old) head end result body.new.items (R.state source.new) }
+    ensures pauses { PausesOnlyAtEndOrError (R.state source.old) result (R.state source.new) }
+    ensures lent { R.loan source.new ≡ R.loan source.old }
 {
-    match read_body(source, body, (head.size - HEAD) as usize) {
+    match append_exact(source, body, (head.size - HEADER_SIZE_U16) as usize) {
         Ok(true) => {}
         Ok(false) => return Ok(None),
         Err(error) => return Err(error),
@@ -159,7 +159,7 @@ pub(crate) fn read_content<R: Source>(
     if head.type_ != PERF_RECORD_AUXTRACE {
         return Ok(Some(end));
     }
-    match read_trace(source, endian, body, end) {
+    match read_aux_data(source, endian, body, end) {
         Ok(whole) => Ok(Some(whole)),
         Err(error) => Err(error),
     }

@@ -1,43 +1,44 @@
-//! Where records stand: in a section of a size, or in a pipe, whose opening kept a head.
+//! The input of an iterator: the data section of a file, or a pipe with a pending header.
 ghost use Rattle.std.specs.Prelude.{◌≡◌, length};
-ghost use Rattle.linux_perf_data.specs.Input.{CutAnswers, TookKept, view_in};
-ghost use Rattle.linux_perf_data.specs.Pauses.{PausesNext};
-ghost use Rattle.linux_perf_data.specs.Piece.{TakesHead};
+ghost use Rattle.linux_perf_data.specs.Input.{AnswersTruncation, TakesPendingHeader, input_source_state};
+ghost use Rattle.linux_perf_data.specs.Pauses.{PausesOnlyAtEndOrError};
+ghost use Rattle.linux_perf_data.specs.RecordFraming.{ReadsHeaderBytes};
 
 use perfdata_base::event::PerfEventHeader;
 use perfdata_base::source::{Source, fill};
 use perfdata_parts::error::Error;
 
-/// How many bytes a head has.
-pub(crate) const HEAD_BYTES: usize = 8;
+/// The size of a record header in bytes.
+pub(crate) const HEADER_SIZE: usize = 8;
 
-// What an iterator reads.
 #[derive(Clone, Copy)]
 pub(crate) enum Input {
-    // A file's section of so many bytes.
+    // The data section of a file, with its size in bytes.
     Section(u64),
-    // A pipe, with the head that its opening read and kept, until that is taken.
-    Pipe(Option<[u8; HEAD_BYTES]>),
+    // A pipe, with the record header that its opening read ahead, until that header is consumed.
+    Pipe(Option<[u8; HEADER_SIZE]>),
 }
 
-// A head's bytes are eight.
-fn whole_head(bytes: [u8; HEAD_BYTES]) -> [u8; HEAD_BYTES]
+// The same bytes, with their length as a fact for the prover.
+fn header_of_eight(bytes: [u8; HEADER_SIZE]) -> [u8; HEADER_SIZE]
     ensures same { result ≡ bytes }
     ensures long { length result ≡ 8 }
 {
     bytes
 }
 
-// The source's next eight bytes. None where it has fewer.
-pub(crate) fn read_eight<R: Source>(source: &mut R) -> Result<Option<[u8; HEAD_BYTES]>, Error>
-    ensures takes { TakesHead (R.seen source.old) result (R.seen source.new) }
-    ensures pauses { PausesNext (R.seen source.old) result (R.seen source.new) }
-    ensures lent { R.lent source.new ≡ R.lent source.old }
+// Reads the next eight bytes of the source. `None` if fewer remain.
+pub(crate) fn read_header_bytes<R: Source>(
+    source: &mut R,
+) -> Result<Option<[u8; HEADER_SIZE]>, Error>
+    ensures takes { ReadsHeaderBytes (R.state source.old) result (R.state source.new) }
+    ensures pauses { PausesOnlyAtEndOrError (R.state source.old) result (R.state source.new) }
+    ensures lent { R.loan source.new ≡ R.loan source.old }
 {
-    let mut bytes = [0u8; HEAD_BYTES];
+    let mut bytes = [0u8; HEADER_SIZE];
     match fill(source, &mut bytes) {
         Ok(came) => {
-            if came < HEAD_BYTES {
+            if came < HEADER_SIZE {
                 return Ok(None);
             }
             Ok(Some(bytes))
@@ -46,29 +47,29 @@ pub(crate) fn read_eight<R: Source>(source: &mut R) -> Result<Option<[u8; HEAD_B
     }
 }
 
-// The bytes of the next head: those that are kept, or the source's. None where it has fewer.
-pub(crate) fn take_head<R: Source>(
+// The bytes of the next record header: the pending header, or the next bytes of the source. `None` if fewer remain.
+pub(crate) fn next_header_bytes<R: Source>(
     source: &mut R,
     input: &mut Input,
-) -> Result<Option<[u8; HEAD_BYTES]>, Error>
-    ensures kept { TookKept input.old input.new }
-    ensures takes { TakesHead (view_in input.old (R.seen source.old)) result (view_in input.new (R.seen source.new)) }
-    ensures pauses { PausesNext (R.seen source.old) result (R.seen source.new) }
-    ensures lent { R.lent source.new ≡ R.lent source.old }
+) -> Result<Option<[u8; HEADER_SIZE]>, Error>
+    ensures pending_header { TakesPendingHeader input.old input.new }
+    ensures takes { ReadsHeaderBytes (input_source_state input.old (R.state source.old)) result (input_source_state input.new (R.state source.new)) }
+    ensures pauses { PausesOnlyAtEndOrError (R.state source.old) result (R.state source.new) }
+    ensures lent { R.loan source.new ≡ R.loan source.old }
 {
     match *input {
         Input::Pipe(Some(bytes)) => {
             *input = Input::Pipe(None);
-            Ok(Some(whole_head(bytes)))
+            Ok(Some(header_of_eight(bytes)))
         }
-        Input::Pipe(None) => read_eight(source),
-        Input::Section(_) => read_eight(source),
+        Input::Pipe(None) => read_header_bytes(source),
+        Input::Section(_) => read_header_bytes(source),
     }
 }
 
-// What is answered where a record is cut: in a pipe the end, in a file this error.
-pub(crate) fn cut(input: Input, error: Error) -> Result<Option<PerfEventHeader>, Error>
-    ensures { CutAnswers input error result }
+// The result for a truncated record: the end in a pipe, this error in a file.
+pub(crate) fn at_truncation(input: Input, error: Error) -> Result<Option<PerfEventHeader>, Error>
+    ensures { AnswersTruncation input error result }
 {
     match input {
         Input::Pipe(_) => Ok(None),

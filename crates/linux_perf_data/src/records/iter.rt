@@ -1,31 +1,34 @@
-//! The record loop.
+//! The iterator over records.
 ghost use Rattle.std.specs.Prelude.{◌≡◌, ◌≤◌, [], IsTrue, IfSome};
 ghost use Rattle.perfdata_base.specs.Raw.{bytes_of};
-ghost use Rattle.linux_perf_data.specs.Pauses.{PausesNext};
+ghost use Rattle.linux_perf_data.specs.Pauses.{PausesOnlyAtEndOrError};
 
-use crate::at_hand::{holds_record, keeps_none};
-use crate::input::{Input, cut};
-use crate::known::Known;
-use crate::late::take_in;
+use crate::attributes::lookup::AttributeLookup;
 use crate::perf_file::PerfFile;
-use crate::piece::{HEAD, end_of, pass_body, read_content, read_head};
+use crate::pipe::late_metadata::apply_metadata;
+use crate::records::buffered::{contains_next_record, has_no_pending_header};
+use crate::records::framing::{
+    HEADER_SIZE_U16, read_header, read_record_body, record_end, skip_body,
+};
+use crate::records::input::{Input, at_truncation};
 use perfdata_base::event::{PerfEventHeader, RawEventRecord, RecordType};
 use perfdata_base::place::RecordParseInfo;
 use perfdata_base::raw::{Endianness, RawData};
 use perfdata_base::source::Source;
 use perfdata_parts::constants::PERF_RECORD_FINISHED_ROUND;
-use perfdata_parts::error::{Error, ReadError, short};
+use perfdata_parts::error::{Error, ReadError, unexpected_eof};
 use perfdata_parts::record::{PerfFileRecord, RawUserRecord, UserRecordType};
 use std::alloc::Global;
 
-/// Where a record stands, and when it was written.
+/// The offset, the round and the time of a record.
 #[derive(Clone, Copy, Debug, PartialEq, Eq)]
 pub struct RecordPlace {
-    /// In nanoseconds of the clock that the recording names. None for a record of a tool, and where the attribute's records have no time.
+    /// The time in nanoseconds of the recording's clock. `None` for a record of a tool, and if the records of the attribute have
+    /// no time.
     pub timestamp: Option<u64>,
-    /// In bytes from the first record.
+    /// The offset in bytes from the first record.
     pub offset: u64,
-    /// How many markers (FINISHED_ROUND) came before the record.
+    /// The number of round markers (FINISHED_ROUND) before the record.
     pub round: u64,
 }
 
@@ -36,41 +39,47 @@ pub(crate) enum Stage {
     Ended,
 }
 
-// Who wrote a record: the kernel, for the attribute with this index, or a tool.
+// The writer of a record: the kernel, for the attribute with this index, or a tool.
 #[derive(Clone, Copy)]
 pub(crate) enum Writer {
     Kernel(usize),
-    Tool(UserRecordType),
+    User(UserRecordType),
 }
 
-// A record that was found, whose body is held.
+// A record without its body, which is in the iterator's buffer.
 #[derive(Clone, Copy)]
-pub(crate) struct Found {
+pub(crate) struct RecordInfo {
     pub(crate) place: RecordPlace,
     pub(crate) record_type: RecordType,
     pub(crate) misc: u16,
     pub(crate) writer: Writer,
 }
 
-impl Found {
-    ghost use Rattle.linux_perf_data.specs.Iter.{handed_of, found_at, index_by, FindsRecord};
-    ghost use Rattle.linux_perf_data.specs.Known.{StillKnows};
+impl RecordInfo {
+    ghost use Rattle.linux_perf_data.specs.Iter.{record_view_of, record_view_at, attr_index_by_writer, IdentifiesRecord};
+    ghost use Rattle.linux_perf_data.specs.AttributeLookup.{KeepsAttributes};
 
-    // The record of this head, with this body, at this place.
-    fn at(known: &mut Known, body: &[u8], offset: u64, round: u64, head: PerfEventHeader) -> Found
-        ensures finds { FindsRecord known.old offset round head body.now result known.new }
-        ensures knows { StillKnows known.old known.new }
+    // Identifies the record with this record header and body, at this offset and in this round.
+    fn identify(
+        known: &mut AttributeLookup,
+        body: &[u8],
+        offset: u64,
+        round: u64,
+        head: PerfEventHeader,
+    ) -> RecordInfo
+        ensures identifies { IdentifiesRecord known.old offset round head body.now result known.new }
+        ensures keeps_attributes { KeepsAttributes known.old known.new }
     {
         let record_type = RecordType(head.type_);
         let (writer, timestamp) = match UserRecordType::try_from(record_type) {
-            Some(user_type) => (Writer::Tool(user_type), None),
+            Some(user_type) => (Writer::User(user_type), None),
             None => {
-                let index = known.attribute_of(record_type, body);
-                let time = known.places_of(index).time_of(record_type, body);
+                let index = known.attr_index_of(record_type, body);
+                let time = known.parse_info_of(index).time_of(record_type, body);
                 (Writer::Kernel(index), time)
             }
         };
-        Found {
+        RecordInfo {
             place: RecordPlace {
                 timestamp,
                 offset,
@@ -82,24 +91,24 @@ impl Found {
         }
     }
 
-    // The index of its attribute; 0 where a tool wrote it.
-    fn index(self) -> usize
-        ensures { result ≡ index_by self.writer }
+    // The index of its attribute, or 0 if a tool wrote the record.
+    fn attr_index(self) -> usize
+        ensures { result ≡ attr_index_by_writer self.writer }
     {
         match self.writer {
             Writer::Kernel(index) => index,
-            Writer::Tool(_) => 0,
+            Writer::User(_) => 0,
         }
     }
 
-    // The record with the places of its attribute, and its body.
-    fn with_body<'a>(
+    // The record with the parse info of its attribute, and its body.
+    fn into_record<'a>(
         self,
         places: RecordParseInfo,
         endian: Endianness,
         body: RawData<'a>,
     ) -> PerfFileRecord<'a>
-        ensures { handed_of self.place result ≡ found_at places self endian (bytes_of body.entry) }
+        ensures { record_view_of self.place result ≡ record_view_at places self endian (bytes_of body.entry) }
     {
         match self.writer {
             Writer::Kernel(index) => PerfFileRecord::EventRecord {
@@ -111,7 +120,7 @@ impl Found {
                     parse_info: places,
                 },
             },
-            Writer::Tool(record_type) => PerfFileRecord::UserRecord(RawUserRecord {
+            Writer::User(record_type) => PerfFileRecord::UserRecord(RawUserRecord {
                 record_type,
                 endian,
                 misc: self.misc,
@@ -121,16 +130,16 @@ impl Found {
     }
 }
 
-/// Hands out the records of a source one by one, in the source's order, over one recycled buffer.
+/// Returns the records of a source one by one, in the order of the source, and reuses one buffer for their bodies.
 ///
-/// It reads nothing ahead: after a record the source stands exactly behind it.
+/// It reads nothing ahead: after a record, the source is positioned directly after that record.
 #[derive(Drop)]
 pub struct PerfRecordIter<R> {
     pub(crate) alloc: Global,
     pub(crate) source: R,
     pub(crate) input: Input,
     pub(crate) endian: Endianness,
-    pub(crate) known: Known,
+    pub(crate) attribute_lookup: AttributeLookup,
     pub(crate) body: Vec<u8>,
     pub(crate) offset: u64,
     pub(crate) round: u64,
@@ -139,28 +148,28 @@ pub struct PerfRecordIter<R> {
 }
 
 impl<R> PerfRecordIter<R> {
-    // An iterator that stands at the first record.
-    pub(crate) fn at_first(
+    // An iterator at the first record.
+    pub(crate) fn new(
         alloc: Global,
         source: R,
         input: Input,
         endian: Endianness,
-        known: Known,
+        known: AttributeLookup,
         stage: Stage,
     ) -> PerfRecordIter<R>
         ensures source { result.source ≡ source }
         ensures input { result.input ≡ input }
         ensures order { result.endian ≡ endian }
-        ensures known { result.known ≡ known }
+        ensures attribute_lookup { result.attribute_lookup ≡ known }
         ensures stage { result.stage ≡ stage }
-        ensures first { (result.offset ≡ 0) × (result.round ≡ 0) }
+        ensures starts_at_zero { (result.offset ≡ 0) × (result.round ≡ 0) }
     {
         PerfRecordIter {
             alloc,
             source,
             input,
             endian,
-            known,
+            attribute_lookup: known,
             body: Vec::new(alloc),
             offset: 0,
             round: 0,
@@ -170,15 +179,15 @@ impl<R> PerfRecordIter<R> {
 }
 
 impl<R: Source> PerfRecordIter<R> {
-    ghost use Rattle.linux_perf_data.specs.AtHand.{IsOver, ShowsRecord, TellsAtHand};
-    ghost use Rattle.linux_perf_data.specs.Iter.{NextPiece, MayBegin, TakesRecord, Advances, Nexts, bound_of, view};
+    ghost use Rattle.linux_perf_data.specs.BufferedRecord.{IsFinished, ContainsNextRecord, TestsNextBuffered};
+    ghost use Rattle.linux_perf_data.specs.Iter.{ReadsRawRecord, TestsMayStart, ProcessesRecord, Advances, NextRecord, section_size_of, iter_source_state};
     ghost use Rattle.std.specs.Io.BufRead.{Rests};
     ghost use Rattle.std.specs.Borrow.{sem};
-    ghost use Rattle.linux_perf_data.specs.contracts.iter.PerfRecordIter.{the_row};
+    ghost use Rattle.linux_perf_data.specs.contracts.records.iter.PerfRecordIter.{the_row};
 
-    // Whether a record may begin here: in a file the section's end ends the records.
-    fn may_begin(&self) -> bool
-        ensures { MayBegin (bound_of R.seen self.now) self.now.offset result }
+    // Whether a record may start at the current offset. In a file, the records end with the section.
+    fn may_start_record(&self) -> bool
+        ensures { TestsMayStart (section_size_of R.state self.now) self.now.offset result }
     {
         match self.input {
             Input::Section(size) => self.offset < size,
@@ -186,93 +195,105 @@ impl<R: Source> PerfRecordIter<R> {
         }
     }
 
-    /// The source of the records.
+    /// Returns the source of the records.
     pub fn get_ref(&self) -> &R
         ensures { result.now ≡ self.now.source }
     {
         &self.source
     }
 
-    /// Whether the next call of `next_record` has all that it wants of the source at hand, so that it waits for nothing.
+    /// Returns whether all bytes that the next call of `next_record` reads are buffered. That call then doesn't wait.
     ///
-    /// The next record that is handed out then stands whole in what the source shows by [`Source::at_hand`], the markers in
-    /// front of it and its auxiliary data included; or the call reads nothing, since a record was refused, the end was
-    /// answered, or a file's section ends here. Where it answers no the call may wait, and where the next record is refused
-    /// or the input ends. It answers no while the head that a pipe's opening read is still kept.
-    pub fn is_at_hand(&self) -> bool
-        ensures tells { TellsAtHand R.seen self.now result }
-        ensures shown { IsTrue result → ¬ IsOver R.seen self.now → IfSome (view R.seen self.now).bytes (ShowsRecord self.now.endian (bound_of R.seen self.now) self.now.offset) }
+    /// If it returns true, [`Source::buffer`] contains the whole next record, with the markers before it and its aux data; or
+    /// the next call reads nothing, because an earlier call failed, an earlier call returned the end, or the section of a file
+    /// ends at the current offset.
+    ///
+    /// Otherwise it returns false, because the next call may wait, the next bytes are no valid record, or the source ends. It
+    /// also returns false while the record header that the opening of a pipe read ahead is pending.
+    pub fn is_next_buffered(&self) -> bool
+        ensures tells { TestsNextBuffered R.state self.now result }
+        ensures contains_next { IsTrue result → ¬ IsFinished R.state self.now → IfSome (iter_source_state R.state self.now).bytes (ContainsNextRecord self.now.endian (section_size_of R.state self.now) self.now.offset) }
     {
-        let hand = self.source.at_hand();
+        let hand = self.source.buffer();
         match self.stage {
             Stage::Running => {}
             Stage::Failed => return true,
             Stage::Ended => return true,
         }
-        if !self.may_begin() {
+        if !self.may_start_record() {
             return true;
         }
-        if !keeps_none(self.input) {
+        if !has_no_pending_header(self.input) {
             return false;
         }
-        holds_record(self.endian, self.input, self.offset, hand)
+        contains_next_record(self.endian, self.input, self.offset, hand)
     }
 
-    // The piece at the front of the source: a record, whose body is then held, or a marker. None where a pipe ends.
-    fn next_piece(&mut self) -> Result<Option<PerfEventHeader>, Error>
+    // Reads the next raw record: a marker, or a record whose body is then in `self.body`. `None` if a pipe ends.
+    fn next_raw_record(&mut self) -> Result<Option<PerfEventHeader>, Error>
         requires empty { self.old.body.items ≡ [] }
-        ensures piece { NextPiece R.seen self.old result self.new }
-        ensures pauses { PausesNext (R.seen self.old.source) result (R.seen self.new.source) }
-        ensures lent { R.lent self.new.source ≡ R.lent self.old.source }
+        ensures raw_record { ReadsRawRecord R.state self.old result self.new }
+        ensures pauses { PausesOnlyAtEndOrError (R.state self.old.source) result (R.state self.new.source) }
+        ensures lent { R.loan self.new.source ≡ R.loan self.old.source }
     {
-        let head = match read_head(&mut self.source, &mut self.input, self.endian) {
+        let head = match read_header(&mut self.source, &mut self.input, self.endian) {
             Ok(Some(head)) => head,
-            Ok(None) => return cut(self.input, short()),
+            Ok(None) => return at_truncation(self.input, unexpected_eof()),
             Err(error) => return Err(error),
         };
-        let end = match end_of(self.offset, head.size) {
+        let end = match record_end(self.offset, head.size) {
             Ok(end) => end,
             Err(error) => return Err(error),
         };
         if head.type_ == PERF_RECORD_FINISHED_ROUND {
-            match pass_body(&mut self.source, (head.size - HEAD) as u64) {
+            match skip_body(&mut self.source, (head.size - HEADER_SIZE_U16) as u64) {
                 Ok(true) => {}
-                Ok(false) => return cut(self.input, Error::Read(ReadError::PerfEventData)),
+                Ok(false) => return at_truncation(
+                    self.input,
+                    Error::Read(ReadError::PerfEventData),
+                ),
                 Err(error) => return Err(error),
             }
             self.round += 1;
             self.offset = end;
             return Ok(Some(head));
         }
-        match read_content(&mut self.source, self.endian, head, &mut self.body, end) {
+        match read_record_body(&mut self.source, self.endian, head, &mut self.body, end) {
             Ok(Some(whole)) => {
                 self.offset = whole;
                 Ok(Some(head))
             }
-            Ok(None) => cut(self.input, Error::Read(ReadError::PerfEventData)),
+            Ok(None) => at_truncation(self.input, Error::Read(ReadError::PerfEventData)),
             Err(error) => Err(error),
         }
     }
 
-    // The record whose body is held, found by the attributes that came before it. What it brings is then taken in.
-    fn take_record(
+    // Identifies the record whose body is in `self.body` by the attributes before it, and then applies its metadata.
+    fn process_record(
         &mut self,
         file: &mut PerfFile,
         offset: u64,
         round: u64,
         head: PerfEventHeader,
-    ) -> Result<Found, Error>
-        ensures takes { TakesRecord R.seen self.old file.old offset round head result self.new file.new }
-        ensures pauses { R.seen self.new.source ≡ R.seen self.old.source }
-        ensures lent { R.lent self.new.source ≡ R.lent self.old.source }
+    ) -> Result<RecordInfo, Error>
+        ensures takes { ProcessesRecord R.state self.old file.old offset round head result self.new file.new }
+        ensures pauses { R.state self.new.source ≡ R.state self.old.source }
+        ensures lent { R.loan self.new.source ≡ R.loan self.old.source }
     {
         let body = self.body.as_slice();
-        let found = Found::at(&mut self.known, body, offset, round, head);
+        let found = RecordInfo::identify(&mut self.attribute_lookup, body, offset, round, head);
         match self.input {
             Input::Section(_) => Ok(found),
             Input::Pipe(_) => {
                 let (alloc, endian) = (self.alloc, self.endian);
-                match take_in(alloc, endian, &mut self.known, file, head.type_, body) {
+                match apply_metadata(
+                    alloc,
+                    endian,
+                    &mut self.attribute_lookup,
+                    file,
+                    head.type_,
+                    body,
+                ) {
                     Ok(()) => Ok(found),
                     Err(error) => Err(error),
                 }
@@ -280,11 +301,11 @@ impl<R: Source> PerfRecordIter<R> {
         }
     }
 
-    // Goes to the next record, whose body is then held.
-    fn advance(&mut self, file: &mut PerfFile) -> Result<Option<Found>, Error>
-        ensures advances { Advances R.seen self.old file.old result self.new file.new }
-        ensures pauses { PausesNext (R.seen self.old.source) result (R.seen self.new.source) }
-        ensures lent { R.lent self.new.source ≡ R.lent self.old.source }
+    // Reads up to the end of the next record, whose body is then in `self.body`.
+    fn advance(&mut self, file: &mut PerfFile) -> Result<Option<RecordInfo>, Error>
+        ensures advances { Advances R.state self.old file.old result self.new file.new }
+        ensures pauses { PausesOnlyAtEndOrError (R.state self.old.source) result (R.state self.new.source) }
+        ensures lent { R.loan self.new.source ≡ R.loan self.old.source }
     {
         match self.stage {
             Stage::Running => {}
@@ -293,13 +314,13 @@ impl<R: Source> PerfRecordIter<R> {
         }
         self.body.clear();
         let _offset = self.offset;
-        'pieces: while self.may_begin() {
+        'raw_records: while self.may_start_record() {
             let offset = self.offset;
             let round = self.round;
-            match self.next_piece() {
+            match self.next_raw_record() {
                 Ok(Some(head)) => {
                     if head.type_ != PERF_RECORD_FINISHED_ROUND {
-                        match self.take_record(file, offset, round, head) {
+                        match self.process_record(file, offset, round, head) {
                             Ok(found) => return Ok(Some(found)),
                             Err(error) => {
                                 self.offset = offset;
@@ -323,36 +344,48 @@ impl<R: Source> PerfRecordIter<R> {
         Ok(None)
     }
 
-    /// The next record with its place, lent until the next call; `Ok(None)` at the end of the records.
+    /// Returns the next record with its [`RecordPlace`], or `Ok(None)` at the end of the records.
     ///
-    /// Reads a record's head and what belongs to it, and no byte more. `IoError` of kind `UnexpectedEof` where a head is
-    /// cut off, and where a record with auxiliary data is too short to tell their size; the source's own `IoError` where it
-    /// fails within a head; `InvalidPerfEventSize` where a head tells a size below its own 8 bytes; `Read(PerfEventData)`
-    /// where what belongs to a head ends early or can't be read, or would end past 2^64 - 1; `IoError` of kind `Unsupported`
-    /// at a compressed record (types 81 and 83), whose bytes were read; `Memory` where memory runs out for a body.
+    /// The record borrows the iterator until the next call. The call consumes the markers before the record, its record
+    /// header, its body and its aux data, and no byte more. After the end, each call returns `Ok(None)` and reads nothing.
     ///
-    /// A pipe ends where a head, or what its size counts, is cut off: that is no fault there. A pipe's record of metadata
-    /// (types 64 and 80) is taken into `perf_file` before it is handed out: its attribute stands behind those before, which
-    /// all get their names anew by EVENT_DESC, and its feature's data takes the place of what was there. Where such a record
-    /// can't be taken in, `perf_file` stays as it was: `IoError` of kind `InvalidInput` where the `perf_file` doesn't have as
-    /// many attributes as came, `UnexpectedEof` where the record ends early, `InvalidData` where an attribute tells a size
-    /// below 64; the refusal of `parse_event_desc_section` where EVENT_DESC can't be read; `NoIdentifierDespiteMultiEvent`
-    /// and `InconsistentSampleIdAllWithMultiEvent` where the attributes break their rule; `Memory`.
+    /// A pipe ends if a record header, or a body of the size in the record header, is truncated, which is no error there.
+    /// A metadata record of a pipe (types 64 and 80) is applied to `perf_file` before the call returns it. Its attribute is
+    /// appended to the previous ones, and EVENT_DESC then names all attributes again. The data of its feature replace the
+    /// previous data of that feature.
     ///
-    /// A refusal is answered once with its cause; from then on each call answers [`Error::Failed`] and reads nothing.
-    /// After the end each call answers `Ok(None)` and reads nothing.
+    /// # Errors
+    ///
+    /// An error is returned once with its cause. Each later call returns [`Error::Failed`] and reads nothing.
+    ///
+    /// - `IoError` of kind `UnexpectedEof` if a record header is truncated, or if the body of an auxtrace record has fewer
+    ///   than 40 bytes.
+    /// - `IoError` of the source if it fails within a record header.
+    /// - `InvalidPerfEventSize` if the size in a record header is below 8, the size of the record header.
+    /// - `Read(PerfEventData)` if a body or aux data are truncated or can't be read, or would end past 2^64 - 1.
+    /// - `IoError` of kind `Unsupported` for a compressed record (types 81 and 83), whose bytes are consumed.
+    /// - `Memory` if memory runs out for a body.
+    ///
+    /// If a metadata record can't be applied, the metadata in `perf_file` is unchanged, and the error is:
+    ///
+    /// - `IoError` of kind `InvalidInput` if `perf_file` has another number of attributes than the input so far.
+    /// - `IoError` of kind `UnexpectedEof` if the body of the record ends early.
+    /// - `IoError` of kind `InvalidData` if the size field of an attribute is below 64.
+    /// - The error of `parse_event_desc_section` if EVENT_DESC can't be parsed.
+    /// - `NoIdentifierDespiteMultiEvent` or `InconsistentSampleIdAllWithMultiEvent` if the attributes are inconsistent.
+    /// - `Memory` if memory runs out.
     pub fn next_record(
         &mut self,
         perf_file: &mut PerfFile,
     ) -> Result<Option<(RecordPlace, PerfFileRecord<'_>)>, Error>
-        ensures* after_borrow { sem 𝓛 (Rests (the_row R.row) self.entry (λ new. Nexts R.seen R.lent self.old perf_file.old result new perf_file.new)) }
+        ensures* after_borrow { sem 𝓛 (Rests (the_row R.row) self.entry (λ new. NextRecord R.state R.loan self.old perf_file.old result new perf_file.new)) }
     {
         match self.advance(perf_file) {
             Ok(Some(found)) => {
                 let endian = self.endian;
-                let places = *self.known.places_of(found.index());
+                let places = *self.attribute_lookup.parse_info_of(found.attr_index());
                 let body = RawData::Single(self.body.as_slice());
-                Ok(Some((found.place, found.with_body(places, endian, body))))
+                Ok(Some((found.place, found.into_record(places, endian, body))))
             }
             Ok(None) => Ok(None),
             Err(error) => Err(error),

@@ -1,26 +1,26 @@
-//! The header of a pipe.
+//! The header of a perf.data pipe.
 ghost use Rattle.std.specs.Prelude.{◌≡◌, ◌+◌, ◌≤◌, length};
 ghost use Rattle.perfdata_base.specs.Source.{State};
-ghost use Rattle.perfdata_base.specs.PipeHeader.{pipe_header_of, ParsesPipeHeader, ParsesPipeFront, PausesFront};
+ghost use Rattle.perfdata_base.specs.PipeHeader.{pipe_header_of, ParsesPipeHeader, ParsesPipeHeaderWithExtra, PausesOnlyInExtra};
 
-use crate::order::read_u64;
+use crate::endian::read_u64;
 use crate::raw::Endianness;
-use crate::source::{Source, pass_over, read_all};
+use crate::source::{Source, read_exact, skip_up_to};
 use std::io::Result;
 
-/// The header of a pipe of perf.data (`perf_pipe_file_header`).
+/// The header of a perf.data pipe (`perf_pipe_file_header`).
 #[derive(Clone, Copy, Debug)]
 pub struct PerfPipeHeader {
-    /// `PERFILE2` in the order of the pipe.
+    /// `PERFILE2` in the byte order of the pipe.
     pub magic: [u8; 8],
-    /// How many bytes the header takes, where that is more than 16.
+    /// The size of the header in bytes. A value below 16 means 16.
     pub size: u64,
 }
 
-/// How many bytes of a header have a meaning here.
-const KNOWN: usize = 16;
+/// The number of header bytes that are parsed.
+const KNOWN_SIZE: usize = 16;
 
-// The header that these bytes describe, in the order that its magic tells.
+// Parses a header in the byte order of its magic.
 fn parse_header(bytes: &[u8]) -> PerfPipeHeader
     requires { length bytes.now ≡ 16 }
     ensures { result ≡ pipe_header_of bytes.now }
@@ -39,46 +39,46 @@ fn parse_header(bytes: &[u8]) -> PerfPipeHeader
 }
 
 impl PerfPipeHeader {
-    /// The header at the front of a source, and whether all the bytes came that it says it has.
+    /// Parses a pipe header from a source, and returns it with whether all bytes of its size were read.
     ///
-    /// Its size is little-endian where the magic's first byte is `P`, else big-endian. Where it says that it has more
-    /// than 16 bytes, those behind them are read away. An `UnexpectedEof` error where fewer than 16 bytes come, and the
-    /// source's own where it fails.
-    pub fn parse_front<R: Source>(source: &mut R) -> Result<(PerfPipeHeader, bool)>
-        ensures parses { ParsesPipeFront (R.seen source.old) result (R.seen source.new) }
-        ensures pauses { PausesFront (R.seen source.old) result (R.seen source.new) }
-        ensures lent { R.lent source.new ≡ R.lent source.old }
+    /// Its size is little-endian if the first byte of the magic is `P`, else big-endian. If its size is more than 16
+    /// bytes, the bytes after these are read and discarded. It fails with `UnexpectedEof` if fewer than 16 bytes are
+    /// read, and with the source's error if the source fails.
+    pub fn parse_with_extra<R: Source>(source: &mut R) -> Result<(PerfPipeHeader, bool)>
+        ensures parses { ParsesPipeHeaderWithExtra (R.state source.old) result (R.state source.new) }
+        ensures pauses { PausesOnlyInExtra (R.state source.old) result (R.state source.new) }
+        ensures same_loan { R.loan source.new ≡ R.loan source.old }
     {
-        let mut bytes = [0u8; KNOWN];
-        match read_all(source, &mut bytes) {
+        let mut bytes = [0u8; KNOWN_SIZE];
+        match read_exact(source, &mut bytes) {
             Ok(()) => {}
             Err(error) => return Err(error),
         }
         let header = parse_header(&bytes);
-        let extra = header.size.saturating_sub(KNOWN as u64);
-        match pass_over(source, extra) {
+        let extra = header.size.saturating_sub(KNOWN_SIZE as u64);
+        match skip_up_to(source, extra) {
             Ok(passed) => Ok((header, passed == extra)),
             Err(error) => Err(error),
         }
     }
 
-    /// The header at the front of a source, and the source then stands behind it.
+    /// Parses a pipe header from a borrowed source, and leaves the source after it.
     ///
-    /// As by `parse_front`; it is no fault where some of the bytes behind the first 16 are missing.
+    /// It parses as `parse_with_extra` does. Missing bytes after the first 16 are no error.
     pub fn parse_from<R: Source>(source: &mut R) -> Result<PerfPipeHeader>
-        ensures parses { ParsesPipeHeader (R.seen source.old) result (R.seen source.new) }
-        ensures pauses { (R.seen source.new).pauses ≤ (R.seen source.old).pauses + 1 }
-        ensures lent { R.lent source.new ≡ R.lent source.old }
+        ensures parses { ParsesPipeHeader (R.state source.old) result (R.state source.new) }
+        ensures pauses { (R.state source.new).pauses ≤ (R.state source.old).pauses + 1 }
+        ensures same_loan { R.loan source.new ≡ R.loan source.old }
     {
-        match PerfPipeHeader::parse_front(source) {
+        match PerfPipeHeader::parse_with_extra(source) {
             Ok((header, _)) => Ok(header),
             Err(error) => Err(error),
         }
     }
 
-    /// The header at the front of a source, as by `parse_from`.
+    /// Parses a pipe header from a source, as `parse_from` does.
     pub fn parse<R: Source + Drop>(mut r: R) -> Result<PerfPipeHeader>
-        ensures { (left : State) × ParsesPipeHeader (R.seen r) result left }
+        ensures { (left : State) × ParsesPipeHeader (R.state r) result left }
     {
         PerfPipeHeader::parse_from(&mut r)
     }

@@ -1,40 +1,40 @@
-//! A cache of identifiers in front of a look-up.
+//! A cache of identifiers that saves lookups.
 ghost use Rattle.std.specs.Prelude.{◌≡◌, ◌≢◌, ℕ, ◌%◌, None, Some};
 
-/// How many pairs are kept at most.
+/// The maximum number of pairs.
 const SLOTS: u64 = 64;
 
-/// An identifier, and the index of its attribute.
+/// An identifier and the index of its attribute.
 #[derive(Clone, Copy)]
 struct Pair {
     id: u64,
     index: usize,
 }
 
-/// The indices that were told of identifiers last: a map of at most 64 pairs that takes no memory of its own.
+/// The attribute indices of recent identifiers: a map of at most 64 pairs that allocates no memory.
 ///
-/// Identifiers that leave the same rest when divided by 64 share a slot, and the last of them that was put is in it. A
-/// slot that holds none answers for no identifier.
+/// Identifiers with the same remainder modulo 64 share a slot, which contains the last of them that was put. An empty
+/// slot matches no identifier.
 #[derive(Drop)]
 pub struct IdCache {
     slots: [Option<Pair>; SLOTS as usize],
 }
 
 impl IdCache {
-    ghost use Rattle.perfdata_base.specs.IdCache.{cached};
+    ghost use Rattle.perfdata_base.specs.IdCache.{cached_index};
 
-    /// A cache of no pair.
+    /// Makes an empty cache.
     pub fn new() -> IdCache
-        ensures { (id : ℕ) → cached result id ≡ None }
+        ensures { (id : ℕ) → cached_index result id ≡ None }
     {
         IdCache {
             slots: [None; SLOTS as usize],
         }
     }
 
-    /// The index that was put last of those of the identifiers in its slot, where it was this identifier's.
+    /// Returns the index of `id` if its slot contains `id`, the last identifier put there.
     pub fn get(&self, id: u64) -> Option<usize>
-        ensures { result ≡ cached self.now id }
+        ensures { result ≡ cached_index self.now id }
     {
         let slot = self.slots[(id % SLOTS) as usize];
         match slot {
@@ -49,18 +49,18 @@ impl IdCache {
         }
     }
 
-    /// Puts the index of an identifier, in place of what its slot held.
+    /// Puts the index of an identifier, and replaces the pair in its slot.
     pub fn put(&mut self, id: u64, index: usize)
-        ensures put { cached self.new id ≡ Some index }
-        ensures gone { (other : ℕ) → other ≢ id → other % 64 ≡ id % 64 → cached self.new other ≡ None }
-        ensures kept { (other : ℕ) → other % 64 ≢ id % 64 → cached self.new other ≡ cached self.old other }
+        ensures stored { cached_index self.new id ≡ Some index }
+        ensures evicted { (other : ℕ) → other ≢ id → other % 64 ≡ id % 64 → cached_index self.new other ≡ None }
+        ensures others { (other : ℕ) → other % 64 ≢ id % 64 → cached_index self.new other ≡ cached_index self.old other }
     {
         self.slots[(id % SLOTS) as usize] = Some(Pair { id, index });
     }
 
-    /// Takes all pairs out.
+    /// Removes all pairs.
     pub fn clear(&mut self)
-        ensures { (id : ℕ) → cached self.new id ≡ None }
+        ensures { (id : ℕ) → cached_index self.new id ≡ None }
     {
         self.slots = [None; SLOTS as usize];
     }

@@ -1,21 +1,21 @@
-//! A reader of std behind a buffer that shows what it holds, as a source.
+//! A buffered reader of std as a source that exposes its buffer.
 ghost use Rattle.std.specs.Prelude.{◌≡◌, ◌<◌, length, Ok, refl};
 ghost use Rattle.std.proofs.lemmas.Bool.{false≢true};
-ghost use Rattle.perfdata_base.specs.Source.{untold, CountsRead, CountsSeek, IsSmall, IsWithinReach, Reads, Seeks};
-ghost use Rattle.perfdata_base.specs.AtHand.{IsFront, TakesAtHand, AppendsAtHand};
-ghost use Rattle.perfdata_base.specs.Near.{ReadMoves, SeekTells};
+ghost use Rattle.perfdata_base.specs.Source.{opaque_source, CountsRead, CountsSeek, SizeFitsI64, PositionFitsU64, Reads, Seeks};
+ghost use Rattle.perfdata_base.specs.Buffered.{IsPrefixOfRemaining, ReadsBuffered, AppendsBuffered};
+ghost use Rattle.perfdata_base.specs.RelativeSeek.{ReadUpdatesPosition, SeekUpdatesPosition};
 
-use crate::source::near::{place_after, seek_near};
+use crate::source::relative_seek::{position_after, seek_from};
 use crate::source::{PlacedSource, Source};
 use std::alloc::AllocError;
 use std::io::{BufRead, BufReader, Read, Result, Seek, SeekFrom};
 
-/// A reader of std behind a buffer, as a source that shows what the buffer holds.
+/// A buffered reader of std as a source that exposes the reader's buffer.
 ///
-/// Contracts know none of its bytes. As [`Counted`](crate::source::Counted) it counts the faults and the empty answers that
-/// the reader gives, up to `u64::MAX`: each `Err` of a read or a seek is a fault, whatever its kind. Bytes that stand in the
-/// buffer are taken from there and asked of nobody. Once a seek has told its place, a seek to a place that the buffer holds
-/// stays inside it, and one to where it already stands is none.
+/// Contracts know none of its bytes. Like [`Counted`](crate::source::Counted), it counts the reader's I/O errors and
+/// empty reads, up to `u64::MAX` each. Each `Err` of a read or a seek counts as an I/O error, whatever its kind.
+/// Buffered bytes are consumed without a read. Once a seek has reported the position, a seek to a target in the buffer
+/// stays inside the buffer, and a seek to the current position doesn't call the reader.
 #[derive(Drop)]
 pub struct CountedBuffer<R> {
     reader: BufReader<R>,
@@ -25,13 +25,13 @@ pub struct CountedBuffer<R> {
 }
 
 impl<R: Read> CountedBuffer<R> {
-    ghost use Rattle.perfdata_base.specs.CountedBuffer.{buffered, in_buffer};
+    ghost use Rattle.perfdata_base.specs.CountedBuffer.{buffered_state, counted_buffer_bytes};
     ghost use Rattle.std.specs.Io.Buffered.{reader_buffer};
 
-    /// The reader as a source that has given no fault and no empty answer yet.
+    /// Makes a source from a reader. Its counts of I/O errors and empty reads are 0.
     pub fn new(reader: BufReader<R>) -> CountedBuffer<R>
-        ensures counts { buffered result ≡ untold 0 0 }
-        ensures held { in_buffer result ≡ reader_buffer reader }
+        ensures counts { buffered_state result ≡ opaque_source 0 0 }
+        ensures buffered { counted_buffer_bytes result ≡ reader_buffer reader }
     {
         CountedBuffer {
             reader,
@@ -43,28 +43,28 @@ impl<R: Read> CountedBuffer<R> {
 }
 
 impl<R: Read> Source for CountedBuffer<R> {
-    ghost use Rattle.perfdata_base.specs.CountedBuffer.{buffered, in_buffer, Draws, DrawsBehind};
+    ghost use Rattle.perfdata_base.specs.CountedBuffer.{buffered_state, counted_buffer_bytes, TakesFromBuffer, AppendsFromBuffer};
 
-    ghost seen = { buffered };
+    ghost state = { buffered_state };
 
-    ghost lent = { λ _. 0 };
+    ghost loan = { λ _. 0 };
 
-    fn read_front(&mut self, place: &mut [u8]) -> Result<usize>
-        ensures idle { length place.old ≡ 0 → (result ≡ Ok 0) × (buffered self.new ≡ buffered self.old) }
-        ensures reads { 0 < length place.old → Reads (buffered self.old) place.new result (buffered self.new) }
-        ensures counts { CountsRead (buffered self.old) result (buffered self.new) }
-        ensures place { 0 < length place.old → ReadMoves self.old.place result self.new.place }
-        ensures stands { length place.old ≡ 0 → self.new.place ≡ self.old.place }
+    fn read_front(&mut self, buf: &mut [u8]) -> Result<usize>
+        ensures idle { length buf.old ≡ 0 → (result ≡ Ok 0) × (buffered_state self.new ≡ buffered_state self.old) }
+        ensures reads { 0 < length buf.old → Reads (buffered_state self.old) buf.new result (buffered_state self.new) }
+        ensures counts { CountsRead (buffered_state self.old) result (buffered_state self.new) }
+        ensures position { 0 < length buf.old → ReadUpdatesPosition self.old.place result self.new.place }
+        ensures position_kept { length buf.old ≡ 0 → self.new.place ≡ self.old.place }
     {
-        if place.is_empty() {
+        if buf.is_empty() {
             return Ok(0);
         }
-        match self.reader.read(place) {
+        match self.reader.read(buf) {
             Ok(came) => {
                 if came == 0 {
                     self.pauses = self.pauses.saturating_add(1);
                 }
-                self.place = place_after(self.place, came);
+                self.place = position_after(self.place, came);
                 Ok(came)
             }
             Err(error) => {
@@ -75,35 +75,35 @@ impl<R: Read> Source for CountedBuffer<R> {
         }
     }
 
-    fn at_hand(&self) -> &[u8]
-        ensures front { IsFront (buffered self.now) result.now }
-        ensures held { result.now ≡ in_buffer self.now }
+    fn buffer(&self) -> &[u8]
+        ensures prefix { IsPrefixOfRemaining (buffered_state self.now) result.now }
+        ensures buffered { result.now ≡ counted_buffer_bytes self.now }
     {
         BufReader::buffer(&self.reader)
     }
 
-    fn take_at_hand(&mut self, place: &mut [u8]) -> bool
-        ensures takes { TakesAtHand (buffered self.old) place.old result place.new (buffered self.new) }
-        ensures draws { Draws self.old place.new result self.new }
+    fn read_buffered(&mut self, buf: &mut [u8]) -> bool
+        ensures reads_buffered { ReadsBuffered (buffered_state self.old) buf.old result buf.new (buffered_state self.new) }
+        ensures takes_from_buffer { TakesFromBuffer self.old buf.new result self.new }
     {
         let held = self.reader.buffer();
-        let size = place.len();
+        let size = buf.len();
         if held.len() < size {
             return false;
         }
-        place.copy_from_slice(&held[..size]);
+        buf.copy_from_slice(&held[..size]);
         self.reader.consume(size);
-        self.place = place_after(self.place, size);
+        self.place = position_after(self.place, size);
         true
     }
 
-    fn append_at_hand(
+    fn append_buffered(
         &mut self,
         buffer: &mut Vec<u8>,
         count: usize,
     ) -> std::result::Result<bool, AllocError>
-        ensures appends { AppendsAtHand (buffered self.old) buffer.old.items count result buffer.new.items (buffered self.new) }
-        ensures draws { DrawsBehind self.old buffer.old.items count result buffer.new.items self.new }
+        ensures appends { AppendsBuffered (buffered_state self.old) buffer.old.items count result buffer.new.items (buffered_state self.new) }
+        ensures takes_from_buffer { AppendsFromBuffer self.old buffer.old.items count result buffer.new.items self.new }
     {
         let held = self.reader.buffer();
         if held.len() < count {
@@ -111,7 +111,7 @@ impl<R: Read> Source for CountedBuffer<R> {
         }
         buffer.extend_from_slice(&held[..count])?;
         self.reader.consume(count);
-        self.place = place_after(self.place, count);
+        self.place = position_after(self.place, count);
         Ok(true)
     }
 
@@ -119,16 +119,16 @@ impl<R: Read> Source for CountedBuffer<R> {
 }
 
 impl<R: Read + Seek> PlacedSource for CountedBuffer<R> {
-    ghost use Rattle.perfdata_base.specs.CountedBuffer.{buffered};
+    ghost use Rattle.perfdata_base.specs.CountedBuffer.{buffered_state};
 
     fn seek_to(&mut self, to: SeekFrom) -> Result<u64>
-        ensures seeks { Seeks (buffered self.old) to result (buffered self.new) }
-        ensures counts { CountsSeek (buffered self.old) result (buffered self.new) }
-        ensures small { IsSmall (buffered self.old) }
-        ensures within_reach { IsWithinReach (buffered self.old) }
-        ensures place { SeekTells result self.new.place }
+        ensures seeks { Seeks (buffered_state self.old) to result (buffered_state self.new) }
+        ensures counts { CountsSeek (buffered_state self.old) result (buffered_state self.new) }
+        ensures size_fits { SizeFitsI64 (buffered_state self.old) }
+        ensures position_fits { PositionFitsU64 (buffered_state self.old) }
+        ensures position { SeekUpdatesPosition result self.new.place }
     {
-        match seek_near(&mut self.reader, self.place, to) {
+        match seek_from(&mut self.reader, self.place, to) {
             Ok(at) => {
                 self.place = Some(at);
                 Ok(at)
@@ -141,5 +141,5 @@ impl<R: Read + Seek> PlacedSource for CountedBuffer<R> {
         }
     }
 
-    ghost placed = { λ _. refl };
+    ghost remaining_from_position = { λ _. refl };
 }

@@ -1,42 +1,42 @@
-//! Seeks of a reader whose place is known.
+//! Seeks of a reader whose position is known.
 ghost use Rattle.std.specs.Prelude.{◌≡◌, ◌+◌, ◌^◌, ◌<◌, ◌≤◌, IfSome, IsSomeAnd};
 ghost use Rattle.std.specs.Io.KnownBytes.{Keeps};
 ghost use Rattle.std.specs.Io.Seek.{IsAtOffset, SeekMoves};
-ghost use Rattle.perfdata_base.specs.Near.{IsOwn, IsWay, IsPlaceAfter};
+ghost use Rattle.perfdata_base.specs.RelativeSeek.{AgreesWithPosition, IsRelativeSeek, IsPositionAfter};
 ghost use Rattle.std.specs.declared.io.SeekFrom.TheVariants.{Start};
 
 use std::io::{Result, Seek, SeekFrom};
 
-/// The last place of a file.
-const LAST: u64 = i64::MAX as u64;
+/// The last position of a file.
+const MAX_POSITION: u64 = i64::MAX as u64;
 
-// From a known place to another: the offset, and where it leads.
+// The offset from a known position to a target, and the target's position.
 #[derive(Clone, Copy)]
-struct Way {
+struct RelativeSeek {
     offset: i64,
-    there: u64,
+    target: u64,
 }
 
-// The way between two places of a file.
-fn way_between(here: u64, there: u64) -> Way
+// The relative seek between two positions of a file.
+fn relative_seek_between(here: u64, there: u64) -> RelativeSeek
     requires here { here ≤ 9223372036854775807 }
-    requires there { there ≤ 9223372036854775807 }
-    ensures { IsWay here (Start there) result.offset result.there }
+    requires target { there ≤ 9223372036854775807 }
+    ensures { IsRelativeSeek here (Start there) result.offset result.target }
 {
     if here <= there {
-        return Way {
+        return RelativeSeek {
             offset: (there - here) as i64,
-            there,
+            target: there,
         };
     }
-    Way {
+    RelativeSeek {
         offset: -((here - there) as i64),
-        there,
+        target: there,
     }
 }
 
-// Where an offset leads. None where there is no such place.
-fn place_at(here: u64, offset: i64) -> Option<u64>
+// The position at an offset from `here`. `None` if it isn't in 0 to `u64::MAX`.
+fn position_at_offset(here: u64, offset: i64) -> Option<u64>
     ensures { IfSome result (IsAtOffset here offset) }
 {
     let size = offset.unsigned_abs();
@@ -46,10 +46,10 @@ fn place_at(here: u64, offset: i64) -> Option<u64>
     here.checked_sub(size)
 }
 
-// The way from a known place to where a seek goes. None where only the reader knows where that is, and where a place isn't
-// one of a file.
-fn way_to(place: Option<u64>, to: SeekFrom) -> Option<Way>
-    ensures { IfSome result (λ way. IsSomeAnd place (λ here. IsWay here to way.offset way.there)) }
+// The relative seek from a known position to the target of `to`. `None` if the position is unknown, if only the reader
+// knows the target, or if either isn't a position of a file.
+fn relative_seek_to(place: Option<u64>, to: SeekFrom) -> Option<RelativeSeek>
+    ensures { IfSome result (λ way. IsSomeAnd place (λ here. IsRelativeSeek here to way.offset way.target)) }
 {
     let here = match place {
         Some(here) => here,
@@ -57,21 +57,21 @@ fn way_to(place: Option<u64>, to: SeekFrom) -> Option<Way>
     };
     let there = match to {
         SeekFrom::Start(there) => there,
-        SeekFrom::Current(offset) => match place_at(here, offset) {
+        SeekFrom::Current(offset) => match position_at_offset(here, offset) {
             Some(there) => there,
             None => return None,
         },
         SeekFrom::End(_) => return None,
     };
-    if here > LAST || there > LAST {
+    if here > MAX_POSITION || there > MAX_POSITION {
         return None;
     }
-    Some(way_between(here, there))
+    Some(relative_seek_between(here, there))
 }
 
-/// The place so many bytes on.
-pub(super) fn place_after(place: Option<u64>, count: usize) -> Option<u64>
-    ensures { IsPlaceAfter place count result }
+/// The position `count` bytes after `place`. `None` if it is unknown or exceeds `u64::MAX`.
+pub(super) fn position_after(place: Option<u64>, count: usize) -> Option<u64>
+    ensures { IsPositionAfter place count result }
 {
     match place {
         Some(at) => at.checked_add(count as u64),
@@ -79,17 +79,18 @@ pub(super) fn place_after(place: Option<u64>, count: usize) -> Option<u64>
     }
 }
 
-/// Goes to a place, and says which: by an offset where the reader's own place is known, and with no seek where it stands there.
-pub(super) fn seek_near<R: Seek>(reader: &mut R, place: Option<u64>, to: SeekFrom) -> Result<u64>
-    ensures moves { IsOwn place (R.stream_position reader.old) → SeekMoves (R.stream_position reader.old) (R.stream_position reader.new) (R.stream_bytes reader.old) to result }
+/// Seeks to `to`, and returns the new position. If the position and the target are known, the seek is relative, and a
+/// seek to the current position doesn't call the reader.
+pub(super) fn seek_from<R: Seek>(reader: &mut R, place: Option<u64>, to: SeekFrom) -> Result<u64>
+    ensures position { AgreesWithPosition place (R.stream_position reader.old) → SeekMoves (R.stream_position reader.old) (R.stream_position reader.new) (R.stream_bytes reader.old) to result }
     ensures bytes { Keeps (R.stream_bytes reader.old) (R.stream_bytes reader.new) }
 {
-    match way_to(place, to) {
+    match relative_seek_to(place, to) {
         Some(way) => {
             if way.offset != 0 {
                 reader.seek_relative(way.offset)?;
             }
-            Ok(way.there)
+            Ok(way.target)
         }
         None => Seek::seek(reader, to),
     }

@@ -1,33 +1,33 @@
-//! A source for tests.
+//! A scripted source for tests.
 ghost use Rattle.std.specs.Prelude.{◌≡◌, ◌≤◌, vec_len, refl};
 ghost use Rattle.std.proofs.lemmas.Bool.{false≢true};
 
-use crate::source::{PlacedSource, Source, copy_from};
+use crate::source::{PlacedSource, Source, copy_from_offset};
 use std::io::{Cursor, Error, ErrorKind, Result, SeekFrom};
 
-/// What one read of a [`Script`] does.
+/// The effect of one read of a [`Script`].
 #[derive(Clone, Copy, Debug)]
 pub enum Step {
-    /// Gives at most so many of the shown bytes.
+    /// Returns at most this number of the shown bytes.
     Give(usize),
-    /// Gives none.
+    /// Returns 0 bytes.
     Pause,
-    /// Fails, with an error of this kind.
+    /// Fails with an error of this kind.
     Fault(ErrorKind),
-    /// Shows so many bytes more, at most all, and then does what the following step says.
+    /// Shows this number of bytes more, at most all, and continues with the next step.
     Grow(usize),
 }
 
 // The seeks that fail, by their numbers.
 #[derive(Drop)]
 enum SeekErrors {
-    // With an error of kind `Other`.
+    // Each of these seeks fails with an error of kind `Other`.
     Other(Vec<u64>),
     Kinds(Vec<(u64, ErrorKind)>),
 }
 
 impl SeekErrors {
-    // The kind of error that the seek of this number fails with.
+    // The kind of the error of the seek with this number.
     fn kind_of(&self, number: u64) -> Option<ErrorKind> {
         match self {
             SeekErrors::Other(numbers) => numbers.contains(&number).then_some(ErrorKind::Other),
@@ -43,77 +43,79 @@ impl SeekErrors {
     }
 }
 
-/// A source for tests, of which a front is shown and grows, and whose reads and seeks give, pause and fail as a script
-/// says.
+/// A source for tests that shows a growing prefix of its bytes. A script decides which reads return bytes, pause or
+/// fail, and which seeks fail.
 ///
-/// Each read into a place that isn't empty takes the next step. With no step left a read gives all shown bytes that fit.
+/// Each read into a buffer that isn't empty performs the next step. After the last step a read returns all shown bytes
+/// that fit.
 #[derive(Drop)]
 pub struct Script {
     bytes: Vec<u8>,
     shown: usize,
-    at: u64,
+    position: u64,
     steps: Vec<Step>,
-    taken: usize,
+    next_step: usize,
     seek_errors: SeekErrors,
-    seeks: u64,
+    seek_count: u64,
     faults: u64,
     pauses: u64,
-    ghost within: { shown ≤ vec_len bytes },
+    ghost shown_within_bytes: { shown ≤ vec_len bytes },
 }
 
 impl Script {
-    ghost use Rattle.perfdata_base.specs.Script.{scripted, starts};
+    ghost use Rattle.perfdata_base.specs.Script.{script_state, unread_script_state};
 
-    /// A source of these bytes, of which the first so many are shown, at most all.
+    /// Makes a source of `bytes` that shows the first `shown` of them, at most all.
     ///
-    /// A seek fails, with an error of kind [`ErrorKind::Other`], where its number is among `seek_faults`; the first has
+    /// A seek fails with an error of kind [`ErrorKind::Other`] if its number is in `seek_faults`. The first seek has
     /// number 0.
     pub fn new(bytes: Vec<u8>, shown: usize, steps: Vec<Step>, seek_faults: Vec<u64>) -> Script
-        ensures { scripted result ≡ starts bytes.items }
+        ensures { script_state result ≡ unread_script_state bytes.items }
     {
         Script::failing(bytes, shown, steps, SeekErrors::Other(seek_faults))
     }
 
-    /// A source of these bytes, of which the first so many are shown, at most all.
+    /// Makes a source of `bytes` that shows the first `shown` of them, at most all.
     ///
-    /// A seek fails where its number is in `seek_errors`, with an error of the kind beside the number; the first seek has
-    /// number 0. If a number is there twice, its first kind counts.
+    /// A seek fails if its number is in `seek_errors`, with an error of the kind that is paired with the number. The
+    /// first seek has number 0. If a number is there twice, its first kind counts.
     pub fn with_seek_errors(
         bytes: Vec<u8>,
         shown: usize,
         steps: Vec<Step>,
         seek_errors: Vec<(u64, ErrorKind)>,
     ) -> Script
-        ensures { scripted result ≡ starts bytes.items }
+        ensures { script_state result ≡ unread_script_state bytes.items }
     {
         Script::failing(bytes, shown, steps, SeekErrors::Kinds(seek_errors))
     }
 
-    // A source of these bytes, whose seeks fail as `seek_errors` says.
+    // Makes a source whose seeks fail according to `seek_errors`.
     fn failing(bytes: Vec<u8>, shown: usize, steps: Vec<Step>, seek_errors: SeekErrors) -> Script
-        ensures { scripted result ≡ starts bytes.items }
+        ensures { script_state result ≡ unread_script_state bytes.items }
     {
         let shown = shown.min(bytes.len());
         Script {
             bytes,
             shown,
-            at: 0,
+            position: 0,
             steps,
-            taken: 0,
+            next_step: 0,
             seek_errors,
-            seeks: 0,
+            seek_count: 0,
             faults: 0,
             pauses: 0,
         }
     }
 
-    // Shows what grows before the next read, and says how many bytes that read gives at most, or how it fails.
-    fn next_most(&mut self) -> std::result::Result<usize, ErrorKind>
-        ensures { scripted self.new ≡ scripted self.old }
+    // Performs the `Grow` steps before the next read. Returns the maximum number of bytes of that read, or the kind of
+    // its error.
+    fn next_read_limit(&mut self) -> std::result::Result<usize, ErrorKind>
+        ensures { script_state self.new ≡ script_state self.old }
     {
-        'growths: while self.taken < self.steps.len() {
-            let step = self.steps[self.taken];
-            self.taken += 1;
+        'growths: while self.next_step < self.steps.len() {
+            let step = self.steps[self.next_step];
+            self.next_step += 1;
             match step {
                 Step::Give(most) => return Ok(most),
                 Step::Pause => return Ok(0),
@@ -128,29 +130,29 @@ impl Script {
 }
 
 impl Source for Script {
-    ghost use Rattle.perfdata_base.specs.Script.{scripted};
+    ghost use Rattle.perfdata_base.specs.Script.{script_state};
 
-    ghost seen = { scripted };
+    ghost state = { script_state };
 
-    ghost lent = { λ _. 0 };
+    ghost loan = { λ _. 0 };
 
-    fn read_front(&mut self, place: &mut [u8]) -> Result<usize> {
-        if place.is_empty() {
+    fn read_front(&mut self, buf: &mut [u8]) -> Result<usize> {
+        if buf.is_empty() {
             return Ok(0);
         }
-        let most = match self.next_most() {
-            Ok(most) => most.min(place.len()),
+        let most = match self.next_read_limit() {
+            Ok(most) => most.min(buf.len()),
             Err(kind) => {
                 self.faults = self.faults.saturating_add(1);
                 return Err(Error::from(kind));
             }
         };
-        let count = copy_from(&self.bytes[..self.shown], self.at, &mut place[..most]);
+        let count = copy_from_offset(&self.bytes[..self.shown], self.position, &mut buf[..most]);
         if count == 0 {
             self.pauses = self.pauses.saturating_add(1);
             return Ok(0);
         }
-        self.at += count as u64;
+        self.position += count as u64;
         Ok(count)
     }
 
@@ -159,9 +161,9 @@ impl Source for Script {
 
 impl PlacedSource for Script {
     fn seek_to(&mut self, to: SeekFrom) -> Result<u64> {
-        let at = self.at;
-        let number = self.seeks;
-        self.seeks = self.seeks.saturating_add(1);
+        let at = self.position;
+        let number = self.seek_count;
+        self.seek_count = self.seek_count.saturating_add(1);
         if let Some(kind) = self.seek_errors.kind_of(number) {
             self.faults = self.faults.saturating_add(1);
             return Err(Error::from(kind));
@@ -170,12 +172,12 @@ impl PlacedSource for Script {
         shown.set_position(at);
         match shown.seek_to(to) {
             Ok(at) => {
-                self.at = at;
+                self.position = at;
                 Ok(at)
             }
             Err(error) => Err(error),
         }
     }
 
-    ghost placed = { λ _. refl };
+    ghost remaining_from_position = { λ _. refl };
 }

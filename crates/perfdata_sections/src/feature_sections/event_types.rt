@@ -1,13 +1,13 @@
-//! The section of event types: attributes, and where their ids stand.
+//! The event types section: attributes, and the sections of their ids.
 ghost use Rattle.std.specs.Prelude.{◌≡◌, ◌+◌, ◌*◌, ◌^◌, ◌<◌, length, IfOk, OnOk};
-ghost use Rattle.perfdata_base.specs.Source.{PausesOnce, put_at};
-ghost use Rattle.perfdata_sections.specs.EventTypes.{name_at, ids_end, TellsName, ReadsSectionAt, ReadsEntryAt, ReadsEntries, ReadsIdsOf, ReadsGivenOf, ReadsDescribed};
+ghost use Rattle.perfdata_base.specs.Source.{PausesOnlyOnError, at_offset};
+ghost use Rattle.perfdata_sections.specs.EventTypes.{type_name_at, ids_end, CopiesName, ReadsSectionEntryAt, ReadsEventTypeEntryAt, ReadsEventTypeEntries, ReadsSectionIds, DescribesEntries, ReadsDescriptions};
 
-use crate::bytes::as_error;
+use crate::bytes::into_file_error;
 use crate::error::{Error, ReadError};
 use crate::event_type::SimplePerfEventType;
 use crate::feature_sections::event_ids::read_ids;
-use crate::feature_sections::{AttributeDescription, read_frame_at};
+use crate::feature_sections::{AttributeDescription, read_attr_frame_at};
 use perfdata_base::attr::PerfEventAttr;
 use perfdata_base::raw::FileOrder;
 use perfdata_base::section::PerfFileSection;
@@ -15,25 +15,25 @@ use perfdata_base::source::PlacedSource;
 use std::alloc::Global;
 use std::io::SeekFrom;
 
-/// How many bytes tell where the ids of an event stand.
-const IDS_SECTION: u64 = 16;
+/// The size in bytes of the section entry that locates the ids of an event.
+const IDS_ENTRY_SIZE: u64 = 16;
 
-// An event's attribute, and where its ids stand.
+// An event's attribute, and the section of its ids.
 #[derive(Clone, Copy)]
-pub(crate) struct Entry {
+pub(crate) struct EventTypeEntry {
     attr: PerfEventAttr,
     ids: PerfFileSection,
 }
 
-// The entry of a section at a place.
-fn read_section_at<C: PlacedSource, T: FileOrder>(
+// Reads a section entry at the offset `at`.
+fn read_section_entry_at<C: PlacedSource, T: FileOrder>(
     source: &mut C,
     at: u64,
 ) -> Result<PerfFileSection, Error>
-    ensures reads { ReadsSectionAt T.number_of (C.seen source.old) at result (C.seen source.new) }
-    ensures place { OnOk result ((C.seen source.new).place ≡ put_at (at + 16) (C.seen source.old).place) }
-    ensures pauses { PausesOnce (C.seen source.old) result (C.seen source.new) }
-    ensures lent { C.lent source.new ≡ C.lent source.old }
+    ensures reads { ReadsSectionEntryAt T.number_of (C.state source.old) at result (C.state source.new) }
+    ensures position { OnOk result ((C.state source.new).position ≡ at_offset (at + 16) (C.state source.old).position) }
+    ensures pauses { PausesOnlyOnError (C.state source.old) result (C.state source.new) }
+    ensures same_loan { C.loan source.new ≡ C.loan source.old }
 {
     match source.seek_to(SeekFrom::Start(at)) {
         Ok(_) => {}
@@ -45,44 +45,44 @@ fn read_section_at<C: PlacedSource, T: FileOrder>(
     }
 }
 
-// The entry of an event at a place: a frame, and where its ids stand.
+// Reads the entry of an event at the offset `at`: a frame, and the section entry of its ids.
 fn read_entry_at<C: PlacedSource, T: FileOrder>(
     source: &mut C,
     at: u64,
     attr_size: u64,
-) -> Result<Entry, Error>
+) -> Result<EventTypeEntry, Error>
     requires { at + attr_size < 2 ^ 64 }
-    ensures reads { ReadsEntryAt T.number_of attr_size (C.seen source.old) at result (C.seen source.new) }
-    ensures place { OnOk result ((C.seen source.new).place ≡ put_at (at + attr_size + 16) (C.seen source.old).place) }
-    ensures pauses { PausesOnce (C.seen source.old) result (C.seen source.new) }
-    ensures lent { C.lent source.new ≡ C.lent source.old }
+    ensures reads { ReadsEventTypeEntryAt T.number_of attr_size (C.state source.old) at result (C.state source.new) }
+    ensures position { OnOk result ((C.state source.new).position ≡ at_offset (at + attr_size + 16) (C.state source.old).position) }
+    ensures pauses { PausesOnlyOnError (C.state source.old) result (C.state source.new) }
+    ensures same_loan { C.loan source.new ≡ C.loan source.old }
 {
-    let attr = match read_frame_at::<C, T>(source, at, attr_size) {
+    let attr = match read_attr_frame_at::<C, T>(source, at, attr_size) {
         Ok(attr) => attr,
         Err(error) => return Err(error),
     };
-    match read_section_at::<C, T>(source, at + attr_size) {
-        Ok(ids) => Ok(Entry { attr, ids }),
+    match read_section_entry_at::<C, T>(source, at + attr_size) {
+        Ok(ids) => Ok(EventTypeEntry { attr, ids }),
         Err(error) => Err(error),
     }
 }
 
-// The entries of a section, as many as it has room for.
+// Reads all whole entries of a section.
 fn read_entries<C: PlacedSource, T: FileOrder>(
     alloc: Global,
     source: &mut C,
     section: &PerfFileSection,
     attr_size: u64,
-) -> Result<Vec<Entry>, Error>
+) -> Result<Vec<EventTypeEntry>, Error>
     requires near { section.now.offset + section.now.size < 2 ^ 64 }
     requires step { attr_size + 16 < 2 ^ 64 }
-    ensures reads { ReadsEntries T.number_of attr_size (C.seen source.old) section.now result (C.seen source.new) }
-    ensures place { IfOk result (λ all. 0 < length all.items → (C.seen source.new).place ≡ put_at (section.now.offset + length all.items * (attr_size + 16)) (C.seen source.old).place) }
-    ensures pauses { PausesOnce (C.seen source.old) result (C.seen source.new) }
-    ensures lent { C.lent source.new ≡ C.lent source.old }
+    ensures reads { ReadsEventTypeEntries T.number_of attr_size (C.state source.old) section.now result (C.state source.new) }
+    ensures position { IfOk result (λ all. 0 < length all.items → (C.state source.new).position ≡ at_offset (section.now.offset + length all.items * (attr_size + 16)) (C.state source.old).position) }
+    ensures pauses { PausesOnlyOnError (C.state source.old) result (C.state source.new) }
+    ensures same_loan { C.loan source.new ≡ C.loan source.old }
 {
     let end = section.offset + section.size;
-    let step = attr_size + IDS_SECTION;
+    let step = attr_size + IDS_ENTRY_SIZE;
     let mut all = Vec::new(alloc);
     let mut at = section.offset;
     'entries: while end - at >= step {
@@ -99,16 +99,16 @@ fn read_entries<C: PlacedSource, T: FileOrder>(
     Ok(all)
 }
 
-// The ids that a section holds, as many whole ones as it has room for.
-fn read_ids_of<C: PlacedSource, T: FileOrder>(
+// Reads all whole ids of a section.
+fn read_section_ids<C: PlacedSource, T: FileOrder>(
     alloc: Global,
     source: &mut C,
     section: &PerfFileSection,
 ) -> Result<Vec<u64>, Error>
-    ensures reads { ReadsIdsOf T.number_of (C.seen source.old) section.now result (C.seen source.new) }
-    ensures place { OnOk result ((C.seen source.new).place ≡ put_at (ids_end section.now) (C.seen source.old).place) }
-    ensures pauses { PausesOnce (C.seen source.old) result (C.seen source.new) }
-    ensures lent { C.lent source.new ≡ C.lent source.old }
+    ensures reads { ReadsSectionIds T.number_of (C.state source.old) section.now result (C.state source.new) }
+    ensures position { OnOk result ((C.state source.new).position ≡ at_offset (ids_end section.now) (C.state source.old).position) }
+    ensures pauses { PausesOnlyOnError (C.state source.old) result (C.state source.new) }
+    ensures same_loan { C.loan source.new ≡ C.loan source.old }
 {
     if section.offset > u64::MAX - section.size {
         return Err(Error::Read(ReadError::PerfEventAttr));
@@ -119,13 +119,13 @@ fn read_ids_of<C: PlacedSource, T: FileOrder>(
     }
     match read_ids::<C, T>(alloc, source, section.size / 8) {
         Ok(ids) => Ok(ids),
-        Err(fault) => Err(as_error(fault)),
+        Err(fault) => Err(into_file_error(fault)),
     }
 }
 
-// A copy of the name of the event type at an index, where there is one.
-fn copy_name(types: &[SimplePerfEventType], index: usize) -> Result<Option<String>, Error>
-    ensures { TellsName (name_at types.now index) result }
+// Clones the name of the event type at an index, if there is one.
+fn clone_type_name(types: &[SimplePerfEventType], index: usize) -> Result<Option<String>, Error>
+    ensures { CopiesName (type_name_at types.now index) result }
 {
     match types.get(index) {
         Some(event) => match event.name.clone() {
@@ -136,24 +136,24 @@ fn copy_name(types: &[SimplePerfEventType], index: usize) -> Result<Option<Strin
     }
 }
 
-// What entries describe: their attributes, with the names that event types of the same indices have, and their ids.
-fn read_given<C: PlacedSource, T: FileOrder>(
+// Describes entries by their attributes, their ids, and the names of the event types with the same indices.
+fn describe_entries<C: PlacedSource, T: FileOrder>(
     alloc: Global,
     source: &mut C,
-    entries: &[Entry],
+    entries: &[EventTypeEntry],
     types: &[SimplePerfEventType],
 ) -> Result<Vec<AttributeDescription>, Error>
-    ensures reads { ReadsGivenOf T.number_of (name_at types.now) (C.seen source.old) entries.now result (C.seen source.new) }
-    ensures pauses { PausesOnce (C.seen source.old) result (C.seen source.new) }
-    ensures lent { C.lent source.new ≡ C.lent source.old }
+    ensures reads { DescribesEntries T.number_of (type_name_at types.now) (C.state source.old) entries.now result (C.state source.new) }
+    ensures pauses { PausesOnlyOnError (C.state source.old) result (C.state source.new) }
+    ensures same_loan { C.loan source.new ≡ C.loan source.old }
 {
     let mut all = Vec::new(alloc);
     'entries: for (index, entry) in entries.iter().enumerate() {
-        let event_ids = match read_ids_of::<C, T>(alloc, source, &entry.ids) {
+        let event_ids = match read_section_ids::<C, T>(alloc, source, &entry.ids) {
             Ok(ids) => ids,
             Err(error) => return Err(error),
         };
-        let name = match copy_name(types, index) {
+        let name = match clone_type_name(types, index) {
             Ok(name) => name,
             Err(error) => return Err(error),
         };
@@ -170,24 +170,24 @@ fn read_given<C: PlacedSource, T: FileOrder>(
     Ok(all)
 }
 
-// The attributes of a section of entries, whose frames have so many bytes, with the names that event types of the same
-// indices have. All entries are read before any ids.
-pub(crate) fn read_described<C: PlacedSource, T: FileOrder>(
+// Reads the attributes of a section of entries with frames of `attr_size` bytes. The event types with the same indices
+// provide the names. All entries are read before any ids.
+pub(crate) fn read_descriptions<C: PlacedSource, T: FileOrder>(
     alloc: Global,
     source: &mut C,
     section: &PerfFileSection,
     attr_size: u64,
     types: &[SimplePerfEventType],
 ) -> Result<Vec<AttributeDescription>, Error>
-    ensures reads { ReadsDescribed T.number_of attr_size (name_at types.now) section.now (C.seen source.old) result (C.seen source.new) }
-    ensures pauses { PausesOnce (C.seen source.old) result (C.seen source.new) }
-    ensures lent { C.lent source.new ≡ C.lent source.old }
+    ensures reads { ReadsDescriptions T.number_of attr_size (type_name_at types.now) section.now (C.state source.old) result (C.state source.new) }
+    ensures pauses { PausesOnlyOnError (C.state source.old) result (C.state source.new) }
+    ensures same_loan { C.loan source.new ≡ C.loan source.old }
 {
-    if attr_size > u64::MAX - IDS_SECTION || section.offset > u64::MAX - section.size {
+    if attr_size > u64::MAX - IDS_ENTRY_SIZE || section.offset > u64::MAX - section.size {
         return Err(Error::Read(ReadError::PerfEventAttr));
     }
     match read_entries::<C, T>(alloc, source, section, attr_size) {
-        Ok(entries) => read_given::<C, T>(alloc, source, &entries, types),
+        Ok(entries) => describe_entries::<C, T>(alloc, source, &entries, types),
         Err(error) => Err(error),
     }
 }

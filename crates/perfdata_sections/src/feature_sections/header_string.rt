@@ -1,17 +1,17 @@
-//! Texts and lists of texts.
+//! Strings with a length prefix.
 ghost use Rattle.std.specs.Prelude.{◌≡◌, string_bytes};
 ghost use Rattle.std.specs.Option.{option_map};
-ghost use Rattle.perfdata_base.specs.Source.{State, PausesOnce};
-ghost use Rattle.perfdata_sections.specs.Strings.{before_nul, utf8_text, ReadsString, ParsesString};
+ghost use Rattle.perfdata_base.specs.Source.{State, PausesOnlyOnError};
+ghost use Rattle.perfdata_sections.specs.HeaderString.{before_nul, utf8_text, ReadsHeaderString, ParsesHeaderString};
 
-use crate::bytes::{as_io, read_bytes};
+use crate::bytes::{into_io_error, read_bytes};
 use memchr::memchr;
 use perfdata_base::raw::FileOrder;
-use perfdata_base::source::{AppendFault, Source, read_all};
+use perfdata_base::source::{AppendError, Source, read_exact};
 use std::alloc::Global;
 use std::io;
 
-/// The bytes before the first NUL, or all where there is none.
+/// Returns the bytes before the first NUL, or all bytes if there is none.
 pub fn before_nul(bytes: &[u8]) -> &[u8]
     ensures { result.now ≡ before_nul bytes.now }
 {
@@ -21,8 +21,8 @@ pub fn before_nul(bytes: &[u8]) -> &[u8]
     }
 }
 
-// The text of a string with these bytes behind its length, or none where it isn't UTF-8.
-fn text_of(bytes: Vec<u8>) -> Option<String>
+// Returns the text before the first NUL of a string's bytes, or `None` if it isn't UTF-8.
+fn decode_text(bytes: Vec<u8>) -> Option<String>
     ensures { option_map string_bytes result ≡ utf8_text (before_nul bytes.items) }
 {
     let mut bytes = bytes;
@@ -34,45 +34,48 @@ fn text_of(bytes: Vec<u8>) -> Option<String>
     }
 }
 
-/// A string as it stands in a file (`perf_header_string`): a length of four bytes, and so many bytes, of which those before
-/// the first NUL are its text.
+/// A string in a file (`perf_header_string`): a length of four bytes, and that many bytes.
+///
+/// The text of the string is the bytes before the first NUL.
 pub struct HeaderString;
 
 impl HeaderString {
-    /// The text of the string at the front of a source that is kept, or none where it isn't UTF-8.
+    /// Reads the text of the string at the position of a borrowed source.
     ///
-    /// An `UnexpectedEof` error of the source's where its bytes end early.
+    /// Returns `None` if the text isn't UTF-8. Fails with an `UnexpectedEof` source error if the string is truncated, and
+    /// with `AppendError::Memory` if memory runs out.
     pub fn read_from<R: Source, T: FileOrder>(
         alloc: Global,
         source: &mut R,
-    ) -> Result<Option<String>, AppendFault>
-        ensures reads { ReadsString T.number_of (R.seen source.old) result (R.seen source.new) }
-        ensures pauses { PausesOnce (R.seen source.old) result (R.seen source.new) }
-        ensures lent { R.lent source.new ≡ R.lent source.old }
+    ) -> Result<Option<String>, AppendError>
+        ensures reads { ReadsHeaderString T.number_of (R.state source.old) result (R.state source.new) }
+        ensures pauses { PausesOnlyOnError (R.state source.old) result (R.state source.new) }
+        ensures same_loan { R.loan source.new ≡ R.loan source.old }
     {
         let mut length = [0u8; 4];
-        match read_all(source, &mut length) {
+        match read_exact(source, &mut length) {
             Ok(()) => {}
-            Err(error) => return Err(AppendFault::Source(error)),
+            Err(error) => return Err(AppendError::Source(error)),
         }
         match read_bytes(alloc, source, T::read_u32(&length) as usize) {
-            Ok(bytes) => Ok(text_of(bytes)),
+            Ok(bytes) => Ok(decode_text(bytes)),
             Err(fault) => Err(fault),
         }
     }
 
-    /// The text of the string at the front of a source, as by `read_from`.
+    /// Reads the text of the string at the position of an owned source. See `read_from`.
     ///
-    /// An `UnexpectedEof` error where its bytes end early, and an `OutOfMemory` error where memory runs out.
+    /// Fails with an `UnexpectedEof` error if the string is truncated, and with an `OutOfMemory` error if memory runs
+    /// out.
     pub fn parse<R: Source + Drop, T: FileOrder>(
         alloc: Global,
         mut reader: R,
     ) -> io::Result<Option<String>>
-        ensures { (left : State) × ParsesString T.number_of (R.seen reader) result left }
+        ensures { (left : State) × ParsesHeaderString T.number_of (R.state reader) result left }
     {
         match HeaderString::read_from::<R, T>(alloc, &mut reader) {
             Ok(text) => Ok(text),
-            Err(fault) => Err(as_io(fault)),
+            Err(fault) => Err(into_io_error(fault)),
         }
     }
 }

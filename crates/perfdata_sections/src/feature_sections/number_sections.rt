@@ -1,122 +1,123 @@
-//! Sections of numbers: processors, times, compression, clocks.
+//! Sections that consist of numbers: CPU counts, sample times, compression, clocks.
 ghost use Rattle.std.specs.Prelude.{◌≡◌};
 ghost use Rattle.std.specs.IoError.{error_kind};
 ghost use Rattle.std.specs.declared.io.ErrorKind.TheVariants.{InvalidData};
-ghost use Rattle.perfdata_base.specs.Source.{State, PausesOnce};
-ghost use Rattle.perfdata_sections.specs.Part.{ParsesPart};
+ghost use Rattle.perfdata_base.specs.Source.{State, PausesOnlyOnError};
+ghost use Rattle.perfdata_sections.specs.ParsedPart.{ParsesPart};
 ghost use Rattle.perfdata_sections.specs.NumberSections.{nr_cpus_of, sample_times_of, compression_of, ParsesClock};
 
 use perfdata_base::raw::FileOrder;
-use perfdata_base::source::{Source, read_all};
+use perfdata_base::source::{Source, read_exact};
 use std::io::{Error, ErrorKind, Result};
 
-/// How many processors the machine has (section NRCPUS of Linux's perf).
+/// The numbers of CPUs of the machine (section NRCPUS of Linux's perf).
 #[derive(Clone, Copy, Debug)]
 pub struct NrCpus {
-    /// How many there are.
+    /// The number of available CPUs.
     pub nr_cpus_available: u32,
-    /// How many ran.
+    /// The number of online CPUs.
     pub nr_cpus_online: u32,
 }
 
 impl NrCpus {
-    /// How many bytes the section has.
+    /// The size of the section in bytes.
     pub const STRUCT_SIZE: usize = 8;
 
-    /// The numbers at the front of a source that is kept: those available and those online, of four bytes each.
+    /// Reads the CPU counts at the position of a borrowed source: available and online, of four bytes each.
     ///
-    /// An `UnexpectedEof` error where fewer than 8 bytes come.
+    /// Fails with an `UnexpectedEof` error if the source returns fewer than 8 bytes.
     pub fn parse_from<R: Source, T: FileOrder>(source: &mut R) -> Result<NrCpus>
-        ensures parses { ParsesPart 8 (nr_cpus_of T.number_of) (R.seen source.old) result (R.seen source.new) }
-        ensures pauses { PausesOnce (R.seen source.old) result (R.seen source.new) }
-        ensures lent { R.lent source.new ≡ R.lent source.old }
+        ensures parses { ParsesPart 8 (nr_cpus_of T.number_of) (R.state source.old) result (R.state source.new) }
+        ensures pauses { PausesOnlyOnError (R.state source.old) result (R.state source.new) }
+        ensures same_loan { R.loan source.new ≡ R.loan source.old }
     {
         let mut bytes = [0u8; NrCpus::STRUCT_SIZE];
-        read_all(source, &mut bytes)?;
+        read_exact(source, &mut bytes)?;
         Ok(NrCpus {
             nr_cpus_available: T::read_u32(&bytes),
             nr_cpus_online: T::read_u32(&bytes[4..]),
         })
     }
 
-    /// The numbers at the front of a source, as by `parse_from`.
+    /// Reads the CPU counts at the position of an owned source. See `parse_from`.
     pub fn parse<R: Source + Drop, T: FileOrder>(mut reader: R) -> Result<NrCpus>
-        ensures { (left : State) × ParsesPart 8 (nr_cpus_of T.number_of) (R.seen reader) result left }
+        ensures { (left : State) × ParsesPart 8 (nr_cpus_of T.number_of) (R.state reader) result left }
     {
         NrCpus::parse_from::<R, T>(&mut reader)
     }
 }
 
-/// The times of the first and of the last sample (section SAMPLE_TIME).
+/// The times of the first and the last sample (section SAMPLE_TIME).
 #[derive(Clone, Copy, Debug)]
 pub struct SampleTimeRange {
-    /// In nanoseconds of the recording's clock.
+    /// The time of the first sample, in nanoseconds of the recording's clock.
     pub first_sample_time: u64,
-    /// In nanoseconds of the recording's clock.
+    /// The time of the last sample, in nanoseconds of the recording's clock.
     pub last_sample_time: u64,
 }
 
 impl SampleTimeRange {
-    /// How many bytes the section has.
+    /// The size of the section in bytes.
     pub const STRUCT_SIZE: usize = 16;
 
-    /// The times at the front of a source that is kept: the first and the last, of eight bytes each.
+    /// Reads the times at the position of a borrowed source: the first and the last, of eight bytes each.
     ///
-    /// An `UnexpectedEof` error where fewer than 16 bytes come.
+    /// Fails with an `UnexpectedEof` error if the source returns fewer than 16 bytes.
     pub fn parse_from<R: Source, T: FileOrder>(source: &mut R) -> Result<SampleTimeRange>
-        ensures parses { ParsesPart 16 (sample_times_of T.number_of) (R.seen source.old) result (R.seen source.new) }
-        ensures pauses { PausesOnce (R.seen source.old) result (R.seen source.new) }
-        ensures lent { R.lent source.new ≡ R.lent source.old }
+        ensures parses { ParsesPart 16 (sample_times_of T.number_of) (R.state source.old) result (R.state source.new) }
+        ensures pauses { PausesOnlyOnError (R.state source.old) result (R.state source.new) }
+        ensures same_loan { R.loan source.new ≡ R.loan source.old }
     {
         let mut bytes = [0u8; SampleTimeRange::STRUCT_SIZE];
-        read_all(source, &mut bytes)?;
+        read_exact(source, &mut bytes)?;
         Ok(SampleTimeRange {
             first_sample_time: T::read_u64(&bytes),
             last_sample_time: T::read_u64(&bytes[8..]),
         })
     }
 
-    /// The times at the front of a source, as by `parse_from`.
+    /// Reads the times at the position of an owned source. See `parse_from`.
     pub fn parse<R: Source + Drop, T: FileOrder>(mut reader: R) -> Result<SampleTimeRange>
-        ensures { (left : State) × ParsesPart 16 (sample_times_of T.number_of) (R.seen reader) result left }
+        ensures { (left : State) × ParsesPart 16 (sample_times_of T.number_of) (R.state reader) result left }
     {
         SampleTimeRange::parse_from::<R, T>(&mut reader)
     }
 }
 
-/// How records were compressed (section COMPRESSED).
+/// The compression of the records (section COMPRESSED).
 #[derive(Clone, Copy, Debug)]
 pub struct CompressionInfo {
-    /// The version of what follows.
+    /// The version of the format.
     pub version: u32,
-    /// The way of compression: 1 is Zstd.
+    /// The compression algorithm: 1 is Zstd.
     pub type_: u32,
-    /// The level of compression.
+    /// The compression level.
     pub level: u32,
-    /// The bytes before to those behind, as a whole number.
+    /// The uncompressed size divided by the compressed size, as a whole number.
     pub ratio: u32,
-    /// How many bytes of the recorder's buffer were mapped.
+    /// The mapped size of the recorder's buffer, in bytes.
     pub mmap_len: u32,
 }
 
 impl CompressionInfo {
-    /// How many bytes the section has.
+    /// The size of the section in bytes.
     pub const STRUCT_SIZE: usize = 20;
 
     /// The `type_` of Zstd.
     pub const ZSTD_TYPE: u32 = 1;
 
-    /// The numbers at the front of a source that is kept: version, type, level, ratio and mapped length, of four bytes
-    /// each.
+    /// Reads the compression info at the position of a borrowed source.
     ///
-    /// An `UnexpectedEof` error where fewer than 20 bytes come.
+    /// The fields are version, type, level, ratio and mapped size, of four bytes each.
+    ///
+    /// Fails with an `UnexpectedEof` error if the source returns fewer than 20 bytes.
     pub fn parse_from<R: Source, T: FileOrder>(source: &mut R) -> Result<CompressionInfo>
-        ensures parses { ParsesPart 20 (compression_of T.number_of) (R.seen source.old) result (R.seen source.new) }
-        ensures pauses { PausesOnce (R.seen source.old) result (R.seen source.new) }
-        ensures lent { R.lent source.new ≡ R.lent source.old }
+        ensures parses { ParsesPart 20 (compression_of T.number_of) (R.state source.old) result (R.state source.new) }
+        ensures pauses { PausesOnlyOnError (R.state source.old) result (R.state source.new) }
+        ensures same_loan { R.loan source.new ≡ R.loan source.old }
     {
         let mut bytes = [0u8; CompressionInfo::STRUCT_SIZE];
-        read_all(source, &mut bytes)?;
+        read_exact(source, &mut bytes)?;
         Ok(CompressionInfo {
             version: T::read_u32(&bytes),
             type_: T::read_u32(&bytes[4..]),
@@ -126,55 +127,56 @@ impl CompressionInfo {
         })
     }
 
-    /// The numbers at the front of a source, as by `parse_from`.
+    /// Reads the compression info at the position of an owned source. See `parse_from`.
     pub fn parse<R: Source + Drop, T: FileOrder>(mut reader: R) -> Result<CompressionInfo>
-        ensures { (left : State) × ParsesPart 20 (compression_of T.number_of) (R.seen reader) result left }
+        ensures { (left : State) × ParsesPart 20 (compression_of T.number_of) (R.state reader) result left }
     {
         CompressionInfo::parse_from::<R, T>(&mut reader)
     }
 }
 
-/// The clock that times were taken from, and what it showed at a time of the wall clock (section CLOCK_DATA).
+/// The clock of the record times, and its time at a time of the wall clock (section CLOCK_DATA).
 #[derive(Clone, Debug, PartialEq, Eq, Drop)]
 pub struct ClockData {
-    /// The clock's number, as in Linux's `clock_gettime`.
+    /// The clock id, as for Linux's `clock_gettime`.
     pub clockid: u32,
-    /// Nanoseconds since 1970.
+    /// A wall clock time, in nanoseconds since 1970.
     pub wall_clock_ns: u64,
-    /// Nanoseconds of the clock at that moment.
+    /// The time of the clock at `wall_clock_ns`, in nanoseconds.
     pub clockid_time_ns: u64,
 }
 
-fn other_version() -> Error
+fn unsupported_version() -> Error
     ensures { error_kind result ≡ InvalidData }
 {
     Error::from(ErrorKind::InvalidData)
 }
 
 impl ClockData {
-    /// How many bytes the section has, the version included.
+    /// The size of the section in bytes, including the version.
     pub const STRUCT_SIZE: usize = 24;
 
-    /// The clock at the front of a source that is kept: a version of four bytes, which is 1, the clock's number of four
-    /// bytes, and the two times of eight bytes each.
+    /// Reads the clock data at the position of a borrowed source.
     ///
-    /// An `InvalidData` error where the version is another, before the rest is read. An `UnexpectedEof` error where fewer
-    /// than 24 bytes come.
+    /// The fields are the version (1) and the clock id, of four bytes each, and the two times, of eight bytes each.
+    ///
+    /// Fails with an `InvalidData` error if the version isn't 1, before the rest is read, and with an `UnexpectedEof`
+    /// error if the source returns fewer than 24 bytes.
     pub fn parse_from<R: Source, T: FileOrder>(source: &mut R) -> Result<ClockData>
-        ensures parses { ParsesClock T.number_of (R.seen source.old) result (R.seen source.new) }
-        ensures pauses { PausesOnce (R.seen source.old) result (R.seen source.new) }
-        ensures lent { R.lent source.new ≡ R.lent source.old }
+        ensures parses { ParsesClock T.number_of (R.state source.old) result (R.state source.new) }
+        ensures pauses { PausesOnlyOnError (R.state source.old) result (R.state source.new) }
+        ensures same_loan { R.loan source.new ≡ R.loan source.old }
     {
         let mut version = [0u8; 4];
-        match read_all(source, &mut version) {
+        match read_exact(source, &mut version) {
             Ok(()) => {}
             Err(error) => return Err(error),
         }
         if T::read_u32(&version) != 1 {
-            return Err(other_version());
+            return Err(unsupported_version());
         }
         let mut bytes = [0u8; 20];
-        match read_all(source, &mut bytes) {
+        match read_exact(source, &mut bytes) {
             Ok(()) => {}
             Err(error) => return Err(error),
         }
@@ -185,9 +187,9 @@ impl ClockData {
         })
     }
 
-    /// The clock at the front of a source, as by `parse_from`.
+    /// Reads the clock data at the position of an owned source. See `parse_from`.
     pub fn parse<R: Source + Drop, T: FileOrder>(mut reader: R) -> Result<ClockData>
-        ensures { (left : State) × ParsesClock T.number_of (R.seen reader) result left }
+        ensures { (left : State) × ParsesClock T.number_of (R.state reader) result left }
     {
         ClockData::parse_from::<R, T>(&mut reader)
     }

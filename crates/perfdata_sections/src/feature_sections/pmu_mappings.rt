@@ -1,35 +1,36 @@
 //! The section PMU_MAPPINGS.
 ghost use Rattle.std.specs.Prelude.{◌≡◌, IfOk, string_bytes};
 ghost use Rattle.std.specs.Option.{option_map};
-ghost use Rattle.perfdata_base.specs.Source.{State, PausesOnce};
-ghost use Rattle.perfdata_sections.specs.Pmu.{KeepsUnit, OrdersUnits, ReadsUnit, ReadsUnits, ReadsPmus, ParsesPmus};
+ghost use Rattle.perfdata_base.specs.Source.{State, PausesOnlyOnError};
+ghost use Rattle.perfdata_sections.specs.PmuMappings.{CollectsUnit, SortsUnits, ReadsPmuUnit, ReadsPmuUnits, ReadsPmus, ParsesPmus};
 
-use crate::bytes::as_io;
-use crate::feature_sections::strings::HeaderString;
+use crate::bytes::into_io_error;
+use crate::feature_sections::header_string::HeaderString;
 use indexmap::IndexMap;
 use perfdata_base::raw::FileOrder;
-use perfdata_base::source::{AppendFault, Source, read_all};
+use perfdata_base::source::{AppendError, Source, read_exact};
 use std::alloc::{AllocError, Global};
 use std::collections::BTreeMap;
 use std::io;
 
-/// The names of the performance monitoring units by their numbers, ascending (section PMU_MAPPINGS of Linux's perf).
+/// The names of the performance monitoring units (PMUs) in ascending order of their numbers (section PMU_MAPPINGS of
+/// perf).
 #[derive(Drop)]
 pub struct PmuMappings(pub IndexMap<u32, String>);
 
-// The unit at the front of a source.
-fn read_unit<R: Source, T: FileOrder>(
+// Reads the number and name of a unit at the source's position.
+fn read_pmu<R: Source, T: FileOrder>(
     alloc: Global,
     source: &mut R,
-) -> Result<(u32, Option<String>), AppendFault>
-    ensures reads { ReadsUnit T.number_of (R.seen source.old) result (R.seen source.new) }
-    ensures pauses { PausesOnce (R.seen source.old) result (R.seen source.new) }
-    ensures lent { R.lent source.new ≡ R.lent source.old }
+) -> Result<(u32, Option<String>), AppendError>
+    ensures reads { ReadsPmuUnit T.number_of (R.state source.old) result (R.state source.new) }
+    ensures pauses { PausesOnlyOnError (R.state source.old) result (R.state source.new) }
+    ensures same_loan { R.loan source.new ≡ R.loan source.old }
 {
     let mut number = [0u8; 4];
-    match read_all(source, &mut number) {
+    match read_exact(source, &mut number) {
         Ok(()) => {}
-        Err(error) => return Err(AppendFault::Source(error)),
+        Err(error) => return Err(AppendError::Source(error)),
     }
     match HeaderString::read_from::<R, T>(alloc, source) {
         Ok(name) => Ok((T::read_u32(&number), name)),
@@ -37,40 +38,40 @@ fn read_unit<R: Source, T: FileOrder>(
     }
 }
 
-// Gives a unit's number its name, where it has one.
-fn keep_name(
+// Sets the name of a unit's number. A unit without a name changes nothing.
+fn insert_name(
     names: &mut BTreeMap<u32, String>,
     number: u32,
     name: Option<String>,
-) -> Result<(), AppendFault>
-    ensures { KeepsUnit names.old (number, option_map string_bytes name) result names.new }
+) -> Result<(), AppendError>
+    ensures { CollectsUnit names.old (number, option_map string_bytes name) result names.new }
 {
     match name {
         Some(name) => match names.insert(number, name) {
             Ok(_) => Ok(()),
-            Err(_) => Err(AppendFault::Memory),
+            Err(_) => Err(AppendError::Memory),
         },
         None => Ok(()),
     }
 }
 
-// The last name of each number among so many units at the front of a source.
-fn read_units<R: Source, T: FileOrder>(
+// Reads `count` units at the source's position. A number with several names maps to the last of them.
+fn read_pmus<R: Source, T: FileOrder>(
     alloc: Global,
     source: &mut R,
     count: u32,
-) -> Result<BTreeMap<u32, String>, AppendFault>
-    ensures reads { ReadsUnits T.number_of count (R.seen source.old) result (R.seen source.new) }
-    ensures pauses { PausesOnce (R.seen source.old) result (R.seen source.new) }
-    ensures lent { R.lent source.new ≡ R.lent source.old }
+) -> Result<BTreeMap<u32, String>, AppendError>
+    ensures reads { ReadsPmuUnits T.number_of count (R.state source.old) result (R.state source.new) }
+    ensures pauses { PausesOnlyOnError (R.state source.old) result (R.state source.new) }
+    ensures same_loan { R.loan source.new ≡ R.loan source.old }
 {
     let mut names = BTreeMap::new(alloc);
     'units: for _index in 0..count {
-        let (number, name) = match read_unit::<R, T>(alloc, source) {
+        let (number, name) = match read_pmu::<R, T>(alloc, source) {
             Ok(unit) => unit,
             Err(fault) => return Err(fault),
         };
-        match keep_name(&mut names, number, name) {
+        match insert_name(&mut names, number, name) {
             Ok(()) => {}
             Err(fault) => return Err(fault),
         }
@@ -78,12 +79,12 @@ fn read_units<R: Source, T: FileOrder>(
     Ok(names)
 }
 
-// The names by their numbers, which they are put in ascending.
-fn in_order(
+// Returns the names with their numbers as keys, in ascending order.
+fn into_index_map(
     alloc: Global,
     names: BTreeMap<u32, String>,
 ) -> Result<IndexMap<u32, String>, AllocError>
-    ensures { IfOk result (λ m. OrdersUnits names m) }
+    ensures { IfOk result (λ m. SortsUnits names m) }
 {
     let mut ordered = IndexMap::new(alloc);
     'names: for (number, name) in names {
@@ -93,45 +94,49 @@ fn in_order(
 }
 
 impl PmuMappings {
-    /// The units at the front of a source that is kept: a count of four bytes, and for each a number of four bytes and a
-    /// string. A name that isn't UTF-8 is dropped, and a number that comes again keeps the last of its names.
+    /// Reads the units at the position of a borrowed source.
     ///
-    /// An `UnexpectedEof` error of the source's where the bytes end early.
+    /// The section is a count of four bytes, and for each unit a number of four bytes and a string. A name that isn't
+    /// UTF-8 is dropped. A number with several names maps to the last of them.
+    ///
+    /// Fails with an `UnexpectedEof` source error if the section is truncated, and with `AppendError::Memory` if memory runs
+    /// out.
     pub fn read_from<R: Source, T: FileOrder>(
         alloc: Global,
         source: &mut R,
-    ) -> Result<PmuMappings, AppendFault>
-        ensures reads { ReadsPmus T.number_of (R.seen source.old) result (R.seen source.new) }
-        ensures pauses { PausesOnce (R.seen source.old) result (R.seen source.new) }
-        ensures lent { R.lent source.new ≡ R.lent source.old }
+    ) -> Result<PmuMappings, AppendError>
+        ensures reads { ReadsPmus T.number_of (R.state source.old) result (R.state source.new) }
+        ensures pauses { PausesOnlyOnError (R.state source.old) result (R.state source.new) }
+        ensures same_loan { R.loan source.new ≡ R.loan source.old }
     {
         let mut count = [0u8; 4];
-        match read_all(source, &mut count) {
+        match read_exact(source, &mut count) {
             Ok(()) => {}
-            Err(error) => return Err(AppendFault::Source(error)),
+            Err(error) => return Err(AppendError::Source(error)),
         }
-        let names = match read_units::<R, T>(alloc, source, T::read_u32(&count)) {
+        let names = match read_pmus::<R, T>(alloc, source, T::read_u32(&count)) {
             Ok(names) => names,
             Err(fault) => return Err(fault),
         };
-        match in_order(alloc, names) {
+        match into_index_map(alloc, names) {
             Ok(names) => Ok(PmuMappings(names)),
-            Err(_) => Err(AppendFault::Memory),
+            Err(_) => Err(AppendError::Memory),
         }
     }
 
-    /// The units at the front of a source, as by `read_from`.
+    /// Reads the units at the position of an owned source. See `read_from`.
     ///
-    /// An `UnexpectedEof` error where the bytes end early, and an `OutOfMemory` error where memory runs out.
+    /// Fails with an `UnexpectedEof` error if the section is truncated, and with an `OutOfMemory` error if memory runs
+    /// out.
     pub fn parse<R: Source + Drop, T: FileOrder>(
         alloc: Global,
         mut reader: R,
     ) -> io::Result<PmuMappings>
-        ensures { (left : State) × ParsesPmus T.number_of (R.seen reader) result left }
+        ensures { (left : State) × ParsesPmus T.number_of (R.state reader) result left }
     {
         match PmuMappings::read_from::<R, T>(alloc, &mut reader) {
             Ok(names) => Ok(names),
-            Err(fault) => Err(as_io(fault)),
+            Err(fault) => Err(into_io_error(fault)),
         }
     }
 }

@@ -1,8 +1,8 @@
--- Tokens in a row, and that each takes a byte.
+-- Consecutive tokens; each consumes at least one byte.
 use Rattle.std.proofs.Common.{ℕ, ◌^◌, ◌<◌, ◌≤◌, List, [], ◌∷◌, length, ap, arith, length-append}
-use Rattle.perfdata_simpleperf.specs.declared.protobuf.wire.Wire.{Wire}
-use Rattle.perfdata_simpleperf.specs.declared.protobuf.wire.Wire.TheVariants as wires
-use Rattle.perfdata_simpleperf.specs.Protobuf.Wire.{IsVarint, VarintAt, KeyAt, Contents, number, bytes, skipped, ValueAt, LengthAt, FixedAt}
+use Rattle.perfdata_simpleperf.specs.declared.protobuf.wire.WireType.{WireType}
+use Rattle.perfdata_simpleperf.specs.declared.protobuf.wire.WireType.TheVariants as wires
+use Rattle.perfdata_simpleperf.specs.Protobuf.WireFormat.{IsVarint, VarintAt, KeyAt, Contents, number, bytes, skipped, ValueAt, LengthAt, FixedAt}
 use Rattle.perfdata_simpleperf.specs.Protobuf.Groups.{Passes, Token, Tokens, none, more}
 
 pub tokens_then : {around bs inner mid last rest : List ℕ} → Tokens around bs inner mid → Token inner mid last rest → Tokens around bs last rest
@@ -15,53 +15,53 @@ spelling_long (b ∷ s) n h = omega arith
 
 pub varint_shorter : (most limit : ℕ) (bs : List ℕ) (n : ℕ) (rest : List ℕ) → VarintAt most limit bs n rest → length rest < length bs
 varint_shorter most limit bs n rest at =
-    let s = spelling_long at.spelling n at.spelled in
-    let l = length-append at.spelling rest in
-    let p = ap length at.parts in
+    let s = spelling_long at.encoding n at.encodes in
+    let l = length-append at.encoding rest in
+    let p = ap length at.split in
     omega (arith, s, l, p)
 
 fixed_shorter : (bs : List ℕ) (len : ℕ) (rest : List ℕ) → FixedAt bs len rest → length rest ≤ length bs
 fixed_shorter bs len rest at =
     let l = length-append at.front rest in
-    let p = ap length at.splits.parts in
+    let p = ap length at.splits.split in
     omega (arith, l, p)
 
 length_shorter : (bs front rest : List ℕ) → LengthAt bs front rest → length rest ≤ length bs
 length_shorter bs front rest at =
-    let v = varint_shorter 10 (2 ^ 64) bs at.len at.mid at.at in
+    let v = varint_shorter 10 (2 ^ 64) bs at.len at.mid at.reads in
     let l = length-append front rest in
-    let p = ap length at.splits.parts in
+    let p = ap length at.splits.split in
     omega (arith, v, l, p)
 
-pub value_shorter : (wire : Wire) (bs : List ℕ) (x : Contents) (rest : List ℕ) → ValueAt wire bs x rest → length rest ≤ length bs
-value_shorter wires.Number bs (number n) rest at = let v = varint_shorter 10 (2 ^ 64) bs n rest at in omega (arith, v)
-value_shorter wires.Number bs (bytes b) rest at = absurd at
-value_shorter wires.Number bs skipped rest at = absurd at
-value_shorter wires.Eight bs skipped rest at = fixed_shorter bs 8 rest at
-value_shorter wires.Eight bs (number n) rest at = absurd at
-value_shorter wires.Eight bs (bytes b) rest at = absurd at
-value_shorter wires.Four bs skipped rest at = fixed_shorter bs 4 rest at
-value_shorter wires.Four bs (number n) rest at = absurd at
-value_shorter wires.Four bs (bytes b) rest at = absurd at
-value_shorter wires.Length bs (bytes front) rest at = length_shorter bs front rest at
-value_shorter wires.Length bs (number n) rest at = absurd at
-value_shorter wires.Length bs skipped rest at = absurd at
-value_shorter wires.Begin bs x rest at = absurd at
-value_shorter wires.End bs x rest at = absurd at
+pub value_shorter : (wire : WireType) (bs : List ℕ) (x : Contents) (rest : List ℕ) → ValueAt wire bs x rest → length rest ≤ length bs
+value_shorter wires.Varint bs (number n) rest at = let v = varint_shorter 10 (2 ^ 64) bs n rest at in omega (arith, v)
+value_shorter wires.Varint bs (bytes b) rest at = absurd at
+value_shorter wires.Varint bs skipped rest at = absurd at
+value_shorter wires.Fixed64 bs skipped rest at = fixed_shorter bs 8 rest at
+value_shorter wires.Fixed64 bs (number n) rest at = absurd at
+value_shorter wires.Fixed64 bs (bytes b) rest at = absurd at
+value_shorter wires.Fixed32 bs skipped rest at = fixed_shorter bs 4 rest at
+value_shorter wires.Fixed32 bs (number n) rest at = absurd at
+value_shorter wires.Fixed32 bs (bytes b) rest at = absurd at
+value_shorter wires.LengthDelimited bs (bytes front) rest at = length_shorter bs front rest at
+value_shorter wires.LengthDelimited bs (number n) rest at = absurd at
+value_shorter wires.LengthDelimited bs skipped rest at = absurd at
+value_shorter wires.StartGroup bs x rest at = absurd at
+value_shorter wires.EndGroup bs x rest at = absurd at
 
-pub key_shorter : (bs : List ℕ) (n : ℕ) (wire : Wire) (rest : List ℕ) → KeyAt bs n wire rest → length rest < length bs
-key_shorter bs n wire rest key = varint_shorter 10 (2 ^ 64) bs _ rest key.at
+pub key_shorter : (bs : List ℕ) (n : ℕ) (wire : WireType) (rest : List ℕ) → KeyAt bs n wire rest → length rest < length bs
+key_shorter bs n wire rest key = varint_shorter 10 (2 ^ 64) bs _ rest key.reads
 
-passes_shorter : (wire : Wire) (n : ℕ) (around bs inner rest : List ℕ) → Passes wire n around bs inner rest → length rest ≤ length bs
-passes_shorter wires.Begin n around bs inner rest p = let e = ap length p.2 in omega (arith, e)
-passes_shorter wires.End n around bs inner rest p = let e = ap length p.1 in omega (arith, e)
-passes_shorter wires.Number n around bs inner rest p = value_shorter wires.Number bs p.1 rest p.2
-passes_shorter wires.Eight n around bs inner rest p = value_shorter wires.Eight bs p.1 rest p.2
-passes_shorter wires.Four n around bs inner rest p = value_shorter wires.Four bs p.1 rest p.2
-passes_shorter wires.Length n around bs inner rest p = value_shorter wires.Length bs p.1 rest p.2
+passes_shorter : (wire : WireType) (n : ℕ) (around bs inner rest : List ℕ) → Passes wire n around bs inner rest → length rest ≤ length bs
+passes_shorter wires.StartGroup n around bs inner rest p = let e = ap length p.2 in omega (arith, e)
+passes_shorter wires.EndGroup n around bs inner rest p = let e = ap length p.1 in omega (arith, e)
+passes_shorter wires.Varint n around bs inner rest p = value_shorter wires.Varint bs p.1 rest p.2
+passes_shorter wires.Fixed64 n around bs inner rest p = value_shorter wires.Fixed64 bs p.1 rest p.2
+passes_shorter wires.Fixed32 n around bs inner rest p = value_shorter wires.Fixed32 bs p.1 rest p.2
+passes_shorter wires.LengthDelimited n around bs inner rest p = value_shorter wires.LengthDelimited bs p.1 rest p.2
 
 pub token_shorter : {around bs inner rest : List ℕ} → Token around bs inner rest → length rest < length bs
 token_shorter {around} {bs} {inner} {rest} t =
-    let k = key_shorter bs t.number t.wire t.mid t.key in
-    let p = passes_shorter t.wire t.number around t.mid inner rest t.passes in
+    let k = key_shorter bs t.field_number t.wire_type t.mid t.key in
+    let p = passes_shorter t.wire_type t.field_number around t.mid inner rest t.skips_item in
     omega (arith, k, p)

@@ -1,4 +1,4 @@
--- A field 5, 6 or 7 at the end of others, and the value of a record with one more field.
+-- Appending a field 5, 6 or 7 to a list of fields, and the value of a record with one more field.
 use Rattle.std.proofs.Common.{◌≡◌, ℕ, ◌<◌, inl, inr, List, [], ◌∷◌, ◌++◌, length, map, refl, ap, sym, ◌∙◌, subst, arith, append_assoc, length-append}
 use Rattle.std.proofs.lemmas.List.Concat.{flat_map-append}
 use Rattle.std.proofs.lemmas.List.{map-append, append-nil}
@@ -34,7 +34,7 @@ last_kind-append : (xs ys : List (ℕ × List ℕ)) → last_kind (xs ++ ys) ≡
 last_kind-append xs ys = ap (λ (zs : List ℕ). last_or 0 zs) (map-append (λ (x : ℕ × List ℕ). x.0) xs ys) ∙ sym (last_or-append 0 (map (λ (x : ℕ × List ℕ). x.0) xs) (map (λ (x : ℕ × List ℕ). x.0) ys))
 
 run_kind : (k : ℕ) (xs : List (ℕ × List ℕ)) (run : List (List ℕ)) → IsLastRun k xs run → last_kind xs ≡ k
-run_kind k xs run r = ap last_kind r.parts ∙ last_kind-append r.before (numbered k run) ∙ first_kind k (last_kind r.before) run r.some
+run_kind k xs run r = ap last_kind r.split ∙ last_kind-append r.earlier (numbered k run) ∙ first_kind k (last_kind r.earlier) run r.is_nonempty
 
 pub info_kind : (xs : List (ℕ × List ℕ)) (info : Info) → IsInfo xs info → last_kind xs ≡ kind info
 info_kind xs no_info i = ap last_kind i
@@ -44,14 +44,14 @@ info_kind xs (kernel_module n) i = run_kind 7 xs i.0 i.1
 
 run_more : (k : ℕ) (xs : List (ℕ × List ℕ)) (run : List (List ℕ)) (b : List ℕ) → IsLastRun k xs run → IsLastRun k (xs ++ (k, b) ∷ []) (run ++ b ∷ [])
 run_more k xs run b r = record {
-  before = r.before;
-  parts = ap (λ (x : List (ℕ × List ℕ)). x ++ (k, b) ∷ []) r.parts ∙ append_assoc r.before (numbered k run) ((k, b) ∷ []) ∙ ap (λ (x : List (ℕ × List ℕ)). r.before ++ x) (sym (map-append (λ (c : List ℕ). (k, c)) run (b ∷ [])));
-  some = (let l = length-append run (b ∷ []) in omega (arith, l));
+  earlier = r.earlier;
+  split = ap (λ (x : List (ℕ × List ℕ)). x ++ (k, b) ∷ []) r.split ∙ append_assoc r.earlier (numbered k run) ((k, b) ∷ []) ∙ ap (λ (x : List (ℕ × List ℕ)). r.earlier ++ x) (sym (map-append (λ (c : List ℕ). (k, c)) run (b ∷ [])));
+  is_nonempty = (let l = length-append run (b ∷ []) in omega (arith, l));
   longest = r.longest;
 }
 
 run_new : (k : ℕ) (xs : List (ℕ × List ℕ)) (b : List ℕ) → (last_kind xs ≡ k → ⊥) → IsLastRun k (xs ++ (k, b) ∷ []) (b ∷ [])
-run_new k xs b other = record { before = xs; parts = refl; some = omega arith; longest = other }
+run_new k xs b other = record { earlier = xs; split = refl; is_nonempty = omega arith; longest = other }
 
 joined_more : (run : List (List ℕ)) (b : List ℕ) → joined (run ++ b ∷ []) ≡ joined run ++ b
 joined_more run b = flat_map-append (λ (c : List ℕ). c) run (b ∷ []) ∙ ap (λ (x : List ℕ). joined run ++ x) (append-nil b)

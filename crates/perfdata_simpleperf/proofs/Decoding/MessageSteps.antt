@@ -1,17 +1,17 @@
--- Fields in a row, and the values over them.
+-- Consecutive fields, and their values.
 use Rattle.std.proofs.Common.{◌≡◌, ℕ, ◌<◌, ◌≤◌, ◌⊎◌, inl, inr, List, [], ◌∷◌, ◌++◌, length, map, refl, ap, sym, ◌∙◌, subst, arith, append_assoc}
 use Rattle.std.proofs.lemmas.List.Concat.{flat_map-append}
 use Rattle.std.proofs.lemmas.List.{map-append}
 use Rattle.perfdata_sections.specs.declared.decode_error.DecodeError.{DecodeError}
 use Rattle.perfdata_sections.specs.declared.decode_error.DecodeError.TheVariants as errors
 use Rattle.perfdata_simpleperf.specs.declared.protobuf.field.Message.{Message}
-use Rattle.perfdata_simpleperf.specs.declared.protobuf.wire.Wire.{Wire}
-use Rattle.perfdata_simpleperf.specs.declared.protobuf.wire.Wire.TheVariants as wires
+use Rattle.perfdata_simpleperf.specs.declared.protobuf.wire.WireType.{WireType}
+use Rattle.perfdata_simpleperf.specs.declared.protobuf.wire.WireType.TheVariants as wires
 use Rattle.std.proofs.Common.{Bool, true, false, cond}
 use Rattle.std.specs.Prelude.{◌==◌}
 use Rattle.perfdata_simpleperf.specs.declared.protobuf.field.Message.TheVariants as messages
-use Rattle.perfdata_simpleperf.specs.declared.protobuf.field.Shape.TheVariants as shapes
-use Rattle.perfdata_simpleperf.specs.Protobuf.Wire.{Contents, number, bytes, skipped, NumberAt}
+use Rattle.perfdata_simpleperf.specs.declared.protobuf.field.FieldType.TheVariants as shapes
+use Rattle.perfdata_simpleperf.specs.Protobuf.WireFormat.{Contents, number, bytes, skipped, NumberAt}
 use Rattle.perfdata_simpleperf.specs.Protobuf.Groups.{Tokens, none, more}
 use Rattle.perfdata_simpleperf.specs.Protobuf.Fields.{Part, shape, FieldAt, Holds}
 use Rattle.perfdata_simpleperf.specs.Protobuf.Messages.{IsFine, IsWrong, FieldsBy, FaultBy, NumbersAt, NoInner}
@@ -20,7 +20,7 @@ use Rattle.perfdata_simpleperf.specs.Protobuf.Values.{numbers, numbers_in, texts
 use Rattle.perfdata_simpleperf.proofs.Decoding.GroupSteps.{key_shorter, value_shorter, token_shorter}
 
 module _ (Inner : Message → List ℕ → Type 0) (message : Message) where
-  pub fields_then : (bs : List ℕ) (ps : List Part) (mid : List ℕ) (p : Part) (rest : List ℕ) → FieldsBy Inner message bs ps mid → FieldAt message mid p rest → IsFine Inner (shape message p.number) p.contents → FieldsBy Inner message bs (ps ++ p ∷ []) rest
+  pub fields_then : (bs : List ℕ) (ps : List Part) (mid : List ℕ) (p : Part) (rest : List ℕ) → FieldsBy Inner message bs ps mid → FieldAt message mid p rest → IsFine Inner (shape message p.field_number) p.contents → FieldsBy Inner message bs (ps ++ p ∷ []) rest
   fields_then bs [] mid p rest before at fine = (rest, subst (λ (x : List ℕ). FieldAt message x p rest) (sym before) at, fine, refl)
   fields_then bs (q ∷ ps) mid p rest before at fine = (before.0, before.1, before.2, fields_then before.0 ps mid p rest before.3 at fine)
 
@@ -28,20 +28,20 @@ pub tokens_le : {around bs inner rest : List ℕ} → Tokens around bs inner res
 tokens_le none = omega arith
 tokens_le (more t ts) = let a = token_shorter t in let b = tokens_le ts in omega (arith, a, b)
 
-holds_shorter : (wire : Wire) (n : ℕ) (bs : List ℕ) (x : Contents) (rest : List ℕ) → Holds wire n bs x rest → length rest ≤ length bs
-holds_shorter wires.Begin n bs skipped rest h = tokens_le h
-holds_shorter wires.Begin n bs (number k) rest h = absurd h
-holds_shorter wires.Begin n bs (bytes k) rest h = absurd h
-holds_shorter wires.End n bs x rest h = value_shorter wires.End bs x rest h
-holds_shorter wires.Number n bs x rest h = value_shorter wires.Number bs x rest h
-holds_shorter wires.Eight n bs x rest h = value_shorter wires.Eight bs x rest h
-holds_shorter wires.Four n bs x rest h = value_shorter wires.Four bs x rest h
-holds_shorter wires.Length n bs x rest h = value_shorter wires.Length bs x rest h
+holds_shorter : (wire : WireType) (n : ℕ) (bs : List ℕ) (x : Contents) (rest : List ℕ) → Holds wire n bs x rest → length rest ≤ length bs
+holds_shorter wires.StartGroup n bs skipped rest h = tokens_le h
+holds_shorter wires.StartGroup n bs (number k) rest h = absurd h
+holds_shorter wires.StartGroup n bs (bytes k) rest h = absurd h
+holds_shorter wires.EndGroup n bs x rest h = value_shorter wires.EndGroup bs x rest h
+holds_shorter wires.Varint n bs x rest h = value_shorter wires.Varint bs x rest h
+holds_shorter wires.Fixed64 n bs x rest h = value_shorter wires.Fixed64 bs x rest h
+holds_shorter wires.Fixed32 n bs x rest h = value_shorter wires.Fixed32 bs x rest h
+holds_shorter wires.LengthDelimited n bs x rest h = value_shorter wires.LengthDelimited bs x rest h
 
 pub field_shorter : (message : Message) (bs : List ℕ) (p : Part) (rest : List ℕ) → FieldAt message bs p rest → length rest < length bs
 field_shorter message bs p rest at =
-    let k = key_shorter bs p.number at.wire at.mid at.key in
-    let h = holds_shorter at.wire p.number at.mid p.contents rest at.holds in
+    let k = key_shorter bs p.field_number at.wire_type at.mid at.key in
+    let h = holds_shorter at.wire_type p.field_number at.mid p.contents rest at.contents_at in
     omega (arith, k, h)
 
 -- ---- values
@@ -69,9 +69,9 @@ pub symbol_more : (s : SymbolValue) (ps qs : List Part) → symbol_from (symbol_
 symbol_more s ps qs = rw (last_number s.vaddr 1 ps qs, last_low s.len 2 ps qs, last_text s.name 3 ps qs) refl
 
 module _ (Inner : Message → List ℕ → Type 0) (InnerFault : Message → List ℕ → DecodeError → Type 0) (message : Message) where
-  pub contents_fault : (bs : List ℕ) (ps : List Part) (mid : List ℕ) (p : Part) (rest : List ℕ) (e : DecodeError) → FieldsBy Inner message bs ps mid → FieldAt message mid p rest → (e ≡ errors.Memory) ⊎ IsWrong InnerFault (shape message p.number) p.contents e → (e ≡ errors.Memory) ⊎ FaultBy Inner (IsWrong InnerFault) message bs e
+  pub contents_fault : (bs : List ℕ) (ps : List Part) (mid : List ℕ) (p : Part) (rest : List ℕ) (e : DecodeError) → FieldsBy Inner message bs ps mid → FieldAt message mid p rest → (e ≡ errors.Memory) ⊎ IsWrong InnerFault (shape message p.field_number) p.contents e → (e ≡ errors.Memory) ⊎ FaultBy Inner (IsWrong InnerFault) message bs e
   contents_fault bs ps mid p rest e before at (inl memory) = inl memory
-  contents_fault bs ps mid p rest e before at (inr wrong) = inr record { fields = ps; mid = mid; before = before; inside = (let s = field_shorter message mid p rest at in omega (arith, s)); here = inr record { field = p; rest = rest; at = at; wrong = wrong } }
+  contents_fault bs ps mid p rest e before at (inr wrong) = inr record { fields = ps; mid = mid; earlier = before; is_nonempty = (let s = field_shorter message mid p rest at in omega (arith, s)); error_here = inr record { field = p; rest = rest; reads = at; error = wrong } }
 
 pub numbers_then : (bs ns mid : List ℕ) (n : ℕ) (rest : List ℕ) → NumbersAt bs ns mid → NumberAt mid n rest → NumbersAt bs (ns ++ n ∷ []) rest
 numbers_then bs [] mid n rest before at = (rest, subst (λ (x : List ℕ). NumberAt x n rest) (sym before) at, refl)
@@ -87,7 +87,7 @@ contents-append k ps qs = flat_map-append (contents_in k) ps qs
 pub offsets_more : (k : ℕ) (ps qs : List Part) (a b : List ℕ) → AreOffsets (contents_of k ps) a → AreOffsets (contents_of k qs) b → AreOffsets (contents_of k (ps ++ qs)) (a ++ b)
 offsets_more k ps qs a b p q = subst (λ (x : List Contents). AreOffsets x (a ++ b)) (sym (contents-append k ps qs)) (offsets_append (contents_of k ps) (contents_of k qs) a b p q)
 
--- no contents of an address message can be wrong
+-- the contents of a field of an address message are always valid
 fine_if : (b : Bool) (x : Contents) → IsFine NoInner (cond b shapes.Number shapes.Unknown) x
 fine_if true x = tt
 fine_if false x = tt

@@ -1,4 +1,4 @@
--- Numbers are read from the front, a byte at a time.
+-- Numbers are decoded from the start of the bytes, one byte at a time.
 use Rattle.std.proofs.Common.{◌≡◌, ℕ, suc, ◌+◌, ◌*◌, ◌-◌, ◌^◌, ◌<◌, ◌≤◌, List, [], ◌∷◌, length, get_or, take, drop, refl, ap, sym, ◌∙◌, subst, arith}
 use Rattle.std.proofs.Common.{lit≤, rules, drop-cons}
 use Rattle.std.proofs.lemmas.List.{take_all}
@@ -6,7 +6,7 @@ use Rattle.std.proofs.lemmas.Nat.{pow-add}
 use Rattle.std.proofs.Math.Nat.{pow-le-pow_right, one-le-pow}
 use Rattle.perfdata_sections.specs.declared.decode_error.DecodeError.{DecodeError}
 use Rattle.perfdata_sections.specs.declared.decode_error.DecodeError.TheVariants as errors
-use Rattle.perfdata_simpleperf.specs.Protobuf.Wire.{IsVarint, VarintAt, VarintFault, VarintLong}
+use Rattle.perfdata_simpleperf.specs.Protobuf.WireFormat.{IsVarint, VarintAt, VarintFault, VarintLong}
 
 -- the pattern [byte, rest @ ..]
 pub first_and_rest : (bytes : List ℕ) → 1 ≤ length bytes → bytes ≡ get_or bytes 0 0 ∷ take (length bytes - 1) (drop 1 bytes)
@@ -17,7 +17,7 @@ first_and_rest (b ∷ bytes) h =
     ap (λ (x : List ℕ). b ∷ x) (sym (rw (e, d) (take_all (length bytes) bytes (omega arith))))
 
 pub varint_last : (most limit b : ℕ) (rest : List ℕ) → 1 ≤ most → b < 128 → b < limit → VarintAt most limit (b ∷ rest) b rest
-varint_last most limit b rest le small fits = record { spelling = b ∷ []; spelled = (small, refl); short = le; fits = fits; parts = refl }
+varint_last most limit b rest le small fits = record { encoding = b ∷ []; encodes = (small, refl); max_len = le; in_range = fits; split = refl }
 
 spelled_more : (s : List ℕ) (high b : ℕ) → 128 ≤ b → IsVarint s high → IsVarint (b ∷ s) (high * 128 + (b - 128))
 spelled_more [] high b le h = absurd h
@@ -29,19 +29,19 @@ power_more k h = let e : k - 1 ≡ 1 + (k - 1 - 1) = omega arith in ap (λ (x : 
 pub varint_more : (most high b : ℕ) (rest after : List ℕ) → 2 ≤ most → 128 ≤ b → b < 256 → VarintAt (most - 1) (2 * 128 ^ (most - 1 - 1)) rest high after → VarintAt most (2 * 128 ^ (most - 1)) (b ∷ rest) (high * 128 + (b - 128)) after
 varint_more most high b rest after le goes fits at =
     let p = power_more most le in
-    let low : high < 2 * 128 ^ (most - 1 - 1) = at.fits in
-    let short = at.short in
+    let low : high < 2 * 128 ^ (most - 1 - 1) = at.in_range in
+    let short = at.max_len in
     record {
-      spelling = b ∷ at.spelling;
-      spelled = spelled_more at.spelling high b goes at.spelled;
-      short = (let s : length at.spelling ≤ most - 1 = at.short in omega (arith, s, le));
-      fits = omega (arith, p, low, fits, goes);
-      parts = ap (λ (x : List ℕ). b ∷ x) at.parts;
+      encoding = b ∷ at.encoding;
+      encodes = spelled_more at.encoding high b goes at.encodes;
+      max_len = (let s : length at.encoding ≤ most - 1 = at.max_len in omega (arith, s, le));
+      in_range = omega (arith, p, low, fits, goes);
+      split = ap (λ (x : List ℕ). b ∷ x) at.split;
     }
 
 pub fault_more : (most b : ℕ) (rest : List ℕ) (e : DecodeError) → 2 ≤ most → 128 ≤ b → VarintFault (most - 1) rest e → VarintFault most (b ∷ rest) e
-fault_more most b rest errors.Truncated le goes f = record { goes = (goes, f.goes); short = (let s : length rest < most - 1 = f.short in omega (arith, s, le)) }
-fault_more most b rest errors.Varint le goes f = record { front = b ∷ f.front; last = f.last; rest = f.rest; goes = (goes, f.goes); place = (let s : length f.front + 1 ≡ most - 1 = f.place in omega (arith, s, le)); high = f.high; parts = ap (λ (x : List ℕ). b ∷ x) f.parts }
+fault_more most b rest errors.Truncated le goes f = record { all_continue = (goes, f.all_continue); too_few = (let s : length rest < most - 1 = f.too_few in omega (arith, s, le)) }
+fault_more most b rest errors.Varint le goes f = record { front = b ∷ f.front; last = f.last; rest = f.rest; all_continue = (goes, f.all_continue); at_limit = (let s : length f.front + 1 ≡ most - 1 = f.at_limit in omega (arith, s, le)); exceeds_one = f.exceeds_one; split = ap (λ (x : List ℕ). b ∷ x) f.split }
 fault_more most b rest errors.Key le goes f = f
 fault_more most b rest errors.WireType le goes f = f
 fault_more most b rest errors.Group le goes f = f
@@ -49,11 +49,11 @@ fault_more most b rest errors.Depth le goes f = f
 fault_more most b rest errors.Utf8 le goes f = f
 fault_more most b rest errors.Memory le goes f = f
 
--- what is left to read is below the type's limit
+-- the limit for the remaining bytes is at most the one for 9 bytes
 pub power_bound : (k : ℕ) → k ≤ 9 → 128 ^ k ≤ 128 ^ 9
 power_bound k h = pow-le-pow_right (lit≤ tt) h
 
--- the same at the pattern's values
+-- `varint_last` for the values of the pattern
 pub read_last : (most limit : ℕ) (bytes : List ℕ) → 1 ≤ most → 1 ≤ length bytes → get_or bytes 0 0 < 128 → get_or bytes 0 0 < limit → VarintAt most limit bytes (get_or bytes 0 0) (take (length bytes - 1) (drop 1 bytes))
 read_last most limit bytes le long small fits =
     let is = first_and_rest bytes long in
@@ -70,9 +70,9 @@ read_fault most bytes e le long goes f =
     subst (λ (x : List ℕ). VarintFault most x e) (sym is) (fault_more most (get_or bytes 0 0) (take (length bytes - 1) (drop 1 bytes)) e le goes f)
 
 pub read_long : (bytes : List ℕ) (most : ℕ) → most ≡ 1 → 1 ≤ length bytes → 1 < get_or bytes 0 0 → VarintLong most bytes
-read_long bytes most one long high = record { front = []; last = get_or bytes 0 0; rest = take (length bytes - 1) (drop 1 bytes); goes = tt; place = omega (arith, one); high = high; parts = first_and_rest bytes long }
+read_long bytes most one long high = record { front = []; last = get_or bytes 0 0; rest = take (length bytes - 1) (drop 1 bytes); all_continue = tt; at_limit = omega (arith, one); exceeds_one = high; split = first_and_rest bytes long }
 
--- the value fits, so the sums do
+-- the value fits into 64 bits, hence the sums do
 pub high_fits : (most high : ℕ) → 2 ≤ most → most ≤ 10 → high < 2 * 128 ^ (most - 1 - 1) → 128 * high + 128 ≤ 2 ^ 64
 high_fits most high le ge low =
     let p = power_more most le in

@@ -1,12 +1,12 @@
--- At most one reading of a number, a key and a value at the front of bytes.
+-- A number, a key and a value at the start of bytes can be decoded in at most one way.
 use Rattle.std.proofs.Common.{◌≡◌, ℕ, suc, ◌+◌, ◌*◌, ◌^◌, ◌<◌, ◌≤◌, ◌⊎◌, inl, inr, List, [], ◌∷◌, ◌++◌, length, refl, ap, sym, ◌∙◌, subst, arith, length-append}
 use Rattle.std.specs.List.{AllByRecursion}
 use Rattle.std.proofs.lemmas.Nat.{pow-add}
 use Rattle.perfdata_sections.specs.declared.decode_error.DecodeError.{DecodeError}
 use Rattle.perfdata_sections.specs.declared.decode_error.DecodeError.TheVariants as errors
-use Rattle.perfdata_simpleperf.specs.Protobuf.Wire.{IsVarint, VarintCut, VarintLong, Goes, NumberAt, NumberFault}
+use Rattle.perfdata_simpleperf.specs.Protobuf.WireFormat.{IsVarint, VarintCut, VarintLong, Goes, NumberAt, NumberFault}
 
--- a reader gives at most one value and rest, or else at most one fault
+-- a decoder has at most one value and rest, or else at most one error
 pub record One (X : Type 0) (At : X → List ℕ → Type 0) (Fault : DecodeError → Type 0) : Type 0 where
   pub value : (x y : X) (r s : List ℕ) → At x r → At y s → (x ≡ y) × (r ≡ s)
   pub whole : (x : X) (r : List ℕ) (e : DecodeError) → At x r → Fault e → ⊥
@@ -47,23 +47,23 @@ long_high (f ∷ front) last y (b ∷ c ∷ s) n x g high p short e =
 
 pub number_long : (bs : List ℕ) (n : ℕ) (rest : List ℕ) → NumberAt bs n rest → VarintLong 10 bs → ⊥
 number_long bs n rest at l =
-    let nine : length l.front ≡ 9 = omega (arith, l.place) in
-    let short : length at.spelling ≤ length l.front + 1 = omega (arith, at.short, nine) in
-    let high : 2 * 128 ^ length l.front ≤ n = long_high l.front l.last l.rest at.spelling n rest l.goes l.high at.spelled short (sym at.parts ∙ l.parts) in
+    let nine : length l.front ≡ 9 = omega (arith, l.at_limit) in
+    let short : length at.encoding ≤ length l.front + 1 = omega (arith, at.max_len, nine) in
+    let high : 2 * 128 ^ length l.front ≤ n = long_high l.front l.last l.rest at.encoding n rest l.all_continue l.exceeds_one at.encodes short (sym at.split ∙ l.split) in
     let power : 128 ^ length l.front ≡ 2 ^ 63 = ap (λ (k : ℕ). 128 ^ k) nine in
-    omega (arith, high, power, at.fits)
+    omega (arith, high, power, at.in_range)
 
 pub number_cut : (bs : List ℕ) (n : ℕ) (rest : List ℕ) → NumberAt bs n rest → VarintCut 10 bs → ⊥
-number_cut bs n rest at c = cut_none at.spelling rest n at.spelled (subst (λ (x : List ℕ). AllByRecursion Goes x) at.parts c.goes)
+number_cut bs n rest at c = cut_none at.encoding rest n at.encodes (subst (λ (x : List ℕ). AllByRecursion Goes x) at.split c.all_continue)
 
 pub cut_long : (bs : List ℕ) → VarintCut 10 bs → VarintLong 10 bs → ⊥
 cut_long bs c l =
-    let p = ap length l.parts in
+    let p = ap length l.split in
     let q = length-append l.front (l.last ∷ l.rest) in
-    omega (arith, p, q, c.short, l.place)
+    omega (arith, p, q, c.too_few, l.at_limit)
 
 pub number_same : (bs : List ℕ) (n m : ℕ) (r s : List ℕ) → NumberAt bs n r → NumberAt bs m s → (n ≡ m) × (r ≡ s)
-number_same bs n m r s p q = spelled_one p.spelling q.spelling n m r s p.spelled q.spelled (sym p.parts ∙ q.parts)
+number_same bs n m r s p q = spelled_one p.encoding q.encoding n m r s p.encodes q.encodes (sym p.split ∙ q.split)
 
 number_whole : (bs : List ℕ) (n : ℕ) (r : List ℕ) (e : DecodeError) → NumberAt bs n r → NumberFault bs e → ⊥
 number_whole bs n r errors.Truncated at f = number_cut bs n r at f
@@ -82,7 +82,7 @@ number_fault bs _ _ p q = absurd p
 pub number_one : (bs : List ℕ) → One ℕ (NumberAt bs) (NumberFault bs)
 number_one bs = record { value = number_same bs; whole = number_whole bs; fault = number_fault bs }
 
--- ---- one after another
+-- ---- consecutive parts
 
 pub record Both (X Y : Type 0) (A : X → List ℕ → Type 0) (B : X → List ℕ → Y → List ℕ → Type 0) (y : Y) (rest : List ℕ) : Type 0 where
   pub first : X

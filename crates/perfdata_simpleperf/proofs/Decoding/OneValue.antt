@@ -1,11 +1,11 @@
--- A message has one value, and what a reader that finds it or its fault answers.
+-- A message has one value, and a decoder that finds this value or the error of the message returns the specified result.
 use Rattle.std.proofs.Common.{◌≡◌, ℕ, ◌^◌, ◌⊎◌, inl, inr, List, [], ◌∷◌, ◌++◌, length, map, refl, ap, sym, ◌∙◌, subst, arith, Result, Ok, Err}
 use Rattle.std.specs.Prelude.{IfOk, IfErr, MatchResult, IsErrAnd}
 use Rattle.perfdata_sections.specs.declared.decode_error.DecodeError.{DecodeError}
 use Rattle.perfdata_sections.specs.declared.decode_error.DecodeError.TheVariants.{Memory}
 use Rattle.perfdata_simpleperf.specs.declared.protobuf.field.Message.TheVariants as messages
 use Rattle.perfdata_simpleperf.specs.declared.simpleperf.file_record.SimpleperfFileRecord.{SimpleperfFileRecord}
-use Rattle.perfdata_simpleperf.specs.Protobuf.Wire.{Contents, number, bytes, skipped}
+use Rattle.perfdata_simpleperf.specs.Protobuf.WireFormat.{Contents, number, bytes, skipped}
 use Rattle.perfdata_simpleperf.specs.Protobuf.Fields.{Part}
 use Rattle.perfdata_simpleperf.specs.Protobuf.Messages.{ArePacked, IsFile, FileFault}
 use Rattle.perfdata_simpleperf.specs.FileRecord.{SymbolValue, Info, no_info, dex_file, elf_file, kernel_module, FileValue, record_value}
@@ -47,7 +47,7 @@ symbols_same : (bs : List (List ℕ)) (ss ts : List SymbolValue) → AreSymbols 
 symbols_same [] ss ts p q = p ∙ sym q
 symbols_same (b ∷ bs) ss ts p q = p.4 ∙ ap (λ (z : SymbolValue). z ∷ p.1) (symbol_same b p.0 q.0 p.2 q.2) ∙ ap (λ (z : List SymbolValue). q.0 ∷ z) (symbols_same bs p.1 q.1 p.3 q.3) ∙ sym q.4
 
--- ---- the longest run at the end
+-- ---- the longest suffix with one number
 
 front_kind : (k d : ℕ) (run : List (List ℕ)) (y : ℕ × List ℕ) (b ys : List (ℕ × List ℕ)) → numbered k run ≡ y ∷ (b ++ ys) → last_or d (map (λ x. x.0) (y ∷ b)) ≡ k
 front_kind k d [] y b ys e = absurd (let a = ap length e in omega (arith, a))
@@ -74,7 +74,7 @@ ends_same k d (x ∷ b) (y ∷ c) run other f g e =
     ends_same k y.0 b c run other (λ w. f (ap (λ (z : ℕ × List ℕ). last_or z.0 (map (λ x. x.0) b)) h ∙ w)) g t
 
 run_same : (k : ℕ) (xs : List (ℕ × List ℕ)) (run other : List (List ℕ)) → IsLastRun k xs run → IsLastRun k xs other → run ≡ other
-run_same k xs run other p q = ends_same k 0 p.before q.before run other p.longest q.longest (sym p.parts ∙ q.parts)
+run_same k xs run other p q = ends_same k 0 p.earlier q.earlier run other p.longest q.longest (sym p.split ∙ q.split)
 
 info_same : (xs : List (ℕ × List ℕ)) (i j : Info) → IsInfo xs i → IsInfo xs j → i ≡ j
 info_same xs no_info no_info p q = refl
@@ -103,7 +103,7 @@ value_same ps v w p q =
 pub record_same : (bs : List ℕ) (v w : FileValue) → IsFileRecord bs v → IsFileRecord bs w → v ≡ w
 record_same bs v w p q = value_same q.0 v w (subst (λ (ps : List Part). HasValue ps v) (file_same bs p.0 q.0 p.1 q.1) p.2) q.2
 
--- ---- what is answered
+-- ---- the result
 
 refused_at : (bs : List ℕ) (e : DecodeError) (v : FileValue) → IsFileRecord bs v → (e ≡ Memory) ⊎ FileFault bs e → e ≡ Memory
 refused_at bs e v r (inl m) = m

@@ -1,12 +1,12 @@
--- At the front of bytes stands a number, a key, a value, a token or a group, or else a fault.
+-- Bytes begin with a number, a key, a value, a token or a group, or else have an error.
 use Rattle.std.proofs.Common.{◌≡◌, ℕ, zero, suc, ◌+◌, ◌*◌, ◌-◌, ◌/◌, ◌%◌, ◌^◌, ◌<◌, ◌≤◌, ◌⊎◌, inl, inr, List, [], ◌∷◌, ◌++◌, length, refl, ap, subst, arith, length-append}
 use Rattle.std.proofs.lemmas.Bool.{cases_lt, cases_eq}
 use Rattle.std.specs.List.{AllByRecursion}
 use Rattle.perfdata_sections.specs.declared.decode_error.DecodeError.{DecodeError}
 use Rattle.perfdata_sections.specs.declared.decode_error.DecodeError.TheVariants as errors
-use Rattle.perfdata_simpleperf.specs.declared.protobuf.wire.Wire.{Wire}
-use Rattle.perfdata_simpleperf.specs.declared.protobuf.wire.Wire.TheVariants as wires
-use Rattle.perfdata_simpleperf.specs.Protobuf.Wire.{IsByte, VarintAt, VarintFault, NumberAt, NumberFault, wire_code, KeyAt, KeyFault, Contents, number, bytes, skipped, Splits, FixedAt, FixedFault, ValueAt, ValueFault, IsPlain}
+use Rattle.perfdata_simpleperf.specs.declared.protobuf.wire.WireType.{WireType}
+use Rattle.perfdata_simpleperf.specs.declared.protobuf.wire.WireType.TheVariants as wires
+use Rattle.perfdata_simpleperf.specs.Protobuf.WireFormat.{IsByte, VarintAt, VarintFault, NumberAt, NumberFault, wire_code, KeyAt, KeyFault, Contents, number, bytes, skipped, Splits, FixedAt, FixedFault, ValueAt, ValueFault, IsPlain}
 use Rattle.perfdata_simpleperf.specs.Protobuf.Groups.{Passes, Token, Tokens, none, PassFault, TokenFault, GroupAt, GroupFault}
 use Rattle.perfdata_simpleperf.proofs.Decoding.Numbers.{varint_last, varint_more, fault_more, small_fits}
 use Rattle.perfdata_simpleperf.proofs.Decoding.GroupSteps.{tokens_then, token_shorter}
@@ -15,7 +15,7 @@ use Rattle.perfdata_simpleperf.proofs.Decoding.OneToken.{wire_of, code_back}
 abbrev pub AreBytes : List ℕ → Type 0
 AreBytes bs = AllByRecursion IsByte bs
 
--- a reading, and bytes behind it
+-- a decoded value, and the bytes after it
 pub record Reading (X : Type 0) (At : X → List ℕ → Type 0) : Type 0 where
   pub value : X
   pub rest : List ℕ
@@ -33,7 +33,7 @@ ReadingOrFault X At Is = Reading X At ⊎ SomeFault Is
 varint_here : (most b : ℕ) (bs : List ℕ) → 1 ≤ most → b < 128 → AreBytes bs → ReadingOrFault ℕ (VarintAt most (2 * 128 ^ (most - 1)) (b ∷ bs)) (VarintFault most (b ∷ bs))
 varint_here most b bs le small are = elim (cases_eq most 1) [
   | inl one ↦ elim (cases_lt 1 b) [
-    | inl high ↦ inr (errors.Varint, record { front = []; last = b; rest = bs; goes = tt; place = omega (arith, one); high = high; parts = refl })
+    | inl high ↦ inr (errors.Varint, record { front = []; last = b; rest = bs; all_continue = tt; at_limit = omega (arith, one); exceeds_one = high; split = refl })
     | inr low ↦
         let e : 128 ^ (most - 1) ≡ 1 = ap (λ (x : ℕ). 128 ^ (x - 1)) one in
         inl record { value = b; rest = bs; at = varint_last most _ b bs le small (omega (arith, low, e)); are = are }
@@ -42,11 +42,11 @@ varint_here most b bs le small are = elim (cases_eq most 1) [
 ]
 
 varint_some : (bs : List ℕ) (most : ℕ) → 1 ≤ most → AreBytes bs → ReadingOrFault ℕ (VarintAt most (2 * 128 ^ (most - 1)) bs) (VarintFault most bs)
-varint_some [] most le are = inr (errors.Truncated, record { goes = tt; short = omega (arith, le) })
+varint_some [] most le are = inr (errors.Truncated, record { all_continue = tt; too_few = omega (arith, le) })
 varint_some (b ∷ bs) most le are = elim (cases_lt b 128) [
   | inl small ↦ varint_here most b bs le small are.1
   | inr goes ↦ elim (cases_eq most 1) [
-    | inl one ↦ inr (errors.Varint, record { front = []; last = b; rest = bs; goes = tt; place = omega (arith, one); high = omega (arith, goes); parts = refl })
+    | inl one ↦ inr (errors.Varint, record { front = []; last = b; rest = bs; all_continue = tt; at_limit = omega (arith, one); exceeds_one = omega (arith, goes); split = refl })
     | inr other ↦
         let two : 2 ≤ most = omega (arith, le, other) in
         elim (varint_some bs (most - 1) (omega (arith, two)) are.1) [
@@ -65,7 +65,7 @@ number_either bs are = elim (number_some bs are) [ inl n ↦ inl (n.value, n.res
 -- ---- keys
 
 abbrev KeyParts : Type 0
-KeyParts = ℕ × Wire
+KeyParts = ℕ × WireType
 
 abbrev HasKey : List ℕ → KeyParts → List ℕ → Type 0
 HasKey bs k rest = KeyAt bs k.0 k.1 rest
@@ -74,15 +74,15 @@ key_of_code : (bs : List ℕ) (code : ℕ) (rest : List ℕ) → NumberAt bs cod
 key_of_code bs code rest at small low high =
     let back = code_back (code % 8) low in
     let e : code ≡ code / 8 * 8 + wire_code (wire_of (code % 8)) = omega (arith, back) in
-    record { at = subst (λ (n : ℕ). NumberAt bs n rest) e at; positive = omega (arith, high); fits = omega (arith, e, small) }
+    record { reads = subst (λ (n : ℕ). NumberAt bs n rest) e at; positive = omega (arith, high); in_range = omega (arith, e, small) }
 
 code_some : (bs : List ℕ) (code : ℕ) (rest : List ℕ) → NumberAt bs code rest → AreBytes rest → ReadingOrFault KeyParts (HasKey bs) (KeyFault bs)
 code_some bs code rest at are = elim (cases_lt code (2 ^ 32)) [
-  | inr high ↦ inr (errors.Key, record { code = code; rest = rest; at = at; wrong = inl high })
+  | inr high ↦ inr (errors.Key, record { code = code; rest = rest; reads = at; error = inl high })
   | inl small ↦ elim (cases_lt 5 (code % 8)) [
-    | inl wrong ↦ inr (errors.WireType, record { code = code; rest = rest; at = at; wrong = (small, omega (arith, wrong)) })
+    | inl wrong ↦ inr (errors.WireType, record { code = code; rest = rest; reads = at; error = (small, omega (arith, wrong)) })
     | inr low ↦ elim (cases_lt code 8) [
-      | inl zero_field ↦ inr (errors.Key, record { code = code; rest = rest; at = at; wrong = inr (omega (arith, zero_field, low)) })
+      | inl zero_field ↦ inr (errors.Key, record { code = code; rest = rest; reads = at; error = inr (omega (arith, zero_field, low)) })
       | inr high ↦ inl record { value = (code / 8, wire_of (code % 8)); rest = rest; at = key_of_code bs code rest at small low high; are = are }
     ]
   ]
@@ -109,24 +109,24 @@ pub record SplitBytes (len : ℕ) (bs : List ℕ) : Type 0 where
   pub are : AreBytes rest
 
 split_some : (len : ℕ) (bs : List ℕ) → len ≤ length bs → AreBytes bs → SplitBytes len bs
-split_some zero bs le are = record { front = []; rest = bs; splits = record { long = refl; parts = refl }; are_front = tt; are = are }
+split_some zero bs le are = record { front = []; rest = bs; splits = record { exact_len = refl; split = refl }; are_front = tt; are = are }
 split_some (suc len) [] le are = absurd (omega (arith, le))
 split_some (suc len) (b ∷ bs) le are =
     let s = split_some len bs (omega (arith, le)) are.1 in
     record {
       front = b ∷ s.front;
       rest = s.rest;
-      splits = record { long = (let l = s.splits.long in omega (arith, l)); parts = ap (λ (x : List ℕ). b ∷ x) s.splits.parts };
+      splits = record { exact_len = (let l = s.splits.exact_len in omega (arith, l)); split = ap (λ (x : List ℕ). b ∷ x) s.splits.split };
       are_front = (are.0, s.are_front);
       are = s.are;
     }
 
--- what a field holds as bytes are bytes
+-- a field's contents are bytes
 abbrev pub HoldsBytes : Contents → Type 0
 HoldsBytes (bytes b) = AreBytes b
 HoldsBytes _ = Unit {0}
 
-abbrev pub ValueHeld : Wire → List ℕ → Contents → List ℕ → Type 0
+abbrev pub ValueHeld : WireType → List ℕ → Contents → List ℕ → Type 0
 ValueHeld w bs x rest = ValueAt w bs x rest × HoldsBytes x
 
 fixed_some : (len : ℕ) (bs : List ℕ) → AreBytes bs → ReadingOrFault Contents (λ x rest. (x ≡ skipped) × FixedAt bs len rest) (FixedFault len bs)
@@ -135,44 +135,44 @@ fixed_some len bs are = elim (cases_lt (length bs) len) [
   | inr le ↦ let s = split_some len bs le are in inl record { value = skipped; rest = s.rest; at = (refl, record { front = s.front; splits = s.splits }); are = s.are }
 ]
 
-eight_some : (bs : List ℕ) → AreBytes bs → ReadingOrFault Contents (ValueHeld wires.Eight bs) (ValueFault wires.Eight bs)
+eight_some : (bs : List ℕ) → AreBytes bs → ReadingOrFault Contents (ValueHeld wires.Fixed64 bs) (ValueFault wires.Fixed64 bs)
 eight_some bs are = elim (fixed_some 8 bs are) [
   | inl x ↦ inl record { value = skipped; rest = x.rest; at = (x.at.1, tt); are = x.are }
   | inr fault ↦ inr (fault.0, fault.1)
 ]
 
-four_some : (bs : List ℕ) → AreBytes bs → ReadingOrFault Contents (ValueHeld wires.Four bs) (ValueFault wires.Four bs)
+four_some : (bs : List ℕ) → AreBytes bs → ReadingOrFault Contents (ValueHeld wires.Fixed32 bs) (ValueFault wires.Fixed32 bs)
 four_some bs are = elim (fixed_some 4 bs are) [
   | inl x ↦ inl record { value = skipped; rest = x.rest; at = (x.at.1, tt); are = x.are }
   | inr fault ↦ inr (fault.0, fault.1)
 ]
 
-length_of_fault : (bs : List ℕ) (e : DecodeError) → NumberFault bs e → ValueFault wires.Length bs e
+length_of_fault : (bs : List ℕ) (e : DecodeError) → NumberFault bs e → ValueFault wires.LengthDelimited bs e
 length_of_fault bs errors.Truncated f = inl f
 length_of_fault bs errors.Varint f = f
 length_of_fault bs _ f = absurd f
 
-length_some : (bs : List ℕ) → AreBytes bs → ReadingOrFault Contents (ValueHeld wires.Length bs) (ValueFault wires.Length bs)
+length_some : (bs : List ℕ) → AreBytes bs → ReadingOrFault Contents (ValueHeld wires.LengthDelimited bs) (ValueFault wires.LengthDelimited bs)
 length_some bs are = elim (number_some bs are) [
   | inl len ↦ elim (cases_lt (length len.rest) len.value) [
-    | inl short ↦ inr (errors.Truncated, inr record { len = len.value; mid = len.rest; at = len.at; short = short })
+    | inl short ↦ inr (errors.Truncated, inr record { len = len.value; mid = len.rest; reads = len.at; too_few = short })
     | inr le ↦
         let s = split_some len.value len.rest le len.are in
-        inl record { value = bytes s.front; rest = s.rest; at = (record { len = len.value; mid = len.rest; at = len.at; splits = s.splits }, s.are_front); are = s.are }
+        inl record { value = bytes s.front; rest = s.rest; at = (record { len = len.value; mid = len.rest; reads = len.at; splits = s.splits }, s.are_front); are = s.are }
   ]
   | inr fault ↦ inr (fault.0, length_of_fault bs fault.0 fault.1)
 ]
 
-pub value_some : (w : Wire) (bs : List ℕ) → IsPlain w → AreBytes bs → ReadingOrFault Contents (ValueHeld w bs) (ValueFault w bs)
-value_some wires.Number bs plain are = elim (number_some bs are) [
+pub value_some : (w : WireType) (bs : List ℕ) → IsPlain w → AreBytes bs → ReadingOrFault Contents (ValueHeld w bs) (ValueFault w bs)
+value_some wires.Varint bs plain are = elim (number_some bs are) [
   | inl n ↦ inl record { value = number n.value; rest = n.rest; at = (n.at, tt); are = n.are }
   | inr fault ↦ inr (fault.0, fault.1)
 ]
-value_some wires.Eight bs plain are = eight_some bs are
-value_some wires.Length bs plain are = length_some bs are
-value_some wires.Four bs plain are = four_some bs are
-value_some wires.Begin bs plain are = absurd plain
-value_some wires.End bs plain are = absurd plain
+value_some wires.Fixed64 bs plain are = eight_some bs are
+value_some wires.LengthDelimited bs plain are = length_some bs are
+value_some wires.Fixed32 bs plain are = four_some bs are
+value_some wires.StartGroup bs plain are = absurd plain
+value_some wires.EndGroup bs plain are = absurd plain
 
 -- ---- tokens
 
@@ -187,7 +187,7 @@ ends_later : (a b : ℕ) (around : List ℕ) (n : ℕ) → ((outer : List ℕ) �
 ends_later a b around n not [] e = let l = ap length e in omega (arith, l)
 ends_later a b around n not (o ∷ outer) e = not outer (let tail : b ∷ around ≡ outer ++ n ∷ [] = cc in tail)
 
--- the list ends in this number, or it doesn't
+-- the list either ends with this number or doesn't
 ends_some : (around : List ℕ) (n : ℕ) → ((inner : List ℕ) × (around ≡ inner ++ n ∷ [])) ⊎ ((outer : List ℕ) → around ≡ outer ++ n ∷ [] → ⊥)
 ends_some [] n = inr (ends_none n)
 ends_some (a ∷ []) n = elim (cases_eq a n) [
@@ -199,38 +199,38 @@ ends_some (a ∷ b ∷ around) n = elim (ends_some (b ∷ around) n) [
   | inr not ↦ inr (ends_later a b around n not)
 ]
 
-plain_some : (w : Wire) (n : ℕ) (around bs : List ℕ) → IsPlain w → AreBytes bs → ReadingOrFault (List ℕ) (λ inner rest. (around ≡ inner) × (x : Contents) × ValueAt w bs x rest) (ValueFault w bs)
+plain_some : (w : WireType) (n : ℕ) (around bs : List ℕ) → IsPlain w → AreBytes bs → ReadingOrFault (List ℕ) (λ inner rest. (around ≡ inner) × (x : Contents) × ValueAt w bs x rest) (ValueFault w bs)
 plain_some w n around bs plain are = elim (value_some w bs plain are) [
   | inl x ↦ inl record { value = around; rest = x.rest; at = (refl, x.value, x.at.0); are = x.are }
   | inr fault ↦ inr fault
 ]
 
-passes_some : (w : Wire) (n : ℕ) (around bs : List ℕ) → AreBytes bs → ReadingOrFault (List ℕ) (Passes w n around bs) (PassFault w n around bs)
-passes_some wires.Begin n around bs are = elim (cases_lt (length around) 100) [
+passes_some : (w : WireType) (n : ℕ) (around bs : List ℕ) → AreBytes bs → ReadingOrFault (List ℕ) (Passes w n around bs) (PassFault w n around bs)
+passes_some wires.StartGroup n around bs are = elim (cases_lt (length around) 100) [
   | inl few ↦ inl record { value = around ++ n ∷ []; rest = bs; at = (few, refl, refl); are = are }
   | inr deep ↦ inr (errors.Depth, deep)
 ]
-passes_some wires.End n around bs are = elim (ends_some around n) [
+passes_some wires.EndGroup n around bs are = elim (ends_some around n) [
   | inl is ↦ inl record { value = is.0; rest = bs; at = (is.1, refl); are = are }
   | inr not ↦ inr (errors.Group, not)
 ]
-passes_some wires.Number n around bs are = plain_some wires.Number n around bs tt are
-passes_some wires.Eight n around bs are = plain_some wires.Eight n around bs tt are
-passes_some wires.Length n around bs are = plain_some wires.Length n around bs tt are
-passes_some wires.Four n around bs are = plain_some wires.Four n around bs tt are
+passes_some wires.Varint n around bs are = plain_some wires.Varint n around bs tt are
+passes_some wires.Fixed64 n around bs are = plain_some wires.Fixed64 n around bs tt are
+passes_some wires.LengthDelimited n around bs are = plain_some wires.LengthDelimited n around bs tt are
+passes_some wires.Fixed32 n around bs are = plain_some wires.Fixed32 n around bs tt are
 
 token_some : (around bs : List ℕ) → 0 < length around → AreBytes bs → ReadingOrFault (List ℕ) (λ inner rest. Token around bs inner rest) (TokenFault around bs)
 token_some around bs inside are = elim (key_some bs are) [
   | inl key ↦ elim (passes_some key.value.1 key.value.0 around key.rest key.are) [
-    | inl p ↦ inl record { value = p.value; rest = p.rest; at = record { number = key.value.0; wire = key.value.1; mid = key.rest; inside = inside; key = key.at; passes = p.at }; are = p.are }
-    | inr fault ↦ inr (fault.0, inr record { number = key.value.0; wire = key.value.1; mid = key.rest; key = key.at; fault = fault.1 })
+    | inl p ↦ inl record { value = p.value; rest = p.rest; at = record { field_number = key.value.0; wire_type = key.value.1; mid = key.rest; is_nonempty = inside; key = key.at; skips_item = p.at }; are = p.are }
+    | inr fault ↦ inr (fault.0, inr record { field_number = key.value.0; wire_type = key.value.1; mid = key.rest; key = key.at; error = fault.1 })
   ]
   | inr fault ↦ inr (fault.0, inl fault.1)
 ]
 
 -- ---- groups
 
--- of the group that has begun, without a value
+-- the rest of a group after its start key, without a value
 abbrev pub PassesGroup : ℕ → List ℕ → Contents → List ℕ → Type 0
 PassesGroup n bs x rest = (x ≡ skipped) × GroupAt n bs rest
 
@@ -241,7 +241,7 @@ group_more (suc most) n bs (a ∷ around) mid before less are = elim (token_some
   | inl t ↦
       let shorter = token_shorter t.at in
       group_more most n bs t.value t.rest (tokens_then before t.at) (omega (arith, shorter, less)) t.are
-  | inr fault ↦ inr (fault.0, record { around = a ∷ around; mid = mid; before = before; inside = omega arith; here = fault.1 })
+  | inr fault ↦ inr (fault.0, record { open_groups = a ∷ around; mid = mid; earlier = before; is_nonempty = omega arith; error_here = fault.1 })
 ]
 
 pub group_some : (n : ℕ) (bs : List ℕ) → AreBytes bs → ReadingOrFault Contents (PassesGroup n bs) (GroupFault n bs)

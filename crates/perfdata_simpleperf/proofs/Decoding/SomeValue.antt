@@ -1,11 +1,11 @@
--- Each message of whole fields has a value.
+-- Each message of complete fields has a value.
 use Rattle.std.proofs.Common.{◌≡◌, ℕ, Bool, true, false, cond, inl, inr, List, [], ◌∷◌, ◌++◌, map, refl, sym, subst, append_assoc}
 use Rattle.std.specs.Prelude.{◌==◌, ◌||◌}
 use Rattle.std.proofs.lemmas.Bool.{cases_eq, ne_eqb}
 use Rattle.std.proofs.lemmas.List.{append-nil}
 use Rattle.perfdata_simpleperf.specs.declared.protobuf.field.Message.TheVariants as messages
-use Rattle.perfdata_simpleperf.specs.declared.protobuf.field.Shape.TheVariants as shapes
-use Rattle.perfdata_simpleperf.specs.Protobuf.Wire.{Contents, number, bytes, skipped}
+use Rattle.perfdata_simpleperf.specs.declared.protobuf.field.FieldType.TheVariants as shapes
+use Rattle.perfdata_simpleperf.specs.Protobuf.WireFormat.{Contents, number, bytes, skipped}
 use Rattle.perfdata_simpleperf.specs.Protobuf.Fields.{Part, shape}
 use Rattle.perfdata_simpleperf.specs.Protobuf.Messages.{IsFine, FieldsBy, NoInner, SomeLeaf, IsFile}
 use Rattle.perfdata_simpleperf.specs.FileRecord.{SymbolValue, Info, dex_file, elf_file, kernel_module, FileValue}
@@ -13,7 +13,7 @@ use Rattle.perfdata_simpleperf.specs.Protobuf.Values.{bytes_list, numbers, texts
 use Rattle.perfdata_simpleperf.proofs.Decoding.MessageSteps.{offsets_append}
 use Rattle.perfdata_simpleperf.proofs.Decoding.Infos.{no_fields, value_more}
 
--- ---- messages in the message
+-- ---- submessages
 
 symbol_some : (b : List ℕ) → SomeLeaf messages.Symbol b → (s : SymbolValue) × IsSymbol b s
 symbol_some b is = (symbol_from no_symbol is.0, (is.0, is.1, refl))
@@ -33,7 +33,7 @@ offsets_if false x fine = ([], refl)
 offsets_some : (bs : List ℕ) (ps : List Part) (rest : List ℕ) → FieldsBy NoInner messages.Dex bs ps rest → (ns : List ℕ) × AreOffsets (contents_of 1 ps) ns
 offsets_some bs [] rest f = ([], refl)
 offsets_some bs (p ∷ ps) rest f =
-    let a = offsets_if (p.number == 1) p.contents f.2 in
+    let a = offsets_if (p.field_number == 1) p.contents f.2 in
     let b = offsets_some f.0 ps rest f.3 in
     (a.0 ++ b.0, offsets_append (contents_in 1 p) (contents_of 1 ps) a.0 b.0 a.1 b.1)
 
@@ -42,7 +42,7 @@ dex_some b is = let o = offsets_some b is.0 [] is.1 in (o.0, (is.0, is.1, o.1))
 
 -- ---- symbols
 
-symbols_held : (x : Contents) → IsFine SomeLeaf (shapes.Inner messages.Symbol) x → (ss : List SymbolValue) × AreSymbols (bytes_list x) ss
+symbols_held : (x : Contents) → IsFine SomeLeaf (shapes.Submessage messages.Symbol) x → (ss : List SymbolValue) × AreSymbols (bytes_list x) ss
 symbols_held (bytes b) is = let s = symbol_some b is in (s.0 ∷ [], (s.0, [], s.1, refl, refl))
 symbols_held (number n) is = ([], refl)
 symbols_held skipped is = ([], refl)
@@ -55,30 +55,30 @@ symbols_four n x four fine =
 symbols_other : (n : ℕ) (x : Contents) → (n ≡ 4 → ⊥) → (ss : List SymbolValue) × AreSymbols (cond (n == 4) (bytes_list x) []) ss
 symbols_other n x other = ([], subst (λ (b : Bool). AreSymbols (cond b (bytes_list x) []) []) (sym (ne_eqb n 4 other)) refl)
 
-symbols_some : (p : Part) → IsFine SomeLeaf (shape messages.File p.number) p.contents → (ss : List SymbolValue) × AreSymbols (texts 4 (p ∷ [])) ss
+symbols_some : (p : Part) → IsFine SomeLeaf (shape messages.File p.field_number) p.contents → (ss : List SymbolValue) × AreSymbols (texts 4 (p ∷ [])) ss
 symbols_some p fine =
-    let s : (ss : List SymbolValue) × AreSymbols (texts_in 4 p) ss = elim (cases_eq p.number 4) [ inl four ↦ symbols_four p.number p.contents four fine | inr other ↦ symbols_other p.number p.contents other ] in
+    let s : (ss : List SymbolValue) × AreSymbols (texts_in 4 p) ss = elim (cases_eq p.field_number 4) [ inl four ↦ symbols_four p.field_number p.contents four fine | inr other ↦ symbols_other p.field_number p.contents other ] in
     (s.0, subst (λ (t : List (List ℕ)). AreSymbols t s.0) (sym (append-nil (texts_in 4 p))) s.1)
 
 -- ---- infos
 
-dex_put : (x : Contents) (old : Info) → IsFine SomeLeaf (shapes.Inner messages.Dex) x → (new : Info) × ArePut (numbered 5 (bytes_list x)) old new
+dex_put : (x : Contents) (old : Info) → IsFine SomeLeaf (shapes.Submessage messages.Dex) x → (new : Info) × ArePut (numbered 5 (bytes_list x)) old new
 dex_put (bytes b) old is = let d = dex_some b is in let new = dex_file (kept_offsets old ++ d.0) in (new, (new, inl (refl, d.0, d.1, refl), refl))
 dex_put (number n) old is = (old, refl)
 dex_put skipped old is = (old, refl)
 
-elf_put : (x : Contents) (old : Info) → IsFine SomeLeaf (shapes.Inner messages.Address) x → (new : Info) × ArePut (numbered 6 (bytes_list x)) old new
+elf_put : (x : Contents) (old : Info) → IsFine SomeLeaf (shapes.Submessage messages.Address) x → (new : Info) × ArePut (numbered 6 (bytes_list x)) old new
 elf_put (bytes b) old is = let n = address_some (kept_elf old) b is in let new = elf_file n.0 in (new, (new, inr (inl (refl, n.0, n.1, refl)), refl))
 elf_put (number n) old is = (old, refl)
 elf_put skipped old is = (old, refl)
 
-module_put : (x : Contents) (old : Info) → IsFine SomeLeaf (shapes.Inner messages.Address) x → (new : Info) × ArePut (numbered 7 (bytes_list x)) old new
+module_put : (x : Contents) (old : Info) → IsFine SomeLeaf (shapes.Submessage messages.Address) x → (new : Info) × ArePut (numbered 7 (bytes_list x)) old new
 module_put (bytes b) old is = let n = address_some (kept_module old) b is in let new = kernel_module n.0 in (new, (new, inr (inr (refl, n.0, n.1, refl)), refl))
 module_put (number n) old is = (old, refl)
 module_put skipped old is = (old, refl)
 
 abbrev Puts : ℕ → Contents → Info → Type 0
-Puts n x old = (new : Info) × ArePut (infos_in (record { number = n; contents = x })) old new
+Puts n x old = (new : Info) × ArePut (infos_in (record { field_number = n; contents = x })) old new
 
 none_put : (a b c : Bool) (xs : List (ℕ × List ℕ)) (old : Info) → a ≡ false → b ≡ false → c ≡ false → (new : Info) × ArePut (cond (a || b || c) xs []) old new
 none_put false false false xs old p q r = (old, refl)
@@ -98,14 +98,14 @@ put_some n x old fine = elim (cases_eq n 5) [
   ]
 ]
 
-infos_some : (p : Part) (old : Info) → IsFine SomeLeaf (shape messages.File p.number) p.contents → (new : Info) × ArePut (infos_of (p ∷ [])) old new
+infos_some : (p : Part) (old : Info) → IsFine SomeLeaf (shape messages.File p.field_number) p.contents → (new : Info) × ArePut (infos_of (p ∷ [])) old new
 infos_some p old fine =
-    let i = put_some p.number p.contents old fine in
+    let i = put_some p.field_number p.contents old fine in
     (i.0, subst (λ (xs : List (ℕ × List ℕ)). ArePut xs old i.0) (sym (append-nil (infos_in p))) i.1)
 
 -- ---- the record
 
-value_then : (ps : List Part) (p : Part) (old : FileValue) → HasValue ps old → IsFine SomeLeaf (shape messages.File p.number) p.contents → (new : FileValue) × HasValue (ps ++ p ∷ []) new
+value_then : (ps : List Part) (p : Part) (old : FileValue) → HasValue ps old → IsFine SomeLeaf (shape messages.File p.field_number) p.contents → (new : FileValue) × HasValue (ps ++ p ∷ []) new
 value_then ps p old has fine =
     let s = symbols_some p fine in
     let i = infos_some p old.info fine in

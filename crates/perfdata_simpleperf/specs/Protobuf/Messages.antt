@@ -1,68 +1,68 @@
--- Messages: the fields of all their bytes, what each field's contents are, and the first fault.
+-- Messages: the fields of all their bytes, the validity of each field's contents, and the first error.
 use Rattle.std.specs.Prelude.{◌≡◌, ℕ, ◌<◌, ◌⊎◌, List, [], ◌∷◌, length, IsUtf8}
 use Rattle.perfdata_sections.specs.declared.decode_error.DecodeError.{DecodeError}
 use Rattle.perfdata_sections.specs.declared.decode_error.DecodeError.TheVariants as errors
 use Rattle.perfdata_simpleperf.specs.declared.protobuf.field.Message.{Message}
 use Rattle.perfdata_simpleperf.specs.declared.protobuf.field.Message.TheVariants as messages
-use Rattle.perfdata_simpleperf.specs.declared.protobuf.field.Shape.{Shape}
-use Rattle.perfdata_simpleperf.specs.declared.protobuf.field.Shape.TheVariants as shapes
-use Rattle.perfdata_simpleperf.specs.Protobuf.Wire.{NumberAt, NumberFault, Contents, bytes}
+use Rattle.perfdata_simpleperf.specs.declared.protobuf.field.FieldType.{FieldType}
+use Rattle.perfdata_simpleperf.specs.declared.protobuf.field.FieldType.TheVariants as shapes
+use Rattle.perfdata_simpleperf.specs.Protobuf.WireFormat.{NumberAt, NumberFault, Contents, bytes}
 use Rattle.perfdata_simpleperf.specs.Protobuf.Fields.{Part, shape, FieldAt, FieldFault}
 
--- ---- numbers in a row
+-- ---- consecutive numbers
 
 abbrev pub NumbersAt : List ℕ → List ℕ → List ℕ → Type 0
 NumbersAt bs [] rest = bs ≡ rest
 NumbersAt bs (n ∷ ns) rest = (mid : List ℕ) × NumberAt bs n mid × NumbersAt mid ns rest
 
--- the bytes are the spellings of these numbers
+-- the bytes are the encodings of these numbers
 abbrev pub ArePacked : List ℕ → List ℕ → Type 0
 ArePacked bs ns = NumbersAt bs ns []
 
--- whole numbers, and then bytes that don't begin with one
+-- complete numbers, followed by bytes that don't begin with one
 pub record PackedFault (bs : List ℕ) (e : DecodeError) : Type 0 where
   pub numbers : List ℕ
   pub mid : List ℕ
-  pub before : NumbersAt bs numbers mid
-  pub inside : 0 < length mid
-  pub here : NumberFault mid e
+  pub earlier : NumbersAt bs numbers mid
+  pub is_nonempty : 0 < length mid
+  pub error_here : NumberFault mid e
 
--- ---- fields in a row, each with contents that are valid by themselves
+-- ---- consecutive fields, each with contents that are valid by themselves
 
--- what a field's contents have to be: Inner says which bytes are a message
-abbrev pub IsFine : (Message → List ℕ → Type 0) → Shape → Contents → Type 0
+-- the contents are valid for a field of this type; `Inner` says which bytes are a message
+abbrev pub IsFine : (Message → List ℕ → Type 0) → FieldType → Contents → Type 0
 IsFine Inner shapes.Text (bytes b) = IsUtf8 b
 IsFine Inner shapes.Numbers (bytes b) = (ns : List ℕ) × ArePacked b ns
-IsFine Inner (shapes.Inner m) (bytes b) = Inner m b
+IsFine Inner (shapes.Submessage m) (bytes b) = Inner m b
 IsFine Inner _ _ = Unit {0}
 
-abbrev pub IsWrong : (Message → List ℕ → DecodeError → Type 0) → Shape → Contents → DecodeError → Type 0
+abbrev pub IsWrong : (Message → List ℕ → DecodeError → Type 0) → FieldType → Contents → DecodeError → Type 0
 IsWrong Inner shapes.Text (bytes b) errors.Utf8 = IsUtf8 b → ⊥
 IsWrong Inner shapes.Numbers (bytes b) e = PackedFault b e
-IsWrong Inner (shapes.Inner m) (bytes b) e = Inner m b e
+IsWrong Inner (shapes.Submessage m) (bytes b) e = Inner m b e
 IsWrong Inner _ _ _ = ⊥
 
 module _ (Inner : Message → List ℕ → Type 0) (message : Message) where
   abbrev pub FieldsBy : List ℕ → List Part → List ℕ → Type 0
   FieldsBy bs [] rest = bs ≡ rest
-  FieldsBy bs (p ∷ ps) rest = (mid : List ℕ) × FieldAt message bs p mid × IsFine Inner (shape message p.number) p.contents × FieldsBy mid ps rest
+  FieldsBy bs (p ∷ ps) rest = (mid : List ℕ) × FieldAt message bs p mid × IsFine Inner (shape message p.field_number) p.contents × FieldsBy mid ps rest
 
--- a field is at the front, and its contents are wrong
-pub record ContentsFault (Wrong : Shape → Contents → DecodeError → Type 0) (message : Message) (bs : List ℕ) (e : DecodeError) : Type 0 where
+-- the bytes begin with a field whose contents are invalid
+pub record ContentsFault (Wrong : FieldType → Contents → DecodeError → Type 0) (message : Message) (bs : List ℕ) (e : DecodeError) : Type 0 where
   pub field : Part
   pub rest : List ℕ
-  pub at : FieldAt message bs field rest
-  pub wrong : Wrong (shape message field.number) field.contents e
+  pub reads : FieldAt message bs field rest
+  pub error : Wrong (shape message field.field_number) field.contents e
 
--- whole fields, and then a fault
-pub record FaultBy (Inner : Message → List ℕ → Type 0) (Wrong : Shape → Contents → DecodeError → Type 0) (message : Message) (bs : List ℕ) (e : DecodeError) : Type 0 where
+-- complete fields, followed by an error
+pub record FaultBy (Inner : Message → List ℕ → Type 0) (Wrong : FieldType → Contents → DecodeError → Type 0) (message : Message) (bs : List ℕ) (e : DecodeError) : Type 0 where
   pub fields : List Part
   pub mid : List ℕ
-  pub before : FieldsBy Inner message bs fields mid
-  pub inside : 0 < length mid
-  pub here : FieldFault message mid e ⊎ ContentsFault Wrong message mid e
+  pub earlier : FieldsBy Inner message bs fields mid
+  pub is_nonempty : 0 < length mid
+  pub error_here : FieldFault message mid e ⊎ ContentsFault Wrong message mid e
 
--- messages with no message in them
+-- messages without submessages
 abbrev pub NoInner : Message → List ℕ → Type 0
 NoInner _ _ = ⊥
 
@@ -79,7 +79,7 @@ LeafFault m bs e = FaultBy NoInner (IsWrong NoInnerFault) m bs e
 abbrev pub IsLeaf : Message → List ℕ → List Part → Type 0
 IsLeaf m bs ps = LeafFields m bs ps []
 
--- the file record
+-- the file record, whose submessages have no submessages
 abbrev pub SomeLeaf : Message → List ℕ → Type 0
 SomeLeaf m bs = (ps : List Part) × IsLeaf m bs ps
 

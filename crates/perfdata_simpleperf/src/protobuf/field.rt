@@ -1,12 +1,12 @@
-//! A field of a message, by the table of the messages that are read.
+//! Reads a field of a message, and checks its wire type against the field table of the message.
 ghost use Rattle.std.specs.Prelude.{◌≡◌, IfOk, IfErr};
 ghost use Rattle.perfdata_simpleperf.specs.Protobuf.Fields.{FieldAt, FieldFault, part, shape, is_permitted};
 
 use crate::protobuf::groups::skip_group;
-use crate::protobuf::wire::{Value, Wire, key_at, value_at};
+use crate::protobuf::wire::{Value, WireType, read_key, read_value};
 use perfdata_sections::decode_error::DecodeError;
 
-/// The messages. `Address` is both the ELF info and the module info.
+/// The messages that the decoder knows. `Address` is the message of both the ELF file info and the kernel module info.
 #[derive(Clone, Copy, Debug, PartialEq, Eq)]
 pub(crate) enum Message {
     File,
@@ -15,83 +15,86 @@ pub(crate) enum Message {
     Address,
 }
 
-/// What a field has.
+/// The declared type of a field.
 #[derive(Clone, Copy, Debug, PartialEq, Eq)]
-pub(crate) enum Shape {
+pub(crate) enum FieldType {
     Unknown,
     Number,
     Text,
     Numbers,
-    Inner(Message),
+    Submessage(Message),
 }
 
 #[derive(Clone, Copy, Debug, PartialEq, Eq)]
 pub(crate) struct Field<'a> {
-    /// Which field.
+    /// The field number.
     pub number: u32,
-    /// What stands behind its key.
+    /// The value after the field's key.
     pub value: Value<'a>,
 }
 
-fn shape_of(message: Message, number: u32) -> Shape
+fn field_type_of(message: Message, number: u32) -> FieldType
     ensures { result ≡ shape message number }
 {
     match message {
         Message::File => match number {
-            1 => Shape::Text,
-            2 | 3 => Shape::Number,
-            4 => Shape::Inner(Message::Symbol),
-            5 => Shape::Inner(Message::Dex),
-            6 | 7 => Shape::Inner(Message::Address),
-            _ => Shape::Unknown,
+            1 => FieldType::Text,
+            2 | 3 => FieldType::Number,
+            4 => FieldType::Submessage(Message::Symbol),
+            5 => FieldType::Submessage(Message::Dex),
+            6 | 7 => FieldType::Submessage(Message::Address),
+            _ => FieldType::Unknown,
         },
         Message::Symbol => match number {
-            1 | 2 => Shape::Number,
-            3 => Shape::Text,
-            _ => Shape::Unknown,
+            1 | 2 => FieldType::Number,
+            3 => FieldType::Text,
+            _ => FieldType::Unknown,
         },
         Message::Dex => match number {
-            1 => Shape::Numbers,
-            _ => Shape::Unknown,
+            1 => FieldType::Numbers,
+            _ => FieldType::Unknown,
         },
         Message::Address => match number {
-            1 => Shape::Number,
-            _ => Shape::Unknown,
+            1 => FieldType::Number,
+            _ => FieldType::Unknown,
         },
     }
 }
 
-// Whether such a field has that wire type.
-fn permits(shape: Shape, wire: Wire) -> bool
+// Returns whether a field of type `shape` can have the wire type `wire`.
+fn accepts_wire_type(shape: FieldType, wire: WireType) -> bool
     ensures { result ≡ is_permitted shape wire }
 {
     match (shape, wire) {
-        (Shape::Unknown, _) => true,
-        (Shape::Number | Shape::Numbers, Wire::Number) => true,
-        (Shape::Text | Shape::Numbers | Shape::Inner(_), Wire::Length) => true,
+        (FieldType::Unknown, _) => true,
+        (FieldType::Number | FieldType::Numbers, WireType::Varint) => true,
+        (
+            FieldType::Text | FieldType::Numbers | FieldType::Submessage(_),
+            WireType::LengthDelimited,
+        ) => true,
         _ => false,
     }
 }
 
-/// The field at the front of the bytes of a message.
-pub(crate) fn field_at(message: Message, bytes: &[u8]) -> Result<(Field<'_>, &[u8]), DecodeError>
+/// Reads the first field of a message, and returns it with the rest of `bytes`.
+pub(crate) fn read_field(message: Message, bytes: &[u8]) -> Result<(Field<'_>, &[u8]), DecodeError>
     ensures found { IfOk result (λ x. FieldAt message bytes.now (part x.0) x.1.now) }
     ensures fault { IfErr result (λ e. FieldFault message bytes.now e) }
 {
-    let (key, rest) = key_at(bytes)?;
-    if !permits(shape_of(message, key.number), key.wire) {
+    let (key, rest) = read_key(bytes)?;
+    if !accepts_wire_type(field_type_of(message, key.field_number), key.wire_type) {
         return Err(DecodeError::WireType);
     }
-    let number = key.number;
-    match key.wire {
-        Wire::Begin => {
+    let number = key.field_number;
+    match key.wire_type {
+        WireType::StartGroup => {
             let rest = skip_group(number, rest)?;
             let value = Value::Skipped;
             Ok((Field { number, value }, rest))
         }
-        Wire::End => Err(DecodeError::Group),
-        Wire::Number | Wire::Eight | Wire::Length | Wire::Four => {
-            let (value, rest) = value_at(key.wire, rest)?;
+        WireType::EndGroup => Err(DecodeError::Group),
+        WireType::Varint | WireType::Fixed64 | WireType::LengthDelimited | WireType::Fixed32 => {
+            let (value, rest) = read_value(key.wire_type, rest)?;
             Ok((Field { number, value }, rest))
         }
     }

@@ -1,55 +1,56 @@
-//! Unknown groups, which are passed over.
+//! Skips unknown groups.
 ghost use Rattle.std.specs.Prelude.{◌<◌, length, IfOk, IfErr};
 ghost use Rattle.perfdata_simpleperf.specs.Protobuf.Groups.{Token, TokenFault, GroupAt, GroupFault};
 
-use crate::protobuf::wire::{Wire, key_at, value_at};
+use crate::protobuf::wire::{WireType, read_key, read_value};
 use arrayvec::ArrayVec;
 use perfdata_sections::decode_error::DecodeError;
 
-/// How many unknown groups stand in one another.
-const DEPTH: usize = 100;
+/// The maximum number of unknown groups nested in one another.
+const MAX_GROUP_DEPTH: usize = 100;
 
-// Passes over a field, or over the key that begins or ends a group. `around` are the groups round it.
-fn skip_token<'a>(
-    around: &mut ArrayVec<u32, DEPTH>,
+// Skips a field, or a key that starts or ends a group. `around` contains the field numbers of the groups that are open at
+// `bytes`, the outermost first.
+fn skip_group_item<'a>(
+    around: &mut ArrayVec<u32, MAX_GROUP_DEPTH>,
     bytes: &'a [u8],
 ) -> Result<&'a [u8], DecodeError>
     requires { 0 < length around.old.items }
     ensures found { IfOk result (λ rest. Token around.old.items bytes.now around.new.items rest.now) }
     ensures fault { IfErr result (λ e. TokenFault around.old.items bytes.now e) }
 {
-    let (key, rest) = key_at(bytes)?;
-    match key.wire {
-        Wire::Begin => {
+    let (key, rest) = read_key(bytes)?;
+    match key.wire_type {
+        WireType::StartGroup => {
             if around.is_full() {
                 return Err(DecodeError::Depth);
             }
-            around.push(key.number);
+            around.push(key.field_number);
             Ok(rest)
         }
-        Wire::End => {
-            if around.pop() != Some(key.number) {
+        WireType::EndGroup => {
+            if around.pop() != Some(key.field_number) {
                 return Err(DecodeError::Group);
             }
             Ok(rest)
         }
-        Wire::Number | Wire::Eight | Wire::Length | Wire::Four => {
-            let (_, rest) = value_at(key.wire, rest)?;
+        WireType::Varint | WireType::Fixed64 | WireType::LengthDelimited | WireType::Fixed32 => {
+            let (_, rest) = read_value(key.wire_type, rest)?;
             Ok(rest)
         }
     }
 }
 
-/// What follows the group that has begun before `bytes`.
+/// Skips the rest of a group whose start key precedes `bytes`, and returns the bytes after its end key.
 pub(crate) fn skip_group(number: u32, bytes: &[u8]) -> Result<&[u8], DecodeError>
     ensures found { IfOk result (λ rest. GroupAt number bytes.now rest.now) }
     ensures fault { IfErr result (λ e. GroupFault number bytes.now e) }
 {
-    let mut around: ArrayVec<u32, DEPTH> = ArrayVec::new();
+    let mut around: ArrayVec<u32, MAX_GROUP_DEPTH> = ArrayVec::new();
     around.push(number);
     let mut rest = bytes;
-    'tokens: while !around.is_empty() {
-        rest = skip_token(&mut around, rest)?;
+    'items: while !around.is_empty() {
+        rest = skip_group_item(&mut around, rest)?;
     }
     Ok(rest)
 }

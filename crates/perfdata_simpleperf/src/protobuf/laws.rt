@@ -1,6 +1,6 @@
-//! Laws over the definitions of messages.
+//! Laws on the definitions of messages.
 ghost use Rattle.std.specs.Prelude.{◌≡◌, ◌⊎◌, ℕ, List, All};
-ghost use Rattle.perfdata_simpleperf.specs.Protobuf.Wire.{IsByte, NumberAt, NumberFault};
+ghost use Rattle.perfdata_simpleperf.specs.Protobuf.WireFormat.{IsByte, NumberAt, NumberFault};
 ghost use Rattle.perfdata_simpleperf.specs.Protobuf.Fields.{Part};
 ghost use Rattle.perfdata_simpleperf.specs.Protobuf.Messages.{IsFile, FileFault};
 ghost use Rattle.perfdata_simpleperf.specs.Protobuf.Groups.{GroupAt};
@@ -9,29 +9,30 @@ ghost use Rattle.perfdata_simpleperf.specs.FileRecord.{FileValue};
 ghost use Rattle.perfdata_simpleperf.specs.Protobuf.Values.{IsFileRecord};
 ghost use Rattle.perfdata_sections.specs.declared.decode_error.DecodeError.{DecodeError};
 
-/// At the front of bytes stands one number, or else one fault.
-pub fn one_number()
+/// Bytes either begin with exactly one varint or have exactly one varint error.
+pub fn varint_is_unique()
     ensures value { (bs : List ℕ) (n m : ℕ) (r s : List ℕ) → NumberAt bs n r → NumberAt bs m s → (n ≡ m) × (r ≡ s) }
-    ensures whole { (bs : List ℕ) (n : ℕ) (r : List ℕ) (e : DecodeError) → NumberAt bs n r → NumberFault bs e → ⊥ }
+    ensures not_both { (bs : List ℕ) (n : ℕ) (r : List ℕ) (e : DecodeError) → NumberAt bs n r → NumberFault bs e → ⊥ }
     ensures fault { (bs : List ℕ) (e f : DecodeError) → NumberFault bs e → NumberFault bs f → e ≡ f }
-    ensures either { (bs : List ℕ) → All IsByte bs → ((n : ℕ) × (r : List ℕ) × NumberAt bs n r) ⊎ ((e : DecodeError) × NumberFault bs e) }
+    ensures decided { (bs : List ℕ) → All IsByte bs → ((n : ℕ) × (r : List ℕ) × NumberAt bs n r) ⊎ ((e : DecodeError) × NumberFault bs e) }
 {}
 
-/// Bytes are a message of one list of fields, or else have one first fault.
-pub fn one_message()
+/// Bytes are either a message with exactly one list of fields or have exactly one first error.
+pub fn message_is_unique()
     ensures value { (bs : List ℕ) (ps qs : List Part) → IsFile bs ps → IsFile bs qs → ps ≡ qs }
-    ensures whole { (bs : List ℕ) (ps : List Part) (e : DecodeError) → IsFile bs ps → FileFault bs e → ⊥ }
+    ensures not_both { (bs : List ℕ) (ps : List Part) (e : DecodeError) → IsFile bs ps → FileFault bs e → ⊥ }
     ensures fault { (bs : List ℕ) (e f : DecodeError) → FileFault bs e → FileFault bs f → e ≡ f }
-    ensures either { (bs : List ℕ) → All IsByte bs → ((ps : List Part) × IsFile bs ps) ⊎ ((e : DecodeError) × FileFault bs e) }
+    ensures decided { (bs : List ℕ) → All IsByte bs → ((ps : List Part) × IsFile bs ps) ⊎ ((e : DecodeError) × FileFault bs e) }
 {}
 
-/// A message has one value.
-pub fn one_value()
+/// A message has exactly one value.
+pub fn value_is_unique()
     ensures value { (bs : List ℕ) (v w : FileValue) → IsFileRecord bs v → IsFileRecord bs w → v ≡ w }
-    ensures some { (bs : List ℕ) (ps : List Part) → IsFile bs ps → (v : FileValue) × IsFileRecord bs v }
+    ensures exists { (bs : List ℕ) (ps : List Part) → IsFile bs ps → (v : FileValue) × IsFileRecord bs v }
 {}
 
-/// What is passed over as a group are whole fields, nested at most 99 deep in it, and its end.
+/// The bytes that are skipped as a group are complete fields, with further groups nested at most 99 deep, and the group's end
+/// key. All such bytes are skipped as a group.
 pub fn groups_nest()
     ensures nests { (n : ℕ) (bs rest : List ℕ) → GroupAt n bs rest → IsNestedGroup n bs rest }
     ensures all { (n : ℕ) (bs rest : List ℕ) → IsNestedGroup n bs rest → GroupAt n bs rest }

@@ -1,7 +1,7 @@
-//! Messages from their fields.
+//! Decodes messages by merging their fields.
 ghost use Rattle.std.specs.Prelude.{◌≡◌, ◌⊎◌, ◌∷◌, [], ◌++◌, List, ℕ, ◌%◌, IfOk, IfErr, OnOk, string_bytes, IsUtf8, IsTrue, map};
 ghost use Rattle.perfdata_simpleperf.specs.Protobuf.Fields.{part, shape};
-ghost use Rattle.perfdata_simpleperf.specs.Protobuf.Wire.{contents_bytes};
+ghost use Rattle.perfdata_simpleperf.specs.Protobuf.WireFormat.{contents_bytes};
 ghost use Rattle.perfdata_simpleperf.specs.Protobuf.Messages.{NoInner, NoInnerFault, IsFine, IsWrong, LeafFault, ArePacked, PackedFault, SomeLeaf, FileFault};
 ghost use Rattle.perfdata_simpleperf.specs.FileRecord.{symbol_value, SymbolValue, info_value, record_value};
 ghost use Rattle.perfdata_simpleperf.specs.Protobuf.Values.{symbol_from, IsSymbol, low, last_or, numbers, contents_of, AreOffsets, IsDex, IsAddressFrom, AreSymbols, texts, infos_of, is_info, IsPut, ArePut, IsFileRecord, kept_offsets, kept_elf, kept_module};
@@ -9,8 +9,8 @@ ghost use Rattle.perfdata_sections.specs.declared.decode_error.DecodeError.TheVa
 ghost use Rattle.perfdata_sections.specs.declared.decode_error.DecodeError.{DecodeError};
 ghost use Rattle.perfdata_simpleperf.specs.declared.protobuf.field.Message.TheVariants as messages;
 
-use crate::protobuf::field::{Field, Message, field_at};
-use crate::protobuf::wire::{Value, number_at};
+use crate::protobuf::field::{Field, Message, read_field};
+use crate::protobuf::wire::{Value, read_varint};
 use crate::simpleperf::{
     SimpleperfDexFileInfo, SimpleperfElfFileInfo, SimpleperfFileRecord, SimpleperfKernelModuleInfo,
     SimpleperfSymbol, SimpleperfTypeSpecificInfo,
@@ -18,13 +18,13 @@ use crate::simpleperf::{
 use perfdata_sections::decode_error::DecodeError;
 use std::alloc::Global;
 
-fn low_of(n: u64) -> u32
+fn low_u32(n: u64) -> u32
     ensures { result ≡ low n }
 {
     (n % 0x1_0000_0000) as u32
 }
 
-fn text_of(alloc: Global, bytes: &[u8]) -> Result<String, DecodeError>
+fn decode_text(alloc: Global, bytes: &[u8]) -> Result<String, DecodeError>
     ensures found { IfOk result (λ s. (string_bytes s ≡ bytes.now) × IsUtf8 bytes.now) }
     ensures fault { IfErr result (λ e. (e ≡ Memory) ⊎ ((e ≡ Utf8) × (IsUtf8 bytes.now → ⊥))) }
 {
@@ -34,25 +34,25 @@ fn text_of(alloc: Global, bytes: &[u8]) -> Result<String, DecodeError>
     }
 }
 
-fn put_in_symbol(
+fn merge_symbol_field(
     alloc: Global,
     symbol: &mut SimpleperfSymbol,
     field: &Field<'_>,
 ) -> Result<(), DecodeError>
     ensures value { OnOk result (symbol_value symbol.new ≡ symbol_from (symbol_value symbol.old) (part field.now ∷ [])) }
-    ensures fine { OnOk result (IsFine NoInner (shape messages.Symbol (part field.now).number) (part field.now).contents) }
-    ensures fault { IfErr result (λ e. (e ≡ Memory) ⊎ IsWrong NoInnerFault (shape messages.Symbol (part field.now).number) (part field.now).contents e) }
+    ensures valid_contents { OnOk result (IsFine NoInner (shape messages.Symbol (part field.now).field_number) (part field.now).contents) }
+    ensures fault { IfErr result (λ e. (e ≡ Memory) ⊎ IsWrong NoInnerFault (shape messages.Symbol (part field.now).field_number) (part field.now).contents e) }
 {
     match (field.number, field.value) {
         (1, Value::Number(n)) => symbol.vaddr = n,
-        (2, Value::Number(n)) => symbol.len = low_of(n),
-        (3, Value::Bytes(bytes)) => symbol.name = text_of(alloc, bytes)?,
+        (2, Value::Number(n)) => symbol.len = low_u32(n),
+        (3, Value::Bytes(bytes)) => symbol.name = decode_text(alloc, bytes)?,
         _ => {}
     }
     Ok(())
 }
 
-fn symbol_of(alloc: Global, bytes: &[u8]) -> Result<SimpleperfSymbol, DecodeError>
+fn decode_symbol(alloc: Global, bytes: &[u8]) -> Result<SimpleperfSymbol, DecodeError>
     ensures found { IfOk result (λ s. IsSymbol bytes.now (symbol_value s)) }
     ensures fault { IfErr result (λ e. (e ≡ Memory) ⊎ LeafFault messages.Symbol bytes.now e) }
 {
@@ -63,30 +63,30 @@ fn symbol_of(alloc: Global, bytes: &[u8]) -> Result<SimpleperfSymbol, DecodeErro
     };
     let mut rest = bytes;
     'fields: while !rest.is_empty() {
-        let (field, after) = field_at(Message::Symbol, rest)?;
-        put_in_symbol(alloc, &mut symbol, &field)?;
+        let (field, after) = read_field(Message::Symbol, rest)?;
+        merge_symbol_field(alloc, &mut symbol, &field)?;
         rest = after;
     }
     Ok(symbol)
 }
 
-fn put_packed(offsets: &mut Vec<u64>, bytes: &[u8]) -> Result<(), DecodeError>
+fn push_packed(offsets: &mut Vec<u64>, bytes: &[u8]) -> Result<(), DecodeError>
     ensures found { OnOk result ((ns : List ℕ) × ArePacked bytes.now ns × (offsets.new.items ≡ offsets.old.items ++ ns)) }
     ensures fault { IfErr result (λ e. (e ≡ Memory) ⊎ PackedFault bytes.now e) }
 {
     let mut rest = bytes;
     'numbers: while !rest.is_empty() {
-        let (number, after) = number_at(rest)?;
+        let (number, after) = read_varint(rest)?;
         offsets.push(number)?;
         rest = after;
     }
     Ok(())
 }
 
-fn put_in_dex(offsets: &mut Vec<u64>, field: &Field<'_>) -> Result<(), DecodeError>
+fn merge_dex_field(offsets: &mut Vec<u64>, field: &Field<'_>) -> Result<(), DecodeError>
     ensures value { OnOk result ((ns : List ℕ) × AreOffsets (contents_of 1 (part field.now ∷ [])) ns × (offsets.new.items ≡ offsets.old.items ++ ns)) }
-    ensures fine { OnOk result (IsFine NoInner (shape messages.Dex (part field.now).number) (part field.now).contents) }
-    ensures fault { IfErr result (λ e. (e ≡ Memory) ⊎ IsWrong NoInnerFault (shape messages.Dex (part field.now).number) (part field.now).contents e) }
+    ensures valid_contents { OnOk result (IsFine NoInner (shape messages.Dex (part field.now).field_number) (part field.now).contents) }
+    ensures fault { IfErr result (λ e. (e ≡ Memory) ⊎ IsWrong NoInnerFault (shape messages.Dex (part field.now).field_number) (part field.now).contents e) }
 {
     if field.number != 1 {
         return Ok(());
@@ -97,42 +97,42 @@ fn put_in_dex(offsets: &mut Vec<u64>, field: &Field<'_>) -> Result<(), DecodeErr
             Ok(())
         }
         Value::Bytes(bytes) => {
-            put_packed(offsets, bytes)?;
+            push_packed(offsets, bytes)?;
             Ok(())
         }
         Value::Skipped => Ok(()),
     }
 }
 
-fn put_dex(offsets: &mut Vec<u64>, bytes: &[u8]) -> Result<(), DecodeError>
+fn merge_dex(offsets: &mut Vec<u64>, bytes: &[u8]) -> Result<(), DecodeError>
     ensures found { OnOk result ((ns : List ℕ) × IsDex bytes.now ns × (offsets.new.items ≡ offsets.old.items ++ ns)) }
     ensures fault { IfErr result (λ e. (e ≡ Memory) ⊎ LeafFault messages.Dex bytes.now e) }
 {
     let mut rest = bytes;
     'fields: while !rest.is_empty() {
-        let (field, after) = field_at(Message::Dex, rest)?;
-        put_in_dex(offsets, &field)?;
+        let (field, after) = read_field(Message::Dex, rest)?;
+        merge_dex_field(offsets, &field)?;
         rest = after;
     }
     Ok(())
 }
 
-// The address in the message, or `start` where it has none.
-fn address_of(start: u64, bytes: &[u8]) -> Result<u64, DecodeError>
+// Returns the last address in the message, or `start` if it has none.
+fn decode_address(start: u64, bytes: &[u8]) -> Result<u64, DecodeError>
     ensures found { IfOk result (λ n. IsAddressFrom start bytes.now n) }
     ensures fault { IfErr result (λ e. LeafFault messages.Address bytes.now e) }
 {
     let mut address = start;
     let mut rest = bytes;
     'fields: while !rest.is_empty() {
-        let (field, after) = field_at(Message::Address, rest)?;
-        address = address_in(address, &field);
+        let (field, after) = read_field(Message::Address, rest)?;
+        address = merge_address_field(address, &field);
         rest = after;
     }
     Ok(address)
 }
 
-fn address_in(address: u64, field: &Field<'_>) -> u64
+fn merge_address_field(address: u64, field: &Field<'_>) -> u64
     ensures { result ≡ last_or address (numbers 1 (part field.now ∷ [])) }
 {
     match (field.number, field.value) {
@@ -141,7 +141,7 @@ fn address_in(address: u64, field: &Field<'_>) -> u64
     }
 }
 
-fn offsets_of(alloc: Global, info: Option<SimpleperfTypeSpecificInfo>) -> Vec<u64>
+fn previous_offsets(alloc: Global, info: Option<SimpleperfTypeSpecificInfo>) -> Vec<u64>
     ensures { result.items ≡ kept_offsets (info_value info) }
 {
     match info {
@@ -150,7 +150,7 @@ fn offsets_of(alloc: Global, info: Option<SimpleperfTypeSpecificInfo>) -> Vec<u6
     }
 }
 
-fn elf_of(info: &Option<SimpleperfTypeSpecificInfo>) -> u64
+fn previous_elf_offset(info: &Option<SimpleperfTypeSpecificInfo>) -> u64
     ensures { result ≡ kept_elf (info_value info.now) }
 {
     match info {
@@ -159,7 +159,7 @@ fn elf_of(info: &Option<SimpleperfTypeSpecificInfo>) -> u64
     }
 }
 
-fn module_of(info: &Option<SimpleperfTypeSpecificInfo>) -> u64
+fn previous_module_offset(info: &Option<SimpleperfTypeSpecificInfo>) -> u64
     ensures { result ≡ kept_module (info_value info.now) }
 {
     match info {
@@ -168,8 +168,8 @@ fn module_of(info: &Option<SimpleperfTypeSpecificInfo>) -> u64
     }
 }
 
-// The info after a field of this number with these bytes.
-fn info_of(
+// Merges a field with the number `kind` (5, 6 or 7) and the contents `bytes` into `info`.
+fn merge_info(
     alloc: Global,
     info: Option<SimpleperfTypeSpecificInfo>,
     kind: u32,
@@ -177,25 +177,25 @@ fn info_of(
 ) -> Result<SimpleperfTypeSpecificInfo, DecodeError>
     requires { IsTrue (is_info kind) }
     ensures found { IfOk result (λ new. IsPut kind bytes.now (info_value info) (info_value (Some new))) }
-    ensures fine { OnOk result (IsFine SomeLeaf (shape messages.File kind) (contents_bytes bytes.now)) }
+    ensures valid_contents { OnOk result (IsFine SomeLeaf (shape messages.File kind) (contents_bytes bytes.now)) }
     ensures fault { IfErr result (λ e. (e ≡ Memory) ⊎ IsWrong LeafFault (shape messages.File kind) (contents_bytes bytes.now) e) }
 {
     match kind {
         5 => {
-            let mut dex_file_offset = offsets_of(alloc, info);
-            put_dex(&mut dex_file_offset, bytes)?;
+            let mut dex_file_offset = previous_offsets(alloc, info);
+            merge_dex(&mut dex_file_offset, bytes)?;
             Ok(SimpleperfTypeSpecificInfo::SimpleperfDexFileInfo(SimpleperfDexFileInfo {
                 dex_file_offset,
             }))
         }
         6 => {
-            let file_offset_of_min_vaddr = address_of(elf_of(&info), bytes)?;
+            let file_offset_of_min_vaddr = decode_address(previous_elf_offset(&info), bytes)?;
             Ok(SimpleperfTypeSpecificInfo::ElfFile(SimpleperfElfFileInfo {
                 file_offset_of_min_vaddr,
             }))
         }
         7 => {
-            let memory_offset_of_min_vaddr = address_of(module_of(&info), bytes)?;
+            let memory_offset_of_min_vaddr = decode_address(previous_module_offset(&info), bytes)?;
             Ok(SimpleperfTypeSpecificInfo::KernelModule(SimpleperfKernelModuleInfo {
                 memory_offset_of_min_vaddr,
             }))
@@ -204,7 +204,7 @@ fn info_of(
     }
 }
 
-fn put_in_record(
+fn merge_record_field(
     alloc: Global,
     file: &mut SimpleperfFileRecord,
     field: &Field<'_>,
@@ -214,16 +214,16 @@ fn put_in_record(
     ensures min_vaddr { OnOk result ((record_value file.new).min_vaddr ≡ last_or (record_value file.old).min_vaddr (numbers 3 (part field.now ∷ []))) }
     ensures symbol { OnOk result ((ss : List SymbolValue) × AreSymbols (texts 4 (part field.now ∷ [])) ss × ((record_value file.new).symbol ≡ (record_value file.old).symbol ++ ss)) }
     ensures info { OnOk result (ArePut (infos_of (part field.now ∷ [])) (record_value file.old).info (record_value file.new).info) }
-    ensures fine { OnOk result (IsFine SomeLeaf (shape messages.File (part field.now).number) (part field.now).contents) }
-    ensures fault { IfErr result (λ e. (e ≡ Memory) ⊎ IsWrong LeafFault (shape messages.File (part field.now).number) (part field.now).contents e) }
+    ensures valid_contents { OnOk result (IsFine SomeLeaf (shape messages.File (part field.now).field_number) (part field.now).contents) }
+    ensures fault { IfErr result (λ e. (e ≡ Memory) ⊎ IsWrong LeafFault (shape messages.File (part field.now).field_number) (part field.now).contents e) }
 {
     match (field.number, field.value) {
         (1, Value::Bytes(bytes)) => {
-            file.path = text_of(alloc, bytes)?;
+            file.path = decode_text(alloc, bytes)?;
             Ok(())
         }
         (2, Value::Number(n)) => {
-            file.type_ = low_of(n);
+            file.type_ = low_u32(n);
             Ok(())
         }
         (3, Value::Number(n)) => {
@@ -231,13 +231,13 @@ fn put_in_record(
             Ok(())
         }
         (4, Value::Bytes(bytes)) => {
-            let symbol = symbol_of(alloc, bytes)?;
+            let symbol = decode_symbol(alloc, bytes)?;
             file.symbol.push(symbol)?;
             Ok(())
         }
         (5 | 6 | 7, Value::Bytes(bytes)) => {
             let old = file.type_specific_msg.take();
-            let new = info_of(alloc, old, field.number, bytes)?;
+            let new = merge_info(alloc, old, field.number, bytes)?;
             file.type_specific_msg = Some(new);
             Ok(())
         }
@@ -245,8 +245,11 @@ fn put_in_record(
     }
 }
 
-/// The file record that the bytes are.
-pub(crate) fn record_of(alloc: Global, bytes: &[u8]) -> Result<SimpleperfFileRecord, DecodeError>
+/// Decodes the file record that all of `bytes` encode.
+pub(crate) fn decode_file_record(
+    alloc: Global,
+    bytes: &[u8],
+) -> Result<SimpleperfFileRecord, DecodeError>
     ensures found { IfOk result (λ r. IsFileRecord bytes.now (record_value r)) }
     ensures fault { IfErr result (λ e. (e ≡ Memory) ⊎ FileFault bytes.now e) }
 {
@@ -259,8 +262,8 @@ pub(crate) fn record_of(alloc: Global, bytes: &[u8]) -> Result<SimpleperfFileRec
     };
     let mut rest = bytes;
     'fields: while !rest.is_empty() {
-        let (field, after) = field_at(Message::File, rest)?;
-        put_in_record(alloc, &mut file, &field)?;
+        let (field, after) = read_field(Message::File, rest)?;
+        merge_record_field(alloc, &mut file, &field)?;
         rest = after;
     }
     Ok(file)

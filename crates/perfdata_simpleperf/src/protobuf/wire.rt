@@ -1,29 +1,29 @@
-//! Numbers and keys as protobuf spells them.
+//! Reads protobuf varints, keys and values.
 ghost use Rattle.std.specs.Prelude.{◌≤◌, ◌<◌, ◌*◌, ◌-◌, ◌^◌, IfOk, IfErr};
-ghost use Rattle.perfdata_simpleperf.specs.Protobuf.Wire.{VarintAt, VarintFault, NumberAt, NumberFault, KeyAt, KeyFault, FixedAt, FixedFault, seen, ValueAt, ValueFault, IsPlain};
+ghost use Rattle.perfdata_simpleperf.specs.Protobuf.WireFormat.{VarintAt, VarintFault, NumberAt, NumberFault, KeyAt, KeyFault, FixedAt, FixedFault, seen, ValueAt, ValueFault, IsPlain};
 
 use perfdata_sections::decode_error::DecodeError;
 
-/// What stands behind a key.
+/// The wire type of a key: the encoding of the value after it.
 #[derive(Clone, Copy, Debug, PartialEq, Eq)]
-pub(crate) enum Wire {
-    Number,
-    Eight,
-    Length,
-    Begin,
-    End,
-    Four,
+pub(crate) enum WireType {
+    Varint,
+    Fixed64,
+    LengthDelimited,
+    StartGroup,
+    EndGroup,
+    Fixed32,
 }
 
 #[derive(Clone, Copy, Debug, PartialEq, Eq)]
 pub(crate) struct Key {
-    /// Which field.
-    pub number: u32,
-    /// How its value is spelled.
-    pub wire: Wire,
+    /// The field number.
+    pub field_number: u32,
+    /// The encoding of the field's value.
+    pub wire_type: WireType,
 }
 
-/// A field's contents.
+/// The contents of a field.
 #[derive(Clone, Copy, Debug, PartialEq, Eq)]
 pub(crate) enum Value<'a> {
     Number(u64),
@@ -31,8 +31,8 @@ pub(crate) enum Value<'a> {
     Skipped,
 }
 
-// A number of at most `left` bytes, the last of which is at most 1 where all are there.
-fn varint_of(bytes: &[u8], left: u32) -> Result<(u64, &[u8]), DecodeError>
+// Decodes a varint of at most `left` bytes. If it has exactly `left` bytes, the last is at most 1.
+fn decode_varint(bytes: &[u8], left: u32) -> Result<(u64, &[u8]), DecodeError>
     requires low { 1 ≤ left }
     requires high { left ≤ 10 }
     ensures found { IfOk result (λ x. VarintAt left (2 * 128 ^ (left - 1)) bytes.now x.0 x.1.now) }
@@ -50,74 +50,80 @@ fn varint_of(bytes: &[u8], left: u32) -> Result<(u64, &[u8]), DecodeError>
             } else if *byte < 128 {
                 Ok((*byte as u64, rest))
             } else {
-                let (high, after) = varint_of(rest, left - 1)?;
+                let (high, after) = decode_varint(rest, left - 1)?;
                 Ok((high * 128 + (*byte as u64 - 128), after))
             }
         }
     }
 }
 
-/// The number at the front.
-pub(crate) fn number_at(bytes: &[u8]) -> Result<(u64, &[u8]), DecodeError>
+/// Reads a varint from the start of `bytes`, and returns it with the rest.
+pub(crate) fn read_varint(bytes: &[u8]) -> Result<(u64, &[u8]), DecodeError>
     ensures found { IfOk result (λ x. NumberAt bytes.now x.0 x.1.now) }
     ensures fault { IfErr result (λ e. NumberFault bytes.now e) }
 {
-    varint_of(bytes, 10)
+    decode_varint(bytes, 10)
 }
 
-/// The key at the front.
-pub(crate) fn key_at(bytes: &[u8]) -> Result<(Key, &[u8]), DecodeError>
-    ensures found { IfOk result (λ x. KeyAt bytes.now x.0.number x.0.wire x.1.now) }
+/// Reads a key from the start of `bytes`, and returns it with the rest.
+pub(crate) fn read_key(bytes: &[u8]) -> Result<(Key, &[u8]), DecodeError>
+    ensures found { IfOk result (λ x. KeyAt bytes.now x.0.field_number x.0.wire_type x.1.now) }
     ensures fault { IfErr result (λ e. KeyFault bytes.now e) }
 {
-    let (code, rest) = number_at(bytes)?;
+    let (code, rest) = read_varint(bytes)?;
     if code >= 0x1_0000_0000 {
         return Err(DecodeError::Key);
     }
     let wire = match code % 8 {
-        0 => Wire::Number,
-        1 => Wire::Eight,
-        2 => Wire::Length,
-        3 => Wire::Begin,
-        4 => Wire::End,
-        5 => Wire::Four,
+        0 => WireType::Varint,
+        1 => WireType::Fixed64,
+        2 => WireType::LengthDelimited,
+        3 => WireType::StartGroup,
+        4 => WireType::EndGroup,
+        5 => WireType::Fixed32,
         _ => return Err(DecodeError::WireType),
     };
     let number = (code / 8) as u32;
     if number == 0 {
         return Err(DecodeError::Key);
     }
-    Ok((Key { number, wire }, rest))
+    Ok((
+        Key {
+            field_number: number,
+            wire_type: wire,
+        },
+        rest,
+    ))
 }
 
-/// The value at the front, of a field that is no group.
-pub(crate) fn value_at(wire: Wire, bytes: &[u8]) -> Result<(Value<'_>, &[u8]), DecodeError>
+/// Reads a value from the start of `bytes`, and returns it with the rest. The field isn't a group.
+pub(crate) fn read_value(wire: WireType, bytes: &[u8]) -> Result<(Value<'_>, &[u8]), DecodeError>
     requires { IsPlain wire }
     ensures found { IfOk result (λ x. ValueAt wire bytes.now (seen x.0) x.1.now) }
     ensures fault { IfErr result (λ e. ValueFault wire bytes.now e) }
 {
     match wire {
-        Wire::Number => {
-            let (number, rest) = number_at(bytes)?;
+        WireType::Varint => {
+            let (number, rest) = read_varint(bytes)?;
             Ok((Value::Number(number), rest))
         }
-        Wire::Eight => {
+        WireType::Fixed64 => {
             let rest = skip_bytes(bytes, 8)?;
             Ok((Value::Skipped, rest))
         }
-        Wire::Four => {
+        WireType::Fixed32 => {
             let rest = skip_bytes(bytes, 4)?;
             Ok((Value::Skipped, rest))
         }
-        Wire::Length => {
-            let (len, rest) = number_at(bytes)?;
+        WireType::LengthDelimited => {
+            let (len, rest) = read_varint(bytes)?;
             if len > rest.len() as u64 {
                 return Err(DecodeError::Truncated);
             }
             let (value, rest) = rest.split_at(len as usize);
             Ok((Value::Bytes(value), rest))
         }
-        Wire::Begin | Wire::End => unreachable!(),
+        WireType::StartGroup | WireType::EndGroup => unreachable!(),
     }
 }
 

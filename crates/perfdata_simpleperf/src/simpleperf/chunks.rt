@@ -1,48 +1,51 @@
-//! Pieces behind their lengths.
+//! Splits a section into chunks, each preceded by its length.
 ghost use Rattle.std.specs.Prelude.{◌≡◌, ◌⊎◌, ℕ, List, IfOk, IfErr, map};
 ghost use Rattle.perfdata_simpleperf.specs.FileRecord.{FileValue, record_value};
-ghost use Rattle.perfdata_simpleperf.specs.Pieces.{PieceFault, PieceAt, LacksPiece, ArePieces, StopsAt, TellsPiece};
+ghost use Rattle.perfdata_simpleperf.specs.Chunks.{ChunkError, ChunkAt, IsChunkReadError, AreChunks, FirstChunkError, ReportsChunkError};
 ghost use Rattle.perfdata_base.specs.declared.raw.Endianness.{Endianness};
 ghost use Rattle.perfdata_sections.specs.declared.error.Error.{Error};
 ghost use Rattle.perfdata_sections.specs.declared.error.Error.TheVariants.{Memory};
 
 use crate::simpleperf::SimpleperfFileRecord;
-use perfdata_base::order::read_u32;
+use perfdata_base::endian::read_u32;
 use perfdata_base::raw::Endianness;
-use perfdata_sections::error::{Error, short};
+use perfdata_sections::error::{Error, unexpected_eof};
 use std::alloc::Global;
 
-/// A way in which pieces spell records.
-pub(crate) trait Spelling {
-    /// What can be wrong with the bytes of a piece.
-    type Fault;
+/// A format of the records in chunks.
+pub(crate) trait ChunkFormat {
+    /// An error in the bytes of a chunk.
+    type FormatError;
 
-    /// The bytes of a piece spell this value, in the order of the file.
-    ghost spells: { Endianness → List ℕ → FileValue → Type 0 };
+    /// The bytes of a chunk encode this value, in the byte order of the file.
+    ghost decodes_to: { Endianness → List ℕ → FileValue → Type 0 };
 
-    /// This is wrong with the bytes of a piece.
-    ghost refuses: { Endianness → List ℕ → Self.Fault → Type 0 };
+    /// The bytes of a chunk have this error.
+    ghost is_invalid_for: { Endianness → List ℕ → Self.FormatError → Type 0 };
 
-    /// An error tells what is wrong.
-    ghost tells: { Self.Fault → Error → Type 0 };
+    /// The section's error reports this error in a chunk.
+    ghost is_reported_by: { Self.FormatError → Error → Type 0 };
 
-    /// The record that a piece spells, or the section's error.
-    fn record_in(
+    /// Parses the record in a chunk, or returns the section's error for it.
+    fn parse_record(
         alloc: Global,
         endian: Endianness,
         piece: &[u8],
     ) -> Result<SimpleperfFileRecord, Error>
-        ensures found { IfOk result (λ r. spells endian piece.now (record_value r)) }
-        ensures fault { IfErr result (λ e. (e ≡ Memory) ⊎ ((f : Self.Fault) × refuses endian piece.now f × tells f e)) };
+        ensures found { IfOk result (λ r. decodes_to endian piece.now (record_value r)) }
+        ensures fault { IfErr result (λ e. (e ≡ Memory) ⊎ ((f : Self.FormatError) × is_invalid_for endian piece.now f × is_reported_by f e)) };
 }
 
-/// The piece at the front of a section of pieces, each behind its length of four bytes, and what follows it.
-pub(crate) fn piece_at(endian: Endianness, bytes: &[u8]) -> Result<(&[u8], &[u8]), Error>
-    ensures found { IfOk result (λ x. PieceAt endian bytes.now x.0.now x.1.now) }
-    ensures fault { IfErr result (λ e. LacksPiece endian bytes.now e) }
+/// Splits the first chunk off a section, and returns its bytes after the length, and the rest of the section.
+///
+/// A chunk is a length of 4 bytes in byte order `endian` and that many bytes. Fails with an unexpected end of file if the
+/// length is truncated, and with `FeatureSectionTooSmall` if the chunk exceeds the section.
+pub(crate) fn split_chunk(endian: Endianness, bytes: &[u8]) -> Result<(&[u8], &[u8]), Error>
+    ensures found { IfOk result (λ x. ChunkAt endian bytes.now x.0.now x.1.now) }
+    ensures fault { IfErr result (λ e. IsChunkReadError endian bytes.now e) }
 {
     if bytes.len() < 4 {
-        return Err(short());
+        return Err(unexpected_eof());
     }
     let size = read_u32(endian, bytes) as usize;
     let (_, rest) = bytes.split_at(4);
@@ -52,20 +55,20 @@ pub(crate) fn piece_at(endian: Endianness, bytes: &[u8]) -> Result<(&[u8], &[u8]
     Ok(rest.split_at(size))
 }
 
-/// The records that the pieces of a section spell.
-pub(crate) fn read_pieces<S: Spelling>(
+/// Parses the records in all chunks of a section.
+pub(crate) fn parse_chunks<S: ChunkFormat>(
     alloc: Global,
     bytes: &[u8],
     endian: Endianness,
 ) -> Result<Vec<SimpleperfFileRecord>, Error>
-    ensures found { IfOk result (λ v. ArePieces endian (S.spells endian) bytes.now (map record_value v.items)) }
-    ensures fault { IfErr result (λ e. (e ≡ Memory) ⊎ ((f : PieceFault S.Fault) × StopsAt endian (S.spells endian) (S.refuses endian) bytes.now f × TellsPiece S.tells f e)) }
+    ensures found { IfOk result (λ v. AreChunks endian (S.decodes_to endian) bytes.now (map record_value v.items)) }
+    ensures fault { IfErr result (λ e. (e ≡ Memory) ⊎ ((f : ChunkError S.FormatError) × FirstChunkError endian (S.decodes_to endian) (S.is_invalid_for endian) bytes.now f × ReportsChunkError S.is_reported_by f e)) }
 {
     let mut records = Vec::new(alloc);
     let mut rest = bytes;
-    'pieces: while !rest.is_empty() {
-        let (piece, after) = piece_at(endian, rest)?;
-        let record = match S::record_in(alloc, endian, piece) {
+    'chunks: while !rest.is_empty() {
+        let (piece, after) = split_chunk(endian, rest)?;
+        let record = match S::parse_record(alloc, endian, piece) {
             Ok(record) => record,
             Err(error) => return Err(error),
         };

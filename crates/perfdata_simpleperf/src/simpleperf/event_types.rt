@@ -1,18 +1,18 @@
-//! The event types in simpleperf's meta info.
+//! Parses the event types in simpleperf's meta info.
 ghost use Rattle.std.specs.Prelude.{IfOk, Some};
-ghost use Rattle.perfdata_simpleperf.specs.MetaInfo.{text_at};
-ghost use Rattle.perfdata_simpleperf.specs.SimpleperfEvents.{parts, event_type_info, GivesEvent, GivesEventTypes, IsFirstThree};
+ghost use Rattle.perfdata_simpleperf.specs.MetaInfo.{map_text_at};
+ghost use Rattle.perfdata_simpleperf.specs.EventTypeInfo.{line_fields, event_type_info, ParsesEvent, ParsesEventTypes, IsFirstThree};
 
 use perfdata_sections::event_type::SimplePerfEventType;
 use std::alloc::{AllocError, Global};
 use std::collections::HashMap;
 
-// The key whose value names the events.
+// The key of the value that lists the events.
 const EVENT_TYPE_INFO: &str = "event_type_info";
 
-// The first three parts of a line, where it has three or more.
+// Returns the first three comma-separated fields of a line, or `None` if there are fewer than three.
 fn first_three(line: &str) -> Option<(&str, &str, &str)>
-    ensures { IsFirstThree (λ s. s.now) (parts line.now) result }
+    ensures { IsFirstThree (λ s. s.now) (line_fields line.now) result }
 {
     let mut parts = line.split(',');
     let Some(first) = parts.next() else {
@@ -27,9 +27,9 @@ fn first_three(line: &str) -> Option<(&str, &str, &str)>
     }
 }
 
-// The event that a line tells, or none.
-fn event_of(alloc: Global, line: &str) -> Result<Option<SimplePerfEventType>, AllocError>
-    ensures { IfOk result (λ event. GivesEvent (parts line.now) event) }
+// Parses the event in a line. Returns `None` if the line doesn't describe an event.
+fn parse_event(alloc: Global, line: &str) -> Result<Option<SimplePerfEventType>, AllocError>
+    ensures { IfOk result (λ event. ParsesEvent (line_fields line.now) event) }
 {
     let Some((name, type_, config)) = first_three(line) else {
         return Ok(None);
@@ -41,13 +41,13 @@ fn event_of(alloc: Global, line: &str) -> Result<Option<SimplePerfEventType>, Al
     Ok(Some(SimplePerfEventType::new(name, type_, config)))
 }
 
-// The events that the lines of a text tell, or none where a line tells none.
-fn events_of(alloc: Global, text: &str) -> Result<Option<Vec<SimplePerfEventType>>, AllocError>
-    ensures { IfOk result (λ events. GivesEventTypes (Some text.now) events) }
+// Parses the events in the lines of a text. Returns `None` if any line doesn't describe an event.
+fn parse_events(alloc: Global, text: &str) -> Result<Option<Vec<SimplePerfEventType>>, AllocError>
+    ensures { IfOk result (λ events. ParsesEventTypes (Some text.now) events) }
 {
     let mut events = Vec::new(alloc);
     'lines: for line in text.split('\n') {
-        let event = match event_of(alloc, line) {
+        let event = match parse_event(alloc, line) {
             Ok(Some(event)) => event,
             Ok(None) => return Ok(None),
             Err(error) => return Err(error),
@@ -60,19 +60,21 @@ fn events_of(alloc: Global, text: &str) -> Result<Option<Vec<SimplePerfEventType
     Ok(Some(events))
 }
 
-/// The events that a file's meta info names: the lines of the value of `event_type_info`, each with a name, a type and a
-/// config between commas. Parts of a line behind these three are passed over. A number has decimal digits, may have a plus
-/// sign in front, and is below 2^64.
+/// Returns the event types that a file's meta info lists.
 ///
-/// None where the key is missing or any line lacks one of the three, as an empty line behind a last newline does.
+/// The value of the key `event_type_info` has one line for each event: its name, type and config, separated by commas. Further
+/// fields of a line are ignored. A number has one decimal digit or more, optionally after a plus sign, and is below 2^64.
+///
+/// Returns `None` if the key is missing, or if any line lacks one of the three fields or has an invalid number. An empty line
+/// after a final newline has none of them. Fails with `AllocError` if out of memory.
 pub fn get_event_types(
     alloc: Global,
     meta_info_map: &HashMap<&str, &str>,
 ) -> Result<Option<Vec<SimplePerfEventType>>, AllocError>
-    ensures { IfOk result (λ events. GivesEventTypes (text_at meta_info_map.now event_type_info) events) }
+    ensures { IfOk result (λ events. ParsesEventTypes (map_text_at meta_info_map.now event_type_info) events) }
 {
     match meta_info_map.get(EVENT_TYPE_INFO) {
-        Some(text) => events_of(alloc, text),
+        Some(text) => parse_events(alloc, text),
         None => Ok(None),
     }
 }

@@ -1,33 +1,33 @@
-//! The section SIMPLEPERF_FILE2: messages behind their lengths.
+//! Parses section SIMPLEPERF_FILE2: chunks that contain protobuf messages.
 ghost use Rattle.std.specs.Prelude.{◌≡◌, ◌⊎◌, List, IfOk, IfErr, IsErrAnd, MatchResult, map};
-ghost use Rattle.perfdata_simpleperf.specs.File2.{IsFile2Of, File2Fault, TellsFile2, TellsMessage};
+ghost use Rattle.perfdata_simpleperf.specs.File2.{IsFile2Of, File2Error, ReportsFile2Error, ReportsMessageError};
 ghost use Rattle.perfdata_simpleperf.specs.FileRecord.{FileValue, record_value};
-ghost use Rattle.perfdata_simpleperf.specs.Pieces.{PieceFault};
+ghost use Rattle.perfdata_simpleperf.specs.Chunks.{ChunkError};
 ghost use Rattle.perfdata_simpleperf.specs.Protobuf.Messages.{FileFault};
 ghost use Rattle.perfdata_simpleperf.specs.Protobuf.Values.{IsFileRecord};
 ghost use Rattle.perfdata_sections.specs.declared.error.Error.TheVariants.{Memory};
 ghost use Rattle.perfdata_sections.specs.declared.decode_error.DecodeError.{DecodeError};
 
 use crate::simpleperf::SimpleperfFileRecord;
-use crate::simpleperf::pieces::{Spelling, read_pieces};
+use crate::simpleperf::chunks::{ChunkFormat, parse_chunks};
 use perfdata_base::raw::Endianness;
 use perfdata_sections::decode_error::DecodeError;
 use perfdata_sections::error::Error;
 use std::alloc::Global;
 
-// Messages of protobuf.
-struct Messages;
+// The format of chunks that contain protobuf messages.
+struct ProtobufRecords;
 
-impl Spelling for Messages {
-    type Fault = DecodeError;
+impl ChunkFormat for ProtobufRecords {
+    type FormatError = DecodeError;
 
-    ghost spells = { λ _. IsFileRecord };
+    ghost decodes_to = { λ _. IsFileRecord };
 
-    ghost refuses = { λ _. FileFault };
+    ghost is_invalid_for = { λ _. FileFault };
 
-    ghost tells = { TellsMessage };
+    ghost is_reported_by = { ReportsMessageError };
 
-    fn record_in(
+    fn parse_record(
         alloc: Global,
         _endian: Endianness,
         message: &[u8],
@@ -40,23 +40,27 @@ impl Spelling for Messages {
     }
 }
 
-/// The files with their symbols (section FILE2 of Android's simpleperf): up to the section's end a length of four bytes, and so many bytes of a message.
+/// Parses the files with their symbols (section FILE2 of Android's simpleperf).
 ///
-/// `IoError` of kind `UnexpectedEof` where a length isn't there whole, `FeatureSectionTooSmall` where it goes beyond the section,
-/// `ProtobufParsingSimpleperfFileSection` where a message can't be read. The first fault from the left is answered.
+/// `bytes` is the whole section. Each of its chunks is a length of 4 bytes in byte order `endian`, and a message of that many
+/// bytes.
+///
+/// Returns the first error in the section, from left to right: `IoError` of kind `UnexpectedEof` if a length is truncated,
+/// `FeatureSectionTooSmall` if a message exceeds the section, `ProtobufParsingSimpleperfFileSection` if a message can't be
+/// decoded. Returns `Memory` if out of memory.
 pub fn parse_file2_section(
     alloc: Global,
     bytes: &[u8],
     endian: Endianness,
 ) -> Result<Vec<SimpleperfFileRecord>, Error>
-    // The section's messages have these values.
+    // The records have the values of the section's messages.
     ensures found { IfOk result (λ v. IsFile2Of endian bytes.now (map record_value v.items)) }
-    // Messages are read, unless memory runs out, and have no other values.
-    ensures only { (vs : List FileValue) → IsFile2Of endian bytes.now vs → MatchResult result (λ v. map record_value v.items ≡ vs) (λ e. e ≡ Memory) }
-    // A refusal tells a fault with only whole messages before it, unless memory ran out.
-    ensures fault { IfErr result (λ e. (e ≡ Memory) ⊎ ((f : PieceFault DecodeError) × File2Fault endian bytes.now f × TellsFile2 f e)) }
-    // Such a fault is refused, by its error, unless memory runs out before it.
-    ensures first { (f : PieceFault DecodeError) → File2Fault endian bytes.now f → IsErrAnd result (λ e. (e ≡ Memory) ⊎ TellsFile2 f e) }
+    // A valid section is parsed, unless memory runs out, and has no other values.
+    ensures no_other { (vs : List FileValue) → IsFile2Of endian bytes.now vs → MatchResult result (λ v. map record_value v.items ≡ vs) (λ e. e ≡ Memory) }
+    // Unless memory runs out, an error reports an error of the section with only valid messages before it.
+    ensures fault { IfErr result (λ e. (e ≡ Memory) ⊎ ((f : ChunkError DecodeError) × File2Error endian bytes.now f × ReportsFile2Error f e)) }
+    // Such an error of the section is reported, unless memory runs out before it.
+    ensures first_error { (f : ChunkError DecodeError) → File2Error endian bytes.now f → IsErrAnd result (λ e. (e ≡ Memory) ⊎ ReportsFile2Error f e) }
 {
-    read_pieces::<Messages>(alloc, bytes, endian)
+    parse_chunks::<ProtobufRecords>(alloc, bytes, endian)
 }

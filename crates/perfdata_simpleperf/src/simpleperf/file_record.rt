@@ -1,4 +1,4 @@
-//! A file's symbols.
+//! The record of a file with its symbols.
 ghost use Rattle.std.specs.Prelude.{◌≡◌, ◌⊎◌, List, IfOk, IfErr, IsErrAnd, MatchResult};
 ghost use Rattle.perfdata_simpleperf.specs.FileRecord.{FileValue, record_value};
 ghost use Rattle.perfdata_simpleperf.specs.Protobuf.Fields.{Part};
@@ -7,84 +7,86 @@ ghost use Rattle.perfdata_simpleperf.specs.Protobuf.Values.{HasValue, IsFileReco
 ghost use Rattle.perfdata_sections.specs.declared.decode_error.DecodeError.{DecodeError};
 ghost use Rattle.perfdata_sections.specs.declared.decode_error.DecodeError.TheVariants.{Memory};
 
-use crate::protobuf::messages::record_of;
+use crate::protobuf::messages::decode_file_record;
 use perfdata_sections::decode_error::DecodeError;
 use std::alloc::Global;
 
 /// A symbol of a file.
 #[derive(Debug, PartialEq, Eq, Drop)]
 pub struct SimpleperfSymbol {
-    /// Its address in the file's own memory.
+    /// The symbol's address in the file's own address space.
     pub vaddr: u64,
-    /// How many bytes it takes.
+    /// The symbol's size in bytes.
     pub len: u32,
     /// The symbol's name.
     pub name: String,
 }
 
-/// What is known of a DEX file.
+/// Information on a DEX file.
 #[derive(Debug, PartialEq, Eq, Drop)]
 pub struct SimpleperfDexFileInfo {
-    /// Where DEX files begin in the file, in bytes from its start.
+    /// Offsets of the DEX files in the file, in bytes from its start.
     pub dex_file_offset: Vec<u64>,
 }
 
-/// What is known of an ELF file.
+/// Information on an ELF file.
 #[derive(Clone, Debug, Default, PartialEq, Eq, Drop)]
 pub struct SimpleperfElfFileInfo {
-    /// Where in the file the bytes of the least address stand.
+    /// Offset in the file of the bytes at the lowest address, in bytes from the start of the file.
     pub file_offset_of_min_vaddr: u64,
 }
 
-/// What is known of a kernel module.
+/// Information on a kernel module.
 #[derive(Clone, Debug, Default, PartialEq, Eq, Drop)]
 pub struct SimpleperfKernelModuleInfo {
-    /// Where in the module's memory the bytes of the least address stand.
+    /// Offset in the module's memory of the bytes at the lowest address, in bytes.
     pub memory_offset_of_min_vaddr: u64,
 }
 
-/// What is known of a file by its type.
+/// Information that depends on the type of a file.
 #[derive(Debug, PartialEq, Eq, Drop)]
 pub enum SimpleperfTypeSpecificInfo {
-    /// Of a DEX file.
+    /// For a DEX file.
     SimpleperfDexFileInfo(SimpleperfDexFileInfo),
-    /// Of an ELF file.
+    /// For an ELF file.
     ElfFile(SimpleperfElfFileInfo),
-    /// Of a kernel's module.
+    /// For a kernel module.
     KernelModule(SimpleperfKernelModuleInfo),
 }
 
-/// A file that samples were taken in, with its symbols (sections FILE and FILE2 of Android's simpleperf).
+/// A sampled file with its symbols (sections FILE and FILE2 of Android's simpleperf).
 #[derive(Debug, PartialEq, Eq, Drop)]
 pub struct SimpleperfFileRecord {
-    /// Where the file stands.
+    /// The path of the file.
     pub path: String,
-    /// One of `simpleperf_dso_type`.
+    /// The type of the file. `simpleperf_dso_type` defines its values.
     pub type_: u32,
-    /// The least address of the file's code.
+    /// The lowest address of the file's code.
     pub min_vaddr: u64,
-    /// Its symbols.
+    /// The symbols of the file.
     pub symbol: Vec<SimpleperfSymbol>,
-    /// What is told of its type alone.
+    /// Information that depends on the type of the file.
     pub type_specific_msg: Option<SimpleperfTypeSpecificInfo>,
 }
 
 impl SimpleperfFileRecord {
-    /// The record that a protobuf message spells (message `FileFeature` of simpleperf's `record_file.proto`), all of the bytes.
+    /// Decodes the record in a protobuf message (message `FileFeature` of simpleperf's `record_file.proto`).
     ///
-    /// The first fault from the left is answered. Unknown fields are passed over.
+    /// The message is all of `bytes`. Unknown fields are skipped.
+    ///
+    /// Returns the first error in the message, from left to right, or `Memory` if out of memory.
     pub fn decode(alloc: Global, bytes: &[u8]) -> Result<Self, DecodeError>
-        // What is read is a message of the grammar, and this is its value.
+        // The bytes are a valid message, and the record is its value.
         ensures found { IfOk result (λ r. IsFileRecord bytes.now (record_value r)) }
-        // A message of the grammar is read, unless memory runs out.
+        // A valid message is decoded, unless memory runs out.
         ensures message { (ps : List Part) → IsFile bytes.now ps → MatchResult result (λ r. HasValue ps (record_value r)) (λ e. e ≡ Memory) }
-        // It has no other value.
-        ensures only { (v : FileValue) → IsFileRecord bytes.now v → MatchResult result (λ r. record_value r ≡ v) (λ e. e ≡ Memory) }
-        // A refusal is a fault with only whole fields before it, unless memory ran out.
+        // The message has no other value.
+        ensures no_other { (v : FileValue) → IsFileRecord bytes.now v → MatchResult result (λ r. record_value r ≡ v) (λ e. e ≡ Memory) }
+        // Unless memory runs out, an error is an error of the message with only complete fields before it.
         ensures fault { IfErr result (λ e. (e ≡ Memory) ⊎ FileFault bytes.now e) }
-        // Such a fault is refused, by its name, unless memory runs out before it.
-        ensures first { (e : DecodeError) → FileFault bytes.now e → IsErrAnd result (λ f. (f ≡ Memory) ⊎ (f ≡ e)) }
+        // Such an error of the message is returned, unless memory runs out before it.
+        ensures first_error { (e : DecodeError) → FileFault bytes.now e → IsErrAnd result (λ f. (f ≡ Memory) ⊎ (f ≡ e)) }
     {
-        record_of(alloc, bytes)
+        decode_file_record(alloc, bytes)
     }
 }

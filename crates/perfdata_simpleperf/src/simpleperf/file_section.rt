@@ -1,27 +1,27 @@
-//! The section SIMPLEPERF_FILE: older records behind their lengths.
+//! Parses section SIMPLEPERF_FILE: chunks that contain records of the older format.
 ghost use Rattle.std.specs.Prelude.{◌≡◌, ◌⊎◌, List, IfOk, IfErr, IsErrAnd, MatchResult, map};
 ghost use Rattle.std.specs.IoError.{error_kind};
 ghost use Rattle.std.specs.declared.io.ErrorKind.{ErrorKind};
 ghost use Rattle.std.specs.declared.io.ErrorKind.TheVariants.{OutOfMemory};
-ghost use Rattle.perfdata_base.specs.Numbers.{number_in};
+ghost use Rattle.perfdata_base.specs.Endian.{number_in};
 ghost use Rattle.perfdata_simpleperf.specs.FileRecord.{FileValue, record_value};
-ghost use Rattle.perfdata_simpleperf.specs.FileSection.{IsFileSectionOf, FileSectionFault, TellsFileSection, TellsV1};
-ghost use Rattle.perfdata_simpleperf.specs.FileV1.{IsV1, V1Fault};
-ghost use Rattle.perfdata_simpleperf.specs.Pieces.{PieceFault};
+ghost use Rattle.perfdata_simpleperf.specs.FileSection.{IsFileSectionOf, FileSectionError, ReportsFileSectionError, ReportsV1Error};
+ghost use Rattle.perfdata_simpleperf.specs.FileV1.{IsV1, V1Error};
+ghost use Rattle.perfdata_simpleperf.specs.Chunks.{ChunkError};
 ghost use Rattle.perfdata_sections.specs.declared.error.Error.TheVariants.{Memory};
 
 use crate::simpleperf::SimpleperfFileRecord;
-use crate::simpleperf::pieces::{Spelling, read_pieces};
+use crate::simpleperf::chunks::{ChunkFormat, parse_chunks};
 use byteorder::{BigEndian, LittleEndian};
 use perfdata_base::raw::Endianness;
 use perfdata_sections::error::Error;
 use std::alloc::Global;
 use std::io::{self, ErrorKind};
 
-// The record at the front, in this order.
-fn decode_in(alloc: Global, endian: Endianness, bytes: &[u8]) -> io::Result<SimpleperfFileRecord>
+// Decodes the record at the start of `bytes` in byte order `endian`.
+fn decode_v1_in(alloc: Global, endian: Endianness, bytes: &[u8]) -> io::Result<SimpleperfFileRecord>
     ensures found { IfOk result (λ r. IsV1 (number_in endian) bytes.now (record_value r)) }
-    ensures fault { IfErr result (λ e. (error_kind e ≡ OutOfMemory) ⊎ V1Fault (number_in endian) bytes.now (error_kind e)) }
+    ensures fault { IfErr result (λ e. (error_kind e ≡ OutOfMemory) ⊎ V1Error (number_in endian) bytes.now (error_kind e)) }
 {
     match endian {
         Endianness::LittleEndian => SimpleperfFileRecord::decode_v1::<LittleEndian>(alloc, bytes),
@@ -29,24 +29,24 @@ fn decode_in(alloc: Global, endian: Endianness, bytes: &[u8]) -> io::Result<Simp
     }
 }
 
-// Records as `decode_v1` reads them.
-struct OlderRecords;
+// The format of chunks that contain records of `decode_v1`.
+struct V1Records;
 
-impl Spelling for OlderRecords {
-    type Fault = ErrorKind;
+impl ChunkFormat for V1Records {
+    type FormatError = ErrorKind;
 
-    ghost spells = { λ endian. IsV1 (number_in endian) };
+    ghost decodes_to = { λ endian. IsV1 (number_in endian) };
 
-    ghost refuses = { λ endian. V1Fault (number_in endian) };
+    ghost is_invalid_for = { λ endian. V1Error (number_in endian) };
 
-    ghost tells = { TellsV1 };
+    ghost is_reported_by = { ReportsV1Error };
 
-    fn record_in(
+    fn parse_record(
         alloc: Global,
         endian: Endianness,
         piece: &[u8],
     ) -> Result<SimpleperfFileRecord, Error> {
-        match decode_in(alloc, endian, piece) {
+        match decode_v1_in(alloc, endian, piece) {
             Ok(record) => Ok(record),
             Err(error) => match error.kind() {
                 ErrorKind::OutOfMemory => Err(Error::Memory),
@@ -56,25 +56,27 @@ impl Spelling for OlderRecords {
     }
 }
 
-/// The files with their symbols as older simpleperf writes them (section FILE): up to the section's end a length of four
-/// bytes, and so many bytes of a record that `decode_v1` reads.
+/// Parses the files with their symbols as older simpleperf writes them (section FILE).
 ///
-/// `IoError` of kind `UnexpectedEof` where a length isn't there whole, `FeatureSectionTooSmall` where it goes beyond the
-/// section, `ParsingSimpleperfFileV1Section` where a record can't be read, and `Memory` where memory runs out. The first fault
-/// from the left is answered.
+/// `bytes` is the whole section. Each of its chunks is a length of 4 bytes in byte order `endian`, and that many bytes with a
+/// record that `decode_v1` decodes.
+///
+/// Returns the first error in the section, from left to right: `IoError` of kind `UnexpectedEof` if a length is truncated,
+/// `FeatureSectionTooSmall` if a chunk exceeds the section, `ParsingSimpleperfFileV1Section` if a record can't be decoded.
+/// Returns `Memory` if out of memory.
 pub fn parse_file_section(
     alloc: Global,
     bytes: &[u8],
     endian: Endianness,
 ) -> Result<Vec<SimpleperfFileRecord>, Error>
-    // The section's records have these values.
+    // The records have the values of the section's records.
     ensures found { IfOk result (λ v. IsFileSectionOf endian bytes.now (map record_value v.items)) }
-    // Records are read, unless memory runs out, and have no other values.
-    ensures only { (vs : List FileValue) → IsFileSectionOf endian bytes.now vs → MatchResult result (λ v. map record_value v.items ≡ vs) (λ e. e ≡ Memory) }
-    // A refusal tells a fault with only whole records before it, unless memory ran out.
-    ensures fault { IfErr result (λ e. (e ≡ Memory) ⊎ ((f : PieceFault ErrorKind) × FileSectionFault endian bytes.now f × TellsFileSection f e)) }
-    // Such a fault is refused, by its error, unless memory runs out before it.
-    ensures first { (f : PieceFault ErrorKind) → FileSectionFault endian bytes.now f → IsErrAnd result (λ e. (e ≡ Memory) ⊎ TellsFileSection f e) }
+    // A valid section is parsed, unless memory runs out, and has no other values.
+    ensures no_other { (vs : List FileValue) → IsFileSectionOf endian bytes.now vs → MatchResult result (λ v. map record_value v.items ≡ vs) (λ e. e ≡ Memory) }
+    // Unless memory runs out, an error reports an error of the section with only valid records before it.
+    ensures fault { IfErr result (λ e. (e ≡ Memory) ⊎ ((f : ChunkError ErrorKind) × FileSectionError endian bytes.now f × ReportsFileSectionError f e)) }
+    // Such an error of the section is reported, unless memory runs out before it.
+    ensures first_error { (f : ChunkError ErrorKind) → FileSectionError endian bytes.now f → IsErrAnd result (λ e. (e ≡ Memory) ⊎ ReportsFileSectionError f e) }
 {
-    read_pieces::<OlderRecords>(alloc, bytes, endian)
+    parse_chunks::<V1Records>(alloc, bytes, endian)
 }

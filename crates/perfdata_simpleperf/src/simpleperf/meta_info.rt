@@ -1,17 +1,17 @@
-//! Simpleperf's meta info: texts in pairs.
+//! Parses simpleperf's meta info: pairs of strings.
 ghost use Rattle.std.specs.Prelude.{◌≡◌, ◌∷◌};
 ghost use Rattle.std.specs.Iterator.{YieldsFirstBy, item_count};
-ghost use Rattle.perfdata_simpleperf.specs.MetaInfo.{pieces, PutsPair, ParsesMetaInfo};
-ghost use Rattle.perfdata_simpleperf.specs.Pairs.{pieces_left, pairs_left, pair_of};
+ghost use Rattle.perfdata_simpleperf.specs.MetaInfo.{nul_segments, InsertsPair, ParsesMetaInfo};
+ghost use Rattle.perfdata_simpleperf.specs.MetaInfoPairs.{remaining_segments, remaining_pairs, pair_of};
 
 use crate::simpleperf::nul_text::split_at_nul;
 use perfdata_sections::error::Error;
 use std::alloc::Global;
 use std::collections::HashMap;
 
-// The first piece, and what stands behind the NUL that ends it, where one does.
-fn first_piece(bytes: &[u8]) -> (&[u8], Option<&[u8]>)
-    ensures { pieces bytes.now ≡ result.0.now ∷ pieces_left result.1 }
+// Returns the first segment. If a NUL ends it, also returns the bytes after the NUL.
+fn split_first_segment(bytes: &[u8]) -> (&[u8], Option<&[u8]>)
+    ensures { nul_segments bytes.now ≡ result.0.now ∷ remaining_segments result.1 }
 {
     match split_at_nul(bytes) {
         Some((piece, rest)) => (piece, Some(rest)),
@@ -19,7 +19,7 @@ fn first_piece(bytes: &[u8]) -> (&[u8], Option<&[u8]>)
     }
 }
 
-// The pairs of the pieces between NULs.
+// Iterates over the pairs of segments between NULs.
 #[derive(Drop)]
 struct Pairs<'a> {
     rest: Option<&'a [u8]>,
@@ -28,25 +28,25 @@ struct Pairs<'a> {
 impl<'a> Iterator for Pairs<'a> {
     type Item = (&'a [u8], &'a [u8]);
 
-    ghost next_gives = { YieldsFirstBy pair_of pairs_left };
+    ghost next_gives = { YieldsFirstBy pair_of remaining_pairs };
 
-    ghost remaining = { item_count pairs_left };
+    ghost remaining = { item_count remaining_pairs };
 
     fn next(&mut self) -> Option<(&'a [u8], &'a [u8])> {
-        let (key, behind) = first_piece(self.rest?);
-        let (value, rest) = first_piece(behind?);
+        let (key, behind) = split_first_segment(self.rest?);
+        let (value, rest) = split_first_segment(behind?);
         self.rest = rest;
         Some((key, value))
     }
 }
 
-// Gives a key its value, both of UTF-8.
-fn put_pair<'a>(
+// Inserts a key with its value. Fails with `StringUtf8` if one of them isn't UTF-8.
+fn insert_pair<'a>(
     map: &mut HashMap<&'a str, &'a str>,
     key: &'a [u8],
     value: &'a [u8],
 ) -> Result<(), Error>
-    ensures { PutsPair map.old (key.now, value.now) result map.new }
+    ensures { InsertsPair map.old (key.now, value.now) result map.new }
 {
     let (Ok(key), Ok(value)) = (std::str::from_utf8(key), std::str::from_utf8(value)) else {
         return Err(Error::StringUtf8);
@@ -57,17 +57,19 @@ fn put_pair<'a>(
     }
 }
 
-/// The pairs of simpleperf's meta info (section SIMPLEPERF_META_INFO): the pieces between NULs are in turn a key and its
-/// value. The last value of a key counts, and a last piece without a partner is left out unread.
+/// Parses the pairs of simpleperf's meta info (section SIMPLEPERF_META_INFO).
 ///
-/// `StringUtf8` where a key or a value isn't UTF-8, and `Memory` where memory runs out.
+/// The segments between NULs are alternately a key and its value. The last value of a key counts. A last segment without a
+/// partner is ignored and isn't checked.
+///
+/// Fails with `StringUtf8` if a key or a value isn't UTF-8, and with `Memory` if out of memory.
 pub fn parse_meta_info_map(alloc: Global, bytes: &[u8]) -> Result<HashMap<&str, &str>, Error>
     ensures { ParsesMetaInfo bytes.now result }
 {
     let mut map = HashMap::new(alloc);
     let pairs = Pairs { rest: Some(bytes) };
     'pairs: for (key, value) in pairs {
-        match put_pair(&mut map, key, value) {
+        match insert_pair(&mut map, key, value) {
             Ok(()) => {}
             Err(error) => return Err(error),
         }

@@ -1,15 +1,15 @@
-//! Texts that a NUL ends.
+//! Reads NUL-terminated strings.
 ghost use Rattle.std.specs.Prelude.{ℕ, List, IfOk, IfErr, MatchOption};
 ghost use Rattle.std.specs.IoError.{error_kind};
 ghost use Rattle.perfdata_base.specs.Raw.{HasNoNul};
-ghost use Rattle.perfdata_simpleperf.specs.NulText.{EndsAtNul, TextAt, TextFault, TakesText};
+ghost use Rattle.perfdata_simpleperf.specs.NulText.{SplitsAtNul, TextAt, TextError, ReadsNulText};
 
 use memchr::memchr;
 use std::io::{Error, ErrorKind, Result};
 
-// What stands before the first NUL, and what stands behind it.
+// Returns the bytes before the first NUL and the bytes after it, or `None` if there is no NUL.
 pub(crate) fn split_at_nul(bytes: &[u8]) -> Option<(&[u8], &[u8])>
-    ensures { MatchOption result (HasNoNul bytes.now) (λ x. EndsAtNul bytes.now x.0.now x.1.now) }
+    ensures { MatchOption result (HasNoNul bytes.now) (λ x. SplitsAtNul bytes.now x.0.now x.1.now) }
 {
     match memchr(0, bytes) {
         Some(place) => Some((&bytes[..place], &bytes[place + 1..])),
@@ -17,10 +17,10 @@ pub(crate) fn split_at_nul(bytes: &[u8]) -> Option<(&[u8], &[u8])>
     }
 }
 
-// The text at the front, up to its NUL, and what stands behind that.
-pub(crate) fn split_text(bytes: &[u8]) -> Result<(&str, &[u8])>
+// Splits a NUL-terminated string off the start of `bytes`. Returns it without its NUL, and the bytes after the NUL.
+pub(crate) fn split_nul_text(bytes: &[u8]) -> Result<(&str, &[u8])>
     ensures found { IfOk result (λ x. TextAt bytes.now x.0.now x.1.now) }
-    ensures fault { IfErr result (λ e. TextFault bytes.now (error_kind e)) }
+    ensures fault { IfErr result (λ e. TextError bytes.now (error_kind e)) }
 {
     let Some((text, rest)) = split_at_nul(bytes) else {
         return Err(Error::from(ErrorKind::UnexpectedEof));
@@ -31,24 +31,24 @@ pub(crate) fn split_text(bytes: &[u8]) -> Result<(&str, &[u8])>
     }
 }
 
-/// Takes texts off the front of bytes.
+/// Reads NUL-terminated strings from the start of a byte slice.
 pub trait SliceReadStringExt<'a> {
-    // the bytes that are left
-    ghost left: { Self → List ℕ };
+    // the unread bytes
+    ghost remaining_bytes: { Self → List ℕ };
 
-    /// The text at the front, up to its NUL, which is taken too.
+    /// Reads the string up to the first NUL, and consumes it with the NUL.
     ///
-    /// An `UnexpectedEof` error where there is no NUL, and an `InvalidData` error where the text isn't UTF-8. Then nothing
-    /// is taken.
+    /// Fails with `UnexpectedEof` if there is no NUL, and with `InvalidData` if the string isn't UTF-8. On error, nothing is
+    /// consumed.
     fn read_nul_terminated_str(&mut self) -> Result<&'a str>
-        ensures { TakesText (left self.old) result (left self.new) };
+        ensures { ReadsNulText (remaining_bytes self.old) result (remaining_bytes self.new) };
 }
 
 impl<'a> SliceReadStringExt<'a> for &'a [u8] {
-    ghost left = { λ s. s.now };
+    ghost remaining_bytes = { λ s. s.now };
 
     fn read_nul_terminated_str(&mut self) -> Result<&'a str> {
-        let (text, rest) = split_text(*self)?;
+        let (text, rest) = split_nul_text(*self)?;
         *self = rest;
         Ok(text)
     }

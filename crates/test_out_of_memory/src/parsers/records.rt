@@ -1,7 +1,7 @@
-//! Parsers of records and of their parts.
+//! Calls parsers of records and of parts of records.
 
-use super::Answer;
-use crate::words::kind_name;
+use super::ParserResult;
+use crate::error_names::io_error_name;
 use byteorder::LittleEndian;
 use linux_perf_data::build_id_event::BuildIdEvent;
 use linux_perf_data::event::CpuMode;
@@ -12,11 +12,11 @@ use linux_perf_data::{
 };
 use std::alloc::Global;
 
-/// A module of the kernel.
+/// The path of a kernel module.
 const MODULE: &[u8] = b"/lib/modules/5.13.0-35-generic/kernel/sound/core/snd-seq-device.ko";
 
-/// An attribute whose samples have their time alone, and the ids 5 and 6.
-fn attribute_bytes() -> [u8; 80] {
+/// An attribute whose samples contain only the time, with the ids 5 and 6.
+fn attr_bytes() -> [u8; 80] {
     let mut bytes = [0; 80];
     bytes[4] = 64;
     bytes[24] = 4;
@@ -25,10 +25,10 @@ fn attribute_bytes() -> [u8; 80] {
     bytes
 }
 
-/// The feature 3, a host's name, of three bytes.
+/// The feature 3 (a host name) with three bytes.
 const FEATURE: [u8; 11] = [3, 0, 0, 0, 0, 0, 0, 0, b'a', b'b', b'c'];
 
-/// An entry of 48 bytes: process -1, the build id 1 to 20, and `/bin/sh`.
+/// An entry of 48 bytes: pid -1, the build id 1 to 20, and `/bin/sh`.
 const BUILD_ID: [u8; 48] = [
     67, 0, 0, 0, 2, 0, 48, 0, 0xff, 0xff, 0xff, 0xff, 1, 2, 3, 4, 5, 6, 7, 8, 9, 10, 11, 12, 13,
     14, 15, 16, 17, 18, 19, 20, 0, 0, 0, 0, b'/', b'b', b'i', b'n', b'/', b's', b'h', 0, 0, 0, 0,
@@ -41,8 +41,8 @@ const DEBUG_INFO: [u8; 37] = [
     0, b'a', b'.', b'j', b's', 0,
 ];
 
-/// The name that a module's path gives.
-pub fn detect(alloc: Global) -> Answer {
+/// Detects the key of a kernel module's path.
+pub fn detect(alloc: Global) -> ParserResult {
     match DsoKey::detect(alloc, MODULE, CpuMode::Kernel) {
         Ok(Some(key)) => Ok(key.name() == "[snd-seq-device]"),
         Ok(None) => Ok(false),
@@ -50,39 +50,39 @@ pub fn detect(alloc: Global) -> Answer {
     }
 }
 
-/// Two pieces in one.
-pub fn joined(alloc: Global) -> Answer {
+/// Joins two slices.
+pub fn as_slice(alloc: Global) -> ParserResult {
     match RawData::Split(b"ab", b"cd").as_slice(alloc) {
         Ok(bytes) => Ok(&*bytes == b"abcd".as_slice()),
         Err(_) => Err("AllocError"),
     }
 }
 
-/// Whether an attribute is that of the bytes.
-fn is_attribute(header: &HeaderAttr) -> bool {
+/// Whether the attribute is that of `attr_bytes`.
+fn is_attr(header: &HeaderAttr) -> bool {
     let told = (header.attr.size, header.attr.sample_format.0);
     (told, header.ids.as_slice()) == ((64, 4), &[5, 6])
 }
 
-/// A late attribute.
-pub fn attribute(alloc: Global) -> Answer {
-    match HeaderAttr::parse::<LittleEndian>(alloc, RawData::Single(&attribute_bytes())) {
-        Ok(header) => Ok(is_attribute(&header)),
-        Err(error) => Err(kind_name(&error)),
+/// Parses a HEADER_ATTR body.
+pub fn header_attr(alloc: Global) -> ParserResult {
+    match HeaderAttr::parse::<LittleEndian>(alloc, RawData::Single(&attr_bytes())) {
+        Ok(header) => Ok(is_attr(&header)),
+        Err(error) => Err(io_error_name(&error)),
     }
 }
 
-/// A late feature.
-pub fn feature(alloc: Global) -> Answer {
+/// Parses a HEADER_FEATURE body.
+pub fn header_feature(alloc: Global) -> ParserResult {
     match HeaderFeature::parse::<LittleEndian>(alloc, RawData::Single(&FEATURE)) {
         Ok(header) => Ok((header.feature.0, header.bytes.as_slice()) == (3, b"abc")),
-        Err(error) => Err(kind_name(&error)),
+        Err(error) => Err(io_error_name(&error)),
     }
 }
 
-/// A record whose type says that it is an attribute.
-pub fn user_record(alloc: Global) -> Answer {
-    let bytes = attribute_bytes();
+/// Parses a record with the type of an attribute.
+pub fn user_record(alloc: Global) -> ParserResult {
+    let bytes = attr_bytes();
     let raw = RawUserRecord {
         record_type: UserRecordType::PERF_HEADER_ATTR,
         endian: Endianness::LittleEndian,
@@ -90,14 +90,14 @@ pub fn user_record(alloc: Global) -> Answer {
         body: RawData::Single(&bytes),
     };
     match raw.parse(alloc) {
-        Ok(UserRecord::HeaderAttr(header)) => Ok(is_attribute(&header)),
+        Ok(UserRecord::HeaderAttr(header)) => Ok(is_attr(&header)),
         Ok(_) => Ok(false),
-        Err(error) => Err(kind_name(&error)),
+        Err(error) => Err(io_error_name(&error)),
     }
 }
 
-/// An entry of the section of build ids.
-pub fn build_id(alloc: Global) -> Answer {
+/// Parses an entry of the build id section.
+pub fn build_id(alloc: Global) -> ParserResult {
     match BuildIdEvent::parse::<_, LittleEndian>(alloc, &BUILD_ID[..]) {
         Ok(entry) => {
             let told = (
@@ -107,11 +107,11 @@ pub fn build_id(alloc: Global) -> Answer {
             );
             Ok(told == (-1, &BUILD_ID[12..32], b"/bin/sh"))
         }
-        Err(error) => Err(kind_name(&error)),
+        Err(error) => Err(io_error_name(&error)),
     }
 }
 
-/// Whether these are the one entry of the bytes.
+/// Whether the entries are the one entry of `DEBUG_INFO`.
 fn is_entry(entries: &[JitCodeDebugInfoEntry<'_>]) -> bool {
     match entries {
         [entry] => {
@@ -122,11 +122,11 @@ fn is_entry(entries: &[JitCodeDebugInfoEntry<'_>]) -> bool {
     }
 }
 
-/// The places in the source of a function of a jitdump.
-pub fn debug_info(alloc: Global) -> Answer {
+/// Parses the debug info of a jitdump function.
+pub fn debug_info(alloc: Global) -> ParserResult {
     let body = RawData::Single(&DEBUG_INFO);
     match JitCodeDebugInfoRecord::parse(alloc, Endianness::LittleEndian, body) {
         Ok(info) => Ok(info.code_addr == 16 && is_entry(&info.entries)),
-        Err(error) => Err(kind_name(&error)),
+        Err(error) => Err(io_error_name(&error)),
     }
 }

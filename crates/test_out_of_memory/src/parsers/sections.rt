@@ -1,7 +1,7 @@
-//! Parsers of what sections hold: texts, units and attributes.
+//! Calls parsers of sections: strings, PMU mappings and attributes.
 
-use super::Answer;
-use crate::words::{kind_name, name_of};
+use super::ParserResult;
+use crate::error_names::{error_name, io_error_name};
 use byteorder::LittleEndian;
 use linux_perf_data::feature_sections::{HeaderString, PmuMappings};
 use linux_perf_data::section::PerfFileSection;
@@ -11,15 +11,15 @@ use std::alloc::Global;
 use std::collections::HashMap;
 use std::io::Cursor;
 
-/// The units 1, `software`, and 4, `cpu`.
-const UNITS: [u8; 31] = [
+/// The PMU mappings 1, `software`, and 4, `cpu`.
+const PMU_SECTION: [u8; 31] = [
     2, 0, 0, 0, 1, 0, 0, 0, 8, 0, 0, 0, b's', b'o', b'f', b't', b'w', b'a', b'r', b'e', 4, 0, 0, 0,
     3, 0, 0, 0, b'c', b'p', b'u',
 ];
 
-/// A frame of 80 bytes, as the section of event types has it: an attribute of 64 whose samples have their time, and where its
-/// ids stand. The one id, 5, stands behind the frame.
-fn frame() -> [u8; 88] {
+/// An entry of 80 bytes of the event types section: an attribute of 64 bytes whose samples contain the time, and the section of
+/// its ids. The one id, 5, follows the entry.
+fn event_types_entry() -> [u8; 88] {
     let mut bytes = [0; 88];
     bytes[4] = 64;
     bytes[24] = 4;
@@ -29,8 +29,8 @@ fn frame() -> [u8; 88] {
     bytes
 }
 
-/// One event by its description: its attribute has 64 bytes, its id is 5, and its name `c`.
-fn description() -> [u8; 90] {
+/// EVENT_DESC with one event: its attribute has 64 bytes, its id is 5, and its name is `c`.
+fn event_desc_entry() -> [u8; 90] {
     let mut bytes = [0; 90];
     bytes[0] = 1;
     bytes[4] = 64;
@@ -43,18 +43,18 @@ fn description() -> [u8; 90] {
     bytes
 }
 
-/// Where the frame stands.
+/// The section of the entry.
 const SECTION: PerfFileSection = PerfFileSection {
     offset: 0,
     size: 80,
 };
 
-/// Whether this is one attribute of 64 bytes whose samples have their time, with this name and these ids.
-fn is_one(
+/// Whether the result is one attribute of 64 bytes whose samples contain the time, with this name and these ids.
+fn is_single_attr(
     answer: Result<Vec<AttributeDescription>, Error>,
     name: Option<&str>,
     ids: &[u64],
-) -> Answer {
+) -> ParserResult {
     match answer {
         Ok(all) => match all.as_slice() {
             [one] => {
@@ -64,64 +64,64 @@ fn is_one(
             }
             _ => Ok(false),
         },
-        Err(error) => Err(name_of(&error)),
+        Err(error) => Err(error_name(&error)),
     }
 }
 
-/// A text of two letters.
-pub fn string(alloc: Global) -> Answer {
+/// Parses a string of two letters.
+pub fn string(alloc: Global) -> ParserResult {
     match HeaderString::parse::<_, LittleEndian>(alloc, [3, 0, 0, 0, b'a', b'b', 0].as_slice()) {
         Ok(text) => Ok(text.as_deref() == Some("ab")),
-        Err(error) => Err(kind_name(&error)),
+        Err(error) => Err(io_error_name(&error)),
     }
 }
 
-/// Whether the unit of this number has this name.
-fn has_unit(units: &PmuMappings, number: u32, wanted: &str) -> bool {
+/// Whether the unit with this number has this name.
+fn has_mapping(units: &PmuMappings, number: u32, wanted: &str) -> bool {
     match units.0.get(&number) {
         Some(name) => name.as_str() == wanted,
         None => false,
     }
 }
 
-/// The names of units.
-pub fn units(alloc: Global) -> Answer {
-    match PmuMappings::parse::<_, LittleEndian>(alloc, UNITS.as_slice()) {
-        Ok(units) => Ok(has_unit(&units, 1, "software") && has_unit(&units, 4, "cpu")),
-        Err(error) => Err(kind_name(&error)),
+/// Parses PMU mappings.
+pub fn pmu_mappings(alloc: Global) -> ParserResult {
+    match PmuMappings::parse::<_, LittleEndian>(alloc, PMU_SECTION.as_slice()) {
+        Ok(units) => Ok(has_mapping(&units, 1, "software") && has_mapping(&units, 4, "cpu")),
+        Err(error) => Err(io_error_name(&error)),
     }
 }
 
-/// Attributes alone.
-pub fn attributes(alloc: Global) -> Answer {
-    let bytes = frame();
+/// Parses an attribute section.
+pub fn attr_section(alloc: Global) -> ParserResult {
+    let bytes = event_types_entry();
     let cursor = Cursor::new(&bytes[..]);
     let read = AttributeDescription::parse_attr_section::<_, LittleEndian>(
         alloc, cursor, &SECTION, 80,
     );
-    is_one(read, None, &[])
+    is_single_attr(read, None, &[])
 }
 
-/// Attributes with ids and names.
-pub fn event_desc(alloc: Global) -> Answer {
-    let bytes = description();
+/// Parses EVENT_DESC: attributes with ids and names.
+pub fn event_desc(alloc: Global) -> ParserResult {
+    let bytes = event_desc_entry();
     let cursor = Cursor::new(&bytes[..]);
     let read = AttributeDescription::parse_event_desc_section::<_, LittleEndian>(alloc, cursor);
-    is_one(read, Some("c"), &[5])
+    is_single_attr(read, Some("c"), &[5])
 }
 
-/// Attributes with ids.
-pub fn event_types(alloc: Global) -> Answer {
-    let bytes = frame();
+/// Parses the event types section: attributes with ids.
+pub fn event_types(alloc: Global) -> ParserResult {
+    let bytes = event_types_entry();
     let cursor = Cursor::new(&bytes[..]);
     let read = AttributeDescription::parse_event_types_section::<_, LittleEndian>(
         alloc, cursor, &SECTION, 64,
     );
-    is_one(read, None, &[5])
+    is_single_attr(read, None, &[5])
 }
 
-/// Attributes with ids, named by simpleperf's meta info.
-pub fn named_types(alloc: Global) -> Answer {
+/// Parses simpleperf attributes, which have ids and the names of the meta info.
+pub fn simpleperf_attrs(alloc: Global) -> ParserResult {
     let mut map = HashMap::new(alloc);
     if map.insert("event_type_info", "cpu-clock,1,0").is_err() {
         return Err("Memory");
@@ -131,10 +131,10 @@ pub fn named_types(alloc: Global) -> Answer {
         Ok(None) => return Ok(false),
         Err(_) => return Err("Memory"),
     };
-    let bytes = frame();
+    let bytes = event_types_entry();
     let cursor = Cursor::new(&bytes[..]);
     let read = AttributeDescription::parse_simpleperf_attr_section::<_, LittleEndian>(
         alloc, cursor, &SECTION, 80, &types,
     );
-    is_one(read, Some("cpu-clock"), &[5])
+    is_single_attr(read, Some("cpu-clock"), &[5])
 }

@@ -1,26 +1,26 @@
-//! Parsers of what simpleperf tells: the files that samples were taken in, and the meta info.
+//! Calls parsers of simpleperf sections: symbol files and meta info.
 
-use super::Answer;
-use crate::words::{decode_name, kind_name, name_of};
+use super::ParserResult;
+use crate::error_names::{decode_error_name, error_name, io_error_name};
 use byteorder::LittleEndian;
 use linux_perf_data::raw::Endianness;
 use linux_perf_data::simpleperf::{parse_file_section, parse_file2_section, parse_meta_info_map};
 use linux_perf_data::{Error, SimpleperfFileRecord, SimpleperfSymbol, SimpleperfTypeSpecificInfo};
 use std::alloc::Global;
 
-/// Behind its length a message: path `a`, type 2, address 128, and the offsets 1, 2 and 3 of a DEX file.
+/// A length, and a message with the path `a`, type 2, address 128 and the DEX offsets 1, 2 and 3.
 const MESSAGE: [u8; 24] = [
     20, 0, 0, 0, 0x0a, 1, b'a', 0x10, 2, 0x18, 0x80, 1, 0x40, 5, 0x2a, 4, 0x0a, 2, 1, 2, 0x2a, 2,
     8, 3,
 ];
 
-/// Behind its length an older record: path `a`, type 3, address 16, the symbol `c` at 2 of length 3, and the offset 4.
-const OLDER: [u8; 48] = [
+/// A length, and a version 1 record with the path `a`, type 3, address 16, the symbol `c` at 2 of length 3, and the DEX offset 4.
+const V1_RECORD: [u8; 48] = [
     44, 0, 0, 0, b'a', 0, 3, 0, 0, 0, 16, 0, 0, 0, 0, 0, 0, 0, 1, 0, 0, 0, 2, 0, 0, 0, 0, 0, 0, 0,
     3, 0, 0, 0, b'c', 0, 1, 0, 0, 0, 4, 0, 0, 0, 0, 0, 0, 0,
 ];
 
-/// Whether these are the offsets of a DEX file.
+/// Whether the info contains these DEX offsets.
 fn has_offsets(info: &Option<SimpleperfTypeSpecificInfo>, wanted: &[u64]) -> bool {
     match info {
         Some(SimpleperfTypeSpecificInfo::SimpleperfDexFileInfo(dex)) => {
@@ -30,7 +30,7 @@ fn has_offsets(info: &Option<SimpleperfTypeSpecificInfo>, wanted: &[u64]) -> boo
     }
 }
 
-/// Whether this is the message's record.
+/// Whether the record is that of `MESSAGE`.
 fn is_message(record: &SimpleperfFileRecord) -> bool {
     let told = (record.path.as_str(), record.type_, record.min_vaddr);
     told == ("a", 2, 128)
@@ -38,7 +38,7 @@ fn is_message(record: &SimpleperfFileRecord) -> bool {
         && has_offsets(&record.type_specific_msg, &[1, 2, 3])
 }
 
-/// Whether these are the one symbol of the older record.
+/// Whether the symbols are the one symbol of `V1_RECORD`.
 fn is_symbol(symbols: &[SimpleperfSymbol]) -> bool {
     match symbols {
         [symbol] => (symbol.vaddr, symbol.len, symbol.name.as_str()) == (2, 3, "c"),
@@ -46,56 +46,56 @@ fn is_symbol(symbols: &[SimpleperfSymbol]) -> bool {
     }
 }
 
-/// Whether this is the older record.
-fn is_older(record: &SimpleperfFileRecord) -> bool {
+/// Whether the record is that of `V1_RECORD`.
+fn is_v1_record(record: &SimpleperfFileRecord) -> bool {
     let told = (record.path.as_str(), record.type_, record.min_vaddr);
     told == ("a", 3, 16)
         && is_symbol(&record.symbol)
         && has_offsets(&record.type_specific_msg, &[4])
 }
 
-/// A message.
-pub fn decode(alloc: Global) -> Answer {
+/// Decodes a message.
+pub fn decode(alloc: Global) -> ParserResult {
     match SimpleperfFileRecord::decode(alloc, &MESSAGE[4..]) {
         Ok(record) => Ok(is_message(&record)),
-        Err(error) => Err(decode_name(&error)),
+        Err(error) => Err(decode_error_name(&error)),
     }
 }
 
-/// An older record.
-pub fn decode_v1(alloc: Global) -> Answer {
-    match SimpleperfFileRecord::decode_v1::<LittleEndian>(alloc, &OLDER[4..]) {
-        Ok(record) => Ok(is_older(&record)),
-        Err(error) => Err(kind_name(&error)),
+/// Decodes a version 1 record.
+pub fn decode_v1(alloc: Global) -> ParserResult {
+    match SimpleperfFileRecord::decode_v1::<LittleEndian>(alloc, &V1_RECORD[4..]) {
+        Ok(record) => Ok(is_v1_record(&record)),
+        Err(error) => Err(io_error_name(&error)),
     }
 }
 
-/// A section of older records.
-pub fn file_section(alloc: Global) -> Answer {
-    match parse_file_section(alloc, &OLDER, Endianness::LittleEndian) {
+/// Parses a section of version 1 records.
+pub fn file_section(alloc: Global) -> ParserResult {
+    match parse_file_section(alloc, &V1_RECORD, Endianness::LittleEndian) {
         Ok(records) => match records.as_slice() {
-            [record] => Ok(is_older(record)),
+            [record] => Ok(is_v1_record(record)),
             _ => Ok(false),
         },
-        Err(error) => Err(name_of(&error)),
+        Err(error) => Err(error_name(&error)),
     }
 }
 
-/// A section of messages.
-pub fn file2_section(alloc: Global) -> Answer {
+/// Parses a section of messages.
+pub fn file2_section(alloc: Global) -> ParserResult {
     match parse_file2_section(alloc, &MESSAGE, Endianness::LittleEndian) {
         Ok(records) => match records.as_slice() {
             [record] => Ok(is_message(record)),
             _ => Ok(false),
         },
-        Err(error) => Err(name_of(&error)),
+        Err(error) => Err(error_name(&error)),
     }
 }
 
-/// Meta info of one key.
-pub fn meta_info(alloc: Global) -> Answer {
+/// Parses meta info with one key.
+pub fn meta_info(alloc: Global) -> ParserResult {
     match parse_meta_info_map(alloc, b"key\0value\0") {
         Ok(map) => Ok(map.get("key") == Some(&"value")),
-        Err(error) => Err(name_of(&error)),
+        Err(error) => Err(error_name(&error)),
     }
 }

@@ -1,11 +1,11 @@
-//! The event types that meta info tells, line by line.
+//! The event types of meta info, line by line.
 use crate::compare::{check_at, same_at};
 use perfdata_parts::simpleperf::{SimplePerfEventType, get_event_types};
 use std::alloc::{AllocError, Global};
 use std::collections::{HashMap, TryReserveError};
 use std::test::Fail;
 
-// The events of meta info with this text under a key, and an empty text under another key.
+// The event types of meta info with this text at a key, and an empty text at another key.
 fn events_of(
     alloc: Global,
     key: &'static str,
@@ -17,7 +17,7 @@ fn events_of(
     Ok(get_event_types(alloc, &map)?)
 }
 
-// How many events there are, and whether they are these as far as both go.
+// The number of events, and whether they equal the expected ones up to the shorter length.
 fn compare(
     events: &Option<Vec<SimplePerfEventType>>,
     expected: &[(&str, u64, u64)],

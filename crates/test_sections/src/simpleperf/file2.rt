@@ -1,4 +1,4 @@
-//! Sections of protobuf messages, and what is cut in them.
+//! Sections of protobuf messages, and their truncation.
 use super::sections::{answer_of, repeated};
 use crate::compare::{same, same_at};
 use perfdata_base::raw::Endianness;

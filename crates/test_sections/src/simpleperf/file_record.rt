@@ -1,4 +1,4 @@
-//! Protobuf messages: their fields, the value that counts, and each fault.
+//! Protobuf messages: their fields, the value of a field that counts, and each decode error.
 use crate::compare::{check, check_at, same, same_at};
 use perfdata_parts::decode_error::DecodeError;
 use perfdata_parts::simpleperf::{
@@ -9,12 +9,12 @@ use std::alloc::{AllocError, Global};
 use std::test::Fail;
 use test_support::values::joined;
 
-// A path, a type, an address, an unknown field, and DEX offsets packed and single.
+// A path, a type, an address, an unknown field, and packed and single DEX offsets.
 const RECORD: [u8; 20] = [
     0x0a, 1, b'a', 0x10, 2, 0x18, 0x80, 1, 0x40, 5, 0x2a, 4, 0x0a, 2, 1, 2, 0x2a, 2, 8, 3,
 ];
 
-// What is wanted of the info.
+// The expected info.
 #[derive(Clone, Copy)]
 enum Info<'a> {
     Nothing,
@@ -23,7 +23,7 @@ enum Info<'a> {
     Module,
 }
 
-// The record of this path, type, address and info, without symbols.
+// The record with this path, type, address and info, without symbols.
 fn record(
     alloc: Global,
     numbers: (&str, u32, u64),
@@ -58,7 +58,7 @@ fn record(
     })
 }
 
-// Whether the bytes are decoded to this record.
+// Whether decoding the bytes returns this record.
 fn is_decoded(alloc: Global, bytes: &[u8], expected: &SimpleperfFileRecord) -> bool {
     match SimpleperfFileRecord::decode(alloc, bytes) {
         Ok(record) => record == *expected,
@@ -66,7 +66,7 @@ fn is_decoded(alloc: Global, bytes: &[u8], expected: &SimpleperfFileRecord) -> b
     }
 }
 
-// Whether the bytes are decoded to a record without symbols.
+// Whether decoding the bytes returns a record with these values and without symbols.
 fn decodes(
     alloc: Global,
     bytes: &[u8],
@@ -77,7 +77,7 @@ fn decodes(
     Ok(is_decoded(alloc, bytes, &expected))
 }
 
-// Why the bytes aren't decoded.
+// The error of decoding the bytes.
 pub fn fault_of(alloc: Global, bytes: &[u8]) -> Option<DecodeError> {
     match SimpleperfFileRecord::decode(alloc, bytes) {
         Ok(_) => None,
@@ -105,7 +105,7 @@ fn decodes_fields(rt: HostRuntime) -> Result<(), Fail> {
     Ok(())
 }
 
-// A record of nothing but these symbols.
+// A record that contains only these symbols.
 fn of_symbols(alloc: Global, symbols: &[(u64, u32, &str)]) -> Result<SimpleperfFileRecord, Fail> {
     let mut record = record(alloc, ("", 0, 0), Info::Nothing)?;
     for (vaddr, len, name) in symbols {
@@ -127,7 +127,7 @@ fn decodes_symbols(rt: HostRuntime) -> Result<(), Fail> {
     Ok(())
 }
 
-// The offsets of copies of the infos that have nothing.
+// The offsets in clones of the default infos.
 fn offsets_of_defaults() -> Result<(u64, u64), AllocError> {
     let module = SimpleperfKernelModuleInfo::default().clone()?;
     let elf = SimpleperfElfFileInfo::default().clone()?;

@@ -1,4 +1,4 @@
-//! Sections of the older file records, and what is cut in them.
+//! Sections of version 1 file records, and their truncation.
 use super::sections::{answer_of, repeated};
 use crate::compare::{same, same_at};
 use perfdata_base::raw::Endianness;
@@ -8,14 +8,14 @@ use std::test::Fail;
 use test_support::error_key::{ErrorKey, SHORT};
 use test_support::recordings::SYMBOLS_FILE;
 
-// A length, and 18 bytes: path `a`, type 2, address 16, no symbols.
+// A length, and 18 bytes: the path `a`, type 2, address 16, no symbols.
 fn section(length: u8) -> [u8; 22] {
     let mut bytes = SYMBOLS_FILE;
     bytes[0] = length;
     bytes
 }
 
-// The same with type 4, in big-endian order.
+// The same section with type 4, in big-endian.
 const BIG: [u8; 22] = [
     0, 0, 0, 18, b'a', 0, 0, 0, 0, 4, 0, 0, 0, 0, 0, 0, 0, 16, 0, 0, 0, 0,
 ];

@@ -1,4 +1,4 @@
-//! The older file records: each type, in both orders, and what is refused.
+//! Version 1 file records: each type, in both byte orders, and their errors.
 use crate::compare::{same, same_at};
 use byteorder::{BigEndian, LittleEndian};
 use perfdata_parts::simpleperf::{SimpleperfFileRecord, SimpleperfTypeSpecificInfo};
@@ -6,17 +6,17 @@ use std::alloc::Global;
 use std::io::ErrorKind;
 use test_support::values::by_kind;
 
-// Path `a`, a type, address 16, a count of symbols.
+// The path `a`, a type, address 16, and a count of symbols.
 fn head(type_: u8, count: u8) -> [u8; 18] {
     [
         b'a', 0, type_, 0, 0, 0, 16, 0, 0, 0, 0, 0, 0, 0, count, 0, 0, 0,
     ]
 }
 
-// The type by the info, if one is there, and its number.
+// The type that the info belongs to and the info's number, if there is an info.
 type Offset = Option<(u32, u64)>;
 
-// What is read, if its path is `a`: type, address, count of symbols, and the info's number.
+// The values of a record with the path `a`: its type, address, number of symbols, and the info's number.
 fn little(alloc: Global, bytes: &[u8]) -> Result<Option<(u32, u64, usize, Offset)>, ErrorKind> {
     let record = by_kind(SimpleperfFileRecord::decode_v1::<LittleEndian>(alloc, bytes))?;
     if record.path.as_str() != "a" {
@@ -48,13 +48,13 @@ fn takes_a_missing_offset_for_the_greatest(rt: HostRuntime) {
     }
 }
 
-// Path `b`, type 3, address 1, a symbol `c` at 2 of length 3, the offsets 4 and 5; in big-endian order.
+// The path `b`, type 3, address 1, a symbol `c` at 2 of length 3, and the offsets 4 and 5, in big-endian.
 const DEX: [u8; 52] = [
     b'b', 0, 0, 0, 0, 3, 0, 0, 0, 0, 0, 0, 0, 1, 0, 0, 0, 1, 0, 0, 0, 0, 0, 0, 0, 2, 0, 0, 0, 3,
     b'c', 0, 0, 0, 0, 2, 0, 0, 0, 0, 0, 0, 0, 4, 0, 0, 0, 0, 0, 0, 0, 5,
 ];
 
-// Whether what is read is what DEX says.
+// Whether the parsed record is that of `DEX`.
 fn reads_dex(alloc: Global, bytes: &[u8]) -> Result<bool, ErrorKind> {
     let record = by_kind(SimpleperfFileRecord::decode_v1::<BigEndian>(alloc, bytes))?;
     let told = (record.path.as_str(), record.type_, record.min_vaddr);
@@ -74,7 +74,7 @@ fn reads_dex(alloc: Global, bytes: &[u8]) -> Result<bool, ErrorKind> {
 #[test]
 fn reads_symbols_and_offsets(rt: HostRuntime) {
     for held in 0..53usize {
-        // a count above the bytes that are left is told before those are found to be cut
+        // a count that exceeds the remaining bytes is an error before the truncation is
         let wanted = match held {
             52 => Ok(true),
             18 | 36 | 37 => Err(ErrorKind::InvalidData),

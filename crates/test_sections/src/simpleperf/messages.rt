@@ -1,4 +1,4 @@
-//! Faults inside the messages of a simpleperf file, each by its name.
+//! Decode errors in the messages of a simpleperf file, each by its name.
 use crate::compare::{same, same_at};
 use crate::simpleperf::file_record::fault_of;
 use crate::simpleperf::sections::answer_of;
@@ -36,7 +36,8 @@ fn faults_inside_inner_messages(rt: HostRuntime) -> Result<(), Fail> {
     Ok(())
 }
 
-// A length of 32, and an older record of path `a`, type 0, address 16 and one symbol at 2 of length 3, whose name is no text.
+// A length of 32, and a version 1 record with the path `a`, type 0, address 16 and one symbol at 2 of length 3, whose name isn't
+// UTF-8.
 const NAMED: [u8; 36] = [
     32, 0, 0, 0, b'a', 0, 0, 0, 0, 0, 16, 0, 0, 0, 0, 0, 0, 0, 1, 0, 0, 0, 2, 0, 0, 0, 0, 0, 0, 0,
     3, 0, 0, 0, 0xff, 0,

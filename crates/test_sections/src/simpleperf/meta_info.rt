@@ -1,10 +1,10 @@
-//! Meta info: the pairs of its pieces, and texts that aren't UTF-8.
+//! Meta info: its key-value pairs, and strings that aren't UTF-8.
 use crate::compare::same_at;
 use perfdata_parts::error::Error;
 use perfdata_parts::simpleperf::parse_meta_info_map;
 use std::alloc::Global;
 
-// How many pairs there are and the value of a key; or whether the refusal is that a text isn't UTF-8.
+// The number of pairs and the value of a key, or whether the error is that a string isn't UTF-8.
 fn told<'a>(alloc: Global, bytes: &'a [u8], key: &str) -> Result<(usize, Option<&'a str>), bool> {
     match parse_meta_info_map(alloc, bytes) {
         Ok(map) => Ok((map.len(), map.get(key).copied())),

@@ -1,4 +1,4 @@
-//! Texts up to a NUL, taken off the front.
+//! NUL strings that are split off the start of the bytes.
 use crate::compare::same_at;
 use perfdata_parts::simpleperf::SliceReadStringExt;
 use std::io::ErrorKind;

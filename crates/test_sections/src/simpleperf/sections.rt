@@ -1,13 +1,13 @@
-//! What sections of file records are read to, whichever of the two they are.
+//! The results of parsing the two types of sections of file records.
 use perfdata_parts::error::Error;
 use perfdata_parts::simpleperf::SimpleperfFileRecord;
 use std::alloc::{AllocError, Global};
 use test_support::error_key::ErrorKey;
 
-// How a section is read: how many records there are and how many of them are the expected, or the error.
+// The result of parsing a section: the number of records and how many of them are the expected one, or the error.
 pub type Answer = Result<(usize, usize), ErrorKey>;
 
-// A section so many times.
+// Repeats a section `count` times.
 pub fn repeated(alloc: Global, section: &[u8], count: usize) -> Result<Vec<u8>, AllocError> {
     let mut bytes = Vec::new(alloc);
     for _ in 0..count {
@@ -16,7 +16,7 @@ pub fn repeated(alloc: Global, section: &[u8], count: usize) -> Result<Vec<u8>, 
     Ok(bytes)
 }
 
-// How many of these are of path `a`, this type and this address, and have no symbols.
+// The number of records with the path `a`, this type and this address, and without symbols.
 fn count_expected(records: &[SimpleperfFileRecord], expected: (u32, u64)) -> usize {
     let mut count = 0usize;
     for record in records {
@@ -28,7 +28,7 @@ fn count_expected(records: &[SimpleperfFileRecord], expected: (u32, u64)) -> usi
     count
 }
 
-// What came of a section, where a record of this type and this address is expected.
+// Converts the result of parsing a section, whose expected record has this type and this address.
 pub fn answer_of(read: Result<Vec<SimpleperfFileRecord>, Error>, expected: (u32, u64)) -> Answer {
     match read {
         Ok(records) => Ok((records.len(), count_expected(&records, expected))),

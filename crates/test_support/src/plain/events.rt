@@ -1,9 +1,9 @@
-//! The events of an input, the rule that they keep, and which of them a record is of.
+//! Reference implementation of events: their parsing, attribute consistency, and the lookup of a record's event.
 use super::{Piece, number_at};
 use crate::ending::End;
 use std::alloc::{AllocError, Global};
 
-/// What is known of an event.
+/// The properties of an event that the listing uses.
 #[derive(Drop)]
 pub struct Event {
     pub format: u64,
@@ -13,7 +13,7 @@ pub struct Event {
     pub name: Option<Vec<u8>>,
 }
 
-/// The event of these bytes of an attribute and these of identifiers, without a name.
+/// The event of an attribute's bytes and the bytes of its ids, without a name.
 pub fn event_of(
     alloc: Global,
     attribute: &[u8],
@@ -32,7 +32,7 @@ pub fn event_of(
     })
 }
 
-/// The text before the first NUL, where it is UTF-8.
+/// The text before the first NUL, if it is UTF-8.
 fn name_of(alloc: Global, text: &[u8]) -> Result<Option<Vec<u8>>, AllocError> {
     let length = text
         .iter()
@@ -45,7 +45,7 @@ fn name_of(alloc: Global, text: &[u8]) -> Result<Option<Vec<u8>>, AllocError> {
     }
 }
 
-/// The next description of EVENT_DESC from a place on, whose frames have this size, and where it ends.
+/// The entry of EVENT_DESC at an offset, with attributes of `frame` bytes, and the offset of its end.
 fn described_at(
     alloc: Global,
     section: &[u8],
@@ -83,7 +83,7 @@ fn described_at(
     Ok(Ok((event, end)))
 }
 
-/// The events that EVENT_DESC of these bytes describes, or why they can't be read.
+/// The events of an EVENT_DESC section, or the error that parsing it returns.
 pub fn events_in(
     alloc: Global,
     section: &[u8],
@@ -112,8 +112,8 @@ fn is_set(number: u64, bit: u32) -> bool {
     number.checked_shr(bit).unwrap_or(0) % 2 == 1
 }
 
-/// The words of an event's records, each with the bit that asks for it: in a sample from its body's start, in another
-/// record up to its body's end.
+/// The sample type bits of an event's record fields, in order: from the start of the body in a sample, up to the end of the body
+/// in another record.
 fn words_of(event: &Event, sample: bool) -> &'static [u32] {
     if sample {
         &[16, 0, 1, 2, 3, 6]
@@ -124,7 +124,7 @@ fn words_of(event: &Event, sample: bool) -> &'static [u32] {
     }
 }
 
-/// How many words stand before that of a bit, where it is there, and how many there are.
+/// The word index of a bit's field, if it is present, and the number of fields.
 fn place_of(event: &Event, bit: u32, sample: bool) -> (Option<usize>, usize) {
     let mut words = 0usize;
     let mut index = None;
@@ -139,7 +139,7 @@ fn place_of(event: &Event, bit: u32, sample: bool) -> (Option<usize>, usize) {
     (index, words)
 }
 
-/// The number in a record's word of a bit.
+/// The value of a record's field for a bit.
 pub fn word_of(event: &Event, bit: u32, piece: Piece<'_>, big: bool) -> Option<u64> {
     let body = piece.bytes.get(8..)?;
     let (index, words) = place_of(event, bit, piece.kind == 9);
@@ -151,12 +151,12 @@ pub fn word_of(event: &Event, bit: u32, piece: Piece<'_>, big: bool) -> Option<u
     number_at(body, body.len().checked_sub(back)?, 8, big)
 }
 
-/// The bit of the word that an event's records have their identifier in.
+/// The bit of the field that contains the id.
 fn id_bit(event: &Event) -> u32 {
     if is_set(event.format, 16) { 16 } else { 6 }
 }
 
-/// The event that a record is of: the last that lists its identifier, which stands where the first event's does.
+/// The index of a record's event: the last event that lists its id. The id is read at the position that the first event defines.
 pub fn index_of(events: &[Event], piece: Piece<'_>, big: bool) -> usize {
     let mut found = 0usize;
     let Some(first) = events.first() else {
@@ -173,7 +173,7 @@ pub fn index_of(events: &[Event], piece: Piece<'_>, big: bool) -> usize {
     found
 }
 
-/// Where an event's records have their identifier, samples from the start and others from the end.
+/// The word indices of the id in an event's records: from the start in samples, and from the end in other records.
 fn id_places(event: &Event) -> (Option<usize>, Option<usize>) {
     let bit = id_bit(event);
     let (first, _) = place_of(event, bit, true);
@@ -181,7 +181,7 @@ fn id_places(event: &Event) -> (Option<usize>, Option<usize>) {
     (first, last.map(|index| words.saturating_sub(index)))
 }
 
-/// How events break the rule, where they do.
+/// The error of attribute consistency, if the events are inconsistent.
 pub fn breach_of(events: &[Event]) -> Option<End> {
     let first = events.first()?;
     if events

@@ -1,10 +1,10 @@
-//! The records of a pipe, and what it says of itself, computed from the definitions in a plain and slow way.
+//! Reference implementation of pipes: their records and metadata, computed from the definitions in a simple and slow way.
 use super::events::{Event, breach_of, event_of, events_in};
 use super::{Piece, line_of, number_at, piece_at, sum_of};
 use crate::ending::End;
 use std::alloc::{AllocError, Global};
 
-/// A pipe as its records: those of its opening, those after it, and how it ends.
+/// A pipe as records: those of its opening, those after it, and the end.
 #[derive(Drop)]
 pub struct Pipe<'a> {
     big: bool,
@@ -13,7 +13,7 @@ pub struct Pipe<'a> {
     pub end: End,
 }
 
-/// Whether numbers are big-endian, and what stands after the header.
+/// Whether the pipe is big-endian, and the bytes after its header.
 fn front_of(bytes: &[u8]) -> Result<(bool, &[u8]), End> {
     let magic = bytes.get(..8).ok_or(End::Short)?;
     let big = magic == b"2ELIFREP".as_slice();
@@ -24,17 +24,17 @@ fn front_of(bytes: &[u8]) -> Result<(bool, &[u8]), End> {
     Ok((big, bytes.get(size.max(16) as usize..).unwrap_or(&[])))
 }
 
-/// Whether a record holds metadata.
+/// Whether a record contains metadata.
 fn is_metadata(piece: &Piece<'_>) -> bool {
     piece.kind == 64 || piece.kind == 80
 }
 
-/// The feature of a record of type 80.
+/// The feature of a HEADER_FEATURE record.
 fn feature_of(piece: &Piece<'_>, big: bool) -> u64 {
     number_at(piece.bytes, 8, 8, big).unwrap_or(0) % 4294967296
 }
 
-/// How large the attribute of a record of type 64 is by its own words.
+/// The attribute's own size in a HEADER_ATTR record.
 fn own_size(piece: &Piece<'_>, big: bool) -> u64 {
     match number_at(piece.bytes, 12, 4, big) {
         Some(0) | None => 64,
@@ -42,7 +42,7 @@ fn own_size(piece: &Piece<'_>, big: bool) -> u64 {
     }
 }
 
-/// Why a record of metadata can't hold any.
+/// The error of a malformed metadata record.
 fn spoiled(piece: &Piece<'_>, big: bool) -> Option<End> {
     let long = piece.bytes.len() as u64;
     if long < 16 {
@@ -61,7 +61,7 @@ fn spoiled(piece: &Piece<'_>, big: bool) -> Option<End> {
     }
 }
 
-/// The data of a feature, where one of these records brings it: that of the last of them.
+/// The data of a feature in the last of these records that contains it.
 fn data_in<'a>(pieces: &[Piece<'a>], feature: u64, big: bool) -> Option<&'a [u8]> {
     let mut data = None;
     for piece in pieces {
@@ -72,7 +72,7 @@ fn data_in<'a>(pieces: &[Piece<'a>], feature: u64, big: bool) -> Option<&'a [u8]
     data
 }
 
-/// The events of these records, named by the EVENT_DESC among them, or why that one can't be read.
+/// The events of these records with the names from their EVENT_DESC, or the error of that section.
 fn events_of(
     alloc: Global,
     pieces: &[Piece<'_>],
@@ -107,7 +107,7 @@ fn events_of(
     Ok(Ok(events))
 }
 
-/// The records of the opening: those of metadata up to the first other one.
+/// The records of the pipe opening: the metadata records before the first other record.
 fn opening_of<'a>(
     alloc: Global,
     rest: &'a [u8],
@@ -141,7 +141,7 @@ fn opening_of<'a>(
     Ok(Ok(pieces))
 }
 
-/// Why a pipe with these records in its opening doesn't open.
+/// The error of opening a pipe with these records in its opening.
 fn refused(alloc: Global, opening: &[Piece<'_>], big: bool) -> Result<Option<End>, AllocError> {
     if opening.iter().all(|piece| piece.kind != 64) {
         return Ok(Some(End::NoAttributes));
@@ -152,7 +152,7 @@ fn refused(alloc: Global, opening: &[Piece<'_>], big: bool) -> Result<Option<End
     }
 }
 
-/// What stands at an offset of a pipe: a record that is whole by itself, or the end.
+/// The record at an offset of a pipe, or the end. A record that is truncated is the end.
 fn next_of<'a>(rest: &'a [u8], offset: u64, big: bool) -> Result<Piece<'a>, End> {
     match number_at(rest, 6, 2, big) {
         None => Err(End::Whole),
@@ -161,7 +161,7 @@ fn next_of<'a>(rest: &'a [u8], offset: u64, big: bool) -> Result<Piece<'a>, End>
     }
 }
 
-/// Two lists of records as one.
+/// Concatenates two lists of records.
 fn joined<'a>(
     alloc: Global,
     first: &[Piece<'a>],
@@ -174,7 +174,7 @@ fn joined<'a>(
     Ok(all)
 }
 
-/// Why the last of these records isn't taken in, where it is one of metadata.
+/// The error of applying the last of these records, if it is a metadata record.
 fn not_taken(alloc: Global, pieces: &[Piece<'_>], big: bool) -> Result<Option<End>, AllocError> {
     let Some(piece) = pieces.last() else {
         return Ok(None);
@@ -194,7 +194,7 @@ fn not_taken(alloc: Global, pieces: &[Piece<'_>], big: bool) -> Result<Option<En
     }
 }
 
-/// The records of a pipe that opens, or why it doesn't open.
+/// The records of a pipe, or the error of opening it.
 pub fn pipe_of<'a>(alloc: Global, bytes: &'a [u8]) -> Result<Result<Pipe<'a>, End>, AllocError> {
     let (big, rest) = match front_of(bytes) {
         Ok(front) => front,
@@ -250,7 +250,7 @@ impl<'a> Pipe<'a> {
         Ok(text)
     }
 
-    /// All of its events.
+    /// All of its events, including late ones.
     pub fn events(&self, alloc: Global) -> Result<Vec<Event>, AllocError> {
         let all = joined(alloc, &self.opening, &self.pieces)?;
         match events_of(alloc, &all, self.big)? {
@@ -259,7 +259,7 @@ impl<'a> Pipe<'a> {
         }
     }
 
-    /// The data of a feature.
+    /// The data of a feature, which may be late.
     pub fn data(&self, alloc: Global, feature: u64) -> Result<Option<&'a [u8]>, AllocError> {
         let all = joined(alloc, &self.opening, &self.pieces)?;
         Ok(data_in(&all, feature, self.big))

@@ -1,4 +1,4 @@
-use Rattle.linux_perf_data.proofs.Heads.{same_front}
+use Rattle.linux_perf_data.proofs.RecordHeaders.{same_front}
 use Rattle.linux_perf_data.proofs.laws.at_most_one_record.Goals as goal
 
 pub returns : goal.returns

@@ -1,8 +1,8 @@
-use Rattle.linux_perf_data.proofs.Rules.{rule_or_breach, breach_one, rule_unbroken}
-use Rattle.linux_perf_data.proofs.laws.rule_kept_or_broken.Goals as goal
+use Rattle.linux_perf_data.proofs.ConsistencyLemmas.{consistent_or_not, inconsistency_is_unique, consistent_not_inconsistent}
+use Rattle.linux_perf_data.proofs.laws.consistent_or_first_inconsistency.Goals as goal
 
 pub returns : goal.returns
 returns c = record {
-  kept_or_broken = λ attrs. rule_or_breach attrs;
-  one_breach = λ attrs b c x y. (breach_one attrs b c x y, λ rule. rule_unbroken attrs b rule x);
+  consistent_or_not = λ attrs. consistent_or_not attrs;
+  one_inconsistency = λ attrs b c x y. (inconsistency_is_unique attrs b c x y, λ rule. consistent_not_inconsistent attrs b rule x);
 }

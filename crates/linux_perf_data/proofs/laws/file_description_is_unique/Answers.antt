@@ -1,5 +1,5 @@
-use Rattle.linux_perf_data.proofs.OneFile as lemma
-use Rattle.linux_perf_data.proofs.laws.one_file.Goals as goal
+use Rattle.linux_perf_data.proofs.FileUniqueness as lemma
+use Rattle.linux_perf_data.proofs.laws.file_description_is_unique.Goals as goal
 
 pub returns : goal.returns
-returns c = λ p h i f g x y. lemma.one_file p h i f g x y
+returns c = λ p h i f g x y. lemma.file_description_is_unique p h i f g x y

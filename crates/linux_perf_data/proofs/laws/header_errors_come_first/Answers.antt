@@ -1,5 +1,5 @@
-use Rattle.linux_perf_data.proofs.FileStands.{cut_header, far_header, other_magic}
-use Rattle.linux_perf_data.proofs.laws.header_comes_first.Goals as goal
+use Rattle.linux_perf_data.proofs.DescribedFiles.{truncated_header_fails, far_header_fails, unknown_magic_fails}
+use Rattle.linux_perf_data.proofs.laws.header_errors_come_first.Goals as goal
 
 pub returns : goal.returns
-returns c = record { cut = cut_header; far = far_header; magic = other_magic }
+returns c = record { truncated = truncated_header_fails; too_long = far_header_fails; magic = unknown_magic_fails }

@@ -1,5 +1,5 @@
-use Rattle.linux_perf_data.proofs.OneLayout.{some_layout}
-use Rattle.linux_perf_data.proofs.laws.some_layout.Goals as goal
+use Rattle.linux_perf_data.proofs.LayoutUniqueness.{layout_exists}
+use Rattle.linux_perf_data.proofs.laws.layout_exists.Goals as goal
 
 pub returns : goal.returns
-returns c = λ order bytes bound offset attrs fits rule. some_layout order bytes bound offset attrs fits rule
+returns c = λ order bytes bound offset attrs fits rule. layout_exists order bytes bound offset attrs fits rule

@@ -1,5 +1,5 @@
-use Rattle.linux_perf_data.proofs.Takings.{holds_none, holds_more, names_stay}
-use Rattle.linux_perf_data.proofs.laws.several_records_bring.Goals as goal
+use Rattle.linux_perf_data.proofs.MetadataAccumulation.{holds_none, holds_more, event_desc_stays_valid}
+use Rattle.linux_perf_data.proofs.laws.metadata_accumulates.Goals as goal
 
 pub returns-clause-none : goal.returns-clause-none
 returns-clause-none c = holds_none
@@ -8,4 +8,4 @@ pub returns-clause-more : goal.returns-clause-more
 returns-clause-more c = holds_more
 
 pub returns-clause-names : goal.returns-clause-names
-returns-clause-names c = names_stay
+returns-clause-names c = event_desc_stays_valid

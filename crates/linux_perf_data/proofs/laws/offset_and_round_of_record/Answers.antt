@@ -1,5 +1,5 @@
-use Rattle.linux_perf_data.proofs.Places.{piece_place}
-use Rattle.linux_perf_data.proofs.laws.place_of_piece.Goals as goal
+use Rattle.linux_perf_data.proofs.RecordOffsets.{record_offset}
+use Rattle.linux_perf_data.proofs.laws.offset_and_round_of_record.Goals as goal
 
 pub returns : goal.returns
-returns c = λ order bound offset round attrs front back p other. piece_place order bound offset round attrs front back p other
+returns c = λ order bound offset round attrs front back p other. record_offset order bound offset round attrs front back p other

@@ -1,5 +1,5 @@
-use Rattle.linux_perf_data.proofs.OneLayout.{one_to_come}
-use Rattle.linux_perf_data.proofs.laws.at_most_one_to_come.Goals as goal
+use Rattle.linux_perf_data.proofs.LayoutUniqueness.{remaining_is_unique}
+use Rattle.linux_perf_data.proofs.laws.remaining_records_are_unique.Goals as goal
 
 pub returns : goal.returns
-returns c = λ order bytes bound offset round attrs rs ss e f x y. one_to_come order bytes bound offset round attrs rs ss e f x y
+returns c = λ order bytes bound offset round attrs rs ss e f x y. remaining_is_unique order bytes bound offset round attrs rs ss e f x y

@@ -1,25 +1,25 @@
 use Rattle.std.proofs.Common.{◌≡◌, List, ℕ, Bor, refl, subst}
 use Rattle.std.specs.Io.Cursor.{cursor_inner, cursor_position}
 use Rattle.std.specs.declared.io.impls.Cursor.{Cursor}
-use Rattle.perfdata_base.specs.Source.{State, told_from}
-use Rattle.linux_perf_data.specs.Opened.{Opens, RefusesFile}
-use Rattle.perfdata_table.proofs.FeatureTables.{feature_of_file, none_of_file}
-use Rattle.perfdata_table.proofs.FileTables.{file_stops}
-use Rattle.perfdata_table.proofs.features.file_feature.Goals as goal
+use Rattle.perfdata_base.specs.Source.{State, memory_source_at}
+use Rattle.linux_perf_data.specs.OpenedFile.{FileParsed, FileParseError}
+use Rattle.perfdata_arrays.proofs.FeaturesLemmas.{reads_file_feature, file_feature_error}
+use Rattle.perfdata_arrays.proofs.FileRecordsLemmas.{file_open_error}
+use Rattle.perfdata_arrays.proofs.features.file_feature.Goals as goal
 
-abbrev seen : Cursor (Bor (List ℕ)) → State
-seen c = told_from (cursor_inner c).now (cursor_position c)
+abbrev state : Cursor (Bor (List ℕ)) → State
+state c = memory_source_at (cursor_inner c).now (cursor_position c)
 
 pub returns-in-Ok : goal.returns-in-Ok
 returns-in-Ok c =
     let bytes = c.args.bytes.now in
-    let same : seen c.new.result ≡ told_from bytes 0 = λ i. told_from (c.new.ensures.inner i).now (c.new.ensures.position i) in
-    let opened = subst (λ s. Opens seen s c.in-Ok.reader.perf_file c.in-Ok.reader.record_iter) same c.in-Ok.ensures.parses in
-    feature_of_file bytes (told_from bytes 0) refl seen c.in-Ok.reader.perf_file c.in-Ok.reader.record_iter opened c.args.feature c.args.place.now c.copy_feature.result c.copy_feature.new.place c.copy_feature.ensures.status c.copy_feature.ensures.copied
+    let same : state c.new.result ≡ memory_source_at bytes 0 = λ i. memory_source_at (c.new.ensures.inner i).now (c.new.ensures.position i) in
+    let opened = subst (λ s. FileParsed state s c.in-Ok.reader.perf_file c.in-Ok.reader.record_iter) same c.in-Ok.ensures.parses in
+    reads_file_feature bytes (memory_source_at bytes 0) refl state c.in-Ok.reader.perf_file c.in-Ok.reader.record_iter opened c.args.feature c.args.buf.now c.copy_feature.result c.copy_feature.new.buf c.copy_feature.ensures.status c.copy_feature.ensures.copied
 
 pub returns-in-Err : goal.returns-in-Err
 returns-in-Err c =
     let bytes = c.args.bytes.now in
-    let same : seen c.new.result ≡ told_from bytes 0 = λ i. told_from (c.new.ensures.inner i).now (c.new.ensures.position i) in
-    let refused = subst (λ s. RefusesFile s c.in-Err.error) same c.in-Err.ensures.parses in
-    none_of_file bytes c.args.feature c.args.place.now _ c.in-Err.error c.status_of-status.ensures refl refl (file_stops bytes (told_from bytes 0) refl refl refl c.in-Err.error refused)
+    let same : state c.new.result ≡ memory_source_at bytes 0 = λ i. memory_source_at (c.new.ensures.inner i).now (c.new.ensures.position i) in
+    let refused = subst (λ s. FileParseError s c.in-Err.error) same c.in-Err.ensures.parses in
+    file_feature_error bytes c.args.feature c.args.buf.now _ c.in-Err.error c.status_of_error-status.ensures refl refl (file_open_error bytes (memory_source_at bytes 0) refl refl refl c.in-Err.error refused)

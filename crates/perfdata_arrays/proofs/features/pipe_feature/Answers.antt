@@ -1,41 +1,41 @@
 use Rattle.std.proofs.Common.{◌≡◌, List, ℕ, Bor, refl, subst, ◌∙◌, arith}
 use Rattle.std.specs.Io.Cursor.{cursor_inner, cursor_position}
 use Rattle.std.specs.declared.io.impls.Cursor.{Cursor}
-use Rattle.perfdata_base.specs.Source.{State, told_from}
-use Rattle.linux_perf_data.specs.OpenedPipe.{OpensPipe, RefusesPipe}
-use Rattle.perfdata_table.proofs.FeatureTables.{feature_of_pipe, none_of_pipe}
-use Rattle.perfdata_table.proofs.PipeTables.{pipe_stops, room_at_front, unfailed_there}
-use Rattle.perfdata_table.proofs.features.pipe_feature.Goals as goal
+use Rattle.perfdata_base.specs.Source.{State, memory_source_at}
+use Rattle.linux_perf_data.specs.OpenedPipe.{PipeParsed, PipeParseError}
+use Rattle.perfdata_arrays.proofs.FeaturesLemmas.{reads_pipe_feature, pipe_feature_error}
+use Rattle.perfdata_arrays.proofs.PipeRecordsLemmas.{pipe_open_error, fits_at_zero, pipe_not_failed}
+use Rattle.perfdata_arrays.proofs.features.pipe_feature.Goals as goal
 
-abbrev seen : Cursor (Bor (List ℕ)) → State
-seen c = told_from (cursor_inner c).now (cursor_position c)
+abbrev state : Cursor (Bor (List ℕ)) → State
+state c = memory_source_at (cursor_inner c).now (cursor_position c)
 
 pub returns-in-Err : goal.returns-in-Err
 returns-in-Err c =
     let bytes = c.args.bytes.now in
-    let same : seen c.new.result ≡ told_from bytes 0 = λ i. told_from (c.new.ensures.inner i).now (c.new.ensures.position i) in
-    let refused = subst (λ s. RefusesPipe seen s c.in-Err.error) same c.in-Err.ensures.parses in
-    none_of_pipe bytes c.args.feature c.args.place.now _ c.in-Err.error c.status_of-status.ensures refl refl (pipe_stops bytes (told_from bytes 0) refl refl seen c.in-Err.error refused)
+    let same : state c.new.result ≡ memory_source_at bytes 0 = λ i. memory_source_at (c.new.ensures.inner i).now (c.new.ensures.position i) in
+    let refused = subst (λ s. PipeParseError state s c.in-Err.error) same c.in-Err.ensures.parses in
+    pipe_feature_error bytes c.args.feature c.args.buf.now _ c.in-Err.error c.status_of_error-status.ensures refl refl (pipe_open_error bytes (memory_source_at bytes 0) refl refl state c.in-Err.error refused)
 
-pub walk-walked-requires-clause-unfailed : goal.walk-walked-requires-clause-unfailed
-walk-walked-requires-clause-unfailed c =
+pub walk-walked-requires-clause-not_failed : goal.walk-walked-requires-clause-not_failed
+walk-walked-requires-clause-not_failed c =
     let bytes = c.args.bytes.now in
-    let same : seen c.new.result ≡ told_from bytes 0 = λ i. told_from (c.new.ensures.inner i).now (c.new.ensures.position i) in
-    let o = subst (λ s. OpensPipe seen s c.in-Ok.reader.perf_file c.in-Ok.reader.record_iter) same c.in-Ok.ensures.parses in
-    unfailed_there bytes (told_from bytes 0) refl refl seen c.in-Ok.reader.perf_file c.in-Ok.reader.record_iter o
+    let same : state c.new.result ≡ memory_source_at bytes 0 = λ i. memory_source_at (c.new.ensures.inner i).now (c.new.ensures.position i) in
+    let o = subst (λ s. PipeParsed state s c.in-Ok.reader.perf_file c.in-Ok.reader.record_iter) same c.in-Ok.ensures.parses in
+    pipe_not_failed bytes (memory_source_at bytes 0) refl refl state c.in-Ok.reader.perf_file c.in-Ok.reader.record_iter o
 
-pub walk-walked-requires-clause-room : goal.walk-walked-requires-clause-room
-walk-walked-requires-clause-room c =
+pub walk-walked-requires-clause-fits_if_running : goal.walk-walked-requires-clause-fits_if_running
+walk-walked-requires-clause-fits_if_running c =
     let bytes = c.args.bytes.now in
-    let same : seen c.new.result ≡ told_from bytes 0 = λ i. told_from (c.new.ensures.inner i).now (c.new.ensures.position i) in
-    let o = subst (λ s. OpensPipe seen s c.in-Ok.reader.perf_file c.in-Ok.reader.record_iter) same c.in-Ok.ensures.parses in
-    let near = c.count-count.ensures.near in
-    room_at_front bytes (told_from bytes 0) refl refl seen c.in-Ok.reader.perf_file c.in-Ok.reader.record_iter o (omega (arith, near))
+    let same : state c.new.result ≡ memory_source_at bytes 0 = λ i. memory_source_at (c.new.ensures.inner i).now (c.new.ensures.position i) in
+    let o = subst (λ s. PipeParsed state s c.in-Ok.reader.perf_file c.in-Ok.reader.record_iter) same c.in-Ok.ensures.parses in
+    let near = c.byte_count-count.ensures.fits in
+    fits_at_zero bytes (memory_source_at bytes 0) refl refl state c.in-Ok.reader.perf_file c.in-Ok.reader.record_iter o (omega (arith, near))
 
 pub returns : goal.returns
 returns c =
     let bytes = c.args.bytes.now in
-    let same : seen c.new.result ≡ told_from bytes 0 = λ i. told_from (c.new.ensures.inner i).now (c.new.ensures.position i) in
-    let o = subst (λ s. OpensPipe seen s c.in-Ok.reader.perf_file c.in-Ok.reader.record_iter) same c.in-Ok.ensures.parses in
-    feature_of_pipe bytes (told_from bytes 0) refl refl seen c.in-Ok.reader.perf_file c.in-Ok.reader.record_iter o 0 0 _ c.walk-walked.new.entries c.walk-walked.result c.walk-walked.new.iter c.walk-walked.new.file c.walk-walked.ensures
-    c.args.feature c.args.place.now c.copy_feature.result c.copy_feature.new.place (c.copy_feature.ensures.status ∙ c.status_of_end-status.ensures) c.copy_feature.ensures.copied
+    let same : state c.new.result ≡ memory_source_at bytes 0 = λ i. memory_source_at (c.new.ensures.inner i).now (c.new.ensures.position i) in
+    let o = subst (λ s. PipeParsed state s c.in-Ok.reader.perf_file c.in-Ok.reader.record_iter) same c.in-Ok.ensures.parses in
+    reads_pipe_feature bytes (memory_source_at bytes 0) refl refl state c.in-Ok.reader.perf_file c.in-Ok.reader.record_iter o 0 0 _ c.walk-walked.new.entries c.walk-walked.result c.walk-walked.new.iter c.walk-walked.new.file c.walk-walked.ensures
+    c.args.feature c.args.buf.now c.copy_feature.result c.copy_feature.new.buf (c.copy_feature.ensures.status ∙ c.walk_result_status-status.ensures) c.copy_feature.ensures.copied

@@ -1,5 +1,5 @@
-use Rattle.perfdata_table.proofs.JitTables.{take_front_of}
-use Rattle.perfdata_table.proofs.jit.front_of.Goals as goal
+use Rattle.perfdata_arrays.proofs.JitLemmas.{take-min}
+use Rattle.perfdata_arrays.proofs.jit.header_prefix.Goals as goal
 
 pub returns : goal.returns
-returns c = take_front_of c.min.result 4096 c.args.bytes.now c.min.ensures
+returns c = take-min c.min.result 4096 c.args.bytes.now c.min.ensures

@@ -1,8 +1,8 @@
 use Rattle.std.proofs.Common.{arith, ap, Ok, Some, ◌∙◌, subst, [], ◌∷◌, ◌++◌, length}
-use Rattle.perfdata_table.specs.Jit.{FindsRecord, jit_entries}
-use Rattle.perfdata_table.proofs.JitTables.{tells_more}
-use Rattle.perfdata_table.proofs.Overs.{length_over}
-use Rattle.perfdata_table.proofs.jit.jit_records.Goals as goal
+use Rattle.perfdata_arrays.specs.Jit.{FindsRecord, jit_entries}
+use Rattle.perfdata_arrays.proofs.JitLemmas.{writes_jit_records-snoc}
+use Rattle.perfdata_arrays.proofs.OverwriteLemmas.{length-with_prefix}
+use Rattle.perfdata_arrays.proofs.jit.jit_records.Goals as goal
 
 pub records-preserved : goal.records-preserved
 records-preserved c =
@@ -12,6 +12,6 @@ records-preserved c =
     let found : FindsRecord order bytes c.records.next (Ok (Some c.in-Ok-Some.record)) = subst (FindsRecord order bytes c.records.next) (c.in-Ok-Some.is ∙ ap Ok c.in-Ok-Some.field-0-is) c.record_at.ensures in
     let test = c.records-test.true in (
       before.0 ++ found.0 ∷ [],
-      tells_more order bytes c.max-next.result before.0 c.args.entries.now c.records.records c.records.next c.records.entries found.0 c.in-Ok-Some.record before.1
-          (omega (arith, test, ap length before.1.written, length_over (jit_entries order c.max-next.result before.0) c.args.entries.now)) found.1 found.2,
+      writes_jit_records-snoc order bytes c.max-next.result before.0 c.args.entries.now c.records.records c.records.next c.records.entries found.0 c.in-Ok-Some.record before.1
+          (omega (arith, test, ap length before.1.written, length-with_prefix (jit_entries order c.max-next.result before.0) c.args.entries.now)) found.1 found.2,
     )

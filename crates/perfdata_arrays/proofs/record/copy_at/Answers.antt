@@ -1,5 +1,5 @@
-use Rattle.perfdata_table.proofs.Overs.{lay_past}
-use Rattle.perfdata_table.proofs.entry.lay.Goals as goal
+use Rattle.perfdata_arrays.proofs.OverwriteLemmas.{with_entries_at-past_end}
+use Rattle.perfdata_arrays.proofs.record.copy_at.Goals as goal
 
-pub returns-else-at-array : goal.returns-else-at-array
-returns-else-at-array g c = lay_past c.args.at c.args.entries.now c.args.array.now c.if-at-array.false
+pub returns-else-offset-array : goal.returns-else-offset-array
+returns-else-offset-array g c = with_entries_at-past_end c.args.offset c.args.entries.now c.args.array.now c.if-offset-array.false

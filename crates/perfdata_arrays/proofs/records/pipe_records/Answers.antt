@@ -1,40 +1,40 @@
 use Rattle.std.proofs.Common.{arith, ◌≡◌, List, ℕ, Bor, Some, refl, sym, ◌∙◌, subst, drop}
 use Rattle.std.specs.Io.Cursor.{cursor_inner, cursor_position}
 use Rattle.std.specs.declared.io.impls.Cursor.{Cursor}
-use Rattle.perfdata_base.specs.Source.{State, told_from}
-use Rattle.perfdata_table.specs.Table.{OpensWith}
-use Rattle.perfdata_table.proofs.PipeTables.{no_pipe_told, pipe_stops, pipe_told, room_in_pipe, unfailed_there}
-use Rattle.perfdata_table.proofs.records.pipe_records.Goals as goal
+use Rattle.perfdata_base.specs.Source.{State, memory_source_at}
+use Rattle.perfdata_arrays.specs.Records.{IsOpeningSize}
+use Rattle.perfdata_arrays.proofs.PipeRecordsLemmas.{no_records_written, pipe_open_error, reads_pipe_records, fits_in_pipe, pipe_not_failed}
+use Rattle.perfdata_arrays.proofs.records.pipe_records.Goals as goal
 
-abbrev seen : Cursor (Bor (List ℕ)) → State
-seen c = told_from (cursor_inner c).now (cursor_position c)
+abbrev state : Cursor (Bor (List ℕ)) → State
+state c = memory_source_at (cursor_inner c).now (cursor_position c)
 
 pub returns-in-Err : goal.returns-in-Err
 returns-in-Err c =
-    let old = seen c.new.result in
+    let old = state c.new.result in
     let told : old.bytes ≡ Some c.args.bytes.now = λ i. Some (drop (c.new.ensures.position i) (c.new.ensures.inner i).now) in
-    no_pipe_told c.args.bytes.now old told refl c.args.first c.args.entries.now c.in-Err.error _ refl c.status_of-status.ensures (pipe_stops c.args.bytes.now old told refl seen c.in-Err.error c.in-Err.ensures.parses)
+    no_records_written c.args.bytes.now old told refl c.args.first c.args.entries.now c.in-Err.error _ refl c.status_of_error-status.ensures (pipe_open_error c.args.bytes.now old told refl state c.in-Err.error c.in-Err.ensures.parses)
 
-pub walk-walked-requires-clause-unfailed : goal.walk-walked-requires-clause-unfailed
-walk-walked-requires-clause-unfailed c =
-    let old = seen c.new.result in
+pub walk-walked-requires-clause-not_failed : goal.walk-walked-requires-clause-not_failed
+walk-walked-requires-clause-not_failed c =
+    let old = state c.new.result in
     let told : old.bytes ≡ Some c.args.bytes.now = λ i. Some (drop (c.new.ensures.position i) (c.new.ensures.inner i).now) in
     let o = c.in-Ok.ensures.parses in
-    unfailed_there c.args.bytes.now old told refl seen c.in-Ok.reader.perf_file c.in-Ok.reader.record_iter o
+    pipe_not_failed c.args.bytes.now old told refl state c.in-Ok.reader.perf_file c.in-Ok.reader.record_iter o
 
-pub walk-walked-requires-clause-room : goal.walk-walked-requires-clause-room
-walk-walked-requires-clause-room c =
-    let old = seen c.new.result in
+pub walk-walked-requires-clause-fits_if_running : goal.walk-walked-requires-clause-fits_if_running
+walk-walked-requires-clause-fits_if_running c =
+    let old = state c.new.result in
     let told : old.bytes ≡ Some c.args.bytes.now = λ i. Some (drop (c.new.ensures.position i) (c.new.ensures.inner i).now) in
     let o = c.in-Ok.ensures.parses in
-    let opens = subst (λ e. OpensWith e c.args.bytes.now c.opening_length-base.result) (c.endian.ensures ∙ sym o.order) c.opening_length-base.ensures in
-    room_in_pipe c.args.bytes.now old told refl seen c.in-Ok.reader.perf_file c.in-Ok.reader.record_iter o c.opening_length-base.result opens (let n = c.count-count.ensures.near in omega (arith, n))
+    let opens = subst (λ e. IsOpeningSize e c.args.bytes.now c.opening_size-base.result) (c.endian.ensures ∙ sym o.same_endian) c.opening_size-base.ensures in
+    fits_in_pipe c.args.bytes.now old told refl state c.in-Ok.reader.perf_file c.in-Ok.reader.record_iter o c.opening_size-base.result opens (let n = c.byte_count-count.ensures.fits in omega (arith, n))
 
 pub returns : goal.returns
 returns c =
-    let old = seen c.new.result in
+    let old = state c.new.result in
     let told : old.bytes ≡ Some c.args.bytes.now = λ i. Some (drop (c.new.ensures.position i) (c.new.ensures.inner i).now) in
     let o = c.in-Ok.ensures.parses in
-    let opens = subst (λ e. OpensWith e c.args.bytes.now c.opening_length-base.result) (c.endian.ensures ∙ sym o.order) c.opening_length-base.ensures in
-    pipe_told c.args.bytes.now old told refl seen c.in-Ok.reader.perf_file c.in-Ok.reader.record_iter o c.opening_length-base.result opens
-    c.args.first c.args.entries.now c.walk-walked.new.entries c.walk-walked.result c.walk-walked.new.iter c.walk-walked.new.file c.walk-walked.ensures _ refl c.status_of_end.ensures
+    let opens = subst (λ e. IsOpeningSize e c.args.bytes.now c.opening_size-base.result) (c.endian.ensures ∙ sym o.same_endian) c.opening_size-base.ensures in
+    reads_pipe_records c.args.bytes.now old told refl state c.in-Ok.reader.perf_file c.in-Ok.reader.record_iter o c.opening_size-base.result opens
+    c.args.first c.args.entries.now c.walk-walked.new.entries c.walk-walked.result c.walk-walked.new.iter c.walk-walked.new.file c.walk-walked.ensures _ refl c.walk_result_status.ensures

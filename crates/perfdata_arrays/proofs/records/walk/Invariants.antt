@@ -1,17 +1,17 @@
 use Rattle.std.proofs.Common.{◌≡◌, ◌-◌, ◌^◌, ◌<◌, ◌≤◌, List, length}
-use Rattle.linux_perf_data.specs.Layout.{Handed}
-use Rattle.linux_perf_data.specs.Reading.{HandsOutAll}
-use Rattle.perfdata_table.specs.Over.{over_from}
-use Rattle.perfdata_table.specs.Table.{entries_at}
-use Rattle.perfdata_table.proofs.records.walk.Given as goal
+use Rattle.linux_perf_data.specs.Layout.{RecordView}
+use Rattle.linux_perf_data.specs.FileReading.{ReturnsRecords}
+use Rattle.perfdata_arrays.specs.Overwrites.{with_prefix_from}
+use Rattle.perfdata_arrays.specs.Records.{record_entries_at}
+use Rattle.perfdata_arrays.proofs.records.walk.Given as goal
 
 abbrev pub invariant-records : goal.invariant-records
 invariant-records g l = record {
   fits : l.iter.offset < 2 ^ 64;
   few : l.records ≤ l.iter.offset;
-  told : (handed : List Handed) × (l.records ≡ length handed)
-      × (l.entries ≡ over_from l.fn.first (entries_at l.fn.base handed) l.initial.entries)
-      × HandsOutAll g.R.Source.seen l.initial.iter l.initial.file handed l.iter l.file;
+  told : (handed : List RecordView) × (l.records ≡ length handed)
+      × (l.entries ≡ with_prefix_from l.fn.first (record_entries_at l.fn.base handed) l.initial.entries)
+      × ReturnsRecords g.R.Source.state l.initial.iter l.initial.file handed l.iter l.file;
 }
 
 abbrev pub decreases-records : goal.decreases-records

@@ -1,5 +1,5 @@
 use Rattle.std.proofs.Common.{rules}
-use Rattle.perfdata_base.proofs.order.read_u64.Goals as goal
+use Rattle.perfdata_base.proofs.endian.read_u64.Goals as goal
 
 pub returns-in-LittleEndian : goal.returns-in-LittleEndian
 returns-in-LittleEndian c = search rules

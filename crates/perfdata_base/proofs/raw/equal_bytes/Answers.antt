@@ -1,8 +1,8 @@
 use Rattle.std.proofs.Common.{sym, ◌∙◌}
 use Rattle.std.specs.Str.{bytes_eq}
-use Rattle.perfdata_base.proofs.Pieces.{and_first, and_last, and_second, bytes_eq_seams}
-use Rattle.perfdata_base.proofs.raw.same_pieces.Goals as goal
-use Rattle.perfdata_base.proofs.raw.same_pieces.Goals.{then-eq, else-eq}
+use Rattle.perfdata_base.proofs.RawDataPieces.{and_first, and_last, and_second, bytes_eq_seams}
+use Rattle.perfdata_base.proofs.raw.equal_bytes.Goals as goal
+use Rattle.perfdata_base.proofs.raw.equal_bytes.Goals.{then-eq, else-eq}
 
 pub returns-then-eq-2 : goal.returns-then-eq-2
 returns-then-eq-2 c =

@@ -1,7 +1,7 @@
 use Rattle.std.proofs.Common.{rules, arith, ◌≡◌, ◌-◌, length, take, drop, ◌∙◌, length-take, length-drop, vec_len}
 use Rattle.std.proofs.lemmas.List.{length-take-le}
-use Rattle.perfdata_base.proofs.Gives.{tail_filled}
-use Rattle.perfdata_base.proofs.source.append_piece.Goals as goal
+use Rattle.perfdata_base.proofs.ConsumedLemmas.{tail_filled}
+use Rattle.perfdata_base.proofs.source.append_chunk.Goals as goal
 
 pub returns-clause-appends : goal.returns-clause-appends
 returns-clause-appends g c = λ some.
@@ -10,6 +10,6 @@ returns-clause-appends g c = λ some.
     let is = c.as_mut_slice.ensures.value ∙ grown.items in
     let long : length c.args.buffer.now.items ≡ c.len-held.result = search rules in
     let whole : c.extend_from_slice.new.self.len ≡ length c.as_mut_slice.result.now = search rules in
-    let asked : length c.fill.new.place ≡ c.args.count = let l = grown.len in let o : vec_len c.args.buffer.now ≡ c.len-held.result = search rules in let q = length-take (length c.as_mut_slice.result.now - c.len-held.result) (drop c.len-held.result c.as_mut_slice.result.now) in let d = length-drop c.len-held.result c.as_mut_slice.result.now in let p = c.fill.auto.place in let z = c.zeros.ensures in omega arith in
-    let tail = tail_filled c.len-held.result c.in_ok-came.came c.extend_from_slice.new.self.len c.as_mut_slice.result.now c.fill.new.place _ c.args.buffer.now.items _ is long c.fill.auto.place came.within whole in
-    record { bytes = take c.in_ok-came.came c.fill.new.place; long = length-take-le _ _ came.within; within = rw (← asked) came.within; holds = c.truncate.ensures.items ∙ tail; gave = came.gave; less = λ few. came.less (rw asked few) }
+    let asked : length c.fill.new.buf ≡ c.args.count = let l = grown.len in let o : vec_len c.args.buffer.now ≡ c.len-held.result = search rules in let q = length-take (length c.as_mut_slice.result.now - c.len-held.result) (drop c.len-held.result c.as_mut_slice.result.now) in let d = length-drop c.len-held.result c.as_mut_slice.result.now in let p = c.fill.auto.buf in let z = c.zeros.ensures in omega arith in
+    let tail = tail_filled c.len-held.result c.in_ok-came.came c.extend_from_slice.new.self.len c.as_mut_slice.result.now c.fill.new.buf _ c.args.buffer.now.items _ is long c.fill.auto.buf came.within whole in
+    record { bytes = take c.in_ok-came.came c.fill.new.buf; exact_len = length-take-le _ _ came.within; within = rw (← asked) came.within; buffer_content = c.truncate.ensures.items ∙ tail; consumes = came.consumes; if_incomplete = λ few. came.if_incomplete (rw asked few) }

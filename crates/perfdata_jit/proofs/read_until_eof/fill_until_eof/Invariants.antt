@@ -1,14 +1,14 @@
 use Rattle.std.proofs.Common.{◌≡◌, ◌-◌, ◌≤◌, length, take}
-use Rattle.perfdata_base.specs.Source.{Gave}
+use Rattle.perfdata_base.specs.Source.{Consumed}
 use Rattle.perfdata_jit.specs.BufferedReader.{SameCounts}
-use Rattle.perfdata_jit.proofs.read_exact.fill_place.Given as goal
+use Rattle.perfdata_jit.proofs.read_until_eof.fill_until_eof.Given as goal
 
 abbrev pub invariant-reads : goal.invariant-reads
 invariant-reads g l = record {
   within : l.filled ≤ length l.place;
-  gave : Gave (g.R.Source.seen l.initial.source) (take l.filled l.place) (g.R.Source.seen l.source);
-  counts : SameCounts (g.R.Source.seen l.initial.source) (g.R.Source.seen l.source);
-  lent : g.R.Source.lent l.source ≡ g.R.Source.lent l.initial.source;
+  gave : Consumed (g.R.Source.state l.initial.source) (take l.filled l.place) (g.R.Source.state l.source);
+  counts : SameCounts (g.R.Source.state l.initial.source) (g.R.Source.state l.source);
+  same_loan : g.R.Source.loan l.source ≡ g.R.Source.loan l.initial.source;
 }
 
 abbrev pub decreases-reads : goal.decreases-reads

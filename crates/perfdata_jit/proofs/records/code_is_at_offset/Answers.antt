@@ -1,5 +1,5 @@
-use Rattle.perfdata_jit.proofs.Places.{code_stands}
-use Rattle.perfdata_jit.proofs.records.code_stands_at_its_place.Goals as goal
+use Rattle.perfdata_jit.proofs.CodeOffsets.{code_is_at_offset}
+use Rattle.perfdata_jit.proofs.records.code_is_at_offset.Goals as goal
 
 pub returns : goal.returns
-returns c = code_stands
+returns c = code_is_at_offset

@@ -1,17 +1,17 @@
 use Rattle.std.proofs.Common.{◌+◌, ◌∷◌, [], length, length-append, sym, ap, ◌∙◌, subst}
 use Rattle.perfdata_base.specs.Raw.{bytes_of}
-use Rattle.perfdata_jit.specs.JitRecords.{AreEntries}
+use Rattle.perfdata_jit.specs.JitRecords.{AreDebugEntries}
 use Rattle.perfdata_jit.proofs.Entries.{entries_more}
-use Rattle.perfdata_jit.proofs.records.take_entries.Goals as goal
+use Rattle.perfdata_jit.proofs.records.read_entries.Goals as goal
 
 pub entries-preserved : goal.entries-preserved
 entries-preserved g c =
     let number = g.O.ByteOrder.number_of in
     let before = c.entries.invariant in
     let pushed = c.in-Ok-push.ensures.items in
-    let rest = bytes_of c.take_entry.new.bytes in
+    let rest = bytes_of c.read_entry.new.bytes in
     record {
-      many = ap length pushed ∙ length-append c.entries.entries.items (c.in-Ok.entry ∷ []) ∙ ap (λ n. n + 1) before.many;
-      are = subst (λ l. AreEntries number (bytes_of c.args.bytes.now) l rest) (sym pushed)
-          (entries_more number (bytes_of c.args.bytes.now) (bytes_of c.entries.bytes) rest c.entries.entries.items c.in-Ok.entry before.are c.in-Ok.ensures.value);
+      exact_len = ap length pushed ∙ length-append c.entries.entries.items (c.in-Ok.entry ∷ []) ∙ ap (λ n. n + 1) before.exact_len;
+      elements = subst (λ l. AreDebugEntries number (bytes_of c.args.bytes.now) l rest) (sym pushed)
+          (entries_more number (bytes_of c.args.bytes.now) (bytes_of c.entries.bytes) rest c.entries.entries.items c.in-Ok.entry before.elements c.in-Ok.ensures.value);
     }

@@ -1,7 +1,7 @@
 use Rattle.std.proofs.Common.{arith, sym, ◌∙◌}
 use Rattle.perfdata_base.specs.Raw.{bytes_of}
 use Rattle.perfdata_jit.proofs.Fields.{number_at, number_within}
-use Rattle.perfdata_jit.proofs.records.take_entry.Goals as goal
+use Rattle.perfdata_jit.proofs.records.read_entry.Goals as goal
 
 pub returns-clause-value : goal.returns-clause-value
 returns-clause-value g c =
@@ -10,12 +10,12 @@ returns-clause-value g c =
     let xs = bytes_of c.args.bytes.now in
     let head = c.read_exact.new.place in
     let is = c.in-Ok.ensures.read in
-    let taken = c.in-Ok.ensures.taken in
+    let taken = c.in-Ok.ensures.rest in
     let long = taken.enough in
     let string = c.in-Some.ensures.string in
     record {
       address = c.read_u64.ensures ∙ number_at number first 8 0 16 xs head is long (omega arith);
       line_number = c.read_u32.ensures ∙ number_within number first 4 8 8 16 xs head is long (omega arith) (omega arith);
       column_number = c.read_u32-2.ensures ∙ number_within number first 4 12 4 16 xs head is long (omega arith) (omega arith);
-      text = record { cut = sym taken.left ∙ string.cut; no_nul = string.text };
+      path_text = record { split = sym taken.rest ∙ string.split; no_nul = string.no_nul };
     }

@@ -1,5 +1,5 @@
-use Rattle.perfdata_listing.proofs.JitListings.{newlines_pieces}
-use Rattle.perfdata_listing.proofs.laws.one_jit_line_each.Goals as goal
+use Rattle.perfdata_listing.proofs.JitListingLemmas.{newline_count-jit_lines}
+use Rattle.perfdata_listing.proofs.laws.one_line_per_jit_record.Goals as goal
 
 pub returns : goal.returns
-returns c = newlines_pieces
+returns c = newline_count-jit_lines

@@ -1,5 +1,5 @@
-use Rattle.perfdata_listing.proofs.Newlines.{newlines_lines}
-use Rattle.perfdata_listing.proofs.laws.one_line_each.Goals as goal
+use Rattle.perfdata_listing.proofs.NewlineCounts.{newline_count-record_lines}
+use Rattle.perfdata_listing.proofs.laws.one_line_per_record.Goals as goal
 
 pub returns : goal.returns
-returns c = newlines_lines
+returns c = newline_count-record_lines

@@ -1,22 +1,22 @@
 use Rattle.std.proofs.Common.{arith}
 use Rattle.std.proofs.lemmas.Fmt.{length-decimal-le}
 use Rattle.std.proofs.lemmas.List.{drop_all}
-use Rattle.perfdata_listing.proofs.line.put_fault.Goals as goal
+use Rattle.perfdata_listing.proofs.line.format_error.Goals as goal
 
-pub write_digits-at_number-requires : goal.write_digits-at_number-requires
-write_digits-at_number-requires c =
+pub write_digits-number_start-requires : goal.write_digits-number_start-requires
+write_digits-number_start-requires c =
     let long = length-decimal-le 20 c.args.records (omega arith) (omega arith) (omega arith) in
     (omega arith, omega arith)
 
-pub put_text-requires : goal.put_text-requires
-put_text-requires c =
+pub prepend_bytes-requires : goal.prepend_bytes-requires
+prepend_bytes-requires c =
     let long = length-decimal-le 20 c.args.records (omega arith) (omega arith) (omega arith) in
     (omega arith, omega arith)
 
 pub returns-clause-written : goal.returns-clause-written
 returns-clause-written c = rw (
-  c.put_text.ensures.written,
-  c.write_digits-at_number.ensures.written,
-  c.put_text-at_behind.ensures.written,
+  c.prepend_bytes.ensures.written,
+  c.write_digits-number_start.ensures.written,
+  c.prepend_bytes-suffix_start.ensures.written,
   drop_all 128 c.args.buf.now (omega arith),
 )

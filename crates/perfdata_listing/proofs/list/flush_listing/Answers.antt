@@ -1,5 +1,5 @@
 use Rattle.std.proofs.Common.{rules}
-use Rattle.perfdata_listing.proofs.list.settle.Goals as goal
+use Rattle.perfdata_listing.proofs.list.flush_listing.Goals as goal
 
 pub returns-else-has_failed-clause-on_error : goal.returns-else-has_failed-clause-on_error
 returns-else-has_failed-clause-on_error g c = search rules

@@ -1,24 +1,24 @@
 use Rattle.std.proofs.Common.{arith, Ok, subst, inl, inr}
 use Rattle.perfdata_listing.specs.Listing.{ListsNext}
-use Rattle.perfdata_listing.proofs.Listings.{listed_all, listed_held, so_far_kept, so_far_more, stops_listing}
+use Rattle.perfdata_listing.proofs.ListingLemmas.{listed_all, listed_held, so_far_kept, so_far_more, stops_listing}
 use Rattle.perfdata_listing.proofs.list.list_live_records.Goals as goal
 
 pub records-preserved : goal.records-preserved
 records-preserved g c =
     let before = c.records.invariant in
-    let step = subst (λ b. ListsNext g.R.Source.seen c.records.iter c.records.file (g.W.Write.contents c.flush_before_blocking.new.out) (Ok b) (g.W.Write.contents c.list_next_live.new.out) c.list_next_live.new.iter c.list_next_live.new.file) c.in-Ok-true.field-0-test c.in-Ok-true.ensures in
+    let step = subst (λ b. ListsNext g.R.Source.state c.records.iter c.records.file (g.W.Write.contents c.flush_before_blocking.new.out) (Ok b) (g.W.Write.contents c.list_next_live.new.out) c.list_next_live.new.iter c.list_next_live.new.file) c.in-Ok-true.field-0-test c.in-Ok-true.ensures in
     record {
-      fits = step.1.fits;
-      few = (let a = step.1.offset in let b = step.1.place in let f = before.few in omega arith);
-      listed = so_far_more g.R.Source.seen _ _ _ (so_far_kept g.R.Source.seen _ _ _ before.listed c.flush_before_blocking.ensures.keeps) step;
+      fits = step.1.offset_fits;
+      few = (let a = step.1.offset in let b = step.1.record_offset in let f = before.few in omega arith);
+      listed = so_far_more g.R.Source.state _ _ _ (so_far_kept g.R.Source.state _ _ _ before.listed c.flush_before_blocking.ensures.keeps) step;
     }
 
 pub returns-in-Ok-false : goal.returns-in-Ok-false
-returns-in-Ok-false g c = listed_all g.R.Source.seen _ _ _ c.requires.unfailed (so_far_kept g.R.Source.seen _ _ _ c.records.invariant.listed c.flush_before_blocking.ensures.keeps) (subst (λ b. ListsNext g.R.Source.seen c.records.iter c.records.file (g.W.Write.contents c.flush_before_blocking.new.out) (Ok b) (g.W.Write.contents c.list_next_live.new.out) c.list_next_live.new.iter c.list_next_live.new.file) c.in-Ok-false.field-0-test c.in-Ok-false.ensures)
+returns-in-Ok-false g c = listed_all g.R.Source.state _ _ _ c.requires.not_failed (so_far_kept g.R.Source.state _ _ _ c.records.invariant.listed c.flush_before_blocking.ensures.keeps) (subst (λ b. ListsNext g.R.Source.state c.records.iter c.records.file (g.W.Write.contents c.flush_before_blocking.new.out) (Ok b) (g.W.Write.contents c.list_next_live.new.out) c.list_next_live.new.iter c.list_next_live.new.file) c.in-Ok-false.field-0-test c.in-Ok-false.ensures)
 
 pub returns-in-Err-list_next_live : goal.returns-in-Err-list_next_live
 returns-in-Err-list_next_live g c =
-    inl (stops_listing g.R.Source.seen _ _ _ c.list_next_live.new.iter c.list_next_live.new.file c.in-Err-list_next_live.cause c.requires.unfailed c.requires.own (so_far_kept g.R.Source.seen _ _ _ c.records.invariant.listed c.flush_before_blocking.ensures.keeps) c.in-Err-list_next_live.ensures)
+    inl (stops_listing g.R.Source.state _ _ _ c.list_next_live.new.iter c.list_next_live.new.file c.in-Err-list_next_live.cause c.requires.not_failed c.requires.matching_file (so_far_kept g.R.Source.state _ _ _ c.records.invariant.listed c.flush_before_blocking.ensures.keeps) c.in-Err-list_next_live.ensures)
 
 pub returns-in-Err : goal.returns-in-Err
-returns-in-Err g c = inr (tt, listed_held g.R.Source.seen _ _ _ c.requires.unfailed c.records.invariant.listed c.in-Err.ensures.on_error c.in-Err.ensures.keeps)
+returns-in-Err g c = inr (tt, listed_held g.R.Source.state _ _ _ c.requires.not_failed c.records.invariant.listed c.in-Err.ensures.on_error c.in-Err.ensures.keeps)

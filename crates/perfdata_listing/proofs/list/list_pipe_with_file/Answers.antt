@@ -1,18 +1,18 @@
-use Rattle.linux_perf_data.proofs.PipeReadings.{own_pipe, unfailed_pipe}
-use Rattle.perfdata_listing.proofs.PipeListings.{listed_pipe, refused_pipe, stopped_pipe}
+use Rattle.linux_perf_data.proofs.PipeReadings.{own_pipe, pipe_has_not_failed}
+use Rattle.perfdata_listing.proofs.PipeListingLemmas.{lists_pipe, pipe_open_error, lists_pipe_until_error}
 use Rattle.perfdata_listing.proofs.list.list_pipe_with_file.Goals as goal
 
-pub list_records-requires-clause-own : goal.list_records-requires-clause-own
-list_records-requires-clause-own g c = own_pipe g.R.Source.seen _ c.in-Ok.reader.perf_file c.in-Ok.reader.record_iter c.in-Ok.ensures.parses
+pub list_records-requires-clause-matching_file : goal.list_records-requires-clause-matching_file
+list_records-requires-clause-matching_file g c = own_pipe g.R.Source.state _ c.in-Ok.reader.perf_file c.in-Ok.reader.record_iter c.in-Ok.ensures.parses
 
-pub list_records-requires-clause-unfailed : goal.list_records-requires-clause-unfailed
-list_records-requires-clause-unfailed g c = unfailed_pipe g.R.Source.seen _ c.in-Ok.reader.perf_file c.in-Ok.reader.record_iter c.in-Ok.ensures.parses
+pub list_records-requires-clause-not_failed : goal.list_records-requires-clause-not_failed
+list_records-requires-clause-not_failed g c = pipe_has_not_failed g.R.Source.state _ c.in-Ok.reader.perf_file c.in-Ok.reader.record_iter c.in-Ok.ensures.parses
 
 pub returns-in-Ok-list_records : goal.returns-in-Ok-list_records
-returns-in-Ok-list_records g c = listed_pipe g.R.Source.seen _ c.in-Ok.reader.perf_file c.in-Ok.reader.record_iter c.in-Ok.ensures.parses c.list_records.new.iter c.list_records.new.file _ _ _ c.in-Ok-list_records.ensures
+returns-in-Ok-list_records g c = lists_pipe g.R.Source.state _ c.in-Ok.reader.perf_file c.in-Ok.reader.record_iter c.in-Ok.ensures.parses c.list_records.new.iter c.list_records.new.file _ _ _ c.in-Ok-list_records.ensures
 
 pub returns-in-Err-list_records : goal.returns-in-Err-list_records
-returns-in-Err-list_records g c = stopped_pipe g.R.Source.seen _ c.in-Ok.reader.perf_file c.in-Ok.reader.record_iter c.in-Ok.ensures.parses c.list_records.new.iter _ _ _ _ c.in-Err-list_records.ensures
+returns-in-Err-list_records g c = lists_pipe_until_error g.R.Source.state _ c.in-Ok.reader.perf_file c.in-Ok.reader.record_iter c.in-Ok.ensures.parses c.list_records.new.iter _ _ _ _ c.in-Err-list_records.ensures
 
 pub returns-in-Err : goal.returns-in-Err
-returns-in-Err g c = refused_pipe g.R.Source.seen _ _ _ c.in-Err.ensures.parses
+returns-in-Err g c = pipe_open_error g.R.Source.state _ _ _ c.in-Err.ensures.parses

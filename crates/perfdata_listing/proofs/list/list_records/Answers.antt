@@ -1,20 +1,20 @@
 use Rattle.std.proofs.Common.{arith, Ok, subst}
 use Rattle.perfdata_listing.specs.Listing.{ListsNext}
-use Rattle.perfdata_listing.proofs.Listings.{listed_all, so_far_more, stops_listing}
+use Rattle.perfdata_listing.proofs.ListingLemmas.{listed_all, so_far_more, stops_listing}
 use Rattle.perfdata_listing.proofs.list.list_records.Goals as goal
 
 pub records-preserved : goal.records-preserved
 records-preserved g c =
     let before = c.records.invariant in
-    let step = subst (λ b. ListsNext g.R.Source.seen c.records.iter c.records.file (g.W.Write.contents c.records.out) (Ok b) (g.W.Write.contents c.list_next.new.out) c.list_next.new.iter c.list_next.new.file) c.in-Ok-true.field-0-test c.in-Ok-true.ensures in
+    let step = subst (λ b. ListsNext g.R.Source.state c.records.iter c.records.file (g.W.Write.contents c.records.out) (Ok b) (g.W.Write.contents c.list_next.new.out) c.list_next.new.iter c.list_next.new.file) c.in-Ok-true.field-0-test c.in-Ok-true.ensures in
     record {
-      fits = step.1.fits;
-      few = (let a = step.1.offset in let b = step.1.place in let f = before.few in omega arith);
-      listed = so_far_more g.R.Source.seen _ _ _ before.listed step;
+      fits = step.1.offset_fits;
+      few = (let a = step.1.offset in let b = step.1.record_offset in let f = before.few in omega arith);
+      listed = so_far_more g.R.Source.state _ _ _ before.listed step;
     }
 
 pub returns-in-Ok-false : goal.returns-in-Ok-false
-returns-in-Ok-false g c = listed_all g.R.Source.seen _ _ _ c.requires.unfailed c.records.invariant.listed (subst (λ b. ListsNext g.R.Source.seen c.records.iter c.records.file (g.W.Write.contents c.records.out) (Ok b) (g.W.Write.contents c.list_next.new.out) c.list_next.new.iter c.list_next.new.file) c.in-Ok-false.field-0-test c.in-Ok-false.ensures)
+returns-in-Ok-false g c = listed_all g.R.Source.state _ _ _ c.requires.not_failed c.records.invariant.listed (subst (λ b. ListsNext g.R.Source.state c.records.iter c.records.file (g.W.Write.contents c.records.out) (Ok b) (g.W.Write.contents c.list_next.new.out) c.list_next.new.iter c.list_next.new.file) c.in-Ok-false.field-0-test c.in-Ok-false.ensures)
 
 pub returns-in-Err : goal.returns-in-Err
-returns-in-Err g c = stops_listing g.R.Source.seen _ _ _ c.list_next.new.iter c.list_next.new.file c.in-Err.cause c.requires.unfailed c.requires.own c.records.invariant.listed c.in-Err.ensures
+returns-in-Err g c = stops_listing g.R.Source.state _ _ _ c.list_next.new.iter c.list_next.new.file c.in-Err.cause c.requires.not_failed c.requires.matching_file c.records.invariant.listed c.in-Err.ensures

@@ -1,12 +1,12 @@
 use Rattle.std.proofs.Common.{◌-◌, ◌^◌, ◌<◌, ◌≤◌}
-use Rattle.perfdata_listing.proofs.Listings.{SoFar}
+use Rattle.perfdata_listing.proofs.ListingLemmas.{SoFar}
 use Rattle.perfdata_listing.proofs.list.list_records.Given as goal
 
 abbrev pub invariant-records : goal.invariant-records
 invariant-records g l = record {
   fits : l.iter.offset < 2 ^ 64;
   few : l.lines ≤ l.iter.offset;
-  listed : SoFar g.R.Source.seen l.initial.iter l.initial.file (g.W.Write.contents l.initial.out) l.lines (g.W.Write.contents l.out) l.iter l.file;
+  listed : SoFar g.R.Source.state l.initial.iter l.initial.file (g.W.Write.contents l.initial.out) l.lines (g.W.Write.contents l.out) l.iter l.file;
 }
 
 abbrev pub decreases-records : goal.decreases-records

@@ -3,11 +3,11 @@ use Rattle.std.proofs.lemmas.List.{take-take}
 use Rattle.std.proofs.Math.Seq.{take-add}
 use Rattle.std.specs.Io.KnownBytes.{Appends}
 use Rattle.std.proofs.KnownBytes.{Appends-trans}
-use Rattle.perfdata_listing.proofs.output.write_front.Goals as goal
+use Rattle.perfdata_listing.proofs.output.write_all_counted.Goals as goal
 
 pub pieces-preserved : goal.pieces-preserved
 pieces-preserved g c =
-    let done = c.pieces.taken in
+    let done = c.pieces.total in
     let n = c.in-Ok.count in
     let xs = c.args.bytes.now in
     let before = c.pieces.invariant in

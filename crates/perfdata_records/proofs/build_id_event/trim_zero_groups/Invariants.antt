@@ -1,6 +1,6 @@
 use Rattle.std.proofs.Common.{◌≡◌, ◌++◌, ℕ, length}
-use Rattle.perfdata_records.specs.BuildId.{zero_groups}
-use Rattle.perfdata_records.proofs.build_id_event.trimmed.Given as goal
+use Rattle.perfdata_records.specs.BuildIdEvent.{zero_groups}
+use Rattle.perfdata_records.proofs.build_id_event.trim_zero_groups.Given as goal
 
 abbrev pub invariant-groups : goal.invariant-groups
 invariant-groups l = (n : ℕ) × (l.fn.bytes ≡ l.rest ++ zero_groups n)

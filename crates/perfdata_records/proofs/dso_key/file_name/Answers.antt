@@ -2,7 +2,7 @@ use Rattle.std.proofs.Common.{◌+◌, ◌-◌, ◌∙◌, sym, ap, arith, lengt
 use Rattle.std.proofs.lemmas.List.{take_all}
 use Rattle.memchr.specs.Find.{is_byte}
 use Rattle.memchr.proofs.lemmas.ValueLemmas.{IsLastByte-value}
-use Rattle.perfdata_records.specs.DsoKey.{behind_place}
+use Rattle.perfdata_records.specs.DsoKey.{after_offset}
 use Rattle.perfdata_records.proofs.dso_key.file_name.Goals as goal
 
 pub returns-in-Some : goal.returns-in-Some
@@ -10,8 +10,8 @@ returns-in-Some c =
     let path = c.args.path.now in
     let place = c.in-Some.place in
     take_all (length path - (place + 1)) (drop (place + 1) path) (omega (arith, length-drop (place + 1) path))
-    ∙ ap (behind_place path) (sym c.in-Some.is ∙ IsLastByte-value (is_byte 47) path c.memrchr.result c.memrchr.ensures)
+    ∙ ap (after_offset path) (sym c.in-Some.is ∙ IsLastByte-value (is_byte 47) path c.memrchr.result c.memrchr.ensures)
 
 pub returns-in-None : goal.returns-in-None
 returns-in-None c =
-    ap (behind_place c.args.path.now) (sym c.in-None.is ∙ IsLastByte-value (is_byte 47) c.args.path.now c.memrchr.result c.memrchr.ensures)
+    ap (after_offset c.args.path.now) (sym c.in-None.is ∙ IsLastByte-value (is_byte 47) c.args.path.now c.memrchr.result c.memrchr.ensures)

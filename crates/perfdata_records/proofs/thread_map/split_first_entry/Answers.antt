@@ -1,6 +1,6 @@
 use Rattle.std.proofs.Common.{arith, rules}
 use Rattle.std.proofs.lemmas.Grind.{common_steps}
-use Rattle.perfdata_records.proofs.thread_map.split_entry.Goals as goal
+use Rattle.perfdata_records.proofs.thread_map.split_first_entry.Goals as goal
 
 pub returns-in-Ok-split_off_prefix-clause-entry : goal.returns-in-Ok-split_off_prefix-clause-entry
 returns-in-Ok-split_off_prefix-clause-entry c = search rules

@@ -1,13 +1,13 @@
 use Rattle.std.proofs.Common.{sym, ap, ◌∙◌}
 use Rattle.perfdata_base.specs.Raw.{bytes_of}
-use Rattle.perfdata_sections.specs.Strings.{before_nul}
+use Rattle.perfdata_sections.specs.HeaderString.{before_nul}
 use Rattle.perfdata_records.proofs.Threads.{before_string, before_none}
-use Rattle.perfdata_records.proofs.thread_map.cut_at_nul.Goals as goal
+use Rattle.perfdata_records.proofs.thread_map.until_nul.Goals as goal
 
 pub returns-in-Some : goal.returns-in-Some
 returns-in-Some c =
     let taken = c.in-Some.ensures.string in
-    sym (before_string (bytes_of c.in-Some.string) (bytes_of c.read_string.new.self) taken.text) ∙ ap before_nul (sym taken.cut)
+    sym (before_string (bytes_of c.in-Some.string) (bytes_of c.read_string.new.self) taken.no_nul) ∙ ap before_nul (sym taken.split)
 
 pub returns-in-None : goal.returns-in-None
 returns-in-None c = sym (before_none (bytes_of c.args.bytes) c.in-None.ensures.none)

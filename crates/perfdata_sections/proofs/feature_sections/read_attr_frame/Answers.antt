@@ -1,24 +1,24 @@
 use Rattle.std.proofs.Common.{rules, arith, ◌≡◌, length}
-use Rattle.perfdata_base.proofs.Attrs.{head_front}
-use Rattle.perfdata_sections.proofs.Frames.{frame_head_refused, frame_too_long, frame_whole, frame_rest_refused}
-use Rattle.perfdata_sections.proofs.feature_sections.read_frame.Goals as goal
+use Rattle.perfdata_base.proofs.Attrs.{first_eight_front}
+use Rattle.perfdata_sections.proofs.Frames.{frame_header_error, frame_too_long, frame_whole, frame_rest_error}
+use Rattle.perfdata_sections.proofs.feature_sections.read_attr_frame.Goals as goal
 
 pub returns-in-Err-clause-reads : goal.returns-in-Err-clause-reads
 returns-in-Err-clause-reads g c =
-    frame_head_refused g.T.ByteOrder.number_of g.met.T.ByteOrder.reads_first c.args.attr_size _ _ _ c.in-Err.ensures.reads
+    frame_header_error g.T.ByteOrder.number_of g.met.T.ByteOrder.reads_first c.args.attr_size _ _ _ c.in-Err.ensures.reads
 
 pub returns-then-own-attr_size-clause-reads : goal.returns-then-own-attr_size-clause-reads
 returns-then-own-attr_size-clause-reads g c =
-    let long : length c.read_own.new.head ≡ 8 = search rules in
-    frame_too_long g.T.ByteOrder.number_of g.met.T.ByteOrder.reads_first c.args.attr_size _ _ c.read_own.new.head c.in-Ok.own long c.in-Ok.ensures.reads (omega arith)
+    let long : length c.read_own_size.new.head ≡ 8 = search rules in
+    frame_too_long g.T.ByteOrder.number_of g.met.T.ByteOrder.reads_first c.args.attr_size _ _ c.read_own_size.new.head c.in-Ok.own long c.in-Ok.ensures.reads (omega arith)
 
-pub returns-in-Ok-read_rest-clause-reads : goal.returns-in-Ok-read_rest-clause-reads
-returns-in-Ok-read_rest-clause-reads g c =
-    let long : length c.read_own.new.head ≡ 8 = search rules in
-    let more = c.in-Ok-read_rest.ensures.reads in
-    frame_whole g.T.ByteOrder.number_of g.met.T.ByteOrder.reads_first c.args.attr_size _ (g.R.Source.seen c.read_own.new.source) _ c.read_own.new.head c.in-Ok.own _ long c.in-Ok.ensures.reads (omega arith) (rw head_front at more)
+pub returns-in-Ok-read_after_own_size-clause-reads : goal.returns-in-Ok-read_after_own_size-clause-reads
+returns-in-Ok-read_after_own_size-clause-reads g c =
+    let long : length c.read_own_size.new.head ≡ 8 = search rules in
+    let more = c.in-Ok-read_after_own_size.ensures.reads in
+    frame_whole g.T.ByteOrder.number_of g.met.T.ByteOrder.reads_first c.args.attr_size _ (g.R.Source.state c.read_own_size.new.source) _ c.read_own_size.new.head c.in-Ok.own _ long c.in-Ok.ensures.reads (omega arith) (rw first_eight_front at more)
 
-pub returns-in-Err-read_rest-clause-reads : goal.returns-in-Err-read_rest-clause-reads
-returns-in-Err-read_rest-clause-reads g c =
-    let long : length c.read_own.new.head ≡ 8 = search rules in
-    frame_rest_refused g.T.ByteOrder.number_of g.met.T.ByteOrder.reads_first c.args.attr_size _ (g.R.Source.seen c.read_own.new.source) _ c.read_own.new.head c.in-Ok.own _ long c.in-Ok.ensures.reads (omega arith) c.in-Err-read_rest.ensures.reads
+pub returns-in-Err-read_after_own_size-clause-reads : goal.returns-in-Err-read_after_own_size-clause-reads
+returns-in-Err-read_after_own_size-clause-reads g c =
+    let long : length c.read_own_size.new.head ≡ 8 = search rules in
+    frame_rest_error g.T.ByteOrder.number_of g.met.T.ByteOrder.reads_first c.args.attr_size _ (g.R.Source.state c.read_own_size.new.source) _ c.read_own_size.new.head c.in-Ok.own _ long c.in-Ok.ensures.reads (omega arith) c.in-Err-read_after_own_size.ensures.reads

@@ -1,10 +1,10 @@
 use Rattle.std.proofs.Common.{◌≡◌, drop}
-use Rattle.linux_perf_data.specs.Described.{attributes_by}
-use Rattle.linux_perf_data.specs.Rules.{unidentified}
-use Rattle.linux_perf_data.proofs.rule.first_unidentified.Given as goal
+use Rattle.linux_perf_data.specs.Descriptions.{described_attributes}
+use Rattle.linux_perf_data.specs.Consistency.{first_without_identifier}
+use Rattle.linux_perf_data.proofs.attributes.consistency.first_without_identifier.Given as goal
 
 abbrev pub invariant-attributes : goal.invariant-attributes
 invariant-attributes l = record {
   at : l.index ≡ l.attribute-index;
-  are : unidentified l.index (attributes_by (drop l.index l.attributes)) ≡ unidentified 0 (attributes_by l.attributes);
+  are : first_without_identifier l.index (described_attributes (drop l.index l.attributes)) ≡ first_without_identifier 0 (described_attributes l.attributes);
 }

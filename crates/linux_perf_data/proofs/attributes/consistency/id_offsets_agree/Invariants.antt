@@ -1,7 +1,7 @@
 use Rattle.std.proofs.Common.{take}
-use Rattle.linux_perf_data.specs.Described.{attribute_by, attributes_by}
-use Rattle.linux_perf_data.specs.Rules.{SamePlaces}
-use Rattle.linux_perf_data.proofs.rule.places_agree.Given as goal
+use Rattle.linux_perf_data.specs.Descriptions.{described_attribute, described_attributes}
+use Rattle.linux_perf_data.specs.Consistency.{SameIdOffsets}
+use Rattle.linux_perf_data.proofs.attributes.consistency.id_offsets_agree.Given as goal
 
 abbrev pub invariant-attributes : goal.invariant-attributes
-invariant-attributes l = SamePlaces (attribute_by l.first) (attributes_by (take l.attribute-index l.attributes))
+invariant-attributes l = SameIdOffsets (described_attribute l.first) (described_attributes (take l.attribute-index l.attributes))

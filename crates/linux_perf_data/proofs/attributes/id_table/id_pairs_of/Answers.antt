@@ -1,6 +1,6 @@
 use Rattle.std.proofs.Common.{◌≡◌, ◌++◌, ◌∙◌, get_or, map, arith, ap, sym}
-use Rattle.linux_perf_data.proofs.Ids.{pairs_more}
-use Rattle.linux_perf_data.proofs.id_table.pairs_of.Goals as goal
+use Rattle.linux_perf_data.proofs.IdPairLemmas.{pairs_more}
+use Rattle.linux_perf_data.proofs.attributes.id_table.id_pairs_of.Goals as goal
 
 pub attributes-preserved : goal.attributes-preserved
 attributes-preserved c =

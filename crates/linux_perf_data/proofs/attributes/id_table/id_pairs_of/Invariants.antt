@@ -1,10 +1,10 @@
 use Rattle.std.proofs.Common.{◌≡◌, ◌++◌, drop}
-use Rattle.linux_perf_data.specs.Described.{attributes_by}
-use Rattle.linux_perf_data.specs.Pairs.{pairs_by}
-use Rattle.linux_perf_data.proofs.id_table.pairs_of.Given as goal
+use Rattle.linux_perf_data.specs.Descriptions.{described_attributes}
+use Rattle.linux_perf_data.specs.IdPairs.{id_pairs_of}
+use Rattle.linux_perf_data.proofs.attributes.id_table.id_pairs_of.Given as goal
 
 abbrev pub invariant-attributes : goal.invariant-attributes
 invariant-attributes l = record {
   at : l.index ≡ l.attribute-index;
-  are : l.pairs.items ++ pairs_by l.index (attributes_by (drop l.index l.attributes)) ≡ pairs_by 0 (attributes_by l.attributes);
+  are : l.pairs.items ++ id_pairs_of l.index (described_attributes (drop l.index l.attributes)) ≡ id_pairs_of 0 (described_attributes l.attributes);
 }

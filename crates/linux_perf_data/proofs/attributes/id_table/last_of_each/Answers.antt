@@ -1,7 +1,7 @@
 use Rattle.std.proofs.Common.{◌∙◌, ◌+◌, ap, subst, sym}
-use Rattle.linux_perf_data.proofs.Ids.{LastSoFar, last_none, last_passed, last_pushed, last_all}
-use Rattle.linux_perf_data.proofs.id_table.last_of_each.Goals as goal
-use Rattle.linux_perf_data.proofs.id_table.last_of_each.Goals.{then-is_last+in_ok-push, else-is_last}
+use Rattle.linux_perf_data.proofs.IdPairLemmas.{LastSoFar, last_none, last_passed, last_pushed, last_all}
+use Rattle.linux_perf_data.proofs.attributes.id_table.last_of_each.Goals as goal
+use Rattle.linux_perf_data.proofs.attributes.id_table.last_of_each.Goals.{then-is_last_of_id+in_ok-push, else-is_last_of_id}
 
 pub pairs-init : goal.pairs-init
 pairs-init c = rw (c.new-last.ensures.items) (last_none _)
@@ -11,10 +11,10 @@ pairs-preserved c =
     let so = c.pairs.invariant in
     let more = c.pairs-test.true in
     let ordered = c.args.ordered.now in
-    elim c.if-is_last.branch [
-      | then-is_last+in_ok-push w ↦
-          subst (λ l. LastSoFar ordered l (c.pairs.at + 1)) (sym (ap (λ v. v.items) w.last-is ∙ w.in_ok-push.ensures.items)) (last_pushed ordered c.pairs.last.items c.pairs.at c.requires more w.if-is_last.ensures so)
-      | else-is_last w ↦ subst (λ v. LastSoFar ordered v.items (c.pairs.at + 1)) (sym w.last-is) (last_passed ordered c.pairs.last.items c.pairs.at c.requires more w.if-is_last.ensures so)
+    elim c.if-is_last_of_id.branch [
+      | then-is_last_of_id+in_ok-push w ↦
+          subst (λ l. LastSoFar ordered l (c.pairs.at + 1)) (sym (ap (λ v. v.items) w.last-is ∙ w.in_ok-push.ensures.items)) (last_pushed ordered c.pairs.last.items c.pairs.at c.requires more w.if-is_last_of_id.ensures so)
+      | else-is_last_of_id w ↦ subst (λ v. LastSoFar ordered v.items (c.pairs.at + 1)) (sym w.last-is) (last_passed ordered c.pairs.last.items c.pairs.at c.requires more w.if-is_last_of_id.ensures so)
     ]
 
 pub returns : goal.returns

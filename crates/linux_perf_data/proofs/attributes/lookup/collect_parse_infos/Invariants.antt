@@ -1,6 +1,6 @@
 use Rattle.std.proofs.Common.{◌≡◌, take}
-use Rattle.linux_perf_data.specs.Described.{attributes_by, all_places}
-use Rattle.linux_perf_data.proofs.known.places_by.Given as goal
+use Rattle.linux_perf_data.specs.Descriptions.{described_attributes, parse_infos_of}
+use Rattle.linux_perf_data.proofs.attributes.lookup.collect_parse_infos.Given as goal
 
 abbrev pub invariant-attributes : goal.invariant-attributes
-invariant-attributes l = l.places.items ≡ all_places l.endian (attributes_by (take l.attribute-index l.attributes))
+invariant-attributes l = l.places.items ≡ parse_infos_of l.endian (described_attributes (take l.attribute-index l.attributes))

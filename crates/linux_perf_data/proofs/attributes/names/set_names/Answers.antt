@@ -1,6 +1,6 @@
 use Rattle.std.proofs.Common.{◌≡◌, ◌∙◌, ◌<◌, length, get_or, subst, sym, arith, length-set}
 use Rattle.linux_perf_data.proofs.Naming.{renamed, named_more, left_more}
-use Rattle.linux_perf_data.proofs.names.give_names.Goals as goal
+use Rattle.linux_perf_data.proofs.attributes.names.set_names.Goals as goal
 
 pub attributes-preserved : goal.attributes-preserved
 attributes-preserved c =

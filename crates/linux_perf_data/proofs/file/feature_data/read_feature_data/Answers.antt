@@ -2,8 +2,8 @@ use Rattle.std.proofs.Common.{◌∙◌, ◌++◌, ap, sym, take, get_or, rules,
 use Rattle.std.proofs.lemmas.List.{take_more}
 use Rattle.perfdata_base.specs.declared.features.Feature.{Feature}
 use Rattle.perfdata_base.specs.declared.section.PerfFileSection.{PerfFileSection}
-use Rattle.linux_perf_data.proofs.Tables.{data_more, data_refused, data_put}
-use Rattle.linux_perf_data.proofs.sections.read_data.Goals as goal
+use Rattle.linux_perf_data.proofs.FeatureTables.{data_more, data_error, data_put}
+use Rattle.linux_perf_data.proofs.file.feature_data.read_feature_data.Goals as goal
 
 abbrev default : Feature × PerfFileSection
 default = (record { 0 = 0 }, record { offset = 0; size = 0 })
@@ -14,7 +14,7 @@ returns-in-Err-clause-reads g c =
     let i = c.sections.entry-index in
     let entry = get_or table i default in
     let split = sym (take-append-drop i table) ∙ ap (λ l. take i table ++ l) (drop-cons table i default c.sections-test.true) in
-    data_refused _ _ _ c.sections.sections c.sections.sections table i entry.0 entry.1 c.in-Err.error _ c.sections.invariant.so split c.in-Err.ensures.reads
+    data_error _ _ _ c.sections.sections c.sections.sections table i entry.0 entry.1 c.in-Err.error _ c.sections.invariant.so split c.in-Err.ensures.reads
 
 pub sections-preserved : goal.sections-preserved
 sections-preserved g c =

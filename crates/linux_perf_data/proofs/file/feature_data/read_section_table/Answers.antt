@@ -1,26 +1,26 @@
 use Rattle.std.proofs.Common.{◌∙◌, ap, rules}
-use Rattle.perfdata_base.specs.Features.{features_of, members_left}
-use Rattle.linux_perf_data.proofs.Tables.{table_none, table_more, table_cut, table_full}
-use Rattle.linux_perf_data.proofs.sections.read_table.Goals as goal
+use Rattle.perfdata_base.specs.Features.{features_of, remaining_features}
+use Rattle.linux_perf_data.proofs.FeatureTables.{table_none, table_more, table_truncated, table_full}
+use Rattle.linux_perf_data.proofs.file.feature_data.read_section_table.Goals as goal
 
 pub entries-init : goal.entries-init
 entries-init g c = record {
   can = tt;
   ends = tt;
-  so = table_none c.args.endian (features_of c.args.features.now) _ _ c.new-table.result.items c.new-table.ensures.items (ap members_left c.into_iter-feature-iterator.ensures.into_iter_gives ∙ c.iter-feature-items.ensures);
+  so = table_none c.args.endian (features_of c.args.features.now) _ _ c.new-table.result.items c.new-table.ensures.items (ap remaining_features c.into_iter-feature-iterator.ensures.into_iter_gives ∙ c.iter-feature-items.ensures);
   pauses = search rules;
   lent = search rules;
 }
 
 pub returns-in-Err-clause-reads : goal.returns-in-Err-clause-reads
 returns-in-Err-clause-reads g c =
-    table_cut c.args.endian (features_of c.args.features.now) _ (members_left c.next.new.self) _ _ _ _ c.in-Some.feature.0 _ c.entries.invariant.so c.in-Some.ensures.steps c.in-Err.ensures.parses
+    table_truncated c.args.endian (features_of c.args.features.now) _ (remaining_features c.next.new.self) _ _ _ _ c.in-Some.feature.0 _ c.entries.invariant.so c.in-Some.ensures.steps c.in-Err.ensures.parses
 
 pub entries-preserved : goal.entries-preserved
 entries-preserved g c = record {
   can = tt;
   ends = tt;
-  so = table_more c.args.endian (features_of c.args.features.now) _ (members_left c.next.new.self) _ _ _ c.entries.table.items c.push.new.self.items c.in-Some.feature c.in-Ok.entry c.entries.invariant.so c.in-Some.ensures.steps c.in-Ok.ensures.parses c.in-Ok-push.ensures.items;
+  so = table_more c.args.endian (features_of c.args.features.now) _ (remaining_features c.next.new.self) _ _ _ c.entries.table.items c.push.new.self.items c.in-Some.feature c.in-Ok.entry c.entries.invariant.so c.in-Some.ensures.steps c.in-Ok.ensures.parses c.in-Ok-push.ensures.items;
   pauses = search rules;
   lent = search rules;
 }

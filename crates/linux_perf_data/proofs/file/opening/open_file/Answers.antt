@@ -1,11 +1,11 @@
-use Rattle.linux_perf_data.proofs.Openings.{header_refused, magic_refused, behind_file}
-use Rattle.linux_perf_data.proofs.opening.open.Goals as goal
+use Rattle.linux_perf_data.proofs.FileOpenings.{header_error, magic_error, after_file}
+use Rattle.linux_perf_data.proofs.file.opening.open_file.Goals as goal
 
 pub returns-in-Err-clause-reads : goal.returns-in-Err-clause-reads
-returns-in-Err-clause-reads g c = header_refused _ _ _ (g.met.C.PlacedSource.placed _) c.in-Err.ensures.parses
+returns-in-Err-clause-reads g c = header_error _ _ _ (g.met.C.PlacedSource.remaining_from_position _) c.in-Err.ensures.parses
 
-pub returns-in-Ok-order_of-clause-reads : goal.returns-in-Ok-order_of-clause-reads
-returns-in-Ok-order_of-clause-reads g c = behind_file _ _ _ c.in-Ok-order_of.endian c.in-Ok.header _ (g.met.C.PlacedSource.placed _) c.in-Ok.ensures.parses c.in-Ok-order_of.ensures c.open_behind.ensures.reads
+pub returns-in-Ok-endian_of_magic-clause-reads : goal.returns-in-Ok-endian_of_magic-clause-reads
+returns-in-Ok-endian_of_magic-clause-reads g c = after_file _ _ _ c.in-Ok-endian_of_magic.endian c.in-Ok.header _ (g.met.C.PlacedSource.remaining_from_position _) c.in-Ok.ensures.parses c.in-Ok-endian_of_magic.ensures c.open_after_header.ensures.reads
 
-pub returns-in-Err-order_of-clause-reads : goal.returns-in-Err-order_of-clause-reads
-returns-in-Err-order_of-clause-reads g c = magic_refused _ _ c.in-Ok.header _ (g.met.C.PlacedSource.placed _) c.in-Ok.ensures.parses c.in-Err-order_of.ensures
+pub returns-in-Err-endian_of_magic-clause-reads : goal.returns-in-Err-endian_of_magic-clause-reads
+returns-in-Err-endian_of_magic-clause-reads g c = magic_error _ _ c.in-Ok.header _ (g.met.C.PlacedSource.remaining_from_position _) c.in-Ok.ensures.parses c.in-Err-endian_of_magic.ensures

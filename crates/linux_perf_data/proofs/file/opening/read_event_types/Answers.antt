@@ -1,4 +1,4 @@
-use Rattle.linux_perf_data.proofs.opening.read_event_types.Goals as goal
+use Rattle.linux_perf_data.proofs.file.opening.read_event_types.Goals as goal
 
 pub returns-in-LittleEndian-clause-reads : goal.returns-in-LittleEndian-clause-reads
 returns-in-LittleEndian-clause-reads g c = rw (c.in-LittleEndian.is) (c.parse_event_types_section_from.ensures.reads)

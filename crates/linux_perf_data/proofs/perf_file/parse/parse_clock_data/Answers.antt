@@ -1,7 +1,7 @@
 use Rattle.perfdata_base.specs.declared.raw.Endianness.TheVariants.{LittleEndian, BigEndian}
 use Rattle.linux_perf_data.proofs.Slices.{clock_ok, clock_err}
-use Rattle.linux_perf_data.proofs.values.clock.Goals as goal
-use Rattle.linux_perf_data.proofs.values.clock.Goals.{in-LittleEndian, in-BigEndian}
+use Rattle.linux_perf_data.proofs.perf_file.parse.parse_clock_data.Goals as goal
+use Rattle.linux_perf_data.proofs.perf_file.parse.parse_clock_data.Goals.{in-LittleEndian, in-BigEndian}
 
 pub returns-in-Ok : goal.returns-in-Ok
 returns-in-Ok c = elim c.match-endian.branch [

@@ -1,11 +1,11 @@
 use Rattle.std.proofs.Common.{◌≡◌, length, drop}
 use Rattle.std.specs.Prelude.{map}
-use Rattle.linux_perf_data.specs.Values.{HasTexts, behind_texts}
-use Rattle.linux_perf_data.proofs.values.texts.Given as goal
+use Rattle.linux_perf_data.specs.Values.{BeginsWithStrings, after_strings}
+use Rattle.linux_perf_data.proofs.perf_file.parse.parse_string_list.Given as goal
 
 abbrev pub invariant-texts : goal.invariant-texts
 invariant-texts l = record {
   count : length l.texts.items ≡ l._index;
-  are : HasTexts l.fn.endian (drop 4 l.fn.bytes) (map (λ s. s.now) l.texts.items);
-  behind : l.behind ≡ behind_texts l.fn.endian (drop 4 l.fn.bytes) (map (λ s. s.now) l.texts.items);
+  are : BeginsWithStrings l.fn.endian (drop 4 l.fn.bytes) (map (λ s. s.now) l.texts.items);
+  behind : l.behind ≡ after_strings l.fn.endian (drop 4 l.fn.bytes) (map (λ s. s.now) l.texts.items);
 }

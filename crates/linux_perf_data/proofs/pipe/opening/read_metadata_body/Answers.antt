@@ -1,5 +1,5 @@
 use Rattle.std.proofs.Common.{rules}
-use Rattle.linux_perf_data.proofs.pipe_opening.take_body.Goals as goal
+use Rattle.linux_perf_data.proofs.pipe.opening.read_metadata_body.Goals as goal
 
 pub returns-then-came-count-clause-takes : goal.returns-then-came-count-clause-takes
 returns-then-came-count-clause-takes g c = search rules

@@ -1,7 +1,7 @@
 use Rattle.std.proofs.Common.{refl}
-use Rattle.linux_perf_data.proofs.PipeRefusals.{cut}
-use Rattle.linux_perf_data.proofs.pipe_opening.take_record.Goals as goal
+use Rattle.linux_perf_data.proofs.PipeErrors.{truncated}
+use Rattle.linux_perf_data.proofs.pipe.opening.read_metadata_record.Goals as goal
 
-pub returns-in-Err-take_body-clause-takes : goal.returns-in-Err-take_body-clause-takes
-returns-in-Err-take_body-clause-takes g c =
-    cut c.args.endian c.args.offset c.args.head (g.R.Source.seen c.args.source.now) (g.R.Source.seen c.take_body.new.source) c.in-Err-take_body.error c.in-Ok.end _ c.in-Ok.ensures refl c.in-Err-take_body.ensures.takes
+pub returns-in-Err-read_metadata_body-clause-takes : goal.returns-in-Err-read_metadata_body-clause-takes
+returns-in-Err-read_metadata_body-clause-takes g c =
+    truncated c.args.endian c.args.offset c.args.head (g.R.Source.state c.args.source.now) (g.R.Source.state c.read_metadata_body.new.source) c.in-Err-read_metadata_body.error c.in-Ok.end _ c.in-Ok.ensures refl c.in-Err-read_metadata_body.ensures.takes

@@ -1,19 +1,19 @@
-use Rattle.linux_perf_data.proofs.PipeRecords.{size_small, record_refused, record_took}
-use Rattle.linux_perf_data.proofs.pipe_opening.take_next.Goals as goal
+use Rattle.linux_perf_data.proofs.PipeRecords.{size_small, record_error, record_read}
+use Rattle.linux_perf_data.proofs.pipe.opening.read_next.Goals as goal
 
-pub returns-then-head-lt-HEAD-clause-takes : goal.returns-then-head-lt-HEAD-clause-takes
-returns-then-head-lt-HEAD-clause-takes g c =
+pub returns-then-head-lt-HEADER_SIZE_U16-clause-takes : goal.returns-then-head-lt-HEADER_SIZE_U16-clause-takes
+returns-then-head-lt-HEADER_SIZE_U16-clause-takes g c =
     let took = rw c.in-Ok-Some.field-0-is at c.in-Ok-Some.ensures.takes in
-    size_small c.args.endian c.in-Ok-Some.bytes c.head_in-head.result c.head_in-head.ensures took.long (g.R.Source.seen c.args.source.now) (g.R.Source.seen c.read_eight.new.source) took.gave c.if-head-lt-HEAD.true c.args.offset
+    size_small c.args.endian c.in-Ok-Some.bytes c.record_header_of-head.result c.record_header_of-head.ensures took.exact_len (g.R.Source.state c.args.source.now) (g.R.Source.state c.read_header_bytes.new.source) took.consumes c.if-head-lt-HEADER_SIZE_U16.true c.args.offset
 
 pub returns-in-Ok-clause-takes : goal.returns-in-Ok-clause-takes
 returns-in-Ok-clause-takes g c =
     let took = rw c.in-Ok-Some.field-0-is at c.in-Ok-Some.ensures.takes in
-    record_took c.args.endian c.in-Ok-Some.bytes c.head_in-head.result c.head_in-head.ensures took.long c.if-head-lt-HEAD.false c.if-not-is_metadata.ensures (g.R.Source.seen c.args.source.now) (g.R.Source.seen c.read_eight.new.source) (g.R.Source.seen c.take_record.new.source) c.args.offset c.in-Ok.end
-    c.args.metadata.now c.take_record.new.metadata took.gave c.in-Ok.ensures.takes
+    record_read c.args.endian c.in-Ok-Some.bytes c.record_header_of-head.result c.record_header_of-head.ensures took.exact_len c.if-head-lt-HEADER_SIZE_U16.false c.if-not-is_metadata.ensures (g.R.Source.state c.args.source.now) (g.R.Source.state c.read_header_bytes.new.source) (g.R.Source.state c.read_metadata_record.new.source) c.args.offset c.in-Ok.end
+    c.args.metadata.now c.read_metadata_record.new.metadata took.consumes c.in-Ok.ensures.takes
 
-pub returns-in-Err-take_record-clause-takes : goal.returns-in-Err-take_record-clause-takes
-returns-in-Err-take_record-clause-takes g c =
+pub returns-in-Err-read_metadata_record-clause-takes : goal.returns-in-Err-read_metadata_record-clause-takes
+returns-in-Err-read_metadata_record-clause-takes g c =
     let took = rw c.in-Ok-Some.field-0-is at c.in-Ok-Some.ensures.takes in
-    record_refused c.args.endian c.in-Ok-Some.bytes c.head_in-head.result c.head_in-head.ensures took.long c.if-head-lt-HEAD.false c.if-not-is_metadata.ensures (g.R.Source.seen c.args.source.now) (g.R.Source.seen c.read_eight.new.source) (g.R.Source.seen c.take_record.new.source) c.args.offset
-    c.in-Err-take_record.error took.gave c.in-Err-take_record.ensures.takes
+    record_error c.args.endian c.in-Ok-Some.bytes c.record_header_of-head.result c.record_header_of-head.ensures took.exact_len c.if-head-lt-HEADER_SIZE_U16.false c.if-not-is_metadata.ensures (g.R.Source.state c.args.source.now) (g.R.Source.state c.read_header_bytes.new.source) (g.R.Source.state c.read_metadata_record.new.source) c.args.offset
+    c.in-Err-read_metadata_record.error took.consumes c.in-Err-read_metadata_record.ensures.takes

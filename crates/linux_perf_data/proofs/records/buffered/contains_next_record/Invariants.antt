@@ -1,15 +1,15 @@
 use Rattle.std.proofs.Common.{◌+◌, ◌-◌, ◌≤◌, length, take, drop}
-use Rattle.linux_perf_data.specs.AtHand.{ShowsRecord}
-use Rattle.linux_perf_data.specs.Input.{bound_in}
-use Rattle.linux_perf_data.specs.Layout.{AreMarkers}
-use Rattle.linux_perf_data.proofs.at_hand.holds_record.Given as goal
+use Rattle.linux_perf_data.specs.BufferedRecord.{ContainsNextRecord}
+use Rattle.linux_perf_data.specs.Input.{section_size_in}
+use Rattle.linux_perf_data.specs.Layout.{ConsistsOfMarkers}
+use Rattle.linux_perf_data.proofs.records.buffered.contains_next_record.Given as goal
 
-abbrev pub invariant-pieces : goal.invariant-pieces
-invariant-pieces l = record {
+abbrev pub invariant-records : goal.invariant-records
+invariant-records l = record {
   within : l.at ≤ length l.bytes;
-  passed : AreMarkers l.endian (bound_in l.input) l.offset (take l.at l.bytes);
-  left : ShowsRecord l.endian (bound_in l.input) l.offset l.bytes → ShowsRecord l.endian (bound_in l.input) (l.offset + l.at) (drop l.at l.bytes);
+  passed : ConsistsOfMarkers l.endian (section_size_in l.input) l.offset (take l.at l.bytes);
+  left : ContainsNextRecord l.endian (section_size_in l.input) l.offset l.bytes → ContainsNextRecord l.endian (section_size_in l.input) (l.offset + l.at) (drop l.at l.bytes);
 }
 
-abbrev pub decreases-pieces : goal.decreases-pieces
-decreases-pieces l = length l.bytes - l.at
+abbrev pub decreases-records : goal.decreases-records
+decreases-records l = length l.bytes - l.at

@@ -1,5 +1,5 @@
 use Rattle.std.proofs.Common.{rules}
-use Rattle.linux_perf_data.proofs.piece.pass_body.Goals as goal
+use Rattle.linux_perf_data.proofs.records.framing.skip_body.Goals as goal
 
-pub returns-in-Err-clause-passes : goal.returns-in-Err-clause-passes
-returns-in-Err-clause-passes g c = search rules
+pub returns-in-Err-clause-skips : goal.returns-in-Err-clause-skips
+returns-in-Err-clause-skips g c = search rules

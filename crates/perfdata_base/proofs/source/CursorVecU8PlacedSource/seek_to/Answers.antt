@@ -1,5 +1,5 @@
 use Rattle.std.specs.Io.Cursor.{cursor_inner, cursor_position}
-use Rattle.perfdata_base.proofs.Sought.{seeks_cursor}
+use Rattle.perfdata_base.proofs.Seeks.{seeks_cursor}
 use Rattle.perfdata_base.proofs.source.CursorVecU8PlacedSource.seek_to.Goals as goal
 
 pub returns-clause-seeks : goal.returns-clause-seeks

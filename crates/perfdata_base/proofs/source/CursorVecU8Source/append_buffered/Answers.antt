@@ -1,7 +1,7 @@
 use Rattle.std.proofs.Common.{rules, refl, ◌≡◌, ◌+◌, ◌++◌, length, take, drop}
 use Rattle.std.specs.Io.Cursor.{cursor_inner, cursor_position}
-use Rattle.perfdata_base.proofs.Sought.{handed_from}
-use Rattle.perfdata_base.proofs.source.CursorVecU8Source.append_at_hand.Goals as goal
+use Rattle.perfdata_base.proofs.Seeks.{buffered_from_cursor}
+use Rattle.perfdata_base.proofs.source.CursorVecU8Source.append_buffered.Goals as goal
 
 pub returns-clause-appends : goal.returns-clause-appends
 returns-clause-appends c =
@@ -13,4 +13,4 @@ returns-clause-appends c =
     let holds : c.extend_from_slice.new.self.items ≡ c.args.buffer.now.items ++ front = search rules in
     let inner : cursor_inner c.set_position.new.self ≡ cursor_inner c.args.self.now = search rules in
     let there : cursor_position c.set_position.new.self ≡ at + n = search rules in
-    record { bytes = front; long = long; holds = holds; handed = rw (inner, there) (handed_from all front at n long refl) }
+    record { bytes = front; exact_len = long; buffer_content = holds; consumes_buffered = rw (inner, there) (buffered_from_cursor all front at n long refl) }

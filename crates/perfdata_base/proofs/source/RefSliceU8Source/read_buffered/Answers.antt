@@ -1,5 +1,5 @@
 use Rattle.std.proofs.Common.{rules}
-use Rattle.perfdata_base.proofs.source.RefSliceU8Source.take_at_hand.Goals as goal
+use Rattle.perfdata_base.proofs.source.RefSliceU8Source.read_buffered.Goals as goal
 
-pub returns-clause-takes : goal.returns-clause-takes
-returns-clause-takes c = search rules
+pub returns-clause-reads_buffered : goal.returns-clause-reads_buffered
+returns-clause-reads_buffered c = search rules

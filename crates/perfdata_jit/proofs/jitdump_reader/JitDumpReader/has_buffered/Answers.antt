@@ -1,15 +1,15 @@
 use Rattle.std.proofs.Common.{refl, ◌≡◌, ◌+◌, ◌++◌, length, arith, length-append, sym, ap, ◌∙◌, subst}
-use Rattle.perfdata_jit.specs.BufferedReader.{held_in}
-use Rattle.perfdata_jit.specs.JitDumpReader.{head_bytes, jit_held}
+use Rattle.perfdata_jit.specs.BufferedReader.{buffered_in}
+use Rattle.perfdata_jit.specs.JitDumpReader.{pending_header_bytes, jit_buffered}
 use Rattle.perfdata_jit.proofs.jitdump_reader.JitDumpReader.has_buffered.Goals as goal
 
 pub returns-then-count-le16 : goal.returns-then-count-le16
 returns-then-count-le16 g c =
     let self = c.args.self.now in
     let head = c.in-Some.head in
-    let long = ap length (sym c.copy_of-head.ensures.same) ∙ c.copy_of-head.ensures.long in
-    let kept : jit_held self ≡ head ++ held_in self.reader = ap (λ h. head_bytes h ++ held_in self.reader) c.in-Some.is in
-    let sum = ap length kept ∙ length-append head (held_in self.reader) in
+    let long = ap length (sym c.copy_header-head.ensures.same) ∙ c.copy_header-head.ensures.long in
+    let kept : jit_buffered self ≡ head ++ buffered_in self.reader = ap (λ h. pending_header_bytes h ++ buffered_in self.reader) c.in-Some.is in
+    let sum = ap length kept ∙ length-append head (buffered_in self.reader) in
     let le = c.if-count-le16.true in
     (λ yes. omega (arith, sum, long, le), λ fits. refl)
 
@@ -17,9 +17,9 @@ pub returns-else-count-le16 : goal.returns-else-count-le16
 returns-else-count-le16 g c =
     let self = c.args.self.now in
     let head = c.in-Some.head in
-    let long = ap length (sym c.copy_of-head.ensures.same) ∙ c.copy_of-head.ensures.long in
-    let kept : jit_held self ≡ head ++ held_in self.reader = ap (λ h. head_bytes h ++ held_in self.reader) c.in-Some.is in
-    let sum = ap length kept ∙ length-append head (held_in self.reader) in
+    let long = ap length (sym c.copy_header-head.ensures.same) ∙ c.copy_header-head.ensures.long in
+    let kept : jit_buffered self ≡ head ++ buffered_in self.reader = ap (λ h. pending_header_bytes h ++ buffered_in self.reader) c.in-Some.is in
+    let sum = ap length kept ∙ length-append head (buffered_in self.reader) in
     let more = c.if-count-le16.false in
     let holds = c.holds.ensures in
     (λ yes. let fits = holds.0 yes in omega (arith, sum, long, more, fits), λ fits. holds.1 (omega (arith, sum, long, more, fits)))

@@ -1,6 +1,6 @@
 use Rattle.std.proofs.Common.{arith, rules}
 use Rattle.std.proofs.lemmas.Grind.{common_steps}
-use Rattle.perfdata_jit.proofs.held.Held.drop_front.Goals as goal
+use Rattle.perfdata_jit.proofs.read_buffer.ReadBuffer.compact_overflow.Goals as goal
 
 pub invariant_of-self : goal.invariant_of-self
 invariant_of-self c = search rules

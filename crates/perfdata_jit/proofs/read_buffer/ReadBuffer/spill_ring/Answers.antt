@@ -1,6 +1,6 @@
 use Rattle.std.proofs.Common.{arith}
 use Rattle.std.proofs.lemmas.Grind.{common_steps}
-use Rattle.perfdata_jit.proofs.held.Held.spill.Goals as goal
+use Rattle.perfdata_jit.proofs.read_buffer.ReadBuffer.spill_ring.Goals as goal
 
 pub returns-clause-bytes : goal.returns-clause-bytes
 returns-clause-bytes c = grind (arith, common_steps)

@@ -1,10 +1,10 @@
 use Rattle.perfdata_jit.proofs.records.JitCodeLoadRecord.parse.Goals as goal
 
-pub returns-in-LittleEndian-clause-refused : goal.returns-in-LittleEndian-clause-refused
-returns-in-LittleEndian-clause-refused c = rw c.in-LittleEndian.is c.parse_impl.ensures.refused
+pub returns-in-LittleEndian-clause-error : goal.returns-in-LittleEndian-clause-error
+returns-in-LittleEndian-clause-error c = rw c.in-LittleEndian.is c.parse_impl.ensures.error
 
-pub returns-in-BigEndian-clause-refused : goal.returns-in-BigEndian-clause-refused
-returns-in-BigEndian-clause-refused c = rw c.in-BigEndian.is c.parse_impl-in-BigEndian.ensures.refused
+pub returns-in-BigEndian-clause-error : goal.returns-in-BigEndian-clause-error
+returns-in-BigEndian-clause-error c = rw c.in-BigEndian.is c.parse_impl-in-BigEndian.ensures.error
 
 pub returns-in-LittleEndian-clause-value : goal.returns-in-LittleEndian-clause-value
 returns-in-LittleEndian-clause-value c = rw c.in-LittleEndian.is c.parse_impl.ensures.value

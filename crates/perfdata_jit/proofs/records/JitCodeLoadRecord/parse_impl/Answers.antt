@@ -1,26 +1,26 @@
 use Rattle.std.proofs.Common.{arith, ◌++◌, ◌∷◌, sym, ap, ◌∙◌, inr}
 use Rattle.perfdata_base.specs.Raw.{bytes_of}
-use Rattle.perfdata_jit.proofs.Fields.{number_at, number_within, cut_again, cut_long}
+use Rattle.perfdata_jit.proofs.Fields.{number_at, number_within, truncated_again, truncated_long}
 use Rattle.perfdata_jit.proofs.records.JitCodeLoadRecord.parse_impl.Goals as goal
 
-pub returns-in-Err-split_off_prefix-clause-refused : goal.returns-in-Err-split_off_prefix-clause-refused
-returns-in-Err-split_off_prefix-clause-refused g c =
+pub returns-in-Err-split_off_prefix-clause-error : goal.returns-in-Err-split_off_prefix-clause-error
+returns-in-Err-split_off_prefix-clause-error g c =
     let number = g.O.ByteOrder.number_of in
     let first = g.met.O.ByteOrder.reads_first in
     let xs = bytes_of c.args.bytes in
-    let taken = c.in-Ok.ensures.taken in
+    let taken = c.in-Ok.ensures.rest in
     let string = c.in-Some.ensures.string in
-    let short = c.in-Err-split_off_prefix.ensures.short in
-    let few = short.few in
+    let short = c.in-Err-split_off_prefix.ensures.too_short in
+    let few = short.too_few in
     let size = c.read_u64-code_size.ensures ∙ number_within number first 8 24 16 40 xs c.read_exact.new.place c.in-Ok.ensures.read taken.enough (omega arith) (omega arith) in
     record {
-      why = inr (inr (
+      cause = inr (inr (
         taken.enough,
         record {
           name = bytes_of c.in-Some.name;
-          behind = bytes_of c.read_string.new.self;
-          text = record { cut = sym taken.left ∙ string.cut; no_nul = string.text };
-          few = omega (arith, size, few);
+          after_body = bytes_of c.read_string.new.self;
+          name_text = record { split = sym taken.rest ∙ string.split; no_nul = string.no_nul };
+          too_few = omega (arith, size, few);
         },
       ));
       kind = short.kind;
@@ -33,7 +33,7 @@ returns-clause-value g c =
     let xs = bytes_of c.args.bytes in
     let head = c.read_exact.new.place in
     let is = c.in-Ok.ensures.read in
-    let taken = c.in-Ok.ensures.taken in
+    let taken = c.in-Ok.ensures.rest in
     let long = taken.enough in
     let string = c.in-Some.ensures.string in
     let split = c.in-Ok-split_off_prefix.ensures in
@@ -46,10 +46,10 @@ returns-clause-value g c =
       mapping = c.read_u64.ensures ∙ number_within number first 8 8 32 40 xs head is long (omega arith) (omega arith);
       address = c.read_u64-2.ensures ∙ number_within number first 8 16 24 40 xs head is long (omega arith) (omega arith);
       index = c.read_u64-3.ensures ∙ number_within number first 8 32 8 40 xs head is long (omega arith) (omega arith);
-      size = cut_long c.read_u64-code_size.result (bytes_of c.read_string.new.self) code split.taken.enough split.prefix ∙ size;
-      behind = behind;
-      text = record {
-        cut = sym taken.left ∙ string.cut ∙ ap (λ l. bytes_of c.in-Some.name ++ (0 ∷ l)) (cut_again c.read_u64-code_size.result (bytes_of c.read_string.new.self) code behind split.prefix split.taken.left);
-        no_nul = string.text;
+      size = truncated_long c.read_u64-code_size.result (bytes_of c.read_string.new.self) code split.rest.enough split.prefix ∙ size;
+      after_body = behind;
+      name_text = record {
+        split = sym taken.rest ∙ string.split ∙ ap (λ l. bytes_of c.in-Some.name ++ (0 ∷ l)) (truncated_again c.read_u64-code_size.result (bytes_of c.read_string.new.self) code behind split.prefix split.rest.rest);
+        no_nul = string.no_nul;
       };
     }

@@ -1,6 +1,6 @@
 use Rattle.std.proofs.Common.{arith, ◌++◌, length, sym, ap, ◌∙◌, append_assoc, length-append}
 use Rattle.perfdata_base.specs.Raw.{bytes_of}
-use Rattle.perfdata_jit.proofs.Fields.{number_at, number_within, cut_again, cut_long}
+use Rattle.perfdata_jit.proofs.Fields.{number_at, number_within, truncated_again, truncated_long}
 use Rattle.perfdata_jit.proofs.records.JitCodeUnwindingInfoRecord.parse_impl.Goals as goal
 
 pub returns-clause-value : goal.returns-clause-value
@@ -10,7 +10,7 @@ returns-clause-value g c =
     let xs = bytes_of c.args.bytes in
     let head = c.read_exact.new.place in
     let is = c.in-Ok.ensures.read in
-    let taken = c.in-Ok.ensures.taken in
+    let taken = c.in-Ok.ensures.rest in
     let long = taken.enough in
     let outer = c.in-Ok-split_off_prefix.ensures in
     let inner = c.in-Ok-split_off_prefix-2.ensures in
@@ -20,13 +20,13 @@ returns-clause-value g c =
     let behind = bytes_of c.split_off_prefix.new.self in
     let size = c.read_u64.ensures ∙ number_at number first 8 0 24 xs head is long (omega arith) in
     let index_size = c.read_u64-2.ensures ∙ number_within number first 8 8 16 24 xs head is long (omega arith) (omega arith) in
-    let parts = cut_again c.read_u64-2.result data_bytes index frame inner.prefix inner.taken.left in
-    let all = cut_again c.read_u64.result (bytes_of c.read_exact.new.self) data_bytes behind outer.prefix outer.taken.left in
+    let parts = truncated_again c.read_u64-2.result data_bytes index frame inner.prefix inner.rest.rest in
+    let all = truncated_again c.read_u64.result (bytes_of c.read_exact.new.self) data_bytes behind outer.prefix outer.rest.rest in
     record {
-      long = long;
+      min_len = long;
       mapped = c.read_u64-3.ensures ∙ number_within number first 8 16 8 24 xs head is long (omega arith) (omega arith);
-      index = cut_long c.read_u64-2.result data_bytes index inner.taken.enough inner.prefix ∙ index_size;
-      whole = sym (length-append index frame) ∙ ap length (sym parts) ∙ cut_long c.read_u64.result (bytes_of c.read_exact.new.self) data_bytes outer.taken.enough outer.prefix ∙ size;
-      behind = behind;
-      cut = sym taken.left ∙ all ∙ ap (λ l. l ++ behind) parts ∙ append_assoc index frame behind;
+      index = truncated_long c.read_u64-2.result data_bytes index inner.rest.enough inner.prefix ∙ index_size;
+      whole = sym (length-append index frame) ∙ ap length (sym parts) ∙ truncated_long c.read_u64.result (bytes_of c.read_exact.new.self) data_bytes outer.rest.enough outer.prefix ∙ size;
+      after_body = behind;
+      split = sym taken.rest ∙ all ∙ ap (λ l. l ++ behind) parts ∙ append_assoc index frame behind;
     }

@@ -1,6 +1,6 @@
 use Rattle.std.proofs.Common.{rules, ◌*◌, length, take, arith, ap, sym, ◌∙◌}
 use Rattle.perfdata_base.specs.Raw.{bytes_of}
-use Rattle.perfdata_base.specs.Numbers.{number_in}
+use Rattle.perfdata_base.specs.Endian.{number_in}
 use Rattle.std.proofs.lemmas.List.{length-take-le}
 use Rattle.perfdata_records.proofs.Threads.{is_map, whole_entries}
 use Rattle.perfdata_records.proofs.thread_map.ThreadMap.parse.Goals as goal
@@ -16,14 +16,14 @@ returns-clause-value g c =
     is_map number g.met.T.ByteOrder.reads_first (number_in order)
     (λ n xs. g.met.T.FileOrder.reads_by n xs ∙ ap (λ o. number_in o n xs) (sym c.ENDIAN.ensures))
     (bytes_of c.args.body) (bytes_of c.read_u64.new.self) (bytes_of c.in_ok-entries.entries)
-    counted.taken.enough counted.taken.left (omega (arith, cut.taken.enough, size, many))
+    counted.rest.enough counted.rest.rest (omega (arith, cut.rest.enough, size, many))
     (cut.prefix ∙ ap (λ n. take n (bytes_of c.read_u64.new.self)) (size ∙ many))
 
 pub invariant_of-result : goal.invariant_of-result
 invariant_of-result g c =
     let cut = c.in_ok-entries.ensures in
-    let enough = cut.taken.enough in
-    record { whole = whole_entries c.in_ok-count.count (bytes_of c.in_ok-entries.entries) (ap length cut.prefix ∙ length-take-le _ _ enough ∙ c.in-Some.ensures.1) }
+    let enough = cut.rest.enough in
+    record { whole_entries = whole_entries c.in_ok-count.count (bytes_of c.in_ok-entries.entries) (ap length cut.prefix ∙ length-take-le _ _ enough ∙ c.in-Some.ensures.1) }
 
-pub returns-in_default-clause-refused : goal.returns-in_default-clause-refused
-returns-in_default-clause-refused g c = search rules
+pub returns-in_default-clause-error : goal.returns-in_default-clause-error
+returns-in_default-clause-error g c = search rules

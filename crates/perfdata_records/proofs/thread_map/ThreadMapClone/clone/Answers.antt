@@ -6,12 +6,12 @@ use Rattle.perfdata_base.specs.declared.raw.RawData.{RawData}
 use Rattle.perfdata_records.specs.declared.thread_map.ThreadMap.{ThreadMap}
 use Rattle.perfdata_records.proofs.thread_map.ThreadMapClone.clone.Goals as goal
 
--- a map is told by its order and its entries
+-- maps with the same byte order and entries are equal
 same_map : (order : Endianness) (entries : RawData) (w v : length (bytes_of entries) ≡ 24 * (length (bytes_of entries) / 24))
-    → (let m : ThreadMap = record { endian = order; entries = entries; whole = w } in m) ≡ (let m : ThreadMap = record { endian = order; entries = entries; whole = v } in m)
-same_map order entries w v i = record { endian = order; entries = entries; whole = ℕ_set _ _ w v i }
+    → (let m : ThreadMap = record { endian = order; entries = entries; whole_entries = w } in m) ≡ (let m : ThreadMap = record { endian = order; entries = entries; whole_entries = v } in m)
+same_map order entries w v i = record { endian = order; entries = entries; whole_entries = ℕ_set _ _ w v i }
 
 pub returns : goal.returns
 returns c =
     let map = c.args.self.now in
-    record { cases = same_map map.endian map.entries _ map.whole }
+    record { cases = same_map map.endian map.entries _ map.whole_entries }

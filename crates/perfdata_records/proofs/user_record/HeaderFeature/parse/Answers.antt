@@ -2,8 +2,8 @@ use Rattle.std.proofs.Common.{arith, rules}
 use Rattle.std.proofs.lemmas.Grind.{common_steps}
 use Rattle.perfdata_records.proofs.user_record.HeaderFeature.parse.Goals as goal
 
-pub returns-then-is_empty-clause-refused : goal.returns-then-is_empty-clause-refused
-returns-then-is_empty-clause-refused g c = search rules
+pub returns-then-is_empty-clause-error : goal.returns-then-is_empty-clause-error
+returns-then-is_empty-clause-error g c = search rules
 
 pub returns-in-Ok-into_owned-clause-value : goal.returns-in-Ok-into_owned-clause-value
 returns-in-Ok-into_owned-clause-value g c = search rules

@@ -1,8 +1,8 @@
 use Rattle.std.proofs.Common.{rules, arith, ◌≡◌, ◌+◌, ◌-◌, ◌<◌, ◌≤◌, ◌^◌, refl, inr, ◌∙◌, None}
-use Rattle.perfdata_sections.specs.Run.{RefusedAt}
-use Rattle.perfdata_sections.specs.Attributes.{IsUnread, SeesNoFrame, IsDescribed}
+use Rattle.perfdata_sections.specs.Items.{ReadOrSeekErrorAt}
+use Rattle.perfdata_sections.specs.AttrFrames.{IsFrameReadError, ConsumesFrameError, IsPlainDescription}
 use Rattle.perfdata_sections.specs.declared.feature_sections.AttributeDescription.{AttributeDescription}
-use Rattle.perfdata_sections.proofs.Runs.{run_whole, run_more, run_stops, refused_later}
+use Rattle.perfdata_sections.proofs.ItemRuns.{run_whole, run_more, run_stops, error_later}
 use Rattle.perfdata_sections.proofs.Frames.{described, can_be, frame_carries}
 use Rattle.perfdata_sections.proofs.feature_sections.AttributeDescription.parse_attr_section_from.Goals as goal
 
@@ -14,9 +14,9 @@ returns-in-Err-clause-reads g c =
     let more : c.args.attr_size ≤ c.args.section.now.offset + c.args.section.now.size - c.frames.at = omega arith in
     inr (
       can_be g.T.ByteOrder.number_of c.args.attr_size c.args.section.now some low,
-      run_stops (IsDescribed g.T.ByteOrder.number_of c.args.attr_size) c.args.attr_size c.args.section.now.offset c.args.section.now.size _ _ c.frames.at _ some c.frames.invariant.far
-          (RefusedAt (SeesNoFrame g.T.ByteOrder.number_of c.args.attr_size) (IsUnread g.T.ByteOrder.number_of c.args.attr_size)) (g.C.Source.seen c.read_frame_at.new.source) _
-          (λ k. refused_later (SeesNoFrame g.T.ByteOrder.number_of c.args.attr_size) (IsUnread g.T.ByteOrder.number_of c.args.attr_size) (frame_carries g.T.ByteOrder.number_of g.met.T.ByteOrder.reads_first c.args.attr_size) _ _ _ k _ c.frames.invariant.far.stood)
+      run_stops (IsPlainDescription g.T.ByteOrder.number_of c.args.attr_size) c.args.attr_size c.args.section.now.offset c.args.section.now.size _ _ c.frames.at _ some c.frames.invariant.far
+          (ReadOrSeekErrorAt (ConsumesFrameError g.T.ByteOrder.number_of c.args.attr_size) (IsFrameReadError g.T.ByteOrder.number_of c.args.attr_size)) (g.C.Source.state c.read_attr_frame_at.new.source) _
+          (λ k. error_later (ConsumesFrameError g.T.ByteOrder.number_of c.args.attr_size) (IsFrameReadError g.T.ByteOrder.number_of c.args.attr_size) (frame_carries g.T.ByteOrder.number_of g.met.T.ByteOrder.reads_first c.args.attr_size) _ _ _ k _ c.frames.invariant.far.stood)
           more c.in-Err.ensures.reads,
     )
 
@@ -26,13 +26,13 @@ frames-preserved g c =
     let sum : c.in-Some.end ≡ c.args.section.now.offset + c.args.section.now.size = search rules in
     let more : c.args.attr_size ≤ c.args.section.now.offset + c.args.section.now.size - c.frames.at = omega arith in
     let d : AttributeDescription = record { attr = c.in-Ok.attr; name = None; event_ids = c.new.result } in
-    let lent = c.in-Ok.ensures.lent in
+    let lent = c.in-Ok.ensures.same_loan in
     record {
-      far = run_more (IsDescribed g.T.ByteOrder.number_of c.args.attr_size) c.args.attr_size c.args.section.now.offset c.args.section.now.size _ _ c.frames.at _ some c.frames.invariant.far
-          (g.C.Source.seen c.read_frame_at.new.source) d c.push.new.self.items more c.in-Ok-push.ensures.items
+      far = run_more (IsPlainDescription g.T.ByteOrder.number_of c.args.attr_size) c.args.attr_size c.args.section.now.offset c.args.section.now.size _ _ c.frames.at _ some c.frames.invariant.far
+          (g.C.Source.state c.read_attr_frame_at.new.source) d c.push.new.self.items more c.in-Ok-push.ensures.items
           (described g.T.ByteOrder.number_of g.met.T.ByteOrder.reads_first c.args.attr_size _ _ c.frames.at c.in-Ok.attr d refl refl c.new.ensures.items c.in-Ok.ensures.reads);
       pauses = c.in-Ok.ensures.pauses ∙ c.frames.invariant.pauses;
-      lent = lent ∙ c.frames.invariant.lent;
+      same_loan = lent ∙ c.frames.invariant.same_loan;
     }
 
 pub returns-clause-reads : goal.returns-clause-reads
@@ -42,5 +42,5 @@ returns-clause-reads g c =
     let low : c.args.section.now.offset + c.args.section.now.size < 2 ^ 64 = omega arith in
     let less : c.args.section.now.offset + c.args.section.now.size - c.frames.at < c.args.attr_size = omega arith in (
       can_be g.T.ByteOrder.number_of c.args.attr_size c.args.section.now some low,
-      run_whole (IsDescribed g.T.ByteOrder.number_of c.args.attr_size) c.args.attr_size c.args.section.now.offset c.args.section.now.size _ _ c.frames.at _ some c.frames.invariant.far less,
+      run_whole (IsPlainDescription g.T.ByteOrder.number_of c.args.attr_size) c.args.attr_size c.args.section.now.offset c.args.section.now.size _ _ c.frames.at _ some c.frames.invariant.far less,
     )

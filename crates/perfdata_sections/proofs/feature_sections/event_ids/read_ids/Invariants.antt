@@ -1,11 +1,11 @@
 use Rattle.std.proofs.Common.{◌≡◌}
-use Rattle.perfdata_sections.specs.Part.{Took}
+use Rattle.perfdata_sections.specs.ParsedPart.{PartRead}
 use Rattle.perfdata_sections.specs.EventIds.{AreIds}
 use Rattle.perfdata_sections.proofs.feature_sections.event_ids.read_ids.Given as goal
 
 abbrev pub invariant-ids : goal.invariant-ids
 invariant-ids g l = record {
-  took : Took (AreIds g.T.ByteOrder.number_of l._index) (g.R.Source.seen l.initial.source) l.ids.items (g.R.Source.seen l.source);
-  pauses : (g.R.Source.seen l.source).pauses ≡ (g.R.Source.seen l.initial.source).pauses;
-  lent : g.R.Source.lent l.source ≡ g.R.Source.lent l.initial.source;
+  took : PartRead (AreIds g.T.ByteOrder.number_of l._index) (g.R.Source.state l.initial.source) l.ids.items (g.R.Source.state l.source);
+  pauses : (g.R.Source.state l.source).pauses ≡ (g.R.Source.state l.initial.source).pauses;
+  same_loan : g.R.Source.loan l.source ≡ g.R.Source.loan l.initial.source;
 }

@@ -1,7 +1,7 @@
 use Rattle.std.proofs.Common.{◌++◌, sym, ap, ◌∙◌}
 use Rattle.std.proofs.lemmas.List.{append-nil}
 use Rattle.perfdata_sections.proofs.Pmus.{names_ordered, orders_units}
-use Rattle.perfdata_sections.proofs.feature_sections.pmu.in_order.Goals as goal
+use Rattle.perfdata_sections.proofs.feature_sections.pmu_mappings.into_index_map.Goals as goal
 
 pub names-preserved-in_ok-insert : goal.names-preserved-in_ok-insert
 names-preserved-in_ok-insert c = record {

@@ -1,10 +1,10 @@
 use Rattle.std.proofs.Common.{◌≡◌}
-use Rattle.perfdata_sections.specs.Pmu.{TookUnits}
-use Rattle.perfdata_sections.proofs.feature_sections.pmu.read_units.Given as goal
+use Rattle.perfdata_sections.specs.PmuMappings.{PmuUnitsRead}
+use Rattle.perfdata_sections.proofs.feature_sections.pmu_mappings.read_pmus.Given as goal
 
 abbrev pub invariant-units : goal.invariant-units
 invariant-units g l = record {
-  took : TookUnits g.T.ByteOrder.number_of l._index (g.R.Source.seen l.initial.source) l.names (g.R.Source.seen l.source);
-  pauses : (g.R.Source.seen l.source).pauses ≡ (g.R.Source.seen l.initial.source).pauses;
-  lent : g.R.Source.lent l.source ≡ g.R.Source.lent l.initial.source;
+  took : PmuUnitsRead g.T.ByteOrder.number_of l._index (g.R.Source.state l.initial.source) l.names (g.R.Source.state l.source);
+  pauses : (g.R.Source.state l.source).pauses ≡ (g.R.Source.state l.initial.source).pauses;
+  same_loan : g.R.Source.loan l.source ≡ g.R.Source.loan l.initial.source;
 }

@@ -1,5 +1,5 @@
 use Rattle.std.proofs.Common.{rules}
-use Rattle.perfdata_simpleperf.proofs.protobuf.field.permits.Goals as goal
+use Rattle.perfdata_simpleperf.proofs.protobuf.field.accepts_wire_type.Goals as goal
 
 pub returns-in-Unknown-default : goal.returns-in-Unknown-default
 returns-in-Unknown-default c = search rules

@@ -4,7 +4,7 @@ use Rattle.perfdata_simpleperf.specs.Protobuf.Fields.{part}
 use Rattle.perfdata_simpleperf.specs.Protobuf.Messages.{NoInner}
 use Rattle.perfdata_simpleperf.specs.Protobuf.Values.{last_or, numbers}
 use Rattle.perfdata_simpleperf.proofs.Decoding.MessageSteps.{fields_then, field_shorter, last_number, address_fine}
-use Rattle.perfdata_simpleperf.proofs.protobuf.messages.address_of.Goals as goal
+use Rattle.perfdata_simpleperf.proofs.protobuf.messages.decode_address.Goals as goal
 
 pub fields-smaller : goal.fields-smaller
 fields-smaller c = field_shorter messages.Address _ _ _ c.in_ok-field.ensures.found
@@ -15,5 +15,5 @@ fields-preserved c =
     let p = part c.in_ok-field.field in (
       i.0 ++ p ∷ [],
       fields_then NoInner messages.Address _ i.0 _ p _ i.1 c.in_ok-field.ensures.found (address_fine _ _),
-      c.address_in-address.ensures ∙ ap (λ (s : ℕ). last_or s (numbers 1 (p ∷ []))) i.2 ∙ last_number _ 1 i.0 (p ∷ []),
+      c.merge_address_field-address.ensures ∙ ap (λ (s : ℕ). last_or s (numbers 1 (p ∷ []))) i.2 ∙ last_number _ 1 i.0 (p ∷ []),
     )

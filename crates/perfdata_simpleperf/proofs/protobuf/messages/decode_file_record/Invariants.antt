@@ -3,7 +3,7 @@ use Rattle.perfdata_simpleperf.specs.Protobuf.Fields.{Part}
 use Rattle.perfdata_simpleperf.specs.Protobuf.Messages.{FileFields}
 use Rattle.perfdata_simpleperf.specs.FileRecord.{record_value}
 use Rattle.perfdata_simpleperf.specs.Protobuf.Values.{HasValue}
-use Rattle.perfdata_simpleperf.proofs.protobuf.messages.record_of.Given as goal
+use Rattle.perfdata_simpleperf.proofs.protobuf.messages.decode_file_record.Given as goal
 
 abbrev pub invariant-fields : goal.invariant-fields
 invariant-fields l = (ps : List Part) × FileFields l.bytes ps l.rest × HasValue ps (record_value l.file)

@@ -4,7 +4,7 @@ use Rattle.perfdata_simpleperf.specs.Protobuf.Messages.{LeafFields}
 use Rattle.perfdata_simpleperf.specs.FileRecord.{symbol_value}
 use Rattle.perfdata_simpleperf.specs.Protobuf.Values.{symbol_from, no_symbol}
 use Rattle.perfdata_simpleperf.specs.declared.protobuf.field.Message.TheVariants as messages
-use Rattle.perfdata_simpleperf.proofs.protobuf.messages.symbol_of.Given as goal
+use Rattle.perfdata_simpleperf.proofs.protobuf.messages.decode_symbol.Given as goal
 
 abbrev pub invariant-fields : goal.invariant-fields
 invariant-fields l = (ps : List Part) × LeafFields messages.Symbol l.bytes ps l.rest × (symbol_value l.symbol ≡ symbol_from no_symbol ps)

@@ -1,7 +1,7 @@
 use Rattle.std.proofs.Common.{◌∷◌, [], ◌∙◌, ap, refl, map}
 use Rattle.std.proofs.lemmas.List.{map-append}
 use Rattle.perfdata_simpleperf.specs.FileRecord.{symbol_value}
-use Rattle.perfdata_simpleperf.proofs.protobuf.messages.put_in_record.Goals as goal
+use Rattle.perfdata_simpleperf.proofs.protobuf.messages.merge_record_field.Goals as goal
 
 pub returns-in_ok-push-in-4-Bytes-clause-symbol : goal.returns-in_ok-push-in-4-Bytes-clause-symbol
 returns-in_ok-push-in-4-Bytes-clause-symbol c =

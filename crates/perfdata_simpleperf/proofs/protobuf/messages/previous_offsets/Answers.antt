@@ -1,5 +1,5 @@
 use Rattle.std.proofs.Common.{rules}
-use Rattle.perfdata_simpleperf.proofs.protobuf.messages.offsets_of.Goals as goal
+use Rattle.perfdata_simpleperf.proofs.protobuf.messages.previous_offsets.Goals as goal
 
 pub returns-in-Some-SimpleperfDexFileInfo : goal.returns-in-Some-SimpleperfDexFileInfo
 returns-in-Some-SimpleperfDexFileInfo c = search rules

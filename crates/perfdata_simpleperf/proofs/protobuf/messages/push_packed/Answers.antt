@@ -1,6 +1,6 @@
 use Rattle.std.proofs.Common.{◌∷◌, [], ◌++◌, List, ℕ, ◌∙◌, ap, append_assoc}
 use Rattle.perfdata_simpleperf.proofs.Decoding.MessageSteps.{numbers_then}
-use Rattle.perfdata_simpleperf.proofs.protobuf.messages.put_packed.Goals as goal
+use Rattle.perfdata_simpleperf.proofs.protobuf.messages.push_packed.Goals as goal
 
 pub numbers-preserved : goal.numbers-preserved
 numbers-preserved c =

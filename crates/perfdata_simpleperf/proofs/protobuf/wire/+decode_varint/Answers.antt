@@ -1,7 +1,7 @@
 use Rattle.std.proofs.Common.{◌≤◌, arith}
 use Rattle.std.proofs.lemmas.Result.{err_from_is_err_and}
 use Rattle.perfdata_simpleperf.proofs.Decoding.Numbers.{read_last, read_more, read_fault, high_fits, small_fits}
-use Rattle.perfdata_simpleperf.proofs.protobuf.wire.+varint_of.Goals as goal
+use Rattle.perfdata_simpleperf.proofs.protobuf.wire.+decode_varint.Goals as goal
 
 pub returns-in_err-high-in-len1-up-clause-fault : goal.returns-in_err-high-in-len1-up-clause-fault
 returns-in_err-high-in-len1-up-clause-fault t c =
@@ -13,14 +13,14 @@ pub overflow_mul-result : goal.overflow_mul-result
 overflow_mul-result t c =
     let two : 2 ≤ c.args.left = omega (arith, c.requires.low, c.if-left-eq1.false) in
     let at = c.in_ok-high-in-len1-up.ensures.found in
-    let h = high_fits c.args.left c.in_ok-high-in-len1-up.high two c.requires.high at.fits in
+    let h = high_fits c.args.left c.in_ok-high-in-len1-up.high two c.requires.high at.in_range in
     omega (arith, h)
 
 pub overflow_add-result : goal.overflow_add-result
 overflow_add-result t c =
     let two : 2 ≤ c.args.left = omega (arith, c.requires.low, c.if-left-eq1.false) in
     let at = c.in_ok-high-in-len1-up.ensures.found in
-    let h = high_fits c.args.left c.in_ok-high-in-len1-up.high two c.requires.high at.fits in
+    let h = high_fits c.args.left c.in_ok-high-in-len1-up.high two c.requires.high at.in_range in
     let byte = c.type_inv.bytes 0 in
     omega (arith, h, byte)
 

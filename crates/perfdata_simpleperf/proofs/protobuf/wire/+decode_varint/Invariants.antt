@@ -1,4 +1,4 @@
-use Rattle.perfdata_simpleperf.proofs.protobuf.wire.+varint_of.Given as goal
+use Rattle.perfdata_simpleperf.proofs.protobuf.wire.+decode_varint.Given as goal
 
-abbrev pub decreases-varint_of : goal.decreases-varint_of
-decreases-varint_of l = l.left
+abbrev pub decreases-decode_varint : goal.decreases-decode_varint
+decreases-decode_varint l = l.left

@@ -1,5 +1,5 @@
 use Rattle.std.proofs.Common.{rules}
-use Rattle.perfdata_simpleperf.proofs.protobuf.wire.key_at.Goals as goal
+use Rattle.perfdata_simpleperf.proofs.protobuf.wire.read_key.Goals as goal
 
 pub returns-in_default-clause-fault : goal.returns-in_default-clause-fault
 returns-in_default-clause-fault c = search rules

@@ -1,10 +1,10 @@
 use Rattle.std.proofs.Common.{length, map}
 use Rattle.perfdata_simpleperf.specs.FileRecord.{record_value}
-use Rattle.perfdata_simpleperf.specs.Pieces.{PiecesAt}
-use Rattle.perfdata_simpleperf.proofs.simpleperf.pieces.read_pieces.Given as goal
+use Rattle.perfdata_simpleperf.specs.Chunks.{ChunksAt}
+use Rattle.perfdata_simpleperf.proofs.simpleperf.chunks.parse_chunks.Given as goal
 
-abbrev pub invariant-pieces : goal.invariant-pieces
-invariant-pieces g l = PiecesAt l.endian (g.S.Spelling.spells l.endian) l.bytes (map record_value l.records.items) l.rest
+abbrev pub invariant-chunks : goal.invariant-chunks
+invariant-chunks g l = ChunksAt l.endian (g.S.ChunkFormat.decodes_to l.endian) l.bytes (map record_value l.records.items) l.rest
 
-abbrev pub decreases-pieces : goal.decreases-pieces
-decreases-pieces g l = length l.rest
+abbrev pub decreases-chunks : goal.decreases-chunks
+decreases-chunks g l = length l.rest

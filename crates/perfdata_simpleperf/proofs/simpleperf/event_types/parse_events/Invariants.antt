@@ -2,7 +2,7 @@ use Rattle.std.proofs.Common.{◌≡◌}
 use Rattle.std.specs.Str.Iter.{split_steps}
 use Rattle.std.specs.Str.Pattern.{FindsChar}
 use Rattle.perfdata_simpleperf.proofs.EventLines.{EventsSoFar}
-use Rattle.perfdata_simpleperf.proofs.simpleperf.event_types.events_of.Given as goal
+use Rattle.perfdata_simpleperf.proofs.simpleperf.event_types.parse_events.Given as goal
 
 abbrev pub invariant-lines : goal.invariant-lines
 invariant-lines l = record {

@@ -1,8 +1,8 @@
 use Rattle.perfdata_simpleperf.proofs.File2.{only_messages, first_message}
 use Rattle.perfdata_simpleperf.proofs.simpleperf.file2.parse_file2_section.Goals as goal
 
-pub returns-clause-only : goal.returns-clause-only
-returns-clause-only c = only_messages _ _ _ c.read_pieces.ensures.found c.read_pieces.ensures.fault
+pub returns-clause-no_other : goal.returns-clause-no_other
+returns-clause-no_other c = only_messages _ _ _ c.parse_chunks.ensures.found c.parse_chunks.ensures.fault
 
-pub returns-clause-first : goal.returns-clause-first
-returns-clause-first c = first_message _ _ _ c.read_pieces.ensures.found c.read_pieces.ensures.fault
+pub returns-clause-first_error : goal.returns-clause-first_error
+returns-clause-first_error c = first_message _ _ _ c.parse_chunks.ensures.found c.parse_chunks.ensures.fault

@@ -1,18 +1,18 @@
 use Rattle.std.proofs.Common.{◌≡◌, ◌⊎◌, IfOk, IfErr, sym, subst}
 use Rattle.std.specs.IoError.{error_kind}
 use Rattle.std.specs.declared.io.ErrorKind.TheVariants.{OutOfMemory}
-use Rattle.perfdata_base.specs.Numbers.{number_in}
+use Rattle.perfdata_base.specs.Endian.{number_in}
 use Rattle.perfdata_base.specs.declared.raw.Endianness.{Endianness}
 use Rattle.perfdata_simpleperf.specs.FileRecord.{record_value}
-use Rattle.perfdata_simpleperf.specs.FileV1.{IsV1, V1Fault}
-use Rattle.perfdata_simpleperf.proofs.simpleperf.file_section.decode_in.Goals as goal
+use Rattle.perfdata_simpleperf.specs.FileV1.{IsV1, V1Error}
+use Rattle.perfdata_simpleperf.proofs.simpleperf.file_section.decode_v1_in.Goals as goal
 
 pub returns-in-LittleEndian-clause-found : goal.returns-in-LittleEndian-clause-found
 returns-in-LittleEndian-clause-found c = subst (λ (o : Endianness). IfOk c.decode_v1.result (λ r. IsV1 (number_in o) c.args.bytes.now (record_value r))) (sym c.in-LittleEndian.is) c.decode_v1.ensures.found
 
 pub returns-in-LittleEndian-clause-fault : goal.returns-in-LittleEndian-clause-fault
 returns-in-LittleEndian-clause-fault c =
-    subst (λ (o : Endianness). IfErr c.decode_v1.result (λ e. (error_kind e ≡ OutOfMemory) ⊎ V1Fault (number_in o) c.args.bytes.now (error_kind e))) (sym c.in-LittleEndian.is) c.decode_v1.ensures.fault
+    subst (λ (o : Endianness). IfErr c.decode_v1.result (λ e. (error_kind e ≡ OutOfMemory) ⊎ V1Error (number_in o) c.args.bytes.now (error_kind e))) (sym c.in-LittleEndian.is) c.decode_v1.ensures.fault
 
 pub returns-in-BigEndian-clause-found : goal.returns-in-BigEndian-clause-found
 returns-in-BigEndian-clause-found c =
@@ -20,4 +20,4 @@ returns-in-BigEndian-clause-found c =
 
 pub returns-in-BigEndian-clause-fault : goal.returns-in-BigEndian-clause-fault
 returns-in-BigEndian-clause-fault c =
-    subst (λ (o : Endianness). IfErr c.decode_v1-in-BigEndian.result (λ e. (error_kind e ≡ OutOfMemory) ⊎ V1Fault (number_in o) c.args.bytes.now (error_kind e))) (sym c.in-BigEndian.is) c.decode_v1-in-BigEndian.ensures.fault
+    subst (λ (o : Endianness). IfErr c.decode_v1-in-BigEndian.result (λ e. (error_kind e ≡ OutOfMemory) ⊎ V1Error (number_in o) c.args.bytes.now (error_kind e))) (sym c.in-BigEndian.is) c.decode_v1-in-BigEndian.ensures.fault

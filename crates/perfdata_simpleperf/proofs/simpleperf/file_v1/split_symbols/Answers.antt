@@ -2,14 +2,14 @@ use Rattle.std.proofs.Common.{arith, map}
 use Rattle.std.specs.IoError.{error_kind}
 use Rattle.std.proofs.lemmas.List.{length-map}
 use Rattle.perfdata_simpleperf.specs.FileRecord.{symbol_value}
-use Rattle.perfdata_simpleperf.specs.FileV1.{SymbolAt, SymbolFault}
+use Rattle.perfdata_simpleperf.specs.FileV1.{SymbolAt, SymbolError}
 use Rattle.perfdata_simpleperf.proofs.V1Parts.{length_more, many_more, counted, counted_stop}
-use Rattle.perfdata_simpleperf.proofs.simpleperf.file_v1.symbols_at.Goals as goal
+use Rattle.perfdata_simpleperf.proofs.simpleperf.file_v1.split_symbols.Goals as goal
 
 pub returns-in-Err-clause-fault : goal.returns-in-Err-clause-fault
 returns-in-Err-clause-fault g c =
     let number = g.T.ByteOrder.number_of in
-    counted_stop (SymbolAt number) number (SymbolFault number) c.args.bytes.now c.in_ok-count.start.now c.symbols.rest.now c.in_ok-count.count (map symbol_value c.symbols.symbols.items) (error_kind c.in-Err.error)
+    counted_stop (SymbolAt number) number (SymbolError number) c.args.bytes.now c.in_ok-count.start.now c.symbols.rest.now c.in_ok-count.count (map symbol_value c.symbols.symbols.items) (error_kind c.in-Err.error)
     c.in_ok-count.ensures.found (omega (arith, length-map c.symbols.symbols.items symbol_value, c.symbols.invariant.long)) c.symbols.invariant.are c.in-Err.ensures.fault
 
 pub symbols-preserved : goal.symbols-preserved

@@ -1,5 +1,5 @@
 use Rattle.perfdata_simpleperf.proofs.MetaPairs.{pair_put}
-use Rattle.perfdata_simpleperf.proofs.simpleperf.meta_info.put_pair.Goals as goal
+use Rattle.perfdata_simpleperf.proofs.simpleperf.meta_info.insert_pair.Goals as goal
 
 pub returns-in-Ok : goal.returns-in-Ok
 returns-in-Ok c = (

@@ -1,16 +1,16 @@
 use Rattle.std.proofs.Common.{subst, sym}
-use Rattle.perfdata_simpleperf.specs.Pairs.{pairs_left}
-use Rattle.perfdata_simpleperf.proofs.MetaPairs.{PairsSoFar, pairs_none, pairs_more, pairs_refused, pairs_whole}
+use Rattle.perfdata_simpleperf.specs.MetaInfoPairs.{remaining_pairs}
+use Rattle.perfdata_simpleperf.proofs.MetaPairs.{PairsSoFar, pairs_none, pairs_more, pairs_error, pairs_whole}
 use Rattle.perfdata_simpleperf.proofs.simpleperf.meta_info.parse_meta_info_map.Goals as goal
 
 pub pairs-init : goal.pairs-init
-pairs-init c = subst (λ pairs. PairsSoFar c.args.bytes.now c.new-map.result (pairs_left pairs)) (sym c.into_iter-key-iterator.ensures.into_iter_gives) (pairs_none c.args.bytes.now c.new-map.result c.new-map.ensures.empty)
+pairs-init c = subst (λ pairs. PairsSoFar c.args.bytes.now c.new-map.result (remaining_pairs pairs)) (sym c.into_iter-key-iterator.ensures.into_iter_gives) (pairs_none c.args.bytes.now c.new-map.result c.new-map.ensures.empty)
 
 pub pairs-preserved : goal.pairs-preserved
-pairs-preserved c = pairs_more c.args.bytes.now c.pairs.map c.put_pair.new.map _ _ (c.in-Some.key.now, c.in-Some.value.now) c.pairs.invariant c.in-Some.ensures.steps c.in-Ok.ensures
+pairs-preserved c = pairs_more c.args.bytes.now c.pairs.map c.insert_pair.new.map _ _ (c.in-Some.key.now, c.in-Some.value.now) c.pairs.invariant c.in-Some.ensures.steps c.in-Ok.ensures
 
 pub returns-in-Err : goal.returns-in-Err
-returns-in-Err c = pairs_refused c.args.bytes.now c.pairs.map c.put_pair.new.map _ _ (c.in-Some.key.now, c.in-Some.value.now) c.in-Err.error c.pairs.invariant c.in-Some.ensures.steps c.in-Err.ensures
+returns-in-Err c = pairs_error c.args.bytes.now c.pairs.map c.insert_pair.new.map _ _ (c.in-Some.key.now, c.in-Some.value.now) c.in-Err.error c.pairs.invariant c.in-Some.ensures.steps c.in-Err.ensures
 
 pub returns : goal.returns
 returns c = pairs_whole c.args.bytes.now c.pairs.map _ c.pairs.invariant c.in-None.ensures.steps.0

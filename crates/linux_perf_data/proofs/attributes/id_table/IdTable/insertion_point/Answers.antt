@@ -1,7 +1,7 @@
 use Rattle.std.proofs.Common.{◌+◌, ◌-◌, ◌/◌, ◌<◌, ◌≤◌, ap, arith}
-use Rattle.linux_perf_data.specs.Pairs.{key_at}
-use Rattle.linux_perf_data.proofs.Ids.{pair_there, halved_up, halved_down, halved_place}
-use Rattle.linux_perf_data.proofs.id_table.IdTable.place_of.Goals as goal
+use Rattle.linux_perf_data.specs.IdPairs.{key_at}
+use Rattle.linux_perf_data.proofs.IdPairLemmas.{pair_there, bisected_up, bisected_down, bisected_insertion_point}
+use Rattle.linux_perf_data.proofs.attributes.id_table.IdTable.insertion_point.Goals as goal
 
 pub halving-preserved-then-key-id : goal.halving-preserved-then-key-id
 halving-preserved-then-key-id c =
@@ -12,7 +12,7 @@ halving-preserved-then-key-id c =
     let within = c.halving.invariant.within in
     let key = ap (λ p. p.0) (pair_there ps m c.index.result.now (omega arith) c.index.ensures) in
     let low : key_at ps m < c.args.id = (let less = c.if-key-id.true in omega (arith, key, less)) in
-    halved_up ps c.args.id c.halving.low c.halving.high m table.ascending (omega arith) (omega arith) low c.halving.invariant
+    bisected_up ps c.args.id c.halving.low c.halving.high m table.ascending (omega arith) (omega arith) low c.halving.invariant
 
 pub halving-preserved : goal.halving-preserved
 halving-preserved c =
@@ -23,7 +23,7 @@ halving-preserved c =
     let within = c.halving.invariant.within in
     let key = ap (λ p. p.0) (pair_there ps m c.index.result.now (omega arith) c.index.ensures) in
     let high : c.args.id ≤ key_at ps m = (let more = c.if-key-id.false in omega (arith, key, more)) in
-    halved_down ps c.args.id c.halving.low c.halving.high m table.ascending (omega arith) (omega arith) high c.halving.invariant
+    bisected_down ps c.args.id c.halving.low c.halving.high m table.ascending (omega arith) (omega arith) high c.halving.invariant
 
 pub returns : goal.returns
-returns c = halved_place c.args.self.now.pairs.items c.args.id c.halving.low c.halving.high c.halving-test.false c.halving.invariant
+returns c = bisected_insertion_point c.args.self.now.pairs.items c.args.id c.halving.low c.halving.high c.halving-test.false c.halving.invariant

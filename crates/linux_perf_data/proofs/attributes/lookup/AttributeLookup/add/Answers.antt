@@ -1,8 +1,8 @@
 use Rattle.std.proofs.Common.{◌≡◌, ◌∙◌, ◌++◌, ◌∷◌, [], length, ap, refl, inr, rules}
-use Rattle.perfdata_base.specs.Place.{places_of}
+use Rattle.perfdata_base.specs.ParseInfo.{parse_info_of}
 use Rattle.linux_perf_data.specs.Attribute.{Attribute}
-use Rattle.linux_perf_data.proofs.KnownMore.{knows_more}
-use Rattle.linux_perf_data.proofs.known.Known.add.Goals as goal
+use Rattle.linux_perf_data.proofs.LookupGrowth.{represents_more}
+use Rattle.linux_perf_data.proofs.attributes.lookup.AttributeLookup.add.Goals as goal
 
 pub returns-in-Err : goal.returns-in-Err
 returns-in-Err c =
@@ -14,7 +14,7 @@ returns c = λ attrs k.
     let old = c.args.self.now in
     let a : Attribute = record { attr = c.args.attr.now; ids = c.args.ids.now } in
     let n = c.len-index.result in
-    let count : n ≡ length old.places.items = search rules in
-    let pushed : c.push.new.self.items ≡ old.places.items ++ c.new.result ∷ [] = c.in-Ok-push.ensures.items in
-    let places : c.push.new.self.items ≡ old.places.items ++ places_of c.args.attr.now c.args.endian ∷ [] = pushed ∙ ap (λ p. old.places.items ++ p ∷ []) c.new.ensures in
-    knows_more c.args.endian old _ attrs a n k (c.in-Ok.ensures c.args.endian c.args.ids.now attrs k) count refl places c.unidentified_with-self.ensures c.in-Ok-insert_all.ensures c.clear.ensures
+    let count : n ≡ length old.parse_infos.items = search rules in
+    let pushed : c.push.new.self.items ≡ old.parse_infos.items ++ c.new.result ∷ [] = c.in-Ok-push.ensures.items in
+    let places : c.push.new.self.items ≡ old.parse_infos.items ++ parse_info_of c.args.attr.now c.args.endian ∷ [] = pushed ∙ ap (λ p. old.parse_infos.items ++ p ∷ []) c.new.ensures in
+    represents_more c.args.endian old _ attrs a n k (c.in-Ok.ensures c.args.endian c.args.ids.now attrs k) count refl places c.first_without_identifier_with-self.ensures c.in-Ok-insert_all.ensures c.clear.ensures

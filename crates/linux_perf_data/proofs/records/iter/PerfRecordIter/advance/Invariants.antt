@@ -1,14 +1,14 @@
 use Rattle.std.proofs.Common.{◌≡◌, ◌-◌, ◌^◌}
-use Rattle.linux_perf_data.proofs.Iters.{Idles}
-use Rattle.linux_perf_data.proofs.iter.PerfRecordIter.advance.Given as goal
+use Rattle.linux_perf_data.proofs.IterCalls.{Idles}
+use Rattle.linux_perf_data.proofs.records.iter.PerfRecordIter.advance.Given as goal
 
-abbrev pub invariant-pieces : goal.invariant-pieces
-invariant-pieces g l = record {
-  idles : Idles g.R.Source.seen l.fn.self l.self;
-  pauses : (g.R.Source.seen l.self.source).pauses ≡ (g.R.Source.seen l.fn.self.source).pauses;
-  lent : g.R.Source.lent l.self.source ≡ g.R.Source.lent l.fn.self.source;
+abbrev pub invariant-raw_records : goal.invariant-raw_records
+invariant-raw_records g l = record {
+  idles : Idles g.R.Source.state l.fn.self l.self;
+  pauses : (g.R.Source.state l.self.source).pauses ≡ (g.R.Source.state l.fn.self.source).pauses;
+  lent : g.R.Source.loan l.self.source ≡ g.R.Source.loan l.fn.self.source;
   file : l.file ≡ l.fn.file;
 }
 
-abbrev pub decreases-pieces : goal.decreases-pieces
-decreases-pieces g l = 2 ^ 64 - l.self.offset
+abbrev pub decreases-raw_records : goal.decreases-raw_records
+decreases-raw_records g l = 2 ^ 64 - l.self.offset

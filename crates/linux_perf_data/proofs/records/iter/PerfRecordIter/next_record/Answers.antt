@@ -1,5 +1,5 @@
 use Rattle.std.proofs.Common.{rules}
-use Rattle.linux_perf_data.proofs.iter.PerfRecordIter.next_record.Goals as goal
+use Rattle.linux_perf_data.proofs.records.iter.PerfRecordIter.next_record.Goals as goal
 
 pub returns-in-Ok-Some : goal.returns-in-Ok-Some
 returns-in-Ok-Some g c = search rules

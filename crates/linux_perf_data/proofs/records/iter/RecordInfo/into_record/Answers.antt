@@ -1,8 +1,8 @@
 use Rattle.std.proofs.Common.{refl}
-use Rattle.linux_perf_data.proofs.iter.Found.with_body.Goals as goal
+use Rattle.linux_perf_data.proofs.records.iter.RecordInfo.into_record.Goals as goal
 
 pub returns-in-Kernel : goal.returns-in-Kernel
 returns-in-Kernel c = rw c.in-Kernel.is refl
 
-pub returns-in-Tool : goal.returns-in-Tool
-returns-in-Tool c = rw c.in-Tool.is refl
+pub returns-in-User : goal.returns-in-User
+returns-in-User c = rw c.in-User.is refl

@@ -1,5 +1,5 @@
 use Rattle.std.proofs.Common.{rules}
 use Rattle.perfdata_base.proofs.place.id_cache.IdCache.put.Goals as goal
 
-pub returns-clause-put : goal.returns-clause-put
-returns-clause-put c = search rules
+pub returns-clause-stored : goal.returns-clause-stored
+returns-clause-stored c = search rules

@@ -1,6 +1,6 @@
 use Rattle.std.proofs.Common.{arith}
 use Rattle.std.proofs.lemmas.Grind.{common_steps}
-use Rattle.perfdata_base.proofs.source.counted_buffer.CountedBufferSource.take_at_hand.Goals as goal
+use Rattle.perfdata_base.proofs.source.counted_buffer.CountedBufferSource.read_buffered.Goals as goal
 
-pub returns-clause-draws : goal.returns-clause-draws
-returns-clause-draws g c = grind (arith, common_steps)
+pub returns-clause-takes_from_buffer : goal.returns-clause-takes_from_buffer
+returns-clause-takes_from_buffer g c = grind (arith, common_steps)

@@ -1,10 +1,10 @@
 use Rattle.std.proofs.Common.{◌≡◌, ℕ, ◌-◌, take, drop, length, rules, arith, ap, ◌∙◌, take_all, length-drop}
-use Rattle.perfdata_sections.specs.declared.feature_sections.numbers.CompressionInfo.{CompressionInfo}
-use Rattle.perfdata_sections.proofs.feature_sections.numbers.CompressionInfo.parse_from.Goals as goal
+use Rattle.perfdata_sections.specs.declared.feature_sections.number_sections.CompressionInfo.{CompressionInfo}
+use Rattle.perfdata_sections.proofs.feature_sections.number_sections.CompressionInfo.parse_from.Goals as goal
 
 pub returns-clause-parses : goal.returns-clause-parses
 returns-clause-parses g c =
-    let bytes = c.read_all.new.place in
+    let bytes = c.read_exact.new.buf in
     let number = g.T.ByteOrder.number_of 4 in
     let told : ℕ → ℕ → ℕ → ℕ → ℕ → CompressionInfo = λ version kind level ratio long. record { version = version; type_ = kind; level = level; ratio = ratio; mmap_len = long } in
     let long : length bytes ≡ 20 = search rules in
@@ -15,8 +15,8 @@ returns-clause-parses g c =
     let last = c.read_u32-5.result in
     record {
       bytes = bytes;
-      gave = c.in_ok-read_all.ensures.reads;
-      is = (
+      consumes = c.in_ok-read_exact.ensures.reads;
+      matches = (
         long,
         ap (λ n. told n c.read_u32-2.result level ratio last) c.read_u32.ensures
             ∙ ap (λ n. told (number bytes) n level ratio last) (c.read_u32-2.ensures ∙ ap number (back 4))

@@ -1,0 +1,6 @@
+//! Attributes, their names, and the lookup of an attribute by an identifier.
+pub(crate) mod consistency;
+pub(crate) mod id_table;
+pub(crate) mod lookup;
+pub(crate) mod name_table;
+pub(crate) mod names;

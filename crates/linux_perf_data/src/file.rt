@@ -1,0 +1,3 @@
+//! Opening a file.
+pub(crate) mod feature_data;
+pub(crate) mod opening;
