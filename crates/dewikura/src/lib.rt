@@ -32,84 +32,84 @@ fn endian_of(is_big_endian: u32) -> Endianness
 #[unsafe(no_mangle)]
 pub extern "C" fn dewikura_file_records(
     alloc: Global,
-    bytes: &[u8],
-    first: u64,
+    input: &[u8],
+    start: u64,
     entries: &mut [Record],
-    total: &mut u64,
+    count: &mut u64,
 ) -> u32
-    ensures { ReadsFileRecords bytes.now first entries.old (record { count = total.new; status = result }) entries.new }
+    ensures { ReadsFileRecords input.now start entries.old (record { count = count.new; status = result }) entries.new }
 {
-    let written = records::file_records(alloc, bytes, first, entries);
-    *total = written.count;
-    written.status
+    let outcome = records::file_records(alloc, input, start, entries);
+    *count = outcome.count;
+    outcome.status
 }
 
 /// Reads the records of a perf.data pipe, as `records::pipe_records` does.
 #[unsafe(no_mangle)]
 pub extern "C" fn dewikura_pipe_records(
     alloc: Global,
-    bytes: &[u8],
-    first: u64,
+    input: &[u8],
+    start: u64,
     entries: &mut [Record],
-    total: &mut u64,
+    count: &mut u64,
 ) -> u32
-    ensures { ReadsPipeRecords bytes.now first entries.old (record { count = total.new; status = result }) entries.new }
+    ensures { ReadsPipeRecords input.now start entries.old (record { count = count.new; status = result }) entries.new }
 {
-    let written = records::pipe_records(alloc, bytes, first, entries);
-    *total = written.count;
-    written.status
+    let outcome = records::pipe_records(alloc, input, start, entries);
+    *count = outcome.count;
+    outcome.status
 }
 
 /// Reads the bytes of a feature of a perf.data file, as `features::file_feature` does.
 #[unsafe(no_mangle)]
 pub extern "C" fn dewikura_file_feature(
     alloc: Global,
-    bytes: &[u8],
+    input: &[u8],
     feature: u32,
-    place: &mut [u8],
-    has: &mut u8,
-    size: &mut u64,
+    buf: &mut [u8],
+    is_present: &mut u8,
+    feature_size: &mut u64,
 ) -> u32
-    ensures { ReadsFileFeature bytes.now feature place.old (record { size = size.new; is_present = has.new; status = result }) place.new }
+    ensures { ReadsFileFeature input.now feature buf.old (record { size = feature_size.new; is_present = is_present.new; status = result }) buf.new }
 {
-    let written = features::file_feature(alloc, bytes, feature, place);
-    *has = written.is_present;
-    *size = written.size;
-    written.status
+    let outcome = features::file_feature(alloc, input, feature, buf);
+    *is_present = outcome.is_present;
+    *feature_size = outcome.size;
+    outcome.status
 }
 
 /// Reads the bytes of a feature of a perf.data pipe, as `features::pipe_feature` does.
 #[unsafe(no_mangle)]
 pub extern "C" fn dewikura_pipe_feature(
     alloc: Global,
-    bytes: &[u8],
+    input: &[u8],
     feature: u32,
-    place: &mut [u8],
-    has: &mut u8,
-    size: &mut u64,
+    buf: &mut [u8],
+    is_present: &mut u8,
+    feature_size: &mut u64,
 ) -> u32
-    ensures { ReadsPipeFeature bytes.now feature place.old (record { size = size.new; is_present = has.new; status = result }) place.new }
+    ensures { ReadsPipeFeature input.now feature buf.old (record { size = feature_size.new; is_present = is_present.new; status = result }) buf.new }
 {
-    let written = features::pipe_feature(alloc, bytes, feature, place);
-    *has = written.is_present;
-    *size = written.size;
-    written.status
+    let outcome = features::pipe_feature(alloc, input, feature, buf);
+    *is_present = outcome.is_present;
+    *feature_size = outcome.size;
+    outcome.status
 }
 
 /// Reads the attributes of a perf.data file, as `file_attrs` does.
 #[unsafe(no_mangle)]
 pub extern "C" fn dewikura_file_attributes(
     alloc: Global,
-    bytes: &[u8],
+    input: &[u8],
     entries: &mut [Attr],
     names: &mut [u8],
     ids: &mut [u64],
     totals: &mut AttrTotals,
 ) -> u32
-    ensures writes { ReadsFileAttrs bytes.now entries.old names.old ids.old totals.new entries.new names.new ids.new }
+    ensures writes { ReadsFileAttrs input.now entries.old names.old ids.old totals.new entries.new names.new ids.new }
     ensures status { result ≡ totals.new.status }
 {
-    *totals = attrs::file_attrs(alloc, bytes, entries, names, ids);
+    *totals = attrs::file_attrs(alloc, input, entries, names, ids);
     totals.status
 }
 
@@ -117,16 +117,16 @@ pub extern "C" fn dewikura_file_attributes(
 #[unsafe(no_mangle)]
 pub extern "C" fn dewikura_pipe_attributes(
     alloc: Global,
-    bytes: &[u8],
+    input: &[u8],
     entries: &mut [Attr],
     names: &mut [u8],
     ids: &mut [u64],
     totals: &mut AttrTotals,
 ) -> u32
-    ensures writes { ReadsPipeAttrs bytes.now entries.old names.old ids.old totals.new entries.new names.new ids.new }
+    ensures writes { ReadsPipeAttrs input.now entries.old names.old ids.old totals.new entries.new names.new ids.new }
     ensures status { result ≡ totals.new.status }
 {
-    *totals = attrs::pipe_attrs(alloc, bytes, entries, names, ids);
+    *totals = attrs::pipe_attrs(alloc, input, entries, names, ids);
     totals.status
 }
 
@@ -136,43 +136,43 @@ pub extern "C" fn dewikura_build_id(
     alloc: Global,
     section: &[u8],
     is_big_endian: u32,
-    at: u64,
+    offset: u64,
     entry: &mut BuildId,
 ) -> u32
-    ensures { ReadsBuildId (endian_from is_big_endian) section.now at entry.old result entry.new }
+    ensures { ReadsBuildId (endian_from is_big_endian) section.now offset entry.old result entry.new }
 {
-    build_ids::build_id_at(alloc, endian_of(is_big_endian), section, at, entry)
+    build_ids::build_id_at(alloc, endian_of(is_big_endian), section, offset, entry)
 }
 
 /// Reads the header of a jitdump, as `jit::jit_header` does.
 #[unsafe(no_mangle)]
-pub extern "C" fn dewikura_jit_header(bytes: &[u8], header: &mut JitHeader) -> u32
-    ensures { ReadsJitHeader bytes.now header.old result header.new }
+pub extern "C" fn dewikura_jit_header(input: &[u8], header: &mut JitHeader) -> u32
+    ensures { ReadsJitHeader input.now header.old result header.new }
 {
-    jit::jit_header(bytes, header)
+    jit::jit_header(input, header)
 }
 
 /// Reads the records of a jitdump, as `jit::jit_records` does.
 #[unsafe(no_mangle)]
 pub extern "C" fn dewikura_jit_records(
-    bytes: &[u8],
-    from: u64,
+    input: &[u8],
+    start_offset: u64,
     entries: &mut [JitRecord],
     count: &mut u64,
-    next: &mut u64,
+    next_offset: &mut u64,
 ) -> u32
-    ensures { ReadsJitRecords bytes.now from entries.old (record { count = count.new; next_offset = next.new; status = result }) entries.new }
+    ensures { ReadsJitRecords input.now start_offset entries.old (record { count = count.new; next_offset = next_offset.new; status = result }) entries.new }
 {
-    let written = jit::jit_records(bytes, from, entries);
-    *count = written.count;
-    *next = written.next_offset;
-    written.status
+    let outcome = jit::jit_records(input, start_offset, entries);
+    *count = outcome.count;
+    *next_offset = outcome.next_offset;
+    outcome.status
 }
 
 /// Reads a load record of a jitdump, as `jit::jit_load` does.
 #[unsafe(no_mangle)]
-pub extern "C" fn dewikura_jit_load(bytes: &[u8], at: u64, load: &mut JitLoad) -> u32
-    ensures { ReadsJitLoad bytes.now at load.old result load.new }
+pub extern "C" fn dewikura_jit_load(input: &[u8], offset: u64, load: &mut JitLoad) -> u32
+    ensures { ReadsJitLoad input.now offset load.old result load.new }
 {
-    jit::jit_load(bytes, at, load)
+    jit::jit_load(input, offset, load)
 }

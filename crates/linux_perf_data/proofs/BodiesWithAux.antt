@@ -1,6 +1,6 @@
 -- Reading the body of a record and its aux data.
 use Rattle.std.proofs.Common.{◌≡◌, ℕ, ◌+◌, ◌-◌, ◌≤◌, ◌++◌, List, [], length, sym, ap, ◌∙◌, subst, arith, inl, inr, length-append}
-use Rattle.perfdata_base.specs.Source.{State, Consumed}
+use Rattle.perfdata_base.specs.Source.{State, Consumed, AppendedExactly}
 use Rattle.perfdata_base.proofs.ConsumedLemmas.{consumed_more, failed_later, consumed_none_later}
 use Rattle.perfdata_base.specs.Endian.{number_in}
 use Rattle.perfdata_base.proofs.Numbers.{number_front}
@@ -8,26 +8,26 @@ use Rattle.perfdata_base.specs.declared.raw.Endianness.{Endianness}
 use Rattle.perfdata_base.specs.declared.event.PerfEventHeader.{PerfEventHeader}
 use Rattle.perfdata_sections.specs.declared.error.Error.{Error}
 use Rattle.linux_perf_data.specs.Layout.{IsCompressed}
-use Rattle.linux_perf_data.specs.RecordFraming.{BytesRead, BytesAppended, AuxDataRead, AuxDataError, BodyRead, BodyErrorCause, BodyPartlyRead}
+use Rattle.linux_perf_data.specs.RecordFraming.{BytesRead, AuxDataRead, AuxDataError, BodyRead, BodyErrorCause, BodyPartlyRead}
 
 -- a buffer that was empty contains exactly the bytes read
-kept_alone : (a b : State) (held body : List ℕ) (count : ℕ) → held ≡ [] → BytesAppended a held count body b → BytesRead a count body b
+kept_alone : (a b : State) (held body : List ℕ) (count : ℕ) → held ≡ [] → AppendedExactly a held count body b → BytesRead a count body b
 kept_alone a b held body count empty k =
     let is : body ≡ k.bytes = k.buffer_content ∙ ap (λ l. l ++ k.bytes) empty in
-    record { exact_len = ap length is ∙ k.bytes_read.exact_len; consumes = subst (λ l. Consumed a l b) (sym is) k.bytes_read.consumes }
+    record { exact_len = ap length is ∙ k.exact_len; consumes = subst (λ l. Consumed a l b) (sym is) k.consumes }
 
 traced_whole : (order : Endianness) (a b c : State) (head : PerfEventHeader) (body now : List ℕ) (end whole : ℕ) → 8 ≤ head.size → ¬ IsCompressed head.type_ → head.type_ ≡ 71
     → BytesRead a (head.size - 8) body b → AuxDataRead order b body end whole now c → BodyRead order a head end whole now c
 traced_whole order a b c head body now end whole least plain kind took t =
-    let k = t.bytes_appended in
+    let k = t.appended in
     let number : number_in order 8 now ≡ number_in order 8 body = ap (number_in order 8) k.buffer_content ∙ number_front order 8 body k.bytes (let l = t.min_size in omega arith) in
     let long : length now ≡ length body + length k.bytes = ap length k.buffer_content ∙ length-append body k.bytes in
     let body_long = took.exact_len in
-    let trace_long = k.bytes_read.exact_len in
+    let trace_long = k.exact_len in
     let ends = t.end_offset in
     let enough = t.min_size in
     record {
-      consumes = subst (λ l. Consumed a l c) (sym k.buffer_content) (consumed_more a b c body k.bytes took.consumes k.bytes_read.consumes);
+      consumes = subst (λ l. Consumed a l c) (sym k.buffer_content) (consumed_more a b c body k.bytes took.consumes k.consumes);
       not_compressed = plain;
       if_not_auxtrace = λ other. absurd (other kind);
       if_auxtrace = λ _. (omega (arith, enough, body_long), omega (arith, long, body_long, trace_long, number), omega (arith, ends, number));
@@ -54,14 +54,14 @@ traced_refused order a b c head body now end e least kind took (inr (inl (is, en
     }
 traced_refused order a b c head body now end e least kind took (inr (inr (enough, fits, part, why))) =
     let long = took.exact_len in
-    let came = body ++ part.consumed_bytes in
-    let came_long : length came ≡ length body + length part.consumed_bytes = length-append body part.consumed_bytes in
-    let number : number_in order 8 came ≡ number_in order 8 body = number_front order 8 body part.consumed_bytes (omega (arith, enough)) in
-    let less = part.too_few in
+    let came = body ++ part.partial_read.consumed_bytes in
+    let came_long : length came ≡ length body + length part.partial_read.consumed_bytes = length-append body part.partial_read.consumed_bytes in
+    let number : number_in order 8 came ≡ number_in order 8 body = number_front order 8 body part.partial_read.consumed_bytes (omega (arith, enough)) in
+    let less = part.partial_read.too_few in
     let bound = part.buffer_bound in
     record {
       consumed_bytes = came;
-      consumes = consumed_more a b c body part.consumed_bytes took.consumes part.consumes;
+      consumes = consumed_more a b c body part.partial_read.consumed_bytes took.consumes part.partial_read.consumes;
       buffer_bound = omega (arith, came_long, bound);
       cause = elim why [
         | inl memory ↦ inl (
@@ -86,10 +86,10 @@ traced_refused order a b c head body now end e least kind took (inr (inr (enough
 
 -- the body of a record with aux data, and the aux data after it
 pub content_auxtrace : (order : Endianness) (a b c : State) (head : PerfEventHeader) (held body now : List ℕ) (end whole : ℕ) → held ≡ [] → 8 ≤ head.size → ¬ IsCompressed head.type_ → head.type_ ≡ 71
-    → BytesAppended a held (head.size - 8) body b → AuxDataRead order b body end whole now c → BodyRead order a head end whole now c
+    → AppendedExactly a held (head.size - 8) body b → AuxDataRead order b body end whole now c → BodyRead order a head end whole now c
 content_auxtrace order a b c head held body now end whole empty least plain kind kept t = traced_whole order a b c head body now end whole least plain kind (kept_alone a b held body (head.size - 8) empty kept) t
 
 -- the body is read, and reading its aux data fails
 pub content_not_auxtrace : (order : Endianness) (a b c : State) (head : PerfEventHeader) (held body now : List ℕ) (end : ℕ) (e : Error) → held ≡ [] → 8 ≤ head.size → head.type_ ≡ 71
-    → BytesAppended a held (head.size - 8) body b → AuxDataError order b body end e now c → BodyPartlyRead a e now c (BodyErrorCause order a head end e c)
+    → AppendedExactly a held (head.size - 8) body b → AuxDataError order b body end e now c → BodyPartlyRead a e now c (BodyErrorCause order a head end e c)
 content_not_auxtrace order a b c head held body now end e empty least kind kept t = traced_refused order a b c head body now end e least kind (kept_alone a b held body (head.size - 8) empty kept) t

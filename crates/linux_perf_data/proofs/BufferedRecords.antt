@@ -13,7 +13,7 @@ use Rattle.perfdata_base.specs.Buffered.{IsPrefixOfRemaining}
 use Rattle.perfdata_base.specs.declared.raw.Endianness.{Endianness}
 use Rattle.std.proofs.lemmas.Bool.{false≢true}
 use Rattle.perfdata_base.specs.declared.raw.Endianness.TheVariants.{LittleEndian}
-use Rattle.linux_perf_data.specs.BufferedRecord.{IsFinished, ContainsNextRecord, TestsNextBuffered, WholeRecordLength}
+use Rattle.linux_perf_data.specs.BufferedRecord.{IsFinished, IsNextBuffered, ContainsNextRecord, TestsNextBuffered, WholeRecordLength}
 use Rattle.linux_perf_data.specs.Iter.{TestsMayStart, section_size_of}
 use Rattle.linux_perf_data.specs.declared.records.iter.PerfRecordIter.{PerfRecordIter}
 use Rattle.linux_perf_data.specs.declared.records.iter.Stage.TheVariants.{Running}
@@ -193,3 +193,20 @@ module _ {R : Type 0} (state : R → State) (it : PerfRecordIter R) where
       if_finished = λ over. absurd (runs over);
       if_not_finished = λ _. (λ is. record { no_pending_header = none; contains_next = shows.0 is }, λ next. shows.1 next.contains_next);
     }
+
+  module _ (buffered : R → List ℕ) where
+    pub exact_finished : IsFinished state it → IsTrue true ↔ IsNextBuffered state buffered it
+    exact_finished over = (λ _. inl over, λ _. refl)
+
+    pub exact_pending : ¬ IsFinished state it → ¬ HasNoPendingHeader it.input → IsTrue false ↔ IsNextBuffered state buffered it
+    exact_pending runs pending = (λ is. absurd (false≢true is), λ next. elim next [ inl over ↦ absurd (runs over) | inr shows ↦ absurd (pending shows.no_pending_header) ])
+
+    pub exact_next : (answer : Bool) (bytes : List ℕ) → bytes ≡ buffered it.source → ¬ IsFinished state it → HasNoPendingHeader it.input → IsTrue answer ↔ ContainsNextRecord it.endian (section_size_of state it) it.offset bytes
+        → IsTrue answer ↔ IsNextBuffered state buffered it
+    exact_next answer bytes same runs none shows = (
+      λ is. inr (record { no_pending_header = none; contains_next = subst (ContainsNextRecord it.endian (section_size_of state it) it.offset) same (shows.0 is) }),
+      λ next. elim next [
+        | inl over ↦ absurd (runs over)
+        | inr found ↦ shows.1 (subst (ContainsNextRecord it.endian (section_size_of state it) it.offset) (sym same) found.contains_next)
+      ],
+    )

@@ -18,19 +18,19 @@ turned : (n : ℕ) → zero_groups n ++ zero_group ≡ zero_group ++ zero_groups
 turned zero = refl
 turned (suc n) = append_assoc zero_group (zero_groups n) zero_group ∙ ap (λ l. zero_group ++ l) (turned n)
 
-behind_group : (id : List ℕ) (n : ℕ) → id ++ zero_groups (suc n) ≡ (id ++ zero_groups n) ++ zero_group
-behind_group id n = ap (λ l. id ++ l) (sym (turned n)) ∙ sym (append_assoc id (zero_groups n) zero_group)
+group_last : (id : List ℕ) (n : ℕ) → id ++ zero_groups (suc n) ≡ (id ++ zero_groups n) ++ zero_group
+group_last id n = ap (λ l. id ++ l) (sym (turned n)) ∙ sym (append_assoc id (zero_groups n) zero_group)
 
 -- an ID that ends in a zero group isn't trimmed
 not_whole : (id jd : List ℕ) (n : ℕ) → (¬ IsTrue (ends_with nat_eq id zero_group)) → id ++ [] ≡ jd ++ zero_groups (suc n) → ⊥
-not_whole id jd n whole same = whole ((ends_is Decides-eqb id zero_group (ends_with nat_eq id zero_group) refl).1 (jd ++ zero_groups n) (sym (append-nil id) ∙ same ∙ behind_group jd n))
+not_whole id jd n whole same = whole ((ends_is Decides-eqb id zero_group (ends_with nat_eq id zero_group) refl).1 (jd ++ zero_groups n) (sym (append-nil id) ∙ same ∙ group_last jd n))
 
 trimmed_once : (m n : ℕ) (id jd : List ℕ) → (¬ IsTrue (ends_with nat_eq id zero_group)) → (¬ IsTrue (ends_with nat_eq jd zero_group)) → id ++ zero_groups m ≡ jd ++ zero_groups n → id ≡ jd
 trimmed_once zero zero id jd p q same = sym (append-nil id) ∙ same ∙ append-nil jd
 trimmed_once zero (suc n) id jd p q same = absurd (not_whole id jd n p same)
 trimmed_once (suc m) zero id jd p q same = absurd (not_whole jd id m q (sym same))
 trimmed_once (suc m) (suc n) id jd p q same =
-    trimmed_once m n id jd p q (append_cancel_right (id ++ zero_groups m) (jd ++ zero_groups n) zero_group (sym (behind_group id m) ∙ same ∙ behind_group jd n))
+    trimmed_once m n id jd p q (append_cancel_right (id ++ zero_groups m) (jd ++ zero_groups n) zero_group (sym (group_last id m) ∙ same ∙ group_last jd n))
 
 -- the bytes reserved for a build ID contain one build ID
 id_by : (b : Bool) (misc : ℕ) (xs id jd : List ℕ) → is_set misc 15 ≡ b → IsBuildIdIn misc xs id → IsBuildIdIn misc xs jd → id ≡ jd
@@ -51,35 +51,35 @@ module _ (order : Endianness) where
   }
 
   -- the bytes of an entry determine its size, whatever follows it
-  size_told : (xs first behind : List ℕ) (e : BuildIdEntry) → xs ≡ first ++ behind → IsBuildIdEntry (number_in order) first e → length first ≡ entry_size (number_in order) xs
-  size_told xs first behind e cut is =
-      is.exact_len ∙ ap (λ n. 36 + (n - 36)) (sym (number_drop_front order 2 6 first behind (let head = is.has_fixed_part in omega arith)) ∙ ap (λ l. number_in order 2 (drop 6 l)) (sym cut))
+  size_by_header : (xs first after : List ℕ) (e : BuildIdEntry) → xs ≡ first ++ after → IsBuildIdEntry (number_in order) first e → length first ≡ entry_size (number_in order) xs
+  size_by_header xs first after e split is =
+      is.exact_len ∙ ap (λ n. 36 + (n - 36)) (sym (number_drop_front order 2 6 first after (let has_header = is.has_fixed_part in omega arith)) ∙ ap (λ l. number_in order 2 (drop 6 l)) (sym split))
 
   -- two entries at the start of the same bytes have the same bytes
-  front_once : (xs first behind one rest : List ℕ) (e f : BuildIdEntry) → xs ≡ first ++ behind → IsBuildIdEntry (number_in order) first e → xs ≡ one ++ rest → IsBuildIdEntry (number_in order) one f → (first ≡ one) × (behind ≡ rest)
-  front_once xs first behind one rest e f cut is cut' is' =
-      let long : length first ≡ length one = size_told xs first behind e cut is ∙ sym (size_told xs one rest f cut' is') in
-      let same : first ≡ one = sym (take-append_seam first behind) ∙ ap (take (length first)) (sym cut ∙ cut') ∙ ap (λ n. take n (one ++ rest)) long ∙ take-append_seam one rest in
-      (same, append_cancel_left first behind rest (sym cut ∙ cut' ∙ ap (λ l. l ++ rest) (sym same)))
+  front_once : (xs first after one rest : List ℕ) (e f : BuildIdEntry) → xs ≡ first ++ after → IsBuildIdEntry (number_in order) first e → xs ≡ one ++ rest → IsBuildIdEntry (number_in order) one f → (first ≡ one) × (after ≡ rest)
+  front_once xs first after one rest e f split is split' is' =
+      let long : length first ≡ length one = size_by_header xs first after e split is ∙ sym (size_by_header xs one rest f split' is') in
+      let same : first ≡ one = sym (take-append_seam first after) ∙ ap (take (length first)) (sym split ∙ split') ∙ ap (λ n. take n (one ++ rest)) long ∙ take-append_seam one rest in
+      (same, append_cancel_left first after rest (sym split ∙ split' ∙ ap (λ l. l ++ rest) (sym same)))
 
   -- an entry isn't a truncated entry
-  not_cut : (xs first behind : List ℕ) (e : BuildIdEntry) → xs ≡ first ++ behind → IsBuildIdEntry (number_in order) first e → IsTruncatedBuildIdEntry (number_in order) xs → ⊥
-  not_cut xs first behind e cut is few =
-      let long = size_told xs first behind e cut is in
-      let head = is.has_fixed_part in
-      let all : length xs ≡ length first + length behind = ap length cut ∙ length-append first behind in
-      let less : length xs < entry_size (number_in order) xs = few (omega (arith, all, head)) in
+  not_truncated : (xs first after : List ℕ) (e : BuildIdEntry) → xs ≡ first ++ after → IsBuildIdEntry (number_in order) first e → IsTruncatedBuildIdEntry (number_in order) xs → ⊥
+  not_truncated xs first after e split is few =
+      let long = size_by_header xs first after e split is in
+      let has_header = is.has_fixed_part in
+      let all : length xs ≡ length first + length after = ap length split ∙ length-append first after in
+      let less : length xs < entry_size (number_in order) xs = few (omega (arith, all, has_header)) in
       omega (arith, less, long, all)
 
   begins_once : (xs : List ℕ) (es fs : List BuildIdEntry) (r s : List ℕ) → BeginsWithEntries order xs es r → IsTruncatedBuildIdEntry (number_in order) r → BeginsWithEntries order xs fs s → IsTruncatedBuildIdEntry (number_in order) s → es ≡ fs
-  begins_once xs [] [] r s p cut q cut' = refl
-  begins_once xs [] (f ∷ fs) r s p cut (first, behind, is, entry, more) cut' = absurd (not_cut xs first behind f is entry (subst (IsTruncatedBuildIdEntry (number_in order)) (sym p) cut))
-  begins_once xs (e ∷ es) [] r s (first, behind, is, entry, more) cut q cut' = absurd (not_cut xs first behind e is entry (subst (IsTruncatedBuildIdEntry (number_in order)) (sym q) cut'))
-  begins_once xs (e ∷ es) (f ∷ fs) r s (first, behind, is, entry, more) cut (one, rest, is', entry', more') cut' =
-      let same = front_once xs first behind one rest e f is entry is' entry' in
-      let head : e ≡ f = entry_once one e f (subst (λ l. IsBuildIdEntry (number_in order) l e) same.0 entry) entry' in
-      let tail : es ≡ fs = begins_once rest es fs r s (subst (λ l. BeginsWithEntries order l es r) same.1 more) cut more' cut' in
-      ap (λ d. d ∷ es) head ∙ ap (λ l. f ∷ l) tail
+  begins_once xs [] [] r s p split q split' = refl
+  begins_once xs [] (f ∷ fs) r s p split (first, after, is, entry, more) split' = absurd (not_truncated xs first after f is entry (subst (IsTruncatedBuildIdEntry (number_in order)) (sym p) split))
+  begins_once xs (e ∷ es) [] r s (first, after, is, entry, more) split q split' = absurd (not_truncated xs first after e is entry (subst (IsTruncatedBuildIdEntry (number_in order)) (sym q) split'))
+  begins_once xs (e ∷ es) (f ∷ fs) r s (first, after, is, entry, more) split (one, rest, is', entry', more') split' =
+      let same = front_once xs first after one rest e f is entry is' entry' in
+      let has_header : e ≡ f = entry_once one e f (subst (λ l. IsBuildIdEntry (number_in order) l e) same.0 entry) entry' in
+      let tail : es ≡ fs = begins_once rest es fs r s (subst (λ l. BeginsWithEntries order l es r) same.1 more) split more' split' in
+      ap (λ d. d ∷ es) has_header ∙ ap (λ l. f ∷ l) tail
 
   pub entries_once : (xs : List ℕ) (es fs : List BuildIdEntry) → AreBuildIdEntries order xs es → AreBuildIdEntries order xs fs → es ≡ fs
-  entries_once xs es fs (r, begins, cut) (s, begins', cut') = begins_once xs es fs r s begins cut begins' cut'
+  entries_once xs es fs (r, begins, split) (s, begins', split') = begins_once xs es fs r s begins split begins' split'

@@ -35,9 +35,9 @@ one_of_all P (x ∷ ds) zero d inside is all = subst P (ap described_attribute (
 one_of_all P (x ∷ ds) (suc i) d inside is all = one_of_all P ds i d (omega (arith, inside)) is (All-tail P (described_attribute x) (described_attributes ds) all)
 
 -- the first attribute that is inconsistent
-pub inconsistent_here : (first : Attribute) (ds : List AttributeDescription) (i : ℕ) (d : AttributeDescription) (Why : Attribute → Type 0) → i < length ds → d ≡ get_or ds i d → All (ConformsTo first) (described_attributes (take i ds)) → Why (described_attribute d)
-    → FirstNonconformingAt first (described_attributes ds) i Why
-inconsistent_here first ds i d Why inside is before why =
+pub inconsistent_here : (first : Attribute) (ds : List AttributeDescription) (i : ℕ) (d : AttributeDescription) (Cause : Attribute → Type 0) → i < length ds → d ≡ get_or ds i d → All (ConformsTo first) (described_attributes (take i ds)) → Cause (described_attribute d)
+    → FirstNonconformingAt first (described_attributes ds) i Cause
+inconsistent_here first ds i d Cause inside is before reason =
     let next : suc i ≡ i + 1 = omega arith in
     let split : drop i ds ≡ d ∷ drop (i + 1) ds = drop-cons ds i d inside ∙ ap (λ x. x ∷ drop (suc i) ds) (sym is) ∙ ap (λ n. d ∷ drop n ds) next in
     let within : i ≤ length ds = omega (arith, inside) in
@@ -48,7 +48,7 @@ inconsistent_here first ds i d Why inside is before why =
       elements = ap described_attributes (sym (take-append-drop i ds) ∙ ap (λ l. take i ds ++ l) split) ∙ map-append described_attribute (take i ds) (d ∷ drop (i + 1) ds);
       index_matches = described_counted (take i ds) ∙ length-take-le i ds within;
       earlier_conform = before;
-      cause = why;
+      cause = reason;
     }
 
 -- attributes whose ID offsets agree with those of the first are consistent
@@ -58,8 +58,8 @@ agreeing_is_consistent (x ∷ ds) d some is same =
     let P = λ (b : Attribute). id_parse_info_of b.attr ≡ id_parse_info_of (described_attribute x).attr in
     All-tail P (described_attribute x) (described_attributes ds) (subst (λ y. SameIdOffsets (described_attribute y) (described_attributes (x ∷ ds))) is same)
 
-rule_agreeing : (x : AttributeDescription) (ds : List AttributeDescription) → AreConsistent (described_attributes (x ∷ ds)) → SameIdOffsets (described_attribute x) (described_attributes (x ∷ ds))
-rule_agreeing x ds rule = All-cons (λ b. id_parse_info_of b.attr ≡ id_parse_info_of (described_attribute x).attr) (described_attribute x) (described_attributes ds) refl rule
+all_agree : (x : AttributeDescription) (ds : List AttributeDescription) → AreConsistent (described_attributes (x ∷ ds)) → SameIdOffsets (described_attribute x) (described_attributes (x ∷ ds))
+all_agree x ds same_offsets = All-cons (λ b. id_parse_info_of b.attr ≡ id_parse_info_of (described_attribute x).attr) (described_attribute x) (described_attributes ds) refl same_offsets
 
 -- If the ID offsets disagree, the check of each attribute finds an inconsistency. Otherwise they would agree.
 pub disagreeing_is_inconsistent : {A : Type 0} (ds : List AttributeDescription) (d : AttributeDescription) (r : Result A Error) → 0 < length ds → d ≡ get_or ds 0 d → (¬ SameIdOffsets (described_attribute d) (described_attributes ds)) → ChecksEach (described_attribute d) (described_attributes ds) r
@@ -69,7 +69,7 @@ disagreeing_is_inconsistent [] d (Err e) some is apart each = absurd (omega (ari
 disagreeing_is_inconsistent (x ∷ ds) d (Ok _) some is apart each = conforming_is_consistent (described_attribute x) (described_attributes ds) (subst (λ y. All (ConformsTo (described_attribute y)) (described_attributes (x ∷ ds))) is each)
 disagreeing_is_inconsistent {A = A} (x ∷ ds) d (Err e) some is apart each =
     let here = subst (λ y. ChecksEach {A = A} (described_attribute y) (described_attributes (x ∷ ds)) (Err e)) is each in
-    (here.0, ((λ rule. apart (subst (λ y. SameIdOffsets (described_attribute y) (described_attributes (x ∷ ds))) (sym is) (rule_agreeing x ds rule))), here.1), here.2)
+    (here.0, ((λ same_offsets. apart (subst (λ y. SameIdOffsets (described_attribute y) (described_attributes (x ∷ ds))) (sym is) (all_agree x ds same_offsets))), here.1), here.2)
 
 pub all_taken : (P : Attribute → Type 0) (ds : List AttributeDescription) (i : ℕ) → length ds ≤ i → All P (described_attributes (take i ds)) → All P (described_attributes ds)
 all_taken P ds i done all = subst (λ l. All P (described_attributes l)) (take_past ds i done) all

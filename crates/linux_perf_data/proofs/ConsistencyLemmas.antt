@@ -12,14 +12,14 @@ use Rattle.linux_perf_data.specs.Attribute.{Attribute, AreConsistent, Inconsiste
 
 -- a prefix of consistent attributes is consistent
 pub consistent_prefix : (fs bs : List Attribute) → AreConsistent (fs ++ bs) → AreConsistent fs
-consistent_prefix [] bs rule = tt
-consistent_prefix (a ∷ fs) bs rule =
+consistent_prefix [] bs all_consistent = tt
+consistent_prefix (a ∷ fs) bs all_consistent =
     let Same = λ (b : Attribute). id_parse_info_of b.attr ≡ id_parse_info_of a.attr in
-    subst (All Same) (take-append_seam fs bs) (All-take Same (length fs) (fs ++ bs) rule)
+    subst (All Same) (take-append_seam fs bs) (All-take Same (length fs) (fs ++ bs) all_consistent)
 
 pub consistent_not_inconsistent : (attrs : List Attribute) (b : Inconsistency) → AreConsistent attrs → AreInconsistent attrs b → ⊥
-consistent_not_inconsistent [] b rule breaks = breaks
-consistent_not_inconsistent (a ∷ more) b rule breaks = breaks.0 rule
+consistent_not_inconsistent [] b all_consistent breaks = breaks
+consistent_not_inconsistent (a ∷ more) b all_consistent breaks = breaks.0 all_consistent
 
 -- The first attribute that doesn't conform is unique.
 
@@ -29,8 +29,8 @@ first_same x y xs ys e = ap (λ l. get_or l 0 x) e
 pub tail_same : {X : Type 0} (x y : X) (xs ys : List X) → x ∷ xs ≡ y ∷ ys → xs ≡ ys
 tail_same x y xs ys e = ap (drop 1) e
 
-first_one : (P : Attribute → Type 0) (front front' back back' : List Attribute) (at at' : Attribute) → front ++ at ∷ back ≡ front' ++ at' ∷ back'
-    → All P front → All P front' → ¬ P at → ¬ P at' → (length front ≡ length front') × (at ≡ at')
+first_one : (P : Attribute → Type 0) (earlier earlier' back back' : List Attribute) (at at' : Attribute) → earlier ++ at ∷ back ≡ earlier' ++ at' ∷ back'
+    → All P earlier → All P earlier' → ¬ P at → ¬ P at' → (length earlier ≡ length earlier') × (at ≡ at')
 first_one P [] [] back back' at at' e before before' bad bad' = (refl, first_same at at' back back' e)
 first_one P [] (x ∷ xs) back back' at at' e before before' bad bad' =
     absurd (bad (subst P (sym (first_same at x back (xs ++ at' ∷ back') e)) (All-head P x xs before')))
@@ -86,44 +86,44 @@ none_or_some n e = cc
 
 one_more : (i j m : ℕ) → j ≡ 1 + i → option_map (λ x. 8 * (m - x)) (cond (nat_lt i m) (Some i) None) ≡ Some 8
     → option_map (λ x. 8 * (suc m - x)) (cond (nat_lt j (suc m)) (Some j) None) ≡ Some 8
-one_more i j m next told = elim (cases_lt i m) [
+one_more i j m next is_eight = elim (cases_lt i m) [
   | inl inside ↦
       ap (option_map (λ x. 8 * (suc m - x))) (cond-true (nat_lt j (suc m)) (Some j) None (lt-ltb j (suc m) (omega (arith, inside, next))))
       ∙ ap Some (let same : 8 * (suc m - j) ≡ 8 * (m - i) = omega (arith, next) in same)
       ∙ sym (ap (option_map (λ x. 8 * (m - x))) (cond-true (nat_lt i m) (Some i) None (lt-ltb i m inside)))
-      ∙ told
+      ∙ is_eight
   | inr outside ↦
-      absurd (none_or_some 8 (sym (ap (option_map (λ x. 8 * (m - x))) (cond-false (nat_lt i m) (Some i) None (le-ltb i m outside))) ∙ told))
+      absurd (none_or_some 8 (sym (ap (option_map (λ x. 8 * (m - x))) (cond-false (nat_lt i m) (Some i) None (le-ltb i m outside))) ∙ is_eight))
 ]
 
 more_words : (w : ℕ) (words : List ℕ) → (w == 16) ≡ false → TellsEight words → TellsEight (w ∷ words)
-more_words w words other told =
+more_words w words other is_eight =
     let n = position_or_len (λ x. x == 16) words in
-    one_more n (cond (not (w == 16)) (1 + n) 0) (length words) (ap (λ b. cond (not b) (1 + n) 0) other) told
+    one_more n (cond (not (w == 16)) (1 + n) 0) (length words) (ap (λ b. cond (not b) (1 + n) 0) other) is_eight
 
 kept_word : (b : Bool) (w : ℕ) (words : List ℕ) → (w == 16) ≡ false → TellsEight words → TellsEight (cond b (w ∷ words) words)
-kept_word true w words other told = more_words w words other told
-kept_word false w words other told = told
+kept_word true w words other is_eight = more_words w words other is_eight
+kept_word false w words other is_eight = is_eight
 
 last_word : (b : Bool) → b ≡ true → TellsEight (cond b (16 ∷ []) [])
 last_word b is = subst (λ c. TellsEight (cond c (16 ∷ []) [])) (sym is) refl
 
-trailing_told : (format : ℕ) → is_set format 16 ≡ true → TellsEight (filter (is_set format) (1 ∷ 2 ∷ 6 ∷ 9 ∷ 7 ∷ 16 ∷ []))
-trailing_told format is =
+trailing_is_eight : (format : ℕ) → is_set format 16 ≡ true → TellsEight (filter (is_set format) (1 ∷ 2 ∷ 6 ∷ 9 ∷ 7 ∷ 16 ∷ []))
+trailing_is_eight format is =
     kept_word (is_set format 1) 1 _ refl (kept_word (is_set format 2) 2 _ refl (kept_word (is_set format 6) 6 _ refl (kept_word (is_set format 9) 9 _ refl (kept_word (is_set format 7) 7 _ refl (last_word (is_set format 16) is)))))
 
-end_told : (t : Bool) (words : List ℕ) → TellsEight words → offset_from_end (if t then words else []) 16 ≡ (if t then Some 8 else None)
-end_told true words told = told
-end_told false words told = refl
+end_is_eight : (t : Bool) (words : List ℕ) → TellsEight words → offset_from_end (if t then words else []) 16 ≡ (if t then Some 8 else None)
+end_is_eight true words is_eight = is_eight
+end_is_eight false words is_eight = refl
 
 start_here : (words : List ℕ) → offset_from_start (16 ∷ words) 16 ≡ Some 0
 start_here words = ap (option_map (λ i. 8 * i)) (cond-true (nat_lt 0 (suc (length words))) (Some 0) None (lt-ltb 0 (suc (length words)) (omega arith)))
 
-start_told : (b : Bool) (words : List ℕ) → b ≡ true → offset_from_start (cond b (16 ∷ words) words) 16 ≡ Some 0
-start_told b words is = subst (λ c. offset_from_start (cond c (16 ∷ words) words) 16 ≡ Some 0) (sym is) (start_here words)
+start_is_zero : (b : Bool) (words : List ℕ) → b ≡ true → offset_from_start (cond b (16 ∷ words) words) 16 ≡ Some 0
+start_is_zero b words is = subst (λ c. offset_from_start (cond c (16 ∷ words) words) 16 ≡ Some 0) (sym is) (start_here words)
 
-word_told : (b : Bool) → b ≡ true → ◌≡◌ {A = ℕ} (if b then 16 else 6) 16
-word_told b is = ap (λ c. if c then 16 else 6) is
+word_is_16 : (b : Bool) → b ≡ true → ◌≡◌ {A = ℕ} (if b then 16 else 6) 16
+word_is_16 b is = ap (λ c. if c then 16 else 6) is
 
 abbrev pub word_list_offsets : Bool → RecordIdParseInfo
 word_list_offsets trailing = record { sample_id_from_start = Some 0; other_id_from_end = if trailing then Some 8 else None }
@@ -133,9 +133,9 @@ offsets_word_list a is =
     let format = a.sample_format.0 in
     let trailing = trailing_words format a.flags.0 in
     let start : offset_from_start (sample_words format) (identifier_word format) ≡ Some 0 =
-    ap (offset_from_start (sample_words format)) (word_told (is_set format 16) is) ∙ start_told (is_set format 16) (filter (is_set format) (0 ∷ 1 ∷ 2 ∷ 3 ∷ 6 ∷ [])) is in
+    ap (offset_from_start (sample_words format)) (word_is_16 (is_set format 16) is) ∙ start_is_zero (is_set format 16) (filter (is_set format) (0 ∷ 1 ∷ 2 ∷ 3 ∷ 6 ∷ [])) is in
     let back : offset_from_end trailing (identifier_word format) ≡ (if is_set a.flags.0 18 then Some 8 else None) =
-    ap (offset_from_end trailing) (word_told (is_set format 16) is) ∙ end_told (is_set a.flags.0 18) (filter (is_set format) (1 ∷ 2 ∷ 6 ∷ 9 ∷ 7 ∷ 16 ∷ [])) (trailing_told format is) in
+    ap (offset_from_end trailing) (word_is_16 (is_set format 16) is) ∙ end_is_eight (is_set a.flags.0 18) (filter (is_set format) (1 ∷ 2 ∷ 6 ∷ 9 ∷ 7 ∷ 16 ∷ [])) (trailing_is_eight format is) in
     let first : id_parse_info_of a ≡ record { sample_id_from_start = Some 0; other_id_from_end = offset_from_end trailing (identifier_word format) } =
     ap (λ x. record { sample_id_from_start = x; other_id_from_end = offset_from_end trailing (identifier_word format) }) start in
     first ∙ ap (λ x. record { sample_id_from_start = Some 0; other_id_from_end = x }) back
@@ -205,7 +205,7 @@ later_breach first a attrs i W conforms breaks = record {
 }
 
 first_breach : (first a : Attribute) (attrs : List Attribute) (W : Attribute → Type 0) → W a → FirstNonconformingAt first (a ∷ attrs) 0 W
-first_breach first a attrs W why = record { earlier = []; attribute = a; later = attrs; elements = refl; index_matches = refl; earlier_conform = All-nil (ConformsTo first); cause = why }
+first_breach first a attrs W reason = record { earlier = []; attribute = a; later = attrs; elements = refl; index_matches = refl; earlier_conform = All-nil (ConformsTo first); cause = reason }
 
 later : (first a : Attribute) (attrs : List Attribute) (b : Inconsistency) → ConformsTo first a → FirstInconsistency first attrs b → (c : Inconsistency) × FirstInconsistency first (a ∷ attrs) c
 later first a attrs (missing_identifier i) conforms breaks = (missing_identifier (suc i), later_breach first a attrs i Lacks conforms breaks)
@@ -226,7 +226,7 @@ find_breach first (a ∷ attrs) = elim (conforms_or first a) [
 pub consistent_or_not : (attrs : List Attribute) → AreConsistent attrs ⊎ ((b : Inconsistency) × AreInconsistent attrs b)
 consistent_or_not [] = inl tt
 consistent_or_not (a ∷ more) = elim (all_or_not (λ b. id_parse_info_of b.attr ≡ id_parse_info_of a.attr) (λ b. agree_or_not (id_parse_info_of b.attr) (id_parse_info_of a.attr)) more) [
-  | inl rule ↦ inl rule
+  | inl all_consistent ↦ inl all_consistent
   | inr broken ↦ elim (find_breach a (a ∷ more)) [
     | inl all ↦ absurd (broken (conforming_is_consistent a more all))
     | inr found ↦ inr (found.0, (broken, found.1))

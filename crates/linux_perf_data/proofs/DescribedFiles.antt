@@ -3,6 +3,7 @@ use Rattle.std.proofs.Common.{◌≡◌, ℕ, zero, suc, ◌+◌, ◌-◌, ◌*�
 use Rattle.std.specs.Prelude.{All}
 use Rattle.std.proofs.lemmas.List.Elements.{All-head, All-tail}
 use Rattle.perfdata_base.specs.Source.{Position}
+use Rattle.perfdata_base.specs.Section.{EndFitsU64}
 use Rattle.perfdata_base.specs.Endian.{number_in}
 use Rattle.perfdata_base.specs.Features.{features_of}
 use Rattle.perfdata_base.specs.declared.attr.PerfEventAttr.{PerfEventAttr}
@@ -28,7 +29,8 @@ use Rattle.linux_perf_data.specs.Attribute.{Attribute, AreConsistent}
 use Rattle.linux_perf_data.specs.AttributeSources.{NamesEventTypes, IsMetaInfoError, DescribesBySections, DescribesByAttrs, DescribesWith, IsSectionsError, IsAttrSectionError, IsSourcesErrorWith}
 use Rattle.linux_perf_data.specs.Descriptions.{described_attribute, described_attributes}
 use Rattle.linux_perf_data.specs.Laws.{TruncatedHeaderFails, FarHeaderFails, UnknownMagicFails}
-use Rattle.linux_perf_data.specs.FileOpening.{DataEndFitsU64, table_offset, HoldsSections, section_data, DescribesAttributes, IsAttributesError, IsErrorAfterHeader, HasHeader, IsFileError}
+use Rattle.linux_perf_data.specs.FileOpening.{table_offset, HoldsSections, section_data, DescribesAttributes, IsAttributesError, IsErrorAfterHeader, HasHeader, IsFileError}
+use Rattle.linux_perf_data.specs.FeatureNumbers.{event_desc, simpleperf_meta_info}
 use Rattle.linux_perf_data.specs.OpenedFile.{DescribesFile}
 use Rattle.linux_perf_data.specs.PerfFile.{endian_of_file, descriptions_of_file}
 use Rattle.linux_perf_data.specs.FeatureData.{FeatureEntry as TableEntry, HoldsSection, SectionTruncated, SectionsTruncated}
@@ -73,12 +75,12 @@ module _ {D : Type 0} (IsOne : List ℕ → D → Type 0) (step : ℕ) (all : Li
 module _ (number : ℕ → List ℕ → ℕ) where
   -- ---- padded attributes
 
-  pub frame_stands : (size : ℕ) (e : Error) (xs : List ℕ) (a : PerfEventAttr) → IsAttrInFrame number size xs a → IsFrameError number size e xs → ⊥
-  frame_stands size (Read OfAttr) xs a framed (inl (inl short)) = let least = framed.matches.min_size in let there = framed.matches.complete in omega (arith, short, least, there)
-  frame_stands size (Read OfAttr) xs a framed (inl (inr (least, within, short))) = let there = framed.matches.complete in omega (arith, short, there)
-  frame_stands size (Read OfAttr) xs a framed (inr (head, small)) = let least = framed.matches.min_size in omega (arith, small, least)
-  frame_stands size (InconsistentAttributeSizes own all) xs a framed (head, is, are, least, above) = let within = framed.within in omega (arith, is, within, above)
-  frame_stands size _ xs a framed none = absurd none
+  pub frame_no_error : (size : ℕ) (e : Error) (xs : List ℕ) (a : PerfEventAttr) → IsAttrInFrame number size xs a → IsFrameError number size e xs → ⊥
+  frame_no_error size (Read OfAttr) xs a framed (inl (inl truncated)) = let least = framed.matches.min_size in let there = framed.matches.complete in omega (arith, truncated, least, there)
+  frame_no_error size (Read OfAttr) xs a framed (inl (inr (least, within, truncated))) = let there = framed.matches.complete in omega (arith, truncated, there)
+  frame_no_error size (Read OfAttr) xs a framed (inr (big_enough, small)) = let least = framed.matches.min_size in omega (arith, small, least)
+  frame_no_error size (InconsistentAttributeSizes own all) xs a framed (big_enough, is, are, least, above) = let within = framed.within in omega (arith, is, within, above)
+  frame_no_error size _ xs a framed none = absurd none
 
   attribute_same : (d e : AttributeDescription) → attr_in d ≡ attr_in e → ids_in d ≡ ids_in e → described_attribute d ≡ described_attribute e
   attribute_same d e attr ids =
@@ -100,13 +102,13 @@ module _ (number : ℕ → List ℕ → ℕ) where
   pub entry_one : (size : ℕ) (xs : List ℕ) (d e : Entry) → IsEventTypeEntry number size xs d → IsEventTypeEntry number size xs e → d ≡ e
   entry_one size xs d e x y = entry_same d e (x.attr_in_frame.matches.matches ∙ sym y.attr_in_frame.matches.matches) (x.ids.1 ∙ sym y.ids.1)
 
-  pub entry_stands : (size : ℕ) (e : Error) (xs : List ℕ) (d : Entry) → IsEventTypeEntry number size xs d → IsEventTypeEntryError number size e xs → ⊥
-  entry_stands size e xs d is (inl none) = frame_stands size e xs d.attr is.attr_in_frame none
-  entry_stands size e xs d is (inr (framed, short, few)) = let there = is.ids.0 in omega (arith, few, there)
+  pub entry_no_error : (size : ℕ) (e : Error) (xs : List ℕ) (d : Entry) → IsEventTypeEntry number size xs d → IsEventTypeEntryError number size e xs → ⊥
+  entry_no_error size e xs d is (inl none) = frame_no_error size e xs d.attr is.attr_in_frame none
+  entry_no_error size e xs d is (inr (framed, truncated, few)) = let there = is.ids.0 in omega (arith, few, there)
 
-  pub ids_stand : (e : Error) (s : PerfFileSection) (all ids : List ℕ) → AreSectionIds number (Some all) s ids → IsSectionIdsError number e s all → ⊥
-  ids_stand e s all ids is (inl (far, read)) = let near = is.end_fits in omega (arith, far, near)
-  ids_stand e s all ids is (inr (near, short, few)) = let there = is.elements.0 in omega (arith, few, there)
+  pub ids_no_error : (e : Error) (s : PerfFileSection) (all ids : List ℕ) → AreSectionIds number (Some all) s ids → IsSectionIdsError number e s all → ⊥
+  ids_no_error e s all ids is (inl (far, read)) = let near = is.end_fits in omega (arith, far, near)
+  ids_no_error e s all ids is (inr (near, truncated, few)) = let there = is.elements.0 in omega (arith, few, there)
 
   module _ (all : List ℕ) where
     given_long : (names : ℕ → Option (List ℕ)) (i : ℕ) (entries : List Entry) (ds : List AttributeDescription) → AreEntryDescriptions number (Some all) names i entries ds → length ds ≡ length entries
@@ -125,11 +127,11 @@ module _ (number : ℕ → List ℕ → ℕ) where
         ap (λ a. a ∷ described_attributes ds) (attribute_same d e (is.attr ∙ sym is'.attr) (is.ids.elements.1 ∙ sym is'.ids.elements.1))
         ∙ ap (λ l. described_attribute e ∷ l) (given_alike names others (i + 1) ts ds es more more')
 
-    given_stands : (e : Error) (names : ℕ → Option (List ℕ)) (i : ℕ) (before : List Entry) (next : Entry) (after : List Entry) (ds : List AttributeDescription) → AreEntryDescriptions number (Some all) names i (before ++ next ∷ after) ds → IsSectionIdsError number e next.ids all → ⊥
-    given_stands e names i [] next after [] is none = absurd is
-    given_stands e names i [] next after (d ∷ ds) (is, more) none = ids_stand e next.ids all (ids_in d) is.ids none
-    given_stands e names i (b ∷ bs) next after [] is none = absurd is
-    given_stands e names i (b ∷ bs) next after (d ∷ ds) (is, more) none = given_stands e names (i + 1) bs next after ds more none
+    descriptions_no_error : (e : Error) (names : ℕ → Option (List ℕ)) (i : ℕ) (before : List Entry) (next : Entry) (after : List Entry) (ds : List AttributeDescription) → AreEntryDescriptions number (Some all) names i (before ++ next ∷ after) ds → IsSectionIdsError number e next.ids all → ⊥
+    descriptions_no_error e names i [] next after [] is none = absurd is
+    descriptions_no_error e names i [] next after (d ∷ ds) (is, more) none = ids_no_error e next.ids all (ids_in d) is.ids none
+    descriptions_no_error e names i (b ∷ bs) next after [] is none = absurd is
+    descriptions_no_error e names i (b ∷ bs) next after (d ∷ ds) (is, more) none = descriptions_no_error e names (i + 1) bs next after ds more none
 
     module _ (size : ℕ) (section : PerfFileSection) where
       pub entries_one : (names others : ℕ → Option (List ℕ)) (ds es : List AttributeDescription) → (x : DescribesByEntries number size names section all ds) → (y : DescribesByEntries number size others section all es) → x.entries ≡ y.entries
@@ -144,32 +146,32 @@ module _ (number : ℕ → List ℕ → ℕ) where
           let few = stops.too_few in
           let count = x.entries_match.count in
           let here = run_at (IsEventTypeEntry number size) (size + 16) all (length stops.before) section.offset x.entries x.entries_match.items_match (omega (arith, few, count)) in
-          entry_stands size e (drop (section.offset + length stops.before * (size + 16)) all) here.0 here.1 stops.error_here
+          entry_no_error size e (drop (section.offset + length stops.before * (size + 16)) all) here.0 here.1 stops.error_here
       entries_stand names others e ds x (inr stops) =
           let same = run_one (IsEventTypeEntry number size) (size + 16) all (entry_one size) section.offset x.entries stops.entries (x.entries_match.count ∙ sym stops.entries_match.count) x.entries_match.items_match stops.entries_match.items_match in
-          let cut = same ∙ stops.error.elements in
-          given_stands e names 0 stops.error.before stops.error.failing_entry stops.error.after ds (subst (λ l. AreEntryDescriptions number (Some all) names 0 l ds) cut x.descriptions_match) stops.error.error_here
+          let same_entries = same ∙ stops.error.elements in
+          descriptions_no_error e names 0 stops.error.before stops.error.failing_entry stops.error.after ds (subst (λ l. AreEntryDescriptions number (Some all) names 0 l ds) same_entries x.descriptions_match) stops.error.error_here
 
 -- ---- EVENT_DESC
 
 attribute_of : DescribedEvent → Attribute
 attribute_of d = record { attr = d.attr; ids = d.ids }
 
-attributes_told : (ds : List AttributeDescription) → described_attributes ds ≡ map attribute_of (events_in ds)
+attributes_by_events : (ds : List AttributeDescription) → described_attributes ds ≡ map attribute_of (events_in ds)
 unfolding attribute_of
-attributes_told [] = refl
-attributes_told (d ∷ ds) = ap (λ l. described_attribute d ∷ l) (attributes_told ds)
+attributes_by_events [] = refl
+attributes_by_events (d ∷ ds) = ap (λ l. described_attribute d ∷ l) (attributes_by_events ds)
 
 desc_alike : (order : Endianness) (desc : List ℕ) (ds es : List AttributeDescription) → DescribesByEventDesc (number_in order) desc ds → DescribesByEventDesc (number_in order) desc es → described_attributes ds ≡ described_attributes es
 desc_alike order desc ds es x y =
-    attributes_told ds ∙ ap (map attribute_of) (event_desc_is_unique (number_in order) (in_reads_first order) desc (events_in ds) (events_in es) x y) ∙ sym (attributes_told es)
+    attributes_by_events ds ∙ ap (map attribute_of) (event_desc_is_unique (number_in order) (in_reads_first order) desc (events_in ds) (events_in es) x y) ∙ sym (attributes_by_events es)
 
 -- ---- meta info
 
-pub names_stand : (info : List ℕ) (e : Error) (types : List SimplePerfEventType) → NamesEventTypes info types → IsMetaInfoError info e → ⊥
-names_stand info StringUtf8 types names none = none names.all_utf8
-names_stand info NoEventTypesInSimpleperfMetaInfo types names (texts, none) = none (map event_type_of types) names.lists_types
-names_stand info _ types names none = absurd none
+pub names_no_error : (info : List ℕ) (e : Error) (types : List SimplePerfEventType) → NamesEventTypes info types → IsMetaInfoError info e → ⊥
+names_no_error info StringUtf8 types names none = none names.all_utf8
+names_no_error info NoEventTypesInSimpleperfMetaInfo types names (texts, none) = none (map event_type_of types) names.lists_types
+names_no_error info _ types names none = absurd none
 
 module _ (order : Endianness) (h : PerfHeader) (all : List ℕ) where
   -- ---- attributes
@@ -189,29 +191,29 @@ module _ (order : Endianness) (h : PerfHeader) (all : List ℕ) where
   with_alike (Some desc) info ds es x y = desc_alike order desc ds es x y
   with_alike None info ds es x y = sections_alike info ds es x y
 
-  section_stands : (info : Option (List ℕ)) (e : Error) (ds : List AttributeDescription) → DescribesByAttrs order h info all ds → IsAttrSectionError order h info all e → ⊥
-  section_stands (Some info) e ds x (inl none) = names_stand info e x.types x.names_types none
-  section_stands (Some info) e ds x (inr (types, names, inl (few, read))) = let room = x.attr_size_fits in omega (arith, few, room)
-  section_stands (Some info) e ds x (inr (types, names, inr (room, inl (far, read)))) = x.section_valid far
-  section_stands (Some info) e ds x (inr (types, names, inr (room, inr (can, stops)))) =
+  section_no_error : (info : Option (List ℕ)) (e : Error) (ds : List AttributeDescription) → DescribesByAttrs order h info all ds → IsAttrSectionError order h info all e → ⊥
+  section_no_error (Some info) e ds x (inl none) = names_no_error info e x.types x.names_types none
+  section_no_error (Some info) e ds x (inr (types, names, inl (few, read))) = let size_fits = x.attr_size_fits in omega (arith, few, size_fits)
+  section_no_error (Some info) e ds x (inr (types, names, inr (size_fits, inl (far, read)))) = x.section_valid far
+  section_no_error (Some info) e ds x (inr (types, names, inr (size_fits, inr (can, stops)))) =
       entries_stand (number_in order) all (h.attr_size - 16) h.attr_section (type_name_at x.types) (type_name_at types) e ds x.attributes_match stops
-  section_stands None e ds (can, x) (inl (far, read)) = can far
-  section_stands None e ds (can, x) (inr (can', stops)) =
+  section_no_error None e ds (can, x) (inl (far, read)) = can far
+  section_no_error None e ds (can, x) (inr (can', stops)) =
       let few = stops.too_few in
       let count = x.count in
       let here = run_at (IsPlainDescription (number_in order) h.attr_size) h.attr_size all (length stops.before) h.attr_section.offset ds x.items_match (omega (arith, few, count)) in
-      frame_stands (number_in order) h.attr_size e (drop (h.attr_section.offset + length stops.before * h.attr_size) all) (attr_in here.0) here.1.attr_in_frame stops.error_here
+      frame_no_error (number_in order) h.attr_size e (drop (h.attr_section.offset + length stops.before * h.attr_size) all) (attr_in here.0) here.1.attr_in_frame stops.error_here
 
-  sections_stand : (info : Option (List ℕ)) (e : Error) (ds : List AttributeDescription) → DescribesBySections order h info all ds → IsSectionsError order h info all e → ⊥
-  sections_stand info e ds (inl (some, can, x)) (inl (some', inl (far, read))) = can far
-  sections_stand info e ds (inl (some, can, x)) (inl (some', inr (can', stops))) = entries_stand (number_in order) all h.attr_size h.event_types_section (type_name_at []) (type_name_at []) e ds x stops
-  sections_stand info e ds (inl (some, can, x)) (inr (none, stops)) = some none
-  sections_stand info e ds (inr (none, x)) (inl (some, stops)) = some none
-  sections_stand info e ds (inr (none, x)) (inr (none', stops)) = section_stands info e ds x stops
+  sections_no_error : (info : Option (List ℕ)) (e : Error) (ds : List AttributeDescription) → DescribesBySections order h info all ds → IsSectionsError order h info all e → ⊥
+  sections_no_error info e ds (inl (some, can, x)) (inl (some', inl (far, read))) = can far
+  sections_no_error info e ds (inl (some, can, x)) (inl (some', inr (can', stops))) = entries_stand (number_in order) all h.attr_size h.event_types_section (type_name_at []) (type_name_at []) e ds x stops
+  sections_no_error info e ds (inl (some, can, x)) (inr (none, stops)) = some none
+  sections_no_error info e ds (inr (none, x)) (inl (some, stops)) = some none
+  sections_no_error info e ds (inr (none, x)) (inr (none', stops)) = section_no_error info e ds x stops
 
-  pub with_stands : (desc info : Option (List ℕ)) (e : Error) (ds : List AttributeDescription) → DescribesWith order h desc info all ds → IsSourcesErrorWith order h desc info all e → ⊥
-  with_stands (Some desc) info e ds x stops = event_desc_or_error (number_in order) (in_reads_first order) e desc (events_in ds) stops x
-  with_stands None info e ds x stops = sections_stand info e ds x stops
+  pub sources_no_error : (desc info : Option (List ℕ)) (e : Error) (ds : List AttributeDescription) → DescribesWith order h desc info all ds → IsSourcesErrorWith order h desc info all e → ⊥
+  sources_no_error (Some desc) info e ds x stops = event_desc_or_error (number_in order) (in_reads_first order) e desc (events_in ds) stops x
+  sources_no_error None info e ds x stops = sections_no_error info e ds x stops
 
   -- ---- after a header
 
@@ -219,25 +221,25 @@ module _ (order : Endianness) (h : PerfHeader) (all : List ℕ) where
   none_described [] some same = omega (arith, some)
   none_described (d ∷ ds) some same = let none : suc (length (described_attributes ds)) ≡ 0 = ap length same in omega (arith, none)
 
-  attributes_stand : (e : Error) (ds : List AttributeDescription) → 0 < length ds → AreConsistent (described_attributes ds) → DescribesAttributes order h all ds → IsAttributesError order h all e → ⊥
-  attributes_stand e ds some rule is (inl stops) = with_stands (section_data order h all 12) (section_data order h all 129) e ds is stops
-  attributes_stand e ds some rule is (inr (inl (e_is, none))) = none_described ds some (with_alike (section_data order h all 12) (section_data order h all 129) ds [] is none)
-  attributes_stand e ds some rule is (inr (inr unruly)) =
-      let same = with_alike (section_data order h all 12) (section_data order h all 129) ds unruly.descriptions is unruly.attributes_match in
-      consistent_not_inconsistent (described_attributes unruly.descriptions) unruly.inconsistency (subst AreConsistent same rule) unruly.is_inconsistent
+  attributes_no_error : (e : Error) (ds : List AttributeDescription) → 0 < length ds → AreConsistent (described_attributes ds) → DescribesAttributes order h all ds → IsAttributesError order h all e → ⊥
+  attributes_no_error e ds some all_consistent is (inl stops) = sources_no_error (section_data order h all event_desc) (section_data order h all simpleperf_meta_info) e ds is stops
+  attributes_no_error e ds some all_consistent is (inr (inl (e_is, none))) = none_described ds some (with_alike (section_data order h all event_desc) (section_data order h all simpleperf_meta_info) ds [] is none)
+  attributes_no_error e ds some all_consistent is (inr (inr inconsistent)) =
+      let same = with_alike (section_data order h all event_desc) (section_data order h all simpleperf_meta_info) ds inconsistent.descriptions is inconsistent.attributes_match in
+      consistent_not_inconsistent (described_attributes inconsistent.descriptions) inconsistent.inconsistency (subst AreConsistent same all_consistent) inconsistent.is_inconsistent
 
-  lacks_none : (before : List TableEntry) (entry : TableEntry) (behind : List TableEntry) → All (λ e. HoldsSection all e.1) (before ++ entry ∷ behind) → SectionTruncated all entry.1 → ⊥
-  lacks_none [] entry behind holds lacks = let here = All-head (λ (e : TableEntry). HoldsSection all e.1) entry behind holds in omega (arith, here, lacks)
-  lacks_none (b ∷ bs) entry behind holds lacks = lacks_none bs entry behind (All-tail (λ (e : TableEntry). HoldsSection all e.1) b (bs ++ entry ∷ behind) holds) lacks
+  lacks_none : (before : List TableEntry) (entry : TableEntry) (later : List TableEntry) → All (λ e. HoldsSection all e.1) (before ++ entry ∷ later) → SectionTruncated all entry.1 → ⊥
+  lacks_none [] entry later holds lacks = let here = All-head (λ (e : TableEntry). HoldsSection all e.1) entry later holds in omega (arith, here, lacks)
+  lacks_none (b ∷ bs) entry later holds lacks = lacks_none bs entry later (All-tail (λ (e : TableEntry). HoldsSection all e.1) b (bs ++ entry ∷ later) holds) lacks
 
   pub holds_or_lacks : HoldsSections order h all → SectionsTruncated order all (table_offset h) (features_of h.features) → ⊥
   holds_or_lacks (table, holds) (inl few) = omega (arith, table, few)
   holds_or_lacks (table, holds) (inr (table', one)) = lacks_none one.before one.entry one.later (subst (All (λ e. HoldsSection all e.1)) one.matches holds) one.is_truncated_here
 
-  behind_stands : (e : Error) (ds : List AttributeDescription) → DataEndFitsU64 h → HoldsSections order h all → 0 < length ds → AreConsistent (described_attributes ds) → DescribesAttributes order h all ds → IsErrorAfterHeader order h all e → ⊥
-  behind_stands e ds near holds some rule is (inl (read, far)) = omega (arith, near, far)
-  behind_stands e ds near holds some rule is (inr (inl (short, near', lacks))) = holds_or_lacks holds lacks
-  behind_stands e ds near holds some rule is (inr (inr (near', holds', stops))) = attributes_stand e ds some rule is stops
+  after_header_no_error : (e : Error) (ds : List AttributeDescription) → EndFitsU64 h.data_section → HoldsSections order h all → 0 < length ds → AreConsistent (described_attributes ds) → DescribesAttributes order h all ds → IsErrorAfterHeader order h all e → ⊥
+  after_header_no_error e ds near holds some all_consistent is (inl (read, far)) = omega (arith, near, far)
+  after_header_no_error e ds near holds some all_consistent is (inr (inl (truncated, near', lacks))) = holds_or_lacks holds lacks
+  after_header_no_error e ds near holds some all_consistent is (inr (inr (near', holds', stops))) = attributes_no_error e ds some all_consistent is stops
 
 -- ---- the file
 
@@ -246,7 +248,7 @@ header_one p h i x y = x.matches ∙ sym y.matches
 
 -- a file that opens has no error
 pub described_file_opens : (p : Position) (h : PerfHeader) (file : PerfFile) (e : Error) → DescribesFile p h file → IsFileError p e → ⊥
-described_file_opens p h file e d (inl (short, few)) = let there = d.matches.has_header.complete in omega (arith, few, there)
+described_file_opens p h file e d (inl (truncated, few)) = let there = d.matches.has_header.complete in omega (arith, few, there)
 described_file_opens p h file e d (inr (inl (other, has, (far, invalid)))) =
     let same = ap (λ x. x.header_size) (header_one p other h has d.matches.has_header) in
     let passes = d.matches.can_skip_extra in
@@ -259,15 +261,15 @@ described_file_opens p h file e d (inr (inr (inr (order, (other, is, stops))))) 
     let here : IsErrorAfterHeader (endian_of_file file) h p.all_bytes e = subst (λ x. IsErrorAfterHeader (endian_of_file file) x p.all_bytes e) same (subst (λ o. IsErrorAfterHeader o other p.all_bytes e) orders stops) in
     let some = file.nonempty in
     let long = file.attributes.ok.0 in
-    behind_stands (endian_of_file file) h p.all_bytes e (descriptions_of_file file) d.end_fits d.sections_complete (omega (arith, some, long)) d.consistent d.attributes here
+    after_header_no_error (endian_of_file file) h p.all_bytes e (descriptions_of_file file) d.end_fits d.sections_complete (omega (arith, some, long)) d.consistent d.attributes here
 
 -- ---- errors before the bytes after a header
 
 pub truncated_header_fails : TruncatedHeaderFails
 truncated_header_fails p few = (
   (λ e stops. elim stops as (λ _. IsUnexpectedEof e) [
-    | inl short ↦ short.0
-    | inr (inl (h, has, why)) ↦ let there = has.complete in absurd (omega (arith, few, there))
+    | inl truncated ↦ truncated.0
+    | inr (inl (h, has, reason)) ↦ let there = has.complete in absurd (omega (arith, few, there))
     | inr (inr (inl (h, none))) ↦ let there = none.0.complete in absurd (omega (arith, few, there))
     | inr (inr (inr (order, (h, is, stops)))) ↦ let there = is.has_header.complete in absurd (omega (arith, few, there))
   ]),
@@ -280,7 +282,7 @@ same_size p h i x y = ap (λ x. x.header_size) (header_one p h i x y)
 pub far_header_fails : FarHeaderFails
 far_header_fails p h has far = (
   (λ e stops. elim stops as (λ _. IsInvalidInput e) [
-    | inl (short, few) ↦ let there = has.complete in absurd (omega (arith, few, there))
+    | inl (truncated, few) ↦ let there = has.complete in absurd (omega (arith, few, there))
     | inr (inl (i, has', (far', invalid))) ↦ invalid
     | inr (inr (inl (i, none))) ↦ let same = same_size p i h none.0 has in let near = none.1 in absurd (omega (arith, same, far, near))
     | inr (inr (inr (order, (i, is, stops)))) ↦ let same = same_size p i h is.has_header has in let near = is.can_skip_extra in absurd (omega (arith, same, far, near))
@@ -291,7 +293,7 @@ far_header_fails p h has far = (
 pub unknown_magic_fails : UnknownMagicFails
 unknown_magic_fails p h has near unknown = (
   (λ e stops. elim stops as (λ _. e ≡ UnrecognizedMagicValue h.magic) [
-    | inl (short, few) ↦ let there = has.complete in absurd (omega (arith, few, there))
+    | inl (truncated, few) ↦ let there = has.complete in absurd (omega (arith, few, there))
     | inr (inl (i, has', (far, invalid))) ↦ let same = same_size p i h has' has in absurd (omega (arith, same, far, near))
     | inr (inr (inl (i, none))) ↦ none.3 ∙ ap (λ x. UnrecognizedMagicValue x.magic) (header_one p i h none.0 has)
     | inr (inr (inr (order, (i, is, stops)))) ↦ absurd (unknown order (ap (λ x. x.magic) (header_one p h i has is.has_header) ∙ is.magic))

@@ -29,21 +29,21 @@ use Rattle.linux_perf_data.specs.FeatureData.{FeatureEntry, feature_entries_in, 
 -- ---- one section
 
 -- the remaining bytes at the target of a seek, if the bytes are known
-come_there : (o o' : Option Position) (bytes : Option (List ℕ)) (n : ℕ) (P : List ℕ → Type 0) → o' ≡ at_offset n o → bytes ≡ remaining_from o' → ((all : List ℕ) → bytes ≡ Some (drop n all) → P all) → IfSome (all_bytes_of o) P
-come_there None o' bytes n P at placed each = tt
-come_there (Some p) o' bytes n P at placed each = each p.all_bytes (placed ∙ ap remaining_from at)
+remaining_there : (o o' : Option Position) (bytes : Option (List ℕ)) (n : ℕ) (P : List ℕ → Type 0) → o' ≡ at_offset n o → bytes ≡ remaining_from o' → ((all : List ℕ) → bytes ≡ Some (drop n all) → P all) → IfSome (all_bytes_of o) P
+remaining_there None o' bytes n P at placed each = tt
+remaining_there (Some p) o' bytes n P at placed each = each p.all_bytes (placed ∙ ap remaining_from at)
 
 -- the bytes read at the target of a seek are a prefix of them
-came_there : (o : Option (List ℕ)) (xs front : List ℕ) → Some xs ≡ prepend front o → (rest : List ℕ) × (xs ≡ front ++ rest)
-came_there None xs front came = cc
-came_there (Some rest) xs front came = (rest, cc)
+prefix_there : (o : Option (List ℕ)) (xs prefix : List ℕ) → Some xs ≡ prepend prefix o → (rest : List ℕ) × (xs ≡ prefix ++ rest)
+prefix_there None xs prefix remaining = cc
+prefix_there (Some rest) xs prefix remaining = (rest, cc)
 
-owes_later : (a b c : State) (e : Error) → AfterSeek a b → SourceErrorInBytes b e c → SourceErrorInBytes a e c
-owes_later a b c e stood (inl (is, failed)) = inl (is, failed_after_seek a b c stood failed)
-owes_later a b c e stood (inr (is, paused)) = inr (is, paused_after_seek a b c stood paused)
+earlier_source_error : (a b c : State) (e : Error) → AfterSeek a b → SourceErrorInBytes b e c → SourceErrorInBytes a e c
+earlier_source_error a b c e seek (inl (is, failed)) = inl (is, failed_after_seek a b c seek failed)
+earlier_source_error a b c e seek (inr (is, paused)) = inr (is, paused_after_seek a b c seek paused)
 
 shown_before : (a b : State) (P : List ℕ → Type 0) → AfterSeek a b → IfSome (all_bytes_of b.position) P → IfSome (all_bytes_of a.position) P
-shown_before a b P stood shown = subst (λ o. IfSome o P) stood.all_bytes shown
+shown_before a b P seek shown = subst (λ o. IfSome o P) seek.all_bytes shown
 
 if_more : (o : Option (List ℕ)) (P Q : List ℕ → Type 0) → ((x : List ℕ) → P x → Q x) → IfSome o P → IfSome o Q
 if_more None P Q more is = tt
@@ -57,109 +57,109 @@ if_both : (o : Option (List ℕ)) (P Q S : List ℕ → Type 0) → ((x : List �
 if_both None P Q S both p q = tt
 if_both (Some x) P Q S both p q = both x p q
 
-section_cut : (s : PerfFileSection) (a b c : State) (e : IoErrorValue) → AfterSeek a b → b.position ≡ at_offset s.offset a.position → ReadExactError b s.size e c
+section_truncated : (s : PerfFileSection) (a b c : State) (e : IoErrorValue) → AfterSeek a b → b.position ≡ at_offset s.offset a.position → ReadExactError b s.size e c
     → IfSome (all_bytes_of a.position) (λ all. IsUnexpectedEof (IoError e) × SectionTruncated all s) ⊎ SourceErrorInBytes a (IoError e) c
-section_cut s a b c e stood at cut = elim cut.cause [
-  | inl (kind, none) ↦ elim (none_or_paused b c none) [
-    | inl all ↦ inl (come_there a.position b.position b.bytes s.offset (λ all'. IsUnexpectedEof (IoError e) × SectionTruncated all' s) at stood.from_position (λ all' is.
-        let same : Some (drop s.offset all') ≡ Some cut.consumed_bytes = sym is ∙ all_read b c cut.consumed_bytes cut.consumes all in
-        let few : length (drop s.offset all') ≡ length cut.consumed_bytes = cc in
-        let less = cut.too_few in
-        (kind, omega (arith, few, less))))
-    | inr paused ↦ inr (inr (kind, paused_after_seek a b c stood paused))
+section_truncated s a b c e seek at truncated = elim truncated.cause [
+  | inl (eof, none) ↦ elim (none_or_paused b c none) [
+    | inl all ↦ inl (remaining_there a.position b.position b.bytes s.offset (λ all'. IsUnexpectedEof (IoError e) × SectionTruncated all' s) at seek.from_position (λ all' is.
+        let same : Some (drop s.offset all') ≡ Some truncated.consumed_bytes = sym is ∙ all_read b c truncated.consumed_bytes truncated.consumes all in
+        let few : length (drop s.offset all') ≡ length truncated.consumed_bytes = cc in
+        let less = truncated.too_few in
+        (eof, omega (arith, few, less))))
+    | inr paused ↦ inr (inr (eof, paused_after_seek a b c seek paused))
   ]
-  | inr failed ↦ inr (inl (tt, failed_after_seek a b c stood failed))
+  | inr failed ↦ inr (inl (tt, failed_after_seek a b c seek failed))
 ]
 
-pub section_error : (s : PerfFileSection) (a b c : State) (fault : AppendError) (e : Error) → AfterSeek a b → b.position ≡ at_offset s.offset a.position → ReadsBytes b s.size (Err fault) c → e ≡ file_error_of fault
+pub section_error : (s : PerfFileSection) (a b c : State) (append_error : AppendError) (e : Error) → AfterSeek a b → b.position ≡ at_offset s.offset a.position → ReadsBytes b s.size (Err append_error) c → e ≡ file_error_of append_error
     → ReadsSectionBytes s a (Err e) c
-section_error s a b c Memory e stood at came is = (
-  after_seek_more a b c stood (consumed-after_seek b c came.consumed_bytes stood.from_position came.consumes),
+section_error s a b c Memory e seek at remaining is = (
+  after_seek_more a b c seek (consumed-after_seek b c remaining.consumed_bytes seek.from_position remaining.consumes),
   λ other. absurd (other is),
 )
-section_error s a b c (Source own) e stood at cut is = (
-  after_seek_more a b c stood (consumed-after_seek b c cut.consumed_bytes stood.from_position cut.consumes),
-  λ _. subst (λ t. IfSome (all_bytes_of a.position) (λ all. IsUnexpectedEof t × SectionTruncated all s) ⊎ SourceErrorInBytes a t c) (sym is) (section_cut s a b c own stood at cut),
+section_error s a b c (Source own) e seek at truncated is = (
+  after_seek_more a b c seek (consumed-after_seek b c truncated.consumed_bytes seek.from_position truncated.consumes),
+  λ _. subst (λ t. IfSome (all_bytes_of a.position) (λ all. IsUnexpectedEof t × SectionTruncated all s) ⊎ SourceErrorInBytes a t c) (sym is) (section_truncated s a b c own seek at truncated),
 )
 
 -- ---- the table
 
 module _ (order : Endianness) where
-  section_front : (front rest : List ℕ) → 16 ≤ length front → section_entry_of (number_in order) (front ++ rest) ≡ section_entry_of (number_in order) front
-  section_front front rest long = rw (number_front order 8 front rest (omega arith), number_drop_front order 8 8 front rest (omega arith)) refl
+  section_of_prefix : (prefix rest : List ℕ) → 16 ≤ length prefix → section_entry_of (number_in order) (prefix ++ rest) ≡ section_entry_of (number_in order) prefix
+  section_of_prefix prefix rest long = rw (number_front order 8 prefix rest (omega arith), number_drop_front order 8 8 prefix rest (omega arith)) refl
 
-  entries_front : (front rest : List ℕ) (ns : List ℕ) → length front ≡ 16 * length ns → feature_entries_in order (front ++ rest) ns ≡ feature_entries_in order front ns
-  entries_front front rest [] long = refl
-  entries_front front rest (n ∷ ns) long =
-      let enough : 16 ≤ length front = omega arith in
-      rw (section_front front rest enough, drop-append-le 16 front rest enough, entries_front (drop 16 front) rest ns (omega (arith, length-drop 16 front))) refl
+  entries_of_prefix : (prefix rest : List ℕ) (ns : List ℕ) → length prefix ≡ 16 * length ns → feature_entries_in order (prefix ++ rest) ns ≡ feature_entries_in order prefix ns
+  entries_of_prefix prefix rest [] long = refl
+  entries_of_prefix prefix rest (n ∷ ns) long =
+      let enough : 16 ≤ length prefix = omega arith in
+      rw (section_of_prefix prefix rest enough, drop-append-le 16 prefix rest enough, entries_of_prefix (drop 16 prefix) rest ns (omega (arith, length-drop 16 prefix))) refl
 
-  entries_push : (front p : List ℕ) (ns : List ℕ) (n : ℕ) → length front ≡ 16 * length ns → length p ≡ 16
-      → feature_entries_in order (front ++ p) (ns ++ n ∷ []) ≡ feature_entries_in order front ns ++ (n, section_entry_of (number_in order) p) ∷ []
+  entries_push : (prefix p : List ℕ) (ns : List ℕ) (n : ℕ) → length prefix ≡ 16 * length ns → length p ≡ 16
+      → feature_entries_in order (prefix ++ p) (ns ++ n ∷ []) ≡ feature_entries_in order prefix ns ++ (n, section_entry_of (number_in order) p) ∷ []
   entries_push [] p [] n long one = refl
-  entries_push (x ∷ front) p [] n long one = absurd (omega arith)
-  entries_push front p (m ∷ ns) n long one =
-      let enough : 16 ≤ length front = omega arith in
-      rw (section_front front p enough, drop-append-le 16 front p enough, entries_push (drop 16 front) p ns n (omega (arith, length-drop 16 front)) one) refl
+  entries_push (x ∷ prefix) p [] n long one = absurd (omega arith)
+  entries_push prefix p (m ∷ ns) n long one =
+      let enough : 16 ≤ length prefix = omega arith in
+      rw (section_of_prefix prefix p enough, drop-append-le 16 prefix p enough, entries_push (drop 16 prefix) p ns n (omega (arith, length-drop 16 prefix)) one) refl
 
   -- the entries of some features are parsed, and these features remain
-  pub record SoFar (features : List ℕ) (old : State) (es : List FeatureEntry) (left : List ℕ) (new : State) : Type 0 where
+  pub record SoFar (features : List ℕ) (old : State) (es : List FeatureEntry) (remaining_features : List ℕ) (new : State) : Type 0 where
     pub done : List ℕ
-    pub split : features ≡ done ++ left
-    pub took : TableRead order done old es new
+    pub split : features ≡ done ++ remaining_features
+    pub table_read : TableRead order done old es new
 
-  pub table_none : (features left : List ℕ) (a : State) (items : List (Feature × PerfFileSection)) → items ≡ [] → left ≡ features → SoFar features a (feature_entries_of items) left a
-  table_none features left a items none is = record { done = []; split = sym is; took = record { bytes = []; exact_len = refl; consumes = consumed_none a; matches = ap feature_entries_of none } }
+  pub table_none : (features remaining_features : List ℕ) (a : State) (items : List (Feature × PerfFileSection)) → items ≡ [] → remaining_features ≡ features → SoFar features a (feature_entries_of items) remaining_features a
+  table_none features remaining_features a items none is = record { done = []; split = sym is; table_read = record { bytes = []; exact_len = refl; consumes = consumed_none a; matches = ap feature_entries_of none } }
 
-  pub table_more : (features left later : List ℕ) (a b c : State) (items new : List (Feature × PerfFileSection)) (f : Feature) (s : PerfFileSection) → SoFar features a (feature_entries_of items) left b
-      → left ≡ f.0 ∷ later → SectionEntryParsed (number_in order) b s c → new ≡ items ++ (f, s) ∷ [] → SoFar features a (feature_entries_of new) later c
-  table_more features left later a b c items new f s so next one grown = record {
+  pub table_more : (features remaining_features later : List ℕ) (a b c : State) (items new : List (Feature × PerfFileSection)) (f : Feature) (s : PerfFileSection) → SoFar features a (feature_entries_of items) remaining_features b
+      → remaining_features ≡ f.0 ∷ later → SectionEntryParsed (number_in order) b s c → new ≡ items ++ (f, s) ∷ [] → SoFar features a (feature_entries_of new) later c
+  table_more features remaining_features later a b c items new f s so next one grown = record {
     done = so.done ++ f.0 ∷ [];
     split = so.split ∙ ap (λ l. so.done ++ l) next ∙ sym (append_assoc so.done (f.0 ∷ []) later);
-    took = record {
-      bytes = so.took.bytes ++ one.bytes;
-      exact_len = let long = so.took.exact_len in let more = one.exact_len in omega (arith, length-append so.took.bytes one.bytes, length-append so.done (f.0 ∷ []), long, more);
-      consumes = consumed_more a b c so.took.bytes one.bytes so.took.consumes one.consumes;
+    table_read = record {
+      bytes = so.table_read.bytes ++ one.bytes;
+      exact_len = let long = so.table_read.exact_len in let more = one.exact_len in omega (arith, length-append so.table_read.bytes one.bytes, length-append so.done (f.0 ∷ []), long, more);
+      consumes = consumed_more a b c so.table_read.bytes one.bytes so.table_read.consumes one.consumes;
       matches = ap feature_entries_of grown ∙ map_push (λ e. (e.0.0, e.1)) items (f, s)
-          ∙ ap (λ l. l ++ (f.0, s) ∷ []) so.took.matches ∙ ap (λ t. feature_entries_in order so.took.bytes so.done ++ (f.0, t) ∷ []) one.matches
-          ∙ sym (entries_push so.took.bytes one.bytes so.done f.0 so.took.exact_len one.exact_len);
+          ∙ ap (λ l. l ++ (f.0, s) ∷ []) so.table_read.matches ∙ ap (λ t. feature_entries_in order so.table_read.bytes so.done ++ (f.0, t) ∷ []) one.matches
+          ∙ sym (entries_push so.table_read.bytes one.bytes so.done f.0 so.table_read.exact_len one.exact_len);
     };
   }
 
-  pub table_truncated : (features left later : List ℕ) (a b c : State) (es : List FeatureEntry) (n : ℕ) (e : IoErrorValue) → SoFar features a es left b → left ≡ n ∷ later → ReadExactError b 16 e c
+  pub table_truncated : (features remaining_features later : List ℕ) (a b c : State) (es : List FeatureEntry) (n : ℕ) (e : IoErrorValue) → SoFar features a es remaining_features b → remaining_features ≡ n ∷ later → ReadExactError b 16 e c
       → TableReadError (16 * length features) a (IoError e) c
-  table_truncated features left later a b c es n e so next cut =
+  table_truncated features remaining_features later a b c es n e so next truncated =
       let whole : length features ≡ length so.done + (1 + length later) = omega (arith, ap length (so.split ∙ ap (λ l. so.done ++ l) next), length-append so.done (n ∷ later)) in
-      let long = so.took.exact_len in
-      let less = cut.too_few in record {
-        bytes = so.took.bytes ++ cut.consumed_bytes;
-        consumes = consumed_more a b c so.took.bytes cut.consumed_bytes so.took.consumes cut.consumes;
+      let long = so.table_read.exact_len in
+      let less = truncated.too_few in record {
+        bytes = so.table_read.bytes ++ truncated.consumed_bytes;
+        consumes = consumed_more a b c so.table_read.bytes truncated.consumed_bytes so.table_read.consumes truncated.consumes;
         cause = λ _. (
-          omega (arith, length-append so.took.bytes cut.consumed_bytes, long, less, whole),
-          elim cut.cause [
-            | inl short ↦ inl (short.0, consumed_none_later a b c so.took.bytes so.took.consumes short.1)
-            | inr failed ↦ inr (tt, failed_later a b c so.took.bytes so.took.consumes failed)
+          omega (arith, length-append so.table_read.bytes truncated.consumed_bytes, long, less, whole),
+          elim truncated.cause [
+            | inl eof ↦ inl (eof.0, consumed_none_later a b c so.table_read.bytes so.table_read.consumes eof.1)
+            | inr failed ↦ inr (tt, failed_later a b c so.table_read.bytes so.table_read.consumes failed)
           ],
         );
       }
 
-  pub table_full : (features left : List ℕ) (count : ℕ) (a b c : State) (es : List FeatureEntry) (s : PerfFileSection) → SoFar features a es left b → SectionEntryParsed (number_in order) b s c → TableReadError count a OfMemory c
-  table_full features left count a b c es s so one = record {
-    bytes = so.took.bytes ++ one.bytes;
-    consumes = consumed_more a b c so.took.bytes one.bytes so.took.consumes one.consumes;
+  pub table_full : (features remaining_features : List ℕ) (count : ℕ) (a b c : State) (es : List FeatureEntry) (s : PerfFileSection) → SoFar features a es remaining_features b → SectionEntryParsed (number_in order) b s c → TableReadError count a OfMemory c
+  table_full features remaining_features count a b c es s so one = record {
+    bytes = so.table_read.bytes ++ one.bytes;
+    consumes = consumed_more a b c so.table_read.bytes one.bytes so.table_read.consumes one.consumes;
     cause = λ other. absurd (other refl);
   }
 
-  pub table_done : (features left : List ℕ) (a b : State) (es : List FeatureEntry) → SoFar features a es left b → left ≡ [] → TableRead order features a es b
-  table_done features left a b es so none =
+  pub table_done : (features remaining_features : List ℕ) (a b : State) (es : List FeatureEntry) → SoFar features a es remaining_features b → remaining_features ≡ [] → TableRead order features a es b
+  table_done features remaining_features a b es so none =
       let all : features ≡ so.done = so.split ∙ ap (λ l. so.done ++ l) none ∙ append-nil so.done in
-      subst (λ ns. TableRead order ns a es b) (sym all) so.took
+      subst (λ ns. TableRead order ns a es b) (sym all) so.table_read
 
 -- ---- the bytes
 
 -- the bytes of these entries' sections are read
 pub record DataSoFar {S : Type 0} (es : List FeatureEntry) (old : State) (m : IndexMap Feature (Vec ℕ Global) S) (new : State) : Type 0 where
-  pub stood : AfterSeek old new
+  pub seek : AfterSeek old new
   pub shown : IfSome (all_bytes_of old.position) (λ all. All (λ e. HoldsSection all e.1) es × ((n : ℕ) → feature_data_of m n ≡ feature_data_by all es n))
 
 -- the bytes of one more feature
@@ -175,48 +175,48 @@ module _ {S : Type 0} (a b c : State) (m new : IndexMap Feature (Vec ℕ Global)
   data_more v so grown one updates =
       let all_entries : feature_entries_of (take (i + 1) table) ≡ feature_entries_of (take i table) ++ (f.0, s) ∷ [] = ap feature_entries_of grown ∙ map_push (λ e. (e.0.0, e.1)) (take i table) (f, s) in
       subst (λ es. DataSoFar es a new c) (sym all_entries) (record {
-        stood = after_seek_more a b c so.stood one.0;
+        seek = after_seek_more a b c so.seek one.0;
         shown = if_both (all_bytes_of a.position) (λ all. All (λ e. HoldsSection all e.1) (feature_entries_of (take i table)) × ((n : ℕ) → feature_data_of m n ≡ feature_data_by all (feature_entries_of (take i table)) n)) (λ all. HoldsSection all s × (v.items ≡ section_bytes all s))
             (λ all. All (λ e. HoldsSection all e.1) (feature_entries_of (take i table) ++ (f.0, s) ∷ []) × ((n : ℕ) → feature_data_of new n ≡ feature_data_by all (feature_entries_of (take i table) ++ (f.0, s) ∷ []) n))
-            (λ all held here. (
-              All-push (λ e. HoldsSection all e.1) (feature_entries_of (take i table)) (f.0, s) held.0 here.0,
+            (λ all complete here. (
+              All-push (λ e. HoldsSection all e.1) (feature_entries_of (take i table)) (f.0, s) complete.0 here.0,
               λ n. updates n
-                  ∙ elim (nat_eq f.0 n) as (λ t. cond t (Some v.items) (feature_data_of m n) ≡ cond t (Some (section_bytes all s)) (feature_data_by all (feature_entries_of (take i table)) n)) [ true ↦ ap (λ l. Some l) here.1 | false ↦ held.1 n ]
+                  ∙ elim (nat_eq f.0 n) as (λ t. cond t (Some v.items) (feature_data_of m n) ≡ cond t (Some (section_bytes all s)) (feature_data_by all (feature_entries_of (take i table)) n)) [ true ↦ ap (λ l. Some l) here.1 | false ↦ complete.1 n ]
                   ∙ sym (data_push all (feature_entries_of (take i table)) f.0 s n),
             ))
-            so.shown (shown_before a b (λ all. HoldsSection all s × (v.items ≡ section_bytes all s)) so.stood one.1);
+            so.shown (shown_before a b (λ all. HoldsSection all s × (v.items ≡ section_bytes all s)) so.seek one.1);
       })
 
   -- reading the next section fails
   pub data_error : (e : Error) (remaining_from : List (Feature × PerfFileSection)) → DataSoFar (feature_entries_of (take i table)) a m b → table ≡ take i table ++ (f, s) ∷ remaining_from → ReadsSectionBytes s b (Err e) c
       → ReadsFeatureData {S = S} (feature_entries_of table) a (Err e) c
   data_error e remaining_from so split one = (
-    after_seek_more a b c so.stood one.0,
+    after_seek_more a b c so.seek one.0,
     λ other. elim (one.1 other) [
       | inl lacks ↦ inl (if_both (all_bytes_of a.position) (λ all. All (λ e'. HoldsSection all e'.1) (feature_entries_of (take i table)) × ((n : ℕ) → feature_data_of m n ≡ feature_data_by all (feature_entries_of (take i table)) n)) (λ all. IsUnexpectedEof e × SectionTruncated all s) (λ all. IsUnexpectedEof e × FirstTruncatedSection all (feature_entries_of table))
-          (λ all held here. (
+          (λ all complete here. (
             here.0,
             record {
               before = feature_entries_of (take i table);
               entry = (f.0, s);
               later = feature_entries_of remaining_from;
               matches = ap feature_entries_of split ∙ map-append (λ e'. (e'.0.0, e'.1)) (take i table) ((f, s) ∷ remaining_from);
-              complete_before = held.0;
+              complete_before = complete.0;
               is_truncated_here = here.1;
             },
           ))
-          so.shown (shown_before a b (λ all. IsUnexpectedEof e × SectionTruncated all s) so.stood lacks))
-      | inr owes ↦ inr (owes_later a b c e so.stood owes)
+          so.shown (shown_before a b (λ all. IsUnexpectedEof e × SectionTruncated all s) so.seek lacks))
+      | inr source_error ↦ inr (earlier_source_error a b c e so.seek source_error)
     ],
   )
 
   -- memory runs out for the next section
   pub data_full : (v : Vec ℕ Global) → DataSoFar (feature_entries_of (take i table)) a m b → ReadsSectionBytes s b (Ok v) c → ReadsFeatureData {S = S} (feature_entries_of table) a (Err OfMemory) c
-  data_full v so one = (after_seek_more a b c so.stood one.0, λ other. absurd (other refl))
+  data_full v so one = (after_seek_more a b c so.seek one.0, λ other. absurd (other refl))
 
 pub data_none : {S : Type 0} (a : State) (m : IndexMap Feature (Vec ℕ Global) S) (table : List (Feature × PerfFileSection)) → RemainsFromPosition a → m.entries ≡ [] → DataSoFar (feature_entries_of (take 0 table)) a m a
 data_none a m table placed none = record {
-  stood = after_seek_none a placed;
+  seek = after_seek_none a placed;
   shown = if_each (all_bytes_of a.position) (λ all. All (λ e. HoldsSection all e.1) (feature_entries_of (take 0 table)) × ((n : ℕ) → feature_data_of m n ≡ feature_data_by all (feature_entries_of (take 0 table)) n))
       (λ all. (All-nil (λ e. HoldsSection all e.1), λ n. ap (λ es. option_map (λ v. v.items) (lookup (λ f. nat_eq n f.0) es)) none));
 }
@@ -225,60 +225,60 @@ pub data_done : {S : Type 0} (a b : State) (m : IndexMap Feature (Vec ℕ Global
     → ReadsFeatureData (feature_entries_of table) a (Ok m) b
 data_done a b m table i so all =
     let whole : take i table ≡ table = take_all i table all in
-    let told = subst (λ t. DataSoFar (feature_entries_of t) a m b) whole so in
-    (told.stood, told.shown)
+    let whole_table = subst (λ t. DataSoFar (feature_entries_of t) a m b) whole so in
+    (whole_table.seek, whole_table.shown)
 
 -- ---- the whole table
 
 -- the parsed table is the table at the offset
 table_there : (order : Endianness) (at : ℕ) (features : List ℕ) (a b c : State) (es : List FeatureEntry) → b.position ≡ at_offset at a.position → AfterSeek a b → TableRead order features b es c
     → IfSome (all_bytes_of a.position) (λ all. HoldsFeatureTable order all at features × (es ≡ feature_table_of order all at features))
-table_there order at features a b c es sought stood took = come_there a.position b.position b.bytes at (λ all. HoldsFeatureTable order all at features × (es ≡ feature_table_of order all at features)) sought stood.from_position (λ all is.
-    let cut = came_there c.bytes (drop at all) took.bytes (sym is ∙ took.consumes.bytes) in
-    let long = took.exact_len in (
-      omega (arith, ap length cut.1, length-append took.bytes cut.0, long),
-      took.matches ∙ sym (ap (λ l. feature_entries_in order l features) cut.1 ∙ entries_front order took.bytes cut.0 features took.exact_len),
+table_there order at features a b c es sought seek table_read = remaining_there a.position b.position b.bytes at (λ all. HoldsFeatureTable order all at features × (es ≡ feature_table_of order all at features)) sought seek.from_position (λ all is.
+    let truncated = prefix_there c.bytes (drop at all) table_read.bytes (sym is ∙ table_read.consumes.bytes) in
+    let long = table_read.exact_len in (
+      omega (arith, ap length truncated.1, length-append table_read.bytes truncated.0, long),
+      table_read.matches ∙ sym (ap (λ l. feature_entries_in order l features) truncated.1 ∙ entries_of_prefix order table_read.bytes truncated.0 features table_read.exact_len),
     ))
 
 -- reading the table fails
 pub table_error : (S : Type 0) (order : Endianness) (at : ℕ) (features : List ℕ) (a b c : State) (e : Error) → b.position ≡ at_offset at a.position → AfterSeek a b → TableReadError (16 * length features) b e c
     → ReadsFeatures {S = S} order at features a (Err e) c
-table_error S order at features a b c e sought stood stopped = (
-  after_seek_more a b c stood (consumed-after_seek b c stopped.bytes stood.from_position stopped.consumes),
-  λ other. let why = stopped.cause other in elim why.1 [
-    | inl (short, none) ↦ elim (none_or_paused b c none) [
-      | inl all ↦ inl (come_there a.position b.position b.bytes at (λ all'. IsUnexpectedEof e × SectionsTruncated order all' at features) sought stood.from_position (λ all' is.
+table_error S order at features a b c e sought seek stopped = (
+  after_seek_more a b c seek (consumed-after_seek b c stopped.bytes seek.from_position stopped.consumes),
+  λ other. let reason = stopped.cause other in elim reason.1 [
+    | inl (eof, none) ↦ elim (none_or_paused b c none) [
+      | inl all ↦ inl (remaining_there a.position b.position b.bytes at (λ all'. IsUnexpectedEof e × SectionsTruncated order all' at features) sought seek.from_position (λ all' is.
           let same : Some (drop at all') ≡ Some stopped.bytes = sym is ∙ all_read b c stopped.bytes stopped.consumes all in
           let few : length (drop at all') ≡ length stopped.bytes = cc in
-          (short, inl (omega (arith, few, why.0)))))
-      | inr paused ↦ inr (inr (short, paused_after_seek a b c stood paused))
+          (eof, inl (omega (arith, few, reason.0)))))
+      | inr paused ↦ inr (inr (eof, paused_after_seek a b c seek paused))
     ]
-    | inr (is, failed) ↦ inr (inl (is, failed_after_seek a b c stood failed))
+    | inr (is, failed) ↦ inr (inl (is, failed_after_seek a b c seek failed))
   ],
 )
 
 -- the sections of the table are read, or reading them fails
 pub sections_read : {S : Type 0} (order : Endianness) (at : ℕ) (features : List ℕ) (a b c d : State) (es : List FeatureEntry) (r : Result (IndexMap Feature (Vec ℕ Global) S) Error) → b.position ≡ at_offset at a.position → AfterSeek a b
     → TableRead order features b es c → ReadsFeatureData es c r d → ReadsFeatures order at features a r d
-sections_read order at features a b c d es (Ok m) sought stood took reads =
-    let stood_c = after_seek_more a b c stood (consumed-after_seek b c took.bytes stood.from_position took.consumes) in (
-      after_seek_more a c d stood_c reads.0,
+sections_read order at features a b c d es (Ok m) sought seek table_read reads =
+    let seek_c = after_seek_more a b c seek (consumed-after_seek b c table_read.bytes seek.from_position table_read.consumes) in (
+      after_seek_more a c d seek_c reads.0,
       if_both (all_bytes_of a.position) (λ all. HoldsFeatureTable order all at features × (es ≡ feature_table_of order all at features)) (λ all. All (λ e. HoldsSection all e.1) es × ((n : ℕ) → feature_data_of m n ≡ feature_data_by all es n))
           (λ all. HoldsAllSections order all at features × ((n : ℕ) → feature_data_of m n ≡ feature_data_by all (feature_table_of order all at features) n))
-          (λ all there held. (
-            (there.0, subst (λ l. All (λ e. HoldsSection all e.1) l) there.1 held.0),
-            λ n. held.1 n ∙ ap (λ l. feature_data_by all l n) there.1,
+          (λ all there complete. (
+            (there.0, subst (λ l. All (λ e. HoldsSection all e.1) l) there.1 complete.0),
+            λ n. complete.1 n ∙ ap (λ l. feature_data_by all l n) there.1,
           ))
-          (table_there order at features a b c es sought stood took) (shown_before a c (λ all. All (λ e. HoldsSection all e.1) es × ((n : ℕ) → feature_data_of m n ≡ feature_data_by all es n)) stood_c reads.1),
+          (table_there order at features a b c es sought seek table_read) (shown_before a c (λ all. All (λ e. HoldsSection all e.1) es × ((n : ℕ) → feature_data_of m n ≡ feature_data_by all es n)) seek_c reads.1),
     )
-sections_read order at features a b c d es (Err e) sought stood took reads =
-    let stood_c = after_seek_more a b c stood (consumed-after_seek b c took.bytes stood.from_position took.consumes) in (
-      after_seek_more a c d stood_c reads.0,
+sections_read order at features a b c d es (Err e) sought seek table_read reads =
+    let seek_c = after_seek_more a b c seek (consumed-after_seek b c table_read.bytes seek.from_position table_read.consumes) in (
+      after_seek_more a c d seek_c reads.0,
       λ other. elim (reads.1 other) [
         | inl lacks ↦ inl (if_both (all_bytes_of a.position) (λ all. HoldsFeatureTable order all at features × (es ≡ feature_table_of order all at features)) (λ all. IsUnexpectedEof e × FirstTruncatedSection all es) (λ all. IsUnexpectedEof e × SectionsTruncated order all at features)
             (λ all there one. (one.0, inr (there.0, subst (FirstTruncatedSection all) there.1 one.1)))
-            (table_there order at features a b c es sought stood took) (shown_before a c (λ all. IsUnexpectedEof e × FirstTruncatedSection all es) stood_c lacks))
-        | inr owes ↦ inr (owes_later a c d e stood_c owes)
+            (table_there order at features a b c es sought seek table_read) (shown_before a c (λ all. IsUnexpectedEof e × FirstTruncatedSection all es) seek_c lacks))
+        | inr source_error ↦ inr (earlier_source_error a c d e seek_c source_error)
       ],
     )
 
@@ -291,5 +291,5 @@ data_put m new k v puts n =
     ∙ elim (nat_eq k.0 n) as (λ t. option_map (λ (w : Vec ℕ Global). w.items) (cond t (Some v) (get (λ (f g : Feature). nat_eq f.0 g.0) m (record { 0 = n }))) ≡ cond t (Some v.items) (feature_data_of m n)) [ true ↦ refl | false ↦ refl ]
 
 -- an insertion that fails leaves the bytes of features unchanged
-pub data_left : {S : Type 0} (m new : IndexMap Feature (Vec ℕ Global) S) → new.entries ≡ m.entries → (n : ℕ) → feature_data_of new n ≡ feature_data_of m n
-data_left m new same n = ap (λ (es : List (Feature × Vec ℕ Global)). option_map (λ (v : Vec ℕ Global). v.items) (lookup (λ f. nat_eq n f.0) es)) same
+pub data_unchanged : {S : Type 0} (m new : IndexMap Feature (Vec ℕ Global) S) → new.entries ≡ m.entries → (n : ℕ) → feature_data_of new n ≡ feature_data_of m n
+data_unchanged m new same n = ap (λ (es : List (Feature × Vec ℕ Global)). option_map (λ (v : Vec ℕ Global). v.items) (lookup (λ f. nat_eq n f.0) es)) same

@@ -19,8 +19,9 @@ use Rattle.linux_perf_data.specs.AttributeSources.{IsMetaInfoError, IsSectionsEr
 use Rattle.linux_perf_data.specs.Descriptions.{described_attributes}
 use Rattle.linux_perf_data.specs.Laws.{SameCause, FileErrorIsUnique}
 use Rattle.linux_perf_data.specs.FileOpening.{section_data, IsAttributesError, IsErrorAfterHeader}
+use Rattle.linux_perf_data.specs.FeatureNumbers.{event_desc, simpleperf_meta_info}
 use Rattle.linux_perf_data.specs.Consistency.{error_of_inconsistency}
-use Rattle.linux_perf_data.proofs.DescribedFiles.{Entry, run_at, run_one, frame_stands, entry_one, entry_stands, ids_stand, names_stand, with_alike, with_stands, holds_or_lacks, header_one, truncated_header_fails, far_header_fails, unknown_magic_fails}
+use Rattle.linux_perf_data.proofs.DescribedFiles.{Entry, run_at, run_one, frame_no_error, entry_one, entry_no_error, ids_no_error, names_no_error, with_alike, sources_no_error, holds_or_lacks, header_one, truncated_header_fails, far_header_fails, unknown_magic_fails}
 use Rattle.linux_perf_data.proofs.PipeOpeningUniqueness.{same_order}
 use Rattle.linux_perf_data.proofs.ConsistencyLemmas.{inconsistency_is_unique, first_same, tail_same}
 
@@ -31,9 +32,9 @@ module _ {D : Type 0} (IsOne : List ℕ → D → Type 0) (step : ℕ) (all : Li
   run_goes_on : (e : Error) (at n : ℕ) (ds : List D) → ItemsAt IsOne step all at ds → n < length ds → IsNot e (drop (at + n * step) all) → ⊥
   run_goes_on e at n ds run few none = let here = run_at IsOne step all n at ds run few in apart e (drop (at + n * step) all) here.0 here.1 none
 
-  run_refused : (e f : Error) (at : ℕ) (ds es : List D) → ItemsAt IsOne step all at ds → ItemsAt IsOne step all at es → IsNot e (drop (at + length ds * step) all) → IsNot f (drop (at + length es * step) all)
+  run_errors_alike : (e f : Error) (at : ℕ) (ds es : List D) → ItemsAt IsOne step all at ds → ItemsAt IsOne step all at es → IsNot e (drop (at + length ds * step) all) → IsNot f (drop (at + length es * step) all)
       → ((xs : List ℕ) → IsNot e xs → IsNot f xs → Alike e f) → Alike e f
-  run_refused e f at ds es x y none none' alike = elim (cases_lt (length ds) (length es)) [
+  run_errors_alike e f at ds es x y none none' alike = elim (cases_lt (length ds) (length es)) [
     | inl few ↦ absurd (run_goes_on e at (length ds) es y few none)
     | inr most ↦ elim (cases_lt (length es) (length ds)) [
       | inl few ↦ absurd (run_goes_on f at (length es) ds x few none')
@@ -46,152 +47,152 @@ module _ {D : Type 0} (IsOne : List ℕ → D → Type 0) (step : ℕ) (all : Li
 module _ (number : ℕ → List ℕ → ℕ) where
   -- ---- entries
 
-  entry_refused : (size : ℕ) (e f : Error) (xs : List ℕ) → IsEventTypeEntryError number size e xs → IsEventTypeEntryError number size f xs → Alike e f
-  entry_refused size e f xs (inl x) (inl y) = inl (frame_error number size e f xs x y)
-  entry_refused size e f xs (inl x) (inr (framed, short, few)) = absurd (frame_stands number size e xs framed.0 framed.1 x)
-  entry_refused size e f xs (inr (framed, short, few)) (inl y) = absurd (frame_stands number size f xs framed.0 framed.1 y)
-  entry_refused size e f xs (inr (framed, short, few)) (inr (framed', short', few')) = inr (short, short')
+  entry_errors_alike : (size : ℕ) (e f : Error) (xs : List ℕ) → IsEventTypeEntryError number size e xs → IsEventTypeEntryError number size f xs → Alike e f
+  entry_errors_alike size e f xs (inl x) (inl y) = inl (frame_error number size e f xs x y)
+  entry_errors_alike size e f xs (inl x) (inr (framed, eof, few)) = absurd (frame_no_error number size e xs framed.0 framed.1 x)
+  entry_errors_alike size e f xs (inr (framed, eof, few)) (inl y) = absurd (frame_no_error number size f xs framed.0 framed.1 y)
+  entry_errors_alike size e f xs (inr (framed, eof, few)) (inr (framed', eof', few')) = inr (eof, eof')
 
-  ids_refused : (e f : Error) (s : PerfFileSection) (all : List ℕ) → IsSectionIdsError number e s all → IsSectionIdsError number f s all → Alike e f
-  ids_refused e f s all (inl (far, read)) (inl (far', read')) = inl (read ∙ sym read')
-  ids_refused e f s all (inl (far, read)) (inr (near, short, few)) = absurd (omega (arith, far, near))
-  ids_refused e f s all (inr (near, short, few)) (inl (far, read)) = absurd (omega (arith, far, near))
-  ids_refused e f s all (inr (near, short, few)) (inr (near', short', few')) = inr (short, short')
+  ids_errors_alike : (e f : Error) (s : PerfFileSection) (all : List ℕ) → IsSectionIdsError number e s all → IsSectionIdsError number f s all → Alike e f
+  ids_errors_alike e f s all (inl (far, read)) (inl (far', read')) = inl (read ∙ sym read')
+  ids_errors_alike e f s all (inl (far, read)) (inr (near, eof, few)) = absurd (omega (arith, far, near))
+  ids_errors_alike e f s all (inr (near, eof, few)) (inl (far, read)) = absurd (omega (arith, far, near))
+  ids_errors_alike e f s all (inr (near, eof, few)) (inr (near', eof', few')) = inr (eof, eof')
 
   module _ (all : List ℕ) (names others : ℕ → Option (List ℕ)) where
     -- The first entry whose IDs are out of bounds is unique.
-    given_refused : (e f : Error) (i : ℕ) (xs ys ws zs : List Entry) (x y : Entry) (ds es : List AttributeDescription) → xs ++ x ∷ ws ≡ ys ++ y ∷ zs → AreEntryDescriptions number (Some all) names i xs ds → AreEntryDescriptions number (Some all) others i ys es
+    descriptions_errors_alike : (e f : Error) (i : ℕ) (xs ys ws zs : List Entry) (x y : Entry) (ds es : List AttributeDescription) → xs ++ x ∷ ws ≡ ys ++ y ∷ zs → AreEntryDescriptions number (Some all) names i xs ds → AreEntryDescriptions number (Some all) others i ys es
         → IsSectionIdsError number e x.ids all → IsSectionIdsError number f y.ids all → Alike e f
-    given_refused e f i [] [] ws zs x y ds es same given given' none none' =
-        ids_refused e f y.ids all (subst (λ (t : Entry). IsSectionIdsError number e t.ids all) (first_same x y ws zs same) none) none'
-    given_refused e f i [] (t ∷ ys) ws zs x y ds [] same given given' none none' = absurd given'
-    given_refused e f i [] (t ∷ ys) ws zs x y ds (d ∷ es) same given (is, more) none none' =
-        absurd (ids_stand number e t.ids all (ids_in d) is.ids (subst (λ (t : Entry). IsSectionIdsError number e t.ids all) (first_same x t ws (ys ++ y ∷ zs) same) none))
-    given_refused e f i (t ∷ xs) [] ws zs x y [] es same given given' none none' = absurd given
-    given_refused e f i (t ∷ xs) [] ws zs x y (d ∷ ds) es same (is, more) given' none none' =
-        absurd (ids_stand number f t.ids all (ids_in d) is.ids (subst (λ (t : Entry). IsSectionIdsError number f t.ids all) (sym (first_same t y (xs ++ x ∷ ws) zs same)) none'))
-    given_refused e f i (s ∷ xs) (t ∷ ys) ws zs x y [] es same given given' none none' = absurd given
-    given_refused e f i (s ∷ xs) (t ∷ ys) ws zs x y (d ∷ ds) [] same given given' none none' = absurd given'
-    given_refused e f i (s ∷ xs) (t ∷ ys) ws zs x y (c ∷ ds) (d ∷ es) same (is, more) (is', more') none none' =
-        given_refused e f (i + 1) xs ys ws zs x y ds es (tail_same s t (xs ++ x ∷ ws) (ys ++ y ∷ zs) same) more more' none none'
+    descriptions_errors_alike e f i [] [] ws zs x y ds es same described described' none none' =
+        ids_errors_alike e f y.ids all (subst (λ (t : Entry). IsSectionIdsError number e t.ids all) (first_same x y ws zs same) none) none'
+    descriptions_errors_alike e f i [] (t ∷ ys) ws zs x y ds [] same described described' none none' = absurd described'
+    descriptions_errors_alike e f i [] (t ∷ ys) ws zs x y ds (d ∷ es) same described (is, more) none none' =
+        absurd (ids_no_error number e t.ids all (ids_in d) is.ids (subst (λ (t : Entry). IsSectionIdsError number e t.ids all) (first_same x t ws (ys ++ y ∷ zs) same) none))
+    descriptions_errors_alike e f i (t ∷ xs) [] ws zs x y [] es same described described' none none' = absurd described
+    descriptions_errors_alike e f i (t ∷ xs) [] ws zs x y (d ∷ ds) es same (is, more) described' none none' =
+        absurd (ids_no_error number f t.ids all (ids_in d) is.ids (subst (λ (t : Entry). IsSectionIdsError number f t.ids all) (sym (first_same t y (xs ++ x ∷ ws) zs same)) none'))
+    descriptions_errors_alike e f i (s ∷ xs) (t ∷ ys) ws zs x y [] es same described described' none none' = absurd described
+    descriptions_errors_alike e f i (s ∷ xs) (t ∷ ys) ws zs x y (d ∷ ds) [] same described described' none none' = absurd described'
+    descriptions_errors_alike e f i (s ∷ xs) (t ∷ ys) ws zs x y (c ∷ ds) (d ∷ es) same (is, more) (is', more') none none' =
+        descriptions_errors_alike e f (i + 1) xs ys ws zs x y ds es (tail_same s t (xs ++ x ∷ ws) (ys ++ y ∷ zs) same) more more' none none'
 
   module _ (all : List ℕ) (size : ℕ) (section : PerfFileSection) where
     -- an error at the IDs of entries excludes an error at an entry, because all entries are complete
-    entries_or_cut : (names others : ℕ → Option (List ℕ)) (e f : Error) → ErrorAtEntry number size names section e all → ErrorAtIds number size others section f all → ⊥
-    entries_or_cut names others e f s t =
+    entries_or_truncated : (names others : ℕ → Option (List ℕ)) (e f : Error) → ErrorAtEntry number size names section e all → ErrorAtIds number size others section f all → ⊥
+    entries_or_truncated names others e f s t =
         let few = s.too_few in
         let count = t.entries_match.count in
         let here = run_at (IsEventTypeEntry number size) (size + 16) all (length s.before) section.offset t.entries t.entries_match.items_match (omega (arith, few, count)) in
-        entry_stands number size e (drop (section.offset + length s.before * (size + 16)) all) here.0 here.1 s.error_here
+        entry_no_error number size e (drop (section.offset + length s.before * (size + 16)) all) here.0 here.1 s.error_here
 
-    entries_refused : (names others : ℕ → Option (List ℕ)) (e f : Error) → IsEntriesError number size names section e all → IsEntriesError number size others section f all → Alike e f
-    entries_refused names others e f (inl s) (inl t) =
-        run_refused (IsEventTypeEntry number size) (size + 16) all (IsEventTypeEntryError number size) (entry_stands number size) e f section.offset s.before t.before s.items_match t.items_match s.error_here t.error_here (entry_refused size e f)
-    entries_refused names others e f (inl s) (inr t) = absurd (entries_or_cut names others e f s t)
-    entries_refused names others e f (inr s) (inl t) = absurd (entries_or_cut others names f e t s)
-    entries_refused names others e f (inr s) (inr t) =
+    entries_errors_alike : (names others : ℕ → Option (List ℕ)) (e f : Error) → IsEntriesError number size names section e all → IsEntriesError number size others section f all → Alike e f
+    entries_errors_alike names others e f (inl s) (inl t) =
+        run_errors_alike (IsEventTypeEntry number size) (size + 16) all (IsEventTypeEntryError number size) (entry_no_error number size) e f section.offset s.before t.before s.items_match t.items_match s.error_here t.error_here (entry_errors_alike size e f)
+    entries_errors_alike names others e f (inl s) (inr t) = absurd (entries_or_truncated names others e f s t)
+    entries_errors_alike names others e f (inr s) (inl t) = absurd (entries_or_truncated others names f e t s)
+    entries_errors_alike names others e f (inr s) (inr t) =
         let same : s.entries ≡ t.entries = run_one (IsEventTypeEntry number size) (size + 16) all (entry_one number size) section.offset s.entries t.entries (s.entries_match.count ∙ sym t.entries_match.count) s.entries_match.items_match t.entries_match.items_match in
-        let cut = sym s.error.elements ∙ same ∙ t.error.elements in
-        given_refused all names others e f 0 s.error.before t.error.before s.error.after t.error.after s.error.failing_entry t.error.failing_entry s.error.descriptions t.error.descriptions cut s.error.descriptions_match t.error.descriptions_match s.error.error_here t.error.error_here
+        let same_entries = sym s.error.elements ∙ same ∙ t.error.elements in
+        descriptions_errors_alike all names others e f 0 s.error.before t.error.before s.error.after t.error.after s.error.failing_entry t.error.failing_entry s.error.descriptions t.error.descriptions same_entries s.error.descriptions_match t.error.descriptions_match s.error.error_here t.error.error_here
 
 -- ---- meta info
 
-texts_refused : (info : List ℕ) (f : Error) → IsMetaInfoError info StringUtf8 → IsMetaInfoError info f → (let e : Error = StringUtf8 in e) ≡ f
-texts_refused info StringUtf8 x y = refl
-texts_refused info NoEventTypesInSimpleperfMetaInfo x (texts, none) = absurd (x texts)
-texts_refused info _ x y = absurd y
+utf8_error_alike : (info : List ℕ) (f : Error) → IsMetaInfoError info StringUtf8 → IsMetaInfoError info f → (let e : Error = StringUtf8 in e) ≡ f
+utf8_error_alike info StringUtf8 x y = refl
+utf8_error_alike info NoEventTypesInSimpleperfMetaInfo x (texts, none) = absurd (x texts)
+utf8_error_alike info _ x y = absurd y
 
-types_refused : (info : List ℕ) (f : Error) → IsMetaInfoError info NoEventTypesInSimpleperfMetaInfo → IsMetaInfoError info f → (let e : Error = NoEventTypesInSimpleperfMetaInfo in e) ≡ f
-types_refused info StringUtf8 (texts, none) y = absurd (y texts)
-types_refused info NoEventTypesInSimpleperfMetaInfo x y = refl
-types_refused info _ x y = absurd y
+types_error_alike : (info : List ℕ) (f : Error) → IsMetaInfoError info NoEventTypesInSimpleperfMetaInfo → IsMetaInfoError info f → (let e : Error = NoEventTypesInSimpleperfMetaInfo in e) ≡ f
+types_error_alike info StringUtf8 (texts, none) y = absurd (y texts)
+types_error_alike info NoEventTypesInSimpleperfMetaInfo x y = refl
+types_error_alike info _ x y = absurd y
 
-names_refused : (info : List ℕ) (e f : Error) → IsMetaInfoError info e → IsMetaInfoError info f → e ≡ f
-names_refused info StringUtf8 f x y = texts_refused info f x y
-names_refused info NoEventTypesInSimpleperfMetaInfo f x y = types_refused info f x y
-names_refused info _ f x y = absurd x
+names_errors_alike : (info : List ℕ) (e f : Error) → IsMetaInfoError info e → IsMetaInfoError info f → e ≡ f
+names_errors_alike info StringUtf8 f x y = utf8_error_alike info f x y
+names_errors_alike info NoEventTypesInSimpleperfMetaInfo f x y = types_error_alike info f x y
+names_errors_alike info _ f x y = absurd x
 
 module _ (order : Endianness) (h : PerfHeader) (all : List ℕ) where
   -- ---- attributes
 
-  section_refused : (info : Option (List ℕ)) (e f : Error) → IsAttrSectionError order h info all e → IsAttrSectionError order h info all f → Alike e f
-  section_refused (Some info) e f (inl x) (inl y) = inl (names_refused info e f x y)
-  section_refused (Some info) e f (inl x) (inr (types, names, y)) = absurd (names_stand info e types names x)
-  section_refused (Some info) e f (inr (types, names, x)) (inl y) = absurd (names_stand info f types names y)
-  section_refused (Some info) e f (inr (types, names, inl (few, read))) (inr (others, names', inl (few', read'))) = inl (read ∙ sym read')
-  section_refused (Some info) e f (inr (types, names, inl (few, read))) (inr (others, names', inr (room, y))) = absurd (omega (arith, few, room))
-  section_refused (Some info) e f (inr (types, names, inr (room, x))) (inr (others, names', inl (few, read))) = absurd (omega (arith, few, room))
-  section_refused (Some info) e f (inr (types, names, inr (room, inl (far, read)))) (inr (others, names', inr (room', inl (far', read')))) = inl (read ∙ sym read')
-  section_refused (Some info) e f (inr (types, names, inr (room, inl (far, read)))) (inr (others, names', inr (room', inr (can, y)))) = absurd (can far)
-  section_refused (Some info) e f (inr (types, names, inr (room, inr (can, x)))) (inr (others, names', inr (room', inl (far, read)))) = absurd (can far)
-  section_refused (Some info) e f (inr (types, names, inr (room, inr (can, x)))) (inr (others, names', inr (room', inr (can', y)))) =
-      entries_refused (number_in order) all (h.attr_size - 16) h.attr_section (type_name_at types) (type_name_at others) e f x y
-  section_refused None e f (inl (far, read)) (inl (far', read')) = inl (read ∙ sym read')
-  section_refused None e f (inl (far, read)) (inr (can, y)) = absurd (can far)
-  section_refused None e f (inr (can, x)) (inl (far, read)) = absurd (can far)
-  section_refused None e f (inr (can, x)) (inr (can', y)) =
-      run_refused (IsPlainDescription (number_in order) h.attr_size) h.attr_size all (IsFrameError (number_in order) h.attr_size) (λ e xs d is none. frame_stands (number_in order) h.attr_size e xs (attr_in d) is.attr_in_frame none) e f h.attr_section.offset x.before y.before x.items_match y.items_match x.error_here y.error_here
+  section_errors_alike : (info : Option (List ℕ)) (e f : Error) → IsAttrSectionError order h info all e → IsAttrSectionError order h info all f → Alike e f
+  section_errors_alike (Some info) e f (inl x) (inl y) = inl (names_errors_alike info e f x y)
+  section_errors_alike (Some info) e f (inl x) (inr (types, names, y)) = absurd (names_no_error info e types names x)
+  section_errors_alike (Some info) e f (inr (types, names, x)) (inl y) = absurd (names_no_error info f types names y)
+  section_errors_alike (Some info) e f (inr (types, names, inl (few, read))) (inr (others, names', inl (few', read'))) = inl (read ∙ sym read')
+  section_errors_alike (Some info) e f (inr (types, names, inl (few, read))) (inr (others, names', inr (size_fits, y))) = absurd (omega (arith, few, size_fits))
+  section_errors_alike (Some info) e f (inr (types, names, inr (size_fits, x))) (inr (others, names', inl (few, read))) = absurd (omega (arith, few, size_fits))
+  section_errors_alike (Some info) e f (inr (types, names, inr (size_fits, inl (far, read)))) (inr (others, names', inr (size_fits', inl (far', read')))) = inl (read ∙ sym read')
+  section_errors_alike (Some info) e f (inr (types, names, inr (size_fits, inl (far, read)))) (inr (others, names', inr (size_fits', inr (can, y)))) = absurd (can far)
+  section_errors_alike (Some info) e f (inr (types, names, inr (size_fits, inr (can, x)))) (inr (others, names', inr (size_fits', inl (far, read)))) = absurd (can far)
+  section_errors_alike (Some info) e f (inr (types, names, inr (size_fits, inr (can, x)))) (inr (others, names', inr (size_fits', inr (can', y)))) =
+      entries_errors_alike (number_in order) all (h.attr_size - 16) h.attr_section (type_name_at types) (type_name_at others) e f x y
+  section_errors_alike None e f (inl (far, read)) (inl (far', read')) = inl (read ∙ sym read')
+  section_errors_alike None e f (inl (far, read)) (inr (can, y)) = absurd (can far)
+  section_errors_alike None e f (inr (can, x)) (inl (far, read)) = absurd (can far)
+  section_errors_alike None e f (inr (can, x)) (inr (can', y)) =
+      run_errors_alike (IsPlainDescription (number_in order) h.attr_size) h.attr_size all (IsFrameError (number_in order) h.attr_size) (λ e xs d is none. frame_no_error (number_in order) h.attr_size e xs (attr_in d) is.attr_in_frame none) e f h.attr_section.offset x.before y.before x.items_match y.items_match x.error_here y.error_here
       (λ xs none none'. inl (frame_error (number_in order) h.attr_size e f xs none none'))
 
-  sections_refused : (info : Option (List ℕ)) (e f : Error) → IsSectionsError order h info all e → IsSectionsError order h info all f → Alike e f
-  sections_refused info e f (inl (some, inl (far, read))) (inl (some', inl (far', read'))) = inl (read ∙ sym read')
-  sections_refused info e f (inl (some, inl (far, read))) (inl (some', inr (can, y))) = absurd (can far)
-  sections_refused info e f (inl (some, inr (can, x))) (inl (some', inl (far, read))) = absurd (can far)
-  sections_refused info e f (inl (some, inr (can, x))) (inl (some', inr (can', y))) = entries_refused (number_in order) all h.attr_size h.event_types_section (type_name_at []) (type_name_at []) e f x y
-  sections_refused info e f (inl (some, x)) (inr (none, y)) = absurd (some none)
-  sections_refused info e f (inr (none, x)) (inl (some, y)) = absurd (some none)
-  sections_refused info e f (inr (none, x)) (inr (none', y)) = section_refused info e f x y
+  sections_errors_alike : (info : Option (List ℕ)) (e f : Error) → IsSectionsError order h info all e → IsSectionsError order h info all f → Alike e f
+  sections_errors_alike info e f (inl (some, inl (far, read))) (inl (some', inl (far', read'))) = inl (read ∙ sym read')
+  sections_errors_alike info e f (inl (some, inl (far, read))) (inl (some', inr (can, y))) = absurd (can far)
+  sections_errors_alike info e f (inl (some, inr (can, x))) (inl (some', inl (far, read))) = absurd (can far)
+  sections_errors_alike info e f (inl (some, inr (can, x))) (inl (some', inr (can', y))) = entries_errors_alike (number_in order) all h.attr_size h.event_types_section (type_name_at []) (type_name_at []) e f x y
+  sections_errors_alike info e f (inl (some, x)) (inr (none, y)) = absurd (some none)
+  sections_errors_alike info e f (inr (none, x)) (inl (some, y)) = absurd (some none)
+  sections_errors_alike info e f (inr (none, x)) (inr (none', y)) = section_errors_alike info e f x y
 
-  with_refused : (desc info : Option (List ℕ)) (e f : Error) → IsSourcesErrorWith order h desc info all e → IsSourcesErrorWith order h desc info all f → Alike e f
-  with_refused (Some desc) info e f x y = desc_error (number_in order) (in_reads_first order) e f desc x y
-  with_refused None info e f x y = sections_refused info e f x y
+  sources_errors_alike : (desc info : Option (List ℕ)) (e f : Error) → IsSourcesErrorWith order h desc info all e → IsSourcesErrorWith order h desc info all f → Alike e f
+  sources_errors_alike (Some desc) info e f x y = desc_error (number_in order) (in_reads_first order) e f desc x y
+  sources_errors_alike None info e f x y = sections_errors_alike info e f x y
 
   -- ---- after a header
 
-  attributes_refused : (e f : Error) → IsAttributesError order h all e → IsAttributesError order h all f → Alike e f
-  attributes_refused e f (inl x) (inl y) = with_refused (section_data order h all 12) (section_data order h all 129) e f x y
-  attributes_refused e f (inl x) (inr (inl (is, none))) = absurd (with_stands order h all (section_data order h all 12) (section_data order h all 129) e [] none x)
-  attributes_refused e f (inl x) (inr (inr unruly)) = absurd (with_stands order h all (section_data order h all 12) (section_data order h all 129) e unruly.descriptions unruly.attributes_match x)
-  attributes_refused e f (inr (inl (is, none))) (inl y) = absurd (with_stands order h all (section_data order h all 12) (section_data order h all 129) f [] none y)
-  attributes_refused e f (inr (inl (is, none))) (inr (inl (is', none'))) = inl (is ∙ sym is')
-  attributes_refused e f (inr (inl (is, none))) (inr (inr unruly)) =
-      let same : described_attributes unruly.descriptions ≡ [] = with_alike order h all (section_data order h all 12) (section_data order h all 129) unruly.descriptions [] unruly.attributes_match none in
-      absurd (subst (λ l. AreInconsistent l unruly.inconsistency) same unruly.is_inconsistent)
-  attributes_refused e f (inr (inr unruly)) (inl y) = absurd (with_stands order h all (section_data order h all 12) (section_data order h all 129) f unruly.descriptions unruly.attributes_match y)
-  attributes_refused e f (inr (inr unruly)) (inr (inl (is, none))) =
-      let same : described_attributes unruly.descriptions ≡ [] = with_alike order h all (section_data order h all 12) (section_data order h all 129) unruly.descriptions [] unruly.attributes_match none in
-      absurd (subst (λ l. AreInconsistent l unruly.inconsistency) same unruly.is_inconsistent)
-  attributes_refused e f (inr (inr x)) (inr (inr y)) =
-      let same : described_attributes x.descriptions ≡ described_attributes y.descriptions = with_alike order h all (section_data order h all 12) (section_data order h all 129) x.descriptions y.descriptions x.attributes_match y.attributes_match in
+  attributes_errors_alike : (e f : Error) → IsAttributesError order h all e → IsAttributesError order h all f → Alike e f
+  attributes_errors_alike e f (inl x) (inl y) = sources_errors_alike (section_data order h all event_desc) (section_data order h all simpleperf_meta_info) e f x y
+  attributes_errors_alike e f (inl x) (inr (inl (is, none))) = absurd (sources_no_error order h all (section_data order h all event_desc) (section_data order h all simpleperf_meta_info) e [] none x)
+  attributes_errors_alike e f (inl x) (inr (inr inconsistent)) = absurd (sources_no_error order h all (section_data order h all event_desc) (section_data order h all simpleperf_meta_info) e inconsistent.descriptions inconsistent.attributes_match x)
+  attributes_errors_alike e f (inr (inl (is, none))) (inl y) = absurd (sources_no_error order h all (section_data order h all event_desc) (section_data order h all simpleperf_meta_info) f [] none y)
+  attributes_errors_alike e f (inr (inl (is, none))) (inr (inl (is', none'))) = inl (is ∙ sym is')
+  attributes_errors_alike e f (inr (inl (is, none))) (inr (inr inconsistent)) =
+      let same : described_attributes inconsistent.descriptions ≡ [] = with_alike order h all (section_data order h all event_desc) (section_data order h all simpleperf_meta_info) inconsistent.descriptions [] inconsistent.attributes_match none in
+      absurd (subst (λ l. AreInconsistent l inconsistent.inconsistency) same inconsistent.is_inconsistent)
+  attributes_errors_alike e f (inr (inr inconsistent)) (inl y) = absurd (sources_no_error order h all (section_data order h all event_desc) (section_data order h all simpleperf_meta_info) f inconsistent.descriptions inconsistent.attributes_match y)
+  attributes_errors_alike e f (inr (inr inconsistent)) (inr (inl (is, none))) =
+      let same : described_attributes inconsistent.descriptions ≡ [] = with_alike order h all (section_data order h all event_desc) (section_data order h all simpleperf_meta_info) inconsistent.descriptions [] inconsistent.attributes_match none in
+      absurd (subst (λ l. AreInconsistent l inconsistent.inconsistency) same inconsistent.is_inconsistent)
+  attributes_errors_alike e f (inr (inr x)) (inr (inr y)) =
+      let same : described_attributes x.descriptions ≡ described_attributes y.descriptions = with_alike order h all (section_data order h all event_desc) (section_data order h all simpleperf_meta_info) x.descriptions y.descriptions x.attributes_match y.attributes_match in
       let breach : x.inconsistency ≡ y.inconsistency = inconsistency_is_unique (described_attributes y.descriptions) x.inconsistency y.inconsistency (subst (λ l. AreInconsistent l x.inconsistency) same x.is_inconsistent) y.is_inconsistent in
       inl (x.matches ∙ ap error_of_inconsistency breach ∙ sym y.matches)
 
-  behind_refused : (e f : Error) → IsErrorAfterHeader order h all e → IsErrorAfterHeader order h all f → Alike e f
-  behind_refused e f (inl (read, far)) (inl (read', far')) = inl (read ∙ sym read')
-  behind_refused e f (inl (read, far)) (inr (inl (short, near, lacks))) = absurd (omega (arith, far, near))
-  behind_refused e f (inl (read, far)) (inr (inr (near, holds, y))) = absurd (omega (arith, far, near))
-  behind_refused e f (inr (inl (short, near, lacks))) (inl (read, far)) = absurd (omega (arith, far, near))
-  behind_refused e f (inr (inl (short, near, lacks))) (inr (inl (short', near', lacks'))) = inr (short, short')
-  behind_refused e f (inr (inl (short, near, lacks))) (inr (inr (near', holds, y))) = absurd (holds_or_lacks order h all holds lacks)
-  behind_refused e f (inr (inr (near, holds, x))) (inl (read, far)) = absurd (omega (arith, far, near))
-  behind_refused e f (inr (inr (near, holds, x))) (inr (inl (short, near', lacks))) = absurd (holds_or_lacks order h all holds lacks)
-  behind_refused e f (inr (inr (near, holds, x))) (inr (inr (near', holds', y))) = attributes_refused e f x y
+  after_header_errors_alike : (e f : Error) → IsErrorAfterHeader order h all e → IsErrorAfterHeader order h all f → Alike e f
+  after_header_errors_alike e f (inl (read, far)) (inl (read', far')) = inl (read ∙ sym read')
+  after_header_errors_alike e f (inl (read, far)) (inr (inl (eof, near, lacks))) = absurd (omega (arith, far, near))
+  after_header_errors_alike e f (inl (read, far)) (inr (inr (near, holds, y))) = absurd (omega (arith, far, near))
+  after_header_errors_alike e f (inr (inl (eof, near, lacks))) (inl (read, far)) = absurd (omega (arith, far, near))
+  after_header_errors_alike e f (inr (inl (eof, near, lacks))) (inr (inl (eof', near', lacks'))) = inr (eof, eof')
+  after_header_errors_alike e f (inr (inl (eof, near, lacks))) (inr (inr (near', holds, y))) = absurd (holds_or_lacks order h all holds lacks)
+  after_header_errors_alike e f (inr (inr (near, holds, x))) (inl (read, far)) = absurd (omega (arith, far, near))
+  after_header_errors_alike e f (inr (inr (near, holds, x))) (inr (inl (eof, near', lacks))) = absurd (holds_or_lacks order h all holds lacks)
+  after_header_errors_alike e f (inr (inr (near, holds, x))) (inr (inr (near', holds', y))) = attributes_errors_alike e f x y
 
 -- ---- the file
 
 pub same_cause : (e f : Error) → Alike e f → SameCause e f
 same_cause e f (inl same) = inl same
-same_cause e f (inr short) = inr (inl short)
+same_cause e f (inr eof) = inr (inl eof)
 
 pub opening_error_is_unique : FileErrorIsUnique
-opening_error_is_unique p e f (inl (short, few)) y = inr (inl (short, (truncated_header_fails p few).0 f y))
+opening_error_is_unique p e f (inl (eof, few)) y = inr (inl (eof, (truncated_header_fails p few).0 f y))
 opening_error_is_unique p e f (inr (inl (h, has, (far, invalid)))) y = inr (inr (inl (invalid, (far_header_fails p h has far).0 f y)))
 opening_error_is_unique p e f (inr (inr (inl (h, (has, near, unknown, is))))) y = inl (is ∙ sym ((unknown_magic_fails p h has near unknown).0 f y))
-opening_error_is_unique p e f (inr (inr (inr x))) (inl (short, few)) = inr (inl ((truncated_header_fails p few).0 e (inr (inr (inr x))), short))
+opening_error_is_unique p e f (inr (inr (inr x))) (inl (eof, few)) = inr (inl ((truncated_header_fails p few).0 e (inr (inr (inr x))), eof))
 opening_error_is_unique p e f (inr (inr (inr x))) (inr (inl (h, has, (far, invalid)))) = inr (inr (inl ((far_header_fails p h has far).0 e (inr (inr (inr x))), invalid)))
 opening_error_is_unique p e f (inr (inr (inr x))) (inr (inr (inl (h, (has, near, unknown, is))))) = inl ((unknown_magic_fails p h has near unknown).0 e (inr (inr (inr x))) ∙ sym is)
 opening_error_is_unique p e f (inr (inr (inr (order, (h, is, x))))) (inr (inr (inr (order', (i, is', y))))) =
     let same = header_one p h i is.has_header is'.has_header in
     let orders : order ≡ order' = same_order order order' (sym is.magic ∙ ap (λ k. k.magic) same ∙ is'.magic) in
     let here : IsErrorAfterHeader order' i p.all_bytes e = subst (λ k. IsErrorAfterHeader order' k p.all_bytes e) same (subst (λ o. IsErrorAfterHeader o h p.all_bytes e) orders x) in
-    same_cause e f (behind_refused order' i p.all_bytes e f here y)
+    same_cause e f (after_header_errors_alike order' i p.all_bytes e f here y)

@@ -5,6 +5,7 @@ use Rattle.std.specs.declared.io.Error.{Error as IoErrorValue}
 use Rattle.std.specs.declared.alloc.Global.{Global}
 use Rattle.std.proofs.Math.Seq.{take-append_seam}
 use Rattle.perfdata_base.specs.Source.{State, Position, RemainsFromPosition, AfterSeek, SourceFailed, ReadExactError, at_offset, all_bytes_of, remaining_from, prepend}
+use Rattle.perfdata_base.specs.Section.{EndFitsU64}
 use Rattle.perfdata_base.proofs.ReadErrors.{after_seek_more, failed_after_seek, paused_after_seek, none_or_paused, all_read}
 use Rattle.perfdata_base.specs.Header.{file_header_of, BeginsWithFileHeader, FileHeaderParsed, ExtraSkipError, FileHeaderParseError}
 use Rattle.perfdata_base.specs.declared.raw.Endianness.{Endianness}
@@ -23,30 +24,31 @@ use Rattle.perfdata_base.specs.declared.features.Feature.{Feature}
 use Rattle.perfdata_sections.specs.Error.{IsUnexpectedEof, IsIoError}
 use Rattle.linux_perf_data.specs.FeatureData.{ReadsFeatures, SectionsTruncated, SourceErrorInBytes, feature_data_of}
 use Rattle.linux_perf_data.specs.declared.file.opening.FileOpening.{FileOpening}
-use Rattle.linux_perf_data.specs.FileOpening.{DataEndFitsU64, table_offset, HoldsSections, section_data, attribute_sources_of, DescribesAttributes, IsAttributesError, OpenAfterHeaderError, IsErrorAfterHeader, SourceErrorInOpening, HasHeader, IsFileError, FileOpenError, FileOpened, OpenedFileAt, OpenedAfterHeader, OpensAfterHeader, OpensPerfFile, magic_of}
+use Rattle.linux_perf_data.specs.FileOpening.{table_offset, HoldsSections, section_data, attribute_sources_of, DescribesAttributes, IsAttributesError, OpenAfterHeaderError, IsErrorAfterHeader, SourceErrorInOpening, HasHeader, IsFileError, FileOpenError, FileOpened, OpenedFileAt, OpenedAfterHeader, OpensAfterHeader, OpensPerfFile, magic_of}
+use Rattle.linux_perf_data.specs.FeatureNumbers.{event_desc, simpleperf_meta_info}
 
 -- a property of all bytes holds before a seek if it holds after
 shown_before : (a b : State) (P : List ℕ → Type 0) → AfterSeek a b → IfSome (all_bytes_of b.position) P → IfSome (all_bytes_of a.position) P
-shown_before a b P stood shown = subst (λ o. IfSome o P) stood.all_bytes shown
+shown_before a b P seek shown = subst (λ o. IfSome o P) seek.all_bytes shown
 
-later_owes : (a b c : State) (e : Error) → AfterSeek a b → SourceErrorInOpening b e c → SourceErrorInOpening a e c
-later_owes a b c e stood (inl (is, failed)) = inl (is, failed_after_seek a b c stood failed)
-later_owes a b c e stood (inr (inl (is, paused))) = inr (inl (is, paused_after_seek a b c stood paused))
-later_owes a b c e stood (inr (inr (is, inl failed))) = inr (inr (is, inl (failed_after_seek a b c stood failed)))
-later_owes a b c e stood (inr (inr (is, inr paused))) = inr (inr (is, inr (paused_after_seek a b c stood paused)))
+earlier_source_error : (a b c : State) (e : Error) → AfterSeek a b → SourceErrorInOpening b e c → SourceErrorInOpening a e c
+earlier_source_error a b c e seek (inl (is, failed)) = inl (is, failed_after_seek a b c seek failed)
+earlier_source_error a b c e seek (inr (inl (is, paused))) = inr (inl (is, paused_after_seek a b c seek paused))
+earlier_source_error a b c e seek (inr (inr (is, inl failed))) = inr (inr (is, inl (failed_after_seek a b c seek failed)))
+earlier_source_error a b c e seek (inr (inr (is, inr paused))) = inr (inr (is, inr (paused_after_seek a b c seek paused)))
 
-bytes_owe : (a b : State) (e : Error) → SourceErrorInBytes a e b → SourceErrorInOpening a e b
-bytes_owe a b e (inl io) = inl io
-bytes_owe a b e (inr short) = inr (inl short)
+bytes_source_error : (a b : State) (e : Error) → SourceErrorInBytes a e b → SourceErrorInOpening a e b
+bytes_source_error a b e (inl io) = inl io
+bytes_source_error a b e (inr paused) = inr (inl paused)
 
 -- reading the feature sections fails
-pub sections_error : (order : Endianness) (h : PerfHeader) (a b : State) (S : Type 0) (e : Error) → DataEndFitsU64 h
+pub sections_error : (order : Endianness) (h : PerfHeader) (a b : State) (S : Type 0) (e : Error) → EndFitsU64 h.data_section
     → ReadsFeatures {S = S} order (table_offset h) (features_of h.features) a (Err e) b → OpenAfterHeaderError order h a e b
-sections_error order h a b S e near refused = record {
-  after_seek = refused.0;
-  cause = λ m. elim (refused.1 m) [
+sections_error order h a b S e near error = record {
+  after_seek = error.0;
+  cause = λ m. elim (error.1 m) [
     | inl lacks ↦ inl (if_more (all_bytes_of a.position) (λ all. IsUnexpectedEof e × SectionsTruncated order all (table_offset h) (features_of h.features)) (λ all. IsErrorAfterHeader order h all e) (λ all here. inr (inl (here.0, near, here.1))) lacks)
-    | inr owes ↦ inr (bytes_owe a b e owes)
+    | inr source_error ↦ inr (bytes_source_error a b e source_error)
   ];
 }
 
@@ -54,31 +56,31 @@ sections_error order h a b S e near refused = record {
 pub sources_both : (d d' i i' : Option (List ℕ)) → d ≡ d' → i ≡ i' → known_sections d i ≡ known_sections d' i'
 sources_both d d' i i' x y = ap (λ o. known_sections o i) x ∙ ap (known_sections d') y
 
-pub record HasRead (order : Endianness) (h : PerfHeader) (a b : State) (told : KnownSections) : Type 0 where
-  pub stood : AfterSeek a b
-  pub holds : IfSome (all_bytes_of a.position) (λ all. HoldsSections order h all × (told ≡ attribute_sources_of order h all))
+pub record HasRead (order : Endianness) (h : PerfHeader) (a b : State) (sources : KnownSections) : Type 0 where
+  pub seek : AfterSeek a b
+  pub holds : IfSome (all_bytes_of a.position) (λ all. HoldsSections order h all × (sources ≡ attribute_sources_of order h all))
 
-pub has_read : {S : Type 0} (order : Endianness) (h : PerfHeader) (a b : State) (m : IndexMap Feature (Vec ℕ Global) S) (told : KnownSections) → told ≡ known_sections (feature_data_of m 12) (feature_data_of m 129)
-    → ReadsFeatures order (table_offset h) (features_of h.features) a (Ok m) b → HasRead order h a b told
-has_read order h a b m told is read = record {
-  stood = read.0;
-  holds = if_more (all_bytes_of a.position) (λ all. HoldsSections order h all × ((n : ℕ) → feature_data_of m n ≡ section_data order h all n)) (λ all. HoldsSections order h all × (told ≡ attribute_sources_of order h all)) (λ all both. (both.0, is ∙ ap (λ d. known_sections d (feature_data_of m 129)) (both.1 12) ∙ ap (known_sections (section_data order h all 12)) (both.1 129))) read.1;
+pub has_read : {S : Type 0} (order : Endianness) (h : PerfHeader) (a b : State) (m : IndexMap Feature (Vec ℕ Global) S) (sources : KnownSections) → sources ≡ known_sections (feature_data_of m event_desc) (feature_data_of m simpleperf_meta_info)
+    → ReadsFeatures order (table_offset h) (features_of h.features) a (Ok m) b → HasRead order h a b sources
+has_read order h a b m sources is read = record {
+  seek = read.0;
+  holds = if_more (all_bytes_of a.position) (λ all. HoldsSections order h all × ((n : ℕ) → feature_data_of m n ≡ section_data order h all n)) (λ all. HoldsSections order h all × (sources ≡ attribute_sources_of order h all)) (λ all both. (both.0, is ∙ ap (λ d. known_sections d (feature_data_of m simpleperf_meta_info)) (both.1 event_desc) ∙ ap (known_sections (section_data order h all event_desc)) (both.1 simpleperf_meta_info))) read.1;
 }
 
 -- an error after the sections is an error after the header
-at_attributes : (order : Endianness) (h : PerfHeader) (a b : State) (told : KnownSections) (e : Error) (P : KnownSections → List ℕ → Type 0) → DataEndFitsU64 h → HasRead order h a b told → ((all : List ℕ) → P (attribute_sources_of order h all) all → IsAttributesError order h all e)
-    → IfSome (all_bytes_of b.position) (P told) → IfSome (all_bytes_of a.position) (λ all. IsErrorAfterHeader order h all e)
-at_attributes order h a b told e P near read stops shown =
-    if_both (all_bytes_of a.position) (λ all. HoldsSections order h all × (told ≡ attribute_sources_of order h all)) (P told) (λ all. IsErrorAfterHeader order h all e)
-    (λ all has here. inr (inr (near, has.0, stops all (subst (λ d. P d all) has.1 here)))) read.holds (shown_before a b (P told) read.stood shown)
+at_attributes : (order : Endianness) (h : PerfHeader) (a b : State) (sources : KnownSections) (e : Error) (P : KnownSections → List ℕ → Type 0) → EndFitsU64 h.data_section → HasRead order h a b sources → ((all : List ℕ) → P (attribute_sources_of order h all) all → IsAttributesError order h all e)
+    → IfSome (all_bytes_of b.position) (P sources) → IfSome (all_bytes_of a.position) (λ all. IsErrorAfterHeader order h all e)
+at_attributes order h a b sources e P near read stops shown =
+    if_both (all_bytes_of a.position) (λ all. HoldsSections order h all × (sources ≡ attribute_sources_of order h all)) (P sources) (λ all. IsErrorAfterHeader order h all e)
+    (λ all has here. inr (inr (near, has.0, stops all (subst (λ d. P d all) has.1 here)))) read.holds (shown_before a b (P sources) read.seek shown)
 
 -- reading the attributes fails
-pub attributes_error : (order : Endianness) (h : PerfHeader) (a b c : State) (told : KnownSections) (e : Error) → DataEndFitsU64 h → HasRead order h a b told → ReadsAttributes order h told b (Err e) c → OpenAfterHeaderError order h a e c
-attributes_error order h a b c told e near read (stood, why) = record {
-  after_seek = after_seek_more a b c read.stood stood;
-  cause = λ m. elim (why m) [
-    | inl shown ↦ inl (at_attributes order h a b told e (λ d all. IsSourcesError order h d all e) near read (λ all stops. inl stops) shown)
-    | inr owes ↦ inr (later_owes a b c e read.stood owes)
+pub attributes_error : (order : Endianness) (h : PerfHeader) (a b c : State) (sources : KnownSections) (e : Error) → EndFitsU64 h.data_section → HasRead order h a b sources → ReadsAttributes order h sources b (Err e) c → OpenAfterHeaderError order h a e c
+attributes_error order h a b c sources e near read (seek, reason) = record {
+  after_seek = after_seek_more a b c read.seek seek;
+  cause = λ m. elim (reason m) [
+    | inl shown ↦ inl (at_attributes order h a b sources e (λ d all. IsSourcesError order h d all e) near read (λ all stops. inl stops) shown)
+    | inr source_error ↦ inr (earlier_source_error a b c e read.seek source_error)
   ];
 }
 
@@ -87,21 +89,21 @@ items_none [] none = refl
 items_none (x ∷ xs) none = absurd (omega (arith, none))
 
 -- the file has no attributes
-pub attributes_none : (order : Endianness) (h : PerfHeader) (a b c : State) (told : KnownSections) (v : Vec AttributeDescription Global) → DataEndFitsU64 h → HasRead order h a b told → ReadsAttributes order h told b (Ok v) c → length v.items ≡ 0
+pub attributes_none : (order : Endianness) (h : PerfHeader) (a b c : State) (sources : KnownSections) (v : Vec AttributeDescription Global) → EndFitsU64 h.data_section → HasRead order h a b sources → ReadsAttributes order h sources b (Ok v) c → length v.items ≡ 0
     → OpenAfterHeaderError order h a NoAttributes c
-attributes_none order h a b c told v near read (stood, is) none = record {
-  after_seek = after_seek_more a b c read.stood stood;
-  cause = λ _. inl (at_attributes order h a b told NoAttributes (λ d all. DescribesFrom order h d all v.items) near read
+attributes_none order h a b c sources v near read (seek, is) none = record {
+  after_seek = after_seek_more a b c read.seek seek;
+  cause = λ _. inl (at_attributes order h a b sources NoAttributes (λ d all. DescribesFrom order h d all v.items) near read
       (λ all described. inr (inl (refl, subst (DescribesFrom order h (attribute_sources_of order h all) all) (items_none v.items none) described))) is);
 }
 
 -- the attributes are inconsistent
-pub attributes_inconsistent : (order : Endianness) (h : PerfHeader) (a b c : State) (told : KnownSections) (v : Vec AttributeDescription Global) (e : Error) → DataEndFitsU64 h → HasRead order h a b told → ReadsAttributes order h told b (Ok v) c
+pub attributes_inconsistent : (order : Endianness) (h : PerfHeader) (a b c : State) (sources : KnownSections) (v : Vec AttributeDescription Global) (e : Error) → EndFitsU64 h.data_section → HasRead order h a b sources → ReadsAttributes order h sources b (Ok v) c
     → (breach : Inconsistency) × AreInconsistent (described_attributes v.items) breach × (e ≡ error_of_inconsistency breach) → OpenAfterHeaderError order h a e c
-attributes_inconsistent order h a b c told v e near read (stood, is) (breach, breaks, tells) = record {
-  after_seek = after_seek_more a b c read.stood stood;
-  cause = λ _. inl (at_attributes order h a b told e (λ d all. DescribesFrom order h d all v.items) near read
-      (λ all described. inr (inr (record { descriptions = v.items; attributes_match = described; inconsistency = breach; is_inconsistent = breaks; matches = tells }))) is);
+attributes_inconsistent order h a b c sources v e near read (seek, is) (breach, breaks, error_is) = record {
+  after_seek = after_seek_more a b c read.seek seek;
+  cause = λ _. inl (at_attributes order h a b sources e (λ d all. DescribesFrom order h d all v.items) near read
+      (λ all described. inr (inr (record { descriptions = v.items; attributes_match = described; inconsistency = breach; is_inconsistent = breaks; matches = error_is }))) is);
 }
 
 some_length : {X : Type 0} (xs : List X) → length xs ≢ 0 → 0 < length xs
@@ -116,37 +118,37 @@ put_same n (Some p) None same = cc
 put_same n (Some p) (Some q) same = let all : q.all_bytes ≡ p.all_bytes = cc in ap (λ l. Some (record { all_bytes = l; offset = n })) all
 
 -- the seek to the records fails
-pub records_error : (order : Endianness) (h : PerfHeader) (a b c d : State) (told : KnownSections) (v : Vec AttributeDescription Global) (e : Error) → HasRead order h a b told → ReadsAttributes order h told b (Ok v) c → AfterSeek c d × IsIoError e × SourceFailed c d
+pub records_error : (order : Endianness) (h : PerfHeader) (a b c d : State) (sources : KnownSections) (v : Vec AttributeDescription Global) (e : Error) → HasRead order h a b sources → ReadsAttributes order h sources b (Ok v) c → AfterSeek c d × IsIoError e × SourceFailed c d
     → OpenAfterHeaderError order h a e d
-records_error order h a b c d told v e read (stood_b, described) (stood, io, failed) =
-    let stood_c = after_seek_more a b c read.stood stood_b in record {
-      after_seek = after_seek_more a c d stood_c stood;
-      cause = λ _. inr (inl (io, failed_after_seek a c d stood_c failed));
+records_error order h a b c d sources v e read (seek_b, described) (seek, io, failed) =
+    let seek_c = after_seek_more a b c read.seek seek_b in record {
+      after_seek = after_seek_more a c d seek_c seek;
+      cause = λ _. inr (inl (io, failed_after_seek a c d seek_c failed));
     }
 
 -- the opening holds the values of the header and its sections
-pub after_read : (order : Endianness) (h : PerfHeader) (a b c d : State) (told : KnownSections) (opening : FileOpening) → DataEndFitsU64 h → opening.endian ≡ order → opening.features ≡ h.features → opening.data_size ≡ h.data_section.size
-    → HasRead order h a b told → ReadsFeatures order (table_offset h) (features_of h.features) a (Ok opening.sections) b → ReadsAttributes order h told b (Ok opening.attributes) c → length opening.attributes.items ≢ 0
+pub after_read : (order : Endianness) (h : PerfHeader) (a b c d : State) (sources : KnownSections) (opening : FileOpening) → EndFitsU64 h.data_section → opening.endian ≡ order → opening.features ≡ h.features → opening.data_size ≡ h.data_section.size
+    → HasRead order h a b sources → ReadsFeatures order (table_offset h) (features_of h.features) a (Ok opening.sections) b → ReadsAttributes order h sources b (Ok opening.attributes) c → length opening.attributes.items ≢ 0
     → AreConsistent (described_attributes opening.attributes.items) → AfterSeek c d × (d.position ≡ at_offset h.data_section.offset c.position) → OpenedAfterHeader order h a opening d
-after_read order h a b c d told opening near endian features size read sections (stood_b, described) some rule (stood, place) =
-    let stood_c = after_seek_more a b c sections.0 stood_b in record {
+after_read order h a b c d sources opening near endian features size read sections (seek_b, described) some all_consistent (seek, seek_position) =
+    let seek_c = after_seek_more a b c sections.0 seek_b in record {
       endian = endian;
       end_fits = near;
       features = features;
       data_size = size;
       nonempty = some_length opening.attributes.items some;
-      consistent = rule;
-      after_seek = after_seek_more a c d stood_c stood;
-      position = place ∙ put_same h.data_section.offset a.position c.position stood_c.all_bytes;
+      consistent = all_consistent;
+      after_seek = after_seek_more a c d seek_c seek;
+      position = seek_position ∙ put_same h.data_section.offset a.position c.position seek_c.all_bytes;
       sections = sections.1;
-      attributes = if_both (all_bytes_of a.position) (λ all. HoldsSections order h all × (told ≡ attribute_sources_of order h all)) (λ all. DescribesFrom order h told all opening.attributes.items) (λ all. DescribesAttributes order h all opening.attributes.items)
-          (λ all has is. subst (λ o. DescribesFrom order h o all opening.attributes.items) has.1 is) read.holds (shown_before a b (λ all. DescribesFrom order h told all opening.attributes.items) sections.0 described);
+      attributes = if_both (all_bytes_of a.position) (λ all. HoldsSections order h all × (sources ≡ attribute_sources_of order h all)) (λ all. DescribesFrom order h sources all opening.attributes.items) (λ all. DescribesAttributes order h all opening.attributes.items)
+          (λ all has is. subst (λ o. DescribesFrom order h o all opening.attributes.items) has.1 is) read.holds (shown_before a b (λ all. DescribesFrom order h sources all opening.attributes.items) sections.0 described);
     }
 
 -- the first 104 bytes from a position on are the bytes read there
-front_there : (p : Position) (bytes : List ℕ) (rest : Option (List ℕ)) → length bytes ≡ 104 → Some (drop p.offset p.all_bytes) ≡ prepend bytes rest → (104 ≤ length (drop p.offset p.all_bytes)) × (bytes ≡ take 104 (drop p.offset p.all_bytes))
-front_there p bytes None long came = cc
-front_there p bytes (Some rest) long came =
+prefix_there : (p : Position) (bytes : List ℕ) (rest : Option (List ℕ)) → length bytes ≡ 104 → Some (drop p.offset p.all_bytes) ≡ prepend bytes rest → (104 ≤ length (drop p.offset p.all_bytes)) × (bytes ≡ take 104 (drop p.offset p.all_bytes))
+prefix_there p bytes None long remaining = cc
+prefix_there p bytes (Some rest) long remaining =
     let all : drop p.offset p.all_bytes ≡ bytes ++ rest = cc in (
       omega (arith, ap length all, length-append bytes rest, long),
       sym (take-append_seam bytes rest) ∙ ap (λ n. take n (bytes ++ rest)) long ∙ ap (take 104) (sym all),
@@ -154,70 +156,70 @@ front_there p bytes (Some rest) long came =
 
 has_header : (a : State) (p : Position) (h : PerfHeader) → RemainsFromPosition a → a.position ≡ Some p → BeginsWithFileHeader a h → HasHeader p h
 has_header a p h placed is begins =
-    let there = front_there p begins.bytes begins.rest begins.exact_len (sym (ap remaining_from is) ∙ sym placed ∙ begins.prefix_of_remaining) in
+    let there = prefix_there p begins.bytes begins.rest begins.exact_len (sym (ap remaining_from is) ∙ sym placed ∙ begins.prefix_of_remaining) in
     record { complete = there.0; matches = begins.matches ∙ ap file_header_of there.1 }
 
 -- a property of a source's position, if the position is known
-place_shows : (a : State) (P : Position → Type 0) → ((p : Position) → a.position ≡ Some p → P p) → IfSome a.position P
-place_shows a P each =
+position_shows : (a : State) (P : Position → Type 0) → ((p : Position) → a.position ≡ Some p → P p) → IfSome a.position P
+position_shows a P each =
     let go : (o : Option Position) → a.position ≡ o → IfSome o P = λ o. elim o as (λ o. a.position ≡ o → IfSome o P) [ None ↦ (λ _. tt) | Some p ↦ (λ is. each p is) ] in
     go a.position refl
 
 -- The header is truncated: too few bytes follow the position, or the source fails or pauses.
-header_short : (a b : State) (e : IoErrorValue) → RemainsFromPosition a → ReadExactError a 104 e b → IfSome a.position (λ p. IsFileError p (IoError e)) ⊎ SourceErrorInOpening a (IoError e) b
-header_short a b e placed cut = elim cut.cause [
-  | inl (kind, none) ↦ elim (none_or_paused a b none) [
-    | inl all ↦ inl (place_shows a (λ p. IsFileError p (IoError e)) (λ p is.
-        let same : Some (drop p.offset p.all_bytes) ≡ Some cut.consumed_bytes = sym (ap remaining_from is) ∙ sym placed ∙ all_read a b cut.consumed_bytes cut.consumes all in
-        let few : length (drop p.offset p.all_bytes) ≡ length cut.consumed_bytes = cc in
-        let less = cut.too_few in
-        inl (kind, omega (arith, few, less))))
-    | inr paused ↦ inr (inr (inl (kind, paused)))
+header_truncated : (a b : State) (e : IoErrorValue) → RemainsFromPosition a → ReadExactError a 104 e b → IfSome a.position (λ p. IsFileError p (IoError e)) ⊎ SourceErrorInOpening a (IoError e) b
+header_truncated a b e placed truncated = elim truncated.cause [
+  | inl (eof, none) ↦ elim (none_or_paused a b none) [
+    | inl all ↦ inl (position_shows a (λ p. IsFileError p (IoError e)) (λ p is.
+        let same : Some (drop p.offset p.all_bytes) ≡ Some truncated.consumed_bytes = sym (ap remaining_from is) ∙ sym placed ∙ all_read a b truncated.consumed_bytes truncated.consumes all in
+        let few : length (drop p.offset p.all_bytes) ≡ length truncated.consumed_bytes = cc in
+        let less = truncated.too_few in
+        inl (eof, omega (arith, few, less))))
+    | inr paused ↦ inr (inr (inl (eof, paused)))
   ]
   | inr failed ↦ inr (inl (tt, failed))
 ]
 
 -- skipping the header bytes after the first 104 fails
-header_stuck : (a b : State) (e : IoErrorValue) → RemainsFromPosition a → ExtraSkipError a e b → IfSome a.position (λ p. IsFileError p (IoError e)) ⊎ SourceErrorInOpening a (IoError e) b
-header_stuck a b e placed stuck = elim stuck.cause [
-  | inl (far, kind, stands) ↦ inl (place_shows a (λ p. IsFileError p (IoError e)) (λ p is. inr (inl (stuck.header, has_header a p stuck.header placed is stuck.file_header, (far, kind)))))
+header_not_skipped : (a b : State) (e : IoErrorValue) → RemainsFromPosition a → ExtraSkipError a e b → IfSome a.position (λ p. IsFileError p (IoError e)) ⊎ SourceErrorInOpening a (IoError e) b
+header_not_skipped a b e placed not_skipped = elim not_skipped.cause [
+  | inl (far, eof, unmoved) ↦ inl (position_shows a (λ p. IsFileError p (IoError e)) (λ p is. inr (inl (not_skipped.header, has_header a p not_skipped.header placed is not_skipped.file_header, (far, eof)))))
   | inr (near, failed) ↦ inr (inl (tt, failed))
 ]
 
 -- parsing the header fails
 pub header_error : (a b : State) (e : IoErrorValue) → RemainsFromPosition a → FileHeaderParseError a e b → FileOpenError a (IoError e) b
-header_error a b e placed refused = record {
-  after_seek = refused.after_seek;
-  cause = λ _. elim refused.cause [ inl cut ↦ header_short a b e placed cut | inr stuck ↦ header_stuck a b e placed stuck ];
+header_error a b e placed error = record {
+  after_seek = error.after_seek;
+  cause = λ _. elim error.cause [ inl truncated ↦ header_truncated a b e placed truncated | inr not_skipped ↦ header_not_skipped a b e placed not_skipped ];
 }
 
 -- the magic isn't that of a file
 pub magic_error : (a b : State) (h : PerfHeader) (e : Error) → RemainsFromPosition a → FileHeaderParsed a h b → (e ≡ UnrecognizedMagicValue h.magic) × ((order : Endianness) → h.magic ≢ magic_of order) → FileOpenError a e b
-magic_error a b h e placed took why = record {
-  after_seek = took.after_seek;
-  cause = λ _. inl (place_shows a (λ p. IsFileError p e) (λ p is. inr (inr (inl (h, (has_header a p h placed is took.file_header, took.extra_fits, why.1, why.0))))));
+magic_error a b h e placed parsed reason = record {
+  after_seek = parsed.after_seek;
+  cause = λ _. inl (position_shows a (λ p. IsFileError p e) (λ p is. inr (inr (inl (h, (has_header a p h placed is parsed.file_header, parsed.extra_fits, reason.1, reason.0))))));
 }
 
 all_there : (a b : State) (p : Position) → AfterSeek a b → a.position ≡ Some p → all_bytes_of b.position ≡ Some p.all_bytes
-all_there a b p stood is = stood.all_bytes ∙ ap all_bytes_of is
+all_there a b p seek is = seek.all_bytes ∙ ap all_bytes_of is
 
-place_put : (n : ℕ) (o : Option Position) (p : Position) → all_bytes_of o ≡ Some p.all_bytes → at_offset n o ≡ Some (record { all_bytes = p.all_bytes; offset = n })
-place_put n None p is = cc
-place_put n (Some q) p is = let same : q.all_bytes ≡ p.all_bytes = cc in ap (λ l. Some (record { all_bytes = l; offset = n })) same
+position_put : (n : ℕ) (o : Option Position) (p : Position) → all_bytes_of o ≡ Some p.all_bytes → at_offset n o ≡ Some (record { all_bytes = p.all_bytes; offset = n })
+position_put n None p is = cc
+position_put n (Some q) p is = let same : q.all_bytes ≡ p.all_bytes = cc in ap (λ l. Some (record { all_bytes = l; offset = n })) same
 
 -- what is opened after the header is the file's description
 pub after_header : (a b c : State) (order : Endianness) (h : PerfHeader) (opening : FileOpening) → RemainsFromPosition a → FileHeaderParsed a h b → h.magic ≡ magic_of order → OpenedAfterHeader order h b opening c → FileOpened a opening c
-after_header a b c order h opening placed took magic read = record {
+after_header a b c order h opening placed parsed magic read = record {
   nonempty = read.nonempty;
   consistent = read.consistent;
-  after_seek = after_seek_more a b c took.after_seek read.after_seek;
-  file_opened = place_shows a (λ p. OpenedFileAt p opening c) (λ p is.
-      let there = all_there a b p took.after_seek is in
+  after_seek = after_seek_more a b c parsed.after_seek read.after_seek;
+  file_opened = position_shows a (λ p. OpenedFileAt p opening c) (λ p is.
+      let there = all_there a b p parsed.after_seek is in
       let shown_at : HoldsSections order h p.all_bytes × ((n : ℕ) → feature_data_of opening.sections n ≡ section_data order h p.all_bytes n) =
       subst (λ o. IfSome o (λ all. HoldsSections order h all × ((n : ℕ) → feature_data_of opening.sections n ≡ section_data order h all n))) there read.sections in
       record {
         header = h;
-        matches = record { has_header = has_header a p h placed is took.file_header; can_skip_extra = took.extra_fits; magic = magic ∙ ap magic_of (sym read.endian) };
+        matches = record { has_header = has_header a p h placed is parsed.file_header; can_skip_extra = parsed.extra_fits; magic = magic ∙ ap magic_of (sym read.endian) };
         end_fits = read.end_fits;
         features = read.features;
         data_size = read.data_size;
@@ -225,21 +227,21 @@ after_header a b c order h opening placed took magic read = record {
         sections = subst (λ o. (n : ℕ) → feature_data_of opening.sections n ≡ section_data o h p.all_bytes n) (sym read.endian) shown_at.1;
         attributes = subst (λ o. IfSome o (λ all. DescribesAttributes opening.endian h all opening.attributes.items)) there
             (subst (λ o. IfSome (all_bytes_of b.position) (λ all. DescribesAttributes o h all opening.attributes.items)) (sym read.endian) read.attributes);
-        position = read.position ∙ place_put h.data_section.offset b.position p there;
+        position = read.position ∙ position_put h.data_section.offset b.position p there;
       });
 }
 
 pub after_error : (a b c : State) (order : Endianness) (h : PerfHeader) (e : Error) → RemainsFromPosition a → FileHeaderParsed a h b → h.magic ≡ magic_of order → OpenAfterHeaderError order h b e c → FileOpenError a e c
-after_error a b c order h e placed took magic refused = record {
-  after_seek = after_seek_more a b c took.after_seek refused.after_seek;
-  cause = λ m. elim (refused.cause m) [
-    | inl shown ↦ inl (place_shows a (λ p. IsFileError p e) (λ p is.
-        let stops : IfSome (Some p.all_bytes) (λ all. IsErrorAfterHeader order h all e) = subst (λ o. IfSome o (λ all. IsErrorAfterHeader order h all e)) (all_there a b p took.after_seek is) shown in
-        inr (inr (inr (order, (h, record { has_header = has_header a p h placed is took.file_header; can_skip_extra = took.extra_fits; magic = magic }, stops))))))
-    | inr owes ↦ inr (later_owes a b c e took.after_seek owes)
+after_error a b c order h e placed parsed magic error = record {
+  after_seek = after_seek_more a b c parsed.after_seek error.after_seek;
+  cause = λ m. elim (error.cause m) [
+    | inl shown ↦ inl (position_shows a (λ p. IsFileError p e) (λ p is.
+        let stops : IfSome (Some p.all_bytes) (λ all. IsErrorAfterHeader order h all e) = subst (λ o. IfSome o (λ all. IsErrorAfterHeader order h all e)) (all_there a b p parsed.after_seek is) shown in
+        inr (inr (inr (order, (h, record { has_header = has_header a p h placed is parsed.file_header; can_skip_extra = parsed.extra_fits; magic = magic }, stops))))))
+    | inr source_error ↦ inr (earlier_source_error a b c e parsed.after_seek source_error)
   ];
 }
 
 pub after_file : (a b c : State) (order : Endianness) (h : PerfHeader) (r : Result FileOpening Error) → RemainsFromPosition a → FileHeaderParsed a h b → h.magic ≡ magic_of order → OpensAfterHeader order h b r c → OpensPerfFile a r c
-after_file a b c order h (Ok opening) placed took magic reads = after_header a b c order h opening placed took magic reads
-after_file a b c order h (Err e) placed took magic reads = after_error a b c order h e placed took magic reads
+after_file a b c order h (Ok opening) placed parsed magic reads = after_header a b c order h opening placed parsed magic reads
+after_file a b c order h (Err e) placed parsed magic reads = after_error a b c order h e placed parsed magic reads

@@ -19,15 +19,15 @@ module _ (attrs : List Attribute) (records : List RecordView) (end : LayoutEnd) 
   abbrev Comes : Option (List ℕ) → Endianness → SectionSize → ℕ → ℕ → Type 0
   Comes o order bound offset round = IfSome o (λ bytes. RemainingRecords order bytes bound offset round attrs records end)
 
-  come_there : (o o' : Option (List ℕ)) (e e' : Endianness) (s s' : SectionSize) (f f' r r' : ℕ) → o ≡ o' → e ≡ e' → s ≡ s' → f ≡ f' → r ≡ r' → Comes o e s f r → Comes o' e' s' f' r'
-  come_there o o' e e' s s' f f' r r' po pe ps pf pr comes =
+  remaining_there : (o o' : Option (List ℕ)) (e e' : Endianness) (s s' : SectionSize) (f f' r r' : ℕ) → o ≡ o' → e ≡ e' → s ≡ s' → f ≡ f' → r ≡ r' → Comes o e s f r → Comes o' e' s' f' r'
+  remaining_there o o' e e' s s' f f' r r' po pe ps pf pr comes =
       subst (λ x. Comes x e' s' f' r') po (subst (λ x. Comes o x s' f' r') pe (subst (λ x. Comes o e x f' r') ps (subst (λ x. Comes o e s x r') pf (subst (λ x. Comes o e s f x) pr comes))))
 
 if_more : (o : Option Position) (P Q : Position → Type 0) → ((x : Position) → P x → Q x) → IfSome o P → IfSome o Q
 if_more None P Q more is = tt
 if_more (Some x) P Q more is = more x is
 
-module _ {R : Type 0} (state : R → State) (opening : FileOpening) (r : PerfFileReader R) (source : R) (starts : StartsReader state source opening r) (placed : RemainsFromPosition (state source)) (rule : AreConsistent (described_attributes opening.attributes.items)) where
+module _ {R : Type 0} (state : R → State) (opening : FileOpening) (r : PerfFileReader R) (source : R) (starts : StartsReader state source opening r) (placed : RemainsFromPosition (state source)) (all_consistent : AreConsistent (described_attributes opening.attributes.items)) where
   described : (p : Position) (o : OpenedFileAt p opening (state source)) → DescribesFile p o.header r.perf_file
   described p o = record {
     matches = subst (λ e. IsFileHeader p e o.header) (sym starts.same_endian) o.matches;
@@ -37,7 +37,7 @@ module _ {R : Type 0} (state : R → State) (opening : FileOpening) (r : PerfFil
     sections = λ n. starts.sections n ∙ o.sections n ∙ ap (λ e. section_data e o.header p.all_bytes n) (sym starts.same_endian);
     attributes = subst (λ ds. DescribesAttributes (endian_of_file r.perf_file) o.header p.all_bytes ds) (sym starts.attributes)
         (subst (λ e. DescribesAttributes e o.header p.all_bytes opening.attributes.items) (sym starts.same_endian) o.attributes);
-    consistent = subst (λ ds. AreConsistent (described_attributes ds)) (sym starts.attributes) rule;
+    consistent = subst (λ ds. AreConsistent (described_attributes ds)) (sym starts.attributes) all_consistent;
   }
 
   -- the input of a file has no pending header
@@ -55,8 +55,8 @@ module _ {R : Type 0} (state : R → State) (opening : FileOpening) (r : PerfFil
         describes = described p o;
         bytes = at_records p o;
         section_size = size;
-        file_to_iter = λ records end is. come_there (attributes_of_file r.perf_file) records end _ _ _ _ _ _ _ _ _ _ (sym (at_records p o)) (sym first.same_endian) (sym size) (sym first.offset) (sym first.round) is;
-        iter_to_file = λ records end is. come_there (attributes_of_file r.perf_file) records end _ _ _ _ _ _ _ _ _ _ (at_records p o) first.same_endian size first.offset first.round is;
+        file_to_iter = λ records end is. remaining_there (attributes_of_file r.perf_file) records end _ _ _ _ _ _ _ _ _ _ (sym (at_records p o)) (sym first.same_endian) (sym size) (sym first.offset) (sym first.round) is;
+        iter_to_file = λ records end is. remaining_there (attributes_of_file r.perf_file) records end _ _ _ _ _ _ _ _ _ _ (at_records p o) first.same_endian size first.offset first.round is;
       }
 
   -- the opening is that of the file

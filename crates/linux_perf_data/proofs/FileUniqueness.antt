@@ -16,6 +16,7 @@ use Rattle.perfdata_sections.proofs.EventPrefixes.{event_desc_is_unique}
 use Rattle.perfdata_simpleperf.specs.MetaInfo.{last_value, meta_pairs}
 use Rattle.perfdata_simpleperf.specs.EventTypeInfo.{EventType, event_type_of, event_type_info, text_lines, line_fields, DescribesEvent, DescribeEvents, DescribesEventTypes}
 use Rattle.linux_perf_data.specs.AttributeSources.{DescribesBySections, DescribesByAttrs, DescribesWith}
+use Rattle.linux_perf_data.specs.FeatureNumbers.{event_desc, simpleperf_meta_info}
 use Rattle.linux_perf_data.specs.Laws.{FileDescriptionIsUnique}
 use Rattle.linux_perf_data.specs.FileOpening.{section_data, DescribesAttributes}
 use Rattle.linux_perf_data.specs.PerfFile.{endian_of_file, descriptions_of_file}
@@ -108,5 +109,5 @@ file_description_is_unique p h i f g x y =
       same_endian = orders;
       features = x.features ∙ ap (λ k. k.features) same ∙ sym y.features;
       feature_data = λ n. x.sections n ∙ ap (λ o. section_data o h p.all_bytes n) orders ∙ ap (λ k. section_data (endian_of_file g) k p.all_bytes n) same ∙ sym (y.sections n);
-      events = with_events (endian_of_file g) i p.all_bytes (section_data (endian_of_file g) i p.all_bytes 12) (section_data (endian_of_file g) i p.all_bytes 129) (descriptions_of_file f) (descriptions_of_file g) there y.attributes;
+      events = with_events (endian_of_file g) i p.all_bytes (section_data (endian_of_file g) i p.all_bytes event_desc) (section_data (endian_of_file g) i p.all_bytes simpleperf_meta_info) (descriptions_of_file f) (descriptions_of_file g) there y.attributes;
     }

@@ -20,35 +20,35 @@ abbrev pub Pairs : Type 0
 Pairs = List (ℕ × ℕ)
 
 -- the rank of an identifier in one pair
-abbrev told : ℕ → ℕ × ℕ → ℕ
-told id p = if p.0 == id then p.1 + 1 else 0
+abbrev rank_of_pair : ℕ → ℕ × ℕ → ℕ
+rank_of_pair id p = if p.0 == id then p.1 + 1 else 0
 
 -- the index of a rank
 abbrev pub index_by : ℕ → Option ℕ
 index_by zero = None
 index_by (suc n) = Some n
 
-told_own : (id : ℕ) (p : ℕ × ℕ) → p.0 ≡ id → told id p ≡ p.1 + 1
-told_own id p is = ap (λ b. if b then p.1 + 1 else 0) (eq-eqb p.0 id is)
+rank_of_same_id : (id : ℕ) (p : ℕ × ℕ) → p.0 ≡ id → rank_of_pair id p ≡ p.1 + 1
+rank_of_same_id id p is = ap (λ b. if b then p.1 + 1 else 0) (eq-eqb p.0 id is)
 
-told_none : (id : ℕ) (p : ℕ × ℕ) → p.0 ≢ id → told id p ≡ 0
-told_none id p other = ap (λ b. if b then p.1 + 1 else 0) (ne_eqb p.0 id other)
+rank_of_other_id : (id : ℕ) (p : ℕ × ℕ) → p.0 ≢ id → rank_of_pair id p ≡ 0
+rank_of_other_id id p other = ap (λ b. if b then p.1 + 1 else 0) (ne_eqb p.0 id other)
 
-bound_all : (id n : ℕ) (xs : Pairs) → rank_of_id id xs ≤ n → All (λ p. told id p ≤ n) xs
-bound_all id n [] le = All-nil (λ p. told id p ≤ n)
+bound_all : (id n : ℕ) (xs : Pairs) → rank_of_id id xs ≤ n → All (λ p. rank_of_pair id p ≤ n) xs
+bound_all id n [] le = All-nil (λ p. rank_of_pair id p ≤ n)
 bound_all id n (p ∷ ps) le =
-    let head : told id p ≤ n = omega (arith, le) in
-    All-cons (λ p. told id p ≤ n) p ps head (bound_all id n ps (omega (arith, le)))
+    let first_le : rank_of_pair id p ≤ n = omega (arith, le) in
+    All-cons (λ p. rank_of_pair id p ≤ n) p ps first_le (bound_all id n ps (omega (arith, le)))
 
-all_bound : (id n : ℕ) (xs : Pairs) → All (λ p. told id p ≤ n) xs → rank_of_id id xs ≤ n
+all_bound : (id n : ℕ) (xs : Pairs) → All (λ p. rank_of_pair id p ≤ n) xs → rank_of_id id xs ≤ n
 all_bound id n [] all = omega arith
 all_bound id n (p ∷ ps) all =
-    let head : told id p ≤ n = All-head (λ p. told id p ≤ n) p ps all in
-    let rest = all_bound id n ps (All-tail (λ p. told id p ≤ n) p ps all) in
-    omega (arith, head, rest)
+    let first_le : rank_of_pair id p ≤ n = All-head (λ p. rank_of_pair id p ≤ n) p ps all in
+    let rest = all_bound id n ps (All-tail (λ p. rank_of_pair id p ≤ n) p ps all) in
+    omega (arith, first_le, rest)
 
 rank_at_most : (id : ℕ) (xs ys : Pairs) → IsPermutation xs ys → rank_of_id id ys ≤ rank_of_id id xs
-rank_at_most id xs ys moved = all_bound id (rank_of_id id xs) ys (All-permutation (λ p. told id p ≤ rank_of_id id xs) xs ys moved (bound_all id (rank_of_id id xs) xs (omega arith)))
+rank_at_most id xs ys moved = all_bound id (rank_of_id id xs) ys (All-permutation (λ p. rank_of_pair id p ≤ rank_of_id id xs) xs ys moved (bound_all id (rank_of_id id xs) xs (omega arith)))
 
 -- a permutation of the pairs leaves the rank unchanged
 pub rank_permuted : (id : ℕ) (xs ys : Pairs) → IsPermutation xs ys → rank_of_id id ys ≡ rank_of_id id xs
@@ -58,16 +58,16 @@ rank_append : (id : ℕ) (xs ys : Pairs) → rank_of_id id (xs ++ ys) ≡ max (r
 rank_append id [] ys = omega arith
 rank_append id (p ∷ ps) ys = omega (arith, rank_append id ps ys)
 
-told_less : (id : ℕ) (p q : ℕ × ℕ) → p.0 ≡ q.0 → p.1 ≤ q.1 → told id p ≤ told id q
-told_less id p q same less = elim (cases_eq p.0 id) [
-  | inl is ↦ omega (arith, told_own id p is, told_own id q (sym same ∙ is), less)
-  | inr other ↦ omega (arith, told_none id p other)
+rank_of_pair_le : (id : ℕ) (p q : ℕ × ℕ) → p.0 ≡ q.0 → p.1 ≤ q.1 → rank_of_pair id p ≤ rank_of_pair id q
+rank_of_pair_le id p q same less = elim (cases_eq p.0 id) [
+  | inl is ↦ omega (arith, rank_of_same_id id p is, rank_of_same_id id q (sym same ∙ is), less)
+  | inr other ↦ omega (arith, rank_of_other_id id p other)
 ]
 
 -- A pair that precedes another of the same identifier, whose index isn't lower, leaves the rank unchanged.
-pub rank_passed : (id : ℕ) (front rest : Pairs) (p q : ℕ × ℕ) → p.0 ≡ q.0 → p.1 ≤ q.1 → rank_of_id id (front ++ p ∷ q ∷ rest) ≡ rank_of_id id (front ++ q ∷ rest)
-rank_passed id front rest p q same less =
-    omega (arith, rank_append id front (p ∷ q ∷ rest), rank_append id front (q ∷ rest), told_less id p q same less)
+pub rank_passed : (id : ℕ) (prefix rest : Pairs) (p q : ℕ × ℕ) → p.0 ≡ q.0 → p.1 ≤ q.1 → rank_of_id id (prefix ++ p ∷ q ∷ rest) ≡ rank_of_id id (prefix ++ q ∷ rest)
+rank_passed id prefix rest p q same less =
+    omega (arith, rank_append id prefix (p ∷ q ∷ rest), rank_append id prefix (q ∷ rest), rank_of_pair_le id p q same less)
 
 -- If each identifier occurs once in the pairs, its rank determines its index.
 
@@ -79,7 +79,7 @@ ascend_rest p ps up = λ i j d before inside. up (suc i) (suc j) d (omega (arith
 
 rank_none : (id : ℕ) (ps : Pairs) → All (λ q. q.0 ≢ id) ps → rank_of_id id ps ≡ 0
 rank_none id ps others =
-    let few : rank_of_id id ps ≤ 0 = all_bound id 0 ps (All-weaker (λ q. q.0 ≢ id) (λ q. told id q ≤ 0) (λ q other. omega (arith, told_none id q other)) ps others) in
+    let few : rank_of_id id ps ≤ 0 = all_bound id 0 ps (All-weaker (λ q. q.0 ≢ id) (λ q. rank_of_pair id q ≤ 0) (λ q other. omega (arith, rank_of_other_id id q other)) ps others) in
     omega (arith, few)
 
 pub index_ranked : (id : ℕ) (ps : Pairs) → AreAscending ps → index_of_id id ps ≡ index_by (rank_of_id id ps)
@@ -87,10 +87,10 @@ index_ranked id [] up = refl
 index_ranked id (p ∷ ps) up = elim (cases_eq p.0 id) [
   | inl is ↦
       let none : rank_of_id id ps ≡ 0 = rank_none id ps (All-weaker (λ q. p.0 < q.0) (λ q. q.0 ≢ id) (λ q above same. absurd (omega (arith, above, same, is))) ps (ascend_first p ps up)) in
-      let all : rank_of_id id (p ∷ ps) ≡ suc p.1 = omega (arith, told_own id p is, none) in
+      let all : rank_of_id id (p ∷ ps) ≡ suc p.1 = omega (arith, rank_of_same_id id p is, none) in
       ap (λ b. if b then Some p.1 else index_of_id id ps) (eq-eqb p.0 id is) ∙ sym (ap index_by all)
   | inr other ↦
-      let all : rank_of_id id (p ∷ ps) ≡ rank_of_id id ps = omega (arith, told_none id p other) in
+      let all : rank_of_id id (p ∷ ps) ≡ rank_of_id id ps = omega (arith, rank_of_other_id id p other) in
       ap (λ b. if b then Some p.1 else index_of_id id ps) (ne_eqb p.0 id other) ∙ index_ranked id ps (ascend_rest p ps up) ∙ sym (ap index_by all)
 ]
 
@@ -100,7 +100,7 @@ rank_ids : (id i : ℕ) (ids : List ℕ) → rank_of_id id (map (λ x. (x, i)) i
 rank_ids id i [] = refl
 rank_ids id i (x ∷ xs) = elim (cases_eq x id) [
   | inl is ↦
-      let own = told_own id (x, i) is in
+      let own = rank_of_same_id id (x, i) is in
       let rest = rank_ids id i xs in
       let few : rank_of_id id (map (λ x. (x, i)) xs) ≤ i + 1 = elim (cases_Bool (lists_id id xs)) [
         | inl listed ↦ omega (arith, rest, ap (λ b. if b then i + 1 else 0) listed)
@@ -109,7 +109,7 @@ rank_ids id i (x ∷ xs) = elim (cases_eq x id) [
       let all : rank_of_id id (map (λ x. (x, i)) (x ∷ xs)) ≡ i + 1 = omega (arith, own, few) in
       all ∙ sym (ap (λ b. if (if b then true else lists_id id xs) then i + 1 else 0) (eq-eqb x id is))
   | inr other ↦
-      let all : rank_of_id id (map (λ x. (x, i)) (x ∷ xs)) ≡ rank_of_id id (map (λ x. (x, i)) xs) = omega (arith, told_none id (x, i) other) in
+      let all : rank_of_id id (map (λ x. (x, i)) (x ∷ xs)) ≡ rank_of_id id (map (λ x. (x, i)) xs) = omega (arith, rank_of_other_id id (x, i) other) in
       all ∙ rank_ids id i xs ∙ sym (ap (λ b. if (if b then true else lists_id id xs) then i + 1 else 0) (ne_eqb x id other))
 ]
 
@@ -273,7 +273,7 @@ bisected_down ps id low high middle up from to more h =
       order = from;
       within = omega (arith, to, within);
       below = h.below;
-      above = λ k behind inside. (let higher = key_below ps middle k up behind inside in omega (arith, higher, more));
+      above = λ k after inside. (let higher = key_below ps middle k up after inside in omega (arith, higher, more));
     }
 
 pub bisected_insertion_point : (ps : Pairs) (id low high : ℕ) → high ≤ low → Halved ps id low high → IsInsertionPoint ps id low
@@ -282,15 +282,15 @@ bisected_insertion_point ps id low high met h =
     let within = h.within in record {
       in_bounds = omega (arith, order, within);
       below = h.below;
-      above = λ k behind inside. h.above k (omega (arith, behind, met)) inside;
+      above = λ k after inside. h.above k (omega (arith, after, met)) inside;
     }
 
 -- an identifier that isn't at its insertion point isn't in the pairs
 pub insertion_point_none : (ps : Pairs) (id at : ℕ) → AreAscending ps → IsInsertionPoint ps id at → (at < length ps → key_at ps at ≢ id) → index_of_id id ps ≡ None
-insertion_point_none ps id at up place other = index_none id ps (λ k inside is. elim (cases_order k at) [
+insertion_point_none ps id at up point other = index_none id ps (λ k inside is. elim (cases_order k at) [
   | inl same ↦ other (omega (arith, same, inside)) (ap (key_at ps) (sym same) ∙ is)
-  | inr (inl before) ↦ (let below = place.below k before in omega (arith, below, is))
-  | inr (inr behind) ↦ (let less = up at k (0, 0) behind inside in let above = place.above at (omega arith) (omega (arith, behind, inside)) in omega (arith, above, less, is))
+  | inr (inl before) ↦ (let below = point.below k before in omega (arith, below, is))
+  | inr (inr after) ↦ (let less = up at k (0, 0) after inside in let above = point.above at (omega arith) (omega (arith, after, inside)) in omega (arith, above, less, is))
 ])
 
 -- The pairs of a prefix of the attributes.

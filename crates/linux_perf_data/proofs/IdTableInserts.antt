@@ -42,9 +42,9 @@ listed_last : (x id : ℕ) (ids : List ℕ) → lists_id x (ids ++ id ∷ []) �
 listed_last x id [] = refl
 listed_last x id (y ∷ ids) = ap (λ b. if y == x then true else b) (listed_last x id ids) ∙ turned (y == x) (id == x) (lists_id x ids)
 
-chosen : (b c : Bool) (told put : Option ℕ) → (if b then put else (if c then put else told)) ≡ (if (if b then true else c) then put else told)
-chosen true c told put = refl
-chosen false c told put = refl
+chosen : (b c : Bool) (previous put : Option ℕ) → (if b then put else (if c then put else previous)) ≡ (if (if b then true else c) then put else previous)
+chosen true c previous put = refl
+chosen false c previous put = refl
 
 -- one more identifier
 pub puts_more : (old now new : IdTable) (ids : List ℕ) (id n : ℕ) → MapsIds old ids n now → MapsId now id n new → MapsIds old (ids ++ id ∷ []) n new

@@ -42,9 +42,9 @@ same_is vdso_x32 vdso_x32 is = refl
 same_is vdso_64 vdso_64 is = refl
 same_is vsyscall vsyscall is = refl
 same_is (kernel_module name) (kernel_module other) is = ap kernel_module ((bytes_eq-Decides name other).0 is)
-same_is (user file path) (user other behind) is =
-    let parts = and_parts (bytes_eq file other) (bytes_eq path behind) is in
-    ap (λ f. user f path) ((bytes_eq-Decides file other).0 parts.0) ∙ ap (user other) ((bytes_eq-Decides path behind).0 parts.1)
+same_is (user file path) (user other other_path) is =
+    let parts = and_parts (bytes_eq file other) (bytes_eq path other_path) is in
+    ap (λ f. user f path) ((bytes_eq-Decides file other).0 parts.0) ∙ ap (user other) ((bytes_eq-Decides path other_path).0 parts.1)
 same_is _ _ is = absurd (false≢true is)
 
 same_turned : (a b : Key) → keys_equal a b ≡ true → keys_equal b a ≡ true
@@ -59,7 +59,7 @@ eq_is dso.VdsoX32 dso.VdsoX32 = refl
 eq_is dso.Vdso64 dso.Vdso64 = refl
 eq_is dso.Vsyscall dso.Vsyscall = refl
 eq_is (dso.KernelModule name) (dso.KernelModule other) = refl
-eq_is (dso.User file path) (dso.User other behind) = refl
+eq_is (dso.User file path) (dso.User other other_path) = refl
 eq_is _ _ = refl
 
 -- ---- the entries

@@ -24,7 +24,8 @@ use Rattle.linux_perf_data.specs.AttributeLookup.{Represents}
 use Rattle.linux_perf_data.specs.LateMetadata.{SamePerfFile, IsMetadataType, SameAttributeCount, IsMetadataError, AppliesMetadata, features_in_record}
 use Rattle.linux_perf_data.specs.LateSteps.{FindsLateNames, AreLateNamesFor, IsAttributeError, PushesAttribute, AttributeApplied, AppliesAttribute, AppliesFeature, name_table_after}
 use Rattle.linux_perf_data.specs.NameTable.{HasTableWithEndian, IsTableOf, name_from_table, names_from_table}
-use Rattle.linux_perf_data.specs.Names.{IsReadableOrAbsent, NamedByEventDesc, event_desc}
+use Rattle.linux_perf_data.specs.FeatureNumbers.{event_desc}
+use Rattle.linux_perf_data.specs.Names.{IsReadableOrAbsent, NamedByEventDesc}
 use Rattle.linux_perf_data.specs.PerfFile.{descriptions_of_file, features_of_file, feature_data_in_file, attributes_of_file}
 use Rattle.linux_perf_data.specs.Consistency.{error_of_inconsistency}
 use Rattle.linux_perf_data.specs.declared.pipe.late_metadata.LateNames.{LateNames}
@@ -34,17 +35,17 @@ use Rattle.linux_perf_data.proofs.NameTables.{named_by_kept, named_can, table_ca
 -- ---- an attribute
 
 -- reserving memory for a late attribute leaves its names unchanged
-pub fits_room : (file room : PerfFile) (ids own : List ℕ) (naming : LateNames) → SamePerfFile file room → room.name_table ≡ file.name_table → own ≡ ids → AreLateNamesFor file ids naming → AreLateNamesFor room own naming
-fits_room file room ids own (Single name) same kept is (t, there, its) = (t, kept ∙ there, its ∙ ap (name_from_table t) (sym is))
-fits_room file room ids own (All table names name) same kept is f = record {
+pub fits_reserved : (file reserved : PerfFile) (ids own : List ℕ) (naming : LateNames) → SamePerfFile file reserved → reserved.name_table ≡ file.name_table → own ≡ ids → AreLateNamesFor file ids naming → AreLateNamesFor reserved own naming
+fits_reserved file reserved ids own (Single name) same same_table is (t, there, its) = (t, same_table ∙ there, its ∙ ap (name_from_table t) (sym is))
+fits_reserved file reserved ids own (All table names name) same same_table is f = record {
   matches = subst (IsTableOf table) (sym (same.feature_data event_desc)) f.matches;
   other_names = f.other_names ∙ ap (names_from_table table) (sym same.descriptions);
   own_name = f.own_name ∙ ap (name_from_table table) (sym is);
 }
 
-behind_room : (file room : PerfFile) (naming : LateNames) → room.name_table ≡ file.name_table → name_table_after room naming ≡ name_table_after file naming
-behind_room file room (Single name) kept = kept
-behind_room file room (All table names name) kept = refl
+table_after_reserve : (file reserved : PerfFile) (naming : LateNames) → reserved.name_table ≡ file.name_table → name_table_after reserved naming ≡ name_table_after file naming
+table_after_reserve file reserved (Single name) same_table = same_table
+table_after_reserve file reserved (All table names name) same_table = refl
 
 -- the attributes of a `PerfFile` that keeps a name table have their names
 named_of : (order : Endianness) (file : PerfFile) → HasTableWithEndian order file.name_table → NamedByEventDesc order (feature_data_in_file file event_desc) (descriptions_of_file file)
@@ -55,16 +56,16 @@ pub found_can : (order : Endianness) (file : PerfFile) (ids : List ℕ) (naming 
 found_can order file ids (Single name) (fits, is) = named_can order (feature_data_in_file file event_desc) (descriptions_of_file file) (named_of order file is)
 found_can order file ids (All table names name) (fits, is) = table_can order table (feature_data_in_file file event_desc) is fits.matches
 
-pub attribute_applied : (order : Endianness) (known known' : AttributeLookup) (file room new : PerfFile) (body : List ℕ) (a : Attribute) (d : AttributeDescription) (naming : LateNames) (ids : List ℕ) → HoldsAttribute order body → a ≡ attribute_in order body
-    → FindsLateNames order file ids (Ok naming) → SamePerfFile file room → room.name_table ≡ file.name_table → ((attrs : List Attribute) → Represents order known attrs → Represents order known' (attrs ++ a ∷ [])) → described_attribute d ≡ a
-    → PushesAttribute room (described_attribute d) naming new → AttributeApplied order known file body known' new
-attribute_applied order known known' file room new body a d naming ids holds is found same kept knows one put =
+pub attribute_applied : (order : Endianness) (lookup lookup' : AttributeLookup) (file reserved new : PerfFile) (body : List ℕ) (a : Attribute) (d : AttributeDescription) (naming : LateNames) (ids : List ℕ) → HoldsAttribute order body → a ≡ attribute_in order body
+    → FindsLateNames order file ids (Ok naming) → SamePerfFile file reserved → reserved.name_table ≡ file.name_table → ((attrs : List Attribute) → Represents order lookup attrs → Represents order lookup' (attrs ++ a ∷ [])) → described_attribute d ≡ a
+    → PushesAttribute reserved (described_attribute d) naming new → AttributeApplied order lookup file body lookup' new
+attribute_applied order lookup lookup' file reserved new body a d naming ids holds is found same same_table represents_more one put =
     let attrs : attributes_of_file new ≡ attributes_of_file file ++ a ∷ [] = put.attributes ∙ ap (λ l. l ++ described_attribute d ∷ []) (ap described_attributes same.descriptions) ∙ ap (λ b. attributes_of_file file ++ b ∷ []) one in
     let bytes : (n : ℕ) → feature_data_in_file new n ≡ feature_data_in_file file n = λ n. put.sections.feature_data n ∙ same.feature_data n in
-    let table : new.name_table ≡ name_table_after file naming = put.name_table ∙ behind_room file room naming kept in
+    let table : new.name_table ≡ name_table_after file naming = put.name_table ∙ table_after_reserve file reserved naming same_table in
     let have : NamedByEventDesc order (feature_data_in_file new event_desc) (descriptions_of_file new) = named_of order new (subst (HasTableWithEndian order) (sym table) found.1) in record {
       valid_attribute = holds;
-      represents = λ all k. subst (λ b. Represents order known' (all ++ b ∷ [])) is (knows all k);
+      represents = λ all k. subst (λ b. Represents order lookup' (all ++ b ∷ [])) is (represents_more all k);
       sections = record {
         same_endian = put.sections.same_endian ∙ same.same_endian;
         features = put.sections.features ∙ same.features;
@@ -78,36 +79,36 @@ attribute_applied order known known' file room new body a d naming ids holds is 
 abbrev with_ids : PerfEventAttr → List ℕ → Attribute
 with_ids attr ids = record { attr = attr; ids = ids }
 
-pub added_not : (order : Endianness) (known : AttributeLookup) (file : PerfFile) (body : List ℕ) (attr : PerfEventAttr) (own told ids : List ℕ) (naming : LateNames) (e : Error) → HoldsAttribute order body → own ≡ told → with_ids attr told ≡ attribute_in order body
-    → FindsLateNames order file ids (Ok naming) → (e ≡ Memory) ⊎ ((b : Inconsistency) × (e ≡ error_of_inconsistency b) × ((attrs : List Attribute) → Represents order known attrs → AreInconsistent (attrs ++ with_ids attr own ∷ []) b))
-    → (e ≡ Memory → HoldsAttribute order body) × (e ≢ Memory → IsAttributeError order known file body e)
-added_not order known file body attr own told ids naming e holds same is found why = (
+pub added_not : (order : Endianness) (lookup : AttributeLookup) (file : PerfFile) (body : List ℕ) (attr : PerfEventAttr) (own added_ids ids : List ℕ) (naming : LateNames) (e : Error) → HoldsAttribute order body → own ≡ added_ids → with_ids attr added_ids ≡ attribute_in order body
+    → FindsLateNames order file ids (Ok naming) → (e ≡ Memory) ⊎ ((b : Inconsistency) × (e ≡ error_of_inconsistency b) × ((attrs : List Attribute) → Represents order lookup attrs → AreInconsistent (attrs ++ with_ids attr own ∷ []) b))
+    → (e ≡ Memory → HoldsAttribute order body) × (e ≢ Memory → IsAttributeError order lookup file body e)
+added_not order lookup file body attr own added_ids ids naming e holds same is found reason = (
   λ _. holds,
-  λ other. elim why [
+  λ other. elim reason [
     | inl memory ↦ absurd (other memory)
-    | inr (b, breach, breaks) ↦
+    | inr (b, error_is, breaks) ↦
         let all : with_ids attr own ≡ attribute_in order body = ap (with_ids attr) same ∙ is in
-        inr (inr (b, holds, found_can order file ids naming found, breach, λ attrs k. subst (λ a. AreInconsistent (attrs ++ a ∷ []) b) all (breaks attrs k)))
+        inr (inr (b, holds, found_can order file ids naming found, error_is, λ attrs k. subst (λ a. AreInconsistent (attrs ++ a ∷ []) b) all (breaks attrs k)))
   ],
 )
 
 -- ---- an attribute or a feature, as a record of its type
 
-spoils_unfailed : (order : Endianness) (kind : ℕ) (body : List ℕ) (e : Error) → IsMetadataError order kind body e → e ≢ Failed
-spoils_unfailed order kind body e spoils f = elim (subst (IsMetadataError order kind body) f spoils) [
-  | inl short ↦ absurd short.0
+metadata_error_unfailed : (order : Endianness) (record_type : ℕ) (body : List ℕ) (e : Error) → IsMetadataError order record_type body e → e ≢ Failed
+metadata_error_unfailed order record_type body e metadata_error f = elim (subst (IsMetadataError order record_type body) f metadata_error) [
+  | inl eof ↦ absurd eof.0
   | inr small ↦ absurd small.0
 ]
 
 desc_unfailed : (order : Endianness) (bytes : List ℕ) (e : Error) → IsEventDescError (number_in order) e bytes → e ≢ Failed
 desc_unfailed order bytes e none f = elim (subst (λ t. IsEventDescError (number_in order) t bytes) f none) [
-  | inl short ↦ absurd short.0
+  | inl eof ↦ absurd eof.0
   | inr stops ↦ elim stops.error_here [ inl frame ↦ absurd frame | inr tail ↦ absurd tail.1 ]
 ]
 
-breach_unfailed : (b : Inconsistency) (e : Error) → e ≡ error_of_inconsistency b → e ≢ Failed
-breach_unfailed (missing_identifier i) e is f = cc
-breach_unfailed (sample_id_all_differs i) e is f = cc
+inconsistency_unfailed : (b : Inconsistency) (e : Error) → e ≡ error_of_inconsistency b → e ≢ Failed
+inconsistency_unfailed (missing_identifier i) e is f = cc
+inconsistency_unfailed (sample_id_all_differs i) e is f = cc
 
 memory_unfailed : (e : Error) → e ≡ Memory → e ≢ Failed
 memory_unfailed e is f = cc
@@ -119,16 +120,16 @@ unfailed e other f = other (λ m. memory_unfailed e m f) f
 same_features : (old new : FeatureSet) (n : ℕ) → new ≡ old → HasFeature new n → HasFeature old n
 same_features old new n same has = subst (λ set. HasFeature set n) same has
 
-same_count : (order : Endianness) (known : AttributeLookup) (file : PerfFile) → vec_len file.attributes ≡ vec_len known.parse_infos → SameAttributeCount order known file
-same_count order known file counted attrs k =
+same_count : (order : Endianness) (lookup : AttributeLookup) (file : PerfFile) → vec_len file.attributes ≡ vec_len lookup.parse_infos → SameAttributeCount order lookup file
+same_count order lookup file counted attrs k =
     let there = file.attributes.ok in
-    let here = known.parse_infos.ok in
-    let places = ap length k.parse_infos in
+    let here = lookup.parse_infos.ok in
+    let counts = ap length k.parse_infos in
     let all = length-map attrs (λ a. parse_info_of a.attr order) in
-    omega (arith, there, here, places, all, counted)
+    omega (arith, there, here, counts, all, counted)
 
-attribute_at : {A : Type 0} (order : Endianness) (known known' : AttributeLookup) (file new : PerfFile) (body : List ℕ) (r : Result A Error) → SameAttributeCount order known file → AppliesAttribute order known file body r known' new → AppliesMetadata order known file 64 body r known' new
-attribute_at order known known' file new body (Ok _) count t = record {
+attribute_at : {A : Type 0} (order : Endianness) (lookup lookup' : AttributeLookup) (file new : PerfFile) (body : List ℕ) (r : Result A Error) → SameAttributeCount order lookup file → AppliesAttribute order lookup file body r lookup' new → AppliesMetadata order lookup file 64 body r lookup' new
+attribute_at order lookup lookup' file new body (Ok _) count t = record {
   same_attribute_count = λ _. count;
   valid_attribute = λ _. t.valid_attribute;
   valid_feature = λ k. absurd (omega (arith, k));
@@ -141,50 +142,50 @@ attribute_at order known known' file new body (Ok _) count t = record {
       λ has. inl (same_features (features_of_file file) (features_of_file new) n t.sections.features has),
       λ either. elim either [
         | inl has ↦ same_features (features_of_file new) (features_of_file file) n (sym t.sections.features) has
-        | inr (low, none, k, is) ↦ absurd (omega (arith, k))
+        | inr (low, added) ↦ absurd (omega (arith, added.1))
       ],
     );
     names_match = λ _. subst (λ desc. NamedByEventDesc order desc (descriptions_of_file new)) (sym (t.sections.feature_data event_desc)) t.names_match;
     if_not_renamed = λ none. absurd (none (inl refl));
   };
 }
-attribute_at order known known' file new body (Err e) count (same, memory, why) = record {
+attribute_at order lookup lookup' file new body (Err e) count (same, memory, reason) = record {
   same_file = same;
   metadata_type = inl refl;
-  not_failed = unfailed e (λ m. elim (why m) [
-    | inl spoils ↦ spoils_unfailed order 64 body e spoils
+  not_failed = unfailed e (λ m. elim (reason m) [
+    | inl metadata_error ↦ metadata_error_unfailed order 64 body e metadata_error
     | inr (inl (holds, (bytes, there, none))) ↦ desc_unfailed order bytes e none
-    | inr (inr (b, holds, can, is, breaks)) ↦ breach_unfailed b e is
+    | inr (inr (b, holds, can, is, breaks)) ↦ inconsistency_unfailed b e is
   ]);
   if_out_of_memory = λ m. (count, inl (refl, memory m));
   cause = λ m. inr (
     count,
-    elim (why m) [
-      | inl spoils ↦ inl spoils
+    elim (reason m) [
+      | inl metadata_error ↦ inl metadata_error
       | inr (inl (holds, (bytes, there, none))) ↦ inr (inl (bytes, inl (refl, holds, there), none))
       | inr (inr (b, holds, can, is, breaks)) ↦ inr (inr (b, refl, holds, can, is, breaks))
     ],
   );
 }
 
-pub attribute_taken : {A : Type 0} (order : Endianness) (known known' : AttributeLookup) (file new : PerfFile) (kind : ℕ) (body : List ℕ) (r : Result A Error) → kind ≡ 64 → vec_len file.attributes ≡ vec_len known.parse_infos → AppliesAttribute order known file body r known' new → AppliesMetadata order known file kind body r known' new
-attribute_taken {A = A} order known known' file new kind body r is counted takes = subst (λ k. AppliesMetadata order {A = A} known file k body r known' new) (sym is) (attribute_at order known known' file new body r (same_count order known file counted) takes)
+pub attribute_record_applied : {A : Type 0} (order : Endianness) (lookup lookup' : AttributeLookup) (file new : PerfFile) (record_type : ℕ) (body : List ℕ) (r : Result A Error) → record_type ≡ 64 → vec_len file.attributes ≡ vec_len lookup.parse_infos → AppliesAttribute order lookup file body r lookup' new → AppliesMetadata order lookup file record_type body r lookup' new
+attribute_record_applied {A = A} order lookup lookup' file new record_type body r is counted applies = subst (λ k. AppliesMetadata order {A = A} lookup file k body r lookup' new) (sym is) (attribute_at order lookup lookup' file new body r (same_count order lookup file counted) applies)
 
-feature_at : {A : Type 0} (order : Endianness) (known : AttributeLookup) (file new : PerfFile) (body : List ℕ) (r : Result A Error) → SameAttributeCount order known file → AppliesFeature order file body r new → AppliesMetadata order known file 80 body r known new
-feature_at order known file new body (Ok _) count t = record {
+feature_at : {A : Type 0} (order : Endianness) (lookup : AttributeLookup) (file new : PerfFile) (body : List ℕ) (r : Result A Error) → SameAttributeCount order lookup file → AppliesFeature order file body r new → AppliesMetadata order lookup file 80 body r lookup new
+feature_at order lookup file new body (Ok _) count t = record {
   same_attribute_count = λ _. count;
   valid_attribute = λ k. absurd (omega (arith, k));
   valid_feature = λ _. t.complete;
-  represents = λ attrs k. subst (Represents order known) (sym (append-nil attrs)) k;
+  represents = λ attrs k. subst (Represents order lookup) (sym (append-nil attrs)) k;
   file_updates = record {
     same_endian = t.feature_replaced.same_endian;
     attributes = t.attributes ∙ sym (append-nil (attributes_of_file file));
     feature_data = t.feature_replaced.feature_data;
     features = λ n. (
-      λ has. elim ((t.feature_replaced.features n).0 has) [ inl before ↦ inl before | inr (low, is) ↦ inr (low, refl, refl, is) ],
-      λ either. (t.feature_replaced.features n).1 (elim either [ inl before ↦ inl before | inr (low, none, k, is) ↦ inr (low, is) ]),
+      λ has. elim ((t.feature_replaced.features n).0 has) [ inl before ↦ inl before | inr (low, is) ↦ inr (low, (refl, refl, is)) ],
+      λ either. (t.feature_replaced.features n).1 (elim either [ inl before ↦ inl before | inr (low, added) ↦ inr (low, added.2) ]),
     );
-    names_match = λ gives. elim gives [
+    names_match = λ renames. elim renames [
       | inl k ↦ absurd (omega (arith, k))
       | inr (k, desc) ↦
           let there : feature_data_in_file new event_desc ≡ Some (drop 8 body) = t.feature_replaced.feature_data event_desc ∙ ap (λ f. cond (nat_eq f event_desc) (Some (drop 8 body)) (feature_data_in_file file event_desc)) desc in
@@ -193,32 +194,32 @@ feature_at order known file new body (Ok _) count t = record {
     if_not_renamed = λ none. t.if_other_feature (λ desc. none (inr (refl, desc)));
   };
 }
-feature_at order known file new body (Err e) count (same, memory, why) = record {
+feature_at order lookup file new body (Err e) count (same, memory, reason) = record {
   same_file = same;
   metadata_type = inr refl;
-  not_failed = unfailed e (λ m. elim (why m) [
-    | inl spoils ↦ spoils_unfailed order 80 body e spoils
+  not_failed = unfailed e (λ m. elim (reason m) [
+    | inl metadata_error ↦ metadata_error_unfailed order 80 body e metadata_error
     | inr (there, desc, none) ↦ desc_unfailed order (drop 8 body) e none
   ]);
   if_out_of_memory = λ m. (count, inr (refl, memory m));
   cause = λ m. inr (
     count,
-    elim (why m) [
-      | inl spoils ↦ inl spoils
+    elim (reason m) [
+      | inl metadata_error ↦ inl metadata_error
       | inr (there, desc, none) ↦ inr (inl (drop 8 body, inr (refl, there, desc, refl), none))
     ],
   );
 }
 
-pub feature_taken : {A : Type 0} (order : Endianness) (known : AttributeLookup) (file new : PerfFile) (kind : ℕ) (body : List ℕ) (r : Result A Error) → kind ≡ 80 → vec_len file.attributes ≡ vec_len known.parse_infos → AppliesFeature order file body r new → AppliesMetadata order known file kind body r known new
-feature_taken {A = A} order known file new kind body r is counted takes = subst (λ k. AppliesMetadata order {A = A} known file k body r known new) (sym is) (feature_at order known file new body r (same_count order known file counted) takes)
+pub feature_record_applied : {A : Type 0} (order : Endianness) (lookup : AttributeLookup) (file new : PerfFile) (record_type : ℕ) (body : List ℕ) (r : Result A Error) → record_type ≡ 80 → vec_len file.attributes ≡ vec_len lookup.parse_infos → AppliesFeature order file body r new → AppliesMetadata order lookup file record_type body r lookup new
+feature_record_applied {A = A} order lookup file new record_type body r is counted applies = subst (λ k. AppliesMetadata order {A = A} lookup file k body r lookup new) (sym is) (feature_at order lookup file new body r (same_count order lookup file counted) applies)
 
 -- ---- neither
 
 -- a `PerfFile` whose number of attributes isn't that of the lookup
-pub mismatch_rejected : (A : Type 0) (order : Endianness) (known : AttributeLookup) (file : PerfFile) (kind : ℕ) (body : List ℕ) (e : Error) → IsMetadataType kind → IsInvalidInput e → vec_len file.attributes ≢ vec_len known.parse_infos
-    → AppliesMetadata order {A = A} known file kind body (Err e) known file
-mismatch_rejected A order known file kind body e metadata is apart = record {
+pub mismatch_rejected : (A : Type 0) (order : Endianness) (lookup : AttributeLookup) (file : PerfFile) (record_type : ℕ) (body : List ℕ) (e : Error) → IsMetadataType record_type → IsInvalidInput e → vec_len file.attributes ≢ vec_len lookup.parse_infos
+    → AppliesMetadata order {A = A} lookup file record_type body (Err e) lookup file
+mismatch_rejected A order lookup file record_type body e metadata is apart = record {
   same_file = record { same_endian = refl; descriptions = refl; features = refl; feature_data = λ n. refl };
   metadata_type = metadata;
   not_failed = λ f. subst IsInvalidInput f is;
@@ -227,30 +228,30 @@ mismatch_rejected A order known file kind body e metadata is apart = record {
     is,
     λ attrs k same.
         let there = file.attributes.ok in
-        let here = known.parse_infos.ok in
-        let places = ap length k.parse_infos in
+        let here = lookup.parse_infos.ok in
+        let counts = ap length k.parse_infos in
         let all = length-map attrs (λ a. parse_info_of a.attr order) in
-        apart (omega (arith, there, here, places, all, same)),
+        apart (omega (arith, there, here, counts, all, same)),
   );
 }
 
 -- a record of any other type
-pub nothing_taken : {A : Type 0} (order : Endianness) (known : AttributeLookup) (file : PerfFile) (kind : ℕ) (body : List ℕ) (r : A) → (¬ IsMetadataType kind) → AppliesMetadata order {A = A} known file kind body (Ok r) known file
-nothing_taken order known file kind body r other =
-    let no_attribute : (kind == 64) ≡ false = ne_eqb kind 64 (λ k. other (inl k)) in
-    let no_feature : (kind == 80) ≡ false = ne_eqb kind 80 (λ k. other (inr k)) in
-    let none : attributes_in_record order None kind body ≡ [] = rw no_attribute refl in
-    let nothing : features_in_record order None kind body ≡ [] = rw no_feature refl in record {
+pub other_record_applied : {A : Type 0} (order : Endianness) (lookup : AttributeLookup) (file : PerfFile) (record_type : ℕ) (body : List ℕ) (r : A) → (¬ IsMetadataType record_type) → AppliesMetadata order {A = A} lookup file record_type body (Ok r) lookup file
+other_record_applied order lookup file record_type body r other =
+    let no_attribute : (record_type == 64) ≡ false = ne_eqb record_type 64 (λ k. other (inl k)) in
+    let no_feature : (record_type == 80) ≡ false = ne_eqb record_type 80 (λ k. other (inr k)) in
+    let none : attributes_in_record order None record_type body ≡ [] = rw no_attribute refl in
+    let nothing : features_in_record order None record_type body ≡ [] = rw no_feature refl in record {
       same_attribute_count = λ metadata. absurd (other metadata);
       valid_attribute = λ k. absurd (other (inl k));
       valid_feature = λ k. absurd (other (inr k));
-      represents = λ attrs k. subst (Represents order known) (sym (ap (λ l. attrs ++ l) none ∙ append-nil attrs)) k;
+      represents = λ attrs k. subst (Represents order lookup) (sym (ap (λ l. attrs ++ l) none ∙ append-nil attrs)) k;
       file_updates = record {
         same_endian = refl;
         attributes = sym (ap (λ l. attributes_of_file file ++ l) none ∙ append-nil (attributes_of_file file));
         feature_data = λ n. sym (ap (λ l. update_all nat_eq (feature_data_in_file file) l n) nothing);
-        features = λ n. (λ has. inl has, λ either. elim either [ inl has ↦ has | inr (low, none, k, is) ↦ absurd (other (inr k)) ]);
-        names_match = λ gives. absurd (other (elim gives [ inl k ↦ inl k | inr put ↦ inr put.0 ]));
+        features = λ n. (λ has. inl has, λ either. elim either [ inl has ↦ has | inr (low, added) ↦ absurd (other (inr added.1)) ]);
+        names_match = λ renames. absurd (other (elim renames [ inl k ↦ inl k | inr put ↦ inr put.0 ]));
         if_not_renamed = λ _. refl;
       };
     }

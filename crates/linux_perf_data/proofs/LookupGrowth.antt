@@ -64,18 +64,18 @@ listed_best false n o = refl
 pub represents_more : (order : Endianness) (old new : AttributeLookup) (attrs : List Attribute) (a : Attribute) (n : ℕ) → Represents order old attrs → AreConsistent (attrs ++ a ∷ []) → n ≡ length old.parse_infos.items → new.first_parse_info ≡ old.first_parse_info
     → new.parse_infos.items ≡ old.parse_infos.items ++ parse_info_of a.attr order ∷ [] → new.first_without_identifier ≡ option_or old.first_without_identifier (if has_identifier a then None else Some n) → MapsIds old.table a.ids n new.table
     → ((id : ℕ) → cached_index new.cache id ≡ None) → Represents order new (attrs ++ a ∷ [])
-represents_more order old new attrs a n k rule count first places lacking puts cleared =
-    let known = lookup_counted order old attrs k in
-    let counted : n ≡ 0 + length attrs = omega (arith, count, known) in
+represents_more order old new attrs a n k all_consistent count first infos lacking puts cleared =
+    let counted_before = lookup_counted order old attrs k in
+    let counted : n ≡ 0 + length attrs = omega (arith, count, counted_before) in
     record {
       first_attribute = k.first_attribute;
       other_attributes = k.other_attributes ++ a ∷ [];
       elements = ap (λ l. l ++ a ∷ []) k.elements;
-      consistent = rule;
+      consistent = all_consistent;
       first_parse_info = first ∙ k.first_parse_info;
-      parse_infos = places ∙ ap (λ l. l ++ parse_info_of a.attr order ∷ []) k.parse_infos ∙ sym (map-append (λ (b : Attribute). parse_info_of b.attr order) attrs (a ∷ []));
+      parse_infos = infos ∙ ap (λ l. l ++ parse_info_of a.attr order ∷ []) k.parse_infos ∙ sym (map-append (λ (b : Attribute). parse_info_of b.attr order) attrs (a ∷ []));
       first_without_identifier = lacking ∙ ap (λ o. option_or o (if has_identifier a then None else Some n)) k.first_without_identifier ∙ sym (unidentified_more 0 attrs a n counted);
       table = λ id. ap (λ o. unwrap_or o 0) (puts id) ∙ listed_best (lists_id id a.ids) n (id_lookup old.table id) ∙ ap (λ g. if lists_id id a.ids then n else g) (k.table id)
           ∙ ap (λ m. if lists_id id a.ids then m else last_index_listing id 0 0 attrs) counted ∙ sym (greatest_more id 0 0 attrs a);
-      cache = λ id i told. absurd (let none : ◌≡◌ {A = Option ℕ} None (Some i) = sym (cleared id) ∙ told in cc);
+      cache = λ id i cached. absurd (let none : ◌≡◌ {A = Option ℕ} None (Some i) = sym (cleared id) ∙ cached in cc);
     }

@@ -20,6 +20,7 @@ use Rattle.perfdata_sections.specs.EventDesc.{DescribesByEventDesc, BeginsWithEv
 use Rattle.perfdata_sections.specs.declared.feature_sections.AttributeDescription.{AttributeDescription}
 use Rattle.perfdata_sections.proofs.EventPrefixes.{event_desc_is_unique, event_desc_or_not}
 use Rattle.linux_perf_data.specs.FirstIds.{IndexesFirstIds, InsertsFirstId, first_index_with_id}
+use Rattle.linux_perf_data.specs.FeatureNumbers.{event_desc}
 use Rattle.linux_perf_data.specs.NameTable.{HasTableWithEndian, IsTableOf, TableHasEvents, TableNamesAll, TableEmptyWithoutEventDesc, TableIsReadable}
 use Rattle.linux_perf_data.specs.Names.{IsReadableOrAbsent, NamedByEventDesc, NamedBy, name_by_first_id, same_first_id}
 use Rattle.linux_perf_data.specs.FeatureData.{feature_data_of}
@@ -39,35 +40,35 @@ at_is x y = elim (cases_order x y) [
 -- ---- the first description of an ID
 
 -- the descriptions from an index on are in the map
-pub record PutFrom (first : BTreeMap ℕ ℕ) (told : List AttributeDescription) (index : ℕ) : Type 0 where
-  pub within : index ≤ length told
-  pub finds : (id : ℕ) → get nat_cmp first id ≡ first_index_with_id id index (drop index told)
+pub record PutFrom (first : BTreeMap ℕ ℕ) (descriptions : List AttributeDescription) (index : ℕ) : Type 0 where
+  pub within : index ≤ length descriptions
+  pub finds : (id : ℕ) → get nat_cmp first id ≡ first_index_with_id id index (drop index descriptions)
 
 nothing_there : (first : BTreeMap ℕ ℕ) → first.entries ≡ [] → (id : ℕ) → get nat_cmp first id ≡ None
 nothing_there first none id = ap (λ (es : List (ℕ × ℕ)). lookup (is_at (nat_cmp id)) es) none
 
-pub put_none : (first : BTreeMap ℕ ℕ) (told : List AttributeDescription) → first.entries ≡ [] → PutFrom first told (length told)
-put_none first told none = record {
+pub put_none : (first : BTreeMap ℕ ℕ) (descriptions : List AttributeDescription) → first.entries ≡ [] → PutFrom first descriptions (length descriptions)
+put_none first descriptions none = record {
   within = omega arith;
-  finds = λ id. nothing_there first none id ∙ sym (at_drop_all (first_index_with_id id (length told)) told (length told) (omega arith));
+  finds = λ id. nothing_there first none id ∙ sym (at_drop_all (first_index_with_id id (length descriptions)) descriptions (length descriptions) (omega arith));
 }
 
-pub put_more : (old new : BTreeMap ℕ ℕ) (told : List AttributeDescription) (index before : ℕ) (d : AttributeDescription) → before ≡ index + 1 → d ≡ get_or told index d → InsertsFirstId old (ids_in d) index new → PutFrom old told before → PutFrom new told index
-put_more old new told index before d next is puts p =
+pub put_more : (old new : BTreeMap ℕ ℕ) (descriptions : List AttributeDescription) (index before : ℕ) (d : AttributeDescription) → before ≡ index + 1 → d ≡ get_or descriptions index d → InsertsFirstId old (ids_in d) index new → PutFrom old descriptions before → PutFrom new descriptions index
+put_more old new descriptions index before d next is puts p =
     let within = p.within in
-    let there : index < length told = omega (arith, within, next) in
-    let finds : (id : ℕ) → get nat_cmp old id ≡ first_index_with_id id (index + 1) (drop (index + 1) told) = λ id. p.finds id ∙ ap (λ n. first_index_with_id id n (drop n told)) next in record {
+    let there : index < length descriptions = omega (arith, within, next) in
+    let finds : (id : ℕ) → get nat_cmp old id ≡ first_index_with_id id (index + 1) (drop (index + 1) descriptions) = λ id. p.finds id ∙ ap (λ n. first_index_with_id id n (drop n descriptions)) next in record {
       within = omega (arith, within, next);
       finds = λ id.
           puts id ∙ ap (λ o. if same_first_id (ids_in d) (id ∷ []) then Some index else o) (finds id)
-          ∙ sym (at_drop_more (first_index_with_id id index) told index d there ∙ sym (ap (λ x. first_index_with_id id index (x ∷ drop (index + 1) told)) is));
+          ∙ sym (at_drop_more (first_index_with_id id index) descriptions index d there ∙ sym (ap (λ x. first_index_with_id id index (x ∷ drop (index + 1) descriptions)) is));
     }
 
-pub put_all : (first : BTreeMap ℕ ℕ) (told : List AttributeDescription) (index : ℕ) → index ≡ 0 → PutFrom first told index → IndexesFirstIds first told
-put_all first told index none p = λ id. p.finds id ∙ ap (λ n. first_index_with_id id n (drop n told)) none
+pub put_all : (first : BTreeMap ℕ ℕ) (descriptions : List AttributeDescription) (index : ℕ) → index ≡ 0 → PutFrom first descriptions index → IndexesFirstIds first descriptions
+put_all first descriptions index none p = λ id. p.finds id ∙ ap (λ n. first_index_with_id id n (drop n descriptions)) none
 
-pub nothing_first : (first : BTreeMap ℕ ℕ) (told : List AttributeDescription) → first.entries ≡ [] → told ≡ [] → IndexesFirstIds first told
-nothing_first first told none empty = λ id. nothing_there first none id ∙ sym (ap (first_index_with_id id 0) empty)
+pub nothing_first : (first : BTreeMap ℕ ℕ) (descriptions : List AttributeDescription) → first.entries ≡ [] → descriptions ≡ [] → IndexesFirstIds first descriptions
+nothing_first first descriptions none empty = λ id. nothing_there first none id ∙ sym (ap (first_index_with_id id 0) empty)
 
 -- ---- its name
 
@@ -79,7 +80,7 @@ no_first : (xs : List ℕ) → same_first_id xs [] ≡ false
 no_first [] = refl
 no_first (x ∷ xs) = refl
 
-pub no_ids : (told : List AttributeDescription) → name_by_first_id told [] ≡ None
+pub no_ids : (descriptions : List AttributeDescription) → name_by_first_id descriptions [] ≡ None
 no_ids [] = refl
 no_ids (d ∷ ds) = ap (λ b. if b then name_in d else name_by_first_id ds []) (no_first (ids_in d)) ∙ no_ids ds
 
@@ -125,23 +126,23 @@ first_of : (l : List ℕ) → 0 < length l → get_or l 0 0 ∷ drop 1 l ≡ l
 first_of [] some = absurd (omega (arith, some))
 first_of (x ∷ xs) some = refl
 
-module _ (first : BTreeMap ℕ ℕ) (told : List AttributeDescription) (ids : List ℕ) (finds : IndexesFirstIds first told) (some : 0 < length ids) where
+module _ (first : BTreeMap ℕ ℕ) (descriptions : List AttributeDescription) (ids : List ℕ) (finds : IndexesFirstIds first descriptions) (some : 0 < length ids) where
   -- the index of the first ID is that of a description, whose name applies
-  index_found : (k : ℕ) → Some k ≡ get nat_cmp first (get_or ids 0 0) → FoundAt (get_or ids 0 0) 0 k (drop 1 ids) told
-  index_found k there = found_at (get_or ids 0 0) 0 (drop 1 ids) told k (sym (there ∙ finds (get_or ids 0 0)))
+  index_found : (k : ℕ) → Some k ≡ get nat_cmp first (get_or ids 0 0) → FoundAt (get_or ids 0 0) 0 k (drop 1 ids) descriptions
+  index_found k there = found_at (get_or ids 0 0) 0 (drop 1 ids) descriptions k (sym (there ∙ finds (get_or ids 0 0)))
 
-  pub index_within : (k : ℕ) → Some k ≡ get nat_cmp first (get_or ids 0 0) → k < length told
+  pub index_within : (k : ℕ) → Some k ≡ get nat_cmp first (get_or ids 0 0) → k < length descriptions
   index_within k there = (let f = index_found k there in let at = f.is in let low = f.there in omega (arith, at, low))
 
-  pub name_found : (k : ℕ) (d : AttributeDescription) → Some k ≡ get nat_cmp first (get_or ids 0 0) → name_in (get_or told k d) ≡ name_by_first_id told ids
+  pub name_found : (k : ℕ) (d : AttributeDescription) → Some k ≡ get nat_cmp first (get_or ids 0 0) → name_in (get_or descriptions k d) ≡ name_by_first_id descriptions ids
   name_found k d there =
       let f = index_found k there in
       let at = f.is in
       let same : k ≡ f.at = omega (arith, at) in
-      ap (λ n. name_in (get_or told n d)) same ∙ sym (f.name d) ∙ ap (name_by_first_id told) (first_of ids some)
+      ap (λ n. name_in (get_or descriptions n d)) same ∙ sym (f.name d) ∙ ap (name_by_first_id descriptions) (first_of ids some)
 
-  pub name_missed : None ≡ get nat_cmp first (get_or ids 0 0) → None ≡ name_by_first_id told ids
-  name_missed none = sym (not_found (get_or ids 0 0) 0 (drop 1 ids) told (sym (none ∙ finds (get_or ids 0 0)))) ∙ ap (name_by_first_id told) (first_of ids some)
+  pub name_missed : None ≡ get nat_cmp first (get_or ids 0 0) → None ≡ name_by_first_id descriptions ids
+  name_missed none = sym (not_found (get_or ids 0 0) 0 (drop 1 ids) descriptions (sym (none ∙ finds (get_or ids 0 0)))) ∙ ap (name_by_first_id descriptions) (first_of ids some)
 
 -- ---- a table that is kept
 
@@ -164,62 +165,62 @@ module _ (t : NameTable) (desc : Option (List ℕ)) (is : IsTableOf t desc) wher
   table_some other bytes same there unread = unread (described_is_readable other.endian bytes other.events.items (described bytes other same there))
 
   pub table_events : TableHasEvents (Some t) desc
-  table_events other bytes es same there tells = event_desc_is_unique (number_in other.endian) (in_reads_first other.endian) bytes (events_in other.events.items) es (described bytes other same there) tells
+  table_events other bytes es same there begins = event_desc_is_unique (number_in other.endian) (in_reads_first other.endian) bytes (events_in other.events.items) es (described bytes other same there) begins
 
 pub table_names : (t : NameTable) (ds : List AttributeDescription) → NamedBy t.events.items ds → TableNamesAll (Some t) ds
 table_names t ds named other same = subst (λ (o : NameTable). NamedBy o.events.items ds) (one t other same) named
 
 -- the table of a `PerfFile` whose EVENT_DESC is unchanged
-module _ (kept : Option NameTable) (old new : Option (List ℕ)) (stays : (t : NameTable) → kept ≡ Some t → new ≡ old) where
-  pub stays_none : TableEmptyWithoutEventDesc kept old → TableEmptyWithoutEventDesc kept new
+module _ (name_table : Option NameTable) (old new : Option (List ℕ)) (stays : (t : NameTable) → name_table ≡ Some t → new ≡ old) where
+  pub stays_none : TableEmptyWithoutEventDesc name_table old → TableEmptyWithoutEventDesc name_table new
   stays_none before t same none = before t same (sym (stays t same) ∙ none)
 
-  pub stays_some : TableIsReadable kept old → TableIsReadable kept new
+  pub stays_some : TableIsReadable name_table old → TableIsReadable name_table new
   stays_some before t bytes same there = before t bytes same (sym (stays t same) ∙ there)
 
-  pub stays_events : TableHasEvents kept old → TableHasEvents kept new
-  stays_events before t bytes es same there tells = before t bytes es same (sym (stays t same) ∙ there) tells
+  pub stays_events : TableHasEvents name_table old → TableHasEvents name_table new
+  stays_events before t bytes es same there begins = before t bytes es same (sym (stays t same) ∙ there) begins
 
-none_kept : (t : NameTable) → None ≡ Some t → ⊥
-none_kept t e = cc
+none_not_some : (t : NameTable) → None ≡ Some t → ⊥
+none_not_some t e = cc
 
 -- without a table there is nothing to show
 pub no_names : (ds : List AttributeDescription) → TableNamesAll None ds
-no_names ds t same = absurd (none_kept t same)
+no_names ds t same = absurd (none_not_some t same)
 
 pub no_none : (desc : Option (List ℕ)) → TableEmptyWithoutEventDesc None desc
-no_none desc t same = absurd (none_kept t same)
+no_none desc t same = absurd (none_not_some t same)
 
 pub no_some : (desc : Option (List ℕ)) → TableIsReadable None desc
-no_some desc t bytes same = absurd (none_kept t same)
+no_some desc t bytes same = absurd (none_not_some t same)
 
 pub no_events : (desc : Option (List ℕ)) → TableHasEvents None desc
-no_events desc t bytes es same = absurd (none_kept t same)
+no_events desc t bytes es same = absurd (none_not_some t same)
 
 -- the data of another feature leave the table valid
-pub put_stays : {S : Type 0} (kept : Option NameTable) (m new : IndexMap Feature (Vec ℕ Global) S) (k : Feature) (v : Vec ℕ Global) → (k.0 ≡ 12 → kept ≡ None)
-    → ((q : Feature) → index_get (λ f g. nat_eq f.0 g.0) new q ≡ cond (nat_eq k.0 q.0) (Some v) (index_get (λ f g. nat_eq f.0 g.0) m q)) → (t : NameTable) → kept ≡ Some t → feature_data_of new 12 ≡ feature_data_of m 12
-put_stays kept m new k v other puts t same = elim (cases_eq k.0 12) [
-  | inl is ↦ absurd (none_kept t (sym (other is) ∙ same))
-  | inr apart ↦ data_put m new k v puts 12 ∙ ap (λ b. cond b (Some v.items) (feature_data_of m 12)) (ne_eqb k.0 12 apart)
+pub put_stays : {S : Type 0} (name_table : Option NameTable) (m new : IndexMap Feature (Vec ℕ Global) S) (k : Feature) (v : Vec ℕ Global) → (k.0 ≡ event_desc → name_table ≡ None)
+    → ((q : Feature) → index_get (λ f g. nat_eq f.0 g.0) new q ≡ cond (nat_eq k.0 q.0) (Some v) (index_get (λ f g. nat_eq f.0 g.0) m q)) → (t : NameTable) → name_table ≡ Some t → feature_data_of new event_desc ≡ feature_data_of m event_desc
+put_stays name_table m new k v other puts t same = elim (cases_eq k.0 event_desc) [
+  | inl is ↦ absurd (none_not_some t (sym (other is) ∙ same))
+  | inr apart ↦ data_put m new k v puts event_desc ∙ ap (λ b. cond b (Some v.items) (feature_data_of m event_desc)) (ne_eqb k.0 event_desc apart)
 ]
 
 -- ---- one more attribute
 
-pub pushed_named : (told : List AttributeDescription) (b : Bool) (before items ds : List AttributeDescription) (d : AttributeDescription) → items ≡ (if b then before ++ d ∷ [] else before) → before ≡ ds → NamedBy told ds → name_in d ≡ name_by_first_id told (ids_in d) → NamedBy told items
-pushed_named told true before items ds d is same named own = subst (NamedBy told) (sym (is ∙ ap (λ l. l ++ d ∷ []) same)) (All-push (λ x. name_in x ≡ name_by_first_id told (ids_in x)) ds d named own)
-pushed_named told false before items ds d is same named own = subst (NamedBy told) (sym (is ∙ same)) named
+pub pushed_named : (descriptions : List AttributeDescription) (b : Bool) (before items ds : List AttributeDescription) (d : AttributeDescription) → items ≡ (if b then before ++ d ∷ [] else before) → before ≡ ds → NamedBy descriptions ds → name_in d ≡ name_by_first_id descriptions (ids_in d) → NamedBy descriptions items
+pushed_named descriptions true before items ds d is same named own = subst (NamedBy descriptions) (sym (is ∙ ap (λ l. l ++ d ∷ []) same)) (All-push (λ x. name_in x ≡ name_by_first_id descriptions (ids_in x)) ds d named own)
+pushed_named descriptions false before items ds d is same named own = subst (NamedBy descriptions) (sym (is ∙ same)) named
 
 -- ---- the facts of a table determine the names of the attributes
 
-pub named_by_kept : (order : Endianness) (kept : Option NameTable) (desc : Option (List ℕ)) (ds : List AttributeDescription) → HasTableWithEndian order kept → TableNamesAll kept ds → TableEmptyWithoutEventDesc kept desc → TableIsReadable kept desc → TableHasEvents kept desc → NamedByEventDesc order desc ds
+pub named_by_kept : (order : Endianness) (name_table : Option NameTable) (desc : Option (List ℕ)) (ds : List AttributeDescription) → HasTableWithEndian order name_table → TableNamesAll name_table ds → TableEmptyWithoutEventDesc name_table desc → TableIsReadable name_table desc → TableHasEvents name_table desc → NamedByEventDesc order desc ds
 named_by_kept order None desc ds is names none some events = absurd is
 named_by_kept order (Some t) None ds is names none some events =
     let empty : t.events.items ≡ [] = nil_from_length t.events.items (none t refl refl) in
-    subst (λ told. NamedBy told ds) empty (names t refl)
+    subst (λ descriptions. NamedBy descriptions ds) empty (names t refl)
 named_by_kept order (Some t) (Some bytes) ds is names none some events = elim (event_desc_or_not (number_in t.endian) (in_reads_first t.endian) bytes) [
-  | inl (es, tells) ↦
-      let own : DescribesByEventDesc (number_in t.endian) bytes t.events.items = subst (BeginsWithEventDesc (number_in t.endian) bytes) (sym (events t bytes es refl refl tells)) tells in
+  | inl (es, begins) ↦
+      let own : DescribesByEventDesc (number_in t.endian) bytes t.events.items = subst (BeginsWithEventDesc (number_in t.endian) bytes) (sym (events t bytes es refl refl begins)) begins in
       (t.events.items, subst (λ o. DescribesByEventDesc (number_in o) bytes t.events.items) is own, names t refl)
   | inr unread ↦ absurd (some t bytes refl refl unread)
 ]
@@ -231,9 +232,9 @@ table_can order t (Some bytes) is table = described_is_readable order bytes t.ev
 
 pub named_can : (order : Endianness) (desc : Option (List ℕ)) (ds : List AttributeDescription) → NamedByEventDesc order desc ds → IsReadableOrAbsent order desc
 named_can order None ds named = tt
-named_can order (Some bytes) ds (told, is, names) = described_is_readable order bytes told is
+named_can order (Some bytes) ds (descriptions, is, names) = described_is_readable order bytes descriptions is
 
 -- a table built from EVENT_DESC, from which attributes have their names
 pub named_by_table : (order : Endianness) (t : NameTable) (desc : Option (List ℕ)) (ds : List AttributeDescription) → t.endian ≡ order → IsTableOf t desc → NamedBy t.events.items ds → NamedByEventDesc order desc ds
-named_by_table order t None ds is table named = subst (λ told. NamedBy told ds) table named
+named_by_table order t None ds is table named = subst (λ descriptions. NamedBy descriptions ds) table named
 named_by_table order t (Some bytes) ds is table named = (t.events.items, subst (λ o. DescribesByEventDesc (number_in o) bytes t.events.items) is table, named)

@@ -26,19 +26,19 @@ module _ (ds : List AttributeDescription) (i : ℕ) (old new : AttributeDescript
       set_same described_attribute ds i new (one ∙ ap described_attribute (get_or_default ds i old new there))
 
   -- it has the name at its index
-  pub named_more : (names left : List (Option (String Global))) (n : Option (String Global)) → i < length names → names_in (take i ds) ≡ name_bytes_of (take i names) → drop i left ≡ drop i names
-      → n ≡ get_or left i n → name_in new ≡ option_map string_bytes n → names_in (take (i + 1) (set ds i new)) ≡ name_bytes_of (take (i + 1) names)
-  named_more names left n within before same is one =
+  pub named_more : (names remaining : List (Option (String Global))) (n : Option (String Global)) → i < length names → names_in (take i ds) ≡ name_bytes_of (take i names) → drop i remaining ≡ drop i names
+      → n ≡ get_or remaining i n → name_in new ≡ option_map string_bytes n → names_in (take (i + 1) (set ds i new)) ≡ name_bytes_of (take (i + 1) names)
+  named_more names remaining n within before same is one =
       let none : i + 0 ≡ i = omega arith in
-      let at : get_or left (i + 0) n ≡ get_or names (i + 0) n = sym (get_or-drop i left 0 n) ∙ ap (λ l. get_or l 0 n) same ∙ get_or-drop i names 0 n in
-      let here : get_or names i n ≡ n = sym (is ∙ (subst (λ k. get_or left k n ≡ get_or names k n) none at)) in
+      let at : get_or remaining (i + 0) n ≡ get_or names (i + 0) n = sym (get_or-drop i remaining 0 n) ∙ ap (λ l. get_or l 0 n) same ∙ get_or-drop i names 0 n in
+      let here : get_or names i n ≡ n = sym (is ∙ (subst (λ k. get_or remaining k n ≡ get_or names k n) none at)) in
       ap names_in (take_more_set ds i new there) ∙ map_push name_in (take i ds) new
       ∙ ap (λ l. l ++ name_in new ∷ []) before ∙ ap (λ x. name_bytes_of (take i names) ++ x ∷ []) (one ∙ ap (λ m. option_map string_bytes m) (sym here))
       ∙ sym (ap name_bytes_of (take_more names i n within) ∙ map_push (λ name. option_map string_bytes name) (take i names) (get_or names i n))
 
 -- the names after it are unchanged
-pub left_more : {A : Type 0} (names left : List A) (i : ℕ) (x : A) → drop i left ≡ drop i names → drop (i + 1) (set left i x) ≡ drop (i + 1) names
-left_more names left i x same = drop-set-lt (i + 1) left i x (omega arith) ∙ sym (drop-drop 1 i left) ∙ ap (λ l. drop 1 l) same ∙ drop-drop 1 i names
+pub remaining_more : {A : Type 0} (names remaining : List A) (i : ℕ) (x : A) → drop i remaining ≡ drop i names → drop (i + 1) (set remaining i x) ≡ drop (i + 1) names
+remaining_more names remaining i x same = drop-set-lt (i + 1) remaining i x (omega arith) ∙ sym (drop-drop 1 i remaining) ∙ ap (λ l. drop 1 l) same ∙ drop-drop 1 i names
 
 -- ---- all of them
 

@@ -77,17 +77,17 @@ Same places a = id_parse_info_of a.attr ≡ places
 
 -- consistent attributes all have the ID offsets of the first
 pub consistent_same : (first : Attribute) (more : List Attribute) → AreConsistent (first ∷ more) → All (Same (id_parse_info_of first.attr)) (first ∷ more)
-consistent_same first more rule = All-cons (Same (id_parse_info_of first.attr)) first more refl rule
+consistent_same first more all_consistent = All-cons (Same (id_parse_info_of first.attr)) first more refl all_consistent
 
-eight_told : (a b : Bool) → word_list_offsets a ≡ word_list_offsets b → a ≡ b
-eight_told true true e = refl
-eight_told false false e = refl
-eight_told true false e = absurd (let off : ◌≡◌ {A = Option ℕ} (Some 8) None = ap (λ p. p.other_id_from_end) e in cc)
-eight_told false true e = absurd (let off : ◌≡◌ {A = Option ℕ} None (Some 8) = ap (λ p. p.other_id_from_end) e in cc)
+word_list_offsets_unique : (a b : Bool) → word_list_offsets a ≡ word_list_offsets b → a ≡ b
+word_list_offsets_unique true true e = refl
+word_list_offsets_unique false false e = refl
+word_list_offsets_unique true false e = absurd (let off : ◌≡◌ {A = Option ℕ} (Some 8) None = ap (λ p. p.other_id_from_end) e in cc)
+word_list_offsets_unique false true e = absurd (let off : ◌≡◌ {A = Option ℕ} None (Some 8) = ap (λ p. p.other_id_from_end) e in cc)
 
 -- An attribute with IDENTIFIER conforms to a first one with IDENTIFIER and the same ID offsets.
 conforming : (first a : Attribute) → Has first → Has a → Same (id_parse_info_of first.attr) a → ConformsTo first a
-conforming first a firsts has same = (has, eight_told (has_sample_id_all a) (has_sample_id_all first) (sym (offsets_word_list a.attr has) ∙ same ∙ offsets_word_list first.attr firsts))
+conforming first a firsts has same = (has, word_list_offsets_unique (has_sample_id_all a) (has_sample_id_all first) (sym (offsets_word_list a.attr has) ∙ same ∙ offsets_word_list first.attr firsts))
 
 all_conform : (first : Attribute) (front : List Attribute) → Has first → All Has front → All (Same (id_parse_info_of first.attr)) front → All (ConformsTo first) front
 all_conform first [] firsts has same = All-nil (ConformsTo first)
@@ -102,23 +102,23 @@ front_same P (a ∷ front) back all = All-cons P a front (All-head P a (front ++
 
 -- the attributes before the first without IDENTIFIER conform
 before_conform : (first : Attribute) (more front : List Attribute) (at : Attribute) (back : List Attribute) → AreConsistent (first ∷ more) → first ∷ more ≡ front ++ at ∷ back → All Has front → All (ConformsTo first) front
-before_conform first more [] at back rule are has = All-nil (ConformsTo first)
-before_conform first more (x ∷ front) at back rule are has =
+before_conform first more [] at back all_consistent are has = All-nil (ConformsTo first)
+before_conform first more (x ∷ front) at back all_consistent are has =
     let P = Same (id_parse_info_of first.attr) in
     let is : x ≡ first = sym (ap (λ l. get_or l 0 first) are) in
     let firsts : Has first = subst Has is (All-head Has x front has) in
-    all_conform first (x ∷ front) firsts has (front_same P (x ∷ front) (at ∷ back) (subst (All P) are (consistent_same first more rule)))
+    all_conform first (x ∷ front) firsts has (front_same P (x ∷ front) (at ∷ back) (subst (All P) are (consistent_same first more all_consistent)))
 
 last_of_all : (P : Attribute → Type 0) (xs : List Attribute) (a : Attribute) → All P (xs ++ a ∷ []) → P a
 last_of_all P [] a all = All-head P a [] all
 last_of_all P (x ∷ xs) a all = last_of_all P xs a (All-tail P x (xs ++ a ∷ []) all)
 
-module _ (first : Attribute) (more : List Attribute) (a : Attribute) (rule : AreConsistent (first ∷ more)) where
+module _ (first : Attribute) (more : List Attribute) (a : Attribute) (all_consistent : AreConsistent (first ∷ more)) where
   -- one more attribute with the same ID offsets leaves them consistent
   pub consistent_more : id_parse_info_of a.attr ≡ id_parse_info_of first.attr → AreConsistent (first ∷ more ++ a ∷ [])
   consistent_more same =
       let P = Same (id_parse_info_of first.attr) in
-      All-append P more (a ∷ []) rule (All-cons P a [] same (All-nil P))
+      All-append P more (a ∷ []) all_consistent (All-cons P a [] same (All-nil P))
 
   not_kept : id_parse_info_of a.attr ≢ id_parse_info_of first.attr → ¬ AreConsistent (first ∷ more ++ a ∷ [])
   not_kept apart kept = apart (last_of_all (Same (id_parse_info_of first.attr)) more a kept)
@@ -135,7 +135,7 @@ module _ (first : Attribute) (more : List Attribute) (a : Attribute) (rule : Are
           later = l.back ++ a ∷ [];
           elements = ap (λ xs. xs ++ a ∷ []) l.are ∙ append_assoc l.front (l.at ∷ l.back) (a ∷ []);
           index_matches = omega (arith, place);
-          earlier_conform = before_conform first more l.front l.at l.back rule l.are l.before;
+          earlier_conform = before_conform first more l.front l.at l.back all_consistent l.are l.before;
           cause = l.lacks;
         },
       )
@@ -143,7 +143,7 @@ module _ (first : Attribute) (more : List Attribute) (a : Attribute) (rule : Are
   conform : first_without_identifier 0 (first ∷ more) ≡ None → All (ConformsTo first) (first ∷ more)
   conform none =
       let has = all_have 0 (first ∷ more) none in
-      all_conform first (first ∷ more) (All-head Has first more has) has (consistent_same first more rule)
+      all_conform first (first ∷ more) (All-head Has first more has) has (consistent_same first more all_consistent)
 
   -- if all of them have IDENTIFIER, the new one causes the inconsistency
   pub inconsistent_lacking : (n : ℕ) → id_parse_info_of a.attr ≢ id_parse_info_of first.attr → first_without_identifier 0 (first ∷ more) ≡ None → n ≡ length (first ∷ more) → has_identifier a ≡ false → AreInconsistent (first ∷ more ++ a ∷ []) (missing_identifier n)

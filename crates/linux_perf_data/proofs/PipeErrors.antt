@@ -1,17 +1,17 @@
 -- The errors of a pipe's opening, relative to the state in which a read started.
-use Rattle.std.proofs.Common.{◌≡◌, ◌≢◌, ℕ, ◌-◌, ◌<◌, ◌≤◌, ◌++◌, List, [], length, refl, sym, subst, arith, inl, inr, append_assoc}
-use Rattle.std.specs.Prelude.{Ok, Err}
+use Rattle.std.proofs.Common.{◌≡◌, ◌≢◌, ℕ, ◌+◌, ◌-◌, ◌^◌, ◌<◌, ◌≤◌, ◌++◌, List, [], length, refl, sym, subst, arith, inl, inr, ◌∙◌, append_assoc}
+use Rattle.std.specs.Prelude.{◌⊎◌, Ok, Err}
 use Rattle.perfdata_base.specs.Source.{State, Consumed}
 use Rattle.perfdata_base.proofs.ConsumedLemmas.{consumed_none, consumed_more, consumed_none_later, failed_later}
 use Rattle.perfdata_base.specs.declared.raw.Endianness.{Endianness}
 use Rattle.perfdata_base.specs.declared.event.PerfEventHeader.{PerfEventHeader}
 use Rattle.perfdata_sections.specs.Error.{IsUnexpectedEof}
 use Rattle.perfdata_sections.specs.declared.error.Error.{Error}
-use Rattle.perfdata_sections.specs.declared.error.Error.TheVariants.{Memory}
+use Rattle.perfdata_sections.specs.declared.error.Error.TheVariants.{Memory, Read}
+use Rattle.perfdata_sections.specs.declared.error.ReadError.TheVariants.{PerfEventData}
 use Rattle.linux_perf_data.specs.LateMetadata.{IsMetadataError}
 use Rattle.linux_perf_data.specs.RecordFraming.{ChecksRecordEnd, BytesRead}
 use Rattle.linux_perf_data.specs.PipeOpening.{FailsBy}
-use Rattle.linux_perf_data.specs.PipeSteps.{IsContentsError}
 
 -- an error after consumed bytes is an error of all bytes
 pub error_later : (Stops Stops' : List ℕ → Error → Type 0) (a b c : State) (front : List ℕ) (e : Error) → Consumed a front b → FailsBy Stops b e c → ((xs : List ℕ) → Stops xs e → Stops' (front ++ xs) e) → FailsBy Stops' a e c
@@ -34,22 +34,25 @@ shows Stops a b came e gave stops = record { consumed_bytes = came; consumes = g
 
 -- ---- what follows a record header
 
-module _ (order : Endianness) (offset : ℕ) (head : PerfEventHeader) where
+module _ (order : Endianness) (offset : ℕ) (header : PerfEventHeader) where
+  -- The body after a record header has an error: it ends at 2^64 or later, is truncated, or contains invalid metadata of its
+  -- type.
+  abbrev pub IsContentsError : List ℕ → Error → Type 0
+  IsContentsError xs e =
+      ((e ≡ Read PerfEventData) × (2 ^ 64 ≤ offset + header.size))
+      ⊎ ((IsUnexpectedEof e × (offset + header.size < 2 ^ 64) × (length xs < header.size - 8))
+      ⊎ ((offset + header.size < 2 ^ 64) × ((body : List ℕ) × (rest : List ℕ) × (xs ≡ body ++ rest) × (length body ≡ header.size - 8) × IsMetadataError order header.type_ body e)))
+
   -- its end offset is out of range
-  pub too_far : (a : State) (e : Error) → 8 ≤ head.size → ChecksRecordEnd offset head.size (Err e) → FailsBy (IsContentsError order offset head) a e a
-  too_far a e least (inl (is, small)) = absurd (omega (arith, least, small))
-  too_far a e least (inr (is, enough, far)) = shows (IsContentsError order offset head) a a [] e (consumed_none a) (λ m rest. inl (is, far))
+  pub end_overflows : (a : State) (e : Error) → ChecksRecordEnd offset header.size (Err e) → FailsBy IsContentsError a e a
+  end_overflows a e (is, overflows) = shows IsContentsError a a [] e (consumed_none a) (λ m rest. inl (is, overflows))
 
   -- its body is truncated
-  pub truncated : (a b : State) (e : Error) (end count : ℕ) → ChecksRecordEnd offset head.size (Ok end) → count ≡ head.size - 8 → FailsBy (λ xs e. IsUnexpectedEof e × (length xs < count)) a e b → FailsBy (IsContentsError order offset head) a e b
-  truncated a b e end count checks is r =
-      let ends = checks.1 in
-      let fits = checks.2 in
-      error_by (λ xs e. IsUnexpectedEof e × (length xs < count)) (IsContentsError order offset head) a b e r (λ xs stops. inr (inl (stops.0, omega (arith, ends, fits), (let few = stops.1 in omega (arith, few, is)))))
+  pub truncated : (a b : State) (e : Error) (end count : ℕ) → ChecksRecordEnd offset header.size (Ok end) → count ≡ header.size - 8 → FailsBy (λ xs e. IsUnexpectedEof e × (length xs < count)) a e b → FailsBy IsContentsError a e b
+  truncated a b e end count (ends, fits) is r =
+      error_by (λ xs e. IsUnexpectedEof e × (length xs < count)) IsContentsError a b e r (λ xs stops. inr (inl (stops.0, omega (arith, ends, fits), (let few = stops.1 in omega (arith, few, is)))))
 
   -- its body has an error
-  pub invalid_metadata : (a b : State) (e : Error) (end : ℕ) (body : List ℕ) → ChecksRecordEnd offset head.size (Ok end) → BytesRead a (head.size - 8) body b → (e ≢ Memory → IsMetadataError order head.type_ body e) → FailsBy (IsContentsError order offset head) a e b
-  invalid_metadata a b e end body checks took spoils =
-      let ends = checks.1 in
-      let fits = checks.2 in
-      shows (IsContentsError order offset head) a b body e took.consumes (λ m rest. inr (inr (omega (arith, ends, fits), (body, rest, refl, took.exact_len, spoils m))))
+  pub invalid_metadata : (a b : State) (e : Error) (end count : ℕ) (body : List ℕ) → ChecksRecordEnd offset header.size (Ok end) → count ≡ header.size - 8 → BytesRead a count body b → (e ≢ Memory → IsMetadataError order header.type_ body e) → FailsBy IsContentsError a e b
+  invalid_metadata a b e end count body (ends, fits) is read invalid =
+      shows IsContentsError a b body e read.consumes (λ m rest. inr (inr (omega (arith, ends, fits), (body, rest, refl, read.exact_len ∙ is, invalid m))))

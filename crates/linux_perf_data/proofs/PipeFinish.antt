@@ -22,7 +22,8 @@ use Rattle.linux_perf_data.specs.Descriptions.{described_attributes}
 use Rattle.linux_perf_data.specs.LateMetadata.{IsMetadataType}
 use Rattle.linux_perf_data.specs.Layout.{record_type_of, record_size_of}
 use Rattle.linux_perf_data.specs.NameTable.{IsNamesError}
-use Rattle.linux_perf_data.specs.Names.{IsReadableOrAbsent, NamedByEventDesc, IsReadableEventDesc, event_desc}
+use Rattle.linux_perf_data.specs.FeatureNumbers.{event_desc}
+use Rattle.linux_perf_data.specs.Names.{IsReadableOrAbsent, NamedByEventDesc, IsReadableEventDesc}
 use Rattle.linux_perf_data.specs.FileOpening.{RecognizesMagic, magic_of}
 use Rattle.linux_perf_data.specs.PipeOpening.{MetadataEnded, HoldsPipeMetadata, IsPipeHeader, PipeOpened, OpensPerfPipe, FailsBy, IsMetadataReadError, IsPipeError, IsMetadataListError, OpeningRead, IsErrorCauseFor}
 use Rattle.linux_perf_data.specs.PipeSteps.{OpeningFinished, FinishesOpening, OpensAfterPipeHeader, IsFinishError, HoldsMetadataOf, MetadataRead}

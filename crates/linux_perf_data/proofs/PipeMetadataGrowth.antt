@@ -28,8 +28,8 @@ feature_added order body old new h is same puts set = record {
   feature_data = λ n. puts n ∙ ap (λ k. cond (nat_eq k n) (Some h.bytes.items) (feature_data_of old.sections n)) is.feature_number
       ∙ ap (λ l. cond (nat_eq (feature_in_body order body) n) (Some l) (feature_data_of old.sections n)) is.all_data;
   features = λ n. (
-    λ has. elim ((set n).0 has) [ inl before ↦ inl before | inr put ↦ inr (put.0, refl, sym is.feature_number ∙ put.1) ],
-    λ either. (set n).1 (elim either [ inl before ↦ inl before | inr put ↦ inr (put.0, is.feature_number ∙ put.2) ]),
+    λ has. elim ((set n).0 has) [ inl before ↦ inl before | inr put ↦ inr (put.0, (refl, sym is.feature_number ∙ put.1)) ],
+    λ either. (set n).1 (elim either [ inl before ↦ inl before | inr put ↦ inr (put.0, is.feature_number ∙ put.1.1) ]),
   );
 }
 
@@ -89,11 +89,11 @@ metadata_more order ps p m m' told g =
           | inl before ↦ (
               let both = (told.features n).0 before in
               (both.0, subst IsSome (sym (more n)) (brought_some (kind == 80) (feature_in_body order body) n (drop 8 body) (feature_data_in order ps) (inl both.1))))
-          | inr put ↦ (put.0, subst IsSome (sym (more n)) (brought_some (kind == 80) (feature_in_body order body) n (drop 8 body) (feature_data_in order ps) (inr (eq-eqb kind 80 put.1, eq-eqb (feature_in_body order body) n put.2))))
+          | inr put ↦ (put.0, subst IsSome (sym (more n)) (brought_some (kind == 80) (feature_in_body order body) n (drop 8 body) (feature_data_in order ps) (inr (eq-eqb kind 80 put.1.0, eq-eqb (feature_in_body order body) n put.1.1))))
         ],
         λ both. (g.features n).1 (elim (is_brought (kind == 80) (feature_in_body order body) n (drop 8 body) (feature_data_in order ps) (subst IsSome (more n) both.1)) [
           | inl before ↦ inl ((told.features n).1 (both.0, before))
-          | inr is ↦ inr (both.0, eqb-true kind 80 is.0, eqb-true (feature_in_body order body) n is.1)
+          | inr is ↦ inr (both.0, (eqb-true kind 80 is.0, eqb-true (feature_in_body order body) n is.1))
         ]),
       );
     }

@@ -13,7 +13,8 @@ use Rattle.linux_perf_data.specs.Input.{section_size_in, input_source_state, wit
 use Rattle.linux_perf_data.specs.AttributeLookup.{Represents}
 use Rattle.linux_perf_data.specs.Layout.{record_type_of, record_size_of}
 use Rattle.linux_perf_data.specs.LateMetadata.{IsMetadataType}
-use Rattle.linux_perf_data.specs.Names.{NamedByEventDesc, event_desc}
+use Rattle.linux_perf_data.specs.FeatureNumbers.{event_desc}
+use Rattle.linux_perf_data.specs.Names.{NamedByEventDesc}
 use Rattle.linux_perf_data.specs.PerfFile.{descriptions_of_file}
 use Rattle.linux_perf_data.specs.PipeOpening.{IsPipeHeader, AreMetadata, MetadataEnded, HoldsPipeMetadata, PipeOpened, feature_data_in}
 use Rattle.linux_perf_data.specs.OpenedPipe.{EndsInOpening, HoldsMetadata, KeepsPendingHeader, PipeParsed, ParsesPipe, StageAfterOpening, PipeReaderBuilt, BuildsPipeReader, without_position}

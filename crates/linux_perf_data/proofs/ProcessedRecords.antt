@@ -23,7 +23,8 @@ use Rattle.linux_perf_data.specs.declared.perf_file.PerfFile.{PerfFile}
 use Rattle.linux_perf_data.specs.Attribute.{Attribute, EventRef, HoldsAttribute}
 use Rattle.linux_perf_data.specs.AttributeLookup.{Represents, KeepsAttributes, parse_info_at}
 use Rattle.linux_perf_data.specs.Layout.{SectionSize, RecordView, IsRecord, IsValidRecord, StartsWithRecord, LayoutError, invalid_metadata, truncated_metadata, attr_size_too_small, invalid_event_desc, inconsistent_attributes, ErrorAt, record_type_of, attributes_in_record}
-use Rattle.linux_perf_data.specs.Names.{IsReadableEventDesc, NamedByEventDesc, event_desc, feature_in_body}
+use Rattle.linux_perf_data.specs.FeatureNumbers.{event_desc}
+use Rattle.linux_perf_data.specs.Names.{IsReadableEventDesc, NamedByEventDesc, feature_in_body}
 use Rattle.linux_perf_data.specs.PerfFile.{descriptions_of_file, feature_data_in_file}
 use Rattle.linux_perf_data.specs.LateMetadata.{IsMetadataType, UpdatesPerfFile, HasValidMetadata, SameAttributeCount, MetadataApplied, MetadataRejected, RejectsMetadata, PassesEarlierChecks}
 use Rattle.linux_perf_data.specs.RecordFraming.{IsErrorFor, MayNeedMemory}

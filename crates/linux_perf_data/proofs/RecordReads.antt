@@ -3,10 +3,11 @@ use Rattle.std.proofs.Common.{◌≡◌, ◌≢◌, ℕ, ◌+◌, ◌-◌, ◌^�
 use Rattle.std.proofs.lemmas.Bool.{cases_eq, cases_lt}
 use Rattle.std.specs.Prelude.{◌⊎◌, Option, None, Some, Ok, Err, IfSome}
 use Rattle.std.proofs.Math.Seq.{drop-append_seam}
-use Rattle.perfdata_base.specs.Source.{State, prepend, Consumed, EndedOrPaused}
+use Rattle.perfdata_base.specs.Source.{State, prepend, Consumed, EndedOrPaused, SkippedExactly}
 use Rattle.perfdata_base.proofs.ConsumedLemmas.{consumed_more, consumed_none_later, failed_later, paused_later}
 use Rattle.perfdata_base.proofs.ReadErrors.{none_or_paused, all_read}
 use Rattle.perfdata_base.specs.Endian.{number_in}
+use Rattle.perfdata_base.specs.Event.{RecordHeaderParsed}
 use Rattle.perfdata_base.proofs.Numbers.{number_front}
 use Rattle.perfdata_base.specs.declared.raw.Endianness.{Endianness}
 use Rattle.perfdata_base.specs.declared.event.PerfEventHeader.{PerfEventHeader}
@@ -16,8 +17,12 @@ use Rattle.perfdata_sections.specs.declared.error.ReadError.TheVariants.{PerfEve
 use Rattle.perfdata_sections.specs.Error.{IsUnexpectedEof, IsUnsupported, IsIoError}
 use Rattle.linux_perf_data.specs.Attribute.{Attribute}
 use Rattle.linux_perf_data.specs.Layout.{SectionSize, LayoutError, truncated_header, size_below_header, end_overflows, truncated_body, compressed_record, aux_body_too_short, aux_end_overflows, truncated_aux_data, ConcernsMetadata, ErrorAt, IsCompressed, IsTruncated, IsRecord, HasRecordHeader, HasCompleteBody, HasAuxSize, record_type_of, misc_of, record_size_of, aux_size_of, total_size_of}
-use Rattle.linux_perf_data.specs.RecordFraming.{IsErrorFor, BytesRead, RecordHeaderRead, EndedWithin, FailedWithin, ChecksRecordEnd, BodyRead, BodyEnded, BodyPartlyRead, IsTruncatedBody, BodyErrorCause, IsTruncatedAfterHeader, StaysWithinRecord, SourceErrorInRecord, RecordErrorAt, RecordTruncatedAt}
+use Rattle.linux_perf_data.specs.RecordFraming.{IsErrorFor, EndedWithin, FailedWithin, ChecksBodySize, ChecksRecordEnd, BodyRead, BodyEnded, BodyPartlyRead, IsTruncatedBody, BodyErrorCause, IsTruncatedAfterHeader, StaysWithinRecord, SourceErrorInRecord, RecordErrorAt, RecordTruncatedAt}
 use Rattle.linux_perf_data.proofs.RecordHeaders.{record_type_front, misc_front, size_front, total_size_auxtrace, total_size_plain}
+
+-- the size in a record header is valid, and its record ends below 2^64
+abbrev pub EndChecked : ℕ → ℕ → ℕ → Type 0
+EndChecked offset size end = (8 ≤ size) × ChecksRecordEnd offset size (Ok end)
 
 -- the fields of a record header that these bytes follow
 record Head (order : Endianness) (head : PerfEventHeader) (all x : List ℕ) : Type 0 where
@@ -26,14 +31,15 @@ record Head (order : Endianness) (head : PerfEventHeader) (all x : List ℕ) : T
   pub size : record_size_of order all ≡ head.size
   pub long : length all ≡ 8 + length x
 
-headed : (order : Endianness) (a b : State) (head : PerfEventHeader) (t : RecordHeaderRead order a head b) (x : List ℕ) → Head order head (t.bytes ++ x) x
+headed : (order : Endianness) (a b : State) (head : PerfEventHeader) (t : RecordHeaderParsed (number_in order) a head b) (x : List ℕ) → Head order head (t.bytes ++ x) x
 headed order a b head t x =
-    let eight = t.bytes_read.exact_len in
+    let eight = t.exact_len in
     let room : 8 ≤ length t.bytes = omega arith in
+    let is = sym t.matches in
     record {
-      kind = record_type_front order t.bytes x room ∙ t.record_type;
-      misc = misc_front order t.bytes x room ∙ t.misc;
-      size = size_front order t.bytes x room ∙ t.record_size;
+      kind = record_type_front order t.bytes x room ∙ ap (λ h. h.type_) is;
+      misc = misc_front order t.bytes x room ∙ ap (λ h. h.misc) is;
+      size = size_front order t.bytes x room ∙ ap (λ h. h.size) is;
       long = omega (arith, length-append t.bytes x, eight);
     }
 
@@ -77,80 +83,83 @@ not_unsupported_memory e unsupported is = subst IsUnsupported is unsupported
 -- The record header is truncated: in a pipe the records end, in a file it is an error.
 pub header_truncated : (order : Endianness) (a b : State) (offset held : ℕ) → held ≡ 0 → EndedWithin a 8 b → RecordTruncatedAt order a offset held b
 header_truncated order a b offset held empty ended =
-    let less = ended.too_few in
-    record { consumed_bytes = ended.consumed_bytes; consumes = ended.consumes; buffer_bound = omega arith; is_truncated = λ eight. absurd (omega (arith, eight, less)); ended_or_paused = ended.ended_or_paused }
+    let less = ended.0.too_few in
+    record { consumed_bytes = ended.0.consumed_bytes; consumes = ended.0.consumes; buffer_bound = omega arith; is_truncated = λ eight. absurd (omega (arith, eight, less)); ended_or_paused = ended.1 }
 
 pub header_short : (order : Endianness) (a b : State) (bound : SectionSize) (offset held : ℕ) (e : Error) → bound ≢ None → held ≡ 0 → IsUnexpectedEof e → EndedWithin a 8 b → RecordErrorAt order a bound offset e held b
 header_short order a b bound offset held e file empty short ended =
-    let less = ended.too_few in
+    let less = ended.0.too_few in
     record {
-      consumed_bytes = ended.consumed_bytes;
-      consumes = ended.consumes;
+      consumed_bytes = ended.0.consumed_bytes;
+      consumes = ended.0.consumes;
       buffer_bound = omega arith;
       within_record = inl (omega (arith, less));
       not_failed = not_short_failed e short;
       if_out_of_memory = λ is. absurd (not_short_memory e short is);
-      cause = λ _. elim (none_or_paused a b ended.ended_or_paused) [
-        | inl none ↦ inl (shown_whole a.bytes ended.consumed_bytes (Owes order bound offset e) (all_read a b ended.consumed_bytes ended.consumes none) (truncated_header, (λ _. (file, less)), (λ l. l), short))
+      cause = λ _. elim (none_or_paused a b ended.1) [
+        | inl none ↦ inl (shown_whole a.bytes ended.0.consumed_bytes (Owes order bound offset e) (all_read a b ended.0.consumed_bytes ended.0.consumes none) (truncated_header, (λ _. (file, less)), (λ l. l), short))
         | inr paused ↦ inr (inl (less, inr (short, file, paused)))
       ];
     }
 
 pub header_failed : (order : Endianness) (a b : State) (bound : SectionSize) (offset held : ℕ) (e : Error) → held ≡ 0 → IsIoError e × FailedWithin a 8 b → RecordErrorAt order a bound offset e held b
 header_failed order a b bound offset held e empty (io, failed) =
-    let less = failed.too_few in
+    let less = failed.0.too_few in
     record {
-      consumed_bytes = failed.consumed_bytes;
-      consumes = failed.consumes;
+      consumed_bytes = failed.0.consumed_bytes;
+      consumes = failed.0.consumes;
       buffer_bound = omega arith;
       within_record = inl (omega (arith, less));
       not_failed = not_io_failed e io;
       if_out_of_memory = λ is. absurd (not_io_memory e io is);
-      cause = λ _. inr (inl (less, inl (io, failed.source_failed)));
+      cause = λ _. inr (inl (less, inl (io, failed.1)));
     }
 
--- the size in the record header is invalid
-pub size_error : (order : Endianness) (a b : State) (bound : SectionSize) (offset held : ℕ) (head : PerfEventHeader) (e : Error) → held ≡ 0 → RecordHeaderRead order a head b → ChecksRecordEnd offset head.size (Err e) → RecordErrorAt order a bound offset e held b
-size_error order a b bound offset held head e empty t (inl (is, small)) = record {
+-- the size in the record header is below 8
+pub size_error : (order : Endianness) (a b : State) (bound : SectionSize) (offset held : ℕ) (head : PerfEventHeader) (e : Error) → held ≡ 0 → RecordHeaderParsed (number_in order) a head b → ChecksBodySize head.size (Err e) → RecordErrorAt order a bound offset e held b
+size_error order a b bound offset held head e empty t (is, small) = record {
   consumed_bytes = t.bytes;
-  consumes = t.bytes_read.consumes;
+  consumes = t.consumes;
   buffer_bound = omega arith;
-  within_record = inl (let long = t.bytes_read.exact_len in omega (arith, long));
+  within_record = inl (let long = t.exact_len in omega (arith, long));
   not_failed = λ f. cc;
   if_out_of_memory = λ m. absurd cc;
-  cause = λ _. inl (shown a.bytes b.bytes t.bytes (Owes order bound offset e) t.bytes_read.consumes.bytes
+  cause = λ _. inl (shown a.bytes b.bytes t.bytes (Owes order bound offset e) t.consumes.bytes
       (λ rest. let h = headed order a b head t rest in let size = h.size in let long = h.long in (size_below_header, (λ _. (omega (arith, long), omega (arith, size, small))), (λ l. l), is)));
 }
-size_error order a b bound offset held head e empty t (inr (is, least, far)) = record {
+
+-- the end of the record overflows
+pub end_error : (order : Endianness) (a b : State) (bound : SectionSize) (offset held : ℕ) (head : PerfEventHeader) (e : Error) → held ≡ 0 → RecordHeaderParsed (number_in order) a head b → 8 ≤ head.size → ChecksRecordEnd offset head.size (Err e) → RecordErrorAt order a bound offset e held b
+end_error order a b bound offset held head e empty t least (is, overflows) = record {
   consumed_bytes = t.bytes;
-  consumes = t.bytes_read.consumes;
+  consumes = t.consumes;
   buffer_bound = omega arith;
-  within_record = inl (let long = t.bytes_read.exact_len in omega (arith, long));
+  within_record = inl (let long = t.exact_len in omega (arith, long));
   not_failed = λ f. cc;
   if_out_of_memory = λ m. absurd cc;
-  cause = λ _. inl (shown a.bytes b.bytes t.bytes (Owes order bound offset e) t.bytes_read.consumes.bytes
-      (λ rest. let h = headed order a b head t rest in let size = h.size in let long = h.long in (end_overflows, (λ _. (omega (arith, long), omega (arith, size, least), omega (arith, size, far))), (λ l. l), is)));
+  cause = λ _. inl (shown a.bytes b.bytes t.bytes (Owes order bound offset e) t.consumes.bytes
+      (λ rest. let h = headed order a b head t rest in let size = h.size in let long = h.long in (end_overflows, (λ _. (omega (arith, long), omega (arith, size, least), omega (arith, size, overflows))), (λ l. l), is)));
 }
 
-has_head : (order : Endianness) (head : PerfEventHeader) (offset end : ℕ) (all x : List ℕ) → Head order head all x → ChecksRecordEnd offset head.size (Ok end) → HasRecordHeader order offset all
-has_head order head offset end all x h (least, ends, fits) =
+has_head : (order : Endianness) (head : PerfEventHeader) (offset end : ℕ) (all x : List ℕ) → Head order head all x → EndChecked offset head.size end → HasRecordHeader order offset all
+has_head order head offset end all x h (least, (ends, fits)) =
     let size = h.size in
     let long = h.long in
     record { complete_header = omega (arith, long); min_size = omega (arith, size, least); end_fits = omega (arith, size, ends, fits) }
 
-has_body : (order : Endianness) (head : PerfEventHeader) (offset end : ℕ) (all x : List ℕ) → Head order head all x → ChecksRecordEnd offset head.size (Ok end) → head.size ≤ 8 + length x → HasCompleteBody order offset all
+has_body : (order : Endianness) (head : PerfEventHeader) (offset end : ℕ) (all x : List ℕ) → Head order head all x → EndChecked offset head.size end → head.size ≤ 8 + length x → HasCompleteBody order offset all
 has_body order head offset end all x h checks there =
     let size = h.size in
     let long = h.long in
     record { header = has_head order head offset end all x h checks; complete = omega (arith, size, long, there) }
 
-has_trace : (order : Endianness) (head : PerfEventHeader) (offset end : ℕ) (all x : List ℕ) → Head order head all x → ChecksRecordEnd offset head.size (Ok end) → head.size ≤ 8 + length x → head.type_ ≡ 71 → 48 ≤ head.size → HasAuxSize order offset all
+has_trace : (order : Endianness) (head : PerfEventHeader) (offset end : ℕ) (all x : List ℕ) → Head order head all x → EndChecked offset head.size end → head.size ≤ 8 + length x → head.type_ ≡ 71 → 48 ≤ head.size → HasAuxSize order offset all
 has_trace order head offset end all x h checks there kind least =
     let size = h.size in
     record { complete_body = has_body order head offset end all x h checks there; record_type = h.kind ∙ kind; min_size = omega (arith, size, least) }
 
 -- a record header is read, but not all bytes that it counts
-part_truncated : (order : Endianness) (a b : State) (offset end : ℕ) (head : PerfEventHeader) (t : RecordHeaderRead order a head b) (x : List ℕ) → ChecksRecordEnd offset head.size (Ok end) → length x < head.size - 8 → IsTruncated order offset (t.bytes ++ x)
+part_truncated : (order : Endianness) (a b : State) (offset end : ℕ) (head : PerfEventHeader) (t : RecordHeaderParsed (number_in order) a head b) (x : List ℕ) → EndChecked offset head.size end → length x < head.size - 8 → IsTruncated order offset (t.bytes ++ x)
 part_truncated order a b offset end head t x checks less =
     let h = headed order a b head t x in
     let size = h.size in
@@ -159,27 +168,27 @@ part_truncated order a b offset end head t x checks less =
     λ _. (has_head order head offset end (t.bytes ++ x) x h checks, omega (arith, size, long, less, least))
 
 -- The bytes that the record header counts are truncated: in a pipe the records end, in a file it is an error.
-body_cut : (order : Endianness) (a b c : State) (offset end held : ℕ) (head : PerfEventHeader) (t : RecordHeaderRead order a head b) (x : List ℕ) → ChecksRecordEnd offset head.size (Ok end) → length x < head.size - 8 → Consumed b x c → EndedOrPaused b c → held ≤ length x + 4096
+body_cut : (order : Endianness) (a b c : State) (offset end held : ℕ) (head : PerfEventHeader) (t : RecordHeaderParsed (number_in order) a head b) (x : List ℕ) → EndChecked offset head.size end → length x < head.size - 8 → Consumed b x c → EndedOrPaused b c → held ≤ length x + 4096
     → RecordTruncatedAt order a offset held c
 body_cut order a b c offset end held head t x checks less gave none few =
-    let behind = ap length (after_header t.bytes x t.bytes_read.exact_len) in
+    let behind = ap length (after_header t.bytes x t.exact_len) in
     record {
       consumed_bytes = t.bytes ++ x;
-      consumes = consumed_more a b c t.bytes x t.bytes_read.consumes gave;
+      consumes = consumed_more a b c t.bytes x t.consumes gave;
       buffer_bound = omega (arith, few, behind);
       is_truncated = part_truncated order a b offset end head t x checks less;
-      ended_or_paused = consumed_none_later a b c t.bytes t.bytes_read.consumes none;
+      ended_or_paused = consumed_none_later a b c t.bytes t.consumes none;
     }
 
-body_short : (order : Endianness) (a b c : State) (bound : SectionSize) (offset end held : ℕ) (head : PerfEventHeader) (e : Error) (t : RecordHeaderRead order a head b) (x : List ℕ) → bound ≢ None → e ≡ Read PerfEventData → ChecksRecordEnd offset head.size (Ok end)
+body_short : (order : Endianness) (a b c : State) (bound : SectionSize) (offset end held : ℕ) (head : PerfEventHeader) (e : Error) (t : RecordHeaderParsed (number_in order) a head b) (x : List ℕ) → bound ≢ None → e ≡ Read PerfEventData → EndChecked offset head.size end
     → length x < head.size - 8 → Consumed b x c → EndedOrPaused b c → held ≤ length x + 4096 → RecordErrorAt order a bound offset e held c
 body_short order a b c bound offset end held head e t x file is checks less gave none few =
-    let all = consumed_more a b c t.bytes x t.bytes_read.consumes gave in
+    let all = consumed_more a b c t.bytes x t.consumes gave in
     let h = headed order a b head t x in
     let size = h.size in
     let long = h.long in
     let least = checks.0 in
-    let behind = ap length (after_header t.bytes x t.bytes_read.exact_len) in
+    let behind = ap length (after_header t.bytes x t.exact_len) in
     record {
       consumed_bytes = t.bytes ++ x;
       consumes = all;
@@ -190,63 +199,63 @@ body_short order a b c bound offset end held head e t x file is checks less gave
       cause = λ _. elim (none_or_paused b c none) [
         | inl end' ↦ inl (shown_whole a.bytes (t.bytes ++ x) (Owes order bound offset e) (all_read a c (t.bytes ++ x) all end')
             (truncated_body, (λ _. (file, has_head order head offset end (t.bytes ++ x) x h checks, omega (arith, size, long, less, least))), (λ l. l), is))
-        | inr paused ↦ inr (inr ((omega (arith, long), inl (omega (arith, size, long, less))), is, inr ((λ pipe. absurd (file pipe)), paused_later a b c t.bytes t.bytes_read.consumes paused)))
+        | inr paused ↦ inr (inr ((omega (arith, long), inl (omega (arith, size, long, less))), is, inr ((λ pipe. absurd (file pipe)), paused_later a b c t.bytes t.consumes paused)))
       ];
     }
 
 -- the body of a marker is truncated
-pub pass_truncated : (order : Endianness) (a b c : State) (offset end held : ℕ) (head : PerfEventHeader) → held ≡ 0 → RecordHeaderRead order a head b → ChecksRecordEnd offset head.size (Ok end) → EndedWithin b (head.size - 8) c → RecordTruncatedAt order a offset held c
-pass_truncated order a b c offset end held head empty t checks ended = body_cut order a b c offset end held head t ended.consumed_bytes checks ended.too_few ended.consumes ended.ended_or_paused (omega arith)
+pub pass_truncated : (order : Endianness) (a b c : State) (offset end held : ℕ) (head : PerfEventHeader) → held ≡ 0 → RecordHeaderParsed (number_in order) a head b → EndChecked offset head.size end → EndedWithin b (head.size - 8) c → RecordTruncatedAt order a offset held c
+pass_truncated order a b c offset end held head empty t checks ended = body_cut order a b c offset end held head t ended.0.consumed_bytes checks ended.0.too_few ended.0.consumes ended.1 (omega arith)
 
-pub pass_short : (order : Endianness) (a b c : State) (bound : SectionSize) (offset end held : ℕ) (head : PerfEventHeader) (e : Error) → bound ≢ None → held ≡ 0 → e ≡ Read PerfEventData → RecordHeaderRead order a head b → ChecksRecordEnd offset head.size (Ok end)
+pub pass_short : (order : Endianness) (a b c : State) (bound : SectionSize) (offset end held : ℕ) (head : PerfEventHeader) (e : Error) → bound ≢ None → held ≡ 0 → e ≡ Read PerfEventData → RecordHeaderParsed (number_in order) a head b → EndChecked offset head.size end
     → EndedWithin b (head.size - 8) c → RecordErrorAt order a bound offset e held c
-pass_short order a b c bound offset end held head e file empty is t checks ended = body_short order a b c bound offset end held head e t ended.consumed_bytes file is checks ended.too_few ended.consumes ended.ended_or_paused (omega arith)
+pass_short order a b c bound offset end held head e file empty is t checks ended = body_short order a b c bound offset end held head e t ended.0.consumed_bytes file is checks ended.0.too_few ended.0.consumes ended.1 (omega arith)
 
 -- the source fails in it
-pub pass_failed : (order : Endianness) (a b c : State) (bound : SectionSize) (offset held : ℕ) (head : PerfEventHeader) (e : Error) → held ≡ 0 → RecordHeaderRead order a head b → (e ≡ Read PerfEventData) × FailedWithin b (head.size - 8) c → RecordErrorAt order a bound offset e held c
+pub pass_failed : (order : Endianness) (a b c : State) (bound : SectionSize) (offset held : ℕ) (head : PerfEventHeader) (e : Error) → held ≡ 0 → RecordHeaderParsed (number_in order) a head b → (e ≡ Read PerfEventData) × FailedWithin b (head.size - 8) c → RecordErrorAt order a bound offset e held c
 pass_failed order a b c bound offset held head e empty t (is, failed) =
-    let h = headed order a b head t failed.consumed_bytes in
+    let h = headed order a b head t failed.0.consumed_bytes in
     let long = h.long in
     let size = h.size in
-    let less = failed.too_few in
+    let less = failed.0.too_few in
     record {
-      consumed_bytes = t.bytes ++ failed.consumed_bytes;
-      consumes = consumed_more a b c t.bytes failed.consumed_bytes t.bytes_read.consumes failed.consumes;
+      consumed_bytes = t.bytes ++ failed.0.consumed_bytes;
+      consumes = consumed_more a b c t.bytes failed.0.consumed_bytes t.consumes failed.0.consumes;
       buffer_bound = omega arith;
       within_record = inr (inl (omega (arith, size, long, less)));
       not_failed = λ f. cc;
       if_out_of_memory = λ m. absurd cc;
-      cause = λ _. inr (inr ((omega (arith, long), inl (omega (arith, size, long, less))), is, inl (failed_later a b c t.bytes t.bytes_read.consumes failed.source_failed)));
+      cause = λ _. inr (inr ((omega (arith, long), inl (omega (arith, size, long, less))), is, inl (failed_later a b c t.bytes t.consumes failed.1)));
     }
 
 -- the body of another record is truncated
-pub content_truncated : (order : Endianness) (a b c : State) (offset end : ℕ) (head : PerfEventHeader) (now : List ℕ) → RecordHeaderRead order a head b → ChecksRecordEnd offset head.size (Ok end) → BodyEnded b head now c → RecordTruncatedAt order a offset (length now) c
+pub content_truncated : (order : Endianness) (a b c : State) (offset end : ℕ) (head : PerfEventHeader) (now : List ℕ) → RecordHeaderParsed (number_in order) a head b → EndChecked offset head.size end → BodyEnded b head now c → RecordTruncatedAt order a offset (length now) c
 content_truncated order a b c offset end head now t checks ended = body_cut order a b c offset end (length now) head t ended.consumed_bytes checks ended.too_few ended.consumes ended.ended_or_paused ended.buffer_bound
 
-pub content_short : (order : Endianness) (a b c : State) (bound : SectionSize) (offset end : ℕ) (head : PerfEventHeader) (e : Error) (now : List ℕ) → bound ≢ None → e ≡ Read PerfEventData → RecordHeaderRead order a head b → ChecksRecordEnd offset head.size (Ok end) → BodyEnded b head now c
+pub content_short : (order : Endianness) (a b c : State) (bound : SectionSize) (offset end : ℕ) (head : PerfEventHeader) (e : Error) (now : List ℕ) → bound ≢ None → e ≡ Read PerfEventData → RecordHeaderParsed (number_in order) a head b → EndChecked offset head.size end → BodyEnded b head now c
     → RecordErrorAt order a bound offset e (length now) c
 content_short order a b c bound offset end head e now file is t checks ended = body_short order a b c bound offset end (length now) head e t ended.consumed_bytes file is checks ended.too_few ended.consumes ended.ended_or_paused ended.buffer_bound
 
 -- the fields of a record header, if more bytes follow the consumed ones
-behind : (order : Endianness) (a b : State) (head : PerfEventHeader) (t : RecordHeaderRead order a head b) (x rest : List ℕ) → Head order head ((t.bytes ++ x) ++ rest) (x ++ rest)
+behind : (order : Endianness) (a b : State) (head : PerfEventHeader) (t : RecordHeaderParsed (number_in order) a head b) (x rest : List ℕ) → Head order head ((t.bytes ++ x) ++ rest) (x ++ rest)
 behind order a b head t x rest = subst (λ l. Head order head l (x ++ rest)) (sym (append_assoc t.bytes x rest)) (headed order a b head t (x ++ rest))
 
-extent_alone : (order : Endianness) (a b : State) (head : PerfEventHeader) (t : RecordHeaderRead order a head b) (x : List ℕ) → head.type_ ≡ 71 → 8 ≤ length x → total_size_of order (t.bytes ++ x) ≡ head.size + number_in order 8 x
+extent_alone : (order : Endianness) (a b : State) (head : PerfEventHeader) (t : RecordHeaderParsed (number_in order) a head b) (x : List ℕ) → head.type_ ≡ 71 → 8 ≤ length x → total_size_of order (t.bytes ++ x) ≡ head.size + number_in order 8 x
 extent_alone order a b head t x kind enough =
     let h = headed order a b head t x in
     let size = h.size in
     let extent = total_size_auxtrace order (t.bytes ++ x) (h.kind ∙ kind) in
-    let number : aux_size_of order (t.bytes ++ x) ≡ number_in order 8 x = trace_is order t.bytes x t.bytes_read.exact_len in
+    let number : aux_size_of order (t.bytes ++ x) ≡ number_in order 8 x = trace_is order t.bytes x t.exact_len in
     omega (arith, extent, size, number)
 
-extent_is : (order : Endianness) (a b : State) (head : PerfEventHeader) (t : RecordHeaderRead order a head b) (x rest : List ℕ) → head.type_ ≡ 71 → 8 ≤ length x → total_size_of order ((t.bytes ++ x) ++ rest) ≡ head.size + number_in order 8 x
+extent_is : (order : Endianness) (a b : State) (head : PerfEventHeader) (t : RecordHeaderParsed (number_in order) a head b) (x rest : List ℕ) → head.type_ ≡ 71 → 8 ≤ length x → total_size_of order ((t.bytes ++ x) ++ rest) ≡ head.size + number_in order 8 x
 extent_is order a b head t x rest kind enough =
     let whole = extent_alone order a b head t (x ++ rest) kind (omega (arith, length-append x rest)) in
     let number = number_front order 8 x rest enough in
     ap (total_size_of order) (append_assoc t.bytes x rest) ∙ whole ∙ ap (λ n. head.size + n) number
 
 -- a truncated body is truncated after its record header
-cut_behind : (order : Endianness) (a b : State) (head : PerfEventHeader) (t : RecordHeaderRead order a head b) (x : List ℕ) → IsTruncatedBody order head x → IsTruncatedAfterHeader order (t.bytes ++ x)
+cut_behind : (order : Endianness) (a b : State) (head : PerfEventHeader) (t : RecordHeaderParsed (number_in order) a head b) (x : List ℕ) → IsTruncatedBody order head x → IsTruncatedAfterHeader order (t.bytes ++ x)
 cut_behind order a b head t x (inl less) =
     let h = headed order a b head t x in
     let size = h.size in
@@ -259,7 +268,7 @@ cut_behind order a b head t x (inr (kind, enough, there, less)) =
     let extent = extent_alone order a b head t x kind (omega (arith, there, enough)) in
     (omega (arith, long), inr (h.kind ∙ kind, omega (arith, size, enough), omega (arith, size, long, there, enough), omega (arith, extent, long, less, enough)))
 
-cut_within : (order : Endianness) (a b : State) (head : PerfEventHeader) (t : RecordHeaderRead order a head b) (x : List ℕ) → IsTruncatedBody order head x → StaysWithinRecord order (t.bytes ++ x)
+cut_within : (order : Endianness) (a b : State) (head : PerfEventHeader) (t : RecordHeaderParsed (number_in order) a head b) (x : List ℕ) → IsTruncatedBody order head x → StaysWithinRecord order (t.bytes ++ x)
 cut_within order a b head t x (inl less) =
     let h = headed order a b head t x in
     let size = h.size in
@@ -274,7 +283,7 @@ cut_within order a b head t x (inr (kind, enough, there, less)) =
 
 -- If as many bytes are read as the record header's size counts, they stay within the record: the size exceeds 8, or no bytes
 -- follow the record header.
-all_within : (order : Endianness) (a b : State) (head : PerfEventHeader) (t : RecordHeaderRead order a head b) (x : List ℕ) → length x ≡ head.size - 8 → StaysWithinRecord order (t.bytes ++ x)
+all_within : (order : Endianness) (a b : State) (head : PerfEventHeader) (t : RecordHeaderParsed (number_in order) a head b) (x : List ℕ) → length x ≡ head.size - 8 → StaysWithinRecord order (t.bytes ++ x)
 all_within order a b head t x all =
     let h = headed order a b head t x in
     let size = h.size in
@@ -285,43 +294,43 @@ all_within order a b head t x all =
     ]
 
 -- The causes for which the body isn't read.
-content_why : (order : Endianness) (a b c : State) (bound : SectionSize) (offset end : ℕ) (head : PerfEventHeader) (e : Error) (t : RecordHeaderRead order a head b) (came : List ℕ) → ChecksRecordEnd offset head.size (Ok end)
+content_why : (order : Endianness) (a b c : State) (bound : SectionSize) (offset end : ℕ) (head : PerfEventHeader) (e : Error) (t : RecordHeaderParsed (number_in order) a head b) (came : List ℕ) → EndChecked offset head.size end
     → Consumed b came c → e ≢ Memory → BodyErrorCause order b head end e c came → IfSome a.bytes (Owes order bound offset e) ⊎ SourceErrorInRecord order bound a (t.bytes ++ came) e c
 content_why order a b c bound offset end head e t came checks gave other (inl (is, some, cut)) = absurd (other is)
 content_why order a b c bound offset end head e t came checks gave other (inr (inl (is, less, failed))) =
-    inr (inr (cut_behind order a b head t came (inl less), is, inl (failed_later a b c t.bytes t.bytes_read.consumes failed)))
+    inr (inr (cut_behind order a b head t came (inl less), is, inl (failed_later a b c t.bytes t.consumes failed)))
 content_why order a b c bound offset end head e t came checks gave other (inr (inr (inl (is, long', kind)))) =
-    inl (shown a.bytes c.bytes (t.bytes ++ came) (Owes order bound offset e) (consumed_more a b c t.bytes came t.bytes_read.consumes gave).bytes
+    inl (shown a.bytes c.bytes (t.bytes ++ came) (Owes order bound offset e) (consumed_more a b c t.bytes came t.consumes gave).bytes
     (λ rest. let h = behind order a b head t came rest in let least = checks.0 in
     (compressed_record, (λ _. (has_body order head offset end ((t.bytes ++ came) ++ rest) (came ++ rest) h checks (omega (arith, length-append came rest, long', least)), subst IsCompressed (sym h.kind) kind)), (λ l. l), is)))
 content_why order a b c bound offset end head e t came checks gave other (inr (inr (inr (inl (is, long', kind, short))))) =
-    inl (shown a.bytes c.bytes (t.bytes ++ came) (Owes order bound offset e) (consumed_more a b c t.bytes came t.bytes_read.consumes gave).bytes
+    inl (shown a.bytes c.bytes (t.bytes ++ came) (Owes order bound offset e) (consumed_more a b c t.bytes came t.consumes gave).bytes
     (λ rest. let h = behind order a b head t came rest in let least = checks.0 in let size = h.size in
     (aux_body_too_short, (λ _. (has_body order head offset end ((t.bytes ++ came) ++ rest) (came ++ rest) h checks (omega (arith, length-append came rest, long', least)), h.kind ∙ kind, omega (arith, size, short))), (λ l. l), is)))
 content_why order a b c bound offset end head e t came checks gave other (inr (inr (inr (inr (inl (is, long', kind, enough, far)))))) =
-    inl (shown a.bytes c.bytes (t.bytes ++ came) (Owes order bound offset e) (consumed_more a b c t.bytes came t.bytes_read.consumes gave).bytes
-    (λ rest. let h = behind order a b head t came rest in let least = checks.0 in let ends = checks.1 in
+    inl (shown a.bytes c.bytes (t.bytes ++ came) (Owes order bound offset e) (consumed_more a b c t.bytes came t.consumes gave).bytes
+    (λ rest. let h = behind order a b head t came rest in let least = checks.0 in let ends = checks.1.0 in
     let extent = extent_is order a b head t came rest kind (omega (arith, long', enough)) in
     (aux_end_overflows, (λ _. (has_trace order head offset end ((t.bytes ++ came) ++ rest) (came ++ rest) h checks (omega (arith, length-append came rest, long', least)) kind enough, omega (arith, extent, ends, far))), (λ l. l), is)))
 content_why order a b c bound offset end head e t came checks gave other (inr (inr (inr (inr (inr (is, there, kind, enough, fits, less, inl none)))))) =
-    let all = consumed_more a b c t.bytes came t.bytes_read.consumes gave in
+    let all = consumed_more a b c t.bytes came t.consumes gave in
     let h = headed order a b head t came in
     let size = h.size in
     let long = h.long in
     let least = checks.0 in
-    let ends = checks.1 in
+    let ends = checks.1.0 in
     elim (none_or_paused b c none) [
       | inl end' ↦ inl (
           let extent = extent_alone order a b head t came kind (omega (arith, there, enough)) in
           shown_whole a.bytes (t.bytes ++ came) (Owes order bound offset e) (all_read a c (t.bytes ++ came) all end')
           (truncated_aux_data, (λ _. (has_trace order head offset end (t.bytes ++ came) came h checks (omega (arith, there, least)) kind enough, omega (arith, extent, ends, fits), omega (arith, extent, long, less, least))), (λ l. l), is))
-      | inr paused ↦ inr (inr (cut_behind order a b head t came (inr (kind, enough, there, less)), is, inr ((λ _. omega (arith, size, long, there, least)), paused_later a b c t.bytes t.bytes_read.consumes paused)))
+      | inr paused ↦ inr (inr (cut_behind order a b head t came (inr (kind, enough, there, less)), is, inr ((λ _. omega (arith, size, long, there, least)), paused_later a b c t.bytes t.consumes paused)))
     ]
 content_why order a b c bound offset end head e t came checks gave other (inr (inr (inr (inr (inr (is, there, kind, enough, fits, less, inr failed)))))) =
-    inr (inr (cut_behind order a b head t came (inr (kind, enough, there, less)), is, inl (failed_later a b c t.bytes t.bytes_read.consumes failed)))
+    inr (inr (cut_behind order a b head t came (inr (kind, enough, there, less)), is, inl (failed_later a b c t.bytes t.consumes failed)))
 
 -- no bytes after the body are read
-content_within : (order : Endianness) (a b c : State) (head : PerfEventHeader) (end : ℕ) (e : Error) (t : RecordHeaderRead order a head b) (came : List ℕ) → BodyErrorCause order b head end e c came → StaysWithinRecord order (t.bytes ++ came)
+content_within : (order : Endianness) (a b c : State) (head : PerfEventHeader) (end : ℕ) (e : Error) (t : RecordHeaderParsed (number_in order) a head b) (came : List ℕ) → BodyErrorCause order b head end e c came → StaysWithinRecord order (t.bytes ++ came)
 content_within order a b c head end e t came (inl (is, some, cut)) = cut_within order a b head t came cut
 content_within order a b c head end e t came (inr (inl (is, less, source))) = cut_within order a b head t came (inl less)
 content_within order a b c head end e t came (inr (inr (inl (is, long, kind)))) = all_within order a b head t came long
@@ -346,15 +355,15 @@ content_memory order b c head end e came (inr (inr (inr (inr (inl (is, long, kin
 content_memory order b c head end e came (inr (inr (inr (inr (inr (is, there, kind, enough, fits, less, source)))))) m = absurd cc
 
 -- reading the body fails
-pub content_error : (order : Endianness) (a b c : State) (bound : SectionSize) (offset end : ℕ) (head : PerfEventHeader) (e : Error) (now : List ℕ) → head.type_ ≢ 68 → RecordHeaderRead order a head b → ChecksRecordEnd offset head.size (Ok end)
+pub content_error : (order : Endianness) (a b c : State) (bound : SectionSize) (offset end : ℕ) (head : PerfEventHeader) (e : Error) (now : List ℕ) → head.type_ ≢ 68 → RecordHeaderParsed (number_in order) a head b → EndChecked offset head.size end
     → BodyPartlyRead b e now c (BodyErrorCause order b head end e c) → RecordErrorAt order a bound offset e (length now) c
 content_error order a b c bound offset end head e now other t checks n =
     let h = headed order a b head t n.consumed_bytes in
     let bound' = n.buffer_bound in
     record {
       consumed_bytes = t.bytes ++ n.consumed_bytes;
-      consumes = consumed_more a b c t.bytes n.consumed_bytes t.bytes_read.consumes n.consumes;
-      buffer_bound = omega (arith, bound', ap length (after_header t.bytes n.consumed_bytes t.bytes_read.exact_len));
+      consumes = consumed_more a b c t.bytes n.consumed_bytes t.consumes n.consumes;
+      buffer_bound = omega (arith, bound', ap length (after_header t.bytes n.consumed_bytes t.exact_len));
       within_record = content_within order a b c head end e t n.consumed_bytes n.cause;
       not_failed = content_unfailed order b c head end e n.consumed_bytes n.cause;
       if_out_of_memory = λ m.
@@ -380,19 +389,20 @@ not_compressed kind is (inl e) = omega (arith, is, e)
 not_compressed kind is (inr e) = omega (arith, is, e)
 
 -- a marker
-pub marker_whole : (order : Endianness) (a b c : State) (offset end : ℕ) (head : PerfEventHeader) → head.type_ ≡ 68 → (t : RecordHeaderRead order a head b) → ChecksRecordEnd offset head.size (Ok end)
-    → (x : List ℕ) → BytesRead b (head.size - 8) x c → Whole order a offset head end (t.bytes ++ x) c
-marker_whole order a b c offset end head marker t checks x took =
+pub marker_whole : (order : Endianness) (a b c : State) (offset end : ℕ) (head : PerfEventHeader) → head.type_ ≡ 68 → (t : RecordHeaderParsed (number_in order) a head b) → EndChecked offset head.size end
+    → (skipped : SkippedExactly b (head.size - 8) c) → Whole order a offset head end (t.bytes ++ skipped.bytes) c
+marker_whole order a b c offset end head marker t checks took =
+    let x = took.bytes in
     let h = headed order a b head t x in
     let size = h.size in
     let long = h.long in
     let body = took.exact_len in
     let least = checks.0 in
-    let ends = checks.1 in
+    let ends = checks.1.0 in
     let kind = h.kind ∙ marker in
     let plain = total_size_plain order (t.bytes ++ x) (λ e. omega (arith, kind, e)) in
     record {
-      gave = consumed_more a b c t.bytes x t.bytes_read.consumes took.consumes;
+      gave = consumed_more a b c t.bytes x t.consumes took.consumes;
       is_record = record {
         min_size = omega (arith, size, least);
         not_compressed = not_compressed (record_type_of order (t.bytes ++ x)) kind;
@@ -402,21 +412,21 @@ marker_whole order a b c offset end head marker t checks x took =
       kind = h.kind;
       misc = h.misc;
       ends = omega (arith, ends, long, body, least);
-      fits = checks.2;
+      fits = checks.1.1;
     }
 
 -- another record, whose body is in the buffer
-pub content_whole : (order : Endianness) (a b c : State) (offset end whole : ℕ) (head : PerfEventHeader) (now : List ℕ) → (t : RecordHeaderRead order a head b) → ChecksRecordEnd offset head.size (Ok end) → BodyRead order b head end whole now c
+pub content_whole : (order : Endianness) (a b c : State) (offset end whole : ℕ) (head : PerfEventHeader) (now : List ℕ) → (t : RecordHeaderParsed (number_in order) a head b) → EndChecked offset head.size end → BodyRead order b head end whole now c
     → Whole order a offset head whole (t.bytes ++ now) c
 content_whole order a b c offset end whole head now t checks n =
     let h = headed order a b head t now in
     let size = h.size in
     let long = h.long in
     let least = checks.0 in
-    let ends = checks.1 in
+    let ends = checks.1.0 in
     let all = t.bytes ++ now in
-    let fits : whole < 2 ^ 64 = n.end_fits checks.2 in
-    let gave = consumed_more a b c t.bytes now t.bytes_read.consumes n.consumes in
+    let fits : whole < 2 ^ 64 = n.end_fits checks.1.1 in
+    let gave = consumed_more a b c t.bytes now t.consumes n.consumes in
     let plain = λ (k : IsCompressed (record_type_of order all)). n.not_compressed (subst IsCompressed h.kind k) in
     elim (cases_eq head.type_ 71) [
       | inl is ↦ (
@@ -424,7 +434,7 @@ content_whole order a b c offset end whole head now t checks n =
           let enough = trace.0 in
           let length' = trace.1 in
           let ends' = trace.2 in
-          let number : aux_size_of order all ≡ number_in order 8 now = trace_is order t.bytes now t.bytes_read.exact_len in
+          let number : aux_size_of order all ≡ number_in order 8 now = trace_is order t.bytes now t.exact_len in
           let extent = total_size_auxtrace order all (h.kind ∙ is) in
           record {
             gave = gave;

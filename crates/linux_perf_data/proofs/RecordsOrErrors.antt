@@ -9,7 +9,8 @@ use Rattle.perfdata_base.proofs.Numbers.{in_reads_first}
 use Rattle.perfdata_base.specs.declared.raw.Endianness.{Endianness}
 use Rattle.linux_perf_data.specs.Attribute.{Attribute, AreConsistent, Inconsistency, AreInconsistent, HoldsAttribute}
 use Rattle.perfdata_sections.proofs.EventPrefixes.{event_desc_or_not}
-use Rattle.linux_perf_data.specs.Names.{IsReadableEventDesc, event_desc, feature_in_body}
+use Rattle.linux_perf_data.specs.FeatureNumbers.{event_desc}
+use Rattle.linux_perf_data.specs.Names.{IsReadableEventDesc, feature_in_body}
 use Rattle.linux_perf_data.specs.Layout.{SectionSize, MayStartAt, IsCompressed, IsRecord, IsValidRecord, IsEnd, HasRecordHeader, HasCompleteBody, HasInvalidMetadata, StartsWithRecord, attributes_in_record, LayoutError, truncated_header, size_below_header, end_overflows, truncated_body, compressed_record, aux_body_too_short, aux_end_overflows, truncated_aux_data, invalid_metadata, MetadataError, truncated_metadata, attr_size_too_small, IsTruncatedAttribute, invalid_event_desc, HasInvalidEventDesc, inconsistent_attributes, ErrorAt, LayoutEnd, ends_complete, ends_with_error, EndsWith, record_type_of, record_size_of, total_size_of}
 use Rattle.linux_perf_data.proofs.RecordHeaders.{record_type_front, size_front, total_size_front, total_size_plain, size_in_total_size, record_least, record_length, same_front}
 use Rattle.linux_perf_data.proofs.ConsistencyLemmas.{consistent_not_inconsistent, inconsistency_is_unique, consistent_or_not}

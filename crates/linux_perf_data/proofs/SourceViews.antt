@@ -1,14 +1,16 @@
 -- Without a pending header, the view of a reader is the state of its source.
 use Rattle.std.proofs.Common.{◌≡◌, ◌≢◌, ℕ, List, [], length, refl, sym, ap, ◌∙◌, subst, inl, inr, Option, None, Some}
 use Rattle.std.specs.Prelude.{Bool, true, false, Result, Ok, Err}
-use Rattle.perfdata_base.specs.Source.{State, prepend, Consumed, EndedOrPaused, SourceFailed, SourcePaused}
+use Rattle.perfdata_base.specs.Source.{State, prepend, Consumed, EndedOrPaused, SourceFailed, SourcePaused, PartlyRead, PartlyAppended, SkippedExactly, AppendedExactly}
+use Rattle.perfdata_base.specs.Endian.{number_in}
+use Rattle.perfdata_base.specs.Event.{RecordHeaderParsed}
 use Rattle.perfdata_base.specs.declared.raw.Endianness.{Endianness}
 use Rattle.perfdata_base.specs.declared.event.PerfEventHeader.{PerfEventHeader}
 use Rattle.perfdata_sections.specs.declared.error.Error.{Error}
 use Rattle.linux_perf_data.specs.declared.records.input.Input.{Input}
 use Rattle.linux_perf_data.specs.declared.records.input.Input.TheVariants.{Section, Pipe}
 use Rattle.linux_perf_data.specs.Input.{HasNoPendingHeader, with_leading_bytes, input_source_state, AnswersTruncation, section_size_in}
-use Rattle.linux_perf_data.specs.RecordFraming.{BytesRead, RecordHeaderRead, ReadsRecordHeader, SkipsBody, HeldPart, BytesAppended, AppendsExactly, ReadsRecordBody, EndedWithin, FailedWithin, BodyPartlyRead, BodyRead, BodyEnded, BodyErrorCause}
+use Rattle.linux_perf_data.specs.RecordFraming.{ReadsRecordHeader, SkipsBody, AppendsBody, ReadsRecordBody, EndedWithin, FailedWithin, BodyPartlyRead, BodyRead, BodyEnded, BodyErrorCause}
 
 prepend_none : (o : Option (List ℕ)) → prepend [] o ≡ o
 prepend_none None = refl
@@ -43,14 +45,17 @@ consumed_none_in (Pipe None) none a b g = λ more. paused_plain a b (g (λ e. mo
 consumed_none_in (Pipe (Some head)) none a b g = absurd cc
 
 module _ (i : Input) (none : HasNoPendingHeader i) (a b : State) where
-  pub read_in : (count : ℕ) (x : List ℕ) → BytesRead a count x b → BytesRead (input_source_state i a) count x (input_source_state i b)
-  read_in count x t = record { exact_len = t.exact_len; consumes = consumed_in i none a b x t.consumes }
+  pub skipped_in : (count : ℕ) → SkippedExactly a count b → SkippedExactly (input_source_state i a) count (input_source_state i b)
+  skipped_in count t = record { bytes = t.bytes; exact_len = t.exact_len; consumes = consumed_in i none a b t.bytes t.consumes }
+
+  part_in : (count : ℕ) → PartlyRead a count b → PartlyRead (input_source_state i a) count (input_source_state i b)
+  part_in count p = record { consumed_bytes = p.consumed_bytes; too_few = p.too_few; consumes = consumed_in i none a b p.consumed_bytes p.consumes }
 
   pub ended_in : (count : ℕ) → EndedWithin a count b → EndedWithin (input_source_state i a) count (input_source_state i b)
-  ended_in count e = record { consumed_bytes = e.consumed_bytes; too_few = e.too_few; consumes = consumed_in i none a b e.consumed_bytes e.consumes; ended_or_paused = consumed_none_in i none a b e.ended_or_paused }
+  ended_in count e = (part_in count e.0, consumed_none_in i none a b e.1)
 
   pub failed_part_in : (count : ℕ) → FailedWithin a count b → FailedWithin (input_source_state i a) count (input_source_state i b)
-  failed_part_in count f = record { consumed_bytes = f.consumed_bytes; too_few = f.too_few; consumes = consumed_in i none a b f.consumed_bytes f.consumes; source_failed = failed_in i none a b f.source_failed }
+  failed_part_in count f = (part_in count f.0, failed_in i none a b f.1)
 
   pub content_in : (order : Endianness) (head : PerfEventHeader) (end whole : ℕ) (now : List ℕ) → BodyRead order a head end whole now b → BodyRead order (input_source_state i a) head end whole now (input_source_state i b)
   content_in order head end whole now t = record { consumes = consumed_in i none a b now t.consumes; not_compressed = t.not_compressed; if_not_auxtrace = t.if_not_auxtrace; if_auxtrace = t.if_auxtrace; end_fits = t.end_fits }
@@ -80,19 +85,19 @@ truncated_by i e (Ok (Some head)) P answers pipe file = absurd answers
 truncated_by i e (Err e') P answers pipe file = subst (λ x. P (Err x)) (sym answers.1) (file answers.0)
 
 -- a read that returns `true` reads all bytes
-pub read_true : (a b : State) (held : List ℕ) (count : ℕ) (now : List ℕ) (r : Bool) → r ≡ true → AppendsExactly a held count (Ok r) now b → BytesAppended a held count now b
-read_true a b held count now r is reads = subst (λ o. AppendsExactly a held count (Ok o) now b) is reads
+pub read_true : (a b : State) (held : List ℕ) (count : ℕ) (now : List ℕ) (r : Bool) → r ≡ true → AppendsBody a held count (Ok r) now b → AppendedExactly a held count now b
+read_true a b held count now r is reads = subst (λ o. AppendsBody a held count (Ok o) now b) is reads
 
-pub read_false : (a b : State) (held : List ℕ) (count : ℕ) (now : List ℕ) (r : Bool) → r ≡ false → AppendsExactly a held count (Ok r) now b → HeldPart a (length held) count (length now) b × EndedOrPaused a b
-read_false a b held count now r is reads = subst (λ o. AppendsExactly a held count (Ok o) now b) is reads
+pub read_false : (a b : State) (held : List ℕ) (count : ℕ) (now : List ℕ) (r : Bool) → r ≡ false → AppendsBody a held count (Ok r) now b → PartlyAppended a (length held) count (length now) b × EndedOrPaused a b
+read_false a b held count now r is reads = subst (λ o. AppendsBody a held count (Ok o) now b) is reads
 
-pub pass_true : (a b : State) (count : ℕ) (r : Bool) → r ≡ true → SkipsBody a count (Ok r) b → (bytes : List ℕ) × BytesRead a count bytes b
+pub pass_true : (a b : State) (count : ℕ) (r : Bool) → r ≡ true → SkipsBody a count (Ok r) b → SkippedExactly a count b
 pass_true a b count r is passes = subst (λ o. SkipsBody a count (Ok o) b) is passes
 
 pub pass_false : (a b : State) (count : ℕ) (r : Bool) → r ≡ false → SkipsBody a count (Ok r) b → EndedWithin a count b
 pass_false a b count r is passes = subst (λ o. SkipsBody a count (Ok o) b) is passes
 
-pub header_some : (order : Endianness) (a b : State) (r : Option PerfEventHeader) (head : PerfEventHeader) → r ≡ Some head → ReadsRecordHeader order a (Ok r) b → RecordHeaderRead order a head b
+pub header_some : (order : Endianness) (a b : State) (r : Option PerfEventHeader) (head : PerfEventHeader) → r ≡ Some head → ReadsRecordHeader order a (Ok r) b → RecordHeaderParsed (number_in order) a head b
 header_some order a b r head is reads = subst (λ o. ReadsRecordHeader order a (Ok o) b) is reads
 
 pub header_none : (order : Endianness) (a b : State) (r : Option PerfEventHeader) → r ≡ None → ReadsRecordHeader order a (Ok r) b → EndedWithin a 8 b

@@ -20,10 +20,10 @@ module _ (order : Endianness) where
   texts_push xs (s ∷ ts) t (first, text, are) one is = (first, text, texts_push (after_string order xs) ts t are one is)
 
   -- one more string
-  pub texts_more : (xs behind rest : List ℕ) (items new : List (Bor (List ℕ))) (s : Bor (List ℕ)) → BeginsWithStrings order xs (map (λ b. b.now) items) → behind ≡ after_strings order xs (map (λ b. b.now) items)
-      → BeginsWithString order behind → s.now ≡ string_text order behind → rest ≡ after_string order behind → new ≡ items ++ s ∷ []
+  pub texts_more : (xs remaining rest : List ℕ) (items new : List (Bor (List ℕ))) (s : Bor (List ℕ)) → BeginsWithStrings order xs (map (λ b. b.now) items) → remaining ≡ after_strings order xs (map (λ b. b.now) items)
+      → BeginsWithString order remaining → s.now ≡ string_text order remaining → rest ≡ after_string order remaining → new ≡ items ++ s ∷ []
       → BeginsWithStrings order xs (map (λ b. b.now) new) × (rest ≡ after_strings order xs (map (λ b. b.now) new))
-  texts_more xs behind rest items new s are at one is after grown =
+  texts_more xs remaining rest items new s are at one is after grown =
       let ts : List (List ℕ) = map (λ b. b.now) items in
       let all : map (λ b. b.now) new ≡ ts ++ s.now ∷ [] = ap (map (λ b. b.now)) grown ∙ map_push (λ b. b.now) items s in (
         subst (BeginsWithStrings order xs) (sym all) (texts_push xs ts s.now are (subst (BeginsWithString order) at one) (is ∙ ap (string_text order) at)),
@@ -33,7 +33,7 @@ module _ (order : Endianness) where
   -- parsing the next string fails
   pub texts_stop : (xs : List ℕ) (before : List (List ℕ)) (e : Error) → 4 ≤ length xs → length before < number_in order 4 xs → BeginsWithStrings order (drop 4 xs) before
       → IsStringError order (after_strings order (drop 4 xs) before) e → IsStringListError order xs e
-  texts_stop xs before NotEnoughSpaceForStringLen head few are stops = record { has_count = head; before = before; too_few = few; elements = are; error_here = stops }
-  texts_stop xs before StringLengthTooLong head few are stops = record { has_count = head; before = before; too_few = few; elements = are; error_here = stops }
-  texts_stop xs before StringUtf8 head few are stops = record { has_count = head; before = before; too_few = few; elements = are; error_here = stops }
-  texts_stop xs before e head few are stops = absurd stops
+  texts_stop xs before NotEnoughSpaceForStringLen counted few are stops = record { has_count = counted; before = before; too_few = few; elements = are; error_here = stops }
+  texts_stop xs before StringLengthTooLong counted few are stops = record { has_count = counted; before = before; too_few = few; elements = are; error_here = stops }
+  texts_stop xs before StringUtf8 counted few are stops = record { has_count = counted; before = before; too_few = few; elements = are; error_here = stops }
+  texts_stop xs before e counted few are stops = absurd stops

@@ -27,15 +27,15 @@ has_sample_id_all a = is_set a.attr.flags.0 18
 abbrev pub ConformsTo : Attribute → Attribute → Type 0
 ConformsTo first a = (has_identifier a ≡ true) × (has_sample_id_all a ≡ has_sample_id_all first)
 
--- The attribute at `index` is the first that doesn't conform to `first`, and `Why` holds for it.
-pub record FirstNonconformingAt (first : Attribute) (attrs : List Attribute) (index : ℕ) (Why : Attribute → Type 0) : Type 0 where
+-- The attribute at `index` is the first that doesn't conform to `first`, and `Cause` holds for it.
+pub record FirstNonconformingAt (first : Attribute) (attrs : List Attribute) (index : ℕ) (Cause : Attribute → Type 0) : Type 0 where
   pub earlier : List Attribute
   pub attribute : Attribute
   pub later : List Attribute
   pub elements : attrs ≡ earlier ++ attribute ∷ later
   pub index_matches : length earlier ≡ index
   pub earlier_conform : All (ConformsTo first) earlier
-  pub cause : Why attribute
+  pub cause : Cause attribute
 
 abbrev pub FirstInconsistency : Attribute → List Attribute → Inconsistency → Type 0
 FirstInconsistency first attrs (missing_identifier i) = FirstNonconformingAt first attrs i (λ a. has_identifier a ≡ false)
@@ -63,9 +63,9 @@ attr_index_of_id (Some id) attrs = last_index_listing id 0 0 attrs
 -- index of an attribute that lists the record's identifier, which is read with attribute 0's id parse info. It is 0 if no
 -- attribute lists the identifier or the record has none.
 abbrev pub attr_index_of : Endianness → List Attribute → ℕ → List ℕ → ℕ
-attr_index_of order [] kind body = 0
-attr_index_of order (a ∷ []) kind body = 0
-attr_index_of order (a ∷ b ∷ more) kind body = attr_index_of_id (identifier_of order (id_parse_info_of a.attr) kind body) (a ∷ b ∷ more)
+attr_index_of order [] record_type body = 0
+attr_index_of order (a ∷ []) record_type body = 0
+attr_index_of order (a ∷ b ∷ more) record_type body = attr_index_of_id (identifier_of order (id_parse_info_of a.attr) record_type body) (a ∷ b ∷ more)
 
 -- The attribute index of a record, and the parse info of that attribute's records.
 pub record EventRef : Type 0 where
@@ -74,10 +74,10 @@ pub record EventRef : Type 0 where
 
 -- A kernel record (type below 64) belongs to an attribute. A tool's record belongs to none.
 abbrev pub event_of : Endianness → List Attribute → ℕ → List ℕ → Option EventRef
-event_of order attrs kind body = if nat_lt kind 64
-    then option_map (λ a. record { index = attr_index_of order attrs kind body; parse_info = parse_info_of a.attr order }) (slice_get attrs (attr_index_of order attrs kind body))
+event_of order attrs record_type body = if nat_lt record_type 64
+    then option_map (λ a. record { index = attr_index_of order attrs record_type body; parse_info = parse_info_of a.attr order }) (slice_get attrs (attr_index_of order attrs record_type body))
     else None
 
 abbrev pub event_time : Option EventRef → ℕ → List ℕ → Option ℕ
-event_time None kind body = None
-event_time (Some e) kind body = time_of e.parse_info kind body
+event_time None record_type body = None
+event_time (Some e) record_type body = time_of e.parse_info record_type body

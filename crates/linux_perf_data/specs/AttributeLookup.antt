@@ -47,7 +47,7 @@ ResolvesId k id index = (order : Endianness) (attrs : List Attribute) → Repres
 -- `index` is the attribute index that the represented attributes give for a kernel record. The new lookup contains the parse info
 -- of that attribute.
 abbrev pub ResolvesEvent : AttributeLookup → ℕ → List ℕ → ℕ → AttributeLookup → Type 0
-ResolvesEvent old kind body index new = (order : Endianness) (attrs : List Attribute) → Represents order old attrs → kind < 64 → event_of order attrs kind body ≡ Some (event_at new index)
+ResolvesEvent old record_type body index new = (order : Endianness) (attrs : List Attribute) → Represents order old attrs → record_type < 64 → event_of order attrs record_type body ≡ Some (event_at new index)
 
 -- The new lookup represents all attributes that the old one represents.
 abbrev pub KeepsAttributes : AttributeLookup → AttributeLookup → Type 0

@@ -91,7 +91,7 @@ module _ (order : Endianness) (h : PerfHeader) where
 
   -- The file's bytes and the bytes of these sections describe exactly these attributes.
   abbrev pub DescribesFrom : KnownSections → List ℕ → List AttributeDescription → Type 0
-  DescribesFrom told all ds = DescribesWith told.event_desc told.meta_info all ds
+  DescribesFrom sections all ds = DescribesWith sections.event_desc sections.meta_info all ds
 
   abbrev pub IsTypesError : List ℕ → Error → Type 0
   IsTypesError all e = (IsInvalidTypesSection × (e ≡ Read OfAttr)) ⊎ ((¬ IsInvalidTypesSection) × IsEventTypesError (number_in order) h.attr_size h.event_types_section e all)
@@ -124,12 +124,12 @@ module _ (order : Endianness) (h : PerfHeader) where
 
   -- `e` is the first error in the sources of the attributes.
   abbrev pub IsSourcesError : KnownSections → List ℕ → Error → Type 0
-  IsSourcesError told all e = IsSourcesErrorWith told.event_desc told.meta_info all e
+  IsSourcesError sections all e = IsSourcesErrorWith sections.event_desc sections.meta_info all e
 
   -- Reads a file's attributes. The contract states no cause for a `Memory` error.
   abbrev pub ReadsAttributes : KnownSections → State → Result (Vec AttributeDescription Global) Error → State → Type 0
-  ReadsAttributes told old (Ok v) new = AfterSeek old new × IfSome (all_bytes_of old.position) (λ all. DescribesFrom told all v.items)
-  ReadsAttributes told old (Err e) new = AfterSeek old new × (e ≢ Memory → IfSome (all_bytes_of old.position) (λ all. IsSourcesError told all e) ⊎ IsAttributesSourceError old e new)
+  ReadsAttributes sections old (Ok v) new = AfterSeek old new × IfSome (all_bytes_of old.position) (λ all. DescribesFrom sections all v.items)
+  ReadsAttributes sections old (Err e) new = AfterSeek old new × (e ≢ Memory → IfSome (all_bytes_of old.position) (λ all. IsSourcesError sections all e) ⊎ IsAttributesSourceError old e new)
 
 -- Parses an EVENT_DESC section in memory. The contract states no cause for a `Memory` error.
 abbrev pub ParsesEventDesc : Endianness → List ℕ → Result (Vec AttributeDescription Global) Error → Type 0

@@ -4,6 +4,7 @@ use Rattle.std.specs.List.{concat}
 use Rattle.perfdata_base.specs.Source.{State}
 use Rattle.perfdata_base.specs.Buffered.{IsPrefixOfRemaining}
 use Rattle.perfdata_base.specs.declared.raw.Endianness.{Endianness}
+use Rattle.perfdata_sections.specs.RecordTypes.{finished_round}
 use Rattle.linux_perf_data.specs.declared.records.iter.PerfRecordIter.{PerfRecordIter}
 use Rattle.linux_perf_data.specs.declared.records.iter.Stage.TheVariants.{Running}
 use Rattle.linux_perf_data.specs.Input.{HasNoPendingHeader}
@@ -15,6 +16,10 @@ abbrev pub WholeRecordLength : Endianness → List ℕ → Option ℕ → Type 0
 WholeRecordLength order bytes (Some n) = (8 ≤ n) × (n ≤ length bytes) × IsRecord order (take n bytes)
 WholeRecordLength order bytes None = (p r : List ℕ) → IsRecord order p → bytes ≢ p ++ r
 
+-- The bytes start with the header of a marker.
+abbrev pub StartsWithMarker : Endianness → List ℕ → Type 0
+StartsWithMarker order bytes = (8 ≤ length bytes) × (record_type_of order bytes ≡ finished_round)
+
 -- From `offset` on, the bytes are markers and then a whole record that isn't a marker and starts where a record may. Any bytes
 -- may follow.
 pub record ContainsNextRecord (order : Endianness) (bound : SectionSize) (offset : ℕ) (bytes : List ℕ) : Type 0 where
@@ -23,7 +28,7 @@ pub record ContainsNextRecord (order : Endianness) (bound : SectionSize) (offset
   pub may_start : MayStartAt bound (offset + length (concat markers))
   pub raw_record : List ℕ
   pub is_record : IsRecord order raw_record
-  pub not_marker : record_type_of order raw_record ≢ 68
+  pub not_marker : record_type_of order raw_record ≢ finished_round
   pub rest : List ℕ
   pub split : bytes ≡ concat markers ++ (raw_record ++ rest)
 
@@ -32,12 +37,17 @@ module _ {R : Type 0} (state : R → State) where
   abbrev pub IsFinished : PerfRecordIter R → Type 0
   IsFinished it = (it.stage ≢ Running) ⊎ (¬ MayStartAt (section_size_of state it) it.offset)
 
-  -- The buffered bytes `hand` contain the next record, and no header is pending before them.
-  pub record BuffersNextRecord (it : PerfRecordIter R) (hand : List ℕ) : Type 0 where
+  -- The buffered bytes contain the whole next record, and no header is pending before them.
+  pub record BuffersNextRecord (it : PerfRecordIter R) (bytes : List ℕ) : Type 0 where
     pub no_pending_header : HasNoPendingHeader it.input
-    pub contains_next : ContainsNextRecord it.endian (section_size_of state it) it.offset hand
+    pub contains_next : ContainsNextRecord it.endian (section_size_of state it) it.offset bytes
 
-  -- Whether the next call needs only the bytes that the source has buffered. The result is true if the iterator is finished.
+  -- The next call reads no bytes that the source hasn't buffered: the iterator is finished, or the buffered bytes contain the
+  -- whole next record.
+  abbrev pub IsNextBuffered : (R → List ℕ) → PerfRecordIter R → Type 0
+  IsNextBuffered buffered it = IsFinished it ⊎ BuffersNextRecord it (buffered it.source)
+
+  -- The same of some prefix of the remaining bytes. The result is true if the iterator is finished.
   pub record TestsNextBuffered (it : PerfRecordIter R) (answer : Bool) : Type 0 where
     pub buffered_bytes : List ℕ
     pub is_prefix : IsPrefixOfRemaining (state it.source) buffered_bytes

@@ -1,17 +1,14 @@
 -- The build ids in the section BUILD_ID: for each key the last entry with that key.
-use Rattle.std.specs.Prelude.{◌≡◌, ℕ, ◌%◌, ◌++◌, List, [], ◌∷◌, filter_map, Option, None, Some, Result, Ok, Err, ⊤}
+use Rattle.std.specs.Prelude.{◌≡◌, ℕ, ◌%◌, ◌++◌, List, [], ◌∷◌, filter_map, Option, None, Some, Result, Ok, Err}
 use Rattle.std.specs.HashMap.{HashMap}
 use Rattle.std.specs.Map.{lookup, update_all}
 use Rattle.std.specs.Option.{option_map}
 use Rattle.perfdata_base.specs.Endian.{number_in}
 use Rattle.perfdata_base.specs.RecordType.{cpu_mode_of}
 use Rattle.perfdata_base.specs.declared.raw.Endianness.{Endianness}
-use Rattle.perfdata_base.specs.declared.source.AppendError.{AppendError}
-use Rattle.perfdata_base.specs.declared.source.AppendError.TheVariants.{Memory as OfMemory, Source}
-use Rattle.perfdata_records.specs.BuildIdEvent.{BuildIdEntry, build_id_entry_of, IsBuildIdEntry, IsTruncatedBuildIdEntry}
+use Rattle.perfdata_records.specs.BuildIdEvent.{BuildIdEntry, IsBuildIdEntry, IsTruncatedBuildIdEntry}
 use Rattle.perfdata_records.specs.DsoKey.{Key, key_in, key_of, keys_equal}
 use Rattle.perfdata_records.specs.contracts.dso_key.DsoKeyPartialEq.TheImpl.{ghosts}
-use Rattle.perfdata_records.specs.declared.build_id_event.BuildIdEvent.{BuildIdEvent}
 use Rattle.perfdata_records.specs.declared.dso_info.DsoInfo.{DsoInfo}
 use Rattle.perfdata_records.specs.declared.dso_key.DsoKey.{DsoKey}
 use Rattle.perfdata_sections.specs.declared.error.Error.{Error}
@@ -42,23 +39,17 @@ MapsLastEntries m es = (k : Key) → map_info_at m k ≡ last_info es k
 -- Inserts an entry. If the map contained the last entry of each key, it still does with the new entry. The error is `Memory`.
 abbrev pub InsertsEntry : {S A : Type 0} → HashMap DsoKey DsoInfo S → BuildIdEntry → Result A Error → HashMap DsoKey DsoInfo S → Type 0
 InsertsEntry old e (Ok _) new = (es : List BuildIdEntry) → MapsLastEntries old es → MapsLastEntries new (es ++ e ∷ [])
-InsertsEntry old e (Err fault) new = fault ≡ Memory
+InsertsEntry old e (Err error) new = error ≡ Memory
 
 module _ (order : Endianness) where
   -- `xs` starts with these entries, and `rest` follows them.
   abbrev pub BeginsWithEntries : List ℕ → List BuildIdEntry → List ℕ → Type 0
   BeginsWithEntries xs [] rest = xs ≡ rest
-  BeginsWithEntries xs (e ∷ es) rest = (first : List ℕ) × (behind : List ℕ) × (xs ≡ first ++ behind) × IsBuildIdEntry (number_in order) first e × BeginsWithEntries behind es rest
+  BeginsWithEntries xs (e ∷ es) rest = (first : List ℕ) × (after : List ℕ) × (xs ≡ first ++ after) × IsBuildIdEntry (number_in order) first e × BeginsWithEntries after es rest
 
   -- `xs` consists of these entries and a rest that doesn't contain a whole entry.
   abbrev pub AreBuildIdEntries : List ℕ → List BuildIdEntry → Type 0
   AreBuildIdEntries xs es = (rest : List ℕ) × BeginsWithEntries xs es rest × IsTruncatedBuildIdEntry (number_in order) rest
-
-  -- Reads the first entry of `old`, and leaves the bytes after it. It fails if the entry is truncated or memory runs out.
-  abbrev pub ReadsFirstEntry : List ℕ → Result BuildIdEvent AppendError → List ℕ → Type 0
-  ReadsFirstEntry old (Ok e) new = (first : List ℕ) × (old ≡ first ++ new) × IsBuildIdEntry (number_in order) first (build_id_entry_of e)
-  ReadsFirstEntry old (Err OfMemory) new = ⊤
-  ReadsFirstEntry old (Err (Source e)) new = IsTruncatedBuildIdEntry (number_in order) old
 
   -- Parses the section BUILD_ID. The only error is `Memory`.
   abbrev pub ParsesBuildIds : {S : Type 0} → List ℕ → Result (HashMap DsoKey DsoInfo S) Error → Type 0
@@ -69,7 +60,7 @@ module _ (order : Endianness) where
   abbrev pub AnswersBuildIds : {S : Type 0} → Option (List ℕ) → Result (HashMap DsoKey DsoInfo S) Error → Type 0
   AnswersBuildIds None (Ok m) = m.entries ≡ []
   AnswersBuildIds None (Err e) = ⊥
-  AnswersBuildIds (Some xs) told = ParsesBuildIds xs told
+  AnswersBuildIds (Some xs) result = ParsesBuildIds xs result
 
 -- The bytes of a section determine its entries.
 abbrev pub BuildIdListIsUnique : Type 0

@@ -1,4 +1,4 @@
--- The numbers of the features that have an accessor (Linux's perf.data format, and simpleperf's). EVENT_DESC is in `Names`.
+-- The numbers of EVENT_DESC and of the features that have an accessor (Linux's perf.data format, and simpleperf's).
 use Rattle.std.specs.Prelude.{ℕ}
 
 abbrev pub build_id : ℕ
@@ -30,6 +30,9 @@ total_mem = 10
 
 abbrev pub cmd_line : ℕ
 cmd_line = 11
+
+abbrev pub event_desc : ℕ
+event_desc = 12
 
 abbrev pub pmu_mappings : ℕ
 pmu_mappings = 16

@@ -1,6 +1,7 @@
 -- The metadata of a perf.data file, and the first error in opening it.
 use Rattle.std.specs.Prelude.{◌≡◌, ◌≢◌, ℕ, ◌+◌, ◌^◌, ◌<◌, ◌≤◌, ◌⊎◌, List, [], length, take, drop, codes, Option, Result, Ok, Err, Some, IfSome}
 use Rattle.perfdata_base.specs.Source.{State, Position, AfterSeek, at_offset, all_bytes_of}
+use Rattle.perfdata_base.specs.Section.{EndFitsU64, EndOverflowsU64}
 use Rattle.perfdata_base.specs.Header.{file_header_of}
 use Rattle.perfdata_base.specs.declared.raw.Endianness.{Endianness}
 use Rattle.perfdata_base.specs.declared.raw.Endianness.TheVariants.{LittleEndian, BigEndian}
@@ -16,8 +17,7 @@ use Rattle.linux_perf_data.specs.Attribute.{Inconsistency, AreInconsistent, AreC
 use Rattle.linux_perf_data.specs.Descriptions.{described_attributes}
 use Rattle.linux_perf_data.specs.Consistency.{error_of_inconsistency}
 use Rattle.linux_perf_data.specs.AttributeSources.{KnownSections, known_sections, DescribesFrom, IsSourcesError}
-use Rattle.linux_perf_data.specs.FeatureNumbers.{simpleperf_meta_info}
-use Rattle.linux_perf_data.specs.Names.{event_desc}
+use Rattle.linux_perf_data.specs.FeatureNumbers.{simpleperf_meta_info, event_desc}
 use Rattle.linux_perf_data.specs.FeatureData.{HoldsAllSections, SectionsTruncated, feature_table_of, feature_data_by, feature_data_of}
 use Rattle.linux_perf_data.specs.declared.file.opening.FileOpening.{FileOpening}
 
@@ -29,10 +29,6 @@ magic_of BigEndian = codes "2ELIFREP"
 abbrev pub RecognizesMagic : List ℕ → Result Endianness Error → Type 0
 RecognizesMagic magic (Ok order) = magic ≡ magic_of order
 RecognizesMagic magic (Err e) = (e ≡ UnrecognizedMagicValue magic) × ((order : Endianness) → magic ≢ magic_of order)
-
--- The end offset of the data section is below 2^64.
-abbrev pub DataEndFitsU64 : PerfHeader → Type 0
-DataEndFitsU64 h = h.data_section.offset + h.data_section.size < 2 ^ 64
 
 -- The offset of the feature table, which follows the data section.
 abbrev pub table_offset : PerfHeader → ℕ
@@ -46,7 +42,7 @@ HoldsSections order h all = HoldsAllSections order all (table_offset h) (feature
 abbrev pub section_data : Endianness → PerfHeader → List ℕ → ℕ → Option (List ℕ)
 section_data order h all = feature_data_by all (feature_table_of order all (table_offset h) (features_of h.features))
 
--- The bytes of the sections EVENT_DESC (12) and SIMPLEPERF_META_INFO (129), if the file has them.
+-- The bytes of the sections EVENT_DESC and SIMPLEPERF_META_INFO, if the file has them.
 abbrev pub attribute_sources_of : Endianness → PerfHeader → List ℕ → KnownSections
 attribute_sources_of order h all = known_sections (section_data order h all event_desc) (section_data order h all simpleperf_meta_info)
 
@@ -71,9 +67,9 @@ IsAttributesError order h all e =
 -- section is truncated, or the attributes have an error.
 abbrev pub IsErrorAfterHeader : Endianness → PerfHeader → List ℕ → Error → Type 0
 IsErrorAfterHeader order h all e =
-    ((e ≡ Read FeatureSection) × (2 ^ 64 ≤ h.data_section.offset + h.data_section.size))
-    ⊎ ((IsUnexpectedEof e × DataEndFitsU64 h × SectionsTruncated order all (table_offset h) (features_of h.features))
-    ⊎ (DataEndFitsU64 h × HoldsSections order h all × IsAttributesError order h all e))
+    ((e ≡ Read FeatureSection) × EndOverflowsU64 h.data_section)
+    ⊎ ((IsUnexpectedEof e × EndFitsU64 h.data_section × SectionsTruncated order all (table_offset h) (features_of h.features))
+    ⊎ (EndFitsU64 h.data_section × HoldsSections order h all × IsAttributesError order h all e))
 
 -- The error of a source that failed or paused. In the header, the feature sections and seeks it is an I/O error, or an unexpected
 -- end of file after a pause. In the attributes it may also be `Read(PerfEventAttr)`.
@@ -83,7 +79,7 @@ SourceErrorInOpening old e new = IsAttributesSourceError old e new
 -- The file was opened after its header. It has consistent attributes, at least one, and the source is at the first record.
 pub record OpenedAfterHeader (order : Endianness) (h : PerfHeader) (old : State) (opening : FileOpening) (new : State) : Type 0 where
   pub endian : opening.endian ≡ order
-  pub end_fits : DataEndFitsU64 h
+  pub end_fits : EndFitsU64 h.data_section
   pub features : opening.features ≡ h.features
   pub data_size : opening.data_size ≡ h.data_section.size
   pub nonempty : 0 < length opening.attributes.items
@@ -137,7 +133,7 @@ IsFileError p e =
 pub record OpenedFileAt (p : Position) (opening : FileOpening) (new : State) : Type 0 where
   pub header : PerfHeader
   pub matches : IsFileHeader p opening.endian header
-  pub end_fits : DataEndFitsU64 header
+  pub end_fits : EndFitsU64 header.data_section
   pub features : opening.features ≡ header.features
   pub data_size : opening.data_size ≡ header.data_section.size
   pub sections_complete : HoldsSections opening.endian header p.all_bytes

@@ -12,7 +12,8 @@ use Rattle.linux_perf_data.specs.Attribute.{Attribute}
 use Rattle.linux_perf_data.specs.AttributeLookup.{Represents}
 use Rattle.linux_perf_data.specs.LateMetadata.{SamePerfFile}
 use Rattle.linux_perf_data.specs.Layout.{ConsistsOfMarkers, SectionSize, RecordView, LayoutEnd, ends_complete, ends_with_error, LayoutError, RemainingRecords}
-use Rattle.linux_perf_data.specs.Names.{IsReadableOrAbsent, event_desc}
+use Rattle.linux_perf_data.specs.FeatureNumbers.{event_desc}
+use Rattle.linux_perf_data.specs.Names.{IsReadableOrAbsent}
 use Rattle.linux_perf_data.specs.RecordFraming.{IsErrorFor, SourceErrorInRecord}
 use Rattle.linux_perf_data.specs.Iter.{iter_source_state, section_size_of, HasRemainingRecords, ReturnsRecord, ReturnsEnd, ReturnsError}
 use Rattle.linux_perf_data.specs.PerfFile.{endian_of_file, attributes_of_file, feature_data_in_file}
@@ -20,11 +21,11 @@ use Rattle.linux_perf_data.specs.OpenedFile.{DescribesFile, FileRecords, FilePar
 
 -- The source error of a record, after any number of its bytes.
 abbrev pub SourceErrorInSomeRecord : Endianness → SectionSize → State → Error → State → Type 0
-SourceErrorInSomeRecord order bound old e new = (came : List ℕ) × SourceErrorInRecord order bound old came e new
+SourceErrorInSomeRecord order bound old e new = (bytes : List ℕ) × SourceErrorInRecord order bound old bytes e new
 
 -- These are the first records, whatever follows them.
 abbrev pub AreFirstRecords : (List RecordView → LayoutEnd → Type 0) → List RecordView → Type 0
-AreFirstRecords Come records = (more : List RecordView) × ((end : LayoutEnd) × Come (records ++ more) end)
+AreFirstRecords AreRemaining records = (more : List RecordView) × ((end : LayoutEnd) × AreRemaining (records ++ more) end)
 
 -- The end offset of the last of these records, which start at `offset` or later.
 abbrev pub end_after : ℕ → List RecordView → ℕ
@@ -40,7 +41,7 @@ module _ {R : Type 0} (state : R → State) where
   -- Consecutive calls returned these records. Each call received the `PerfFile` as the previous one left it.
   abbrev pub ReturnsRecords : PerfRecordIter R → PerfFile → List RecordView → PerfRecordIter R → PerfFile → Type 0
   ReturnsRecords old file [] now file' = (now ≡ old) × (file' ≡ file)
-  ReturnsRecords old file (h ∷ hs) now file' = (next : PerfRecordIter R) × ((taken : PerfFile) × ReturnsRecord state old file h next taken × ReturnsRecords next taken hs now file')
+  ReturnsRecords old file (h ∷ hs) now file' = (next : PerfRecordIter R) × ((next_file : PerfFile) × ReturnsRecord state old file h next next_file × ReturnsRecords next next_file hs now file')
 
   -- The `PerfFile` matches the iterator: it has the attributes that were read and, in a pipe, no EVENT_DESC or a readable one.
   pub record HasMatchingFile (it : PerfRecordIter R) (file : PerfFile) : Type 0 where
@@ -72,14 +73,14 @@ abbrev pub SourceErrorInFile : State → Error → State → Type 0
 SourceErrorInFile old e new = (order : Endianness) × ((size : ℕ) × SourceErrorInSomeRecord order (Some size) old e new)
 
 -- The returned records are the first of the file at `p`, and all bytes after the last of them are unread.
-pub record FilePartlyRead (p : Position) (file : PerfFile) (records : List RecordView) (left : Option (List ℕ)) : Type 0 where
+pub record FilePartlyRead (p : Position) (file : PerfFile) (records : List RecordView) (unread : Option (List ℕ)) : Type 0 where
   pub header : PerfHeader
   pub describes : DescribesFile p header file
   pub first_records : AreFirstRecords (FileRecords p (endian_of_file file) header (attributes_of_file file)) records
-  pub remaining : left ≡ Some (drop (header.data_section.offset + end_after 0 records) p.all_bytes)
+  pub remaining : unread ≡ Some (drop (header.data_section.offset + end_after 0 records) p.all_bytes)
 
 -- These are all records of the file. Its layout is complete, and all bytes after its last raw record are unread.
-pub record FileRead (p : Position) (file : PerfFile) (records : List RecordView) (left : Option (List ℕ)) : Type 0 where
+pub record FileRead (p : Position) (file : PerfFile) (records : List RecordView) (unread : Option (List ℕ)) : Type 0 where
   pub header : PerfHeader
   pub describes : DescribesFile p header file
   pub all_records : FileRecords p (endian_of_file file) header (attributes_of_file file) records ends_complete
@@ -87,7 +88,7 @@ pub record FileRead (p : Position) (file : PerfFile) (records : List RecordView)
   pub markers : List ℕ
   pub valid_markers : ConsistsOfMarkers (endian_of_file file) (Some header.data_section.size) (end_after 0 records) markers
   pub section_passed : header.data_section.size ≤ end_after 0 records + length markers
-  pub remaining : left ≡ Some (drop (header.data_section.offset + (end_after 0 records + length markers)) p.all_bytes)
+  pub remaining : unread ≡ Some (drop (header.data_section.offset + (end_after 0 records + length markers)) p.all_bytes)
 
 -- These are all records of the file before its layout error, and `e` reports that error.
 pub record FileReadToError (p : Position) (file : PerfFile) (records : List RecordView) (e : Error) : Type 0 where

@@ -17,13 +17,13 @@ abbrev pub HasNoPendingHeader : Input → Type 0
 HasNoPendingHeader (Section size) = Unit {0}
 HasNoPendingHeader (Pipe kept) = kept ≡ None
 
--- The source with `front` before its remaining bytes. Its position is unspecified.
+-- The source with `leading` before its remaining bytes. Its position is unspecified.
 abbrev pub with_leading_bytes : List ℕ → State → State
-with_leading_bytes front s = record { bytes = prepend front s.bytes; errors = s.errors; pauses = s.pauses; steady = s.steady; position = None }
+with_leading_bytes leading s = record { bytes = prepend leading s.bytes; errors = s.errors; pauses = s.pauses; steady = s.steady; position = None }
 
 abbrev pub with_pending_header : Option (List ℕ) → State → State
 with_pending_header None s = with_leading_bytes [] s
-with_pending_header (Some head) s = with_leading_bytes head s
+with_pending_header (Some header) s = with_leading_bytes header s
 
 -- The source as the iterator sees it. In a pipe, the pending header precedes the remaining bytes.
 abbrev pub input_source_state : Input → State → State
@@ -38,5 +38,5 @@ pub record TakesPendingHeader (old new : Input) : Type 0 where
 -- A truncated record ends a pipe, and is an error in a file.
 abbrev pub AnswersTruncation : Input → Error → Result (Option PerfEventHeader) Error → Type 0
 AnswersTruncation input e (Ok None) = section_size_in input ≡ None
-AnswersTruncation input e (Ok (Some head)) = ⊥
+AnswersTruncation input e (Ok (Some header)) = ⊥
 AnswersTruncation input e (Err e') = (section_size_in input ≢ None) × (e' ≡ e)

@@ -13,6 +13,7 @@ use Rattle.perfdata_records.specs.declared.record.PerfFileRecord.TheVariants.{Ev
 use Rattle.perfdata_sections.specs.Error.{IsInvalidInput}
 use Rattle.perfdata_sections.specs.EventDesc.{IsEventDescError}
 use Rattle.perfdata_records.specs.UserRecordType.{user_type_number}
+use Rattle.perfdata_sections.specs.RecordTypes.{header_attr, finished_round, header_feature}
 use Rattle.linux_perf_data.specs.declared.records.iter.PerfRecordIter.{PerfRecordIter}
 use Rattle.linux_perf_data.specs.declared.records.iter.RecordPlace.{RecordPlace}
 use Rattle.linux_perf_data.specs.declared.records.iter.RecordInfo.{RecordInfo}
@@ -24,7 +25,7 @@ use Rattle.linux_perf_data.specs.declared.perf_file.PerfFile.{PerfFile}
 use Rattle.linux_perf_data.specs.Attribute.{Attribute, EventRef, HoldsAttribute}
 use Rattle.linux_perf_data.specs.Input.{HasNoPendingHeader, section_size_in, input_source_state}
 use Rattle.linux_perf_data.specs.LateMetadata.{HasValidMetadata, IsMetadataType, UpdatesPerfFile, PassesEarlierChecks, SamePerfFile, RejectsMetadata, SameAttributeCount}
-use Rattle.linux_perf_data.specs.Names.{event_desc}
+use Rattle.linux_perf_data.specs.FeatureNumbers.{event_desc}
 use Rattle.linux_perf_data.specs.PerfFile.{descriptions_of_file, feature_data_in_file}
 use Rattle.linux_perf_data.specs.AttributeLookup.{Represents, parse_info_at}
 use Rattle.linux_perf_data.specs.Layout.{SectionSize, MayStartAt, IsEnd, IsRecord, ConsistsOfMarkers, record_type_of, misc_of, RecordView, LayoutEnd, ends_complete, ends_with_error, LayoutError, RemainingRecords, record_view, attributes_in_record, attributes_in_views}
@@ -90,11 +91,11 @@ record_view_with known f order body = record_view_at (parse_info_at known (attr_
 
 -- The record with this header, which isn't a marker's, is identified as the represented attributes require. The view uses the
 -- parse infos of the new lookup.
-pub record IdentifiesRecord (old : AttributeLookup) (offset round : ℕ) (head : PerfEventHeader) (body : List ℕ) (found : RecordInfo) (new : AttributeLookup) : Type 0 where
+pub record IdentifiesRecord (old : AttributeLookup) (offset round : ℕ) (header : PerfEventHeader) (body : List ℕ) (found : RecordInfo) (new : AttributeLookup) : Type 0 where
   pub offset_matches : found.place.offset ≡ offset
-  pub record_type : record_type_by_writer found.writer found.record_type.0 ≡ head.type_
-  pub kernel_type : (index : ℕ) → found.writer ≡ Kernel index → head.type_ < 64
-  pub matches : (order : Endianness) (attrs : List Attribute) → Represents order old attrs → record_view_with new found order body ≡ record_view order offset round attrs head.type_ head.misc body
+  pub record_type : record_type_by_writer found.writer found.record_type.0 ≡ header.type_
+  pub kernel_type : (index : ℕ) → found.writer ≡ Kernel index → header.type_ < 64
+  pub matches : (order : Endianness) (attrs : List Attribute) → Represents order old attrs → record_view_with new found order body ≡ record_view order offset round attrs header.type_ header.misc body
 
 -- Whether a record may start at this offset.
 abbrev pub TestsMayStart : SectionSize → ℕ → Bool → Type 0
@@ -121,17 +122,17 @@ module _ {R : Type 0} (state : R → State) where
     pub section_size : section_size_of new ≡ section_size_of old
 
   -- One raw record was consumed from the source. Its body is buffered unless it is a marker.
-  pub record RawRecordRead (old : PerfRecordIter R) (head : PerfEventHeader) (new : PerfRecordIter R) : Type 0 where
+  pub record RawRecordRead (old : PerfRecordIter R) (header : PerfEventHeader) (new : PerfRecordIter R) : Type 0 where
     pub raw_record : List ℕ
     pub consumes : Consumed (iter_source_state old) raw_record (iter_source_state new)
     pub is_record : IsRecord old.endian raw_record
-    pub record_type : record_type_of old.endian raw_record ≡ head.type_
-    pub misc : misc_of old.endian raw_record ≡ head.misc
+    pub record_type : record_type_of old.endian raw_record ≡ header.type_
+    pub misc : misc_of old.endian raw_record ≡ header.misc
     pub offset : new.offset ≡ old.offset + length raw_record
     pub offset_fits : new.offset < 2 ^ 64
-    pub round : new.round ≡ (if head.type_ == 68 then old.round + 1 else old.round)
-    pub buffered_body : head.type_ ≢ 68 → new.body.items ≡ drop 8 raw_record
-    pub empty_if_marker : head.type_ ≡ 68 → new.body.items ≡ []
+    pub round : new.round ≡ (if header.type_ == finished_round then old.round + 1 else old.round)
+    pub buffered_body : header.type_ ≢ finished_round → new.body.items ≡ drop 8 raw_record
+    pub empty_if_marker : header.type_ ≡ finished_round → new.body.items ≡ []
     pub same_input : SameInput old new
     pub attribute_lookup : new.attribute_lookup ≡ old.attribute_lookup
     pub stage : new.stage ≡ old.stage
@@ -157,7 +158,7 @@ module _ {R : Type 0} (state : R → State) where
     pub no_pending_header : HasNoPendingHeader new.input
 
   abbrev pub ReadsRawRecord : PerfRecordIter R → Result (Option PerfEventHeader) Error → PerfRecordIter R → Type 0
-  ReadsRawRecord old (Ok (Some head)) new = RawRecordRead old head new
+  ReadsRawRecord old (Ok (Some header)) new = RawRecordRead old header new
   ReadsRawRecord old (Ok None) new = RawRecordTruncated old new
   ReadsRawRecord old (Err e) new = RawRecordError old e new
 
@@ -175,30 +176,30 @@ module _ {R : Type 0} (state : R → State) where
     pub input : new.input ≡ piece.input
 
   -- The record in the body buffer was identified, and its metadata was applied.
-  pub record RecordProcessed (old : PerfRecordIter R) (file : PerfFile) (offset round : ℕ) (head : PerfEventHeader) (found : RecordInfo) (new : PerfRecordIter R) (file' : PerfFile) : Type 0 where
+  pub record RecordProcessed (old : PerfRecordIter R) (file : PerfFile) (offset round : ℕ) (header : PerfEventHeader) (found : RecordInfo) (new : PerfRecordIter R) (file' : PerfFile) : Type 0 where
     pub same_but_lookup : SameButLookup old new
     pub stage : new.stage ≡ old.stage
-    pub record_identified : IdentifiesRecord old.attribute_lookup offset round head old.body.items found new.attribute_lookup
-    pub represents : (attrs : List Attribute) → Represents old.endian old.attribute_lookup attrs → Represents old.endian new.attribute_lookup (attrs ++ attributes_in_record old.endian (section_size_of old) head.type_ old.body.items)
-    pub valid_attribute : section_size_of old ≡ None → head.type_ ≡ 64 → HoldsAttribute old.endian old.body.items
-    pub valid_feature : section_size_of old ≡ None → head.type_ ≡ 80 → 8 ≤ length old.body.items
-    pub same_attribute_count : section_size_of old ≡ None → IsMetadataType head.type_ → SameAttributeCount old.endian old.attribute_lookup file
-    pub file_updates : UpdatesPerfFile old.endian (section_size_of old) head.type_ old.body.items file file'
-    pub file_unchanged_otherwise : (section_size_of old ≢ None) ⊎ (¬ IsMetadataType head.type_) → file' ≡ file
+    pub record_identified : IdentifiesRecord old.attribute_lookup offset round header old.body.items found new.attribute_lookup
+    pub represents : (attrs : List Attribute) → Represents old.endian old.attribute_lookup attrs → Represents old.endian new.attribute_lookup (attrs ++ attributes_in_record old.endian (section_size_of old) header.type_ old.body.items)
+    pub valid_attribute : section_size_of old ≡ None → header.type_ ≡ header_attr → HoldsAttribute old.endian old.body.items
+    pub valid_feature : section_size_of old ≡ None → header.type_ ≡ header_feature → 8 ≤ length old.body.items
+    pub same_attribute_count : section_size_of old ≡ None → IsMetadataType header.type_ → SameAttributeCount old.endian old.attribute_lookup file
+    pub file_updates : UpdatesPerfFile old.endian (section_size_of old) header.type_ old.body.items file file'
+    pub file_unchanged_otherwise : (section_size_of old ≢ None) ⊎ (¬ IsMetadataType header.type_) → file' ≡ file
 
   -- The record was rejected, and the contents of the `PerfFile` are unchanged.
-  pub record RecordRejected (old : PerfRecordIter R) (file : PerfFile) (head : PerfEventHeader) (e : Error) (new : PerfRecordIter R) (file' : PerfFile) : Type 0 where
+  pub record RecordRejected (old : PerfRecordIter R) (file : PerfFile) (header : PerfEventHeader) (e : Error) (new : PerfRecordIter R) (file' : PerfFile) : Type 0 where
     pub same_but_lookup : SameButLookup old new
     pub in_pipe : section_size_of old ≡ None
-    pub metadata_type : IsMetadataType head.type_
+    pub metadata_type : IsMetadataType header.type_
     pub same_file : SamePerfFile file file'
     pub not_failed : e ≢ error.Failed
-    pub if_out_of_memory : e ≡ error.Memory → SameAttributeCount old.endian old.attribute_lookup file × HasValidMetadata old.endian head.type_ old.body.items
-    pub cause : e ≢ error.Memory → RejectsMetadata old.endian old.attribute_lookup file head.type_ old.body.items e
+    pub if_out_of_memory : e ≡ error.Memory → SameAttributeCount old.endian old.attribute_lookup file × HasValidMetadata old.endian header.type_ old.body.items
+    pub cause : e ≢ error.Memory → RejectsMetadata old.endian old.attribute_lookup file header.type_ old.body.items e
 
   abbrev pub ProcessesRecord : PerfRecordIter R → PerfFile → ℕ → ℕ → PerfEventHeader → Result RecordInfo Error → PerfRecordIter R → PerfFile → Type 0
-  ProcessesRecord old file offset round head (Ok found) new file' = RecordProcessed old file offset round head found new file'
-  ProcessesRecord old file offset round head (Err e) new file' = RecordRejected old file head e new file'
+  ProcessesRecord old file offset round header (Ok found) new file' = RecordProcessed old file offset round header found new file'
+  ProcessesRecord old file offset round header (Err e) new file' = RecordRejected old file header e new file'
 
   -- A record was returned.
   pub record ReturnsRecord (old : PerfRecordIter R) (file : PerfFile) (h : RecordView) (new : PerfRecordIter R) (file' : PerfFile) : Type 0 where
@@ -263,29 +264,29 @@ module _ {R : Type 0} (state : R → State) where
     pub if_running : old.stage ≡ Running → ReachesEnd old new
     pub file_unchanged : file' ≡ file
 
-  -- The metadata record in `came` is complete, but the `PerfFile` belongs to another input. Either its attribute count differs
+  -- The metadata record in `consumed` is complete, but the `PerfFile` belongs to another input. Either its attribute count differs
   -- from the input's, or the count matches and it has an EVENT_DESC that can't be read.
-  pub record IsMismatchedPerfFile (old : PerfRecordIter R) (file : PerfFile) (came : List ℕ) (e : Error) : Type 0 where
+  pub record IsMismatchedPerfFile (old : PerfRecordIter R) (file : PerfFile) (consumed : List ℕ) (e : Error) : Type 0 where
     pub in_pipe : section_size_of old ≡ None
-    pub is_record : IsRecord old.endian came
-    pub metadata_type : IsMetadataType (record_type_of old.endian came)
+    pub is_record : IsRecord old.endian consumed
+    pub metadata_type : IsMetadataType (record_type_of old.endian consumed)
     pub cause : (IsInvalidInput e × ((attrs : List Attribute) → Represents old.endian old.attribute_lookup attrs → length (descriptions_of_file file) ≢ length attrs))
-        ⊎ (SameAttributeCount old.endian old.attribute_lookup file × (record_type_of old.endian came ≡ 64) × HoldsAttribute old.endian (drop 8 came) × ((bytes : List ℕ) × (feature_data_in_file file event_desc ≡ Some bytes) × IsEventDescError (number_in old.endian) e bytes))
+        ⊎ (SameAttributeCount old.endian old.attribute_lookup file × (record_type_of old.endian consumed ≡ header_attr) × HoldsAttribute old.endian (drop 8 consumed) × ((bytes : List ℕ) × (feature_data_in_file file event_desc ≡ Some bytes) × IsEventDescError (number_in old.endian) e bytes))
 
   -- The cause of an error. It is a layout error whose earlier checks the `PerfFile` passes, or a source error. Or the `PerfFile`
   -- belongs to another input, and the record is complete and ends below 2^64.
   abbrev pub IsErrorCause : PerfRecordIter R → PerfFile → List ℕ → Error → PerfRecordIter R → Type 0
-  IsErrorCause old file came e new =
+  IsErrorCause old file consumed e new =
       IfSome (iter_source_state old).bytes (λ bytes. (f : LayoutError) × ((attrs : List Attribute) → Represents old.endian old.attribute_lookup attrs
       → RemainingRecords old.endian bytes (section_size_of old) old.offset old.round attrs [] (ends_with_error f)) × PassesEarlierChecks old.endian old.attribute_lookup file f × IsErrorFor f e)
-      ⊎ (SourceErrorInRecord old.endian (section_size_of old) (iter_source_state old) came e (iter_source_state new)
-      ⊎ (IsMismatchedPerfFile old file came e × (new.offset + length came < 2 ^ 64)))
+      ⊎ (SourceErrorInRecord old.endian (section_size_of old) (iter_source_state old) consumed e (iter_source_state new)
+      ⊎ (IsMismatchedPerfFile old file consumed e × (new.offset + length consumed < 2 ^ 64)))
 
-  -- Memory ran out for a record with the bytes `came`. Either its body or aux data wasn't read in full, or, in a pipe, its
+  -- Memory ran out for a record with the bytes `consumed`. Either its body or aux data wasn't read in full, or, in a pipe, its
   -- metadata is complete and valid, and the attribute count of the `PerfFile` matches the input's.
   abbrev pub NeedsMemoryFor : PerfRecordIter R → PerfFile → List ℕ → Type 0
-  NeedsMemoryFor old file came = MayNeedMemory old.endian came × (IsTruncatedAfterHeader old.endian came
-      ⊎ ((section_size_of old ≡ None) × IsRecord old.endian came × SameAttributeCount old.endian old.attribute_lookup file × HasValidMetadata old.endian (record_type_of old.endian came) (drop 8 came)))
+  NeedsMemoryFor old file consumed = MayNeedMemory old.endian consumed × (IsTruncatedAfterHeader old.endian consumed
+      ⊎ ((section_size_of old ≡ None) × IsRecord old.endian consumed × SameAttributeCount old.endian old.attribute_lookup file × HasValidMetadata old.endian (record_type_of old.endian consumed) (drop 8 consumed)))
 
   -- A running iterator failed. It skipped the markers. The record after them starts where one may. `consumed_bytes` of it were
   -- consumed, and no byte after it.
@@ -325,7 +326,7 @@ module _ {R : Type 0} (state : R → State) where
   -- The result of a call, and the iterator after the loan of the record ends. The iterator keeps its source, and reads no further
   -- after an empty read.
   abbrev pub NextRecord : (R → ℕ) → PerfRecordIter R → PerfFile → Result (Option (RecordPlace × PerfFileRecord)) Error → PerfRecordIter R → PerfFile → Type 0
-  NextRecord lent old file r new file' = ReturnsNext old file r new file' × (lent new.source ≡ lent old.source) × PausesOnlyAtEndOrError (state old.source) r (state new.source)
+  NextRecord loan old file r new file' = ReturnsNext old file r new file' × (loan new.source ≡ loan old.source) × PausesOnlyAtEndOrError (state old.source) r (state new.source)
 
   -- Calls between the two iterators returned these records.
   pub record ReadSoFar (old : PerfRecordIter R) (records : List RecordView) (now : PerfRecordIter R) : Type 0 where

@@ -6,6 +6,7 @@ use Rattle.perfdata_base.specs.Features.{InsertsFeature}
 use Rattle.perfdata_base.specs.Endian.{number_in}
 use Rattle.perfdata_base.specs.declared.raw.Endianness.{Endianness}
 use Rattle.perfdata_sections.specs.EventDesc.{IsEventDescError}
+use Rattle.perfdata_sections.specs.RecordTypes.{header_attr, header_feature}
 use Rattle.perfdata_sections.specs.declared.error.Error.{Error}
 use Rattle.perfdata_sections.specs.declared.error.Error.TheVariants.{Memory}
 use Rattle.linux_perf_data.specs.declared.attributes.lookup.AttributeLookup.{AttributeLookup}
@@ -13,7 +14,8 @@ use Rattle.linux_perf_data.specs.Attribute.{Attribute, HoldsAttribute, attribute
 use Rattle.linux_perf_data.specs.AttributeLookup.{Represents}
 use Rattle.linux_perf_data.specs.LateMetadata.{SamePerfFile, IsMetadataError}
 use Rattle.linux_perf_data.specs.NameTable.{HasTableWithEndian, IsTableOf, name_from_table, names_from_table}
-use Rattle.linux_perf_data.specs.Names.{IsReadableOrAbsent, NamedByEventDesc, event_desc, feature_in_body, name_bytes_of}
+use Rattle.linux_perf_data.specs.FeatureNumbers.{event_desc}
+use Rattle.linux_perf_data.specs.Names.{IsReadableOrAbsent, NamedByEventDesc, feature_in_body, name_bytes_of}
 use Rattle.linux_perf_data.specs.Consistency.{error_of_inconsistency}
 use Rattle.linux_perf_data.specs.PerfFile.{descriptions_of_file, features_of_file, endian_of_file, feature_data_in_file, attributes_of_file}
 use Rattle.linux_perf_data.specs.declared.pipe.late_metadata.LateNames.{LateNames}
@@ -87,28 +89,28 @@ ReplacesFeature old feature bytes (Err e) new = UnchangedOutOfMemory old e new
 
 -- The EVENT_DESC is replaced, and it names all attributes. On error, the contents of the `PerfFile` are unchanged.
 abbrev pub ReplacesEventDesc : {A : Type 0} → Endianness → PerfFile → List ℕ → Result A Error → PerfFile → Type 0
-ReplacesEventDesc order old bytes (Ok _) new = FeatureReplaced old 12 bytes new × (attributes_of_file new ≡ attributes_of_file old) × NamedByEventDesc order (Some bytes) (descriptions_of_file new)
+ReplacesEventDesc order old bytes (Ok _) new = FeatureReplaced old event_desc bytes new × (attributes_of_file new ≡ attributes_of_file old) × NamedByEventDesc order (Some bytes) (descriptions_of_file new)
 ReplacesEventDesc order old bytes (Err e) new = SamePerfFile old new × (e ≢ Memory → IsEventDescError (number_in order) e bytes)
 
 module _ (order : Endianness) where
   -- A late attribute was applied.
-  pub record AttributeApplied (known : AttributeLookup) (old : PerfFile) (body : List ℕ) (known' : AttributeLookup) (new : PerfFile) : Type 0 where
+  pub record AttributeApplied (lookup : AttributeLookup) (old : PerfFile) (body : List ℕ) (lookup' : AttributeLookup) (new : PerfFile) : Type 0 where
     pub valid_attribute : HoldsAttribute order body
-    pub represents : (attrs : List Attribute) → Represents order known attrs → Represents order known' (attrs ++ attribute_in order body ∷ [])
+    pub represents : (attrs : List Attribute) → Represents order lookup attrs → Represents order lookup' (attrs ++ attribute_in order body ∷ [])
     pub sections : SameButAttributes old new
     pub attributes : attributes_of_file new ≡ attributes_of_file old ++ attribute_in order body ∷ []
     pub names_match : NamedByEventDesc order (feature_data_in_file old event_desc) (descriptions_of_file new)
 
   -- The cause of the error: the attribute is invalid, EVENT_DESC can't be read, or it can and the attributes are inconsistent.
   abbrev pub IsAttributeError : AttributeLookup → PerfFile → List ℕ → Error → Type 0
-  IsAttributeError known old body e =
-      IsMetadataError order 64 body e
+  IsAttributeError lookup old body e =
+      IsMetadataError order header_attr body e
       ⊎ ((HoldsAttribute order body × ((bytes : List ℕ) × (feature_data_in_file old event_desc ≡ Some bytes) × IsEventDescError (number_in order) e bytes))
-      ⊎ ((b : Inconsistency) × HoldsAttribute order body × IsReadableOrAbsent order (feature_data_in_file old event_desc) × (e ≡ error_of_inconsistency b) × ((attrs : List Attribute) → Represents order known attrs → AreInconsistent (attrs ++ attribute_in order body ∷ []) b)))
+      ⊎ ((b : Inconsistency) × HoldsAttribute order body × IsReadableOrAbsent order (feature_data_in_file old event_desc) × (e ≡ error_of_inconsistency b) × ((attrs : List Attribute) → Represents order lookup attrs → AreInconsistent (attrs ++ attribute_in order body ∷ []) b)))
 
   abbrev pub AppliesAttribute : {A : Type 0} → AttributeLookup → PerfFile → List ℕ → Result A Error → AttributeLookup → PerfFile → Type 0
-  AppliesAttribute known old body (Ok _) known' new = AttributeApplied known old body known' new
-  AppliesAttribute known old body (Err e) known' new = SamePerfFile old new × (e ≡ Memory → HoldsAttribute order body) × (e ≢ Memory → IsAttributeError known old body e)
+  AppliesAttribute lookup old body (Ok _) lookup' new = AttributeApplied lookup old body lookup' new
+  AppliesAttribute lookup old body (Err e) lookup' new = SamePerfFile old new × (e ≡ Memory → HoldsAttribute order body) × (e ≢ Memory → IsAttributeError lookup old body e)
 
   -- A late feature was applied.
   pub record FeatureApplied (old : PerfFile) (body : List ℕ) (new : PerfFile) : Type 0 where
@@ -120,7 +122,7 @@ module _ (order : Endianness) where
 
   -- The cause of the error: the feature is invalid, or it is an EVENT_DESC that can't be read.
   abbrev pub IsFeatureError : List ℕ → Error → Type 0
-  IsFeatureError body e = IsMetadataError order 80 body e ⊎ ((8 ≤ length body) × (feature_in_body order body ≡ event_desc) × IsEventDescError (number_in order) e (drop 8 body))
+  IsFeatureError body e = IsMetadataError order header_feature body e ⊎ ((8 ≤ length body) × (feature_in_body order body ≡ event_desc) × IsEventDescError (number_in order) e (drop 8 body))
 
   abbrev pub AppliesFeature : {A : Type 0} → PerfFile → List ℕ → Result A Error → PerfFile → Type 0
   AppliesFeature old body (Ok _) new = FeatureApplied old body new

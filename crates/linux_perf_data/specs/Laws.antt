@@ -11,6 +11,7 @@ use Rattle.perfdata_sections.specs.AttributeDescription.{name_in, ids_in, events
 use Rattle.perfdata_records.specs.Auxtrace.{HoldsAuxtrace}
 use Rattle.perfdata_sections.specs.Error.{IsUnexpectedEof, IsInvalidInput, IsInvalidData}
 use Rattle.perfdata_sections.specs.EventDesc.{IsEventDescError}
+use Rattle.perfdata_sections.specs.RecordTypes.{auxtrace, finished_round}
 use Rattle.perfdata_sections.specs.declared.error.Error.{Error}
 use Rattle.perfdata_sections.specs.declared.error.Error.TheVariants.{UnrecognizedMagicValue}
 use Rattle.perfdata_sections.specs.declared.feature_sections.AttributeDescription.{AttributeDescription}
@@ -59,7 +60,7 @@ LayoutIsUnique = (order : Endianness) (bytes : List ℕ) (bound : SectionSize) (
 -- All bytes have a layout, if the attributes before are consistent.
 abbrev pub LayoutExists : Type 0
 LayoutExists = (order : Endianness) (bytes : List ℕ) (bound : SectionSize) (offset : ℕ) (attrs : List Attribute) →
-    offset < 2 ^ 64 → AreConsistent attrs → (pieces : List (List ℕ)) × ((end : LayoutEnd) × Layout order bytes bound offset attrs pieces end)
+    offset < 2 ^ 64 → AreConsistent attrs → (raw_records : List (List ℕ)) × ((end : LayoutEnd) × Layout order bytes bound offset attrs raw_records end)
 
 -- The remaining records and their end are unique.
 abbrev pub RemainingRecordsAreUnique : Type 0
@@ -72,34 +73,34 @@ FollowsRecord h later = (h.offset < later.offset) × (h.round ≤ later.round)
 
 -- Offsets increase strictly and rounds don't decrease. None is below the start.
 abbrev pub OffsetsIncrease : Type 0
-OffsetsIncrease = (order : Endianness) (bound : SectionSize) (offset round : ℕ) (attrs : List Attribute) (pieces : List (List ℕ)) → All (IsRecord order) pieces →
-    AllPairs FollowsRecord (record_views order bound offset round attrs pieces) × All (λ h. (offset ≤ h.offset) × (round ≤ h.round)) (record_views order bound offset round attrs pieces)
+OffsetsIncrease = (order : Endianness) (bound : SectionSize) (offset round : ℕ) (attrs : List Attribute) (raw_records : List (List ℕ)) → All (IsRecord order) raw_records →
+    AllPairs FollowsRecord (record_views order bound offset round attrs raw_records) × All (λ h. (offset ≤ h.offset) × (round ≤ h.round)) (record_views order bound offset round attrs raw_records)
 
 -- The number of markers in the raw records.
 abbrev pub marker_count : Endianness → List (List ℕ) → ℕ
-marker_count order pieces = count_by (λ p. record_type_of order p == 68) pieces
+marker_count order raw_records = count_by (λ p. record_type_of order p == finished_round) raw_records
 
 -- The view of a raw record after others: its offset and its round count them, and their attributes precede it.
 abbrev pub record_view_after : Endianness → SectionSize → ℕ → ℕ → List Attribute → List (List ℕ) → List ℕ → RecordView
-record_view_after order bound offset round attrs front p =
-    record_view_in order (offset + length (concat front)) (round + marker_count order front) (attrs ++ attributes_in_records order bound front) p
+record_view_after order bound offset round attrs earlier p =
+    record_view_in order (offset + length (concat earlier)) (round + marker_count order earlier) (attrs ++ attributes_in_records order bound earlier) p
 
 -- Each raw record that isn't a marker is returned, with its offset and its round.
 abbrev pub OffsetAndRoundOfRecord : Type 0
-OffsetAndRoundOfRecord = (order : Endianness) (bound : SectionSize) (offset round : ℕ) (attrs : List Attribute) (front back : List (List ℕ)) (p : List ℕ) → record_type_of order p ≢ 68 →
-    record_views order bound offset round attrs (front ++ p ∷ back)
-    ≡ record_views order bound offset round attrs front
-    ++ record_view_after order bound offset round attrs front p
-    ∷ record_views order bound (offset + length (concat front) + length p) (round + marker_count order front) ((attrs ++ attributes_in_records order bound front) ++ attributes_in_record order bound (record_type_of order p) (drop 8 p)) back
+OffsetAndRoundOfRecord = (order : Endianness) (bound : SectionSize) (offset round : ℕ) (attrs : List Attribute) (earlier later : List (List ℕ)) (p : List ℕ) → record_type_of order p ≢ finished_round →
+    record_views order bound offset round attrs (earlier ++ p ∷ later)
+    ≡ record_views order bound offset round attrs earlier
+    ++ record_view_after order bound offset round attrs earlier p
+    ∷ record_views order bound (offset + length (concat earlier) + length p) (round + marker_count order earlier) ((attrs ++ attributes_in_records order bound earlier) ++ attributes_in_record order bound (record_type_of order p) (drop 8 p)) later
 
 -- The attributes in the raw records are those in the returned records.
 abbrev pub MarkersAddNoAttributes : Type 0
-MarkersAddNoAttributes = (order : Endianness) (bound : SectionSize) (offset round : ℕ) (attrs : List Attribute) (pieces : List (List ℕ)) →
-    attributes_in_views order bound (record_views order bound offset round attrs pieces) ≡ attributes_in_records order bound pieces
+MarkersAddNoAttributes = (order : Endianness) (bound : SectionSize) (offset round : ℕ) (attrs : List Attribute) (raw_records : List (List ℕ)) →
+    attributes_in_views order bound (record_views order bound offset round attrs raw_records) ≡ attributes_in_records order bound raw_records
 
--- If the header of a record of type 71 gives a size of 48, without the aux data, its body is that of an auxtrace record.
+-- If the header of a record AUXTRACE gives a size of 48, without the aux data, its body is that of an auxtrace record.
 abbrev pub AuxtracesParse : Type 0
-AuxtracesParse = (order : Endianness) (offset round : ℕ) (attrs : List Attribute) (p : List ℕ) → IsRecord order p → record_type_of order p ≡ 71 → record_size_of order p ≡ 48 →
+AuxtracesParse = (order : Endianness) (offset round : ℕ) (attrs : List Attribute) (p : List ℕ) → IsRecord order p → record_type_of order p ≡ auxtrace → record_size_of order p ≡ 48 →
     HoldsAuxtrace (number_in order) (record_view_in order offset round attrs p).body
 
 -- An EVENT_DESC with an error can't be read.
@@ -113,13 +114,13 @@ NamesAreUnique = (order : Endianness) (desc : Option (List ℕ)) (ds es : List A
 
 -- The metadata records of a pipe's opening are unique, if no metadata record follows them.
 abbrev pub PipeOpeningIsUnique : Type 0
-PipeOpeningIsUnique = (order : Endianness) (ps qs : List (List ℕ)) (behind later : List ℕ) → AreMetadata order ps → AreMetadata order qs → EndsMetadata order behind → EndsMetadata order later →
-    concat ps ++ behind ≡ concat qs ++ later → (ps ≡ qs) × (behind ≡ later)
+PipeOpeningIsUnique = (order : Endianness) (ps qs : List (List ℕ)) (rest later : List ℕ) → AreMetadata order ps → AreMetadata order qs → EndsMetadata order rest → EndsMetadata order later →
+    concat ps ++ rest ≡ concat qs ++ later → (ps ≡ qs) × (rest ≡ later)
 
 -- A pipe whose metadata can open it has no error.
 abbrev pub DescribedPipeOpens : Type 0
-DescribedPipeOpens = (order : Endianness) (header : List ℕ) (ps : List (List ℕ)) (behind : List ℕ) (e : Error) → IsPipeHeader order header → AreMetadata order ps → EndsMetadata order behind → CanOpenPipe order ps →
-    ¬ IsPipeError (header ++ (concat ps ++ behind)) e
+DescribedPipeOpens = (order : Endianness) (header : List ℕ) (ps : List (List ℕ)) (rest : List ℕ) (e : Error) → IsPipeHeader order header → AreMetadata order ps → EndsMetadata order rest → CanOpenPipe order ps →
+    ¬ IsPipeError (header ++ (concat ps ++ rest)) e
 
 -- A file whose bytes describe it has no error.
 abbrev pub DescribedFileOpens : Type 0

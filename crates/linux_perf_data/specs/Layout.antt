@@ -5,7 +5,9 @@ use Rattle.perfdata_base.specs.Endian.{number_in}
 use Rattle.perfdata_base.specs.declared.raw.Endianness.{Endianness}
 use Rattle.perfdata_base.specs.Attr.{IsTruncatedAttr, IsTooSmall}
 use Rattle.perfdata_records.specs.HeaderAttr.{HasTruncatedId}
-use Rattle.linux_perf_data.specs.Names.{IsReadableEventDesc, event_desc, feature_in_body}
+use Rattle.perfdata_sections.specs.RecordTypes.{header_attr, finished_round, auxtrace, header_feature, compressed_type, compressed2_type}
+use Rattle.linux_perf_data.specs.FeatureNumbers.{event_desc}
+use Rattle.linux_perf_data.specs.Names.{IsReadableEventDesc, feature_in_body}
 use Rattle.linux_perf_data.specs.Attribute.{Attribute, EventRef, AreConsistent, Inconsistency, AreInconsistent, HoldsAttribute, attribute_in, event_of, event_time}
 
 -- The size of the section that contains the records; `None` in a pipe, whose records may contain metadata.
@@ -19,7 +21,7 @@ MayStartAt (Some size) offset = offset < size
 
 -- The types of compressed records.
 abbrev pub IsCompressed : ℕ → Type 0
-IsCompressed kind = (kind ≡ 81) ⊎ (kind ≡ 83)
+IsCompressed kind = (kind ≡ compressed_type) ⊎ (kind ≡ compressed2_type)
 
 -- How the metadata in a pipe's record is invalid: it is truncated, or its attribute's own size is below 64.
 pub data MetadataError : Type 0 where
@@ -95,19 +97,19 @@ module _ (order : Endianness) where
 
   -- The total size of a record, including its aux data.
   abbrev pub total_size_of : List ℕ → ℕ
-  total_size_of p = if record_type_of p == 71 then record_size_of p + aux_size_of p else record_size_of p
+  total_size_of p = if record_type_of p == auxtrace then record_size_of p + aux_size_of p else record_size_of p
 
   -- A whole record with its aux data.
   pub record IsRecord (p : List ℕ) : Type 0 where
     pub min_size : 8 ≤ record_size_of p
     pub not_compressed : ¬ IsCompressed (record_type_of p)
-    pub aux_min_size : record_type_of p ≡ 71 → 48 ≤ record_size_of p
+    pub aux_min_size : record_type_of p ≡ auxtrace → 48 ≤ record_size_of p
     pub exact_len : length p ≡ total_size_of p
 
   -- These raw records are markers (type 68). The first is at this offset, and each starts where a record may.
   abbrev pub AreMarkerRecords : SectionSize → ℕ → List (List ℕ) → Type 0
   AreMarkerRecords bound offset [] = Unit {0}
-  AreMarkerRecords bound offset (p ∷ ps) = MayStartAt bound offset × IsRecord p × (record_type_of p ≡ 68) × AreMarkerRecords bound (offset + length p) ps
+  AreMarkerRecords bound offset (p ∷ ps) = MayStartAt bound offset × IsRecord p × (record_type_of p ≡ finished_round) × AreMarkerRecords bound (offset + length p) ps
 
   -- The bytes from `offset` on are markers only.
   pub record ConsistsOfMarkers (bound : SectionSize) (offset : ℕ) (bytes : List ℕ) : Type 0 where
@@ -117,7 +119,7 @@ module _ (order : Endianness) where
 
   -- The attributes in a record of this type; none in a file.
   abbrev pub attributes_in_record : SectionSize → ℕ → List ℕ → List Attribute
-  attributes_in_record None kind body = if kind == 64 then attribute_in order body ∷ [] else []
+  attributes_in_record None kind body = if kind == header_attr then attribute_in order body ∷ [] else []
   attributes_in_record (Some size) kind body = []
 
   -- The attributes in the raw records, in order.
@@ -128,9 +130,9 @@ module _ (order : Endianness) where
   -- A whole record. In a pipe, a metadata record also contains valid metadata of its type.
   pub record IsValidRecord (bound : SectionSize) (p : List ℕ) : Type 0 where
     pub is_record : IsRecord p
-    pub valid_attribute : bound ≡ None → record_type_of p ≡ 64 → HoldsAttribute order (drop 8 p)
-    pub valid_feature : bound ≡ None → record_type_of p ≡ 80 → 8 ≤ length (drop 8 p)
-    pub valid_event_desc : bound ≡ None → record_type_of p ≡ 80 → feature_in_body order (drop 8 p) ≡ event_desc → IsReadableEventDesc order (drop 16 p)
+    pub valid_attribute : bound ≡ None → record_type_of p ≡ header_attr → HoldsAttribute order (drop 8 p)
+    pub valid_feature : bound ≡ None → record_type_of p ≡ header_feature → 8 ≤ length (drop 8 p)
+    pub valid_event_desc : bound ≡ None → record_type_of p ≡ header_feature → feature_in_body order (drop 8 p) ≡ event_desc → IsReadableEventDesc order (drop 16 p)
 
   -- `rest` starts with the whole record `p`, which ends below 2^64.
   pub record StartsWithRecord (offset : ℕ) (rest p : List ℕ) : Type 0 where
@@ -145,12 +147,12 @@ module _ (order : Endianness) where
 
   -- How the metadata in a pipe's record is invalid.
   abbrev pub HasInvalidMetadata : MetadataError → List ℕ → Type 0
-  HasInvalidMetadata truncated_metadata p = ((record_type_of p ≡ 64) × IsTruncatedAttribute (drop 8 p)) ⊎ ((record_type_of p ≡ 80) × (length (drop 8 p) < 8))
-  HasInvalidMetadata attr_size_too_small p = (record_type_of p ≡ 64) × IsTooSmall (number_in order) (drop 8 p)
+  HasInvalidMetadata truncated_metadata p = ((record_type_of p ≡ header_attr) × IsTruncatedAttribute (drop 8 p)) ⊎ ((record_type_of p ≡ header_feature) × (length (drop 8 p) < 8))
+  HasInvalidMetadata attr_size_too_small p = (record_type_of p ≡ header_attr) × IsTooSmall (number_in order) (drop 8 p)
 
   -- The record has type 80 and the feature EVENT_DESC, and its data `bytes` can't be read.
   pub record HasInvalidEventDesc (bytes p : List ℕ) : Type 0 where
-    pub record_type : record_type_of p ≡ 80
+    pub record_type : record_type_of p ≡ header_feature
     pub complete : 8 ≤ length (drop 8 p)
     pub matches : feature_in_body order (drop 8 p) ≡ event_desc
     pub data_bytes : bytes ≡ drop 16 p
@@ -170,7 +172,7 @@ module _ (order : Endianness) where
   -- The body of a record of type 71 is complete, and contains the size of its aux data.
   pub record HasAuxSize (offset : ℕ) (rest : List ℕ) : Type 0 where
     pub complete_body : HasCompleteBody offset rest
-    pub record_type : record_type_of rest ≡ 71
+    pub record_type : record_type_of rest ≡ auxtrace
     pub min_size : 48 ≤ record_size_of rest
 
   -- The error of the bytes at an offset, after the attributes `attrs`: that of the first check that fails.
@@ -180,7 +182,7 @@ module _ (order : Endianness) where
   ErrorAt bound offset attrs rest end_overflows = (8 ≤ length rest) × (8 ≤ record_size_of rest) × (2 ^ 64 ≤ offset + record_size_of rest)
   ErrorAt bound offset attrs rest truncated_body = (bound ≢ None) × HasRecordHeader offset rest × (length rest < record_size_of rest)
   ErrorAt bound offset attrs rest compressed_record = HasCompleteBody offset rest × IsCompressed (record_type_of rest)
-  ErrorAt bound offset attrs rest aux_body_too_short = HasCompleteBody offset rest × (record_type_of rest ≡ 71) × (record_size_of rest < 48)
+  ErrorAt bound offset attrs rest aux_body_too_short = HasCompleteBody offset rest × (record_type_of rest ≡ auxtrace) × (record_size_of rest < 48)
   ErrorAt bound offset attrs rest aux_end_overflows = HasAuxSize offset rest × (2 ^ 64 ≤ offset + total_size_of rest)
   ErrorAt bound offset attrs rest truncated_aux_data = HasAuxSize offset rest × (offset + total_size_of rest < 2 ^ 64) × (length rest < total_size_of rest)
   ErrorAt bound offset attrs rest (invalid_metadata why) = (bound ≡ None) × ((p : List ℕ) × StartsWithRecord offset rest p × HasInvalidMetadata why p)
@@ -233,7 +235,7 @@ module _ (order : Endianness) where
   -- attributes before it.
   abbrev pub record_views : SectionSize → ℕ → ℕ → List Attribute → List (List ℕ) → List RecordView
   record_views bound offset round attrs [] = []
-  record_views bound offset round attrs (p ∷ ps) = if record_type_of p == 68
+  record_views bound offset round attrs (p ∷ ps) = if record_type_of p == finished_round
       then record_views bound (offset + length p) (round + 1) (attrs ++ attributes_in_record bound (record_type_of p) (drop 8 p)) ps
       else record_view_in offset round attrs p ∷ record_views bound (offset + length p) round (attrs ++ attributes_in_record bound (record_type_of p) (drop 8 p)) ps
 

@@ -21,8 +21,8 @@ names_from_table t ds = map (λ d. name_from_table t (ids_in d)) ds
 
 -- The descriptions in an EVENT_DESC; none if the section is absent.
 abbrev pub IsEventDescList : Endianness → Option (List ℕ) → List AttributeDescription → Type 0
-IsEventDescList order None told = told ≡ []
-IsEventDescList order (Some bytes) told = DescribesByEventDesc (number_in order) bytes told
+IsEventDescList order None events = events ≡ []
+IsEventDescList order (Some bytes) events = DescribesByEventDesc (number_in order) bytes events
 
 -- The table was parsed from this EVENT_DESC, in the table's byte order.
 abbrev pub IsTableOf : NameTable → Option (List ℕ) → Type 0
@@ -32,18 +32,18 @@ IsTableOf t desc = IsEventDescList t.endian desc t.events.items
 
 -- The names of all attributes are those in the table.
 abbrev pub TableNamesAll : Option NameTable → List AttributeDescription → Type 0
-TableNamesAll kept ds = (t : NameTable) → kept ≡ Some t → NamedBy t.events.items ds
+TableNamesAll table ds = (t : NameTable) → table ≡ Some t → NamedBy t.events.items ds
 
 -- The table matches EVENT_DESC. If the section is absent, the table has no events. If it is present, it can be read, and the
 -- table has its events.
 abbrev pub TableEmptyWithoutEventDesc : Option NameTable → Option (List ℕ) → Type 0
-TableEmptyWithoutEventDesc kept desc = (t : NameTable) → kept ≡ Some t → desc ≡ None → length t.events.items ≡ 0
+TableEmptyWithoutEventDesc table desc = (t : NameTable) → table ≡ Some t → desc ≡ None → length t.events.items ≡ 0
 
 abbrev pub TableIsReadable : Option NameTable → Option (List ℕ) → Type 0
-TableIsReadable kept desc = (t : NameTable) (bytes : List ℕ) → kept ≡ Some t → desc ≡ Some bytes → ¬ ¬ IsReadableEventDesc t.endian bytes
+TableIsReadable table desc = (t : NameTable) (bytes : List ℕ) → table ≡ Some t → desc ≡ Some bytes → ¬ ¬ IsReadableEventDesc t.endian bytes
 
 abbrev pub TableHasEvents : Option NameTable → Option (List ℕ) → Type 0
-TableHasEvents kept desc = (t : NameTable) (bytes : List ℕ) (es : List DescribedEvent) → kept ≡ Some t → desc ≡ Some bytes → BeginsWithEventDesc (number_in t.endian) bytes es → events_in t.events.items ≡ es
+TableHasEvents table desc = (t : NameTable) (bytes : List ℕ) (es : List DescribedEvent) → table ≡ Some t → desc ≡ Some bytes → BeginsWithEventDesc (number_in t.endian) bytes es → events_in t.events.items ≡ es
 
 -- ---- operations on a table
 

@@ -10,10 +10,6 @@ use Rattle.perfdata_sections.specs.declared.error.Error.{Error}
 use Rattle.perfdata_sections.specs.declared.error.Error.TheVariants.{Memory}
 use Rattle.perfdata_sections.specs.declared.feature_sections.AttributeDescription.{AttributeDescription}
 
--- The feature number of EVENT_DESC.
-abbrev pub event_desc : ℕ
-event_desc = 12
-
 -- The feature of a record of type 80 with this body: the low 32 bits of its first u64 field. The feature's data follows that
 -- field.
 abbrev pub feature_in_body : Endianness → List ℕ → ℕ
@@ -21,7 +17,7 @@ feature_in_body order body = number_in order 8 body % 2 ^ 32
 
 -- The bytes start with an EVENT_DESC that can be read.
 abbrev pub IsReadableEventDesc : Endianness → List ℕ → Type 0
-IsReadableEventDesc order bytes = (told : List DescribedEvent) × BeginsWithEventDesc (number_in order) bytes told
+IsReadableEventDesc order bytes = (events : List DescribedEvent) × BeginsWithEventDesc (number_in order) bytes events
 
 -- The EVENT_DESC is absent, or it can be read.
 abbrev pub IsReadableOrAbsent : Endianness → Option (List ℕ) → Type 0
@@ -41,12 +37,12 @@ name_by_first_id (d ∷ ds) ids = if same_first_id (ids_in d) ids then name_in d
 
 -- Each attribute has the name that these descriptions give it.
 abbrev pub NamedBy : List AttributeDescription → List AttributeDescription → Type 0
-NamedBy told ds = All (λ d. name_in d ≡ name_by_first_id told (ids_in d)) ds
+NamedBy events ds = All (λ d. name_in d ≡ name_by_first_id events (ids_in d)) ds
 
 -- Each attribute has the name that the EVENT_DESC with these bytes gives it, and none if the section is absent.
 abbrev pub NamedByEventDesc : Endianness → Option (List ℕ) → List AttributeDescription → Type 0
 NamedByEventDesc order None ds = NamedBy [] ds
-NamedByEventDesc order (Some bytes) ds = (told : List AttributeDescription) × DescribesByEventDesc (number_in order) bytes told × NamedBy told ds
+NamedByEventDesc order (Some bytes) ds = (events : List AttributeDescription) × DescribesByEventDesc (number_in order) bytes events × NamedBy events ds
 
 -- The names of attributes, and the bytes of copied names.
 abbrev pub names_in : List AttributeDescription → List (Option (List ℕ))

@@ -1,6 +1,7 @@
 -- The contracts of parsing a file: the reader on success, and the cause on error.
 use Rattle.std.specs.Prelude.{◌≡◌, ◌≢◌, ◌⊎◌, ℕ, List, drop, Result, Ok, Err, Some, IfSome}
 use Rattle.perfdata_base.specs.Source.{State, Position, AfterSeek}
+use Rattle.perfdata_base.specs.Section.{EndFitsU64}
 use Rattle.perfdata_base.specs.declared.raw.Endianness.{Endianness}
 use Rattle.perfdata_base.specs.declared.header.PerfHeader.{PerfHeader}
 use Rattle.perfdata_sections.specs.declared.error.Error.{Error}
@@ -17,7 +18,7 @@ use Rattle.linux_perf_data.specs.declared.records.input.Input.TheVariants.{Secti
 use Rattle.linux_perf_data.specs.Iter.{HasRemainingRecords, iter_source_state, section_size_of}
 use Rattle.linux_perf_data.specs.FeatureData.{feature_data_of}
 use Rattle.linux_perf_data.specs.PerfFile.{descriptions_of_file, features_of_file, endian_of_file, feature_data_in_file, attributes_of_file}
-use Rattle.linux_perf_data.specs.FileOpening.{IsFileHeader, DataEndFitsU64, HoldsSections, section_data, DescribesAttributes, IsFileError, SourceErrorInOpening}
+use Rattle.linux_perf_data.specs.FileOpening.{IsFileHeader, HoldsSections, section_data, DescribesAttributes, IsFileError, SourceErrorInOpening}
 
 -- The records of a file with this header, and how the layout of its data section ends.
 abbrev pub FileRecords : Position → Endianness → PerfHeader → List Attribute → List RecordView → LayoutEnd → Type 0
@@ -27,7 +28,7 @@ FileRecords p order h attrs records end = RemainingRecords order (drop h.data_se
 -- attributes, which are consistent.
 pub record DescribesFile (p : Position) (header : PerfHeader) (file : PerfFile) : Type 0 where
   pub matches : IsFileHeader p (endian_of_file file) header
-  pub end_fits : DataEndFitsU64 header
+  pub end_fits : EndFitsU64 header.data_section
   pub features : features_of_file file ≡ header.features
   pub sections_complete : HoldsSections (endian_of_file file) header p.all_bytes
   pub sections : (n : ℕ) → feature_data_in_file file n ≡ section_data (endian_of_file file) header p.all_bytes n

@@ -17,18 +17,19 @@ use Rattle.linux_perf_data.specs.FeatureData.{feature_data_of}
 use Rattle.linux_perf_data.specs.AttributeLookup.{Represents}
 use Rattle.linux_perf_data.specs.Layout.{attributes_in_records, record_type_of, record_size_of}
 use Rattle.linux_perf_data.specs.LateMetadata.{IsMetadataType}
-use Rattle.linux_perf_data.specs.Names.{NamedByEventDesc, event_desc}
+use Rattle.linux_perf_data.specs.FeatureNumbers.{event_desc}
+use Rattle.linux_perf_data.specs.Names.{NamedByEventDesc}
 use Rattle.linux_perf_data.specs.Iter.{iter_source_state, section_size_of}
 use Rattle.linux_perf_data.specs.PerfFile.{descriptions_of_file, features_of_file, endian_of_file, feature_data_in_file, attributes_of_file}
 use Rattle.linux_perf_data.specs.PipeOpening.{IsPipeHeader, AreMetadata, feature_data_in, FailsBy, IsPipeError}
 
 -- The `PerfFile` contains the metadata of these records: their attributes in order, named by the last EVENT_DESC, and the last
 -- data of each feature.
-pub record HoldsMetadata (order : Endianness) (pieces : List (List ℕ)) (file : PerfFile) : Type 0 where
+pub record HoldsMetadata (order : Endianness) (raw_records : List (List ℕ)) (file : PerfFile) : Type 0 where
   pub file_endian : endian_of_file file ≡ order
-  pub attributes : attributes_of_file file ≡ attributes_in_records order None pieces
-  pub feature_data : (n : ℕ) → feature_data_in_file file n ≡ feature_data_in order pieces n
-  pub features : (n : ℕ) → HasFeature (features_of_file file) n ↔ ((n < 256) × IsSome (feature_data_in order pieces n))
+  pub attributes : attributes_of_file file ≡ attributes_in_records order None raw_records
+  pub feature_data : (n : ℕ) → feature_data_in_file file n ≡ feature_data_in order raw_records n
+  pub features : (n : ℕ) → HasFeature (features_of_file file) n ↔ ((n < 256) × IsSome (feature_data_in order raw_records n))
   pub names_match : NamedByEventDesc order (feature_data_in_file file event_desc) (descriptions_of_file file)
 
 -- The source, with its position unspecified.
@@ -36,24 +37,24 @@ abbrev pub without_position : State → State
 without_position s = record { bytes = s.bytes; errors = s.errors; pauses = s.pauses; steady = s.steady; position = None }
 
 module _ {R : Type 0} (state : R → State) where
-  -- After `front`, the source returned the header of a record that isn't a metadata record. The iterator keeps it as pending
+  -- After `prefix`, the source returned the header of a record that isn't a metadata record. The iterator keeps it as pending
   -- header and starts with it.
-  pub record KeepsPendingHeader (old : State) (front : List ℕ) (it : PerfRecordIter R) : Type 0 where
+  pub record KeepsPendingHeader (old : State) (prefix : List ℕ) (it : PerfRecordIter R) : Type 0 where
     pub stage_running : it.stage ≡ Running
     pub header_bytes : List ℕ
     pub exact_len : length header_bytes ≡ 8
     pub min_size : 8 ≤ record_size_of it.endian header_bytes
     pub not_metadata : ¬ IsMetadataType (record_type_of it.endian header_bytes)
-    pub consumes_all : Consumed old (front ++ header_bytes) (state it.source)
-    pub consumes : Consumed (without_position old) front (iter_source_state state it)
+    pub consumes_all : Consumed old (prefix ++ header_bytes) (state it.source)
+    pub consumes : Consumed (without_position old) prefix (iter_source_state state it)
     pub consumes_header : Consumed (iter_source_state state it) header_bytes (without_position (state it.source))
 
-  -- After `front`, the source returned fewer bytes than a header has, and ended or paused. The iterator has ended.
-  pub record EndsInOpening (old : State) (front : List ℕ) (it : PerfRecordIter R) : Type 0 where
+  -- After `prefix`, the source returned fewer bytes than a header has, and ended or paused. The iterator has ended.
+  pub record EndsInOpening (old : State) (prefix : List ℕ) (it : PerfRecordIter R) : Type 0 where
     pub stage_ended : it.stage ≡ Ended
     pub last_bytes : List ℕ
     pub too_few : length last_bytes < 8
-    pub consumes_all : Consumed old (front ++ last_bytes) (state it.source)
+    pub consumes_all : Consumed old (prefix ++ last_bytes) (state it.source)
     pub ended_or_paused : EndedOrPaused old (state it.source)
 
   -- A pipe was opened. The consumed bytes are its header, the metadata records of its opening, and what ended them.
@@ -73,7 +74,7 @@ module _ {R : Type 0} (state : R → State) where
   -- The iterator after an opening. It is running if there is a pending header, and has ended otherwise.
   abbrev pub StageAfterOpening : Option (List ℕ) → PerfRecordIter R → Type 0
   StageAfterOpening None it = it.stage ≡ Ended
-  StageAfterOpening (Some head) it = it.stage ≡ Running
+  StageAfterOpening (Some header) it = it.stage ≡ Running
 
   pub record PipeReaderBuilt (source : R) (opening : PipeOpening) (r : PerfFileReader R) : Type 0 where
     pub same_source : r.record_iter.source ≡ source

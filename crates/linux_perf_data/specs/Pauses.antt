@@ -5,33 +5,39 @@ use Rattle.linux_perf_data.specs.declared.pipe.opening.NextInOpening.{NextInOpen
 use Rattle.linux_perf_data.specs.declared.pipe.opening.NextInOpening.TheVariants.{Record, End}
 use Rattle.linux_perf_data.specs.declared.pipe.pipe_opening.PipeOpening.{PipeOpening}
 
+abbrev pub NoPause : State → State → Type 0
+NoPause old new = new.pauses ≡ old.pauses
+
+abbrev pub AtMostOnePause : State → State → Type 0
+AtMostOnePause old new = new.pauses ≤ old.pauses + 1
+
 -- No pause if the call returns an item, at most one if it returns none.
 abbrev pub PausesOnlyAtEnd : {A : Type 0} → State → Option A → State → Type 0
-PausesOnlyAtEnd old (Some _) new = new.pauses ≡ old.pauses
-PausesOnlyAtEnd old None new = new.pauses ≤ old.pauses + 1
+PausesOnlyAtEnd old (Some _) new = NoPause old new
+PausesOnlyAtEnd old None new = AtMostOnePause old new
 
 -- The same for a call that can fail, which counts at most one pause on error.
 abbrev pub PausesOnlyAtEndOrError : {A E : Type 0} → State → Result (Option A) E → State → Type 0
 PausesOnlyAtEndOrError old (Ok next) new = PausesOnlyAtEnd old next new
-PausesOnlyAtEndOrError old (Err e) new = new.pauses ≤ old.pauses + 1
+PausesOnlyAtEndOrError old (Err e) new = AtMostOnePause old new
 
 -- No pause if all bytes were read, at most one otherwise.
 abbrev pub PausesOnlyIfTruncated : {E : Type 0} → State → Result Bool E → State → Type 0
-PausesOnlyIfTruncated old (Ok true) new = new.pauses ≡ old.pauses
-PausesOnlyIfTruncated old (Ok false) new = new.pauses ≤ old.pauses + 1
-PausesOnlyIfTruncated old (Err e) new = new.pauses ≤ old.pauses + 1
+PausesOnlyIfTruncated old (Ok true) new = NoPause old new
+PausesOnlyIfTruncated old (Ok false) new = AtMostOnePause old new
+PausesOnlyIfTruncated old (Err e) new = AtMostOnePause old new
 
 -- No pause if the call read a metadata record or a whole record header.
 abbrev pub PausesOnlyWithoutHeader : {E : Type 0} → State → Result NextInOpening E → State → Type 0
-PausesOnlyWithoutHeader old (Ok (Record end)) new = new.pauses ≡ old.pauses
+PausesOnlyWithoutHeader old (Ok (Record end)) new = NoPause old new
 PausesOnlyWithoutHeader old (Ok (End head)) new = PausesOnlyAtEnd old head new
-PausesOnlyWithoutHeader old (Err e) new = new.pauses ≤ old.pauses + 1
+PausesOnlyWithoutHeader old (Err e) new = AtMostOnePause old new
 
 -- No pause if a record header ends the metadata.
 abbrev pub PausesOnlyWithoutPendingHeader : {A B E : Type 0} → State → Result (A × Option B) E → State → Type 0
 PausesOnlyWithoutPendingHeader old (Ok r) new = PausesOnlyAtEnd old r.1 new
-PausesOnlyWithoutPendingHeader old (Err e) new = new.pauses ≤ old.pauses + 1
+PausesOnlyWithoutPendingHeader old (Err e) new = AtMostOnePause old new
 
 abbrev pub PausesOnlyInEndedOpening : {E : Type 0} → State → Result PipeOpening E → State → Type 0
 PausesOnlyInEndedOpening old (Ok opening) new = PausesOnlyAtEnd old opening.pending_header new
-PausesOnlyInEndedOpening old (Err e) new = new.pauses ≤ old.pauses + 1
+PausesOnlyInEndedOpening old (Err e) new = AtMostOnePause old new

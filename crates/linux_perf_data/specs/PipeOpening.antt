@@ -11,11 +11,13 @@ use Rattle.perfdata_sections.specs.EventDesc.{IsEventDescError}
 use Rattle.perfdata_sections.specs.declared.error.Error.{Error}
 use Rattle.perfdata_sections.specs.declared.error.Error.TheVariants.{Read, UnrecognizedMagicValue, InvalidPerfEventSize, NoAttributes, Memory}
 use Rattle.perfdata_sections.specs.declared.error.ReadError.TheVariants.{PerfEventData}
+use Rattle.perfdata_sections.specs.RecordTypes.{header_attr, header_feature}
 use Rattle.linux_perf_data.specs.Attribute.{Inconsistency, AreInconsistent, AreConsistent, HoldsAttribute}
 use Rattle.linux_perf_data.specs.Descriptions.{described_attributes}
 use Rattle.linux_perf_data.specs.LateMetadata.{IsMetadataType, IsMetadataError, features_in_record}
 use Rattle.linux_perf_data.specs.Layout.{IsRecord, StartsWithRecord, HasRecordHeader, attributes_in_records, record_type_of, record_size_of}
-use Rattle.linux_perf_data.specs.Names.{NamedByEventDesc, IsReadableEventDesc, event_desc}
+use Rattle.linux_perf_data.specs.FeatureNumbers.{event_desc}
+use Rattle.linux_perf_data.specs.Names.{NamedByEventDesc, IsReadableEventDesc}
 use Rattle.linux_perf_data.specs.FileOpening.{magic_of}
 use Rattle.linux_perf_data.specs.Consistency.{error_of_inconsistency}
 use Rattle.linux_perf_data.specs.FeatureData.{feature_data_of}
@@ -25,16 +27,16 @@ module _ (order : Endianness) where
   -- ---- the bytes of an opening
 
   -- A pipe header: a magic value of eight bytes, a u64 size, and the further bytes that the size counts.
-  pub record IsPipeHeader (front : List ℕ) : Type 0 where
-    pub magic : take 8 front ≡ magic_of order
-    pub exact_len : length front ≡ 16 + (number_in order 8 (drop 8 front) - 16)
+  pub record IsPipeHeader (header : List ℕ) : Type 0 where
+    pub magic : take 8 header ≡ magic_of order
+    pub exact_len : length header ≡ 16 + (number_in order 8 (drop 8 header) - 16)
 
   -- A whole metadata record, with valid metadata of its type.
   pub record IsMetadataRecord (p : List ℕ) : Type 0 where
     pub is_record : IsRecord order p
     pub record_type : IsMetadataType (record_type_of order p)
-    pub valid_attribute : record_type_of order p ≡ 64 → HoldsAttribute order (drop 8 p)
-    pub valid_feature : record_type_of order p ≡ 80 → 8 ≤ length (drop 8 p)
+    pub valid_attribute : record_type_of order p ≡ header_attr → HoldsAttribute order (drop 8 p)
+    pub valid_feature : record_type_of order p ≡ header_feature → 8 ≤ length (drop 8 p)
 
   -- Consecutive metadata records, of less than 2^64 bytes in total.
   pub record AreMetadata (pieces : List (List ℕ)) : Type 0 where
@@ -53,18 +55,18 @@ module _ (order : Endianness) where
   -- No metadata record follows: fewer than eight bytes remain, or they start with the header of another record type, whose size
   -- is valid.
   abbrev pub EndsMetadata : List ℕ → Type 0
-  EndsMetadata behind = 8 ≤ length behind → (8 ≤ record_size_of order behind) × (¬ IsMetadataType (record_type_of order behind))
+  EndsMetadata rest = 8 ≤ length rest → (8 ≤ record_size_of order rest) × (¬ IsMetadataType (record_type_of order rest))
 
   -- ---- errors
 
   -- The bytes after `offset` bytes of metadata records have an error. Either the size in the record header is below 8; or a
   -- metadata record ends at 2^64 or later, is truncated, or contains invalid metadata.
   abbrev pub IsMetadataRecordError : ℕ → List ℕ → Error → Type 0
-  IsMetadataRecordError offset behind e =
-      ((e ≡ InvalidPerfEventSize) × (8 ≤ length behind) × (record_size_of order behind < 8))
-      ⊎ (((e ≡ Read PerfEventData) × IsMetadataType (record_type_of order behind) × (8 ≤ length behind) × (8 ≤ record_size_of order behind) × (2 ^ 64 ≤ offset + record_size_of order behind))
-      ⊎ ((IsUnexpectedEof e × IsMetadataType (record_type_of order behind) × HasRecordHeader order offset behind × (length behind < record_size_of order behind))
-      ⊎ ((p : List ℕ) × StartsWithRecord order offset behind p × IsMetadataError order (record_type_of order p) (drop 8 p) e)))
+  IsMetadataRecordError offset rest e =
+      ((e ≡ InvalidPerfEventSize) × (8 ≤ length rest) × (record_size_of order rest < 8))
+      ⊎ (((e ≡ Read PerfEventData) × IsMetadataType (record_type_of order rest) × (8 ≤ length rest) × (8 ≤ record_size_of order rest) × (2 ^ 64 ≤ offset + record_size_of order rest))
+      ⊎ ((IsUnexpectedEof e × IsMetadataType (record_type_of order rest) × HasRecordHeader order offset rest × (length rest < record_size_of order rest))
+      ⊎ ((p : List ℕ) × StartsWithRecord order offset rest p × IsMetadataError order (record_type_of order p) (drop 8 p) e)))
 
   -- The metadata of the records has an error: there is no attribute, EVENT_DESC can't be read, or the attributes are
   -- inconsistent.
@@ -111,12 +113,12 @@ IsPipeError bytes e =
 
 -- ---- contracts of an opening
 
--- The cause of an error after the bytes `came`. Either they show the error whatever follows them; or the source ended or paused,
+-- The cause of an error after the bytes `consumed`. Either they show the error whatever follows them; or the source ended or paused,
 -- and they show it if nothing follows; or the source failed, and `e` is its I/O error.
 abbrev pub IsErrorCauseFor : (List ℕ → Error → Type 0) → State → List ℕ → Error → State → Type 0
-IsErrorCauseFor Stops old came e new =
-    ((rest : List ℕ) → Stops (came ++ rest) e)
-    ⊎ ((EndedOrPaused old new × Stops came e)
+IsErrorCauseFor Stops old consumed e new =
+    ((rest : List ℕ) → Stops (consumed ++ rest) e)
+    ⊎ ((EndedOrPaused old new × Stops consumed e)
     ⊎ (IsIoError e × SourceFailed old new))
 
 -- The call failed. The contract states no cause for a `Memory` error.
@@ -128,17 +130,17 @@ pub record FailsBy (Stops : List ℕ → Error → Type 0) (old : State) (e : Er
 -- How the metadata records ended. Either the last eight bytes are the header of another record type, or fewer than eight bytes
 -- were read and the source ended or paused.
 abbrev pub MetadataEnded : Endianness → Option (List ℕ) → State → List ℕ → State → Type 0
-MetadataEnded order (Some head) old last new = (last ≡ head) × (length head ≡ 8) × (8 ≤ record_size_of order head) × (¬ IsMetadataType (record_type_of order head))
+MetadataEnded order (Some ending_header) old last new = (last ≡ ending_header) × (length ending_header ≡ 8) × (8 ≤ record_size_of order ending_header) × (¬ IsMetadataType (record_type_of order ending_header))
 MetadataEnded order None old last new = (length last < 8) × EndedOrPaused old new
 
 -- The consumed bytes are a pipe header, metadata records, and what ended them.
-pub record OpeningRead (order : Endianness) (pieces : List (List ℕ)) (head : Option (List ℕ)) (old new : State) : Type 0 where
+pub record OpeningRead (order : Endianness) (pieces : List (List ℕ)) (ending_header : Option (List ℕ)) (old new : State) : Type 0 where
   pub header : List ℕ
   pub last_bytes : List ℕ
   pub matches : IsPipeHeader order header
   pub elements : AreMetadata order pieces
   pub consumes : Consumed old (header ++ (concat pieces ++ last_bytes)) new
-  pub metadata_end : MetadataEnded order head old last_bytes new
+  pub metadata_end : MetadataEnded order ending_header old last_bytes new
 
 -- The opening contains the metadata of the records.
 pub record HoldsPipeMetadata (order : Endianness) (pieces : List (List ℕ)) (opening : PipeOpening) : Type 0 where

@@ -9,21 +9,21 @@ use Rattle.perfdata_base.specs.Source.{State, Consumed}
 use Rattle.perfdata_base.specs.Endian.{number_in}
 use Rattle.perfdata_base.specs.Features.{HasFeature}
 use Rattle.perfdata_base.specs.declared.raw.Endianness.{Endianness}
-use Rattle.perfdata_base.specs.declared.event.PerfEventHeader.{PerfEventHeader}
 use Rattle.perfdata_sections.specs.Error.{IsUnexpectedEof}
 use Rattle.perfdata_records.specs.HeaderAttr.{attribute_of}
 use Rattle.perfdata_records.specs.HeaderFeature.{IsHeaderFeature}
 use Rattle.perfdata_sections.specs.EventDesc.{IsEventDescError}
 use Rattle.perfdata_sections.specs.declared.error.Error.{Error}
-use Rattle.perfdata_sections.specs.declared.error.Error.TheVariants.{Read, NoAttributes, Memory, IoError}
-use Rattle.perfdata_sections.specs.declared.error.ReadError.TheVariants.{PerfEventData}
+use Rattle.perfdata_sections.specs.declared.error.Error.TheVariants.{NoAttributes, Memory, IoError}
 use Rattle.perfdata_records.specs.declared.user_record.HeaderAttr.{HeaderAttr}
 use Rattle.perfdata_records.specs.declared.user_record.HeaderFeature.{HeaderFeature}
+use Rattle.perfdata_sections.specs.RecordTypes.{header_attr, header_feature}
 use Rattle.linux_perf_data.specs.Attribute.{Inconsistency, AreInconsistent, AreConsistent, HoldsAttribute, attribute_in}
 use Rattle.linux_perf_data.specs.Descriptions.{described_attributes}
-use Rattle.linux_perf_data.specs.LateMetadata.{IsMetadataType, IsMetadataError, features_in_record}
+use Rattle.linux_perf_data.specs.LateMetadata.{AddsFeatures, IsMetadataType, IsMetadataError, features_in_record}
 use Rattle.linux_perf_data.specs.Layout.{attributes_in_records, attributes_in_record, record_type_of}
-use Rattle.linux_perf_data.specs.Names.{NamedByEventDesc, IsReadableEventDesc, event_desc, feature_in_body}
+use Rattle.linux_perf_data.specs.FeatureNumbers.{event_desc}
+use Rattle.linux_perf_data.specs.Names.{NamedByEventDesc, IsReadableEventDesc, feature_in_body}
 use Rattle.linux_perf_data.specs.RecordFraming.{BytesRead}
 use Rattle.linux_perf_data.specs.PipeOpening.{AreMetadata, IsMetadataRecord, IsMetadataRecordError, IsMetadataReadError, MetadataEnded, HoldsPipeMetadata, FailsBy, feature_data_in}
 use Rattle.linux_perf_data.specs.Consistency.{error_of_inconsistency}
@@ -38,9 +38,9 @@ TestsMetadataType kind true = IsMetadataType kind
 TestsMetadataType kind false = ¬ IsMetadataType kind
 
 -- Maps an error in parsing a record's body: one of kind `OutOfMemory` to `Memory`, any other to `IoError`.
-pub record ReportsContentsError (refused : IoErrorValue) (e : Error) : Type 0 where
-  pub if_out_of_memory : error_kind refused ≡ OutOfMemory → e ≡ Memory
-  pub otherwise : error_kind refused ≢ OutOfMemory → e ≡ IoError refused
+pub record ReportsContentsError (parse_error : IoErrorValue) (e : Error) : Type 0 where
+  pub if_out_of_memory : error_kind parse_error ≡ OutOfMemory → e ≡ Memory
+  pub otherwise : error_kind parse_error ≢ OutOfMemory → e ≡ IoError parse_error
 
 -- Reads a body of `count` bytes into the buffer. It fails if the body is truncated or the source fails.
 abbrev pub ReadsMetadataBody : {A : Type 0} → State → ℕ → Result A Error → List ℕ → State → Type 0
@@ -52,19 +52,19 @@ module _ (order : Endianness) where
 
   abbrev pub ParsesAttribute : List ℕ → Result HeaderAttr Error → Type 0
   ParsesAttribute body (Ok header) = HoldsAttribute order body × (attribute_of header ≡ attribute_in order body)
-  ParsesAttribute body (Err e) = (e ≡ Memory → HoldsAttribute order body) × (e ≢ Memory → IsMetadataError order 64 body e)
+  ParsesAttribute body (Err e) = (e ≡ Memory → HoldsAttribute order body) × (e ≢ Memory → IsMetadataError order header_attr body e)
 
   abbrev pub ParsesFeature : List ℕ → Result HeaderFeature Error → Type 0
   ParsesFeature body (Ok header) = IsHeaderFeature (number_in order) body header
-  ParsesFeature body (Err e) = (e ≡ Memory → 8 ≤ length body) × (e ≢ Memory → IsMetadataError order 80 body e)
+  ParsesFeature body (Err e) = (e ≡ Memory → 8 ≤ length body) × (e ≢ Memory → IsMetadataError order header_feature body e)
 
   -- The metadata of a record of this type was added to the metadata before.
   pub record RecordAdded (kind : ℕ) (body : List ℕ) (old new : PipeMetadata) : Type 0 where
-    pub valid_attribute : kind ≡ 64 → HoldsAttribute order body
-    pub valid_feature : kind ≡ 80 → 8 ≤ length body
+    pub valid_attribute : kind ≡ header_attr → HoldsAttribute order body
+    pub valid_feature : kind ≡ header_feature → 8 ≤ length body
     pub attributes : described_attributes new.attributes.items ≡ described_attributes old.attributes.items ++ attributes_in_record order None kind body
     pub feature_data : (n : ℕ) → feature_data_of new.sections n ≡ update_all nat_eq (feature_data_of old.sections) (features_in_record order None kind body) n
-    pub features : (n : ℕ) → HasFeature new.features n ↔ (HasFeature old.features n ⊎ ((n < 256) × (kind ≡ 80) × (feature_in_body order body ≡ n)))
+    pub features : AddsFeatures old.features (λ n. (kind ≡ header_feature) × (feature_in_body order body ≡ n)) new.features
 
   abbrev pub AddsRecord : {A : Type 0} → ℕ → List ℕ → PipeMetadata → Result A Error → PipeMetadata → Type 0
   AddsRecord kind body old (Ok _) new = RecordAdded kind body old new
@@ -78,26 +78,6 @@ module _ (order : Endianness) where
 
   -- ---- one record
 
-  -- The body after a record header was read, and its metadata was added.
-  pub record MetadataRecordRead (offset : ℕ) (head : PerfEventHeader) (old : State) (m : PipeMetadata) (end : ℕ) (new : State) (m' : PipeMetadata) : Type 0 where
-    pub body : List ℕ
-    pub bytes_read : BytesRead old (head.size - 8) body new
-    pub end_offset : end ≡ offset + head.size
-    pub end_fits : end < 2 ^ 64
-    pub record_added : RecordAdded head.type_ body m m'
-
-  -- The body after a record header has an error: it ends at 2^64 or later, is truncated, or contains invalid metadata of its
-  -- type.
-  abbrev pub IsContentsError : ℕ → PerfEventHeader → List ℕ → Error → Type 0
-  IsContentsError offset head xs e =
-      ((e ≡ Read PerfEventData) × (2 ^ 64 ≤ offset + head.size))
-      ⊎ ((IsUnexpectedEof e × (offset + head.size < 2 ^ 64) × (length xs < head.size - 8))
-      ⊎ ((offset + head.size < 2 ^ 64) × ((body : List ℕ) × (rest : List ℕ) × (xs ≡ body ++ rest) × (length body ≡ head.size - 8) × IsMetadataError order head.type_ body e)))
-
-  abbrev pub ReadsMetadataRecord : ℕ → PerfEventHeader → State → PipeMetadata → Result ℕ Error → State → PipeMetadata → Type 0
-  ReadsMetadataRecord offset head old m (Ok end) new m' = MetadataRecordRead offset head old m end new m'
-  ReadsMetadataRecord offset head old m (Err e) new m' = FailsBy (IsContentsError offset head) old e new
-
   -- A metadata record was read, and its metadata was added.
   pub record NextRecordRead (offset : ℕ) (old : State) (m : PipeMetadata) (end : ℕ) (new : State) (m' : PipeMetadata) : Type 0 where
     pub raw_record : List ℕ
@@ -108,25 +88,25 @@ module _ (order : Endianness) where
     pub record_added : RecordAdded (record_type_of order raw_record) (drop 8 raw_record) m m'
 
   -- The metadata records ended.
-  pub record MetadataEndRead (old : State) (m : PipeMetadata) (head : Option (List ℕ)) (new : State) (m' : PipeMetadata) : Type 0 where
+  pub record MetadataEndRead (old : State) (m : PipeMetadata) (ending_header : Option (List ℕ)) (new : State) (m' : PipeMetadata) : Type 0 where
     pub last_bytes : List ℕ
     pub consumes : Consumed old last_bytes new
-    pub metadata_end : MetadataEnded order head old last_bytes new
+    pub metadata_end : MetadataEnded order ending_header old last_bytes new
     pub unchanged : m' ≡ m
 
   abbrev pub ReadsNext : ℕ → State → PipeMetadata → Result NextInOpening Error → State → PipeMetadata → Type 0
   ReadsNext offset old m (Ok (Record end)) new m' = NextRecordRead offset old m end new m'
-  ReadsNext offset old m (Ok (End head)) new m' = MetadataEndRead old m head new m'
+  ReadsNext offset old m (Ok (End ending_header)) new m' = MetadataEndRead old m ending_header new m'
   ReadsNext offset old m (Err e) new m' = FailsBy (IsMetadataRecordError order offset) old e new
 
   -- ---- all records
 
   -- These records and what ended them were read.
-  pub record MetadataRead (pieces : List (List ℕ)) (head : Option (List ℕ)) (old new : State) : Type 0 where
+  pub record MetadataRead (pieces : List (List ℕ)) (ending_header : Option (List ℕ)) (old new : State) : Type 0 where
     pub last_bytes : List ℕ
     pub elements : AreMetadata order pieces
     pub consumes : Consumed old (concat pieces ++ last_bytes) new
-    pub metadata_end : MetadataEnded order head old last_bytes new
+    pub metadata_end : MetadataEnded order ending_header old last_bytes new
 
   abbrev pub ReadsMetadata : State → Result (PipeMetadata × Option (List ℕ)) Error → State → Type 0
   ReadsMetadata old (Ok r) new = (pieces : List (List ℕ)) × MetadataRead pieces r.1 old new × HoldsMetadataOf pieces r.0
@@ -135,9 +115,9 @@ module _ (order : Endianness) where
   -- ---- their metadata
 
   -- An opening was built from the metadata.
-  pub record OpeningFinished (m : PipeMetadata) (head : Option (List ℕ)) (opening : PipeOpening) : Type 0 where
+  pub record OpeningFinished (m : PipeMetadata) (ending_header : Option (List ℕ)) (opening : PipeOpening) : Type 0 where
     pub endian : opening.endian ≡ order
-    pub pending_header : opening.pending_header ≡ head
+    pub pending_header : opening.pending_header ≡ ending_header
     pub attributes : described_attributes opening.attributes.items ≡ described_attributes m.attributes.items
     pub sections : (n : ℕ) → feature_data_of opening.sections n ≡ feature_data_of m.sections n
     pub features : opening.features ≡ m.features
@@ -153,8 +133,8 @@ module _ (order : Endianness) where
       ⊎ ((b : Inconsistency) × ((bytes : List ℕ) → feature_data_of m.sections event_desc ≡ Some bytes → IsReadableEventDesc order bytes) × AreInconsistent (described_attributes m.attributes.items) b × (e ≡ error_of_inconsistency b)))
 
   abbrev pub FinishesOpening : PipeMetadata → Option (List ℕ) → Result PipeOpening Error → Type 0
-  FinishesOpening m head (Ok opening) = OpeningFinished m head opening
-  FinishesOpening m head (Err e) = e ≢ Memory → IsFinishError m e
+  FinishesOpening m ending_header (Ok opening) = OpeningFinished m ending_header opening
+  FinishesOpening m ending_header (Err e) = e ≢ Memory → IsFinishError m e
 
   -- Opens the rest of a pipe after its header.
   abbrev pub OpensAfterPipeHeader : State → Result PipeOpening Error → State → Type 0

@@ -2,34 +2,27 @@
 use Rattle.std.specs.Prelude.{◌≡◌, ◌≢◌, ℕ, ◌+◌, ◌<◌, ◌≤◌, ◌++◌, ◌⊎◌, List, [], ◌∷◌, length, take, drop, map, Option, None, Some, Result, Ok, Err, Vec, ⊤}
 use Rattle.std.specs.Borrow.{Bor}
 use Rattle.std.specs.Str.{IsUtf8}
-use Rattle.std.specs.IoError.{error_kind}
 use Rattle.std.specs.declared.alloc.Global.{Global}
-use Rattle.std.specs.declared.io.ErrorKind.TheVariants.{InvalidData}
 use Rattle.perfdata_base.specs.Endian.{number_in}
 use Rattle.perfdata_base.specs.declared.raw.Endianness.{Endianness}
-use Rattle.perfdata_sections.specs.Error.{IsUnexpectedEof}
+use Rattle.perfdata_sections.specs.Error.{IsInvalidData, IsUnexpectedEof}
 use Rattle.perfdata_sections.specs.HeaderString.{before_nul}
 use Rattle.perfdata_sections.specs.NumberSections.{nr_cpus_of, sample_times_of, compression_of, clock_of, IsTruncatedClock}
 use Rattle.perfdata_sections.specs.PmuMappings.{IsPmuSectionOf, IsTruncatedPmuSection}
 use Rattle.perfdata_sections.specs.declared.error.Error.{Error}
-use Rattle.perfdata_sections.specs.declared.error.Error.TheVariants.{IoError, NotEnoughSpaceForStringLen, NotEnoughSpaceForStringListLen, StringLengthTooLong, StringUtf8, FeatureSectionTooSmall, Memory}
+use Rattle.perfdata_sections.specs.declared.error.Error.TheVariants.{NotEnoughSpaceForStringLen, NotEnoughSpaceForStringListLen, StringLengthTooLong, StringUtf8, FeatureSectionTooSmall, Memory}
 use Rattle.perfdata_sections.specs.declared.feature_sections.number_sections.NrCpus.{NrCpus}
 use Rattle.perfdata_sections.specs.declared.feature_sections.number_sections.SampleTimeRange.{SampleTimeRange}
 use Rattle.perfdata_sections.specs.declared.feature_sections.number_sections.CompressionInfo.{CompressionInfo}
 use Rattle.perfdata_sections.specs.declared.feature_sections.number_sections.ClockData.{ClockData}
 use Rattle.perfdata_sections.specs.declared.feature_sections.pmu_mappings.PmuMappings.{PmuMappings}
 
--- The section contains an unknown value, and the error is an I/O error of kind `InvalidData`.
-abbrev pub IsInvalidData : Error → Type 0
-IsInvalidData (IoError e) = error_kind e ≡ InvalidData
-IsInvalidData _ = ⊥
-
 -- The result of an accessor: `None` if the section is absent, else the value parsed from its bytes.
 abbrev pub AnswersOf : {A : Type 0} → (List ℕ → Result A Error → Type 0) → Option (List ℕ) → Result (Option A) Error → Type 0
-AnswersOf Tells None (Ok None) = ⊤
-AnswersOf Tells (Some xs) (Ok (Some a)) = Tells xs (Ok a)
-AnswersOf Tells (Some xs) (Err e) = Tells xs (Err e)
-AnswersOf Tells _ _ = ⊥
+AnswersOf Parses None (Ok None) = ⊤
+AnswersOf Parses (Some xs) (Ok (Some a)) = Parses xs (Ok a)
+AnswersOf Parses (Some xs) (Err e) = Parses xs (Err e)
+AnswersOf Parses _ _ = ⊥
 
 module _ (order : Endianness) where
   -- The bytes start with a whole string: a length of four bytes, and that many bytes.

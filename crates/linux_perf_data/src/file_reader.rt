@@ -34,18 +34,18 @@ impl<C: PlacedSource + Drop> PerfFileReader<C> {
         source: C,
         opening: FileOpening,
     ) -> Result<PerfFileReader<C>, Error>
-        requires some { 0 < vec_len opening.attributes }
-        requires rule { AreConsistent (described_attributes opening.attributes.items) }
+        requires nonempty { 0 < vec_len opening.attributes }
+        requires consistent { AreConsistent (described_attributes opening.attributes.items) }
         ensures { BuildsReader C.state source opening result }
     {
-        let known = AttributeLookup::new(alloc, &opening.attributes, opening.endian)?;
+        let lookup = AttributeLookup::new(alloc, &opening.attributes, opening.endian)?;
         let input = Input::Section(opening.data_size);
         let record_iter = PerfRecordIter::new(
             alloc,
             source,
             input,
             opening.endian,
-            known,
+            lookup,
             Stage::Running,
         );
         let perf_file = PerfFile {
@@ -94,13 +94,11 @@ impl<C: PlacedSource + Drop> PerfFileReader<C> {
     pub fn parse_file(alloc: Global, source: C) -> Result<PerfFileReader<C>, Error>
         ensures parses { ParsesFile C.state (C.state source) result }
         ensures pauses { IfOk result (λ r. (C.state r.record_iter.source).pauses ≡ (C.state source).pauses) }
-        ensures lent { IfOk result (λ r. C.loan r.record_iter.source ≡ C.loan source) }
+        ensures same_loan { IfOk result (λ r. C.loan r.record_iter.source ≡ C.loan source) }
     {
         let mut source = source;
-        match open_file(alloc, &mut source) {
-            Ok(opening) => PerfFileReader::from_opening(alloc, source, opening),
-            Err(error) => Err(error),
-        }
+        let opening = open_file(alloc, &mut source)?;
+        PerfFileReader::from_opening(alloc, source, opening)
     }
 }
 
@@ -113,17 +111,17 @@ impl<R: Source + Drop> PerfFileReader<R> {
         source: R,
         opening: PipeOpening,
     ) -> Result<PerfFileReader<R>, Error>
-        requires some { 0 < vec_len opening.attributes }
-        requires rule { AreConsistent (described_attributes opening.attributes.items) }
+        requires nonempty { 0 < vec_len opening.attributes }
+        requires consistent { AreConsistent (described_attributes opening.attributes.items) }
         ensures { BuildsPipeReader R.state source opening result }
     {
-        let known = AttributeLookup::new(alloc, &opening.attributes, opening.endian)?;
+        let lookup = AttributeLookup::new(alloc, &opening.attributes, opening.endian)?;
         let stage = match opening.pending_header {
             Some(_) => Stage::Running,
             None => Stage::Ended,
         };
         let input = Input::Pipe(opening.pending_header);
-        let record_iter = PerfRecordIter::new(alloc, source, input, opening.endian, known, stage);
+        let record_iter = PerfRecordIter::new(alloc, source, input, opening.endian, lookup, stage);
         let perf_file = PerfFile {
             endian: opening.endian,
             features: opening.features,
@@ -163,12 +161,10 @@ impl<R: Source + Drop> PerfFileReader<R> {
     pub fn parse_pipe(alloc: Global, source: R) -> Result<PerfFileReader<R>, Error>
         ensures parses { ParsesPipe R.state (R.state source) result }
         ensures pauses { IfOk result (λ r. (R.state r.record_iter.source).pauses ≤ (R.state source).pauses + 1) }
-        ensures lent { IfOk result (λ r. R.loan r.record_iter.source ≡ R.loan source) }
+        ensures same_loan { IfOk result (λ r. R.loan r.record_iter.source ≡ R.loan source) }
     {
         let mut source = source;
-        match open_pipe(alloc, &mut source) {
-            Ok(opening) => PerfFileReader::from_pipe_opening(alloc, source, opening),
-            Err(error) => Err(error),
-        }
+        let opening = open_pipe(alloc, &mut source)?;
+        PerfFileReader::from_pipe_opening(alloc, source, opening)
     }
 }

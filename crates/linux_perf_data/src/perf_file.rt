@@ -3,7 +3,7 @@ ghost use Rattle.std.specs.Prelude.{◌≡◌, ◌<◌, ◌↔◌, IsTrue, lengt
 ghost use Rattle.std.specs.Option.{option_map};
 ghost use Rattle.perfdata_base.specs.Features.{HasFeature};
 ghost use Rattle.perfdata_simpleperf.specs.MetaInfo.{ParsesMetaInfo};
-ghost use Rattle.linux_perf_data.specs.FeatureNumbers.{arch, build_id, clock_data, clock_id, cmd_line, compressed, cpu_desc, cpuid, hostname, nr_cpus, os_release, pmu_mappings, sample_time, simpleperf_file, simpleperf_file2, simpleperf_meta_info, total_mem, version};
+ghost use Rattle.linux_perf_data.specs.FeatureNumbers.{arch, build_id, clock_data, clock_id, cmd_line, compressed, cpu_desc, cpuid, event_desc, hostname, nr_cpus, os_release, pmu_mappings, sample_time, simpleperf_file, simpleperf_file2, simpleperf_meta_info, total_mem, version};
 ghost use Rattle.linux_perf_data.specs.NameTable.{TableHasEvents, TableNamesAll, TableEmptyWithoutEventDesc, TableIsReadable};
 ghost use Rattle.linux_perf_data.specs.FeatureData.{feature_data_of};
 ghost use Rattle.linux_perf_data.specs.Simpleperf.{AnswersSymbolTables};
@@ -41,9 +41,9 @@ pub struct PerfFile {
     pub(crate) name_table: Option<NameTable>,
     ghost nonempty: { 0 < vec_len attributes },
     ghost names_match_table: { TableNamesAll name_table attributes.items },
-    ghost empty_without_event_desc: { TableEmptyWithoutEventDesc name_table (feature_data_of sections 12) },
-    ghost table_readable: { TableIsReadable name_table (feature_data_of sections 12) },
-    ghost table_events_match: { TableHasEvents name_table (feature_data_of sections 12) },
+    ghost empty_without_event_desc: { TableEmptyWithoutEventDesc name_table (feature_data_of sections event_desc) },
+    ghost table_readable: { TableIsReadable name_table (feature_data_of sections event_desc) },
+    ghost table_events_match: { TableHasEvents name_table (feature_data_of sections event_desc) },
 }
 
 impl PerfFile {
@@ -92,10 +92,7 @@ impl PerfFile {
         ensures { AnswersOf (ParsesStringSection (endian_of_file self.now)) (feature_data_in_file self.now feature.0) result }
     {
         match self.feature_section_data(feature) {
-            Some(bytes) => match parse::parse_string(self.endian, bytes) {
-                Ok(text) => Ok(Some(text)),
-                Err(error) => Err(error),
-            },
+            Some(bytes) => Ok(Some(parse::parse_string(self.endian, bytes)?)),
             None => Ok(None),
         }
     }
@@ -105,10 +102,7 @@ impl PerfFile {
         ensures { AnswersOf (ParsesU64 (endian_of_file self.now)) (feature_data_in_file self.now feature.0) result }
     {
         match self.feature_section_data(feature) {
-            Some(bytes) => match parse::parse_u64(self.endian, bytes) {
-                Ok(number) => Ok(Some(number)),
-                Err(error) => Err(error),
-            },
+            Some(bytes) => Ok(Some(parse::parse_u64(self.endian, bytes)?)),
             None => Ok(None),
         }
     }
@@ -181,10 +175,7 @@ impl PerfFile {
         ensures { AnswersOf (ParsesStringList (endian_of_file self.now)) (feature_data_in_file self.now cmd_line) result }
     {
         match self.feature_section_data(Feature::CMDLINE) {
-            Some(bytes) => match parse::parse_string_list(alloc, self.endian, bytes) {
-                Ok(words) => Ok(Some(words)),
-                Err(error) => Err(error),
-            },
+            Some(bytes) => Ok(Some(parse::parse_string_list(alloc, self.endian, bytes)?)),
             None => Ok(None),
         }
     }
@@ -214,10 +205,7 @@ impl PerfFile {
         ensures { AnswersOf (ParsesNrCpus (endian_of_file self.now)) (feature_data_in_file self.now nr_cpus) result }
     {
         match self.feature_section_data(Feature::NRCPUS) {
-            Some(bytes) => match parse::parse_nr_cpus(self.endian, bytes) {
-                Ok(cpus) => Ok(Some(cpus)),
-                Err(error) => Err(error),
-            },
+            Some(bytes) => Ok(Some(parse::parse_nr_cpus(self.endian, bytes)?)),
             None => Ok(None),
         }
     }
@@ -229,10 +217,7 @@ impl PerfFile {
         ensures { AnswersOf (ParsesSampleTimes (endian_of_file self.now)) (feature_data_in_file self.now sample_time) result }
     {
         match self.feature_section_data(Feature::SAMPLE_TIME) {
-            Some(bytes) => match parse::parse_sample_times(self.endian, bytes) {
-                Ok(times) => Ok(Some(times)),
-                Err(error) => Err(error),
-            },
+            Some(bytes) => Ok(Some(parse::parse_sample_times(self.endian, bytes)?)),
             None => Ok(None),
         }
     }
@@ -245,10 +230,7 @@ impl PerfFile {
         ensures { AnswersOf (ParsesClockData (endian_of_file self.now)) (feature_data_in_file self.now clock_data) result }
     {
         match self.feature_section_data(Feature::CLOCK_DATA) {
-            Some(bytes) => match parse::parse_clock_data(self.endian, bytes) {
-                Ok(clock) => Ok(Some(clock)),
-                Err(error) => Err(error),
-            },
+            Some(bytes) => Ok(Some(parse::parse_clock_data(self.endian, bytes)?)),
             None => Ok(None),
         }
     }
@@ -260,10 +242,7 @@ impl PerfFile {
         ensures { AnswersOf (ParsesCompression (endian_of_file self.now)) (feature_data_in_file self.now compressed) result }
     {
         match self.feature_section_data(Feature::COMPRESSED) {
-            Some(bytes) => match parse::parse_compression(self.endian, bytes) {
-                Ok(compression) => Ok(Some(compression)),
-                Err(error) => Err(error),
-            },
+            Some(bytes) => Ok(Some(parse::parse_compression(self.endian, bytes)?)),
             None => Ok(None),
         }
     }
@@ -275,10 +254,7 @@ impl PerfFile {
         ensures { AnswersOf (ParsesPmuMappings (endian_of_file self.now)) (feature_data_in_file self.now pmu_mappings) result }
     {
         match self.feature_section_data(Feature::PMU_MAPPINGS) {
-            Some(bytes) => match parse::parse_pmu_mappings(alloc, self.endian, bytes) {
-                Ok(units) => Ok(Some(units)),
-                Err(error) => Err(error),
-            },
+            Some(bytes) => Ok(Some(parse::parse_pmu_mappings(alloc, self.endian, bytes)?)),
             None => Ok(None),
         }
     }
@@ -305,10 +281,7 @@ impl PerfFile {
         ensures { AnswersOf ParsesMetaInfo (feature_data_in_file self.now simpleperf_meta_info) result }
     {
         match self.feature_section_data(Feature::SIMPLEPERF_META_INFO) {
-            Some(bytes) => match parse_meta_info_map(alloc, bytes) {
-                Ok(map) => Ok(Some(map)),
-                Err(error) => Err(error),
-            },
+            Some(bytes) => Ok(Some(parse_meta_info_map(alloc, bytes)?)),
             None => Ok(None),
         }
     }

@@ -3,7 +3,7 @@ use Rattle.std.proofs.Common.{◌≡◌, ◌≢◌, ℕ, zero, suc, ◌+◌, ◌
 use Rattle.std.specs.Prelude.{IfSome, IsTrue, flat_map}
 use Rattle.std.proofs.lemmas.List.{append-nil, take-append-drop, length-take-le}
 use Rattle.std.proofs.lemmas.Grind.{flat_map-append, take_at_read}
-use Rattle.perfdata_base.specs.Source.{State}
+use Rattle.perfdata_base.specs.Source.{State, at_start}
 use Rattle.perfdata_sections.specs.AttributeDescription.{ids_in}
 use Rattle.perfdata_sections.specs.declared.error.Error.{Error}
 use Rattle.perfdata_sections.specs.declared.error.Error.TheVariants.{Memory}
@@ -18,7 +18,6 @@ use Rattle.linux_perf_data.specs.PipeOpening.{IsPipeError}
 use Rattle.perfdata_arrays.specs.Attrs.{ReadsFileAttrs, ExceedsU64, ReadsPipeAttrs, WritesAttrsOrPrefix, WritesAttrs, all_ids, attr_entry_at, attr_entries_at, name_bytes, all_names, zero_totals}
 use Rattle.perfdata_arrays.specs.Overwrites.{WritesOneMore, with_entries_at, with_prefix}
 use Rattle.perfdata_arrays.specs.Status.{error_status}
-use Rattle.perfdata_arrays.specs.Records.{at_start}
 use Rattle.perfdata_arrays.specs.Walk.{WalksRecords, walk_status}
 use Rattle.perfdata_arrays.specs.declared.attrs.Attr.{Attr}
 use Rattle.perfdata_arrays.specs.declared.attrs.AttrTotals.{AttrTotals}
@@ -57,25 +56,25 @@ pub writes_attrs-none : (entries : List Attr) (names ids : List ℕ) → WritesA
 writes_attrs-none entries names ids = record { entries_written = refl; names_written = refl; ids_written = refl }
 
 -- one more attribute is written
-pub writes_attrs-snoc : (told : List AttributeDescription) (d : AttributeDescription) (entries entries' new : List Attr) (names ids names' ids' new_names new_ids : List ℕ) (index name_place ids_place : ℕ) (entry : Attr) (name own : List ℕ)
-    → WritesAttrs told entries names ids entries' names' ids' → index ≡ length told → name_place ≡ length (all_names told) → ids_place ≡ length (all_ids told)
-    → entry ≡ attr_entry_at name_place ids_place d → name ≡ name_bytes d → own ≡ ids_in d → WritesOneMore 0 index entry entries' new → new_names ≡ with_entries_at name_place name names' → new_ids ≡ with_entries_at ids_place own ids'
-    → WritesAttrs (told ++ d ∷ []) entries names ids new new_names new_ids
-writes_attrs-snoc told d entries entries' new names ids names' ids' new_names new_ids index name_place ids_place entry name own w counted names_counted ids_counted is name_is own_is put names_laid ids_laid =
-    let names_at : name_place ≡ 0 + length (all_names told) = omega (arith, names_counted) in
-    let ids_at : ids_place ≡ 0 + length (all_ids told) = omega (arith, ids_counted) in
+pub writes_attrs-snoc : (descriptions : List AttributeDescription) (d : AttributeDescription) (entries entries' new : List Attr) (names ids names' ids' new_names new_ids : List ℕ) (index name_offset ids_start : ℕ) (entry : Attr) (name own : List ℕ)
+    → WritesAttrs descriptions entries names ids entries' names' ids' → index ≡ length descriptions → name_offset ≡ length (all_names descriptions) → ids_start ≡ length (all_ids descriptions)
+    → entry ≡ attr_entry_at name_offset ids_start d → name ≡ name_bytes d → own ≡ ids_in d → WritesOneMore 0 index entry entries' new → new_names ≡ with_entries_at name_offset name names' → new_ids ≡ with_entries_at ids_start own ids'
+    → WritesAttrs (descriptions ++ d ∷ []) entries names ids new new_names new_ids
+writes_attrs-snoc descriptions d entries entries' new names ids names' ids' new_names new_ids index name_offset ids_start entry name own w counted names_counted ids_counted is name_is own_is one_more names_copied ids_copied =
+    let names_at : name_offset ≡ 0 + length (all_names descriptions) = omega (arith, names_counted) in
+    let ids_at : ids_start ≡ 0 + length (all_ids descriptions) = omega (arith, ids_counted) in
     record {
-      entries_written = put (attr_entries_at 0 0 told) entries (counted ∙ sym (length-attr_entries_at 0 0 told)) w.entries_written
-          ∙ ap (λ e. with_prefix (attr_entries_at 0 0 told ++ e ∷ []) entries) (is ∙ (λ i. attr_entry_at (names_at i) (ids_at i) d)) ∙ ap (λ l. with_prefix l entries) (sym (attr_entries_at-snoc 0 0 told d));
-      names_written = names_laid ∙ (λ i. with_entries_at (names_counted i) (name_is i) (w.names_written i)) ∙ with_entries_at-with_prefix (all_names told) (name_bytes d) names ∙ ap (λ l. with_prefix l names) (sym (flat_map-snoc name_bytes told d));
-      ids_written = ids_laid ∙ (λ i. with_entries_at (ids_counted i) (own_is i) (w.ids_written i)) ∙ with_entries_at-with_prefix (all_ids told) (ids_in d) ids ∙ ap (λ l. with_prefix l ids) (sym (flat_map-snoc ids_in told d));
+      entries_written = one_more (attr_entries_at 0 0 descriptions) entries (counted ∙ sym (length-attr_entries_at 0 0 descriptions)) w.entries_written
+          ∙ ap (λ e. with_prefix (attr_entries_at 0 0 descriptions ++ e ∷ []) entries) (is ∙ (λ i. attr_entry_at (names_at i) (ids_at i) d)) ∙ ap (λ l. with_prefix l entries) (sym (attr_entries_at-snoc 0 0 descriptions d));
+      names_written = names_copied ∙ (λ i. with_entries_at (names_counted i) (name_is i) (w.names_written i)) ∙ with_entries_at-with_prefix (all_names descriptions) (name_bytes d) names ∙ ap (λ l. with_prefix l names) (sym (flat_map-snoc name_bytes descriptions d));
+      ids_written = ids_copied ∙ (λ i. with_entries_at (ids_counted i) (own_is i) (w.ids_written i)) ∙ with_entries_at-with_prefix (all_ids descriptions) (ids_in d) ids ∙ ap (λ l. with_prefix l ids) (sym (flat_map-snoc ids_in descriptions d));
     }
 
-pub length-all_names-snoc : (told : List AttributeDescription) (d : AttributeDescription) → length (all_names (told ++ d ∷ [])) ≡ length (all_names told) + length (name_bytes d)
-length-all_names-snoc told d = ap length (flat_map-snoc name_bytes told d) ∙ length-append (all_names told) (name_bytes d)
+pub length-all_names-snoc : (descriptions : List AttributeDescription) (d : AttributeDescription) → length (all_names (descriptions ++ d ∷ [])) ≡ length (all_names descriptions) + length (name_bytes d)
+length-all_names-snoc descriptions d = ap length (flat_map-snoc name_bytes descriptions d) ∙ length-append (all_names descriptions) (name_bytes d)
 
-pub length-all_ids-snoc : (told : List AttributeDescription) (d : AttributeDescription) → length (all_ids (told ++ d ∷ [])) ≡ length (all_ids told) + length (ids_in d)
-length-all_ids-snoc told d = ap length (flat_map-snoc ids_in told d) ∙ length-append (all_ids told) (ids_in d)
+pub length-all_ids-snoc : (descriptions : List AttributeDescription) (d : AttributeDescription) → length (all_ids (descriptions ++ d ∷ [])) ≡ length (all_ids descriptions) + length (ids_in d)
+length-all_ids-snoc descriptions d = ap length (flat_map-snoc ids_in descriptions d) ∙ length-append (all_ids descriptions) (ids_in d)
 
 -- the prefix of written attributes, one longer
 pub take-suc : (all : List AttributeDescription) (index : ℕ) (d : AttributeDescription) → index < length all → d ≡ get_or all index d → take (index + 1) all ≡ take index all ++ d ∷ []
@@ -88,12 +87,12 @@ drop-suc (x ∷ all) zero d inside is = ap (λ e. e ∷ all) (sym is)
 drop-suc (x ∷ all) (suc index) d inside is = drop-suc all index d (omega (arith, inside)) is
 
 -- a prefix of the attributes is written if the end of the next doesn't fit in 64 bits
-pub writes_prefix : (all : List AttributeDescription) (status : ℕ) (entries entries' : List Attr) (names ids names' ids' : List ℕ) (index name_place ids_place : ℕ) (d : AttributeDescription) → index < length all → d ≡ get_or all index d → ExceedsU64 name_place ids_place d → name_place ≡ length (all_names (take index all)) → ids_place ≡ length (all_ids (take index all))
-    → WritesAttrs (take index all) entries names ids entries' names' ids' → WritesAttrsOrPrefix all status entries names ids (record { attr_count = index; names_size = name_place; ids_count = ids_place; status = 1 }) entries' names' ids'
-writes_prefix all status entries entries' names ids names' ids' index name_place ids_place d within is uncounted names_counted ids_counted w = record {
+pub writes_prefix : (all : List AttributeDescription) (status : ℕ) (entries entries' : List Attr) (names ids names' ids' : List ℕ) (index name_offset ids_start : ℕ) (d : AttributeDescription) → index < length all → d ≡ get_or all index d → ExceedsU64 name_offset ids_start d → name_offset ≡ length (all_names (take index all)) → ids_start ≡ length (all_ids (take index all))
+    → WritesAttrs (take index all) entries names ids entries' names' ids' → WritesAttrsOrPrefix all status entries names ids (record { attr_count = index; names_size = name_offset; ids_count = ids_start; status = 1 }) entries' names' ids'
+writes_prefix all status entries entries' names ids names' ids' index name_offset ids_start d within is uncounted names_counted ids_counted w = record {
   written = take index all;
   unwritten = drop index all;
-  cut = sym (take-append-drop index all);
+  split = sym (take-append-drop index all);
   count = sym (length-take-le index all (omega (arith, within)));
   names_count = names_counted;
   ids_count = ids_counted;
@@ -103,24 +102,24 @@ writes_prefix all status entries entries' names ids names' ids' index name_place
 
 pub reads_file_attrs : (bytes : List ℕ) (old : State) → old.position ≡ Some (at_start bytes) → {R : Type 0} (state : R → State) (file : PerfFile) (it : PerfRecordIter R) → FileParsed state old file it
     → (entries entries' : List Attr) (names ids names' ids' : List ℕ) (totals : AttrTotals) → WritesAttrsOrPrefix (descriptions_of_file file) 0 entries names ids totals entries' names' ids' → ReadsFileAttrs bytes entries names ids totals entries' names' ids'
-reads_file_attrs bytes old place state file it opened entries entries' names ids names' ids' totals tells =
-    let opens : FileOpensAt state (at_start bytes) file it = subst (λ q. IfSome q (λ p. FileOpensAt state p file it)) place opened.file_opened in
-    inl (file, (opens.header, opens.describes, tells))
+reads_file_attrs bytes old at_offset_0 state file it opened entries entries' names ids names' ids' totals written =
+    let opens : FileOpensAt state (at_start bytes) file it = subst (λ q. IfSome q (λ p. FileOpensAt state p file it)) at_offset_0 opened.file_opened in
+    inl (file, (opens.header, opens.describes, written))
 
 pub file_attrs_error : (bytes : List ℕ) (entries : List Attr) (names ids : List ℕ) (totals : AttrTotals) (e : Error) (status : ℕ) → totals ≡ zero_totals status → status ≡ error_status e → (e ≢ Memory → IsFileError (at_start bytes) e)
     → ReadsFileAttrs bytes entries names ids totals entries names ids
-file_attrs_error bytes entries names ids totals e status none is why =
-    inr ((e, ap (λ t. t.status) none ∙ is, why), none ∙ ap zero_totals (sym (ap (λ t. t.status) none)), refl, refl, refl)
+file_attrs_error bytes entries names ids totals e status none is cause =
+    inr ((e, ap (λ t. t.status) none ∙ is, cause), none ∙ ap zero_totals (sym (ap (λ t. t.status) none)), refl, refl, refl)
 
 pub pipe_attrs_error : (bytes : List ℕ) (entries : List Attr) (names ids : List ℕ) (totals : AttrTotals) (e : Error) (status : ℕ) → totals ≡ zero_totals status → status ≡ error_status e → (e ≢ Memory → IsPipeError bytes e)
     → ReadsPipeAttrs bytes entries names ids totals entries names ids
-pipe_attrs_error bytes entries names ids totals e status none is why =
-    inr ((e, ap (λ t. t.status) none ∙ is, why), none ∙ ap zero_totals (sym (ap (λ t. t.status) none)), refl, refl, refl)
+pipe_attrs_error bytes entries names ids totals e status none is cause =
+    inr ((e, ap (λ t. t.status) none ∙ is, cause), none ∙ ap zero_totals (sym (ap (λ t. t.status) none)), refl, refl, refl)
 
-pub reads_pipe_attrs : (bytes : List ℕ) (old : State) (told_bytes : old.bytes ≡ Some bytes) (steady : IsTrue old.steady) {R : Type 0} (state : R → State) (file : PerfFile) (it : PerfRecordIter R) (o : PipeParsed state old file it)
-    (base first : ℕ) (table table' : List Record) (walked : WalkResult) (new : PerfRecordIter R) (file' : PerfFile) → WalksRecords state it file base first table walked new file' table'
+pub reads_pipe_attrs : (bytes : List ℕ) (old : State) (known : old.bytes ≡ Some bytes) (steady : IsTrue old.steady) {R : Type 0} (state : R → State) (file : PerfFile) (it : PerfRecordIter R) (o : PipeParsed state old file it)
+    (base start : ℕ) (table table' : List Record) (walked : WalkResult) (new : PerfRecordIter R) (file' : PerfFile) → WalksRecords state it file base start table walked new file' table'
     → (status : ℕ) → status ≡ walk_status walked.end → (entries entries' : List Attr) (names ids names' ids' : List ℕ) (totals : AttrTotals) → WritesAttrsOrPrefix (descriptions_of_file file') status entries names ids totals entries' names' ids'
     → ReadsPipeAttrs bytes entries names ids totals entries' names' ids'
-reads_pipe_attrs bytes old told_bytes steady state file it o base first table table' walked new file' w status is entries entries' names ids names' ids' totals tells =
-    let end = pipe_ends bytes old told_bytes steady state file it o w.iter_at_end new w.file_at_end file' w.records w.returned walked.end w.ends in
-    inl (w.records, (file', (walk_status walked.end, is_pipe_with_records bytes old told_bytes steady state file it o w.records (walk_status walked.end) file' end.pieces end.holds end.end_is, subst (λ s. WritesAttrsOrPrefix (descriptions_of_file file') s entries names ids totals entries' names' ids') is tells)))
+reads_pipe_attrs bytes old known steady state file it o base start table table' walked new file' w status is entries entries' names ids names' ids' totals written =
+    let end = pipe_ends bytes old known steady state file it o w.iter_at_end new w.file_at_end file' w.records w.returned walked.end w.ends in
+    inl (w.records, (file', (walk_status walked.end, is_pipe_with_records bytes old known steady state file it o w.records (walk_status walked.end) file' end.metadata_records end.holds end.end_is, subst (λ s. WritesAttrsOrPrefix (descriptions_of_file file') s entries names ids totals entries' names' ids') is written)))

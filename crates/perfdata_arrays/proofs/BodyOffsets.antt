@@ -17,7 +17,7 @@ pub has_bodies-prefix : (all : List ℕ) (base : ℕ) (records more : List Recor
 has_bodies-prefix all base [] more stand = tt
 has_bodies-prefix all base (h ∷ hs) more (one, rest) = (one, has_bodies-prefix all base hs more rest)
 
-module _ (order : Endianness) (bound : SectionSize) (all : List ℕ) (base : ℕ) where
+module _ (endian : Endianness) (bound : SectionSize) (all : List ℕ) (base : ℕ) where
   -- the bytes after a raw record
   next_record_bytes : (offset : ℕ) (p more : List ℕ) → drop (base + offset) all ≡ p ++ more → drop (base + (offset + length p)) all ≡ more
   next_record_bytes offset p more is =
@@ -32,31 +32,31 @@ module _ (order : Endianness) (bound : SectionSize) (all : List ℕ) (base : ℕ
 
   -- a raw record is a marker or a returned record
   marker_or_record : (offset round : ℕ) (attrs : List Attribute) (p : List ℕ) (ps : List (List ℕ)) (b : Bool)
-      → HasBodiesAt all base (record_views order bound (offset + length p) (round + 1) (attrs ++ attributes_in_record order bound (record_type_of order p) (drop 8 p)) ps)
-      → HasBytesAt all (base + offset + 8) (drop 8 p) × HasBodiesAt all base (record_views order bound (offset + length p) round (attrs ++ attributes_in_record order bound (record_type_of order p) (drop 8 p)) ps)
+      → HasBodiesAt all base (record_views endian bound (offset + length p) (round + 1) (attrs ++ attributes_in_record endian bound (record_type_of endian p) (drop 8 p)) ps)
+      → HasBytesAt all (base + offset + 8) (drop 8 p) × HasBodiesAt all base (record_views endian bound (offset + length p) round (attrs ++ attributes_in_record endian bound (record_type_of endian p) (drop 8 p)) ps)
       → HasBodiesAt all base (if b
-      then record_views order bound (offset + length p) (round + 1) (attrs ++ attributes_in_record order bound (record_type_of order p) (drop 8 p)) ps
-      else record_view_in order offset round attrs p ∷ record_views order bound (offset + length p) round (attrs ++ attributes_in_record order bound (record_type_of order p) (drop 8 p)) ps)
+      then record_views endian bound (offset + length p) (round + 1) (attrs ++ attributes_in_record endian bound (record_type_of endian p) (drop 8 p)) ps
+      else record_view_in endian offset round attrs p ∷ record_views endian bound (offset + length p) round (attrs ++ attributes_in_record endian bound (record_type_of endian p) (drop 8 p)) ps)
   marker_or_record offset round attrs p ps true marker record_there = marker
   marker_or_record offset round attrs p ps false marker record_there = record_there
 
-  has_bodies-records : (offset round : ℕ) (attrs : List Attribute) (pieces : List (List ℕ)) (rest : List ℕ) → drop (base + offset) all ≡ concat pieces ++ rest → All (IsValidRecord order bound) pieces → HasBodiesAt all base (record_views order bound offset round attrs pieces)
+  has_bodies-records : (offset round : ℕ) (attrs : List Attribute) (raw_records : List (List ℕ)) (rest : List ℕ) → drop (base + offset) all ≡ concat raw_records ++ rest → All (IsValidRecord endian bound) raw_records → HasBodiesAt all base (record_views endian bound offset round attrs raw_records)
   has_bodies-records offset round attrs [] rest is are = tt
   has_bodies-records offset round attrs (p ∷ ps) rest is are =
-      let here : drop (base + offset) all ≡ p ++ (concat ps ++ rest) = is ∙ append_assoc p (concat ps) rest in
-      let long : 8 ≤ length p = record_least order p (All-head (IsValidRecord order bound) p ps are).is_record in
-      let next = next_record_bytes offset p (concat ps ++ rest) here in
-      let more = All-tail (IsValidRecord order bound) p ps are in
-      let brought = attrs ++ attributes_in_record order bound (record_type_of order p) (drop 8 p) in
-      marker_or_record offset round attrs p ps (record_type_of order p == 68)
-      (has_bodies-records (offset + length p) (round + 1) brought ps rest next more)
-      (body_bytes_at offset p (concat ps ++ rest) long here, has_bodies-records (offset + length p) round brought ps rest next more)
+      let next_is : drop (base + offset) all ≡ p ++ (concat ps ++ rest) = is ∙ append_assoc p (concat ps) rest in
+      let long : 8 ≤ length p = record_least endian p (All-head (IsValidRecord endian bound) p ps are).is_record in
+      let next = next_record_bytes offset p (concat ps ++ rest) next_is in
+      let more = All-tail (IsValidRecord endian bound) p ps are in
+      let attrs_after = attrs ++ attributes_in_record endian bound (record_type_of endian p) (drop 8 p) in
+      marker_or_record offset round attrs p ps (record_type_of endian p == 68)
+      (has_bodies-records (offset + length p) (round + 1) attrs_after ps rest next more)
+      (body_bytes_at offset p (concat ps ++ rest) long next_is, has_bodies-records (offset + length p) round attrs_after ps rest next more)
 
   -- it holds for the remaining records
-  pub has_bodies-remaining : (bytes : List ℕ) (attrs : List Attribute) (records : List RecordView) (end : LayoutEnd) → drop base all ≡ bytes → RemainingRecords order bytes bound 0 0 attrs records end → HasBodiesAt all base records
-  has_bodies-remaining bytes attrs records end is come =
-      let stand : drop (base + 0) all ≡ concat come.raw_records ++ come.layout.rest = ap (λ n. drop n all) (let e : base + 0 ≡ base = omega arith in e) ∙ is ∙ come.layout.split in
-      subst (HasBodiesAt all base) (sym come.elements) (has_bodies-records 0 0 attrs come.raw_records come.layout.rest stand come.layout.elements)
+  pub has_bodies-remaining : (bytes : List ℕ) (attrs : List Attribute) (records : List RecordView) (end : LayoutEnd) → drop base all ≡ bytes → RemainingRecords endian bytes bound 0 0 attrs records end → HasBodiesAt all base records
+  has_bodies-remaining bytes attrs records end is remaining =
+      let stand : drop (base + 0) all ≡ concat remaining.raw_records ++ remaining.layout.rest = ap (λ n. drop n all) (let e : base + 0 ≡ base = omega arith in e) ∙ is ∙ remaining.layout.split in
+      subst (HasBodiesAt all base) (sym remaining.elements) (has_bodies-records 0 0 attrs remaining.raw_records remaining.layout.rest stand remaining.layout.elements)
 
-  pub has_bodies-first : (bytes : List ℕ) (attrs : List Attribute) (records : List RecordView) → drop base all ≡ bytes → AreFirstRecords (RemainingRecords order bytes bound 0 0 attrs) records → HasBodiesAt all base records
+  pub has_bodies-first : (bytes : List ℕ) (attrs : List Attribute) (records : List RecordView) → drop base all ≡ bytes → AreFirstRecords (RemainingRecords endian bytes bound 0 0 attrs) records → HasBodiesAt all base records
   has_bodies-first bytes attrs records is first = has_bodies-prefix all base records first.0 (has_bodies-remaining bytes attrs (records ++ first.0) first.1.0 is first.1.1)

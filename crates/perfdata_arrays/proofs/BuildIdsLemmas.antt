@@ -20,30 +20,30 @@ build_id_is_prefix : (misc : ℕ) (xs id : List ℕ) → IsBuildIdIn misc xs id 
 build_id_is_prefix misc xs id is = go (is_set misc 15) is.explicit_length is.zeros_trimmed
   where
     go : (b : Bool) → (IsTrue b → id ≡ take (min (slice_index xs 20) 20) xs) → ((¬ IsTrue b) → IsWithoutZeroGroups (take 20 xs) id) → (rest : List ℕ) × (xs ≡ id ++ rest)
-    go true told untold = (drop (min (slice_index xs 20) 20) xs, sym (take-append-drop (min (slice_index xs 20) 20) xs) ∙ ap (λ l. l ++ drop (min (slice_index xs 20) 20) xs) (sym (told refl)))
-    go false told untold =
-        let trimmed = untold (λ x. cc) in (
+    go true explicit trims = (drop (min (slice_index xs 20) 20) xs, sym (take-append-drop (min (slice_index xs 20) 20) xs) ∙ ap (λ l. l ++ drop (min (slice_index xs 20) 20) xs) (sym (explicit refl)))
+    go false explicit trims =
+        let trimmed = trims (λ x. cc) in (
           zero_groups trimmed.groups ++ drop 20 xs,
           sym (take-append-drop 20 xs) ∙ ap (λ l. l ++ drop 20 xs) trimmed.split ∙ append_assoc id (zero_groups trimmed.groups) (drop 20 xs),
         )
 
-module _ (order : Endianness) (section : List ℕ) (at : ℕ) where
-  pub has_build_id_at : (first behind : List ℕ) (entry : Entry) (told : BuildId) → drop at section ≡ first ++ behind → IsBuildIdEntry (number_in order) first entry → told ≡ build_id_entry at (length first) entry → HasBuildIdAt order section at told
-  has_build_id_at first behind entry told cut is are =
+module _ (endian : Endianness) (section : List ℕ) (at : ℕ) where
+  pub has_build_id_at : (first rest : List ℕ) (entry : Entry) (out : BuildId) → drop at section ≡ first ++ rest → IsBuildIdEntry (number_in endian) first entry → out ≡ build_id_entry at (length first) entry → HasBuildIdAt endian section at out
+  has_build_id_at first rest entry out split is are =
       let long = is.has_fixed_part in
-      let id = build_id_is_prefix (number_in order 2 (drop 4 first)) (take 24 (drop 12 first)) entry.build_id is.build_id in
-      let at_id : drop (at + 12) section ≡ drop 12 first ++ behind = sym (drop-drop 12 at section) ∙ ap (drop 12) cut ∙ drop-append-le 12 first behind (omega (arith, long)) in
+      let id = build_id_is_prefix (number_in endian 2 (drop 4 first)) (take 24 (drop 12 first)) entry.build_id is.build_id in
+      let at_id : drop (at + 12) section ≡ drop 12 first ++ rest = sym (drop-drop 12 at section) ∙ ap (drop 12) split ∙ drop-append-le 12 first rest (omega (arith, long)) in
       let all_id : drop 12 first ≡ entry.build_id ++ (id.0 ++ drop 24 (drop 12 first)) = sym (take-append-drop 24 (drop 12 first)) ∙ ap (λ l. l ++ drop 24 (drop 12 first)) id.1 ∙ append_assoc entry.build_id id.0 (drop 24 (drop 12 first)) in
-      let at_path : drop (at + 36) section ≡ drop 36 first ++ behind = sym (drop-drop 36 at section) ∙ ap (drop 36) cut ∙ drop-append-le 36 first behind long in
+      let at_path : drop (at + 36) section ≡ drop 36 first ++ rest = sym (drop-drop 36 at section) ∙ ap (drop 36) split ∙ drop-append-le 36 first rest long in
       let text : take (length entry.path) (drop 36 first) ≡ entry.path = ap (λ l. take (length l) (drop 36 first)) is.path ∙ ap (λ n. take n (drop 36 first)) (length-prefix_len _ (drop 36 first)) ∙ sym is.path in
       record {
         entry_bytes = first;
-        rest = behind;
-        cut = cut;
+        rest = rest;
+        split = split;
         entry = entry;
         is = is;
         matches_entry = are;
-        id = take-length (drop (at + 12) section) entry.build_id ((id.0 ++ drop 24 (drop 12 first)) ++ behind) (at_id ∙ ap (λ l. l ++ behind) all_id ∙ append_assoc entry.build_id (id.0 ++ drop 24 (drop 12 first)) behind);
-        path = take-length (drop (at + 36) section) entry.path (drop (length entry.path) (drop 36 first) ++ behind)
-            (at_path ∙ ap (λ l. l ++ behind) (sym (take-append-drop (length entry.path) (drop 36 first)) ∙ ap (λ l. l ++ drop (length entry.path) (drop 36 first)) text) ∙ append_assoc entry.path (drop (length entry.path) (drop 36 first)) behind);
+        id_bytes = take-length (drop (at + 12) section) entry.build_id ((id.0 ++ drop 24 (drop 12 first)) ++ rest) (at_id ∙ ap (λ l. l ++ rest) all_id ∙ append_assoc entry.build_id (id.0 ++ drop 24 (drop 12 first)) rest);
+        path_bytes = take-length (drop (at + 36) section) entry.path (drop (length entry.path) (drop 36 first) ++ rest)
+            (at_path ∙ ap (λ l. l ++ rest) (sym (take-append-drop (length entry.path) (drop 36 first)) ∙ ap (λ l. l ++ drop (length entry.path) (drop 36 first)) text) ∙ append_assoc entry.path (drop (length entry.path) (drop 36 first)) rest);
       }

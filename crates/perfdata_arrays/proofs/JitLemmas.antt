@@ -33,64 +33,64 @@ take-min (suc n) (suc m) (x ∷ xs) is = ap (λ l. x ∷ l) (take-min n m xs (om
 pub header_is_little_endian : (bytes : List ℕ) (h : JitDumpHeader) → BeginsWithJitHeader bytes h → slice_index h.magic 0 ≡ 68 → IsJitHeader LittleEndian bytes h
 header_is_little_endian bytes h b first = go b.endian b.matches
   where
-    go : (order : Endianness) → IsJitHeader order bytes h → IsJitHeader LittleEndian bytes h
+    go : (endian : Endianness) → IsJitHeader endian bytes h → IsJitHeader LittleEndian bytes h
     go LittleEndian is = is
     go BigEndian is = (let other : slice_index h.magic 0 ≡ 74 = ap (λ l. slice_index l 0) is.magic in absurd (omega (arith, other, first)))
 
 pub header_is_big_endian : (bytes : List ℕ) (h : JitDumpHeader) → BeginsWithJitHeader bytes h → slice_index h.magic 0 ≢ 68 → IsJitHeader BigEndian bytes h
 header_is_big_endian bytes h b other = go b.endian b.matches
   where
-    go : (order : Endianness) → IsJitHeader order bytes h → IsJitHeader BigEndian bytes h
+    go : (endian : Endianness) → IsJitHeader endian bytes h → IsJitHeader BigEndian bytes h
     go LittleEndian is = absurd (other (ap (λ l. slice_index l 0) is.magic))
     go BigEndian is = is
 
-module _ (order : Endianness) where
+module _ (endian : Endianness) where
   -- the record header of a prefix is that of all bytes
-  record_header-prefix : (xs : List ℕ) (size : ℕ) → 16 ≤ size → size ≤ length xs → record_header_at order (take size xs) ≡ record_header_at order xs
+  record_header-prefix : (xs : List ℕ) (size : ℕ) → 16 ≤ size → size ≤ length xs → record_header_at endian (take size xs) ≡ record_header_at endian xs
   record_header-prefix xs size least within =
       let p : List ℕ = take size xs in
       let rest : List ℕ = drop size xs in
-      let whole : p ++ rest ≡ xs = take-append-drop size xs in
+      let joined : p ++ rest ≡ xs = take-append-drop size xs in
       let long : length p ≡ size = length-take-le size xs within in
-      let kind : number_in order 4 p ≡ number_in order 4 xs = sym (number_front order 4 p rest (omega (arith, long, least))) ∙ ap (number_in order 4) whole in
-      let told : number_in order 4 (drop 4 p) ≡ number_in order 4 (drop 4 xs) = sym (number_drop_front order 4 4 p rest (omega (arith, long, least))) ∙ ap (λ l. number_in order 4 (drop 4 l)) whole in
-      let time : number_in order 8 (drop 8 p) ≡ number_in order 8 (drop 8 xs) = sym (number_drop_front order 8 8 p rest (omega (arith, long, least))) ∙ ap (λ l. number_in order 8 (drop 8 l)) whole in
-      λ i. record { record_type = record { 0 = kind i }; total_size = told i; timestamp = time i }
+      let type_is : number_in endian 4 p ≡ number_in endian 4 xs = sym (number_front endian 4 p rest (omega (arith, long, least))) ∙ ap (number_in endian 4) joined in
+      let size_is : number_in endian 4 (drop 4 p) ≡ number_in endian 4 (drop 4 xs) = sym (number_drop_front endian 4 4 p rest (omega (arith, long, least))) ∙ ap (λ l. number_in endian 4 (drop 4 l)) joined in
+      let time_is : number_in endian 8 (drop 8 p) ≡ number_in endian 8 (drop 8 xs) = sym (number_drop_front endian 8 8 p rest (omega (arith, long, least))) ∙ ap (λ l. number_in endian 8 (drop 8 l)) joined in
+      λ i. record { record_type = record { 0 = type_is i }; total_size = size_is i; timestamp = time_is i }
 
   -- ---- the record at an offset
 
-  pub finds_none-short : (bytes : List ℕ) (at : ℕ) → length (drop at bytes) < 16 → FindsRecord order bytes at (Ok None)
+  pub finds_none-short : (bytes : List ℕ) (at : ℕ) → length (drop at bytes) < 16 → FindsRecord endian bytes at (Ok None)
   finds_none-short bytes at few = inl few
 
-  pub finds_none-past_end : (bytes : List ℕ) (at : ℕ) → length bytes < at → FindsRecord order bytes at (Ok None)
+  pub finds_none-past_end : (bytes : List ℕ) (at : ℕ) → length bytes < at → FindsRecord endian bytes at (Ok None)
   finds_none-past_end bytes at past = inl (let long = length-drop at bytes in omega (arith, long, past))
 
-  pub finds_invalid_size : (bytes : List ℕ) (at size : ℕ) → 16 ≤ length (drop at bytes) → size ≡ number_in order 4 (drop 4 (drop at bytes)) → size < 16 → FindsRecord order bytes at (Err 43)
-  finds_invalid_size bytes at size head is small = (refl, record { has_header = head; cause = inl (subst (λ n. n < 16) is small) })
+  pub finds_invalid_size : (bytes : List ℕ) (at size : ℕ) → 16 ≤ length (drop at bytes) → size ≡ number_in endian 4 (drop 4 (drop at bytes)) → size < 16 → FindsRecord endian bytes at (Err 43)
+  finds_invalid_size bytes at size has_header is small = (refl, record { has_header = has_header; cause = inl (subst (λ n. n < 16) is small) })
 
-  pub finds_none-truncated : (bytes : List ℕ) (at size : ℕ) → 16 ≤ length (drop at bytes) → size ≡ number_in order 4 (drop 4 (drop at bytes)) → 16 ≤ size → size < 2 ^ 32 → at ≤ length bytes → length bytes < 2 ^ 63
-      → length (drop at bytes) < size → FindsRecord order bytes at (Ok None)
-  finds_none-truncated bytes at size head is least most within near few = inr (record {
-    has_header = head;
+  pub finds_none-truncated : (bytes : List ℕ) (at size : ℕ) → 16 ≤ length (drop at bytes) → size ≡ number_in endian 4 (drop 4 (drop at bytes)) → 16 ≤ size → size < 2 ^ 32 → at ≤ length bytes → length bytes < 2 ^ 63
+      → length (drop at bytes) < size → FindsRecord endian bytes at (Ok None)
+  finds_none-truncated bytes at size has_header is least most within in_range few = inr (record {
+    has_header = has_header;
     min_size = subst (λ n. 16 ≤ n) is least;
-    end_fits = subst (λ n. at + n < 2 ^ 64) is (omega (arith, most, within, near));
+    end_fits = subst (λ n. at + n < 2 ^ 64) is (omega (arith, most, within, in_range));
     too_few = subst (λ n. length (drop at bytes) < n) is few;
   })
 
-  pub finds_whole : (bytes : List ℕ) (at size time kind : ℕ) → size ≡ number_in order 4 (drop 4 (drop at bytes)) → 16 ≤ size → size ≤ length (drop at bytes) → at ≤ length bytes → length bytes < 2 ^ 63
-      → time ≡ number_in order 8 (drop 8 (drop at bytes)) → kind ≡ number_in order 4 (drop at bytes) → FindsRecord order bytes at (Ok (Some (record { offset = at; timestamp = time; record_type = kind; size = size })))
-  finds_whole bytes at size time kind is least there within near is_time is_kind =
+  pub finds_whole : (bytes : List ℕ) (at size time_is type_is : ℕ) → size ≡ number_in endian 4 (drop 4 (drop at bytes)) → 16 ≤ size → size ≤ length (drop at bytes) → at ≤ length bytes → length bytes < 2 ^ 63
+      → time_is ≡ number_in endian 8 (drop 8 (drop at bytes)) → type_is ≡ number_in endian 4 (drop at bytes) → FindsRecord endian bytes at (Ok (Some (record { offset = at; timestamp = time_is; record_type = type_is; size = size })))
+  finds_whole bytes at size time_is type_is is least there within in_range is_time is_kind =
       let xs : List ℕ = drop at bytes in
       let same = record_header-prefix xs size least there in
       let long : length (take size xs) ≡ size = length-take-le size xs there in (
         take size xs,
         record {
           rest = drop size xs;
-          cut = sym (take-append-drop size xs);
+          split = sym (take-append-drop size xs);
           record_valid = record {
             min_size = omega (arith, long, least);
             size = ap (λ h. h.total_size) same ∙ sym is ∙ sym long;
-            end_fits = omega (arith, long, there, within, near, length-drop at bytes);
+            end_fits = omega (arith, long, there, within, in_range, length-drop at bytes);
           };
         },
         λ i. record {
@@ -103,96 +103,96 @@ module _ (order : Endianness) where
 
   -- ---- consecutive records
 
-  records-snoc : (offset : ℕ) (pieces : List (List ℕ)) (next : List ℕ) → AreRecords order offset pieces → IsOneRecord order (offset + length (concat pieces)) next → AreRecords order offset (pieces ++ next ∷ [])
-  records-snoc offset [] next are is = (subst (λ n. IsOneRecord order n next) (let e : offset + 0 ≡ offset = omega arith in e) is, tt)
-  records-snoc offset (piece ∷ pieces) next are is =
-      let sum : offset + length (piece ++ concat pieces) ≡ (offset + length piece) + length (concat pieces) = omega (arith, length-append piece (concat pieces)) in
-      (are.0, records-snoc (offset + length piece) pieces next are.1 (subst (λ n. IsOneRecord order n next) sum is))
+  records-snoc : (offset : ℕ) (raw_records : List (List ℕ)) (next : List ℕ) → AreRecords endian offset raw_records → IsOneRecord endian (offset + length (concat raw_records)) next → AreRecords endian offset (raw_records ++ next ∷ [])
+  records-snoc offset [] next are is = (subst (λ n. IsOneRecord endian n next) (let e : offset + 0 ≡ offset = omega arith in e) is, tt)
+  records-snoc offset (raw ∷ raw_records) next are is =
+      let sum : offset + length (raw ++ concat raw_records) ≡ (offset + length raw) + length (concat raw_records) = omega (arith, length-append raw (concat raw_records)) in
+      (are.0, records-snoc (offset + length raw) raw_records next are.1 (subst (λ n. IsOneRecord endian n next) sum is))
 
-  jit_entries-snoc : (offset : ℕ) (pieces : List (List ℕ)) (next : List ℕ) → jit_entries order offset (pieces ++ next ∷ []) ≡ jit_entries order offset pieces ++ jit_entry order (offset + length (concat pieces)) next ∷ []
-  jit_entries-snoc offset [] next = ap (λ n. jit_entry order n next ∷ []) (let e : offset ≡ offset + 0 = omega arith in e)
-  jit_entries-snoc offset (piece ∷ pieces) next =
-      let sum : (offset + length piece) + length (concat pieces) ≡ offset + length (piece ++ concat pieces) = omega (arith, length-append piece (concat pieces)) in
-      ap (λ l. jit_entry order offset piece ∷ l) (jit_entries-snoc (offset + length piece) pieces next ∙ ap (λ n. jit_entries order (offset + length piece) pieces ++ jit_entry order n next ∷ []) sum)
+  jit_entries-snoc : (offset : ℕ) (raw_records : List (List ℕ)) (next : List ℕ) → jit_entries endian offset (raw_records ++ next ∷ []) ≡ jit_entries endian offset raw_records ++ jit_entry endian (offset + length (concat raw_records)) next ∷ []
+  jit_entries-snoc offset [] next = ap (λ n. jit_entry endian n next ∷ []) (let e : offset ≡ offset + 0 = omega arith in e)
+  jit_entries-snoc offset (raw ∷ raw_records) next =
+      let sum : (offset + length raw) + length (concat raw_records) ≡ offset + length (raw ++ concat raw_records) = omega (arith, length-append raw (concat raw_records)) in
+      ap (λ l. jit_entry endian offset raw ∷ l) (jit_entries-snoc (offset + length raw) raw_records next ∙ ap (λ n. jit_entries endian (offset + length raw) raw_records ++ jit_entry endian n next ∷ []) sum)
 
-  length-jit_entries : (offset : ℕ) (pieces : List (List ℕ)) → length (jit_entries order offset pieces) ≡ length pieces
+  length-jit_entries : (offset : ℕ) (raw_records : List (List ℕ)) → length (jit_entries endian offset raw_records) ≡ length raw_records
   length-jit_entries offset [] = refl
-  length-jit_entries offset (piece ∷ pieces) = ap (λ n. suc n) (length-jit_entries (offset + length piece) pieces)
+  length-jit_entries offset (raw ∷ raw_records) = ap (λ n. suc n) (length-jit_entries (offset + length raw) raw_records)
 
-  concat-snoc : (pieces : List (List ℕ)) (next : List ℕ) → concat (pieces ++ next ∷ []) ≡ concat pieces ++ next
-  concat-snoc pieces next = concat-append pieces (next ∷ []) ∙ ap (λ l. concat pieces ++ l) (append-nil next)
+  concat-snoc : (raw_records : List (List ℕ)) (next : List ℕ) → concat (raw_records ++ next ∷ []) ≡ concat raw_records ++ next
+  concat-snoc raw_records next = concat-append raw_records (next ∷ []) ∙ ap (λ l. concat raw_records ++ l) (append-nil next)
 
-  pub writes_jit_records-none : (bytes : List ℕ) (from : ℕ) (old : List JitRecord) → WritesJitRecords order bytes from [] old 0 from old
-  writes_jit_records-none bytes from old = record { counted = refl; next_offset_is = omega arith; cut = refl; elements = tt; within_capacity = omega arith; written = refl }
+  pub writes_jit_records-none : (bytes : List ℕ) (from : ℕ) (old : List JitRecord) → WritesJitRecords endian bytes from [] old 0 from old
+  writes_jit_records-none bytes from old = record { counted = refl; next_offset_is = omega arith; split = refl; elements = tt; within_capacity = omega arith; written = refl }
 
-  pub writes_jit_records-snoc : (bytes : List ℕ) (from : ℕ) (pieces : List (List ℕ)) (old : List JitRecord) (count next : ℕ) (new : List JitRecord) (piece : List ℕ) (r : JitRecord) → WritesJitRecords order bytes from pieces old count next new → count < length old
-      → HasWholeRecordAt order bytes next piece → r ≡ jit_entry order next piece → WritesJitRecords order bytes from (pieces ++ piece ∷ []) old (count + 1) (next + r.size) (slice_set new count r)
-  writes_jit_records-snoc bytes from pieces old count next new piece r t room whole is =
-      let all = concat-snoc pieces piece in
-      let size : r.size ≡ length piece = ap (λ e. e.size) is ∙ whole.record_valid.size in
-      let stands = t.next_offset_is in
+  pub writes_jit_records-snoc : (bytes : List ℕ) (from : ℕ) (raw_records : List (List ℕ)) (old : List JitRecord) (count next : ℕ) (new : List JitRecord) (raw : List ℕ) (r : JitRecord) → WritesJitRecords endian bytes from raw_records old count next new → count < length old
+      → HasWholeRecordAt endian bytes next raw → r ≡ jit_entry endian next raw → WritesJitRecords endian bytes from (raw_records ++ raw ∷ []) old (count + 1) (next + r.size) (slice_set new count r)
+  writes_jit_records-snoc bytes from raw_records old count next new raw r t fits found is =
+      let all = concat-snoc raw_records raw in
+      let size : r.size ≡ length raw = ap (λ e. e.size) is ∙ found.record_valid.size in
+      let next_is = t.next_offset_is in
       let counted = t.counted in
-      let behind : drop (next + r.size) bytes ≡ whole.rest = ap (λ n. drop (next + n) bytes) size ∙ sym (drop-drop (length piece) next bytes) ∙ ap (drop (length piece)) whole.cut ∙ drop-append_seam piece whole.rest in
-      let entries : List JitRecord = jit_entries order from pieces in
-      let long : length entries ≡ count = length-jit_entries from pieces ∙ sym counted in
+      let rest_is : drop (next + r.size) bytes ≡ found.rest = ap (λ n. drop (next + n) bytes) size ∙ sym (drop-drop (length raw) next bytes) ∙ ap (drop (length raw)) found.split ∙ drop-append_seam raw found.rest in
+      let entries : List JitRecord = jit_entries endian from raw_records in
+      let long : length entries ≡ count = length-jit_entries from raw_records ∙ sym counted in
       record {
-        counted = omega (arith, counted, length-append pieces (piece ∷ []));
-        next_offset_is = omega (arith, stands, size, ap length all, length-append (concat pieces) piece);
-        cut = t.cut ∙ ap (λ l. concat pieces ++ l) whole.cut ∙ sym (append_assoc (concat pieces) piece whole.rest) ∙ ap (λ l. l ++ whole.rest) (sym all) ∙ ap (λ l. concat (pieces ++ piece ∷ []) ++ l) (sym behind);
-        elements = records-snoc from pieces piece t.elements (subst (λ n. IsOneRecord order n piece) stands whole.record_valid);
-        within_capacity = omega (arith, counted, room, length-append pieces (piece ∷ []));
-        written = ap (λ l. slice_set l count r) t.written ∙ ap (λ n. slice_set (with_prefix entries old) n r) (sym long) ∙ sym (with_prefix-snoc entries old r (omega (arith, long, room)))
-            ∙ ap (λ e. with_prefix (entries ++ e ∷ []) old) (is ∙ ap (λ n. jit_entry order n piece) stands) ∙ ap (λ l. with_prefix l old) (sym (jit_entries-snoc from pieces piece));
+        counted = omega (arith, counted, length-append raw_records (raw ∷ []));
+        next_offset_is = omega (arith, next_is, size, ap length all, length-append (concat raw_records) raw);
+        split = t.split ∙ ap (λ l. concat raw_records ++ l) found.split ∙ sym (append_assoc (concat raw_records) raw found.rest) ∙ ap (λ l. l ++ found.rest) (sym all) ∙ ap (λ l. concat (raw_records ++ raw ∷ []) ++ l) (sym rest_is);
+        elements = records-snoc from raw_records raw t.elements (subst (λ n. IsOneRecord endian n raw) next_is found.record_valid);
+        within_capacity = omega (arith, counted, fits, length-append raw_records (raw ∷ []));
+        written = ap (λ l. slice_set l count r) t.written ∙ ap (λ n. slice_set (with_prefix entries old) n r) (sym long) ∙ sym (with_prefix-snoc entries old r (omega (arith, long, fits)))
+            ∙ ap (λ e. with_prefix (entries ++ e ∷ []) old) (is ∙ ap (λ n. jit_entry endian n raw) next_is) ∙ ap (λ l. with_prefix l old) (sym (jit_entries-snoc from raw_records raw));
       }
 
   -- a complete record ends within all bytes
-  pub record_end_fits : (bytes : List ℕ) (next : ℕ) (piece : List ℕ) (r : JitRecord) → HasWholeRecordAt order bytes next piece → r ≡ jit_entry order next piece → next + r.size < 2 ^ 64
-  record_end_fits bytes next piece r whole is = (let size : r.size ≡ length piece = ap (λ e. e.size) is ∙ whole.record_valid.size in let end = whole.record_valid.end_fits in omega (arith, size, end))
+  pub record_end_fits : (bytes : List ℕ) (next : ℕ) (raw : List ℕ) (r : JitRecord) → HasWholeRecordAt endian bytes next raw → r ≡ jit_entry endian next raw → next + r.size < 2 ^ 64
+  record_end_fits bytes next raw r found is = (let size : r.size ≡ length raw = ap (λ e. e.size) is ∙ found.record_valid.size in let end = found.record_valid.end_fits in omega (arith, size, end))
 
   -- ---- a load record
 
   -- its body is all that follows its record header
-  pub body_bytes : (bytes : List ℕ) (at size : ℕ) (piece : List ℕ) → (s : HasWholeRecordAt order bytes at piece) → size ≡ length piece
-      → take (size - 16) (take (length bytes - (at + 16)) (drop (at + 16) bytes)) ≡ drop 16 piece
-  body_bytes bytes at size piece s long =
+  pub body_bytes : (bytes : List ℕ) (at size : ℕ) (raw : List ℕ) → (s : HasWholeRecordAt endian bytes at raw) → size ≡ length raw
+      → take (size - 16) (take (length bytes - (at + 16)) (drop (at + 16) bytes)) ≡ drop 16 raw
+  body_bytes bytes at size raw s long =
       let least = s.record_valid.min_size in
-      let behind : drop (at + 16) bytes ≡ drop 16 piece ++ s.rest = sym (drop-drop 16 at bytes) ∙ ap (drop 16) s.cut ∙ drop-append-le 16 piece s.rest least in
-      ap (take (size - 16)) (take-drop-length (at + 16) bytes ∙ behind) ∙ take-prefix (drop 16 piece ++ s.rest) (drop 16 piece) s.rest (size - 16) refl (omega (arith, long, length-drop 16 piece))
+      let rest_is : drop (at + 16) bytes ≡ drop 16 raw ++ s.rest = sym (drop-drop 16 at bytes) ∙ ap (drop 16) s.split ∙ drop-append-le 16 raw s.rest least in
+      ap (take (size - 16)) (take-drop-length (at + 16) bytes ∙ rest_is) ∙ take-prefix (drop 16 raw ++ s.rest) (drop 16 raw) s.rest (size - 16) refl (omega (arith, long, length-drop 16 raw))
 
-  pub is_load_at : (bytes : List ℕ) (at : ℕ) (piece : List ℕ) (load : JitCodeLoadRecord) → HasWholeRecordAt order bytes at piece → (record_header_at order piece).record_type.0 ≡ 0 → IsLoad (number_in order) (drop 16 piece) load → IsLoadAt order bytes at load
-  is_load_at bytes at piece load s kind is =
+  pub is_load_at : (bytes : List ℕ) (at : ℕ) (raw : List ℕ) (load : JitCodeLoadRecord) → HasWholeRecordAt endian bytes at raw → (record_header_at endian raw).record_type.0 ≡ 0 → IsLoad (number_in endian) (drop 16 raw) load → IsLoadAt endian bytes at load
+  is_load_at bytes at raw load s type_is is =
       let name : List ℕ = bytes_of load.function_name in
       let code : List ℕ = bytes_of load.code_bytes in
-      let cut : drop 40 (drop 16 piece) ≡ name ++ (0 ∷ (code ++ is.after_body)) = is.name_text.split in
-      let long : 57 ≤ length piece = omega (arith, ap length cut, length-append name (0 ∷ (code ++ is.after_body)), length-drop 40 (drop 16 piece), length-drop 16 piece) in
+      let split : drop 40 (drop 16 raw) ≡ name ++ (0 ∷ (code ++ is.after_body)) = is.name_text.split in
+      let long : 57 ≤ length raw = omega (arith, ap length split, length-append name (0 ∷ (code ++ is.after_body)), length-drop 40 (drop 16 raw), length-drop 16 raw) in
       let tail : drop (at + 56) bytes ≡ name ++ (0 ∷ ((code ++ is.after_body) ++ s.rest)) =
-      sym (drop-drop 56 at bytes) ∙ ap (drop 56) s.cut ∙ drop-append-le 56 piece s.rest (omega (arith, long))
-      ∙ ap (λ l. l ++ s.rest) (sym (drop-drop 40 16 piece) ∙ cut) ∙ append_assoc name (0 ∷ (code ++ is.after_body)) s.rest in
-      let behind : drop (at + 57 + length name) bytes ≡ code ++ (is.after_body ++ s.rest) =
+      sym (drop-drop 56 at bytes) ∙ ap (drop 56) s.split ∙ drop-append-le 56 raw s.rest (omega (arith, long))
+      ∙ ap (λ l. l ++ s.rest) (sym (drop-drop 40 16 raw) ∙ split) ∙ append_assoc name (0 ∷ (code ++ is.after_body)) s.rest in
+      let rest_is : drop (at + 57 + length name) bytes ≡ code ++ (is.after_body ++ s.rest) =
       ap (λ n. drop n bytes) (let e : at + 57 + length name ≡ (at + 56) + (length name + 1) = omega arith in e) ∙ sym (drop-drop (length name + 1) (at + 56) bytes)
       ∙ ap (drop (length name + 1)) tail ∙ drop-append-add name (0 ∷ ((code ++ is.after_body) ++ s.rest)) 1 ∙ append_assoc code is.after_body s.rest in
       record {
-        piece = piece;
+        raw = raw;
         whole_record = s;
-        is_load = kind;
+        is_load = type_is;
         is = is;
         name_bytes_at = ap (take (length name)) tail ∙ take-append_seam name (0 ∷ ((code ++ is.after_body) ++ s.rest));
-        code_bytes_at = ap (take (length code)) behind ∙ take-append_seam code (is.after_body ++ s.rest);
+        code_bytes_at = ap (take (length code)) rest_is ∙ take-append_seam code (is.after_body ++ s.rest);
       }
 
   -- the end of its name is in bounds
-  pub name_in_bounds : (bytes : List ℕ) (at : ℕ) (piece : List ℕ) (load : JitCodeLoadRecord) → HasWholeRecordAt order bytes at piece → IsLoad (number_in order) (drop 16 piece) load → at + 57 + length (bytes_of load.function_name) ≤ at + length piece
-  name_in_bounds bytes at piece load s is =
+  pub name_in_bounds : (bytes : List ℕ) (at : ℕ) (raw : List ℕ) (load : JitCodeLoadRecord) → HasWholeRecordAt endian bytes at raw → IsLoad (number_in endian) (drop 16 raw) load → at + 57 + length (bytes_of load.function_name) ≤ at + length raw
+  name_in_bounds bytes at raw load s is =
       let name : List ℕ = bytes_of load.function_name in
       let rest : List ℕ = bytes_of load.code_bytes ++ is.after_body in
-      omega (arith, ap length is.name_text.split, length-append name (0 ∷ rest), length-drop 40 (drop 16 piece), length-drop 16 piece)
+      omega (arith, ap length is.name_text.split, length-append name (0 ∷ rest), length-drop 40 (drop 16 raw), length-drop 16 raw)
 
   -- a record that was found lies within all bytes
-  pub found_in_bounds : (bytes : List ℕ) (at : ℕ) (r : JitRecord) → FindsRecord order bytes at (Ok (Some r)) → (r.offset ≡ at) × (16 ≤ r.size) × (at + r.size ≤ length bytes)
-  found_in_bounds bytes at r (piece, s, is) =
-      let size : r.size ≡ length piece = ap (λ e. e.size) is ∙ s.record_valid.size in
+  pub found_in_bounds : (bytes : List ℕ) (at : ℕ) (r : JitRecord) → FindsRecord endian bytes at (Ok (Some r)) → (r.offset ≡ at) × (16 ≤ r.size) × (at + r.size ≤ length bytes)
+  found_in_bounds bytes at r (raw, s, is) =
+      let size : r.size ≡ length raw = ap (λ e. e.size) is ∙ s.record_valid.size in
       let least = s.record_valid.min_size in (
         ap (λ e. e.offset) is,
         omega (arith, size, least),
-        omega (arith, size, least, ap length s.cut, length-append piece s.rest, length-drop at bytes),
+        omega (arith, size, least, ap length s.split, length-append raw s.rest, length-drop at bytes),
       )

@@ -7,10 +7,10 @@ use Rattle.perfdata_arrays.specs.Overwrites.{with_prefix, with_entries_at, Write
 
 -- one more entry that fits in the array
 pub with_prefix-snoc : {T : Type 0} (es old : List T) (e : T) → length es < length old → with_prefix (es ++ e ∷ []) old ≡ slice_set (with_prefix es old) (length es) e
-with_prefix-snoc [] [] e room = absurd (omega (arith, room))
-with_prefix-snoc [] (o ∷ os) e room = refl
-with_prefix-snoc (x ∷ es) [] e room = absurd (omega (arith, room))
-with_prefix-snoc (x ∷ es) (o ∷ os) e room = ap (λ l. x ∷ l) (with_prefix-snoc es os e (omega (arith, room)))
+with_prefix-snoc [] [] e fits = absurd (omega (arith, fits))
+with_prefix-snoc [] (o ∷ os) e fits = refl
+with_prefix-snoc (x ∷ es) [] e fits = absurd (omega (arith, fits))
+with_prefix-snoc (x ∷ es) (o ∷ os) e fits = ap (λ l. x ∷ l) (with_prefix-snoc es os e (omega (arith, fits)))
 
 -- one more entry that doesn't fit in the array
 with_prefix-snoc-full : {T : Type 0} (es old : List T) (e : T) → length old ≤ length es → with_prefix (es ++ e ∷ []) old ≡ with_prefix es old
@@ -37,27 +37,27 @@ with_prefix-nil [] = refl
 with_prefix-nil (x ∷ es) = refl
 
 -- the list from index `first` on, with one more entry
-drop-snoc-before : {T : Type 0} (first : ℕ) (es : List T) (e : T) → length es < first → drop first (es ++ e ∷ []) ≡ drop first es
-drop-snoc-before first es e less = drop_of_length-le (es ++ e ∷ []) (omega (arith, less, length-append es (e ∷ []))) ∙ sym (drop_of_length-le es (omega (arith, less)))
+drop-snoc-before : {T : Type 0} (start : ℕ) (es : List T) (e : T) → length es < start → drop start (es ++ e ∷ []) ≡ drop start es
+drop-snoc-before start es e less = drop_of_length-le (es ++ e ∷ []) (omega (arith, less, length-append es (e ∷ []))) ∙ sym (drop_of_length-le es (omega (arith, less)))
 
-drop-snoc-after : {T : Type 0} (first : ℕ) (es : List T) (e : T) → first ≤ length es → drop first (es ++ e ∷ []) ≡ drop first es ++ e ∷ []
-drop-snoc-after first es e more = drop-append-le first es (e ∷ []) more
+drop-snoc-after : {T : Type 0} (start : ℕ) (es : List T) (e : T) → start ≤ length es → drop start (es ++ e ∷ []) ≡ drop start es ++ e ∷ []
+drop-snoc-after start es e more = drop-append-le start es (e ∷ []) more
 
-pub write_entry-before_start : {T : Type 0} (first index : ℕ) (e : T) (now : List T) → index < first → WritesOneMore first index e now now
-write_entry-before_start first index e now less es before is was = was ∙ ap (λ l. with_prefix l before) (sym (drop-snoc-before first es e (omega (arith, less, is))))
+pub write_entry-before_start : {T : Type 0} (start index : ℕ) (e : T) (now : List T) → index < start → WritesOneMore start index e now now
+write_entry-before_start start index e now less es before is was = was ∙ ap (λ l. with_prefix l before) (sym (drop-snoc-before start es e (omega (arith, less, is))))
 
-pub write_entry-in_range : {T : Type 0} (first index : ℕ) (e : T) (now : List T) → first ≤ index → index - first < length now → WritesOneMore first index e now (slice_set now (index - first) e)
-write_entry-in_range first index e now more room es before is was =
-    let long : length (drop first es) ≡ index - first = omega (arith, is, length-drop first es) in
-    let inside : length (drop first es) < length before = omega (arith, long, room, ap length was, length-with_prefix (drop first es) before) in
-    ap (λ l. slice_set l (index - first) e) was ∙ ap (λ n. slice_set (with_prefix (drop first es) before) n e) (sym long)
-    ∙ sym (with_prefix-snoc (drop first es) before e inside) ∙ ap (λ l. with_prefix l before) (sym (drop-snoc-after first es e (omega (arith, is, more))))
+pub write_entry-in_range : {T : Type 0} (start index : ℕ) (e : T) (now : List T) → start ≤ index → index - start < length now → WritesOneMore start index e now (slice_set now (index - start) e)
+write_entry-in_range start index e now more fits es before is was =
+    let long : length (drop start es) ≡ index - start = omega (arith, is, length-drop start es) in
+    let inside : length (drop start es) < length before = omega (arith, long, fits, ap length was, length-with_prefix (drop start es) before) in
+    ap (λ l. slice_set l (index - start) e) was ∙ ap (λ n. slice_set (with_prefix (drop start es) before) n e) (sym long)
+    ∙ sym (with_prefix-snoc (drop start es) before e inside) ∙ ap (λ l. with_prefix l before) (sym (drop-snoc-after start es e (omega (arith, is, more))))
 
-pub write_entry-past_capacity : {T : Type 0} (first index : ℕ) (e : T) (now : List T) → first ≤ index → length now ≤ index - first → WritesOneMore first index e now now
-write_entry-past_capacity first index e now more full es before is was =
-    let long : length (drop first es) ≡ index - first = omega (arith, is, length-drop first es) in
-    let outside : length before ≤ length (drop first es) = omega (arith, long, full, ap length was, length-with_prefix (drop first es) before) in
-    was ∙ sym (with_prefix-snoc-full (drop first es) before e outside) ∙ ap (λ l. with_prefix l before) (sym (drop-snoc-after first es e (omega (arith, is, more))))
+pub write_entry-past_capacity : {T : Type 0} (start index : ℕ) (e : T) (now : List T) → start ≤ index → length now ≤ index - start → WritesOneMore start index e now now
+write_entry-past_capacity start index e now more full es before is was =
+    let long : length (drop start es) ≡ index - start = omega (arith, is, length-drop start es) in
+    let outside : length before ≤ length (drop start es) = omega (arith, long, full, ap length was, length-with_prefix (drop start es) before) in
+    was ∙ sym (with_prefix-snoc-full (drop start es) before e outside) ∙ ap (λ l. with_prefix l before) (sym (drop-snoc-after start es e (omega (arith, is, more))))
 
 -- nothing is written past the end
 pub with_entries_at-past_end : {T : Type 0} (at : ℕ) (es old : List T) → length old ≤ at → old ≡ with_entries_at at es old

@@ -1,5 +1,6 @@
 -- The results for attributes, with their names and IDs.
 use Rattle.std.specs.Prelude.{◌≡◌, ◌⊎◌, ℕ, ◌+◌, ◌^◌, ◌≤◌, List, [], ◌∷◌, ◌++◌, length, flat_map, Option, None, Some}
+use Rattle.perfdata_base.specs.Source.{at_start}
 use Rattle.perfdata_base.specs.declared.header.PerfHeader.{PerfHeader}
 use Rattle.perfdata_sections.specs.AttributeDescription.{attr_in, ids_in, name_in}
 use Rattle.perfdata_sections.specs.declared.feature_sections.AttributeDescription.{AttributeDescription}
@@ -10,7 +11,7 @@ use Rattle.linux_perf_data.specs.OpenedFile.{DescribesFile}
 use Rattle.linux_perf_data.specs.PerfFile.{descriptions_of_file}
 use Rattle.linux_perf_data.specs.PipeOpening.{IsPipeError}
 use Rattle.perfdata_arrays.specs.Overwrites.{with_prefix}
-use Rattle.perfdata_arrays.specs.Records.{IsPipeWithRecords, FailsWithStatus, at_start}
+use Rattle.perfdata_arrays.specs.Records.{IsPipeWithRecords, FailsWithStatus, one_if_some}
 use Rattle.perfdata_arrays.specs.declared.attrs.Attr.{Attr}
 use Rattle.perfdata_arrays.specs.declared.attrs.AttrTotals.{AttrTotals}
 
@@ -19,16 +20,12 @@ abbrev pub text_or_empty : Option (List ℕ) → List ℕ
 text_or_empty None = []
 text_or_empty (Some text) = text
 
-abbrev pub one_for : Option (List ℕ) → ℕ
-one_for None = 0
-one_for (Some text) = 1
-
 -- the bytes of an attribute's name; empty if it has none
 abbrev pub name_bytes : AttributeDescription → List ℕ
 name_bytes d = text_or_empty (name_in d)
 
 abbrev pub has_name_number : AttributeDescription → ℕ
-has_name_number d = one_for (name_in d)
+has_name_number d = one_if_some (name_in d)
 
 -- the entry of an attribute whose name is at offset `names` and whose first ID has index `ids`
 abbrev pub attr_entry_at : ℕ → ℕ → AttributeDescription → Attr
@@ -74,10 +71,10 @@ attr_entries_at names ids [] = []
 attr_entries_at names ids (d ∷ ds) = attr_entry_at names ids d ∷ attr_entries_at (names + length (name_bytes d)) (ids + length (ids_in d)) ds
 
 -- These attributes, their names and their IDs are written, each as a prefix of its array.
-pub record WritesAttrs (told : List AttributeDescription) (entries : List Attr) (names ids : List ℕ) (entries' : List Attr) (names' ids' : List ℕ) : Type 0 where
-  pub entries_written : entries' ≡ with_prefix (attr_entries_at 0 0 told) entries
-  pub names_written : names' ≡ with_prefix (all_names told) names
-  pub ids_written : ids' ≡ with_prefix (all_ids told) ids
+pub record WritesAttrs (descriptions : List AttributeDescription) (entries : List Attr) (names ids : List ℕ) (entries' : List Attr) (names' ids' : List ℕ) : Type 0 where
+  pub entries_written : entries' ≡ with_prefix (attr_entries_at 0 0 descriptions) entries
+  pub names_written : names' ≡ with_prefix (all_names descriptions) names
+  pub ids_written : ids' ≡ with_prefix (all_ids descriptions) ids
 
 -- a sum, or `None` if it doesn't fit in 64 bits
 abbrev pub IsCheckedSum : ℕ → ℕ → Option ℕ → Type 0
@@ -99,7 +96,7 @@ AreEndOffsets d names ids None = ExceedsU64 names ids d
 pub record WritesAttrsOrPrefix (all : List AttributeDescription) (status : ℕ) (entries : List Attr) (names ids : List ℕ) (totals : AttrTotals) (entries' : List Attr) (names' ids' : List ℕ) : Type 0 where
   pub written : List AttributeDescription
   pub unwritten : List AttributeDescription
-  pub cut : all ≡ written ++ unwritten
+  pub split : all ≡ written ++ unwritten
   pub count : totals.attr_count ≡ length written
   pub names_count : totals.names_size ≡ length (all_names written)
   pub ids_count : totals.ids_count ≡ length (all_ids written)

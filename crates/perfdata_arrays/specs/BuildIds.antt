@@ -24,33 +24,33 @@ dso_kind_number (Some (user file_name full_path)) = 8
 abbrev pub dso_key_of_entry : Entry → Option Key
 dso_key_of_entry e = key_of e.path (cpu_mode_of (e.header.misc % 8))
 
--- an entry of `size` bytes at offset `at`, as plain numbers
+-- an entry of `size` bytes at offset `offset`, as plain numbers
 abbrev pub build_id_entry : ℕ → ℕ → Entry → BuildId
-build_id_entry at size e = record {
-  id_offset = at + 12;
+build_id_entry offset size e = record {
+  id_offset = offset + 12;
   id_size = length e.build_id;
-  path_offset = at + 36;
+  path_offset = offset + 36;
   path_size = length e.path;
-  next_offset = at + size;
+  next_offset = offset + size;
   pid = e.pid;
   dso_kind = dso_kind_number (dso_key_of_entry e);
 }
 
-module _ (order : Endianness) where
-  -- The section has an entry at offset `at`. Its build ID and its path are at the offsets in `told`.
-  pub record HasBuildIdAt (section : List ℕ) (at : ℕ) (told : BuildId) : Type 0 where
+module _ (endian : Endianness) where
+  -- The section has an entry at offset `offset`. Its build ID and its path are at the offsets in `out`.
+  pub record HasBuildIdAt (section : List ℕ) (offset : ℕ) (out : BuildId) : Type 0 where
     pub entry_bytes : List ℕ
     pub rest : List ℕ
-    pub cut : drop at section ≡ entry_bytes ++ rest
+    pub split : drop offset section ≡ entry_bytes ++ rest
     pub entry : Entry
-    pub is : IsBuildIdEntry (number_in order) entry_bytes entry
-    pub matches_entry : told ≡ build_id_entry at (length entry_bytes) entry
-    pub id : HasBytesAt section (at + 12) entry.build_id
-    pub path : HasBytesAt section (at + 36) entry.path
+    pub is : IsBuildIdEntry (number_in endian) entry_bytes entry
+    pub matches_entry : out ≡ build_id_entry offset (length entry_bytes) entry
+    pub id_bytes : HasBytesAt section (offset + 12) entry.build_id
+    pub path_bytes : HasBytesAt section (offset + 36) entry.path
 
   -- The entry is written; or the section has no complete entry at the offset, or memory ran out, and the old value is unchanged.
   abbrev pub ReadsBuildId : List ℕ → ℕ → BuildId → ℕ → BuildId → Type 0
-  ReadsBuildId section at old status new =
-      ((status ≡ 0) × HasBuildIdAt section at new)
-      ⊎ (((status ≡ 2) × IsTruncatedBuildIdEntry (number_in order) (drop at section) × (new ≡ old))
+  ReadsBuildId section offset old status new =
+      ((status ≡ 0) × HasBuildIdAt section offset new)
+      ⊎ (((status ≡ 2) × IsTruncatedBuildIdEntry (number_in endian) (drop offset section) × (new ≡ old))
       ⊎ ((status ≡ 1) × (new ≡ old)))

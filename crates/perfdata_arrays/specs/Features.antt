@@ -1,5 +1,6 @@
 -- The results for a feature's bytes.
 use Rattle.std.specs.Prelude.{◌≡◌, ◌⊎◌, ℕ, List, length, Option, None, Some}
+use Rattle.perfdata_base.specs.Source.{at_start}
 use Rattle.perfdata_base.specs.declared.header.PerfHeader.{PerfHeader}
 use Rattle.linux_perf_data.specs.declared.perf_file.PerfFile.{PerfFile}
 use Rattle.linux_perf_data.specs.Layout.{RecordView}
@@ -8,24 +9,24 @@ use Rattle.linux_perf_data.specs.OpenedFile.{DescribesFile}
 use Rattle.linux_perf_data.specs.PerfFile.{feature_data_in_file}
 use Rattle.linux_perf_data.specs.PipeOpening.{IsPipeError}
 use Rattle.perfdata_arrays.specs.Overwrites.{with_prefix}
-use Rattle.perfdata_arrays.specs.Records.{IsPipeWithRecords, FailsWithStatus, at_start}
+use Rattle.perfdata_arrays.specs.Records.{IsPipeWithRecords, FailsWithStatus}
 use Rattle.perfdata_arrays.specs.declared.features.FeatureResult.{FeatureResult}
 
 -- The bytes of a feature are written over the start of a buffer, up to its capacity, and their number is reported. If there is no
 -- feature, the buffer is unchanged.
 abbrev pub CopiesFeature : Option (List ℕ) → List ℕ → FeatureResult → List ℕ → Type 0
-CopiesFeature None old told new = (told.is_present ≡ 0) × (told.size ≡ 0) × (new ≡ old)
-CopiesFeature (Some bytes) old told new = (told.is_present ≡ 1) × (told.size ≡ length bytes) × (new ≡ with_prefix bytes old)
+CopiesFeature None old outcome new = (outcome.is_present ≡ 0) × (outcome.size ≡ 0) × (new ≡ old)
+CopiesFeature (Some bytes) old outcome new = (outcome.is_present ≡ 1) × (outcome.size ≡ length bytes) × (new ≡ with_prefix bytes old)
 
 -- The result for a feature of a file: the bytes of its section. If the file doesn't open, nothing is written.
 abbrev pub ReadsFileFeature : List ℕ → ℕ → List ℕ → FeatureResult → List ℕ → Type 0
-ReadsFileFeature bytes n old told new =
-    ((told.status ≡ 0) × ((file : PerfFile) × ((header : PerfHeader) × DescribesFile (at_start bytes) header file × CopiesFeature (feature_data_in_file file n) old told new)))
-    ⊎ (FailsWithStatus told.status (IsFileError (at_start bytes)) × CopiesFeature None old told new)
+ReadsFileFeature bytes n old outcome new =
+    ((outcome.status ≡ 0) × ((file : PerfFile) × ((header : PerfHeader) × DescribesFile (at_start bytes) header file × CopiesFeature (feature_data_in_file file n) old outcome new)))
+    ⊎ (FailsWithStatus outcome.status (IsFileError (at_start bytes)) × CopiesFeature None old outcome new)
 
 -- The result for a feature of a pipe: its last bytes, up to the pipe's end or first error. If the pipe doesn't open, nothing is
 -- written.
 abbrev pub ReadsPipeFeature : List ℕ → ℕ → List ℕ → FeatureResult → List ℕ → Type 0
-ReadsPipeFeature bytes n old told new =
-    ((records : List RecordView) × ((file : PerfFile) × IsPipeWithRecords bytes records file told.status × CopiesFeature (feature_data_in_file file n) old told new))
-    ⊎ (FailsWithStatus told.status (IsPipeError bytes) × CopiesFeature None old told new)
+ReadsPipeFeature bytes n old outcome new =
+    ((records : List RecordView) × ((file : PerfFile) × IsPipeWithRecords bytes records file outcome.status × CopiesFeature (feature_data_in_file file n) old outcome new))
+    ⊎ (FailsWithStatus outcome.status (IsPipeError bytes) × CopiesFeature None old outcome new)

@@ -41,71 +41,71 @@ endian_number_of BigEndian = 1
 
 -- a header as plain numbers
 abbrev pub header_entry : Endianness → JitDumpHeader → JitHeader
-header_entry order h = record {
+header_entry endian h = record {
   timestamp = h.timestamp;
   flags = h.flags;
   version = h.version;
   header_size = h.total_size;
   elf_machine = h.elf_machine_arch;
   pid = h.pid;
-  is_big_endian = endian_number_of order;
+  is_big_endian = endian_number_of endian;
   reserved = 0;
 }
 
 -- The header is written; or it has an error, and the old value is unchanged.
 abbrev pub ReadsJitHeader : List ℕ → JitHeader → ℕ → JitHeader → Type 0
 ReadsJitHeader bytes old status new =
-    ((status ≡ 0) × ((order : Endianness) × ((h : JitDumpHeader) × IsJitHeader order (header_window bytes) h × (new ≡ header_entry order h))))
+    ((status ≡ 0) × ((endian : Endianness) × ((h : JitDumpHeader) × IsJitHeader endian (header_window bytes) h × (new ≡ header_entry endian h))))
     ⊎ (HasHeaderError bytes status × (new ≡ old))
 
 -- ---- records
 
-module _ (order : Endianness) where
+module _ (endian : Endianness) where
   -- the entry of the record with these bytes, which starts at the offset
   abbrev pub jit_entry : ℕ → List ℕ → JitRecord
-  jit_entry offset piece = record { offset = offset; timestamp = (record_header_at order piece).timestamp; record_type = (record_header_at order piece).record_type.0; size = (record_header_at order piece).total_size }
+  jit_entry offset raw = record { offset = offset; timestamp = (record_header_at endian raw).timestamp; record_type = (record_header_at endian raw).record_type.0; size = (record_header_at endian raw).total_size }
 
   -- the entries of consecutive records
   abbrev pub jit_entries : ℕ → List (List ℕ) → List JitRecord
   jit_entries offset [] = []
-  jit_entries offset (piece ∷ pieces) = jit_entry offset piece ∷ jit_entries (offset + length piece) pieces
+  jit_entries offset (raw ∷ raw_records) = jit_entry offset raw ∷ jit_entries (offset + length raw) raw_records
 
   -- a complete record with these bytes starts at an offset
-  pub record HasWholeRecordAt (bytes : List ℕ) (offset : ℕ) (piece : List ℕ) : Type 0 where
+  pub record HasWholeRecordAt (bytes : List ℕ) (offset : ℕ) (raw : List ℕ) : Type 0 where
     pub rest : List ℕ
-    pub cut : drop offset bytes ≡ piece ++ rest
-    pub record_valid : IsOneRecord order offset piece
+    pub split : drop offset bytes ≡ raw ++ rest
+    pub record_valid : IsOneRecord endian offset raw
 
   -- the record at an offset: a complete record, no complete record, or a record header with an invalid size
   abbrev pub FindsRecord : List ℕ → ℕ → Result (Option JitRecord) ℕ → Type 0
-  FindsRecord bytes offset (Ok (Some r)) = (piece : List ℕ) × HasWholeRecordAt bytes offset piece × (r ≡ jit_entry offset piece)
-  FindsRecord bytes offset (Ok None) = HasNoWholeRecord order offset (drop offset bytes)
-  FindsRecord bytes offset (Err status) = (status ≡ 43) × HasInvalidSize order offset (drop offset bytes)
+  FindsRecord bytes offset (Ok (Some r)) = (raw : List ℕ) × HasWholeRecordAt bytes offset raw × (r ≡ jit_entry offset raw)
+  FindsRecord bytes offset (Ok None) = HasNoWholeRecord endian offset (drop offset bytes)
+  FindsRecord bytes offset (Err status) = (status ≡ 43) × HasInvalidSize endian offset (drop offset bytes)
 
   -- These records follow one another from an offset on. Their entries are written as a prefix of an array, which has capacity for
   -- all of them. `next` is the offset after them.
-  pub record WritesJitRecords (bytes : List ℕ) (from : ℕ) (pieces : List (List ℕ)) (old : List JitRecord) (count next : ℕ) (new : List JitRecord) : Type 0 where
-    pub counted : count ≡ length pieces
-    pub next_offset_is : next ≡ from + length (concat pieces)
-    pub cut : drop from bytes ≡ concat pieces ++ drop next bytes
-    pub elements : AreRecords order from pieces
-    pub within_capacity : length pieces ≤ length old
-    pub written : new ≡ with_prefix (jit_entries from pieces) old
+  pub record WritesJitRecords (bytes : List ℕ) (from : ℕ) (raw_records : List (List ℕ)) (old : List JitRecord) (count next : ℕ) (new : List JitRecord) : Type 0 where
+    pub counted : count ≡ length raw_records
+    pub next_offset_is : next ≡ from + length (concat raw_records)
+    pub split : drop from bytes ≡ concat raw_records ++ drop next bytes
+    pub elements : AreRecords endian from raw_records
+    pub within_capacity : length raw_records ≤ length old
+    pub written : new ≡ with_prefix (jit_entries from raw_records) old
 
 -- The array is full, or no complete record follows, or the record that follows has an invalid size.
 abbrev pub EndsJitRecords : Endianness → List ℕ → ℕ → ℕ → ℕ → ℕ → Type 0
-EndsJitRecords order bytes count room next status =
-    ((status ≡ 0) × ((count ≡ room) ⊎ HasNoWholeRecord order next (drop next bytes)))
-    ⊎ ((status ≡ 43) × HasInvalidSize order next (drop next bytes))
+EndsJitRecords endian bytes count capacity next status =
+    ((status ≡ 0) × ((count ≡ capacity) ⊎ HasNoWholeRecord endian next (drop next bytes)))
+    ⊎ ((status ≡ 43) × HasInvalidSize endian next (drop next bytes))
 
 -- The records of a jitdump are written from offset `from` on, or from the first record on if `from` is within the header.
 pub record JitRecordsRead (bytes : List ℕ) (from : ℕ) (old : List JitRecord) (total : JitRecordsResult) (new : List JitRecord) : Type 0 where
-  pub order : Endianness
+  pub endian : Endianness
   pub header : JitDumpHeader
-  pub is : IsJitHeader order (header_window bytes) header
-  pub pieces : List (List ℕ)
-  pub writes : WritesJitRecords order bytes (max from header.total_size) pieces old total.count total.next_offset new
-  pub ends : EndsJitRecords order bytes total.count (length old) total.next_offset total.status
+  pub is : IsJitHeader endian (header_window bytes) header
+  pub raw_records : List (List ℕ)
+  pub writes : WritesJitRecords endian bytes (max from header.total_size) raw_records old total.count total.next_offset new
+  pub ends : EndsJitRecords endian bytes total.count (length old) total.next_offset total.status
 
 -- the header has an error, and nothing is written
 pub record JitRecordsUnread (bytes : List ℕ) (from : ℕ) (old : List JitRecord) (total : JitRecordsResult) (new : List JitRecord) : Type 0 where
@@ -134,32 +134,32 @@ load_entry at load = record {
 }
 
 -- The complete record at an offset is this load record. Its name and its code are at the offsets in its entry.
-pub record IsLoadAt (order : Endianness) (bytes : List ℕ) (at : ℕ) (load : JitCodeLoadRecord) : Type 0 where
-  pub piece : List ℕ
-  pub whole_record : HasWholeRecordAt order bytes at piece
-  pub is_load : (record_header_at order piece).record_type.0 ≡ 0
-  pub is : IsLoad (number_in order) (drop 16 piece) load
+pub record IsLoadAt (endian : Endianness) (bytes : List ℕ) (at : ℕ) (load : JitCodeLoadRecord) : Type 0 where
+  pub raw : List ℕ
+  pub whole_record : HasWholeRecordAt endian bytes at raw
+  pub is_load : (record_header_at endian raw).record_type.0 ≡ 0
+  pub is : IsLoad (number_in endian) (drop 16 raw) load
   pub name_bytes_at : HasBytesAt bytes (at + 56) (bytes_of load.function_name)
   pub code_bytes_at : HasBytesAt bytes (at + 57 + length (bytes_of load.function_name)) (bytes_of load.code_bytes)
 
 -- The complete record at an offset is a load record, or a record of another type, or a load record with an invalid body.
 abbrev pub ParsesLoad : Endianness → List ℕ → ℕ → Result JitLoad ℕ → Type 0
-ParsesLoad order bytes at (Ok told) = (load : JitCodeLoadRecord) × IsLoadAt order bytes at load × (told ≡ load_entry at load)
-ParsesLoad order bytes at (Err status) =
-    ((status ≡ 45) × ((piece : List ℕ) × HasWholeRecordAt order bytes at piece × ((record_header_at order piece).record_type.0 ≢ 0)))
-    ⊎ ((status ≡ 46) × ((piece : List ℕ) × HasWholeRecordAt order bytes at piece × ((e : Error) × IsLoadError (number_in order) (drop 16 piece) e)))
+ParsesLoad endian bytes at (Ok out) = (load : JitCodeLoadRecord) × IsLoadAt endian bytes at load × (out ≡ load_entry at load)
+ParsesLoad endian bytes at (Err status) =
+    ((status ≡ 45) × ((raw : List ℕ) × HasWholeRecordAt endian bytes at raw × ((record_header_at endian raw).record_type.0 ≢ 0)))
+    ⊎ ((status ≡ 46) × ((raw : List ℕ) × HasWholeRecordAt endian bytes at raw × ((e : Error) × IsLoadError (number_in endian) (drop 16 raw) e)))
 
 -- A load record is written; or there is no complete record at the offset, its size is invalid, or it isn't a valid load record,
 -- and the old value is unchanged.
 abbrev pub ReadsLoadAt : Endianness → List ℕ → ℕ → JitLoad → ℕ → JitLoad → Type 0
-ReadsLoadAt order bytes at old status new =
-    ((status ≡ 0) × ParsesLoad order bytes at (Ok new))
-    ⊎ (((status ≡ 2) × HasNoWholeRecord order at (drop at bytes) × (new ≡ old))
-    ⊎ (((status ≡ 43) × HasInvalidSize order at (drop at bytes) × (new ≡ old))
-    ⊎ (ParsesLoad order bytes at (Err status) × (new ≡ old))))
+ReadsLoadAt endian bytes at old status new =
+    ((status ≡ 0) × ParsesLoad endian bytes at (Ok new))
+    ⊎ (((status ≡ 2) × HasNoWholeRecord endian at (drop at bytes) × (new ≡ old))
+    ⊎ (((status ≡ 43) × HasInvalidSize endian at (drop at bytes) × (new ≡ old))
+    ⊎ (ParsesLoad endian bytes at (Err status) × (new ≡ old))))
 
 -- The header has an error, and the old value is unchanged; or the result is that of the load record.
 abbrev pub ReadsJitLoad : List ℕ → ℕ → JitLoad → ℕ → JitLoad → Type 0
 ReadsJitLoad bytes at old status new =
-    ((order : Endianness) × ((h : JitDumpHeader) × IsJitHeader order (header_window bytes) h × ReadsLoadAt order bytes at old status new))
+    ((endian : Endianness) × ((h : JitDumpHeader) × IsJitHeader endian (header_window bytes) h × ReadsLoadAt endian bytes at old status new))
     ⊎ (HasHeaderError bytes status × (new ≡ old))

@@ -9,7 +9,7 @@ with_prefix (e ∷ es) (o ∷ os) = e ∷ with_prefix es os
 
 -- the entries from index `first` on, over the start of an array
 abbrev pub with_prefix_from : {T : Type 0} → ℕ → List T → List T → List T
-with_prefix_from first entries old = with_prefix (drop first entries) old
+with_prefix_from start entries old = with_prefix (drop start entries) old
 
 -- entries after the first `at` elements of an array, up to its capacity
 abbrev pub with_entries_at : {T : Type 0} → ℕ → List T → List T → List T
@@ -17,4 +17,4 @@ with_entries_at at entries old = take at old ++ with_prefix entries (drop at old
 
 -- If the array contains the entries from index `first` on up to `index`, it also contains the entry of `index` afterwards.
 abbrev pub WritesOneMore : {T : Type 0} → ℕ → ℕ → T → List T → List T → Type 0
-WritesOneMore {T} first index entry old new = (entries before : List T) → index ≡ length entries → old ≡ with_prefix_from first entries before → new ≡ with_prefix_from first (entries ++ entry ∷ []) before
+WritesOneMore {T} start index entry old new = (entries before : List T) → index ≡ length entries → old ≡ with_prefix_from start entries before → new ≡ with_prefix_from start (entries ++ entry ∷ []) before

@@ -1,6 +1,6 @@
 -- The entries of records, and the result for the records of a whole input.
 use Rattle.std.specs.Prelude.{◌≡◌, ◌≢◌, ◌⊎◌, ℕ, ◌+◌, ◌<◌, ◌≤◌, List, [], ◌∷◌, length, take, drop, map, Option, None, Some}
-use Rattle.perfdata_base.specs.Source.{Position}
+use Rattle.perfdata_base.specs.Source.{at_start}
 use Rattle.perfdata_base.specs.declared.raw.Endianness.{Endianness}
 use Rattle.perfdata_base.specs.declared.header.PerfHeader.{PerfHeader}
 use Rattle.perfdata_sections.specs.declared.error.Error.{Error}
@@ -59,7 +59,7 @@ record_entries_at base records = map (record_entry_at base) records
 
 -- the bytes from an offset on start with this body
 abbrev pub HasBytesAt : List ℕ → ℕ → List ℕ → Type 0
-HasBytesAt bytes place body = take (length body) (drop place bytes) ≡ body
+HasBytesAt bytes offset body = take (length body) (drop offset bytes) ≡ body
 
 -- The body of each record is at the offset in its entry.
 abbrev pub HasBodiesAt : List ℕ → ℕ → List RecordView → Type 0
@@ -70,7 +70,7 @@ HasBodiesAt bytes base (h ∷ hs) = HasBytesAt bytes (base + h.offset + 8) h.bod
 
 -- The status is that of an error. The error has this cause unless memory ran out.
 abbrev pub FailsWithStatus : ℕ → (Error → Type 0) → Type 0
-FailsWithStatus status Why = (e : Error) × (status ≡ error_status e) × (e ≢ Memory → Why e)
+FailsWithStatus status Cause = (e : Error) × (status ≡ error_status e) × (e ≢ Memory → Cause e)
 
 -- The layout is complete with these records, or an error follows them. If memory ran out, they are a prefix of the layout's
 -- records. Otherwise the error is that of the layout.
@@ -80,10 +80,6 @@ EndsWithStatus Come records status =
     ⊎ (AreFirstRecords Come records × FailsWithStatus status (λ e. (f : LayoutError) × Come records (ends_with_error f) × IsErrorFor f e))
 
 -- ---- a file
-
--- the position at the start of these bytes
-abbrev pub at_start : List ℕ → Position
-at_start bytes = record { all_bytes = bytes; offset = 0 }
 
 -- The bytes are a file whose data section is at offset `base`.
 pub record IsFileWithRecords (bytes : List ℕ) (base : ℕ) (records : List RecordView) (status : ℕ) : Type 0 where
@@ -95,17 +91,17 @@ pub record IsFileWithRecords (bytes : List ℕ) (base : ℕ) (records : List Rec
 
 -- The entries of the records from index `first` on are written, up to the capacity of the array. `count` is the number of all
 -- records. Their bodies are at the offsets in their entries.
-pub record WritesRecords (bytes : List ℕ) (base first : ℕ) (records : List RecordView) (old : List Record) (total : RecordsResult) (new : List Record) : Type 0 where
+pub record WritesRecords (bytes : List ℕ) (base start : ℕ) (records : List RecordView) (old : List Record) (total : RecordsResult) (new : List Record) : Type 0 where
   pub count : total.count ≡ length records
-  pub written : new ≡ with_prefix_from first (record_entries_at base records) old
+  pub written : new ≡ with_prefix_from start (record_entries_at base records) old
   pub body_bytes_at : HasBodiesAt bytes base records
 
 -- The result for a file's records: all of them, or those before the error that the status reports. If the file doesn't open,
 -- there are no records.
-pub record ReadsFileRecords (bytes : List ℕ) (first : ℕ) (old : List Record) (total : RecordsResult) (new : List Record) : Type 0 where
+pub record ReadsFileRecords (bytes : List ℕ) (start : ℕ) (old : List Record) (total : RecordsResult) (new : List Record) : Type 0 where
   pub records : List RecordView
   pub base : ℕ
-  pub writes : WritesRecords bytes base first records old total new
+  pub writes : WritesRecords bytes base start records old total new
   pub ends : ((records ≡ []) × FailsWithStatus total.status (IsFileError (at_start bytes))) ⊎ IsFileWithRecords bytes base records total.status
 
 -- ---- a pipe
@@ -113,23 +109,23 @@ pub record ReadsFileRecords (bytes : List ℕ) (first : ℕ) (old : List Record)
 -- The bytes are a pipe with these records after its opening. The `PerfFile` holds exactly the metadata of the opening and of the
 -- records.
 pub record IsPipeWithRecords (bytes : List ℕ) (records : List RecordView) (file : PerfFile) (status : ℕ) : Type 0 where
-  pub order : Endianness
-  pub pieces : List (List ℕ)
+  pub endian : Endianness
+  pub metadata_records : List (List ℕ)
   pub rest : List ℕ
-  pub has_opening : BeginsPipe order pieces bytes rest
-  pub after_opening : EndsMetadata order rest
-  pub ends : EndsWithStatus (RemainingRecords order rest None 0 0 (attributes_in_records order None pieces)) records status
-  pub file_matches : HoldsAllMetadata order pieces records file
+  pub has_opening : BeginsPipe endian metadata_records bytes rest
+  pub after_opening : EndsMetadata endian rest
+  pub ends : EndsWithStatus (RemainingRecords endian rest None 0 0 (attributes_in_records endian None metadata_records)) records status
+  pub file_matches : HoldsAllMetadata endian metadata_records records file
 
 -- the size of the metadata record at the start of bytes, or 0 if none starts there
 abbrev pub IsMetadataSize : Endianness → List ℕ → ℕ → Type 0
-IsMetadataSize order behind n =
-    ((n ≡ 0) × (8 ≤ length behind → (¬ IsMetadataType (record_type_of order behind)) ⊎ (record_size_of order behind < 8)))
-    ⊎ ((8 ≤ length behind) × (8 ≤ record_size_of order behind) × IsMetadataType (record_type_of order behind) × (n ≡ record_size_of order behind))
+IsMetadataSize endian rest n =
+    ((n ≡ 0) × (8 ≤ length rest → (¬ IsMetadataType (record_type_of endian rest)) ⊎ (record_size_of endian rest < 8)))
+    ⊎ ((8 ≤ length rest) × (8 ≤ record_size_of endian rest) × IsMetadataType (record_type_of endian rest) × (n ≡ record_size_of endian rest))
 
 -- `n` is the size of a pipe's opening in bytes
 abbrev pub IsOpeningSize : Endianness → List ℕ → ℕ → Type 0
-IsOpeningSize order bytes n = (pieces : List (List ℕ)) (rest : List ℕ) → BeginsPipe order pieces bytes rest → EndsMetadata order rest → n + length rest ≡ length bytes
+IsOpeningSize endian bytes n = (metadata_records : List (List ℕ)) (rest : List ℕ) → BeginsPipe endian metadata_records bytes rest → EndsMetadata endian rest → n + length rest ≡ length bytes
 
 -- a pipe whose first record after the opening is at offset `base`
 pub record IsPipeWithFirstRecordAt (bytes : List ℕ) (base : ℕ) (records : List RecordView) (status : ℕ) : Type 0 where
@@ -138,8 +134,8 @@ pub record IsPipeWithFirstRecordAt (bytes : List ℕ) (base : ℕ) (records : Li
   pub first_record_at : base + length is.rest ≡ length bytes
 
 -- The result for a pipe's records after its opening, as for a file.
-pub record ReadsPipeRecords (bytes : List ℕ) (first : ℕ) (old : List Record) (total : RecordsResult) (new : List Record) : Type 0 where
+pub record ReadsPipeRecords (bytes : List ℕ) (start : ℕ) (old : List Record) (total : RecordsResult) (new : List Record) : Type 0 where
   pub records : List RecordView
   pub base : ℕ
-  pub writes : WritesRecords bytes base first records old total new
+  pub writes : WritesRecords bytes base start records old total new
   pub ends : ((records ≡ []) × FailsWithStatus total.status (IsPipeError bytes)) ⊎ IsPipeWithFirstRecordAt bytes base records total.status

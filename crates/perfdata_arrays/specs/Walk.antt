@@ -37,11 +37,11 @@ module _ {R : Type 0} (state : R → State) where
   WalkEnds now file (Err e) new file' = ReturnsError state now file e new file'
 
   -- The walk returns and counts these records, writes their entries, and ends.
-  pub record WalksRecords (old : PerfRecordIter R) (file : PerfFile) (base first : ℕ) (before : List Record) (walked : WalkResult) (new : PerfRecordIter R) (file' : PerfFile) (after : List Record) : Type 0 where
+  pub record WalksRecords (old : PerfRecordIter R) (file : PerfFile) (base start : ℕ) (before : List Record) (walked : WalkResult) (new : PerfRecordIter R) (file' : PerfFile) (after : List Record) : Type 0 where
     pub records : List RecordView
     pub iter_at_end : PerfRecordIter R
     pub file_at_end : PerfFile
     pub returned : ReturnsRecords state old file records iter_at_end file_at_end
     pub count : walked.count ≡ length records
-    pub written : after ≡ with_prefix_from first (record_entries_at base records) before
+    pub written : after ≡ with_prefix_from start (record_entries_at base records) before
     pub ends : WalkEnds iter_at_end file_at_end walked.end new file'

@@ -2,7 +2,7 @@
 ghost use Rattle.std.specs.Prelude.{◌≡◌};
 ghost use Rattle.perfdata_arrays.specs.Attrs.{AreEndOffsets, ReadsFileAttrs, ReadsPipeAttrs, IsCheckedSum, WritesAttrsOrPrefix, attr_entry_at, has_name_number, name_bytes, zero_totals};
 
-use crate::record::{byte_count, copy_at, write_entry};
+use crate::array::{byte_count, copy_at, write_entry};
 use crate::records::{walk, walk_result_status};
 use crate::status::{MEMORY, WHOLE, status_of_error};
 use linux_perf_data::{AttributeDescription, PerfFileReader};
@@ -101,9 +101,9 @@ fn has_name(description: &AttributeDescription) -> u32
     }
 }
 
-// The entry of an attribute. `name_place` is the offset of its name, `ids_place` the index of its first ID.
-fn attr_entry(description: &AttributeDescription, name_place: u64, ids_place: u64) -> Attr
-    ensures { result ≡ attr_entry_at name_place ids_place description.now }
+// The entry of an attribute. `name_offset` is the offset of its name, `ids_start` the index of its first ID.
+fn attr_entry(description: &AttributeDescription, name_offset: u64, ids_start: u64) -> Attr
+    ensures { result ≡ attr_entry_at name_offset ids_start description.now }
 {
     let attr = description.attributes();
     Attr {
@@ -119,9 +119,9 @@ fn attr_entry(description: &AttributeDescription, name_place: u64, ids_place: u6
         sample_regs_intr: attr.sample_regs_intr,
         sig_data: attr.sig_data,
         config3: attr.config3,
-        name_offset: name_place,
+        name_offset,
         name_size: attr_name(description).len() as u64,
-        ids_start: ids_place,
+        ids_start,
         ids_count: description.ids().len() as u64,
         type_: attr.type_,
         size: attr.size,
@@ -136,27 +136,17 @@ fn attr_entry(description: &AttributeDescription, name_place: u64, ids_place: u6
     }
 }
 
-// The sum, or `None` if it doesn't fit in 64 bits.
-fn plus(a: u64, b: u64) -> Option<u64>
-    ensures { IsCheckedSum a b result }
-{
-    if a > u64::MAX - b {
-        return None;
-    }
-    Some(a + b)
-}
-
 // The end of the attribute's name and the end of its IDs, or `None` if one of them doesn't fit in 64 bits. The name starts at
-// offset `name_place`, the IDs start at index `ids_place`.
+// offset `name_offset`, the IDs start at index `ids_start`.
 fn end_offsets(
     description: &AttributeDescription,
-    name_place: u64,
-    ids_place: u64,
+    name_offset: u64,
+    ids_start: u64,
 ) -> Option<(u64, u64)>
-    ensures { AreEndOffsets description.now name_place ids_place result }
+    ensures { AreEndOffsets description.now name_offset ids_start result }
 {
-    let names_end = plus(name_place, attr_name(description).len() as u64)?;
-    let ids_end = plus(ids_place, description.ids().len() as u64)?;
+    let names_end = name_offset.checked_add(attr_name(description).len() as u64)?;
+    let ids_end = ids_start.checked_add(description.ids().len() as u64)?;
     Some((names_end, ids_end))
 }
 
@@ -172,37 +162,30 @@ fn write_attrs(
     ensures { WritesAttrsOrPrefix all.now status entries.old names.old ids.old result entries.new names.new ids.new }
 {
     let mut index = 0;
-    let mut name_place = 0u64;
-    let mut ids_place = 0u64;
+    let mut name_offset = 0u64;
+    let mut ids_start = 0u64;
     'attributes: while index < all.len() {
-        let of = &all[index];
-        let (names_end, ids_end) = match end_offsets(of, name_place, ids_place) {
-            Some(ends) => ends,
-            None => {
-                return AttrTotals {
-                    attr_count: index as u64,
-                    names_size: name_place,
-                    ids_count: ids_place,
-                    status: MEMORY,
-                };
-            }
+        let description = &all[index];
+        let Some((names_end, ids_end)) = end_offsets(description, name_offset, ids_start) else {
+            return AttrTotals {
+                attr_count: index as u64,
+                names_size: name_offset,
+                ids_count: ids_start,
+                status: MEMORY,
+            };
         };
-        write_entry(
-            entries,
-            index as u64,
-            0,
-            attr_entry(of, name_place, ids_place),
-        );
-        copy_at(names, name_place, attr_name(of));
-        copy_at(ids, ids_place, of.ids());
-        name_place = names_end;
-        ids_place = ids_end;
+        let entry = attr_entry(description, name_offset, ids_start);
+        write_entry(entries, index as u64, 0, entry);
+        copy_at(names, name_offset, attr_name(description));
+        copy_at(ids, ids_start, description.ids());
+        name_offset = names_end;
+        ids_start = ids_end;
         index += 1;
     }
     AttrTotals {
         attr_count: index as u64,
-        names_size: name_place,
-        ids_count: ids_place,
+        names_size: name_offset,
+        ids_count: ids_start,
         status,
     }
 }

@@ -1,13 +1,11 @@
 //! Single entries of a BUILD_ID section.
 ghost use Rattle.std.specs.Prelude.{◌≡◌};
 ghost use Rattle.std.specs.Option.{option_map};
-ghost use Rattle.linux_perf_data.specs.BuildIds.{ReadsFirstEntry};
 ghost use Rattle.perfdata_records.specs.DsoKey.{key_in};
 ghost use Rattle.perfdata_arrays.specs.BuildIds.{ReadsBuildId, dso_kind_number};
 
-use crate::record::byte_count;
+use crate::array::byte_count;
 use crate::status::{CUT, MEMORY, WHOLE};
-use byteorder::{BigEndian, LittleEndian};
 use linux_perf_data::build_id_event::BuildIdEvent;
 use linux_perf_data::event::CpuMode;
 use linux_perf_data::source::AppendError;
@@ -39,20 +37,6 @@ pub struct BuildId {
     /// The DSO kind of the path: 0 no mapped file, 1 the kernel, 2 a guest kernel, 3 the 32-bit vDSO, 4 the x32 vDSO, 5 the
     /// 64-bit vDSO, 6 the vsyscall page, 7 a kernel module, 8 a file that a program maps.
     pub dso_kind: u32,
-}
-
-// Parses the entry at the start of `bytes` and advances `bytes` to the rest.
-fn parse_entry(
-    alloc: Global,
-    endian: Endianness,
-    bytes: &mut &[u8],
-) -> Result<BuildIdEvent, AppendError>
-    ensures { ReadsFirstEntry endian bytes.old.now result bytes.new.now }
-{
-    match endian {
-        Endianness::LittleEndian => { BuildIdEvent::read_from::<&[u8], LittleEndian>(alloc, bytes) }
-        Endianness::BigEndian => BuildIdEvent::read_from::<&[u8], BigEndian>(alloc, bytes),
-    }
 }
 
 // The number of a key's DSO kind; 0 for `None`.
@@ -88,8 +72,8 @@ pub fn build_id_at(
     if offset > byte_count(section) {
         return CUT;
     }
-    let mut behind = &section[offset as usize..];
-    let entry = match parse_entry(alloc, endian, &mut behind) {
+    let mut rest = &section[offset as usize..];
+    let entry = match BuildIdEvent::read_from_in(alloc, endian, &mut rest) {
         Ok(entry) => entry,
         Err(AppendError::Memory) => return MEMORY,
         Err(AppendError::Source(_)) => return CUT,
@@ -104,7 +88,7 @@ pub fn build_id_at(
         id_size: entry.build_id.len() as u64,
         path_offset: offset + PATH_OFFSET,
         path_size: entry.file_path.len() as u64,
-        next_offset: (section.len() - behind.len()) as u64,
+        next_offset: (section.len() - rest.len()) as u64,
         pid: entry._pid,
         dso_kind: dso_kind(&key),
     };

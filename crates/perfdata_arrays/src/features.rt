@@ -3,7 +3,7 @@ ghost use Rattle.std.specs.Prelude.{◌≡◌};
 ghost use Rattle.linux_perf_data.specs.PerfFile.{feature_data_in_file};
 ghost use Rattle.perfdata_arrays.specs.Features.{CopiesFeature, ReadsFileFeature, ReadsPipeFeature};
 
-use crate::record::{byte_count, copy_prefix};
+use crate::array::{byte_count, copy_prefix};
 use crate::records::{walk, walk_result_status};
 use crate::status::{WHOLE, status_of_error};
 use linux_perf_data::{Feature, PerfFile, PerfFileReader};

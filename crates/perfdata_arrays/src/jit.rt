@@ -2,17 +2,20 @@
 ghost use Rattle.std.specs.Prelude.{◌≡◌, ◌+◌, ◌^◌, ◌<◌, ◌≤◌, Ok, Some, length};
 ghost use Rattle.perfdata_arrays.specs.Jit.{FindsRecord, ReadsJitHeader, ReadsJitRecords, ReadsJitLoad, ParsesLoad, ParsesJitHeader, header_window, endian_number_of};
 
-use crate::record::byte_count;
+use crate::array::byte_count;
 use crate::status::{BAD_JIT_SIZE, BAD_LOAD, CUT, NO_LOAD, WHOLE, status_of_jit_error};
 use perfdata_base::endian::{read_u32, read_u64};
 use perfdata_base::raw::{Endianness, RawData};
-use perfdata_jit::{JitCodeLoadRecord, JitDumpHeader};
+use perfdata_jit::{JitCodeLoadRecord, JitDumpHeader, JitDumpRecordHeader};
 
 /// The maximum size of a jitdump header in bytes.
 const MAX_HEADER_SIZE: usize = 4096;
 
-/// The size of a record header in bytes.
-const RECORD_HEADER_SIZE: usize = 16;
+/// The offset of the function's name in a load record, in bytes.
+const NAME_OFFSET: u64 = 56;
+
+/// The offset of the code in a load record whose name is empty, in bytes.
+const EMPTY_NAME_CODE_OFFSET: u64 = 57;
 
 /// The header of a jitdump, as plain numbers.
 #[repr(C)]
@@ -126,7 +129,7 @@ pub fn jit_header(bytes: &[u8], out: &mut JitHeader) -> u32
     ensures { ReadsJitHeader bytes.now out.old result out.new }
 {
     match parse_header(bytes) {
-        Ok((header, order)) => {
+        Ok((header, endian)) => {
             *out = JitHeader {
                 timestamp: header.timestamp,
                 flags: header.flags,
@@ -134,7 +137,7 @@ pub fn jit_header(bytes: &[u8], out: &mut JitHeader) -> u32
                 header_size: header.total_size,
                 elf_machine: header.elf_machine_arch,
                 pid: header.pid,
-                is_big_endian: endian_number(order),
+                is_big_endian: endian_number(endian),
                 reserved: 0,
             };
             WHOLE
@@ -152,18 +155,18 @@ fn record_at(endian: Endianness, bytes: &[u8], offset: u64) -> Result<Option<Jit
         return Ok(None);
     }
     let rest = &bytes[offset as usize..];
-    if rest.len() < RECORD_HEADER_SIZE {
+    if rest.len() < JitDumpRecordHeader::SIZE {
         return Ok(None);
     }
     let size = read_u32(endian, &rest[4..]);
-    if (size as usize) < RECORD_HEADER_SIZE {
+    if (size as usize) < JitDumpRecordHeader::SIZE {
         return Err(BAD_JIT_SIZE);
     }
     if size as usize > rest.len() {
         return Ok(None);
     }
     Ok(Some(JitRecord {
-        offset: offset,
+        offset,
         timestamp: read_u64(endian, &rest[8..]),
         record_type: read_u32(endian, rest),
         size,
@@ -182,7 +185,7 @@ fn record_at(endian: Endianness, bytes: &[u8], offset: u64) -> Result<Option<Jit
 pub fn jit_records(bytes: &[u8], start_offset: u64, entries: &mut [JitRecord]) -> JitRecordsResult
     ensures { ReadsJitRecords bytes.now start_offset entries.old result entries.new }
 {
-    let (header, order) = match parse_header(bytes) {
+    let (header, endian) = match parse_header(bytes) {
         Ok(read) => read,
         Err(status) => {
             return JitRecordsResult {
@@ -195,7 +198,7 @@ pub fn jit_records(bytes: &[u8], start_offset: u64, entries: &mut [JitRecord]) -
     let mut next = start_offset.max(header.total_size as u64);
     let mut records = 0;
     'records: while records < entries.len() {
-        match record_at(order, bytes, next) {
+        match record_at(endian, bytes, next) {
             Ok(Some(record)) => {
                 entries[records] = record;
                 records += 1;
@@ -236,20 +239,20 @@ fn parse_load(endian: Endianness, bytes: &[u8], entry: &JitRecord) -> Result<Jit
     if entry.record_type != 0 {
         return Err(NO_LOAD);
     }
-    let at = entry.offset;
-    let start = at as usize + RECORD_HEADER_SIZE;
+    let offset = entry.offset;
+    let start = offset as usize + JitDumpRecordHeader::SIZE;
     let rest = &bytes[start..];
-    let body = &rest[..entry.size as usize - RECORD_HEADER_SIZE];
+    let body = &rest[..entry.size as usize - JitDumpRecordHeader::SIZE];
     match JitCodeLoadRecord::parse(endian, RawData::Single(body)) {
         Ok(load) => {
-            let name_length = load.function_name.len() as u64;
+            let name_size = load.function_name.len() as u64;
             Ok(JitLoad {
                 vma: load.vma,
                 code_address: load.code_addr,
                 code_index: load.code_index,
-                name_offset: at + 56,
-                name_size: name_length,
-                code_offset: at + 57 + name_length,
+                name_offset: offset + NAME_OFFSET,
+                name_size,
+                code_offset: offset + EMPTY_NAME_CODE_OFFSET + name_size,
                 code_size: load.code_bytes.len() as u64,
                 pid: load.pid,
                 tid: load.tid,
@@ -267,18 +270,18 @@ fn parse_load(endian: Endianness, bytes: &[u8], entry: &JitRecord) -> Result<Jit
 pub fn jit_load(bytes: &[u8], offset: u64, out: &mut JitLoad) -> u32
     ensures { ReadsJitLoad bytes.now offset out.old result out.new }
 {
-    let (_header, order) = match parse_header(bytes) {
+    let (_header, endian) = match parse_header(bytes) {
         Ok(read) => read,
         Err(status) => return status,
     };
     // For the prover.
     let _count = byte_count(bytes);
-    let record = match record_at(order, bytes, offset) {
+    let record = match record_at(endian, bytes, offset) {
         Ok(Some(record)) => record,
         Ok(None) => return CUT,
         Err(status) => return status,
     };
-    match parse_load(order, bytes, &record) {
+    match parse_load(endian, bytes, &record) {
         Ok(load) => {
             *out = load;
             WHOLE

@@ -4,6 +4,7 @@
 //! counts. A slice in memory never fails and never pauses: the entries are exactly those of the records of the input's layout.
 #![tactic(auto)]
 
+mod array;
 pub mod attrs;
 pub mod build_ids;
 pub mod features;

@@ -1,9 +1,9 @@
-//! The entry of a record, and functions that write entries into an array.
-ghost use Rattle.std.specs.Prelude.{◌≡◌, ◌+◌, ◌^◌, ◌<◌, length};
+//! The entry of a record.
+ghost use Rattle.std.specs.Prelude.{◌≡◌, ◌+◌, ◌^◌, ◌<◌};
 ghost use Rattle.linux_perf_data.specs.Iter.{record_view_of};
-ghost use Rattle.perfdata_arrays.specs.Overwrites.{WritesOneMore, with_entries_at, with_prefix};
 ghost use Rattle.perfdata_arrays.specs.Records.{record_entry_at};
 
+use linux_perf_data::event::PerfEventHeader;
 use linux_perf_data::{PerfFileRecord, RecordPlace};
 
 /// The position and the header fields of a record, as plain numbers.
@@ -43,75 +43,35 @@ pub(crate) fn record_entry(
     requires fits { first_record_offset + place.offset + 8 < 2 ^ 64 }
     ensures { result ≡ record_entry_at first_record_offset (record_view_of place file_record.now) }
 {
-    let (time, has_time) = match place.timestamp {
-        Some(time) => (time, 1),
+    let (timestamp, has_timestamp) = match place.timestamp {
+        Some(timestamp) => (timestamp, 1),
         None => (0, 0),
     };
-    let body_place = first_record_offset + place.offset + 8;
+    let body_offset = first_record_offset + place.offset + PerfEventHeader::STRUCT_SIZE as u64;
     match file_record {
         PerfFileRecord::EventRecord { attr_index, event } => Record {
             offset: place.offset,
-            body_offset: body_place,
+            body_offset,
             body_size: event.body.len() as u64,
             round: place.round,
-            timestamp: time,
+            timestamp,
             attr_index: *attr_index as u64,
             record_type: event.record_type.0,
             misc: event.misc,
-            has_timestamp: has_time,
+            has_timestamp,
             has_attr: 1,
         },
         PerfFileRecord::UserRecord(user) => Record {
             offset: place.offset,
-            body_offset: body_place,
+            body_offset,
             body_size: user.body.len() as u64,
             round: place.round,
-            timestamp: time,
+            timestamp,
             attr_index: 0,
             record_type: user.record_type.record_type().0,
             misc: user.misc,
-            has_timestamp: has_time,
+            has_timestamp,
             has_attr: 0,
         },
     }
-}
-
-/// Writes `entry`, which has index `index`, into an array that begins with entry `start`.
-///
-/// Leaves the array unchanged if it has no element for that index.
-pub(crate) fn write_entry<T: Copy>(array: &mut [T], index: u64, start: u64, entry: T)
-    ensures { WritesOneMore start index entry array.old array.new }
-{
-    if index < start {
-        return;
-    }
-    let at = index - start;
-    if at < array.len() as u64 {
-        array[at as usize] = entry;
-    }
-}
-
-/// Copies `entries` over the start of `array`, up to its capacity.
-pub(crate) fn copy_prefix<T: Copy>(array: &mut [T], entries: &[T])
-    ensures { array.new ≡ with_prefix entries.now array.old }
-{
-    let count = array.len().min(entries.len());
-    array[..count].copy_from_slice(&entries[..count]);
-}
-
-/// Copies `entries` into `array` after its first `offset` elements, up to its capacity.
-pub(crate) fn copy_at<T: Copy>(array: &mut [T], offset: u64, entries: &[T])
-    ensures { array.new ≡ with_entries_at offset entries.now array.old }
-{
-    if offset < array.len() as u64 {
-        copy_prefix(&mut array[offset as usize..], entries);
-    }
-}
-
-/// Returns the number of bytes.
-pub(crate) fn byte_count(bytes: &[u8]) -> u64
-    ensures value { result ≡ length bytes.now }
-    ensures fits { length bytes.now < 2 ^ 63 }
-{
-    bytes.len() as u64
 }

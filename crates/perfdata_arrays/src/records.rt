@@ -4,12 +4,15 @@ ghost use Rattle.linux_perf_data.specs.FileReading.{HasNotFailed};
 ghost use Rattle.perfdata_arrays.specs.Records.{ReadsFileRecords, IsMetadataSize, IsOpeningSize, ReadsPipeRecords};
 ghost use Rattle.perfdata_arrays.specs.Walk.{FitsAtIfRunning, WalksRecords, walk_status};
 
-use crate::record::{Record, byte_count, record_entry, write_entry};
+use crate::array::{byte_count, write_entry};
+use crate::record::{Record, record_entry};
 use crate::status::{WHOLE, status_of_error, status_of_io_error};
 use linux_perf_data::header::PerfHeader;
 use linux_perf_data::source::Source;
 use linux_perf_data::{Endianness, Error, PerfFile, PerfFileReader, PerfRecordIter};
-use perfdata_base::endian::{read_u16, read_u32, read_u64};
+use perfdata_base::endian::read_u64;
+use perfdata_base::event::PerfEventHeader;
+use perfdata_sections::constants::{PERF_RECORD_HEADER_ATTR, PERF_RECORD_HEADER_FEATURE};
 use std::alloc::Global;
 use std::io::Cursor;
 
@@ -29,34 +32,34 @@ pub(crate) struct WalkResult {
     pub(crate) end: Result<(), Error>,
 }
 
-// Reads all records and writes the entries of the records from index `first` on, up to the capacity of `entries`.
+// Reads all records and writes the entries of the records from index `start` on, up to the capacity of `entries`.
+//
+// `first_record_offset` is the offset of the first record in the input, in bytes.
 pub(crate) fn walk<R: Source>(
     iter: &mut PerfRecordIter<R>,
     file: &mut PerfFile,
-    base: u64,
-    first: u64,
+    first_record_offset: u64,
+    start: u64,
     entries: &mut [Record],
 ) -> WalkResult
     requires not_failed { HasNotFailed iter.old }
-    requires fits_if_running { FitsAtIfRunning R.state iter.old base }
-    ensures { WalksRecords R.state iter.old file.old base first entries.old result iter.new file.new entries.new }
+    requires fits_if_running { FitsAtIfRunning R.state iter.old first_record_offset }
+    ensures { WalksRecords R.state iter.old file.old first_record_offset start entries.old result iter.new file.new entries.new }
 {
-    let mut records = 0u64;
+    let mut count = 0u64;
     'records: loop {
         match iter.next_record(file) {
             Ok(Some((place, record))) => {
-                write_entry(entries, records, first, record_entry(base, place, &record));
-                records += 1;
+                let entry = record_entry(first_record_offset, place, &record);
+                write_entry(entries, count, start, entry);
+                count += 1;
             }
             Ok(None) => {
-                return WalkResult {
-                    count: records,
-                    end: Ok(()),
-                };
+                return WalkResult { count, end: Ok(()) };
             }
             Err(error) => {
                 return WalkResult {
-                    count: records,
+                    count,
                     end: Err(error),
                 };
             }
@@ -74,7 +77,7 @@ pub(crate) fn walk_result_status(end: &Result<(), Error>) -> u32
     }
 }
 
-/// Writes the entries of a perf.data file's records, starting with the record of index `first`.
+/// Writes the entries of a perf.data file's records, starting with the record of index `start`.
 ///
 /// Writes as many entries as `entries` has capacity for. The elements after the last written entry are unchanged. `count`
 /// includes the records that aren't written. FINISHED_ROUND markers aren't records.
@@ -85,10 +88,10 @@ pub(crate) fn walk_result_status(end: &Result<(), Error>) -> u32
 pub fn file_records(
     alloc: Global,
     bytes: &[u8],
-    first: u64,
+    start: u64,
     entries: &mut [Record],
 ) -> RecordsResult
-    ensures { ReadsFileRecords bytes.now first entries.old result entries.new }
+    ensures { ReadsFileRecords bytes.now start entries.old result entries.new }
 {
     let header = match PerfHeader::parse(Cursor::new(bytes)) {
         Ok(header) => header,
@@ -106,61 +109,58 @@ pub fn file_records(
     };
     let mut file = reader.perf_file;
     let mut iter = reader.record_iter;
-    let base = header.data_section.offset;
+    let first_record_offset = header.data_section.offset;
     // For the prover.
     let _count = byte_count(bytes);
-    let walked = walk(&mut iter, &mut file, base, first, entries);
+    let walked = walk(&mut iter, &mut file, first_record_offset, start, entries);
     RecordsResult {
         count: walked.count,
         status: walk_result_status(&walked.end),
     }
 }
 
-/// The size of a record header in bytes.
-const RECORD_HEADER_SIZE: usize = 8;
+/// The size of a pipe header in bytes: its magic and its size.
+const PIPE_HEADER_SIZE: usize = 16;
 
 // The size in bytes of the metadata record at `offset`, or 0 if no metadata record starts there.
-fn metadata_size(order: Endianness, bytes: &[u8], offset: u64) -> u64
-    ensures size { IsMetadataSize order (drop offset bytes.now) result }
+fn metadata_size(endian: Endianness, bytes: &[u8], offset: u64) -> u64
+    ensures size { IsMetadataSize endian (drop offset bytes.now) result }
     ensures below_u16_max { result < 2 ^ 16 }
     ensures fits { length bytes.now < 2 ^ 63 }
 {
     if offset > byte_count(bytes) {
         return 0;
     }
-    let rest = &bytes[offset as usize..];
-    if rest.len() < RECORD_HEADER_SIZE {
+    let Some(header) = PerfEventHeader::peek(endian, &bytes[offset as usize..]) else {
+        return 0;
+    };
+    if header.type_ != PERF_RECORD_HEADER_ATTR && header.type_ != PERF_RECORD_HEADER_FEATURE {
         return 0;
     }
-    let kind = read_u32(order, rest);
-    if kind != 64 && kind != 80 {
+    if (header.size as usize) < PerfEventHeader::STRUCT_SIZE {
         return 0;
     }
-    let size = read_u16(order, &rest[6..]);
-    if size < 8 {
-        return 0;
-    }
-    size as u64
+    header.size as u64
 }
 
 // The size of a pipe's opening in bytes: the pipe header and the metadata records after it.
-fn opening_size(order: Endianness, bytes: &[u8]) -> u64
-    ensures { IsOpeningSize order bytes.now result }
+fn opening_size(endian: Endianness, bytes: &[u8]) -> u64
+    ensures { IsOpeningSize endian bytes.now result }
 {
-    if bytes.len() < 16 {
+    if bytes.len() < PIPE_HEADER_SIZE {
         return 0;
     }
-    let mut at = read_u64(order, &bytes[8..]).max(16);
+    let mut offset = read_u64(endian, &bytes[8..]).max(PIPE_HEADER_SIZE as u64);
     'records: loop {
-        let size = metadata_size(order, bytes, at);
+        let size = metadata_size(endian, bytes, offset);
         if size == 0 {
-            return at;
+            return offset;
         }
-        at += size;
+        offset += size;
     }
 }
 
-/// Writes the entries of a perf.data pipe's records, starting with the record of index `first`.
+/// Writes the entries of a perf.data pipe's records, starting with the record of index `start`.
 ///
 /// The entries, the count and the status are those of [`file_records`], for the records after the metadata records that open the
 /// pipe. Offsets count from the first of these records.
@@ -170,10 +170,10 @@ fn opening_size(order: Endianness, bytes: &[u8]) -> u64
 pub fn pipe_records(
     alloc: Global,
     bytes: &[u8],
-    first: u64,
+    start: u64,
     entries: &mut [Record],
 ) -> RecordsResult
-    ensures { ReadsPipeRecords bytes.now first entries.old result entries.new }
+    ensures { ReadsPipeRecords bytes.now start entries.old result entries.new }
 {
     let reader = match PerfFileReader::parse_pipe(alloc, Cursor::new(bytes)) {
         Ok(reader) => reader,
@@ -184,10 +184,10 @@ pub fn pipe_records(
     };
     let mut file = reader.perf_file;
     let mut iter = reader.record_iter;
-    let base = opening_size(file.endian(), bytes);
+    let first_record_offset = opening_size(file.endian(), bytes);
     // For the prover.
     let _count = byte_count(bytes);
-    let walked = walk(&mut iter, &mut file, base, first, entries);
+    let walked = walk(&mut iter, &mut file, first_record_offset, start, entries);
     RecordsResult {
         count: walked.count,
         status: walk_result_status(&walked.end),

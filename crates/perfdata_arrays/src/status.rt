@@ -66,7 +66,7 @@ pub fn status_of_error(error: &Error) -> u32
 {
     match error {
         Error::Memory => MEMORY,
-        Error::IoError(fault) => status_of_io_kind(fault.kind()),
+        Error::IoError(error) => status_of_io_kind(error.kind()),
         Error::Read(part) => status_of_read_error(*part),
         Error::UnrecognizedMagicValue(_) => 17,
         Error::SectionSizeTooBig => 18,
@@ -105,6 +105,6 @@ pub fn status_of_jit_error(error: &JitDumpError) -> u32
         JitDumpError::InvalidHeaderSize(_) => 41,
         JitDumpError::InvalidMagicBytes(_) => 42,
         JitDumpError::UnrecognizedVersion(_) => 44,
-        JitDumpError::Io(fault) => status_of_io_kind(fault.kind()),
+        JitDumpError::Io(error) => status_of_io_kind(error.kind()),
     }
 }

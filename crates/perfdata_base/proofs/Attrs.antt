@@ -18,7 +18,7 @@ use Rattle.perfdata_base.specs.declared.attr.PerfEventAttr.{PerfEventAttr}
 -- the prefix of a buffer whose part from index a on was overwritten
 pub part_front : (a k m : ℕ) (xs ys : List ℕ) → a ≤ length xs → a + length ys ≡ m → take m (put_mid a k xs ys) ≡ take a xs ++ ys
 part_front a k m xs ys fits whole =
-    let front = length-take-le a xs fits in
+    let prefix = length-take-le a xs fits in
     let long : length (take a xs ++ ys) ≡ m = omega (arith, length-append (take a xs) ys) in
     ap (λ n. take n (put_mid a k xs ys)) (sym long) ∙ ap (take (length (take a xs ++ ys))) (sym (append_assoc (take a xs) ys (post_of a k xs))) ∙ take-append_seam (take a xs ++ ys) (post_of a k xs)
 
@@ -30,9 +30,9 @@ pub first_eight_front : (xs ys : List ℕ) → length ys ≡ 8 → take 8 (put_m
 first_eight_front xs ys long = part_front 0 8 8 xs ys (omega arith) (omega arith)
 
 -- a property of all lists with this prefix applies to the remaining bytes, if they are known
-pub visible : (a b : Option (List ℕ)) (front : List ℕ) (P : List ℕ → Type 0) → a ≡ prepend front b → ((rest : List ℕ) → P (front ++ rest)) → IfSome a P
-visible a None front P is more = subst (λ o. IfSome o P) (sym is) tt
-visible a (Some rest) front P is more = subst (λ o. IfSome o P) (sym is) (more rest)
+pub visible : (a b : Option (List ℕ)) (prefix : List ℕ) (P : List ℕ → Type 0) → a ≡ prepend prefix b → ((rest : List ℕ) → P (prefix ++ rest)) → IfSome a P
+visible a None prefix P is more = subst (λ o. IfSome o P) (sym is) tt
+visible a (Some rest) prefix P is more = subst (λ o. IfSome o P) (sym is) (more rest)
 
 if_some_is : (b : Option (List ℕ)) (P : List ℕ → Type 0) (xs : List ℕ) → b ≡ Some xs → P xs → IfSome b P
 if_some_is b P xs is p = subst (λ o. IfSome o P) (sym is) p
@@ -114,35 +114,35 @@ module _ (number : ℕ → List ℕ → ℕ) (first : (n : ℕ) (xs ys : List �
       }
 
   -- the first eight bytes and the rest are an attribute
-  pub whole_attr : (a b c : State) (head : List ℕ) (own : ℕ) (attr : PerfEventAttr) → length head ≡ 8 → OwnSizeRead number a head own b → AttrRestRead number b head own attr c → AttrParsed number a attr own c
-  whole_attr a b c head own attr long took more =
-      let size = own_stays head more.rest (omega arith) in
-      let all = length-append head more.rest in
+  pub whole_attr : (a b c : State) (header : List ℕ) (own : ℕ) (attr : PerfEventAttr) → length header ≡ 8 → OwnSizeRead number a header own b → AttrRestRead number b header own attr c → AttrParsed number a attr own c
+  whole_attr a b c header own attr long step more =
+      let size = own_stays header more.rest (omega arith) in
+      let all = length-append header more.rest in
       let eight = more.exact_len in
-      let least = took.min_size in
-      let same = took.matches in
+      let least = step.min_size in
+      let same = step.matches in
       record {
-        bytes = head ++ more.rest;
+        bytes = header ++ more.rest;
         exact_len = omega arith;
-        size = ap (λ a. a.size) more.matches ∙ size_with number own (head ++ more.rest);
-        consumes = consumed_more a b c head more.rest took.consumes more.consumes;
-        matches = record { min_size = omega arith; complete = omega arith; matches = more.matches ∙ ap (λ n. attr_of_size number n (head ++ more.rest)) (took.matches ∙ sym size) };
+        size = ap (λ a. a.size) more.matches ∙ size_with number own (header ++ more.rest);
+        consumes = consumed_more a b c header more.rest step.consumes more.consumes;
+        matches = record { min_size = omega arith; complete = omega arith; matches = more.matches ∙ ap (λ n. attr_of_size number n (header ++ more.rest)) (step.matches ∙ sym size) };
       }
 
   -- the first eight bytes were read, and the rest is truncated
-  pub rest_truncated : (a b c : State) (head : List ℕ) (own : ℕ) (e : Error) → length head ≡ 8 → OwnSizeRead number a head own b → ReadExactError b (own - 8) e c → AttrParseError number a e c
-  rest_truncated a b c head own e long took cut =
-      let size : own_size number (head ++ cut.consumed_bytes) ≡ own = own_stays head cut.consumed_bytes (omega arith) ∙ sym took.matches in
-      let least = took.min_size in
-      let less = cut.too_few in
+  pub rest_truncated : (a b c : State) (header : List ℕ) (own : ℕ) (e : Error) → length header ≡ 8 → OwnSizeRead number a header own b → ReadExactError b (own - 8) e c → AttrParseError number a e c
+  rest_truncated a b c header own e long step truncated =
+      let size : own_size number (header ++ truncated.consumed_bytes) ≡ own = own_stays header truncated.consumed_bytes (omega arith) ∙ sym step.matches in
+      let least = step.min_size in
+      let less = truncated.too_few in
       record {
-        consumed_bytes = head ++ cut.consumed_bytes;
-        consumes = consumed_more a b c head cut.consumed_bytes took.consumes cut.consumes;
+        consumed_bytes = header ++ truncated.consumed_bytes;
+        consumes = consumed_more a b c header truncated.consumed_bytes step.consumes truncated.consumes;
         cause = inl (
-          inr (omega arith, omega (arith, length-append head cut.consumed_bytes)),
-          elim cut.cause [
-            | inl short ↦ inl (short.0, consumed_none_later a b c head took.consumes short.1)
-            | inr failed ↦ inr (failed_later a b c head took.consumes failed)
+          inr (omega arith, omega (arith, length-append header truncated.consumed_bytes)),
+          elim truncated.cause [
+            | inl short ↦ inl (short.0, consumed_none_later a b c header step.consumes short.1)
+            | inr failed ↦ inr (failed_later a b c header step.consumes failed)
           ],
         );
       }
@@ -150,37 +150,37 @@ module _ (number : ℕ → List ℕ → ℕ) (first : (n : ℕ) (xs ys : List �
   -- the bytes read into a buffer after its first eight, and the skipped ones, are the rest of an attribute
   pub whole_rest : (a b c : State) (bytes now ys : List ℕ) (own m : ℕ) (attr : PerfEventAttr) → 8 ≤ m → m ≤ own → ((k : ℕ) → k ≤ own → k ≤ 136 → k ≤ m) → m ≤ length now → length (take 8 bytes) ≡ 8 → 8 + length ys ≡ m → take m now ≡ take 8 bytes ++ ys
       → Consumed a ys b → SkippedExactly b (own - m) c → attr ≡ attr_of_size number own now → AttrRestRead number a (take 8 bytes) own attr c
-  whole_rest a b c bytes now ys own m attr low high known fits eight long is gave skip fields =
+  whole_rest a b c bytes now ys own m attr low high known fits eight long is consumed skip fields =
       let skipped = skip.exact_len in
-      let head = take 8 bytes in
+      let header = take 8 bytes in
       let all = length-append ys skip.bytes in
-      let all' = length-append head (ys ++ skip.bytes) in
-      let front : take m now ≡ take m (head ++ (ys ++ skip.bytes)) =
-      let len : length (head ++ ys) ≡ m = omega (arith, length-append head ys) in
-      is ∙ sym (take-append_seam (head ++ ys) skip.bytes) ∙ ap (λ k. take k ((head ++ ys) ++ skip.bytes)) len ∙ ap (take m) (append_assoc head ys skip.bytes)
+      let all' = length-append header (ys ++ skip.bytes) in
+      let prefix : take m now ≡ take m (header ++ (ys ++ skip.bytes)) =
+      let len : length (header ++ ys) ≡ m = omega (arith, length-append header ys) in
+      is ∙ sym (take-append_seam (header ++ ys) skip.bytes) ∙ ap (λ k. take k ((header ++ ys) ++ skip.bytes)) len ∙ ap (take m) (append_assoc header ys skip.bytes)
       in
       record {
         rest = ys ++ skip.bytes;
         exact_len = omega arith;
-        consumes = consumed_more a b c ys skip.bytes gave skip.consumes;
-        matches = fields ∙ attr_front own m now (head ++ (ys ++ skip.bytes)) known fits (omega arith) front;
+        consumes = consumed_more a b c ys skip.bytes consumed skip.consumes;
+        matches = fields ∙ attr_front own m now (header ++ (ys ++ skip.bytes)) known fits (omega arith) prefix;
       }
 
-  small_stays : (front rest : List ℕ) → length front ≡ 8 → own_size number front < 64 → IsTooSmall number (front ++ rest)
-  small_stays front rest long small =
-      let size = own_stays front rest (omega arith) in
-      (omega (arith, length-append front rest), omega arith)
+  small_stays : (prefix rest : List ℕ) → length prefix ≡ 8 → own_size number prefix < 64 → IsTooSmall number (prefix ++ rest)
+  small_stays prefix rest long small =
+      let size = own_stays prefix rest (omega arith) in
+      (omega (arith, length-append prefix rest), omega arith)
 
-  excused : (Unfinished : List ℕ → Type 0) (a b : State) (front : List ℕ) (e : Error) → Consumed a front b → AttrErrorCause number Unfinished a front e b → BytesOrSourceExplain a (λ xs. ((error_kind e ≡ UnexpectedEof) × Unfinished xs) ⊎ ((error_kind e ≡ InvalidData) × IsTooSmall number xs)) b
-  excused Unfinished a b front e gave why = elim why [
-    | inl cut ↦ elim cut.1 [
+  excused : (Unfinished : List ℕ → Type 0) (a b : State) (prefix : List ℕ) (e : Error) → Consumed a prefix b → AttrErrorCause number Unfinished a prefix e b → BytesOrSourceExplain a (λ xs. ((error_kind e ≡ UnexpectedEof) × Unfinished xs) ⊎ ((error_kind e ≡ InvalidData) × IsTooSmall number xs)) b
+  excused Unfinished a b prefix e consumed reason_of = elim reason_of [
+    | inl truncated ↦ elim truncated.1 [
       | inl short ↦ elim (none_or_paused a b short.1) [
-        | inl end ↦ inl (if_some_is a.bytes (λ xs. ((error_kind e ≡ UnexpectedEof) × Unfinished xs) ⊎ ((error_kind e ≡ InvalidData) × IsTooSmall number xs)) front (all_read a b front gave end) (inl (short.0, cut.0)))
+        | inl end ↦ inl (if_some_is a.bytes (λ xs. ((error_kind e ≡ UnexpectedEof) × Unfinished xs) ⊎ ((error_kind e ≡ InvalidData) × IsTooSmall number xs)) prefix (all_read a b prefix consumed end) (inl (short.0, truncated.0)))
         | inr paused ↦ inr (inr paused)
       ]
       | inr failed ↦ inr (inl failed)
     ]
-    | inr small ↦ inl (visible a.bytes b.bytes front (λ xs. ((error_kind e ≡ UnexpectedEof) × Unfinished xs) ⊎ ((error_kind e ≡ InvalidData) × IsTooSmall number xs)) gave.bytes (λ rest. inr (small.2, small_stays front rest small.0 small.1)))
+    | inr small ↦ inl (visible a.bytes b.bytes prefix (λ xs. ((error_kind e ≡ UnexpectedEof) × Unfinished xs) ⊎ ((error_kind e ≡ InvalidData) × IsTooSmall number xs)) consumed.bytes (λ rest. inr (small.2, small_stays prefix rest small.0 small.1)))
   ]
 
   -- if the own size can't be read, the remaining bytes show the cause if they are known, or the source failed or paused
@@ -189,4 +189,4 @@ module _ (number : ℕ → List ℕ → ℕ) (first : (n : ℕ) (xs ys : List �
 
   -- the same if an attribute can't be parsed
   pub attr_explained : (a b : State) (e : Error) → AttrParseError number a e b → BytesOrSourceExplain a (IsInvalidAttr number e) b
-  attr_explained a b e refused = excused (IsTruncatedAttr number) a b refused.consumed_bytes e refused.consumes refused.cause
+  attr_explained a b e error = excused (IsTruncatedAttr number) a b error.consumed_bytes e error.consumes error.cause

@@ -40,39 +40,39 @@ consumed_more a b c first second x y = record {
   steady = λ h. let s = x.steady h in stays_on a b c s (y.steady s.steady);
 }
 
-pub consumed_no_more : (a b c : State) (front : List ℕ) → Consumed a front b → Consumed b [] c → Consumed a front c
-consumed_no_more a b c front x y = subst (λ f. Consumed a f c) (append-nil front) (consumed_more a b c front [] x y)
+pub consumed_no_more : (a b c : State) (prefix : List ℕ) → Consumed a prefix b → Consumed b [] c → Consumed a prefix c
+consumed_no_more a b c prefix x y = subst (λ f. Consumed a f c) (append-nil prefix) (consumed_more a b c prefix [] x y)
 
 -- a steady source stays steady
-pub still_steady : (a b : State) (front : List ℕ) → Consumed a front b → IsTrue a.steady → IsTrue b.steady
-still_steady a b front x h = (x.steady h).steady
+pub still_steady : (a b : State) (prefix : List ℕ) → Consumed a prefix b → IsTrue a.steady → IsTrue b.steady
+still_steady a b prefix x h = (x.steady h).steady
 
-pub failed_later : (a b c : State) (front : List ℕ) → Consumed a front b → SourceFailed b c → SourceFailed a c
-failed_later a b c front x y = record {
+pub failed_later : (a b c : State) (prefix : List ℕ) → Consumed a prefix b → SourceFailed b c → SourceFailed a c
+failed_later a b c prefix x y = record {
   count_increases = λ low. let p = x.errors in let q = y.count_increases low in omega arith;
-  not_steady = λ h. y.not_steady (still_steady a b front x h);
+  not_steady = λ h. y.not_steady (still_steady a b prefix x h);
 }
 
-pub failed_before : (a b c : State) (front : List ℕ) → SourceFailed a b → Consumed b front c → SourceFailed a c
-failed_before a b c front x y = record {
+pub failed_before : (a b c : State) (prefix : List ℕ) → SourceFailed a b → Consumed b prefix c → SourceFailed a c
+failed_before a b c prefix x y = record {
   count_increases = λ low. let p = y.errors in let lower : b.errors < 18446744073709551615 = omega arith in let q = x.count_increases lower in omega arith;
   not_steady = x.not_steady;
 }
 
-pub paused_later : (a b c : State) (front : List ℕ) → Consumed a front b → SourcePaused b c → SourcePaused a c
-paused_later a b c front x y = record {
+pub paused_later : (a b c : State) (prefix : List ℕ) → Consumed a prefix b → SourcePaused b c → SourcePaused a c
+paused_later a b c prefix x y = record {
   count_increases = λ low. let p = x.pauses in let q = y.count_increases low in omega arith;
-  not_steady = λ h. y.not_steady (still_steady a b front x h);
+  not_steady = λ h. y.not_steady (still_steady a b prefix x h);
 }
 
-pub consumed_none_later : (a b c : State) (front : List ℕ) → Consumed a front b → EndedOrPaused b c → EndedOrPaused a c
-consumed_none_later a b c front x y = λ more. paused_later a b c front x (y more)
+pub consumed_none_later : (a b c : State) (prefix : List ℕ) → Consumed a prefix b → EndedOrPaused b c → EndedOrPaused a c
+consumed_none_later a b c prefix x y = λ more. paused_later a b c prefix x (y more)
 
 -- the prefix of a buffer whose part from index a on was overwritten
 pub front_and_part : (a k n : ℕ) (xs ys : List ℕ) → a ≤ length xs → n ≤ length ys → take (a + n) (put_mid a k xs ys) ≡ take a xs ++ take n ys
 front_and_part a k n xs ys fits within =
-    let front = length-take-le a xs fits in
-    ap (λ m. take (m + n) (put_mid a k xs ys)) (sym front) ∙ take-append-add (take a xs) (ys ++ post_of a k xs) n
+    let prefix = length-take-le a xs fits in
+    ap (λ m. take (m + n) (put_mid a k xs ys)) (sym prefix) ∙ take-append-add (take a xs) (ys ++ post_of a k xs) n
     ∙ ap (λ r. take a xs ++ r) (take-append-le n ys (post_of a k xs) within)
 
 -- the overwrite leaves its length unchanged
@@ -81,64 +81,64 @@ length-refilled a xs ys fits same =
     omega (arith, length-append (take a xs) (ys ++ post_of a (length xs - a) xs), length-append ys (post_of a (length xs - a) xs), length-take-le a xs fits, length-drop (length xs - a) (drop a xs), length-take (length xs - a) (drop a xs), length-drop a xs)
 
 -- a read that returns no bytes consumes none
-pub none_read : (a b c : State) (front place : List ℕ) (n : ℕ) → n ≡ 0 → Consumed a front b → Consumed b (take n place) c → Consumed a front c
-none_read a b c front place n none before read = consumed_no_more a b c front before (subst (λ m. Consumed b (take m place) c) none read)
+pub none_read : (a b c : State) (prefix offset : List ℕ) (n : ℕ) → n ≡ 0 → Consumed a prefix b → Consumed b (take n offset) c → Consumed a prefix c
+none_read a b c prefix offset n none before read = consumed_no_more a b c prefix before (subst (λ m. Consumed b (take m offset) c) none read)
 
 -- some bytes were consumed, and then fewer than the next `piece` bytes
-abbrev pub part_more : (a b c : State) (front : List ℕ) (k piece count : ℕ) → length front ≡ k → Consumed a front b → PartlyRead b piece c → k + piece ≤ count → PartlyRead a count c
-part_more a b c front k piece count long before step fits =
+abbrev pub part_more : (a b c : State) (prefix : List ℕ) (k piece count : ℕ) → length prefix ≡ k → Consumed a prefix b → PartlyRead b piece c → k + piece ≤ count → PartlyRead a count c
+part_more a b c prefix k piece count long before step fits =
     let part = step.consumed_bytes in
     let short : length part < piece = step.too_few in
-    record { consumed_bytes = front ++ part; too_few = omega (arith, length-append front part, long, short, fits); consumes = consumed_more a b c front part before step.consumes }
+    record { consumed_bytes = prefix ++ part; too_few = omega (arith, length-append prefix part, long, short, fits); consumes = consumed_more a b c prefix part before step.consumes }
 
 -- some bytes were consumed, and then a buffer was filled
-pub skipped_more : (a b c : State) (front place : List ℕ) (k n : ℕ) → length front ≡ k → Consumed a front b → BufferFilled b place n c → (whole : List ℕ) × (length whole ≡ k + n) × Consumed a whole c
-skipped_more a b c front place k n long before fill =
-    (front ++ take n place, length-append front (take n place) ∙ ap (λ m. m + length (take n place)) long ∙ ap (λ m. k + m) (length-take-le n place fill.within), consumed_more a b c front (take n place) before fill.consumes)
+pub skipped_more : (a b c : State) (prefix offset : List ℕ) (k n : ℕ) → length prefix ≡ k → Consumed a prefix b → BufferFilled b offset n c → (whole : List ℕ) × (length whole ≡ k + n) × Consumed a whole c
+skipped_more a b c prefix offset k n long before fill =
+    (prefix ++ take n offset, length-append prefix (take n offset) ∙ ap (λ m. m + length (take n offset)) long ∙ ap (λ m. k + m) (length-take-le n offset fill.within), consumed_more a b c prefix (take n offset) before fill.consumes)
 
-pub skipped_short : (a b c : State) (front place : List ℕ) (k n count : ℕ) → length front ≡ k → Consumed a front b → BufferFilled b place n c → n < length place → k + n ≤ count → SkippedUpTo a count (k + n) c
-skipped_short a b c front place k n count long before fill short fits =
-    let more = skipped_more a b c front place k n long before fill in
-    record { bytes = more.0; exact_len = more.1; within = fits; consumes = more.2; if_incomplete = λ _. consumed_none_later a b c front before (fill.if_incomplete short) }
+pub skipped_short : (a b c : State) (prefix offset : List ℕ) (k n count : ℕ) → length prefix ≡ k → Consumed a prefix b → BufferFilled b offset n c → n < length offset → k + n ≤ count → SkippedUpTo a count (k + n) c
+skipped_short a b c prefix offset k n count long before fill short fits =
+    let more = skipped_more a b c prefix offset k n long before fill in
+    record { bytes = more.0; exact_len = more.1; within = fits; consumes = more.2; if_incomplete = λ _. consumed_none_later a b c prefix before (fill.if_incomplete short) }
 
 -- a chunk was appended after the old content of a buffer
-pub appended_more : (a b c : State) (old held now front : List ℕ) (k n piece : ℕ) → length front ≡ k → held ≡ old ++ front → Consumed a front b → AppendedUpTo b held piece n now c
+pub appended_more : (a b c : State) (old buffered now prefix : List ℕ) (k n piece : ℕ) → length prefix ≡ k → buffered ≡ old ++ prefix → Consumed a prefix b → AppendedUpTo b buffered piece n now c
     → (whole : List ℕ) × (length whole ≡ k + n) × (now ≡ old ++ whole) × Consumed a whole c
-appended_more a b c old held now front k n piece long is before step =
+appended_more a b c old buffered now prefix k n piece long is before step =
     let part = step.bytes in (
-      front ++ part,
-      length-append front part ∙ ap (λ m. m + length part) long ∙ ap (λ m. k + m) step.exact_len,
-      step.buffer_content ∙ ap (λ l. l ++ part) is ∙ append_assoc old front part,
-      consumed_more a b c front part before step.consumes,
+      prefix ++ part,
+      length-append prefix part ∙ ap (λ m. m + length part) long ∙ ap (λ m. k + m) step.exact_len,
+      step.buffer_content ∙ ap (λ l. l ++ part) is ∙ append_assoc old prefix part,
+      consumed_more a b c prefix part before step.consumes,
     )
 
-pub appended_short : (a b c : State) (old held now front : List ℕ) (k n piece count : ℕ) → length front ≡ k → held ≡ old ++ front → Consumed a front b → AppendedUpTo b held piece n now c
+pub appended_short : (a b c : State) (old buffered now prefix : List ℕ) (k n piece count : ℕ) → length prefix ≡ k → buffered ≡ old ++ prefix → Consumed a prefix b → AppendedUpTo b buffered piece n now c
     → n < piece → k + n ≤ count → AppendedUpTo a old count (k + n) now c
-appended_short a b c old held now front k n piece count long is before step short fits =
-    let more = appended_more a b c old held now front k n piece long is before step in
-    record { bytes = more.0; exact_len = more.1; within = fits; buffer_content = more.2; consumes = more.3; if_incomplete = λ _. consumed_none_later a b c front before (step.if_incomplete short) }
+appended_short a b c old buffered now prefix k n piece count long is before step short fits =
+    let more = appended_more a b c old buffered now prefix k n piece long is before step in
+    record { bytes = more.0; exact_len = more.1; within = fits; buffer_content = more.2; consumes = more.3; if_incomplete = λ _. consumed_none_later a b c prefix before (step.if_incomplete short) }
 
-appended_part_more : (a b c : State) (old held front : List ℕ) (k piece count now : ℕ) → length front ≡ k → held ≡ old ++ front → Consumed a front b → PartlyAppended b (length held) piece now c
+appended_part_more : (a b c : State) (old buffered prefix : List ℕ) (k piece count now : ℕ) → length prefix ≡ k → buffered ≡ old ++ prefix → Consumed a prefix b → PartlyAppended b (length buffered) piece now c
     → k + piece ≤ count → PartlyAppended a (length old) count now c
-appended_part_more a b c old held front k piece count now long is before step fits =
-    let bound : now ≤ length held + length step.partial_read.consumed_bytes + 4096 = step.buffer_bound in
-    let all : length held ≡ length old + length front = ap length is ∙ length-append old front in
-    record { partial_read = part_more a b c front k piece count long before step.partial_read fits; buffer_bound = omega (arith, length-append front step.partial_read.consumed_bytes, all, bound) }
+appended_part_more a b c old buffered prefix k piece count now long is before step fits =
+    let bound : now ≤ length buffered + length step.partial_read.consumed_bytes + 4096 = step.buffer_bound in
+    let all : length buffered ≡ length old + length prefix = ap length is ∙ length-append old prefix in
+    record { partial_read = part_more a b c prefix k piece count long before step.partial_read fits; buffer_bound = omega (arith, length-append prefix step.partial_read.consumed_bytes, all, bound) }
 
-pub appended_error : (e : AppendError) (a b c : State) (old held now front : List ℕ) (k piece count : ℕ) → length front ≡ k → held ≡ old ++ front → Consumed a front b → AppendsUpTo b held piece (Err e) now c
+pub appended_error : (e : AppendError) (a b c : State) (old buffered now prefix : List ℕ) (k piece count : ℕ) → length prefix ≡ k → buffered ≡ old ++ prefix → Consumed a prefix b → AppendsUpTo b buffered piece (Err e) now c
     → k + piece ≤ count → AppendsUpTo a old count (Err e) now c
-appended_error Memory a b c old held now front k piece count long is before step fits = appended_part_more a b c old held front k piece count (length now) long is before step fits
-appended_error (Source e) a b c old held now front k piece count long is before step fits =
-    (appended_part_more a b c old held front k piece count (length now) long is before step.0 fits, failed_later a b c front before step.1)
+appended_error Memory a b c old buffered now prefix k piece count long is before step fits = appended_part_more a b c old buffered prefix k piece count (length now) long is before step fits
+appended_error (Source e) a b c old buffered now prefix k piece count long is before step fits =
+    (appended_part_more a b c old buffered prefix k piece count (length now) long is before step.0 fits, failed_later a b c prefix before step.1)
 
 -- a buffer whose bytes from index h on were overwritten and then truncated
-pub tail_filled : (h n len : ℕ) (xs ys rest held more : List ℕ) → xs ≡ held ++ more → length held ≡ h → length ys ≡ length (take (length xs - h) (drop h xs)) → n ≤ length ys → len ≡ length xs
-    → take (h + n) (take len (put_mid h (length xs - h) xs ys ++ rest)) ≡ held ++ take n ys
-tail_filled h n len xs ys rest held more is long same within whole =
-    let all : length xs ≡ length held + length more = ap length is ∙ length-append held more in
+pub tail_filled : (h n len : ℕ) (xs ys rest buffered more : List ℕ) → xs ≡ buffered ++ more → length buffered ≡ h → length ys ≡ length (take (length xs - h) (drop h xs)) → n ≤ length ys → len ≡ length xs
+    → take (h + n) (take len (put_mid h (length xs - h) xs ys ++ rest)) ≡ buffered ++ take n ys
+tail_filled h n len xs ys rest buffered more is long same within whole =
+    let all : length xs ≡ length buffered + length more = ap length is ∙ length-append buffered more in
     let fits : h ≤ length xs = omega arith in
     let kept = length-refilled h xs ys fits same in
     let room : h + n ≤ length xs = omega (arith, length-take (length xs - h) (drop h xs), length-drop h xs) in
-    let front : take h xs ≡ held = ap (λ l. take h l) is ∙ ap (λ k. take k (held ++ more)) (sym long) ∙ take-append_seam held more in
+    let prefix : take h xs ≡ buffered = ap (λ l. take h l) is ∙ ap (λ k. take k (buffered ++ more)) (sym long) ∙ take-append_seam buffered more in
     take-take (h + n) len (put_mid h (length xs - h) xs ys ++ rest) (omega arith) ∙ take-append-le (h + n) (put_mid h (length xs - h) xs ys) rest (omega arith)
-    ∙ front_and_part h (length xs - h) n xs ys fits within ∙ ap (λ l. l ++ take n ys) front
+    ∙ front_and_part h (length xs - h) n xs ys fits within ∙ ap (λ l. l ++ take n ys) prefix

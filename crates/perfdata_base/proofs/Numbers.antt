@@ -26,9 +26,9 @@ number_take BigEndian n m xs h = big_from-take 0 n m xs (omega arith)
 pub number_drop_front : (order : Endianness) (n k : ℕ) (xs ys : List ℕ) → k + n ≤ length xs
     → number_in order n (drop k (xs ++ ys)) ≡ number_in order n (drop k xs)
 number_drop_front order n k xs ys h =
-    let cut = drop-append-le k xs ys (omega arith) in
+    let truncated = drop-append-le k xs ys (omega arith) in
     let room : n ≤ length (drop k xs) = omega (arith, length-drop k xs) in
-    ap (number_in order n) cut ∙ number_front order n (drop k xs) ys room
+    ap (number_in order n) truncated ∙ number_front order n (drop k xs) ys room
 
 -- the number in n bytes is below 256 ^ n
 pub number_bound : (order : Endianness) (n : ℕ) (xs : List ℕ) → ((k : ℕ) → slice_index xs k < 256)
@@ -51,6 +51,6 @@ first_take number first n m xs h room =
 pub first_drop_front : (number : ℕ → List ℕ → ℕ) → ReadsFirst number → (n k : ℕ) (xs ys : List ℕ) → k + n ≤ length xs
     → number n (drop k (xs ++ ys)) ≡ number n (drop k xs)
 first_drop_front number first n k xs ys h =
-    let cut = drop-append-le k xs ys (omega arith) in
+    let truncated = drop-append-le k xs ys (omega arith) in
     let room : n ≤ length (drop k xs) = omega (arith, length-drop k xs) in
-    ap (number n) cut ∙ first n (drop k xs) ys room
+    ap (number n) truncated ∙ first n (drop k xs) ys room

@@ -8,22 +8,22 @@ use Rattle.perfdata_base.specs.declared.header.pipe.PerfPipeHeader.{PerfPipeHead
 
 -- all extra bytes were skipped, or fewer because the source ended or paused
 came_or_not : (a b c : State) (bytes extra : List ℕ) (count n : ℕ) → Consumed a bytes b → length extra ≡ n → n ≤ count → (n < count → EndedOrPaused b c) → IsExtraComplete count a extra (n == count) c
-came_or_not a b c bytes extra count n gave long within less = elim (cases_eq n count) [
+came_or_not a b c bytes extra count n consumed long within less = elim (cases_eq n count) [
   | inl is ↦ subst (λ w. IsExtraComplete count a extra w c) (sym (eq-eqb n count is)) (long ∙ is)
-  | inr isnt ↦ subst (λ w. IsExtraComplete count a extra w c) (sym (ne_eqb n count isnt)) (omega (arith, long, within, isnt), consumed_none_later a b c bytes gave (less (omega (arith, within, isnt))))
+  | inr isnt ↦ subst (λ w. IsExtraComplete count a extra w c) (sym (ne_eqb n count isnt)) (omega (arith, long, within, isnt), consumed_none_later a b c bytes consumed (less (omega (arith, within, isnt))))
 ]
 
 -- 16 bytes were read, and the extra bytes skipped, all or some of them
 pub whole_front : (a b c : State) (bytes : List ℕ) (h : PerfPipeHeader) (count n : ℕ) (whole : Bool) → length bytes ≡ 16 → h ≡ pipe_header_of bytes → Consumed a bytes b
     → count ≡ h.size - 16 → SkippedUpTo b count n c → whole ≡ (n == count) → PipeHeaderWithExtraParsed a h whole c
-whole_front a b c bytes h count n whole long is gave counts passed tells = record {
+whole_front a b c bytes h count n whole long is consumed counts skipped shows = record {
   bytes = bytes;
   exact_len = long;
   matches = is;
-  extra = passed.bytes;
-  consumes = consumed_more a b c bytes passed.bytes gave passed.consumes;
-  extra_complete = subst (λ w. IsExtraComplete (h.size - 16) a passed.bytes w c) (sym tells)
-      (subst (λ k. IsExtraComplete k a passed.bytes (n == count) c) counts (came_or_not a b c bytes passed.bytes count n gave passed.exact_len passed.within passed.if_incomplete));
+  extra = skipped.bytes;
+  consumes = consumed_more a b c bytes skipped.bytes consumed skipped.consumes;
+  extra_complete = subst (λ w. IsExtraComplete (h.size - 16) a skipped.bytes w c) (sym shows)
+      (subst (λ k. IsExtraComplete k a skipped.bytes (n == count) c) counts (came_or_not a b c bytes skipped.bytes count n consumed skipped.exact_len skipped.within skipped.if_incomplete));
 }
 
 -- a header parsed with its completeness is a parsed header
@@ -50,11 +50,11 @@ counted_front a b h false t = record {
 -- the source failed in the extra bytes
 pub failed_after : (a b c : State) (bytes : List ℕ) (h : PerfPipeHeader) (count : ℕ) → length bytes ≡ 16 → h ≡ pipe_header_of bytes → Consumed a bytes b
     → count ≡ h.size - 16 → PartlyRead b count c → SourceFailed b c → ExtraReadError a c
-failed_after a b c bytes h count long is gave counts came failed = record {
+failed_after a b c bytes h count long is consumed counts consumed_part failed = record {
   bytes = bytes;
   exact_len = long;
-  consumed_bytes = came.consumed_bytes;
-  too_few = subst (λ k. length came.consumed_bytes < k) (counts ∙ ap (λ x. x.size - 16) is) came.too_few;
-  consumes = consumed_more a b c bytes came.consumed_bytes gave came.consumes;
-  source_failed = failed_later a b c bytes gave failed;
+  consumed_bytes = consumed_part.consumed_bytes;
+  too_few = subst (λ k. length consumed_part.consumed_bytes < k) (counts ∙ ap (λ x. x.size - 16) is) consumed_part.too_few;
+  consumes = consumed_more a b c bytes consumed_part.consumed_bytes consumed consumed_part.consumes;
+  source_failed = failed_later a b c bytes consumed failed;
 }

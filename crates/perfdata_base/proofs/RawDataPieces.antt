@@ -19,24 +19,24 @@ bytes_eq_append (a ∷ xs) bs (c ∷ cs) ds h =
 
 -- Two lists in two parts each, where the first splits no later than the second: they are equal exactly if their prefixes, the
 -- parts between the splits, and their suffixes are.
-pub bytes_eq_seams : (xs bs cs ds head between middle tail : List ℕ)
-    → head ≡ take (length xs) cs → between ≡ drop (length xs) cs
+pub bytes_eq_seams : (xs bs cs ds header between middle tail : List ℕ)
+    → header ≡ take (length xs) cs → between ≡ drop (length xs) cs
     → middle ≡ take (length between) bs → tail ≡ drop (length between) bs
     → length xs ≤ length cs → length between ≤ length bs
-    → bytes_eq (xs ++ bs) (cs ++ ds) ≡ (bytes_eq xs head && (bytes_eq middle between && bytes_eq tail ds))
-bytes_eq_seams xs bs cs ds head between middle tail is_head is_between is_middle is_tail front room =
+    → bytes_eq (xs ++ bs) (cs ++ ds) ≡ (bytes_eq xs header && (bytes_eq middle between && bytes_eq tail ds))
+bytes_eq_seams xs bs cs ds header between middle tail is_head is_between is_middle is_tail prefix room =
     let left : bs ≡ middle ++ tail =
     sym (take-append-drop (length between) bs) ∙ ap (λ t. t ++ drop (length between) bs) (sym is_middle)
     ∙ ap (λ t. middle ++ t) (sym is_tail) in
-    let right : cs ++ ds ≡ head ++ (between ++ ds) =
+    let right : cs ++ ds ≡ header ++ (between ++ ds) =
     ap (λ t. t ++ ds) (sym (take-append-drop (length xs) cs) ∙ ap (λ t. t ++ drop (length xs) cs) (sym is_head)
-    ∙ ap (λ t. head ++ t) (sym is_between)) ∙ append_assoc head between ds in
-    let long_head : length xs ≡ length head = sym (ap length is_head ∙ length-take-le (length xs) cs front) in
+    ∙ ap (λ t. header ++ t) (sym is_between)) ∙ append_assoc header between ds in
+    let long_head : length xs ≡ length header = sym (ap length is_head ∙ length-take-le (length xs) cs prefix) in
     let long_middle : length middle ≡ length between = ap length is_middle ∙ length-take-le (length between) bs room in
     ap (λ t. bytes_eq (xs ++ t) (cs ++ ds)) left
     ∙ ap (bytes_eq (xs ++ (middle ++ tail))) right
-    ∙ bytes_eq_append xs (middle ++ tail) head (between ++ ds) long_head
-    ∙ ap (λ t. bytes_eq xs head && t) (bytes_eq_append middle tail between ds long_middle)
+    ∙ bytes_eq_append xs (middle ++ tail) header (between ++ ds) long_head
+    ∙ ap (λ t. bytes_eq xs header && t) (bytes_eq_append middle tail between ds long_middle)
 
 -- the last test decides if the others are true
 pub and_last : (x y z : Bool) → x ≡ true → y ≡ true → (x && (y && z)) ≡ z

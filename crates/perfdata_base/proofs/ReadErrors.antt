@@ -19,27 +19,27 @@ pub none_or_paused : (a b : State) → EndedOrPaused a b → (b.bytes ≡ Some [
 none_or_paused a b g = none_or b.bytes (SourcePaused a b) g
 
 -- if no bytes remain, the consumed bytes were all remaining ones
-pub all_read : (a b : State) (front : List ℕ) → Consumed a front b → b.bytes ≡ Some [] → a.bytes ≡ Some front
-all_read a b front gave none = gave.bytes ∙ ap (prepend front) none ∙ ap (λ l. Some l) (append-nil front)
+pub all_read : (a b : State) (prefix : List ℕ) → Consumed a prefix b → b.bytes ≡ Some [] → a.bytes ≡ Some prefix
+all_read a b prefix consumes_it none = consumes_it.bytes ∙ ap (prepend prefix) none ∙ ap (λ l. Some l) (append-nil prefix)
 
-pub truncated_later : (a b c : State) (front : List ℕ) (count whole : ℕ) (e : Error) → Consumed a front b → ReadExactError b count e c → length front + count ≤ whole → ReadExactError a whole e c
-truncated_later a b c front count whole e before cut fits =
-    let less = cut.too_few in
+pub truncated_later : (a b c : State) (prefix : List ℕ) (count whole : ℕ) (e : Error) → Consumed a prefix b → ReadExactError b count e c → length prefix + count ≤ whole → ReadExactError a whole e c
+truncated_later a b c prefix count whole e before truncated fits =
+    let less = truncated.too_few in
     record {
-      consumed_bytes = front ++ cut.consumed_bytes;
-      too_few = omega (arith, length-append front cut.consumed_bytes);
-      consumes = consumed_more a b c front cut.consumed_bytes before cut.consumes;
-      cause = elim cut.cause [
-        | inl short ↦ inl (short.0, consumed_none_later a b c front before short.1)
-        | inr failed ↦ inr (failed_later a b c front before failed)
+      consumed_bytes = prefix ++ truncated.consumed_bytes;
+      too_few = omega (arith, length-append prefix truncated.consumed_bytes);
+      consumes = consumed_more a b c prefix truncated.consumed_bytes before truncated.consumes;
+      cause = elim truncated.cause [
+        | inl short ↦ inl (short.0, consumed_none_later a b c prefix before short.1)
+        | inr failed ↦ inr (failed_later a b c prefix before failed)
       ];
     }
 
 -- after a truncated read the remaining bytes were too few, or the source failed or paused
-pub truncated_why : (a b : State) (count : ℕ) (e : Error) → ReadExactError a count e b → ((front : List ℕ) × (a.bytes ≡ Some front) × (length front < count) × (error_kind e ≡ UnexpectedEof)) ⊎ (SourceFailed a b ⊎ SourcePaused a b)
-truncated_why a b count e cut = elim cut.cause [
+pub truncated_why : (a b : State) (count : ℕ) (e : Error) → ReadExactError a count e b → ((prefix : List ℕ) × (a.bytes ≡ Some prefix) × (length prefix < count) × (error_kind e ≡ UnexpectedEof)) ⊎ (SourceFailed a b ⊎ SourcePaused a b)
+truncated_why a b count e truncated = elim truncated.cause [
   | inl short ↦ elim (none_or_paused a b short.1) [
-    | inl end ↦ inl (cut.consumed_bytes, all_read a b cut.consumed_bytes cut.consumes end, cut.too_few, short.0)
+    | inl end ↦ inl (truncated.consumed_bytes, all_read a b truncated.consumed_bytes truncated.consumes end, truncated.too_few, short.0)
     | inr paused ↦ inr (inr paused)
   ]
   | inr failed ↦ inr (inl failed)
@@ -50,50 +50,50 @@ if_some_is b P xs is p = subst (λ o. IfSome o P) (sym is) p
 
 -- a property of all lists of fewer than count bytes explains a failed read of count bytes
 pub truncated_explained : (a b : State) (count : ℕ) (e : Error) (Stops : List ℕ → Type 0) → ReadExactError a count e b → ((xs : List ℕ) → length xs < count → error_kind e ≡ UnexpectedEof → Stops xs) → BytesOrSourceExplain a Stops b
-truncated_explained a b count e Stops cut stops = elim (truncated_why a b count e cut) [
+truncated_explained a b count e Stops truncated stops = elim (truncated_why a b count e truncated) [
   | inl short ↦ inl (if_some_is a.bytes Stops short.0 short.1 (stops short.0 short.2 short.3))
   | inr source ↦ inr source
 ]
 
 -- if the remaining bytes at a later state satisfy Q, those at an earlier state satisfy P
-excused_bytes : (a b : Option (List ℕ)) (front : List ℕ) (P Q : List ℕ → Type 0) → a ≡ prepend front b → ((rest : List ℕ) → Q rest → P (front ++ rest)) → IfSome b Q → IfSome a P
-excused_bytes a None front P Q is more h = subst (λ o. IfSome o P) (sym is) _
-excused_bytes a (Some rest) front P Q is more h = subst (λ o. IfSome o P) (sym is) (more rest h)
+excused_bytes : (a b : Option (List ℕ)) (prefix : List ℕ) (P Q : List ℕ → Type 0) → a ≡ prepend prefix b → ((rest : List ℕ) → Q rest → P (prefix ++ rest)) → IfSome b Q → IfSome a P
+excused_bytes a None prefix P Q is more h = subst (λ o. IfSome o P) (sym is) _
+excused_bytes a (Some rest) prefix P Q is more h = subst (λ o. IfSome o P) (sym is) (more rest h)
 
-pub explained_later : (a b c : State) (front : List ℕ) (P Q : List ℕ → Type 0) → Consumed a front b → BytesOrSourceExplain b Q c → ((rest : List ℕ) → Q rest → P (front ++ rest)) → BytesOrSourceExplain a P c
-explained_later a b c front P Q before why more = elim why [
-  | inl bytes ↦ inl (excused_bytes a.bytes b.bytes front P Q before.bytes more bytes)
+pub explained_later : (a b c : State) (prefix : List ℕ) (P Q : List ℕ → Type 0) → Consumed a prefix b → BytesOrSourceExplain b Q c → ((rest : List ℕ) → Q rest → P (prefix ++ rest)) → BytesOrSourceExplain a P c
+explained_later a b c prefix P Q before reason_of more = elim reason_of [
+  | inl bytes ↦ inl (excused_bytes a.bytes b.bytes prefix P Q before.bytes more bytes)
   | inr source ↦ inr (elim source [
-    | inl failed ↦ inl (failed_later a b c front before failed)
-    | inr paused ↦ inr (paused_later a b c front before paused)
+    | inl failed ↦ inl (failed_later a b c prefix before failed)
+    | inr paused ↦ inr (paused_later a b c prefix before paused)
   ])
 ]
 
 -- after a read the remaining bytes are those from the new position on
-placed_more : (b : Option (List ℕ)) (p : Option Position) (front : List ℕ) → prepend front b ≡ remaining_from p → b ≡ remaining_from (advance_by (length front) p)
-placed_more None None front is = refl
-placed_more None (Some p) front is = cc
-placed_more (Some rest) None front is = cc
-placed_more (Some rest) (Some p) front is =
-    let whole : front ++ rest ≡ drop p.offset p.all_bytes = cc in
-    ap (λ l. Some l) (sym (drop-append_seam front rest) ∙ ap (drop (length front)) whole ∙ drop-drop (length front) p.offset p.all_bytes)
+placed_more : (b : Option (List ℕ)) (p : Option Position) (prefix : List ℕ) → prepend prefix b ≡ remaining_from p → b ≡ remaining_from (advance_by (length prefix) p)
+placed_more None None prefix is = refl
+placed_more None (Some p) prefix is = cc
+placed_more (Some rest) None prefix is = cc
+placed_more (Some rest) (Some p) prefix is =
+    let whole : prefix ++ rest ≡ drop p.offset p.all_bytes = cc in
+    ap (λ l. Some l) (sym (drop-append_seam prefix rest) ∙ ap (drop (length prefix)) whole ∙ drop-drop (length prefix) p.offset p.all_bytes)
 
 all_moved : (n : ℕ) (p : Option Position) → all_bytes_of (advance_by n p) ≡ all_bytes_of p
 all_moved n None = refl
 all_moved n (Some p) = refl
 
 -- a read leaves all bytes unchanged
-pub consumed_all : (a b : State) (front : List ℕ) → Consumed a front b → all_bytes_of b.position ≡ all_bytes_of a.position
-consumed_all a b front gave = ap all_bytes_of gave.position ∙ all_moved (length front) a.position
+pub consumed_all : (a b : State) (prefix : List ℕ) → Consumed a prefix b → all_bytes_of b.position ≡ all_bytes_of a.position
+consumed_all a b prefix consumes_it = ap all_bytes_of consumes_it.position ∙ all_moved (length prefix) a.position
 
 -- a read satisfies `AfterSeek`: it leaves all bytes unchanged, and the remaining bytes are those from the position on
-pub consumed-after_seek : (a b : State) (front : List ℕ) → RemainsFromPosition a → Consumed a front b → AfterSeek a b
-consumed-after_seek a b front placed gave = record {
-  from_position = placed_more b.bytes a.position front (sym gave.bytes ∙ placed) ∙ ap remaining_from (sym gave.position);
-  all_bytes = consumed_all a b front gave;
-  errors = gave.errors;
-  pauses = gave.pauses;
-  steady = gave.steady;
+pub consumed-after_seek : (a b : State) (prefix : List ℕ) → RemainsFromPosition a → Consumed a prefix b → AfterSeek a b
+consumed-after_seek a b prefix placed consumes_it = record {
+  from_position = placed_more b.bytes a.position prefix (sym consumes_it.bytes ∙ placed) ∙ ap remaining_from (sym consumes_it.position);
+  all_bytes = consumed_all a b prefix consumes_it;
+  errors = consumes_it.errors;
+  pauses = consumes_it.pauses;
+  steady = consumes_it.steady;
 }
 
 -- the size still fits if all bytes are the same; `sym` turns the equation around

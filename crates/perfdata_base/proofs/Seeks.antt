@@ -46,13 +46,13 @@ seeks_cursor {E} all at at' to (Ok n) is target end = record {
 seeks_cursor {E} all at at' to (Err e) is target end = (stood all at at', inr (record { start = record { all_bytes = all; offset = at }; at_start = refl; out_of_range = nowhere E all at e to target end }))
 
 -- a read of n bytes from a cursor's position
-pub read_from_cursor : (all place : List ℕ) (at n : ℕ) → 0 < n → n ≤ length place → take n place ≡ take n (drop at all) → at + n ≤ length all → ReadInto (memory_source_at all at) place n (memory_source_at all (at + n))
-read_from_cursor all place at n some within same fits =
-    let long : length (take n place) ≡ n = length-take-le n place within in
+pub read_from_cursor : (all buf : List ℕ) (at n : ℕ) → 0 < n → n ≤ length buf → take n buf ≡ take n (drop at all) → at + n ≤ length all → ReadInto (memory_source_at all at) buf n (memory_source_at all (at + n))
+read_from_cursor all buf at n some within same fits =
+    let long : length (take n buf) ≡ n = length-take-le n buf within in
     record {
       within = within;
       consumes = record {
-        bytes = ap (λ l. Some l) (sym (take-append-drop n (drop at all)) ∙ ap (λ f. f ++ drop n (drop at all)) (sym same) ∙ ap (λ r. take n place ++ r) (drop-drop n at all));
+        bytes = ap (λ l. Some l) (sym (take-append-drop n (drop at all)) ∙ ap (λ f. f ++ drop n (drop at all)) (sym same) ∙ ap (λ r. take n buf ++ r) (drop-drop n at all));
         position = ap (λ k. Some (record { all_bytes = all; offset = at + k })) (sym long);
         errors = omega arith;
         pauses = omega arith;
@@ -62,10 +62,10 @@ read_from_cursor all place at n some within same fits =
     }
 
 -- a read of n buffered bytes from a cursor's position
-pub buffered_from_cursor : (all front : List ℕ) (at n : ℕ) → length front ≡ n → front ≡ take n (drop at all) → ConsumedBuffered (memory_source_at all at) front (memory_source_at all (at + n))
-buffered_from_cursor all front at n long is = record {
+pub buffered_from_cursor : (all prefix : List ℕ) (at n : ℕ) → length prefix ≡ n → prefix ≡ take n (drop at all) → ConsumedBuffered (memory_source_at all at) prefix (memory_source_at all (at + n))
+buffered_from_cursor all prefix at n long is = record {
   consumes = record {
-    bytes = ap (λ l. Some l) (sym (take-append-drop n (drop at all)) ∙ ap (λ f. f ++ drop n (drop at all)) (sym is) ∙ ap (λ r. front ++ r) (drop-drop n at all));
+    bytes = ap (λ l. Some l) (sym (take-append-drop n (drop at all)) ∙ ap (λ f. f ++ drop n (drop at all)) (sym is) ∙ ap (λ r. prefix ++ r) (drop-drop n at all));
     position = ap (λ k. Some (record { all_bytes = all; offset = at + k })) (sym long);
     errors = omega arith;
     pauses = omega arith;

@@ -9,9 +9,9 @@ use lib.Seq.{take-take}
 use Rattle.perfdata_base.specs.Source.{State, VisibleLength, LeadsTo, LeadsNowhere, SeekSucceeded, SeekOutOfRange, Seeks, SourceFailed, memory_source_at, ReadInto}
 
 abbrev shown_further : (all : List ℕ) (shown at : ℕ) → VisibleLength true (record { all_bytes = take shown all; offset = at }) → VisibleLength false (record { all_bytes = all; offset = at })
-shown_further all shown at front =
-    let within = front.within in
-    record { len = front.len; within = omega (arith, within, length-take shown all); whole_if_steady = λ h. absurd (false≢true h) }
+shown_further all shown at prefix =
+    let within = prefix.within in
+    record { len = prefix.len; within = omega (arith, within, length-take shown all); whole_if_steady = λ h. absurd (false≢true h) }
 
 -- a seek by the visible length has the same target by all bytes
 goes_further : (all : List ℕ) (shown at n : ℕ) (to : SeekFrom) → LeadsTo true to (record { all_bytes = take shown all; offset = at }) n → LeadsTo false to (record { all_bytes = all; offset = at }) n
@@ -30,46 +30,46 @@ nowhere_further all shown at (End (negsuc m)) none = (shown_further all shown at
 
 -- the state of a script
 abbrev pub telling : List ℕ → ℕ → ℕ → ℕ → State
-telling all at faults pauses = record { bytes = Some (drop at all); errors = faults; pauses = pauses; steady = false; position = Some (record { all_bytes = all; offset = at }) }
+telling all at errors pauses = record { bytes = Some (drop at all); errors = errors; pauses = pauses; steady = false; position = Some (record { all_bytes = all; offset = at }) }
 
-pub seek_succeeded_visible : (all : List ℕ) (shown at n faults pauses : ℕ) (to : SeekFrom) (new : State) → SeekSucceeded (memory_source_at (take shown all) at) to n new → SeekSucceeded (telling all at faults pauses) to n (telling all n faults pauses)
-seek_succeeded_visible all shown at n faults pauses to new sought = record {
+pub seek_succeeded_visible : (all : List ℕ) (shown at n errors pauses : ℕ) (to : SeekFrom) (new : State) → SeekSucceeded (memory_source_at (take shown all) at) to n new → SeekSucceeded (telling all at errors pauses) to n (telling all n errors pauses)
+seek_succeeded_visible all shown at n errors pauses to new seek = record {
   after_seek = record { from_position = refl; all_bytes = refl; errors = omega arith; pauses = omega arith; steady = λ h. absurd (false≢true h) };
   position = refl;
   target = λ p same.
       let there : record { all_bytes = all; offset = at } ≡ p = cc in
-      subst (λ q. LeadsTo false to q n) there (goes_further all shown at n to (sought.target (record { all_bytes = take shown all; offset = at }) refl));
+      subst (λ q. LeadsTo false to q n) there (goes_further all shown at n to (seek.target (record { all_bytes = take shown all; offset = at }) refl));
 }
 
 -- a seek that is out of range by the visible length is out of range
-unsought_shown : (all : List ℕ) (shown at faults pauses : ℕ) (to : SeekFrom) → SeekOutOfRange (memory_source_at (take shown all) at) to → SeekOutOfRange (telling all at faults pauses) to
-unsought_shown all shown at faults pauses to none =
+unsought_shown : (all : List ℕ) (shown at errors pauses : ℕ) (to : SeekFrom) → SeekOutOfRange (memory_source_at (take shown all) at) to → SeekOutOfRange (telling all at errors pauses) to
+unsought_shown all shown at errors pauses to none =
     let there : record { all_bytes = take shown all; offset = at } ≡ none.start = cc in
     record { start = record { all_bytes = all; offset = at }; at_start = refl; out_of_range = nowhere_further all shown at to (subst (λ q. LeadsNowhere true to q) (sym there) none.out_of_range) }
 
 -- a failed seek in the visible bytes is out of range, because they are in memory and never fail
-pub seek_error_visible : (all : List ℕ) (shown at faults pauses : ℕ) (to : SeekFrom) (left : State) → SourceFailed (memory_source_at (take shown all) at) left ⊎ SeekOutOfRange (memory_source_at (take shown all) at) to
-    → Seeks {E = ⊤} (telling all at faults pauses) to (Err tt) (telling all at faults pauses)
-seek_error_visible all shown at faults pauses to left why = (
+pub seek_error_visible : (all : List ℕ) (shown at errors pauses : ℕ) (to : SeekFrom) (left : State) → SourceFailed (memory_source_at (take shown all) at) left ⊎ SeekOutOfRange (memory_source_at (take shown all) at) to
+    → Seeks {E = ⊤} (telling all at errors pauses) to (Err tt) (telling all at errors pauses)
+seek_error_visible all shown at errors pauses to left cause = (
   record { from_position = refl; all_bytes = refl; errors = omega arith; pauses = omega arith; steady = λ h. absurd (false≢true h) },
-  inr (elim why [
+  inr (elim cause [
     | inl failed ↦ absurd (failed.not_steady refl)
-    | inr none ↦ unsought_shown all shown at faults pauses to none
+    | inr none ↦ unsought_shown all shown at errors pauses to none
   ]),
 )
 
 -- a read of visible bytes from the position
-pub read_visible : (all place : List ℕ) (shown at n faults pauses : ℕ) → 0 < n → n ≤ length place → take n place ≡ take n (drop at (take shown all)) → at + n ≤ shown
-    → ReadInto (telling all at faults pauses) place n (telling all (at + n) faults pauses)
-read_visible all place shown at n faults pauses some within same fits =
-    let long : length (take n place) ≡ n = length-take-le n place within in
+pub read_visible : (all buf : List ℕ) (shown at n errors pauses : ℕ) → 0 < n → n ≤ length buf → take n buf ≡ take n (drop at (take shown all)) → at + n ≤ shown
+    → ReadInto (telling all at errors pauses) buf n (telling all (at + n) errors pauses)
+read_visible all buf shown at n errors pauses some within same fits =
+    let long : length (take n buf) ≡ n = length-take-le n buf within in
     let width : at + (shown - at) ≡ shown = omega arith in
-    let there : take n place ≡ take n (drop at all) =
+    let there : take n buf ≡ take n (drop at all) =
     same ∙ ap (λ k. take n (drop at (take k all))) (sym width) ∙ ap (take n) (drop-take at (shown - at) all) ∙ take-take n (shown - at) (drop at all) (omega arith) in
     record {
       within = within;
       consumes = record {
-        bytes = ap (λ l. Some l) (sym (take-append-drop n (drop at all)) ∙ ap (λ f. f ++ drop n (drop at all)) (sym there) ∙ ap (λ r. take n place ++ r) (drop-drop n at all));
+        bytes = ap (λ l. Some l) (sym (take-append-drop n (drop at all)) ∙ ap (λ f. f ++ drop n (drop at all)) (sym there) ∙ ap (λ r. take n buf ++ r) (drop-drop n at all));
         position = ap (λ k. Some (record { all_bytes = all; offset = at + k })) (sym long);
         errors = omega arith;
         pauses = omega arith;

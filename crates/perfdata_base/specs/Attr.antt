@@ -71,9 +71,9 @@ module _ (number : ℕ → List ℕ → ℕ) where
   -- The consumed bytes are no attribute. They are incomplete, because the source ended or paused, which is an unexpected end, or
   -- failed; or they are eight, and the size in them is 1 to 63.
   abbrev pub AttrErrorCause : (List ℕ → Type 0) → State → List ℕ → Error → State → Type 0
-  AttrErrorCause Unfinished old front e new =
-      (Unfinished front × (((error_kind e ≡ UnexpectedEof) × EndedOrPaused old new) ⊎ SourceFailed old new))
-      ⊎ ((length front ≡ 8) × (own_size front < 64) × (error_kind e ≡ InvalidData))
+  AttrErrorCause Unfinished old prefix e new =
+      (Unfinished prefix × (((error_kind e ≡ UnexpectedEof) × EndedOrPaused old new) ⊎ SourceFailed old new))
+      ⊎ ((length prefix ≡ 8) × (own_size prefix < 64) × (error_kind e ≡ InvalidData))
 
   -- the parse failed after these bytes were consumed
   pub record AttrParseError (old : State) (e : Error) (new : State) : Type 0 where
@@ -91,9 +91,9 @@ module _ (number : ℕ → List ℕ → ℕ) where
   IsInvalidAttr e xs = ((error_kind e ≡ UnexpectedEof) × IsTruncatedAttr xs) ⊎ ((error_kind e ≡ InvalidData) × IsTooSmall xs)
 
   -- the first eight bytes were consumed, and they contain this size
-  pub record OwnSizeRead (old : State) (head : List ℕ) (own : ℕ) (new : State) : Type 0 where
-    pub consumes : Consumed old head new
-    pub matches : own ≡ own_size head
+  pub record OwnSizeRead (old : State) (header : List ℕ) (own : ℕ) (new : State) : Type 0 where
+    pub consumes : Consumed old header new
+    pub matches : own ≡ own_size header
     pub min_size : 64 ≤ own
 
   -- there are fewer than eight bytes, or the size in them is 1 to 63
@@ -108,17 +108,17 @@ module _ (number : ℕ → List ℕ → ℕ) where
 
   -- the effect of reading the first eight bytes
   abbrev pub ReadsOwnSize : State → List ℕ → Result ℕ Error → State → Type 0
-  ReadsOwnSize old head (Ok own) new = OwnSizeRead old head own new
-  ReadsOwnSize old head (Err e) new = OwnSizeReadError old e new
+  ReadsOwnSize old header (Ok own) new = OwnSizeRead old header own new
+  ReadsOwnSize old header (Err e) new = OwnSizeReadError old e new
 
   -- the bytes after the first eight were consumed, and complete the attribute
-  pub record AttrRestRead (old : State) (head : List ℕ) (own : ℕ) (a : PerfEventAttr) (new : State) : Type 0 where
+  pub record AttrRestRead (old : State) (header : List ℕ) (own : ℕ) (a : PerfEventAttr) (new : State) : Type 0 where
     pub rest : List ℕ
     pub exact_len : 8 + length rest ≡ own
     pub consumes : Consumed old rest new
-    pub matches : a ≡ attr_of_size own (head ++ rest)
+    pub matches : a ≡ attr_of_size own (header ++ rest)
 
   -- the effect of reading the bytes after the first eight
   abbrev pub ReadsAttrRest : State → List ℕ → ℕ → Result PerfEventAttr Error → State → Type 0
-  ReadsAttrRest old head own (Ok a) new = AttrRestRead old head own a new
-  ReadsAttrRest old head own (Err e) new = ReadExactError old (own - 8) e new
+  ReadsAttrRest old header own (Ok a) new = AttrRestRead old header own a new
+  ReadsAttrRest old header own (Err e) new = ReadExactError old (own - 8) e new

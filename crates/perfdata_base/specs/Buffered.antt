@@ -5,7 +5,7 @@ use Rattle.perfdata_base.specs.Source.{State, Consumed}
 
 -- the remaining bytes, if they are known, start with these
 abbrev pub IsPrefixOfRemaining : State → List ℕ → Type 0
-IsPrefixOfRemaining s front = IfSome s.bytes (λ bytes. StartsWith bytes front)
+IsPrefixOfRemaining s prefix = IfSome s.bytes (λ bytes. StartsWith bytes prefix)
 
 -- exactly these bytes were consumed, and the counts are unchanged
 pub record ConsumedBuffered (old : State) (bytes : List ℕ) (new : State) : Type 0 where

@@ -1,5 +1,5 @@
 -- Record headers as their bytes describe them.
-use Rattle.std.specs.Prelude.{◌≡◌, ℕ, List, length, drop, Result, Ok, Err}
+use Rattle.std.specs.Prelude.{◌≡◌, ℕ, ◌<◌, ◌≤◌, List, length, drop, Option, None, Some, Result, Ok, Err}
 use Rattle.std.specs.declared.io.Error.{Error}
 use Rattle.perfdata_base.specs.Source.{State, Consumed, ReadExactError}
 use Rattle.perfdata_base.specs.declared.event.PerfEventHeader.{PerfEventHeader}
@@ -9,14 +9,19 @@ module _ (number : ℕ → List ℕ → ℕ) where
   abbrev pub record_header_of : List ℕ → PerfEventHeader
   record_header_of xs = record { type_ = number 4 xs; misc = number 2 (drop 4 xs); size = number 2 (drop 6 xs) }
 
+  -- the record header at the start of the bytes, or none if they are fewer than eight
+  abbrev pub PeeksRecordHeader : List ℕ → Option PerfEventHeader → Type 0
+  PeeksRecordHeader xs (Some header) = (8 ≤ length xs) × (header ≡ record_header_of xs)
+  PeeksRecordHeader xs None = length xs < 8
+
   -- eight bytes were consumed, and they contain this record header
-  pub record RecordHeaderParsed (old : State) (head : PerfEventHeader) (new : State) : Type 0 where
+  pub record RecordHeaderParsed (old : State) (header : PerfEventHeader) (new : State) : Type 0 where
     pub bytes : List ℕ
     pub exact_len : length bytes ≡ 8
     pub consumes : Consumed old bytes new
-    pub matches : head ≡ record_header_of bytes
+    pub matches : header ≡ record_header_of bytes
 
   -- the effect of parsing a record header on the source
   abbrev pub ParsesRecordHeader : State → Result PerfEventHeader Error → State → Type 0
-  ParsesRecordHeader old (Ok head) new = RecordHeaderParsed old head new
+  ParsesRecordHeader old (Ok header) new = RecordHeaderParsed old header new
   ParsesRecordHeader old (Err e) new = ReadExactError old 8 e new

@@ -33,6 +33,11 @@ pub record EndsBefore (count : ℕ) (old : List ℕ) (error : Error) : Type 0 wh
 abbrev pub HasNoNul : List ℕ → Type 0
 HasNoNul bytes = All (λ b. b ≢ 0) bytes
 
+-- the bytes begin with a string and its NUL, followed by `rest`
+pub record SplitsAtNul (bytes text rest : List ℕ) : Type 0 where
+  pub split : bytes ≡ text ++ (0 ∷ rest)
+  pub no_nul : HasNoNul text
+
 -- The old bytes are a string, its NUL and the bytes of `new`. If the old value is in one slice, so are the string and `new`.
 pub record ReadsNulString (old string new : RawData) : Type 0 where
   pub split : bytes_of old ≡ bytes_of string ++ (0 ∷ bytes_of new)

@@ -5,7 +5,7 @@ use Rattle.std.specs.declared.io.SeekFrom.{SeekFrom}
 
 -- a known position is the reader's own, if contracts know the reader's
 abbrev pub AgreesWithPosition : Option ℕ → Option ℕ → Type 0
-AgreesWithPosition known told = IfSome known (λ p. IfSome told (λ q. q ≡ p))
+AgreesWithPosition known described = IfSome known (λ p. IfSome described (λ q. q ≡ p))
 
 -- the offset from the current position to the target of a seek that isn't from the end
 pub record IsRelativeSeek (here : ℕ) (to : SeekFrom) (offset : ℤ) (there : ℕ) : Type 0 where
@@ -24,5 +24,5 @@ ReadUpdatesPosition old (Err e) new = new ≡ None
 
 -- the effect of a seek on it: it is the reported position, and is unknown after an error
 abbrev pub SeekUpdatesPosition : {E : Type 0} → Result ℕ E → Option ℕ → Type 0
-SeekUpdatesPosition (Ok at) place = place ≡ Some at
-SeekUpdatesPosition (Err e) place = place ≡ None
+SeekUpdatesPosition (Ok at) buf = buf ≡ Some at
+SeekUpdatesPosition (Err e) buf = buf ≡ None

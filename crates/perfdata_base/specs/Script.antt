@@ -7,7 +7,7 @@ use Rattle.perfdata_base.specs.declared.source.script.Script.{Script}
 abbrev pub script_state : Script → State
 script_state s = record {
   bytes = Some (drop s.position s.bytes.items);
-  errors = s.faults;
+  errors = s.errors;
   pauses = s.pauses;
   steady = false;
   position = Some (record { all_bytes = s.bytes.items; offset = s.position });

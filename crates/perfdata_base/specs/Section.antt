@@ -1,8 +1,16 @@
 -- The entry of a section: its offset and its size.
-use Rattle.std.specs.Prelude.{◌≡◌, ℕ, List, length, drop, Result, Ok, Err}
+use Rattle.std.specs.Prelude.{◌≡◌, ℕ, ◌+◌, ◌^◌, ◌<◌, ◌≤◌, List, length, drop, Result, Ok, Err}
 use Rattle.std.specs.declared.io.Error.{Error}
 use Rattle.perfdata_base.specs.Source.{State, Consumed, ReadExactError}
 use Rattle.perfdata_base.specs.declared.section.PerfFileSection.{PerfFileSection}
+
+-- the end offset of the section fits in 64 bits
+abbrev pub EndFitsU64 : PerfFileSection → Type 0
+EndFitsU64 s = s.offset + s.size < 2 ^ 64
+
+-- the end offset of the section is 2^64 or above
+abbrev pub EndOverflowsU64 : PerfFileSection → Type 0
+EndOverflowsU64 s = 2 ^ 64 ≤ s.offset + s.size
 
 module _ (number : ℕ → List ℕ → ℕ) where
   -- the entry in sixteen bytes

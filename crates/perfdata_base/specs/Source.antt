@@ -4,7 +4,7 @@ use Rattle.std.specs.declared.io.SeekFrom.{SeekFrom}
 use Rattle.std.specs.declared.io.SeekFrom.TheVariants.{Start, End, Current}
 use Rattle.std.specs.IoError.{error_kind}
 use Rattle.std.specs.declared.io.Error.{Error}
-use Rattle.std.specs.declared.io.ErrorKind.TheVariants.{UnexpectedEof}
+use Rattle.std.specs.declared.io.ErrorKind.TheVariants.{UnexpectedEof, OutOfMemory}
 use Rattle.perfdata_base.specs.declared.source.AppendError.{AppendError}
 use Rattle.perfdata_base.specs.declared.source.Counted.{Counted}
 use Rattle.perfdata_base.specs.declared.source.AppendError.TheVariants.{Memory, Source}
@@ -26,8 +26,8 @@ pub record State : Type 0 where
 
 -- the remaining bytes before a read of this prefix
 abbrev pub prepend : List ℕ → Option (List ℕ) → Option (List ℕ)
-prepend front None = None
-prepend front (Some rest) = Some (front ++ rest)
+prepend prefix None = None
+prepend prefix (Some rest) = Some (prefix ++ rest)
 
 -- the position n bytes further
 abbrev pub advance_by : ℕ → Option Position → Option Position
@@ -57,9 +57,13 @@ memory_source bytes = record { bytes = Some bytes; errors = 0; pauses = 0; stead
 abbrev pub memory_source_at : List ℕ → ℕ → State
 memory_source_at all at = record { bytes = Some (drop at all); errors = 0; pauses = 0; steady = true; position = Some (record { all_bytes = all; offset = at }) }
 
+-- the start of these bytes
+abbrev pub at_start : List ℕ → Position
+at_start all = record { all_bytes = all; offset = 0 }
+
 -- a source whose bytes are unknown
 abbrev pub opaque_source : ℕ → ℕ → State
-opaque_source faults pauses = record { bytes = None; errors = faults; pauses = pauses; steady = false; position = None }
+opaque_source errors pauses = record { bytes = None; errors = errors; pauses = pauses; steady = false; position = None }
 
 -- a reader of std as a source
 abbrev pub counted_state : {R : Type 0} → Counted R → State
@@ -76,9 +80,9 @@ pub record StaysSteady (old new : State) : Type 0 where
   pub pauses : new.pauses ≡ old.pauses
 
 -- Exactly these bytes were consumed, a prefix of the remaining bytes. No count decreased.
-pub record Consumed (old : State) (front : List ℕ) (new : State) : Type 0 where
-  pub bytes : old.bytes ≡ prepend front new.bytes
-  pub position : new.position ≡ advance_by (length front) old.position
+pub record Consumed (old : State) (prefix : List ℕ) (new : State) : Type 0 where
+  pub bytes : old.bytes ≡ prepend prefix new.bytes
+  pub position : new.position ≡ advance_by (length prefix) old.position
   pub errors : old.errors ≤ new.errors
   pub pauses : old.pauses ≤ new.pauses
   pub steady : IsTrue old.steady → StaysSteady old new
@@ -98,15 +102,15 @@ abbrev pub EndedOrPaused : State → State → Type 0
 EndedOrPaused old new = new.bytes ≢ Some [] → SourcePaused old new
 
 -- n bytes were read into a buffer; if n is 0, the source ended or paused
-pub record ReadInto (old : State) (place : List ℕ) (n : ℕ) (new : State) : Type 0 where
-  pub within : n ≤ length place
-  pub consumes : Consumed old (take n place) new
+pub record ReadInto (old : State) (buf : List ℕ) (n : ℕ) (new : State) : Type 0 where
+  pub within : n ≤ length buf
+  pub consumes : Consumed old (take n buf) new
   pub if_empty : n ≡ 0 → EndedOrPaused old new
 
 -- the effect of one read into a buffer, with the content of the buffer after the read
 abbrev pub Reads : {E : Type 0} → State → List ℕ → Result ℕ E → State → Type 0
-Reads old place (Ok n) new = ReadInto old place n new
-Reads old place (Err e) new = Consumed old [] new × SourceFailed old new
+Reads old buf (Ok n) new = ReadInto old buf n new
+Reads old buf (Err e) new = Consumed old [] new × SourceFailed old new
 
 -- a count at its maximum stays there
 abbrev pub StaysSaturated : ℕ → ℕ → Type 0
@@ -140,10 +144,10 @@ pub record CanCount (s : State) : Type 0 where
   pub pauses : s.pauses < 2 ^ 64 - 1
 
 -- a buffer was filled, or n bytes of it before the source ended or paused
-pub record BufferFilled (old : State) (place : List ℕ) (n : ℕ) (new : State) : Type 0 where
-  pub within : n ≤ length place
-  pub consumes : Consumed old (take n place) new
-  pub if_incomplete : n < length place → EndedOrPaused old new
+pub record BufferFilled (old : State) (buf : List ℕ) (n : ℕ) (new : State) : Type 0 where
+  pub within : n ≤ length buf
+  pub consumes : Consumed old (take n buf) new
+  pub if_incomplete : n < length buf → EndedOrPaused old new
 
 -- fewer than count bytes were consumed
 pub record PartlyRead (old : State) (count : ℕ) (new : State) : Type 0 where
@@ -153,8 +157,8 @@ pub record PartlyRead (old : State) (count : ℕ) (new : State) : Type 0 where
 
 -- the effect of filling a buffer
 abbrev pub FillsBuffer : {E : Type 0} → State → List ℕ → Result ℕ E → State → Type 0
-FillsBuffer old place (Ok n) new = BufferFilled old place n new
-FillsBuffer old place (Err e) new = PartlyRead old (length place) new × SourceFailed old new
+FillsBuffer old buf (Ok n) new = BufferFilled old buf n new
+FillsBuffer old buf (Err e) new = PartlyRead old (length buf) new × SourceFailed old new
 
 -- n of count bytes were consumed; fewer than count only if the source ended or paused
 pub record SkippedUpTo (old : State) (count n : ℕ) (new : State) : Type 0 where
@@ -171,24 +175,24 @@ SkipsUpTo old count (Err e) new = PartlyRead old count new × SourceFailed old n
 
 -- n of count bytes were consumed, fewer than count only if the source ended or paused; the buffer contains them after its old
 -- content
-pub record AppendedUpTo (old : State) (held : List ℕ) (count n : ℕ) (now : List ℕ) (new : State) : Type 0 where
+pub record AppendedUpTo (old : State) (buffered : List ℕ) (count n : ℕ) (now : List ℕ) (new : State) : Type 0 where
   pub bytes : List ℕ
   pub exact_len : length bytes ≡ n
   pub within : n ≤ count
-  pub buffer_content : now ≡ held ++ bytes
+  pub buffer_content : now ≡ buffered ++ bytes
   pub consumes : Consumed old bytes new
   pub if_incomplete : n < count → EndedOrPaused old new
 
 -- fewer than count bytes were consumed, and the buffer is at most one chunk longer than its old content with these bytes
-pub record PartlyAppended (old : State) (held count now : ℕ) (new : State) : Type 0 where
+pub record PartlyAppended (old : State) (buffered count now : ℕ) (new : State) : Type 0 where
   pub partial_read : PartlyRead old count new
-  pub buffer_bound : now ≤ held + length partial_read.consumed_bytes + 4096
+  pub buffer_bound : now ≤ buffered + length partial_read.consumed_bytes + 4096
 
 -- the effect of appending up to count bytes to a buffer
 abbrev pub AppendsUpTo : State → List ℕ → ℕ → Result ℕ AppendError → List ℕ → State → Type 0
-AppendsUpTo old held count (Ok n) now new = AppendedUpTo old held count n now new
-AppendsUpTo old held count (Err Memory) now new = PartlyAppended old (length held) count (length now) new
-AppendsUpTo old held count (Err (Source e)) now new = PartlyAppended old (length held) count (length now) new × SourceFailed old new
+AppendsUpTo old buffered count (Ok n) now new = AppendedUpTo old buffered count n now new
+AppendsUpTo old buffered count (Err Memory) now new = PartlyAppended old (length buffered) count (length now) new
+AppendsUpTo old buffered count (Err (Source e)) now new = PartlyAppended old (length buffered) count (length now) new × SourceFailed old new
 
 -- the remaining bytes are those from the position on; both are known, or neither
 abbrev pub RemainsFromPosition : State → Type 0
@@ -250,18 +254,22 @@ abbrev pub Seeks : {E : Type 0} → State → SeekFrom → Result ℕ E → Stat
 Seeks old to (Ok at) new = SeekSucceeded old to at new
 Seeks old to (Err e) new = AfterSeek old new × (SourceFailed old new ⊎ SeekOutOfRange old to)
 
+-- the source ended or paused, which is an unexpected end, or it failed
+abbrev pub EndedOrFailed : Error → State → State → Type 0
+EndedOrFailed e old new = ((error_kind e ≡ UnexpectedEof) × EndedOrPaused old new) ⊎ SourceFailed old new
+
 -- a read of exactly count bytes failed: fewer were consumed, and then the source ended or paused, which is an unexpected end, or
 -- it failed
 pub record ReadExactError (old : State) (count : ℕ) (e : Error) (new : State) : Type 0 where
   pub consumed_bytes : List ℕ
   pub too_few : length consumed_bytes < count
   pub consumes : Consumed old consumed_bytes new
-  pub cause : ((error_kind e ≡ UnexpectedEof) × EndedOrPaused old new) ⊎ SourceFailed old new
+  pub cause : EndedOrFailed e old new
 
 -- the effect of filling a whole buffer
 abbrev pub ReadsExactly : {A : Type 0} → State → List ℕ → Result A Error → State → Type 0
-ReadsExactly old place (Ok _) new = Consumed old place new
-ReadsExactly old place (Err e) new = ReadExactError old (length place) e new
+ReadsExactly old buf (Ok _) new = Consumed old buf new
+ReadsExactly old buf (Err e) new = ReadExactError old (length buf) e new
 
 -- count bytes were skipped
 pub record SkippedExactly (old : State) (count : ℕ) (new : State) : Type 0 where
@@ -273,6 +281,24 @@ pub record SkippedExactly (old : State) (count : ℕ) (new : State) : Type 0 whe
 abbrev pub SkipsExactly : {A : Type 0} → State → ℕ → Result A Error → State → Type 0
 SkipsExactly old count (Ok _) new = SkippedExactly old count new
 SkipsExactly old count (Err e) new = ReadExactError old count e new
+
+-- count bytes were consumed, and the buffer contains them after its old content
+pub record AppendedExactly (old : State) (buffered : List ℕ) (count : ℕ) (now : List ℕ) (new : State) : Type 0 where
+  pub bytes : List ℕ
+  pub exact_len : length bytes ≡ count
+  pub buffer_content : now ≡ buffered ++ bytes
+  pub consumes : Consumed old bytes new
+
+-- the effect of appending exactly count bytes to a buffer; no empty read is counted if memory runs out
+abbrev pub AppendsExactly : {A : Type 0} → State → List ℕ → ℕ → Result A AppendError → List ℕ → State → Type 0
+AppendsExactly old buffered count (Ok _) now new = AppendedExactly old buffered count now new
+AppendsExactly old buffered count (Err Memory) now new = PartlyAppended old (length buffered) count (length now) new × (new.pauses ≡ old.pauses)
+AppendsExactly old buffered count (Err (Source e)) now new = PartlyAppended old (length buffered) count (length now) new × EndedOrFailed e old new
+
+-- the I/O error for an error of an append: of kind OutOfMemory if memory ran out, else the source's own error
+abbrev pub IsIoErrorOf : AppendError → Error → Type 0
+IsIoErrorOf Memory e = error_kind e ≡ OutOfMemory
+IsIoErrorOf (Source own) e = e ≡ own
 
 -- the cause of a failed call: the remaining bytes, if they are known, satisfy `Stops`, or the source failed or paused
 abbrev pub BytesOrSourceExplain : State → (List ℕ → Type 0) → State → Type 0

@@ -225,17 +225,17 @@ fn invalid_size() -> Error
     Error::from(ErrorKind::InvalidData)
 }
 
-/// Reads the first 8 bytes of an attribute into `head`, and returns its own size in bytes.
+/// Reads the first 8 bytes of an attribute into `bytes`, and returns its own size in bytes.
 ///
 /// It fails with `UnexpectedEof` if fewer bytes are read, and with `InvalidData` if the own size is 1 to 63.
-pub fn read_own_size<R: Source, T: FileOrder>(source: &mut R, head: &mut [u8]) -> Result<u32>
-    requires { length head.old ≡ 8 }
-    ensures reads { ReadsOwnSize T.number_of (R.state source.old) head.new result (R.state source.new) }
+pub fn read_own_size<R: Source, T: FileOrder>(source: &mut R, bytes: &mut [u8]) -> Result<u32>
+    requires { length bytes.old ≡ 8 }
+    ensures reads { ReadsOwnSize T.number_of (R.state source.old) bytes.new result (R.state source.new) }
     ensures pauses { PausesOnlyOnError (R.state source.old) result (R.state source.new) }
     ensures same_loan { R.loan source.new ≡ R.loan source.old }
 {
-    read_exact(source, head)?;
-    let size = T::read_u32(&head[4..]);
+    read_exact(source, bytes)?;
+    let size = T::read_u32(&bytes[4..]);
     if size == 0 {
         return Ok(MIN_SIZE);
     }
@@ -260,9 +260,9 @@ pub fn read_after_own_size<R: Source, T: FileOrder>(
     ensures pauses { PausesOnlyOnError (R.state source.old) result (R.state source.new) }
     ensures same_loan { R.loan source.new ≡ R.loan source.old }
 {
-    let known = (own_size as usize).min(KNOWN_SIZE);
-    read_exact(source, &mut bytes[8..known])?;
-    skip_exact(source, (own_size as usize - known) as u64)?;
+    let known_size = (own_size as usize).min(KNOWN_SIZE);
+    read_exact(source, &mut bytes[8..known_size])?;
+    skip_exact(source, (own_size as usize - known_size) as u64)?;
     Ok(parse_fields::<T>(bytes, own_size))
 }
 
@@ -278,9 +278,9 @@ impl PerfEventAttr {
         ensures same_loan { R.loan source.new ≡ R.loan source.old }
     {
         let mut bytes = [0u8; KNOWN_SIZE];
-        let own = read_own_size::<R, T>(source, &mut bytes[..8])?;
-        let attr = read_after_own_size::<R, T>(source, &mut bytes, own)?;
-        Ok((attr, own as u64))
+        let own_size = read_own_size::<R, T>(source, &mut bytes[..8])?;
+        let attr = read_after_own_size::<R, T>(source, &mut bytes, own_size)?;
+        Ok((attr, own_size as u64))
     }
 
     /// Parses an attribute from a source as `parse_from` does, and returns it with its own size.

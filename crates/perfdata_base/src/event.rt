@@ -1,11 +1,13 @@
 //! Record headers, record types and kernel records.
-ghost use Rattle.std.specs.Prelude.{◌≡◌, ◌<◌, ◌≤◌, ◌%◌, ◌↔◌, IsTrue};
+ghost use Rattle.std.specs.Prelude.{◌≡◌, ◌<◌, ◌≤◌, ◌%◌, ◌↔◌, IsTrue, length};
 ghost use Rattle.perfdata_base.specs.Source.{State, PausesOnlyOnError};
-ghost use Rattle.perfdata_base.specs.Event.{ParsesRecordHeader};
+ghost use Rattle.perfdata_base.specs.Endian.{number_in};
+ghost use Rattle.perfdata_base.specs.Event.{ParsesRecordHeader, PeeksRecordHeader, record_header_of};
 ghost use Rattle.perfdata_base.specs.RecordType.{cpu_mode_of};
 
+use crate::endian::{read_u16, read_u32};
 use crate::place::RecordParseInfo;
-use crate::raw::{FileOrder, RawData};
+use crate::raw::{Endianness, FileOrder, RawData};
 use crate::source::{Source, read_exact};
 use std::io::Result;
 
@@ -41,11 +43,43 @@ impl PerfEventHeader {
         })
     }
 
+    /// Returns the record header in eight bytes, in the byte order `endian`.
+    pub fn from_bytes(
+        endian: Endianness,
+        bytes: &[u8; PerfEventHeader::STRUCT_SIZE],
+    ) -> PerfEventHeader
+        ensures { result ≡ record_header_of (number_in endian) bytes.now }
+    {
+        record_header_at(endian, bytes)
+    }
+
+    /// Returns the record header in the first eight of `bytes`, in the byte order `endian`; `None` if there are fewer.
+    pub fn peek(endian: Endianness, bytes: &[u8]) -> Option<PerfEventHeader>
+        ensures { PeeksRecordHeader (number_in endian) bytes.now result }
+    {
+        if bytes.len() < PerfEventHeader::STRUCT_SIZE {
+            return None;
+        }
+        Some(record_header_at(endian, bytes))
+    }
+
     /// Parses a record header from a source, as `parse_from` does.
     pub fn parse<R: Source + Drop, T: FileOrder>(mut r: R) -> Result<PerfEventHeader>
         ensures { (left : State) × ParsesRecordHeader T.number_of (R.state r) result left }
     {
         PerfEventHeader::parse_from::<R, T>(&mut r)
+    }
+}
+
+// The record header in the first eight bytes.
+fn record_header_at(endian: Endianness, bytes: &[u8]) -> PerfEventHeader
+    requires { 8 ≤ length bytes.now }
+    ensures { result ≡ record_header_of (number_in endian) bytes.now }
+{
+    PerfEventHeader {
+        type_: read_u32(endian, bytes),
+        misc: read_u16(endian, &bytes[4..]),
+        size: read_u16(endian, &bytes[6..]),
     }
 }
 

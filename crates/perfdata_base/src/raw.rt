@@ -72,16 +72,16 @@ fn total_len(first: &[u8], second: &[u8]) -> usize
 }
 
 // Whether two slices contain the same bytes as two others. The first pair splits no later than the second.
-fn equal_bytes(front: &[u8], rest: &[u8], other_front: &[u8], other_rest: &[u8]) -> bool
-    requires { length front.now ≤ length other_front.now }
-    ensures { result ≡ bytes_eq (front.now ++ rest.now) (other_front.now ++ other_rest.now) }
+fn equal_bytes(first: &[u8], second: &[u8], other_first: &[u8], other_second: &[u8]) -> bool
+    requires { length first.now ≤ length other_first.now }
+    ensures { result ≡ bytes_eq (first.now ++ second.now) (other_first.now ++ other_second.now) }
 {
-    let (head, between) = other_front.split_at(front.len());
-    if rest.len() < between.len() {
+    let (other_prefix, other_middle) = other_first.split_at(first.len());
+    if second.len() < other_middle.len() {
         return false;
     }
-    let (middle, tail) = rest.split_at(between.len());
-    front == head && middle == between && tail == other_rest
+    let (middle, tail) = second.split_at(other_middle.len());
+    first == other_prefix && middle == other_middle && tail == other_second
 }
 
 impl<'a> From<&'a [u8]> for RawData<'a> {
@@ -127,15 +127,15 @@ impl<'a> RawData<'a> {
     {
         let (first, second) = self.as_slices();
         if count <= first.len() {
-            let (front, rest) = first.split_at(count);
-            return Some((RawData::Single(front), RawData::join(rest, second)));
+            let (prefix, rest) = first.split_at(count);
+            return Some((RawData::Single(prefix), RawData::join(rest, second)));
         }
         let beyond = count - first.len();
         if second.len() < beyond {
             return None;
         }
-        let (front, rest) = second.split_at(beyond);
-        Some((RawData::join(first, front), RawData::Single(rest)))
+        let (prefix, rest) = second.split_at(beyond);
+        Some((RawData::join(first, prefix), RawData::Single(rest)))
     }
 
     // The index of the first NUL.
@@ -152,15 +152,15 @@ impl<'a> RawData<'a> {
         }
     }
 
-    fn copy_to(self, place: &mut [u8])
-        requires { length (bytes_of self) ≡ length place.old }
-        ensures { place.new ≡ bytes_of self.entry }
+    fn copy_to(self, buf: &mut [u8])
+        requires { length (bytes_of self) ≡ length buf.old }
+        ensures { buf.new ≡ bytes_of self.entry }
     {
         match self {
-            RawData::Single(bytes) => place.copy_from_slice(bytes),
+            RawData::Single(bytes) => buf.copy_from_slice(bytes),
             RawData::Split(first, second) => {
-                place[..first.len()].copy_from_slice(first);
-                place[first.len()..].copy_from_slice(second);
+                buf[..first.len()].copy_from_slice(first);
+                buf[first.len()..].copy_from_slice(second);
             }
         }
     }
@@ -226,28 +226,21 @@ impl<'a> RawData<'a> {
         ensures too_short { IfErr result (λ error. EndsBefore count (bytes_of self.old) error) }
         ensures unchanged { OnErr result (self.new ≡ self.old) }
     {
-        match self.split_off_prefix(count) {
-            Ok(_) => Ok(()),
-            Err(error) => Err(error),
-        }
+        self.split_off_prefix(count)?;
+        Ok(())
     }
 
     /// Fills `place` with the first bytes, and removes them.
     ///
     /// If there are fewer, it fails with `UnexpectedEof`, and nothing changes.
-    pub fn read_exact(&mut self, place: &mut [u8]) -> io::Result<()>
-        ensures read { OnOk result (place.new ≡ take (length place.old) (bytes_of self.old)) }
-        ensures rest { OnOk result (DropsPrefix (length place.old) self.old self.new) }
-        ensures too_short { IfErr result (λ error. EndsBefore (length place.old) (bytes_of self.old) error) }
-        ensures unchanged { OnErr result ((self.new ≡ self.old) × (place.new ≡ place.old)) }
+    pub fn read_exact(&mut self, buf: &mut [u8]) -> io::Result<()>
+        ensures read { OnOk result (buf.new ≡ take (length buf.old) (bytes_of self.old)) }
+        ensures rest { OnOk result (DropsPrefix (length buf.old) self.old self.new) }
+        ensures too_short { IfErr result (λ error. EndsBefore (length buf.old) (bytes_of self.old) error) }
+        ensures unchanged { OnErr result ((self.new ≡ self.old) × (buf.new ≡ buf.old)) }
     {
-        match self.split_off_prefix(place.len()) {
-            Ok(prefix) => {
-                prefix.copy_to(place);
-                Ok(())
-            }
-            Err(error) => Err(error),
-        }
+        self.split_off_prefix(buf.len())?.copy_to(buf);
+        Ok(())
     }
 
     /// Removes the first byte, and returns it.
@@ -260,10 +253,8 @@ impl<'a> RawData<'a> {
         ensures unchanged { OnErr result (self.new ≡ self.old) }
     {
         let mut bytes = [0u8; 1];
-        match self.read_exact(&mut bytes) {
-            Ok(()) => Ok(bytes[0]),
-            Err(error) => Err(error),
-        }
+        self.read_exact(&mut bytes)?;
+        Ok(bytes[0])
     }
 
     /// Removes the first two bytes, and returns the number that they contain.
@@ -276,10 +267,8 @@ impl<'a> RawData<'a> {
         ensures unchanged { OnErr result (self.new ≡ self.old) }
     {
         let mut bytes = [0u8; 2];
-        match self.read_exact(&mut bytes) {
-            Ok(()) => Ok(T::read_u16(&bytes)),
-            Err(error) => Err(error),
-        }
+        self.read_exact(&mut bytes)?;
+        Ok(T::read_u16(&bytes))
     }
 
     /// Removes the first four bytes, and returns the number that they contain.
@@ -292,10 +281,8 @@ impl<'a> RawData<'a> {
         ensures unchanged { OnErr result (self.new ≡ self.old) }
     {
         let mut bytes = [0u8; 4];
-        match self.read_exact(&mut bytes) {
-            Ok(()) => Ok(T::read_u32(&bytes)),
-            Err(error) => Err(error),
-        }
+        self.read_exact(&mut bytes)?;
+        Ok(T::read_u32(&bytes))
     }
 
     /// Removes the first four bytes, and returns the signed number that they contain.
@@ -307,10 +294,7 @@ impl<'a> RawData<'a> {
         ensures too_short { IfErr result (λ error. EndsBefore 4 (bytes_of self.old) error) }
         ensures unchanged { OnErr result (self.new ≡ self.old) }
     {
-        match self.read_u32::<T>() {
-            Ok(number) => Ok(number.cast_signed()),
-            Err(error) => Err(error),
-        }
+        Ok(self.read_u32::<T>()?.cast_signed())
     }
 
     /// Removes the first eight bytes, and returns the number that they contain.
@@ -323,10 +307,8 @@ impl<'a> RawData<'a> {
         ensures unchanged { OnErr result (self.new ≡ self.old) }
     {
         let mut bytes = [0u8; 8];
-        match self.read_exact(&mut bytes) {
-            Ok(()) => Ok(T::read_u64(&bytes)),
-            Err(error) => Err(error),
-        }
+        self.read_exact(&mut bytes)?;
+        Ok(T::read_u64(&bytes))
     }
 
     /// Removes the bytes up to the first NUL, and returns those before the NUL.

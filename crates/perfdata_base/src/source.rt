@@ -1,19 +1,21 @@
 //! Byte sources, and functions that read, skip and append their bytes.
-ghost use Rattle.std.specs.Prelude.{◌≡◌, ◌+◌, ◌^◌, ◌<◌, ◌≤◌, ◌↔◌, ℕ, IsTrue, min, length, take, drop, vec_len, Ok, refl};
+ghost use Rattle.std.specs.Prelude.{◌≡◌, ◌+◌, ◌^◌, ◌<◌, ◌≤◌, ◌↔◌, ℕ, List, [], IsTrue, min, length, take, drop, vec_len, Ok, refl};
 ghost use Rattle.std.proofs.Common.{lit<};
 ghost use Rattle.std.proofs.lemmas.Bool.{false≢true};
 ghost use Rattle.std.specs.Io.Cursor.{cursor_inner, cursor_position};
 ghost use Rattle.std.specs.IoError.{error_kind};
 ghost use Rattle.std.specs.declared.io.ErrorKind.TheVariants.{Interrupted, UnexpectedEof};
-ghost use Rattle.perfdata_base.specs.Source.{State, memory_source, memory_source_at, opaque_source, counted_state, CanCount, CountsRead, CountsSeek, PausesOnlyIfIncomplete, PausesOnlyOnError, RemainsFromPosition, SizeFitsI64, PositionFitsU64, Seeks, Reads, FillsBuffer, SkipsUpTo, AppendsUpTo, ReadsExactly, SkipsExactly};
-ghost use Rattle.perfdata_base.specs.RelativeSeek.{ReadUpdatesPosition, SeekUpdatesPosition};
+ghost use Rattle.perfdata_base.specs.Source.{State, memory_source, memory_source_at, opaque_source, counted_state, CanCount, CountsRead, CountsSeek, PausesOnlyIfIncomplete, PausesOnlyOnError, RemainsFromPosition, SizeFitsI64, PositionFitsU64, Seeks, Reads, FillsBuffer, SkipsUpTo, AppendsUpTo, ReadsExactly, SkipsExactly, AppendsExactly, IsIoErrorOf};
+ghost use Rattle.perfdata_base.specs.RelativeSeek.{AgreesWithPosition, ReadUpdatesPosition, SeekUpdatesPosition};
+ghost use Rattle.std.specs.Io.KnownBytes.{Keeps, ReadConsumes};
+ghost use Rattle.std.specs.Io.Seek.{SeekMoves};
 ghost use Rattle.perfdata_base.specs.Buffered.{IsPrefixOfRemaining, ReadsBuffered, AppendsBuffered};
 ghost use Rattle.perfdata_base.specs.declared.source.AppendError.TheVariants.{Memory, Source as FromSource};
 ghost use Rattle.perfdata_base.specs.Raw.{bytes_of};
 
 use crate::raw::RawData;
 use crate::source::relative_seek::{position_after, seek_from};
-use std::alloc::AllocError;
+use std::alloc::{AllocError, AllocFailed};
 use std::io::{Cursor, Error, ErrorKind, Read, Result, Seek, SeekFrom};
 
 mod counted_buffer;
@@ -23,7 +25,8 @@ mod script;
 pub use counted_buffer::CountedBuffer;
 pub use script::{Script, Step};
 
-static EMPTY: &[u8] = &[];
+// The buffered bytes of a source that has no buffer.
+static NOT_BUFFERED: &[u8] = &[];
 
 /// A source of bytes.
 ///
@@ -38,6 +41,9 @@ pub trait Source {
     /// The identity of the source that a `&mut` borrows; 0 for every other source.
     ghost loan: { Self → ℕ };
 
+    /// The bytes that `buffer` returns.
+    ghost buffered: { Self → List ℕ };
+
     /// Reads the next bytes into the start of `buf`, and returns their number.
     ///
     /// If `buf` isn't empty, it receives a prefix of the remaining bytes. A result of 0 is the end, or a pause, which
@@ -51,12 +57,11 @@ pub trait Source {
 
     /// Returns the buffered bytes of the source, a prefix of the remaining bytes.
     ///
-    /// To consume them, the source calls no underlying reader. The slice is empty if nothing is buffered.
+    /// To consume them, the source calls no underlying reader. The slice is empty if nothing is buffered, and always
+    /// for a source that has no buffer.
     fn buffer(&self) -> &[u8]
         ensures prefix { IsPrefixOfRemaining (state self.now) result.now }
-    {
-        EMPTY
-    }
+        ensures buffered { result.now ≡ buffered self.now };
 
     /// Fills `buf` with the next bytes if that many are buffered, and returns whether it did.
     ///
@@ -91,6 +96,8 @@ impl Source for &[u8] {
 
     ghost loan = { λ _. 0 };
 
+    ghost buffered = { λ s. s.now };
+
     fn read_front(&mut self, buf: &mut [u8]) -> Result<usize> {
         let all: &[u8] = *self;
         let count = all.len().min(buf.len());
@@ -108,8 +115,8 @@ impl Source for &[u8] {
         if all.len() < buf.len() {
             return false;
         }
-        let (front, rest) = all.split_at(buf.len());
-        buf.copy_from_slice(front);
+        let (prefix, rest) = all.split_at(buf.len());
+        buf.copy_from_slice(prefix);
         *self = rest;
         true
     }
@@ -123,9 +130,9 @@ impl Source for &[u8] {
         if all.len() < count {
             return Ok(false);
         }
-        let left = &all[count..];
+        let rest = &all[count..];
         buffer.extend_from_slice(&all[..count])?;
-        *self = left;
+        *self = rest;
         Ok(true)
     }
 
@@ -136,6 +143,8 @@ impl<S: Source> Source for &mut S {
     ghost state = { λ s. S.state s.now };
 
     ghost loan = { λ s. s.ghost_name };
+
+    ghost buffered = { λ s. S.buffered s.now };
 
     fn read_front(&mut self, buf: &mut [u8]) -> Result<usize> {
         Source::read_front(&mut **self, buf)
@@ -165,10 +174,16 @@ impl Source for RawData<'_> {
 
     ghost loan = { λ _. 0 };
 
+    ghost buffered = { λ _. [] };
+
     fn read_front(&mut self, buf: &mut [u8]) -> Result<usize> {
         let count = self.len().min(buf.len());
         self.read_exact(&mut buf[..count])?;
         Ok(count)
+    }
+
+    fn buffer(&self) -> &[u8] {
+        NOT_BUFFERED
     }
 
     ghost steady_can_count = { λ _ _. record { errors = lit< tt; pauses = lit< tt } };
@@ -199,6 +214,8 @@ impl Source for Cursor<Vec<u8>> {
     ghost state = { λ c. memory_source_at (cursor_inner c).items (cursor_position c) };
 
     ghost loan = { λ _. 0 };
+
+    ghost buffered = { λ c. drop (cursor_position c) (cursor_inner c).items };
 
     fn read_front(&mut self, buf: &mut [u8]) -> Result<usize> {
         let at = self.position();
@@ -231,11 +248,11 @@ impl Source for Cursor<Vec<u8>> {
         count: usize,
     ) -> std::result::Result<bool, AllocError> {
         let at = self.position();
-        let left = bytes_from_offset(self.get_ref().as_slice(), at);
-        if count == 0 || left.len() < count {
+        let rest = bytes_from_offset(self.get_ref().as_slice(), at);
+        if count == 0 || rest.len() < count {
             return Ok(false);
         }
-        buffer.extend_from_slice(&left[..count])?;
+        buffer.extend_from_slice(&rest[..count])?;
         self.set_position(at + count as u64);
         Ok(true)
     }
@@ -247,6 +264,8 @@ impl Source for Cursor<&[u8]> {
     ghost state = { λ c. memory_source_at (cursor_inner c).now (cursor_position c) };
 
     ghost loan = { λ _. 0 };
+
+    ghost buffered = { λ c. drop (cursor_position c) (cursor_inner c).now };
 
     fn read_front(&mut self, buf: &mut [u8]) -> Result<usize> {
         let at = self.position();
@@ -280,11 +299,11 @@ impl Source for Cursor<&[u8]> {
         count: usize,
     ) -> std::result::Result<bool, AllocError> {
         let at = self.position();
-        let left = bytes_from_offset(self.get_ref(), at);
-        if count == 0 || left.len() < count {
+        let rest = bytes_from_offset(self.get_ref(), at);
+        if count == 0 || rest.len() < count {
             return Ok(false);
         }
-        buffer.extend_from_slice(&left[..count])?;
+        buffer.extend_from_slice(&rest[..count])?;
         self.set_position(at + count as u64);
         Ok(true)
     }
@@ -327,12 +346,15 @@ impl<R: Read> Source for Counted<R> {
 
     ghost loan = { λ _. 0 };
 
+    ghost buffered = { λ _. [] };
+
     fn read_front(&mut self, buf: &mut [u8]) -> Result<usize>
         ensures idle { length buf.old ≡ 0 → (result ≡ Ok 0) × (counted_state self.new ≡ counted_state self.old) }
         ensures reads { 0 < length buf.old → Reads (counted_state self.old) buf.new result (counted_state self.new) }
         ensures counts { CountsRead (counted_state self.old) result (counted_state self.new) }
         ensures position { 0 < length buf.old → ReadUpdatesPosition self.old.position result self.new.position }
-        ensures position_kept { length buf.old ≡ 0 → self.new.position ≡ self.old.position }
+        ensures unchanged_if_empty { length buf.old ≡ 0 → self.new ≡ self.old }
+        ensures reader_consumes { ReadConsumes (R.remaining self.old.reader) (R.remaining self.new.reader) result buf.new }
     {
         if buf.is_empty() {
             return Ok(0);
@@ -351,6 +373,10 @@ impl<R: Read> Source for Counted<R> {
                 Err(error)
             }
         }
+    }
+
+    fn buffer(&self) -> &[u8] {
+        NOT_BUFFERED
     }
 
     ghost steady_can_count = { λ _ steady. absurd (false≢true steady) };
@@ -402,6 +428,8 @@ impl<R: Read + Seek> PlacedSource for Counted<R> {
         ensures size_fits { SizeFitsI64 (counted_state self.old) }
         ensures position_fits { PositionFitsU64 (counted_state self.old) }
         ensures position { SeekUpdatesPosition result self.new.position }
+        ensures reader_moves { AgreesWithPosition self.old.position (R.stream_position self.old.reader) → SeekMoves (R.stream_position self.old.reader) (R.stream_position self.new.reader) (R.stream_bytes self.old.reader) to result }
+        ensures reader_keeps_bytes { Keeps (R.stream_bytes self.old.reader) (R.stream_bytes self.new.reader) }
     {
         match seek_from(&mut self.reader, self.position, to) {
             Ok(at) => {
@@ -489,16 +517,16 @@ pub fn skip_up_to<S: Source>(source: &mut S, count: u64) -> Result<u64>
     ensures same_loan { S.loan source.new ≡ S.loan source.old }
 {
     let mut scratch = [0u8; SKIP_BUFFER_SIZE];
-    let mut passed = 0;
-    while passed < count {
-        let wanted = ((count - passed) as usize).min(SKIP_BUFFER_SIZE);
-        let came = fill(source, &mut scratch[..wanted])?;
-        passed += came as u64;
-        if came < wanted {
-            return Ok(passed);
+    let mut skipped = 0;
+    while skipped < count {
+        let wanted = ((count - skipped) as usize).min(SKIP_BUFFER_SIZE);
+        let read_count = fill(source, &mut scratch[..wanted])?;
+        skipped += read_count as u64;
+        if read_count < wanted {
+            return Ok(skipped);
         }
     }
-    Ok(passed)
+    Ok(skipped)
 }
 
 /// The cause of a failed append.
@@ -511,18 +539,39 @@ pub enum AppendError {
 }
 
 impl From<AllocError> for AppendError {
-    ghost from_gives = { λ _ fault. fault ≡ Memory };
+    ghost from_gives = { λ _ error. error ≡ Memory };
 
     fn from(_error: AllocError) -> AppendError {
         AppendError::Memory
     }
 }
 
+// The error that collections return when memory runs out. The conversion allows `vec.push(x)?`.
+impl<T: Drop> From<AllocFailed<T>> for AppendError {
+    ghost from_gives = { λ _ error. error ≡ Memory };
+
+    fn from(_failed: AllocFailed<T>) -> AppendError {
+        AppendError::Memory
+    }
+}
+
 impl From<Error> for AppendError {
-    ghost from_gives = { λ error fault. fault ≡ FromSource error };
+    ghost from_gives = { λ error appended. appended ≡ FromSource error };
 
     fn from(error: Error) -> AppendError {
         AppendError::Source(error)
+    }
+}
+
+// Out of memory becomes an error of kind `OutOfMemory`; the source's error stays as it is.
+impl From<AppendError> for Error {
+    ghost from_gives = { λ append_error error. IsIoErrorOf append_error error };
+
+    fn from(append_error: AppendError) -> Error {
+        match append_error {
+            AppendError::Memory => Error::from(ErrorKind::OutOfMemory),
+            AppendError::Source(error) => error,
+        }
     }
 }
 
@@ -548,11 +597,11 @@ fn append_chunk<S: Source>(
     ensures pauses { PausesOnlyIfIncomplete count (S.state source.old) result (S.state source.new) }
     ensures same_loan { S.loan source.new ≡ S.loan source.old }
 {
-    let held = buffer.len();
+    let old_len = buffer.len();
     buffer.extend_from_slice(zeros(count))?;
-    let came = fill(source, &mut buffer.as_mut_slice()[held..])?;
-    buffer.truncate(held + came);
-    Ok(came)
+    let read_count = fill(source, &mut buffer.as_mut_slice()[old_len..])?;
+    buffer.truncate(old_len + read_count);
+    Ok(read_count)
 }
 
 // Appends by reads of at most `APPEND_CHUNK_SIZE` bytes.
@@ -568,9 +617,9 @@ fn append_by_reads<S: Source>(
     let mut appended = 0;
     while appended < count {
         let wanted = (count - appended).min(APPEND_CHUNK_SIZE);
-        let came = append_chunk(source, buffer, wanted)?;
-        appended += came;
-        if came < wanted {
+        let read_count = append_chunk(source, buffer, wanted)?;
+        appended += read_count;
+        if read_count < wanted {
             return Ok(appended);
         }
     }
@@ -621,9 +670,30 @@ pub fn read_exact<S: Source>(source: &mut S, buf: &mut [u8]) -> Result<()>
     ensures pauses { PausesOnlyOnError (S.state source.old) result (S.state source.new) }
     ensures same_loan { S.loan source.new ≡ S.loan source.old }
 {
-    let came = fill(source, buf)?;
-    if came < buf.len() {
+    let read_count = fill(source, buf)?;
+    if read_count < buf.len() {
         return Err(unexpected_eof());
+    }
+    Ok(())
+}
+
+/// Appends exactly `count` bytes to `buffer`, by reads of at most 4,096 bytes as [`append_up_to`] makes them.
+///
+/// If the source ends or pauses before, it fails with [`AppendError::Source`] of kind [`ErrorKind::UnexpectedEof`].
+/// Other errors are those of [`append_up_to`]. After an error some of the bytes may have been consumed, and `buffer`
+/// may be up to 4,096 bytes longer than its old content with these bytes.
+pub fn append_exact<S: Source>(
+    source: &mut S,
+    buffer: &mut Vec<u8>,
+    count: usize,
+) -> std::result::Result<(), AppendError>
+    ensures appends { AppendsExactly (S.state source.old) buffer.old.items count result buffer.new.items (S.state source.new) }
+    ensures pauses { PausesOnlyOnError (S.state source.old) result (S.state source.new) }
+    ensures same_loan { S.loan source.new ≡ S.loan source.old }
+{
+    let appended = append_up_to(source, buffer, count)?;
+    if appended < count {
+        return Err(AppendError::Source(unexpected_eof()));
     }
     Ok(())
 }
@@ -637,8 +707,8 @@ pub fn skip_exact<S: Source>(source: &mut S, count: u64) -> Result<()>
     ensures pauses { PausesOnlyOnError (S.state source.old) result (S.state source.new) }
     ensures same_loan { S.loan source.new ≡ S.loan source.old }
 {
-    let came = skip_up_to(source, count)?;
-    if came < count {
+    let skipped = skip_up_to(source, count)?;
+    if skipped < count {
         return Err(unexpected_eof());
     }
     Ok(())

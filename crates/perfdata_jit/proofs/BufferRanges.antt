@@ -43,9 +43,9 @@ main_grows xs ys s e f n le none same =
 -- the same for the prefix that wraps around
 pub front_grows : (xs ys : List ℕ) (s e f n : ℕ) → drop s ys ≡ drop s xs → take f ys ≡ take f xs
     → slice_range ys s e ++ take (f + n) ys ≡ (slice_range xs s e ++ take f xs) ++ slice_range ys f (f + n)
-front_grows xs ys s e f n behind same =
+front_grows xs ys s e f n rest same =
     let grown = range_append ys 0 f n (omega arith) in
-    let kept : slice_range ys s e ≡ slice_range xs s e = ap (take (e - s)) behind in
+    let kept : slice_range ys s e ≡ slice_range xs s e = ap (take (e - s)) rest in
     grind (arith, common_steps, kept, grown, same)
 
 -- the first n items of a range
@@ -105,6 +105,10 @@ over_dropped over rest ring p size k n len at is =
     ∙ sym (drop-append-add (drop p over) ring k) ∙ ap (λ m. drop m (drop p over ++ ring)) (sym sum)
 
 -- a part is consumed from the start of the buffered bytes
-pub part_taken : (held part left : List ℕ) (rest : Option (List ℕ)) (n : ℕ) → part ≡ take n held → left ≡ drop n held → prepend held rest ≡ prepend part (prepend left rest)
-part_taken held part left rest n is over =
-    ap (λ l. prepend l rest) (sym (take-append-drop n held)) ∙ sym (prepend-append (take n held) (drop n held) rest) ∙ ap₂ (λ a b. prepend a (prepend b rest)) (sym is) (sym over)
+pub part_taken : (buffered part after : List ℕ) (rest : Option (List ℕ)) (n : ℕ) → part ≡ take n buffered → after ≡ drop n buffered → prepend buffered rest ≡ prepend part (prepend after rest)
+part_taken buffered part after rest n is over =
+    ap (λ l. prepend l rest) (sym (take-append-drop n buffered)) ∙ sym (prepend-append (take n buffered) (drop n buffered) rest) ∙ ap₂ (λ a b. prepend a (prepend b rest)) (sym is) (sym over)
+
+-- bytes of the overflow buffer are consumed
+pub over_drops : (over ring : List ℕ) (p n : ℕ) → n ≤ length over - p → drop (p + n) over ++ ring ≡ drop n (drop p over ++ ring)
+over_drops over ring p n within = ap (λ l. l ++ ring) (sym (drop-drop n p over)) ∙ sym (drop-append-le n (drop p over) ring (omega (arith, length-drop p over)))

@@ -7,28 +7,28 @@ use Rattle.perfdata_base.specs.Raw.{bytes_of}
 use Rattle.perfdata_jit.specs.JitRecords.{CodeIsAtOffset}
 
 -- the range of a part after a prefix
-range_behind : (front part rest : List ℕ) (at : ℕ) → at ≡ length front → slice_range (front ++ (part ++ rest)) at (at + length part) ≡ part
-range_behind front part rest at is =
-    ap (λ l. take (at + length part - at) l) (ap (λ n. drop n (front ++ (part ++ rest))) is ∙ drop-append_seam front (part ++ rest))
+range_behind : (prefix part rest : List ℕ) (at : ℕ) → at ≡ length prefix → slice_range (prefix ++ (part ++ rest)) at (at + length part) ≡ part
+range_behind prefix part rest at is =
+    ap (λ l. take (at + length part - at) l) (ap (λ n. drop n (prefix ++ (part ++ rest))) is ∙ drop-append_seam prefix (part ++ rest))
     ∙ ap (λ n. take n (part ++ rest)) (let m = at + length part - at in let e : m ≡ length part = omega arith in e) ∙ take-append_seam part rest
 
 pub code_is_at_offset : CodeIsAtOffset
-code_is_at_offset number head body load sixteen is =
+code_is_at_offset number header body load sixteen is =
     let name = bytes_of load.function_name in
     let code = bytes_of load.code_bytes in
-    let behind : List ℕ = is.after_body in
+    let rest : List ℕ = is.after_body in
     let cut = is.name_text.split in
-    let long = length-append name (0 ∷ (code ++ behind)) in
+    let long = length-append name (0 ∷ (code ++ rest)) in
     let room : 40 ≤ length body = omega (arith, length-drop 40 body, ap length cut, long) in
-    let front = head ++ (take 40 body ++ (name ++ (0 ∷ []))) in
-    let whole : head ++ body ≡ front ++ (code ++ behind) =
-    ap (λ l. head ++ l) (sym (take-append-drop 40 body) ∙ ap (λ l. take 40 body ++ l) (cut ∙ sym (append_assoc name (0 ∷ []) (code ++ behind))) ∙ sym (append_assoc (take 40 body) (name ++ (0 ∷ [])) (code ++ behind)))
-    ∙ sym (append_assoc head (take 40 body ++ (name ++ (0 ∷ []))) (code ++ behind))
+    let prefix = header ++ (take 40 body ++ (name ++ (0 ∷ []))) in
+    let whole : header ++ body ≡ prefix ++ (code ++ rest) =
+    ap (λ l. header ++ l) (sym (take-append-drop 40 body) ∙ ap (λ l. take 40 body ++ l) (cut ∙ sym (append_assoc name (0 ∷ []) (code ++ rest))) ∙ sym (append_assoc (take 40 body) (name ++ (0 ∷ [])) (code ++ rest)))
+    ∙ sym (append_assoc header (take 40 body ++ (name ++ (0 ∷ []))) (code ++ rest))
     in
-    let first = length-append head (take 40 body ++ (name ++ (0 ∷ []))) in
+    let first = length-append header (take 40 body ++ (name ++ (0 ∷ []))) in
     let second = length-append (take 40 body) (name ++ (0 ∷ [])) in
     let third = length-append name (0 ∷ []) in
     let forty = length-take-le 40 body room in
-    let place = 57 + length name in
-    let at : place ≡ length front = omega (arith, first, second, third, forty, sixteen) in
-    ap (λ l. slice_range l place (place + length code)) whole ∙ range_behind front code behind place at
+    let offset = 57 + length name in
+    let at : offset ≡ length prefix = omega (arith, first, second, third, forty, sixteen) in
+    ap (λ l. slice_range l offset (offset + length code)) whole ∙ range_behind prefix code rest offset at

@@ -1,5 +1,5 @@
 -- A header that is read in two parts: its fixed part, and then the bytes up to its declared size.
-use Rattle.std.proofs.Common.{◌≡◌, ℕ, ◌+◌, ◌<◌, ◌≤◌, ◌⊎◌, List, ◌++◌, take, drop, length, refl, sym, ap, ◌∙◌, arith, inl, inr, length-drop, length-append}
+use Rattle.std.proofs.Common.{◌≡◌, ◌≢◌, ℕ, ◌+◌, ◌<◌, ◌≤◌, ◌⊎◌, List, ◌++◌, take, drop, length, slice_index, refl, sym, ap, ◌∙◌, arith, inl, inr, length-drop, length-append}
 use Rattle.std.proofs.lemmas.List.{take-append-le, drop-append-le}
 use Rattle.std.specs.IoError.{error_kind}
 use Rattle.std.specs.declared.io.Error.{Error}
@@ -7,7 +7,8 @@ use Rattle.std.specs.declared.io.ErrorKind.TheVariants.{UnexpectedEof}
 use Rattle.perfdata_base.proofs.Numbers.{ReadsFirst, number_drop_front}
 use Rattle.perfdata_base.specs.Endian.{number_in}
 use Rattle.perfdata_base.specs.declared.raw.Endianness.{Endianness}
-use Rattle.perfdata_jit.specs.JitHeader.{header_after_magic, jit_magic_of, size_after_magic, IsJitHeader, IsHeaderAfterMagic, IsTruncatedAfterMagic, DeclaresSize, BeginsWithJitHeader, HasTruncatedFixedPart, HasTruncatedHeader}
+use Rattle.perfdata_base.specs.declared.raw.Endianness.TheVariants.{LittleEndian, BigEndian}
+use Rattle.perfdata_jit.specs.JitHeader.{header_after_magic, jit_magic_of, size_after_magic, IsEndianOfMagic, IsJitHeader, IsHeaderAfterMagic, IsTruncatedAfterMagic, DeclaresSize, BeginsWithJitHeader, HasTruncatedFixedPart, HasTruncatedHeader}
 use Rattle.perfdata_jit.specs.declared.header.JitDumpHeader.{JitDumpHeader}
 use Rattle.perfdata_jit.proofs.Fields.{number_at}
 
@@ -30,59 +31,59 @@ module _ (number : ℕ → List ℕ → ℕ) (first : ReadsFirst number) (magic 
   header_truncated e few kind = record { cause = inr (long, let size = ap (λ h. h.total_size) same in omega (arith, size, few)); kind = kind }
 
 -- the magic is read first, and these are the bytes after it
-module _ (order : Endianness) (xs magic behind : List ℕ) (long : 4 ≤ length xs) (came : magic ≡ take 4 xs) (left : behind ≡ drop 4 xs) (one : magic ≡ jit_magic_of order) where
-  rest_long : length xs ≡ 4 + length behind
-  rest_long = omega (arith, length-drop 4 xs, ap length left)
+module _ (endian : Endianness) (xs magic rest : List ℕ) (long : 4 ≤ length xs) (is_magic : magic ≡ take 4 xs) (is_rest : rest ≡ drop 4 xs) (one : magic ≡ jit_magic_of endian) where
+  rest_long : length xs ≡ 4 + length rest
+  rest_long = omega (arith, length-drop 4 xs, ap length is_rest)
 
-  size_same : size_after_magic (number_in order) behind ≡ size_after_magic (number_in order) (drop 4 xs)
-  size_same = ap (size_after_magic (number_in order)) left
+  size_same : size_after_magic (number_in endian) rest ≡ size_after_magic (number_in endian) (drop 4 xs)
+  size_same = ap (size_after_magic (number_in endian)) is_rest
 
-  pub header_declares : (header : JitDumpHeader) → IsHeaderAfterMagic (number_in order) magic behind header → DeclaresSize xs header.total_size
+  pub header_declares : (header : JitDumpHeader) → IsHeaderAfterMagic (number_in endian) magic rest header → DeclaresSize xs header.total_size
   header_declares header is = record {
-    endian = order;
-    magic = sym came ∙ one;
+    endian = endian;
+    magic = sym is_magic ∙ one;
     min_len = let enough = is.min_len in omega (arith, rest_long, enough);
     matches = ap (λ h. h.total_size) is.matches ∙ size_same;
   }
 
-  pub header_begins : (header : JitDumpHeader) → IsHeaderAfterMagic (number_in order) magic behind header → 40 ≤ header.total_size → BeginsWithJitHeader xs header
+  pub header_begins : (header : JitDumpHeader) → IsHeaderAfterMagic (number_in endian) magic rest header → 40 ≤ header.total_size → BeginsWithJitHeader xs header
   header_begins header is least = record {
-    endian = order;
+    endian = endian;
     matches = record {
       magic = ap (λ h. h.magic) is.matches ∙ one;
       min_len = let enough = is.min_len in omega (arith, rest_long, enough);
-      matches = is.matches ∙ (λ i. header_after_magic (number_in order) (came i) (left i));
+      matches = is.matches ∙ (λ i. header_after_magic (number_in endian) (is_magic i) (is_rest i));
       min_size = least;
       complete = let there = is.complete in let size = ap (λ h. h.total_size) is.matches in omega (arith, rest_long, there, size);
     };
   }
 
-  pub header_missing : (e : Error) → IsTruncatedAfterMagic (number_in order) behind e → HasTruncatedFixedPart xs ⊎ HasTruncatedHeader xs
+  pub header_missing : (e : Error) → IsTruncatedAfterMagic (number_in endian) rest e → HasTruncatedFixedPart xs ⊎ HasTruncatedHeader xs
   header_missing e cut = elim cut.cause [
-    | inl few ↦ inl (record { endian = order; magic = sym came ∙ one; too_few = omega (arith, rest_long, few) })
+    | inl few ↦ inl (record { endian = endian; magic = sym is_magic ∙ one; too_few = omega (arith, rest_long, few) })
     | inr whole ↦
         let enough = whole.0 in
         let more = whole.1 in
         inr (record {
-          size = size_after_magic (number_in order) (drop 4 xs);
-          declares_size = record { endian = order; magic = sym came ∙ one; min_len = omega (arith, rest_long, enough); matches = refl };
+          size = size_after_magic (number_in endian) (drop 4 xs);
+          declares_size = record { endian = endian; magic = sym is_magic ∙ one; min_len = omega (arith, rest_long, enough); matches = refl };
           min_size = omega (arith, size_same, more, enough);
           too_few = omega (arith, size_same, more, rest_long);
         })
   ]
 
 -- bytes after a header don't change its parsed form
-pub header_longer : (order : Endianness) (front rest : List ℕ) (header : JitDumpHeader) → IsJitHeader order front header → IsJitHeader order (front ++ rest) header
-header_longer order front rest header is =
-    let number = number_in order in
+pub header_longer : (endian : Endianness) (prefix rest : List ℕ) (header : JitDumpHeader) → IsJitHeader endian prefix header → IsJitHeader endian (prefix ++ rest) header
+header_longer endian prefix rest header is =
+    let number = number_in endian in
     let long = is.min_len in
     let there = is.complete in
-    let room : 36 ≤ length (drop 4 front) = omega (arith, length-drop 4 front) in
-    let cut = drop-append-le 4 front rest (omega arith) in
-    let same : (n k : ℕ) → k + n ≤ 36 → number n (drop k (drop 4 (front ++ rest))) ≡ number n (drop k (drop 4 front)) =
-    λ n k within. ap (λ l. number n (drop k l)) cut ∙ number_drop_front order n k (drop 4 front) rest (omega (arith, room, within))
+    let room : 36 ≤ length (drop 4 prefix) = omega (arith, length-drop 4 prefix) in
+    let cut = drop-append-le 4 prefix rest (omega arith) in
+    let same : (n k : ℕ) → k + n ≤ 36 → number n (drop k (drop 4 (prefix ++ rest))) ≡ number n (drop k (drop 4 prefix)) =
+    λ n k within. ap (λ l. number n (drop k l)) cut ∙ number_drop_front endian n k (drop 4 prefix) rest (omega (arith, room, within))
     in
-    let magic = take-append-le 4 front rest (omega arith) in
+    let magic = take-append-le 4 prefix rest (omega arith) in
     let version = same 4 0 (omega arith) in
     let size = same 4 4 (omega arith) in
     let machine = same 4 8 (omega arith) in
@@ -91,8 +92,23 @@ header_longer order front rest header is =
     let flags = same 8 28 (omega arith) in
     record {
       magic = is.magic;
-      min_len = omega (arith, length-append front rest);
+      min_len = omega (arith, length-append prefix rest);
       matches = is.matches ∙ sym (λ i. record { magic = magic i; version = version i; total_size = size i; elf_machine_arch = machine i; pid = process i; timestamp = time i; flags = flags i });
       min_size = is.min_size;
-      complete = omega (arith, length-append front rest);
+      complete = omega (arith, length-append prefix rest);
     }
+
+-- the first byte of the magic determines the byte order
+pub little_endian_by : (magic : List ℕ) → slice_index magic 0 ≡ 68 → IsEndianOfMagic magic LittleEndian
+little_endian_by magic first = record { of_magic = go; little_endian = λ _. refl; big_endian = λ other. absurd (other first) }
+  where
+    go : (endian : Endianness) → magic ≡ jit_magic_of endian → LittleEndian ≡ endian
+    go LittleEndian is = refl
+    go BigEndian is = (let other : slice_index magic 0 ≡ 74 = ap (λ l. slice_index l 0) is in absurd (omega (arith, other, first)))
+
+pub big_endian_by : (magic : List ℕ) → slice_index magic 0 ≢ 68 → IsEndianOfMagic magic BigEndian
+big_endian_by magic other = record { of_magic = go; little_endian = λ first. absurd (other first); big_endian = λ _. refl }
+  where
+    go : (endian : Endianness) → magic ≡ jit_magic_of endian → BigEndian ≡ endian
+    go LittleEndian is = absurd (other (ap (λ l. slice_index l 0) is))
+    go BigEndian is = refl

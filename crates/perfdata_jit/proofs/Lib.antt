@@ -7,6 +7,7 @@ pub mod KeptBytes
 pub mod Lookups
 pub mod CodeOffsets
 pub mod BufferRanges
+pub mod Contiguous
 pub mod Traces
 pub mod Seeks
 pub mod Steps

@@ -22,7 +22,7 @@ module _ (entries : List JitCodeDebugInfoEntry) (address above : ℕ) (point : I
         is_entry = (above - 1, here, sym is);
         at_most_address = subst (λ e. e.code_addr ≤ address) (sym is) (leb-true _ _ (point.0 (above - 1) found (omega arith) last));
         greatest = λ k d there low. elim (cases_lt (above - 1) k) [
-          | inl behind ↦ absurd (let high = leb-false _ _ (point.1 k d (omega (arith, behind, some)) there) in omega (arith, high, low))
+          | inl later ↦ absurd (let high = leb-false _ _ (point.1 k d (omega (arith, later, some)) there) in omega (arith, high, low))
           | inr front ↦
               let le = up k (above - 1) found front here in
               let same = slice_index_default entries k d found there in

@@ -6,23 +6,23 @@ use Rattle.perfdata_jit.specs.RingFilling.{RingFilled, FillsRing}
 use Rattle.std.specs.Prelude.{Result, Ok, Err}
 
 -- a read into the buffer range after the buffered bytes
-pub read_after : (old new : State) (place before after came : List ℕ) (n : ℕ) → ReadInto old place n new → take n place ≡ came → after ≡ before ++ came
+pub read_after : (old new : State) (buf before after read_bytes : List ℕ) (n : ℕ) → ReadInto old buf n new → take n buf ≡ read_bytes → after ≡ before ++ read_bytes
     → RingFilled old before n after new
-read_after old new place before after came n read is holds = record {
-  consumed_bytes = came;
-  exact_len = ap length (sym is) ∙ length-take-le n place read.within;
+read_after old new buf before after read_bytes n read is holds = record {
+  consumed_bytes = read_bytes;
+  exact_len = ap length (sym is) ∙ length-take-le n buf read.within;
   consumes = subst (λ l. Consumed old l new) is read.consumes;
   buffer_content = holds;
   if_empty = read.if_empty;
 }
 
 -- a prefix of the buffered bytes is unchanged
-pub fills_after : {E : Type 0} (old new : State) (front before after : List ℕ) (r : Result ℕ E) → FillsRing old before r after new → FillsRing old (front ++ before) r (front ++ after) new
-fills_after old new front before after (Ok n) f = record {
+pub fills_after : {E : Type 0} (old new : State) (prefix before after : List ℕ) (r : Result ℕ E) → FillsRing old before r after new → FillsRing old (prefix ++ before) r (prefix ++ after) new
+fills_after old new prefix before after (Ok n) f = record {
   consumed_bytes = f.consumed_bytes;
   exact_len = f.exact_len;
   consumes = f.consumes;
-  buffer_content = ap (λ l. front ++ l) f.buffer_content ∙ sym (append_assoc front before f.consumed_bytes);
+  buffer_content = ap (λ l. prefix ++ l) f.buffer_content ∙ sym (append_assoc prefix before f.consumed_bytes);
   if_empty = f.if_empty;
 }
-fills_after old new front before after (Err e) f = record { consumes = f.consumes; buffer_content = ap (λ l. front ++ l) f.buffer_content; source_failed = f.source_failed }
+fills_after old new prefix before after (Err e) f = record { consumes = f.consumes; buffer_content = ap (λ l. prefix ++ l) f.buffer_content; source_failed = f.source_failed }

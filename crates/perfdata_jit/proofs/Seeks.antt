@@ -13,14 +13,14 @@ pub position_same : (a b : State) → AfterSeek a b → SameSource a b
 position_same a b stood = record { all = stood.all_bytes; steady = λ h. (stood.steady h).steady }
 
 -- this also holds for seeks after bytes were consumed
-pub same_after : (a b c : State) (front : List ℕ) → Consumed a front b → SameSource b c → SameSource a c
-same_after a b c front gave same = record { all = same.all ∙ consumed_all a b front gave; steady = λ h. same.steady (gave.steady h).steady }
+pub same_after : (a b c : State) (prefix : List ℕ) → Consumed a prefix b → SameSource b c → SameSource a c
+same_after a b c prefix consumes same = record { all = same.all ∙ consumed_all a b prefix consumes; steady = λ h. same.steady (consumes.steady h).steady }
 
 three_stood : (s a b t : State) → AfterSeek s a → AfterSeek a b → AfterSeek b t → SameSource s t
 three_stood s a b t x y z = position_same s t (after_seek_more s b t (after_seek_more s a b x y) z)
 
 -- three seeks skip `count` bytes, by the source's positions, of which this is the one before them
-passed_from : (place : Option Position) (s a b t : State) (here end count to : ℕ) → s.position ≡ place → RemainsFromPosition s → SeekSucceeded s (Current (pos 0)) here a → SeekSucceeded a (End (pos 0)) end b → SeekSucceeded b (Start (here + count)) to t → here ≤ end → count ≤ end - here → SameCounts s t
+passed_from : (position : Option Position) (s a b t : State) (here end count to : ℕ) → s.position ≡ position → RemainsFromPosition s → SeekSucceeded s (Current (pos 0)) here a → SeekSucceeded a (End (pos 0)) end b → SeekSucceeded b (Start (here + count)) to t → here ≤ end → count ≤ end - here → SameCounts s t
     → SkippedBySeek s count t
 passed_from None s a b t here end count to is placed x y z le fits counts = record {
   bytes = replicate count 0;

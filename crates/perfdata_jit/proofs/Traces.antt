@@ -17,23 +17,23 @@ module _ {R : Type 0} (state : R → State) where
   record Kept (old new : JitDumpReader R) : Type 0 where
     flat : jit_unread_bytes state old ≡ jit_unread_bytes state new
     offset : jit_offset new ≡ jit_offset old
-    order : jit_endian new ≡ jit_endian old
+    same_endian : jit_endian new ≡ jit_endian old
     found : jit_seek_failed old ≡ false
 
   kept_by : (old new : JitDumpReader R) → KeepsPosition state old new → Kept old new
-  kept_by old new s = record { flat = s.unread_bytes; offset = s.offset; order = s.same_setup.same_endian; found = s.seek_ok_before }
+  kept_by old new s = record { flat = s.unread_bytes; offset = s.offset; same_endian = s.same_setup.same_endian; found = s.seek_ok_before }
 
   kept_lost : {A : Type 0} (old new : JitDumpReader R) → jit_seek_failed old ≡ true → new ≡ old → jit_seek_failed new ≡ false → A
   kept_lost old new gone same found = let back : jit_seek_failed new ≡ jit_seek_failed old = ap (λ j. jit_seek_failed j) same in absurd cc
 
-  kept_head : (old new : JitDumpReader R) (told : Result (Option JitDumpRecordHeader) Error) → ReturnsHeader state (λ head. head) old told new → jit_seek_failed new ≡ false → Kept old new
-  kept_head old new (Ok (Some head)) h found = kept_by old new h.keeps_position
+  kept_head : (old new : JitDumpReader R) (result : Result (Option JitDumpRecordHeader) Error) → ReturnsHeader state (λ header. header) old result new → jit_seek_failed new ≡ false → Kept old new
+  kept_head old new (Ok (Some record_header)) h found = kept_by old new h.keeps_position
   kept_head old new (Ok None) h found = kept_by old new h.keeps_position
-  kept_head old new (Err e) h found = elim h [ inl refused ↦ kept_by old new refused.keeps_position | inr lost ↦ kept_lost old new lost.seek_failed lost.unchanged found ]
+  kept_head old new (Err e) h found = elim h [ inl error ↦ kept_by old new error.keeps_position | inr lost ↦ kept_lost old new lost.seek_failed lost.unchanged found ]
 
   kept : (old new : JitDumpReader R) → MakesNoProgress state old new → jit_seek_failed new ≡ false → Kept old new
   kept old new call found = elim call [
-    | inl head ↦ kept_head old new head.0 head.1 found
+    | inl header ↦ kept_head old new header.0 header.1 found
     | inr rest ↦ elim rest [
       | inl waits ↦ kept_by old new waits.keeps_position
       | inr rest2 ↦ elim rest2 [
@@ -44,10 +44,10 @@ module _ {R : Type 0} (state : R → State) where
         | inr rest3 ↦ elim rest3 [
           | inl skips ↦ elim skips [
             | inl lacks ↦ kept_by old new lacks.keeps_position
-            | inr stands ↦ record { flat = stands.unread_bytes; offset = stands.offset; order = stands.same_setup.same_endian; found = stands.seek_ok_before }
+            | inr stands ↦ record { flat = stands.unread_bytes; offset = stands.offset; same_endian = stands.same_setup.same_endian; found = stands.seek_ok_before }
           ]
           | inr fails ↦ elim fails.1 [
-            | inl refused ↦ elim refused [ inl size ↦ kept_by old new size.keeps_position | inr head ↦ kept_by old new head.keeps_position ]
+            | inl error ↦ elim error [ inl size ↦ kept_by old new size.keeps_position | inr header ↦ kept_by old new header.keeps_position ]
             | inr other ↦ elim other [ inl loses ↦ (let gone = loses.seek_failed_after in absurd cc) | inr lost ↦ kept_lost old new lost.seek_failed lost.unchanged found ]
           ]
         ]
@@ -76,10 +76,10 @@ module _ {R : Type 0} (state : R → State) where
       let i = rest.0 in (
         record {
           unread_bytes = k.flat ∙ i.unread_bytes;
-          elements = subst (λ o. AreRecords o (jit_offset old) (consumed_records more)) k.order (subst (λ n. AreRecords (jit_endian run.0) n (consumed_records more)) k.offset i.elements);
-          returned_in_order = subst (λ o. AreReturned o (jit_offset old) more) k.order (subst (λ n. AreReturned (jit_endian run.0) n more) k.offset i.returned_in_order);
+          elements = subst (λ o. AreRecords o (jit_offset old) (consumed_records more)) k.same_endian (subst (λ n. AreRecords (jit_endian run.0) n (consumed_records more)) k.offset i.elements);
+          returned_in_order = subst (λ o. AreReturned o (jit_offset old) more) k.same_endian (subst (λ n. AreReturned (jit_endian run.0) n more) k.offset i.returned_in_order);
           offset = i.offset ∙ ap (λ n. n + length (concat (consumed_records more))) k.offset;
-          same_endian = i.same_endian ∙ k.order;
+          same_endian = i.same_endian ∙ k.same_endian;
         },
         k.found,
       )
@@ -90,13 +90,13 @@ module _ {R : Type 0} (state : R → State) where
       let i = rest.0 in
       let flat : jit_unread_bytes state old ≡ prepend bytes (jit_unread_bytes state mid) = p.unread_bytes ∙ ap (λ l. prepend l (jit_unread_bytes state mid)) run.1.1 in
       let offset : jit_offset mid ≡ jit_offset old + length bytes = p.offset ∙ ap (λ l. jit_offset old + length l) run.1.1 in
-      let order = p.same_setup.same_endian in (
+      let same_endian = p.same_setup.same_endian in (
         record {
           unread_bytes = taken_more old mid new bytes more flat i;
-          elements = (subst (IsOneRecord (jit_endian old) (jit_offset old)) run.1.1 p.record_bytes_valid, subst (λ o. AreRecords o (jit_offset old + length bytes) (consumed_records more)) order (subst (λ n. AreRecords (jit_endian mid) n (consumed_records more)) offset i.elements));
-          returned_in_order = subst (λ o. AreReturned o (jit_offset old + length bytes) more) order (subst (λ n. AreReturned (jit_endian mid) n more) offset i.returned_in_order);
+          elements = (subst (IsOneRecord (jit_endian old) (jit_offset old)) run.1.1 p.record_bytes_valid, subst (λ o. AreRecords o (jit_offset old + length bytes) (consumed_records more)) same_endian (subst (λ n. AreRecords (jit_endian mid) n (consumed_records more)) offset i.elements));
+          returned_in_order = subst (λ o. AreReturned o (jit_offset old + length bytes) more) same_endian (subst (λ n. AreReturned (jit_endian mid) n more) offset i.returned_in_order);
           offset = omega (arith, i.offset, offset, length-append bytes (concat (consumed_records more)));
-          same_endian = i.same_endian ∙ order;
+          same_endian = i.same_endian ∙ same_endian;
         },
         p.seek_ok_before,
       )
@@ -107,13 +107,13 @@ module _ {R : Type 0} (state : R → State) where
       let i = rest.0 in
       let flat : jit_unread_bytes state old ≡ prepend bytes (jit_unread_bytes state mid) = h.unread_bytes ∙ ap (λ l. prepend l (jit_unread_bytes state mid)) run.1.1 in
       let offset : jit_offset mid ≡ jit_offset old + length bytes = h.offset ∙ ap (λ l. jit_offset old + length l) run.1.1 in
-      let order = h.same_setup.same_endian in (
+      let same_endian = h.same_setup.same_endian in (
         record {
           unread_bytes = taken_more old mid new bytes more flat i;
-          elements = (subst (IsOneRecord (jit_endian old) (jit_offset old)) run.1.1 h.matches.record_bytes_valid, subst (λ o. AreRecords o (jit_offset old + length bytes) (consumed_records more)) order (subst (λ n. AreRecords (jit_endian mid) n (consumed_records more)) offset i.elements));
-          returned_in_order = (subst (λ l. IsRecordOf (jit_endian old) (jit_offset old) l r) run.1.1 h.matches, subst (λ o. AreReturned o (jit_offset old + length bytes) more) order (subst (λ n. AreReturned (jit_endian mid) n more) offset i.returned_in_order));
+          elements = (subst (IsOneRecord (jit_endian old) (jit_offset old)) run.1.1 h.matches.record_bytes_valid, subst (λ o. AreRecords o (jit_offset old + length bytes) (consumed_records more)) same_endian (subst (λ n. AreRecords (jit_endian mid) n (consumed_records more)) offset i.elements));
+          returned_in_order = (subst (λ l. IsRecordOf (jit_endian old) (jit_offset old) l r) run.1.1 h.matches, subst (λ o. AreReturned o (jit_offset old + length bytes) more) same_endian (subst (λ n. AreReturned (jit_endian mid) n more) offset i.returned_in_order));
           offset = omega (arith, i.offset, offset, length-append bytes (concat (consumed_records more)));
-          same_endian = i.same_endian ∙ order;
+          same_endian = i.same_endian ∙ same_endian;
         },
         h.seek_ok_before,
       )

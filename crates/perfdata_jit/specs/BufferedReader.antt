@@ -1,12 +1,12 @@
 -- The state of a `BufferedReader`, and what its calls do.
-use Rattle.std.specs.Prelude.{◌≡◌, ℕ, ◌+◌, ◌<◌, ◌≤◌, ◌⊎◌, IsTrue, Bool, true, false, List, ◌++◌, length, drop, IfSome, Option, None, Some, Result, Ok, Err}
+use Rattle.std.specs.Prelude.{◌≡◌, ℕ, ◌+◌, ◌-◌, ◌<◌, ◌≤◌, ◌⊎◌, IsTrue, Bool, true, false, List, ◌++◌, length, drop, IfSome, Option, None, Some, Result, Ok, Err}
 use Rattle.std.specs.IoError.{error_kind}
 use Rattle.std.specs.declared.io.Error.{Error}
 use Rattle.std.specs.declared.io.ErrorKind.TheVariants.{Other, OutOfMemory}
 use Rattle.perfdata_base.specs.Raw.{bytes_of}
 use Rattle.perfdata_base.specs.declared.raw.RawData.{RawData}
 use Rattle.perfdata_base.specs.Source.{State, all_bytes_of, prepend, Consumed, EndedOrPaused, SourceFailed}
-use Rattle.perfdata_jit.specs.ReadBuffer.{read_buffer_bytes, IsOverflowConsumed, overflow_len, overflow_capacity, ring_capacity}
+use Rattle.perfdata_jit.specs.ReadBuffer.{read_buffer_bytes, IsContiguous, IsOverflowConsumed, overflow_len, overflow_capacity, ring_capacity}
 use Rattle.perfdata_jit.specs.declared.buffered_reader.BufferedReader.{BufferedReader}
 
 -- the source
@@ -20,10 +20,6 @@ buffered_in r = read_buffer_bytes r.buffer
 -- the length of the overflow buffer
 abbrev pub overflow_len_of : {R : Type 0} → BufferedReader R → ℕ
 overflow_len_of r = overflow_len r.buffer
-
--- all bytes of the overflow buffer are consumed
-abbrev pub IsReaderOverflowConsumed : {R : Type 0} → BufferedReader R → Type 0
-IsReaderOverflowConsumed r = IsOverflowConsumed r.buffer
 
 -- the capacity of the overflow buffer
 abbrev pub overflow_capacity_of : {R : Type 0} → BufferedReader R → ℕ
@@ -86,11 +82,12 @@ module _ {R : Type 0} (state : R → State) where
     pub no_allocation_if_fits : n ≤ ring_capacity_of old → overflow_capacity_of new ≡ overflow_capacity_of old
     pub source_unchanged : n ≤ length (buffered_in old) → source_of new ≡ source_of old
 
-  -- n bytes are buffered, and the source wasn't read after that, since it counted nothing; if they were buffered before, no
-  -- byte was read
+  -- n bytes are buffered, and the source wasn't read after that, since it counted nothing; if they were buffered before,
+  -- nothing changed
   pub record BufferedEnough (n : ℕ) (old new : BufferedReader R) : Type 0 where
     pub keeps_bytes : KeepsBytes old new
     pub reads_only_needed : ReadsOnlyFor n old new
+    pub unchanged : n ≤ length (buffered_in old) → new ≡ old
     pub buffer_unchanged : n ≤ length (buffered_in old) → buffered_in new ≡ buffered_in old
     pub is_buffered : n ≤ length (buffered_in new)
     pub same_counts : SameCounts (reader_source_state old) (reader_source_state new)
@@ -125,7 +122,8 @@ module _ {R : Type 0} (state : R → State) where
     pub buffered_bytes : buffered_in new ≡ drop n (buffered_in old)
     pub source : source_of new ≡ source_of old
     pub overflow_size : overflow_len_of new ≡ overflow_len_of old
-    pub overflow_consumed : overflow_len_of old ≤ n → IsReaderOverflowConsumed new
+    pub overflow_consumed : overflow_len_of old ≤ n → IsOverflowConsumed new.buffer
+    pub keeps_contiguous : (m : ℕ) → n ≤ m → IsContiguous m old.buffer → IsContiguous (m - n) new.buffer
     pub overflow_capacity : overflow_capacity_of new ≡ overflow_capacity_of old
     pub ring_capacity : ring_capacity_of new ≡ ring_capacity_of old
     pub seek_state_kept : has_seek_failed new ≡ has_seek_failed old
@@ -140,7 +138,8 @@ module _ {R : Type 0} (state : R → State) where
     pub buffer_content : buffered_in old ++ consumed_bytes ≡ part ++ buffered_in new
     pub if_buffered : n ≤ length (buffered_in old) → buffered_in old ≡ part ++ buffered_in new
     pub reads_only_needed : ReadsOnlyFor n old new
-    pub overflow_consumed : length (buffered_in old) < n → IsReaderOverflowConsumed new
+    pub overflow_consumed : length (buffered_in old) < n → IsOverflowConsumed new.buffer
+    pub keeps_contiguous : (m : ℕ) → n ≤ m → IsContiguous m old.buffer → IsContiguous (m - n) new.buffer
     pub same_counts : SameCounts (reader_source_state old) (reader_source_state new)
     pub ring_capacity : ring_capacity_of new ≡ ring_capacity_of old
     pub seek_ok_before : has_seek_failed old ≡ false
@@ -163,13 +162,13 @@ module _ {R : Type 0} (state : R → State) where
   ConsumesData n old (Err e) new = ConsumeError n old e new ⊎ FailsAfterSeekError (has_seek_failed old) old e new
 
   -- the next sixteen bytes are copied and consumed; if they weren't buffered before, the overflow buffer is empty
-  pub record HeaderConsumed (old : BufferedReader R) (head : List ℕ) (new : BufferedReader R) : Type 0 where
-    pub consumes : PartConsumed 16 old head new
+  pub record HeaderConsumed (old : BufferedReader R) (header : List ℕ) (new : BufferedReader R) : Type 0 where
+    pub consumes : PartConsumed 16 old header new
     pub overflow_empty : length (buffered_in old) < 16 → overflow_len_of new ≡ 0
 
   -- what a call for a copy of the next sixteen bytes does
   abbrev pub ConsumesHeader : BufferedReader R → Result (Option (List ℕ)) Error → BufferedReader R → Type 0
-  ConsumesHeader old (Ok (Some head)) new = HeaderConsumed old head new
+  ConsumesHeader old (Ok (Some header)) new = HeaderConsumed old header new
   ConsumesHeader old (Ok None) new = PartNotReady 16 old new
   ConsumesHeader old (Err e) new = ConsumeError 16 old e new ⊎ FailsAfterSeekError (has_seek_failed old) old e new
 

@@ -1,24 +1,27 @@
 -- The state of a `JitDumpReader`, and what its calls do.
-use Rattle.std.specs.Prelude.{◌≡◌, ℕ, ◌+◌, ◌-◌, ◌<◌, ◌≤◌, ◌⊎◌, Bool, true, false, List, [], ◌++◌, length, take, drop, Option, None, Some, Result, Ok, Err}
+use Rattle.std.specs.Prelude.{◌≡◌, ℕ, ◌+◌, ◌-◌, ◌<◌, ◌≤◌, ◌⊎◌, Bool, true, false, IsTrue, IfSome, List, [], ◌++◌, length, take, drop, Option, None, Some, Result, Ok, Err}
 use Rattle.std.specs.IoError.{error_kind}
 use Rattle.std.specs.declared.io.Error.{Error}
 use Rattle.std.specs.declared.io.ErrorKind.TheVariants.{InvalidData, OutOfMemory}
 use Rattle.perfdata_base.specs.Source.{State, prepend, Consumed, EndedOrPaused, SourceFailed}
+use Rattle.perfdata_base.specs.Raw.{IsSingle}
 use Rattle.perfdata_base.specs.declared.raw.Endianness.{Endianness}
 use Rattle.perfdata_jit.specs.RecordBytes.{record_header_at, record_size_at, HasInvalidSize, IsTruncatedRecord, HasNoWholeRecord, HasWholeRecord, IsOneRecord, IsRecordOf}
 use Rattle.perfdata_jit.specs.BufferedReader.{SameCounts, SameSource, FailsAfterSeekError, IsOverflowAllocError, buffered_in, unread_bytes, overflow_len_of, ring_capacity_of, source_of, has_seek_failed}
+use Rattle.perfdata_jit.specs.ReadBuffer.{IsContiguous}
 use Rattle.perfdata_jit.specs.JitHeader.{IsJitHeader, IsJitHeaderError}
 use Rattle.perfdata_jit.specs.declared.error.JitDumpError.{JitDumpError}
 use Rattle.perfdata_jit.specs.declared.error.JitDumpError.TheVariants.{Io}
 use Rattle.perfdata_jit.specs.declared.header.JitDumpHeader.{JitDumpHeader}
 use Rattle.perfdata_jit.specs.declared.record.JitDumpRecordHeader.{JitDumpRecordHeader}
 use Rattle.perfdata_jit.specs.declared.record.JitDumpRawRecord.{JitDumpRawRecord}
+use Rattle.perfdata_jit.specs.declared.read_buffer.ReadBuffer.{ReadBuffer}
 use Rattle.perfdata_jit.specs.declared.jitdump_reader.JitDumpReader.{JitDumpReader}
 
 -- the bytes of the pending header, if there is one
 abbrev pub pending_header_bytes : Option (List ℕ) → List ℕ
 pending_header_bytes None = []
-pending_header_bytes (Some head) = head
+pending_header_bytes (Some header) = header
 
 -- the file header
 abbrev pub jit_header : {R : Type 0} → JitDumpReader R → JitDumpHeader
@@ -40,6 +43,15 @@ jit_source j = source_of j.reader
 abbrev pub jit_buffered : {R : Type 0} → JitDumpReader R → List ℕ
 jit_buffered j = pending_header_bytes j.pending_header ++ buffered_in j.reader
 
+-- the body of a record of n bytes is in one piece, after the pending header or after the first sixteen buffered bytes
+abbrev pub contiguous_after_header : Option (List ℕ) → ℕ → ReadBuffer → Type 0
+contiguous_after_header None n h = IsContiguous n h
+contiguous_after_header (Some _) n h = IsContiguous (n - 16) h
+
+-- the body of the next record, if that has n bytes, is buffered in one piece
+abbrev pub IsBodyContiguous : {R : Type 0} → ℕ → JitDumpReader R → Type 0
+IsBodyContiguous n j = contiguous_after_header j.pending_header n j.reader.buffer
+
 -- the length of the overflow buffer
 abbrev pub jit_overflow : {R : Type 0} → JitDumpReader R → ℕ
 jit_overflow j = overflow_len_of j.reader
@@ -54,27 +66,27 @@ jit_seek_failed j = has_seek_failed j.reader
 
 -- If fewer than `end` bytes were buffered, the source was read, and the overflow buffer is shorter than the part. Otherwise
 -- the overflow buffer doesn't grow. It doesn't grow either if the part fits in the ring.
-pub record ReadsFor (size part end held before after : ℕ) : Type 0 where
-  pub overflow_bound : held < end → after < part
-  pub no_growth_if_buffered : end ≤ held → after ≤ before
+pub record ReadsFor (size part end buffered before after : ℕ) : Type 0 where
+  pub overflow_bound : buffered < end → after < part
+  pub no_growth_if_buffered : end ≤ buffered → after ≤ before
   pub no_growth_if_fits : part ≤ size → after ≤ before
 
 -- If the record header wasn't buffered, the source was read for it, and the overflow buffer was empty afterwards. If the
 -- body wasn't buffered then, the source was read for it. If the record header was buffered, no byte was read before the
 -- body.
-pub record ReadsForHeaderAndBody (size body held all before after : ℕ) : Type 0 where
+pub record ReadsForHeaderAndBody (size body buffered all before after : ℕ) : Type 0 where
   pub buffered_after_header : ℕ
-  pub buffer_unchanged : 16 ≤ held → buffered_after_header ≡ held
-  pub not_fewer : held ≤ buffered_after_header
+  pub buffer_unchanged : 16 ≤ buffered → buffered_after_header ≡ buffered
+  pub not_fewer : buffered ≤ buffered_after_header
   pub at_most_all : buffered_after_header ≤ all
   pub overflow_between : ℕ
-  pub header_read : ReadsFor size 16 16 held before overflow_between
-  pub overflow_empty : held < 16 → overflow_between ≡ 0
+  pub header_read : ReadsFor size 16 16 buffered before overflow_between
+  pub overflow_empty : buffered < 16 → overflow_between ≡ 0
   pub body_read : ReadsFor size body (16 + body) buffered_after_header overflow_between after
 
 -- the size of the next part to read: the record header if it isn't buffered, otherwise the body
 abbrev pub IsNextPart : Endianness → List ℕ → ℕ → Type 0
-IsNextPart order held part = ((part ≡ 16) × (length held < 16)) ⊎ ((part + 16 ≡ record_size_at order held) × (16 ≤ length held))
+IsNextPart endian buffered part = ((part ≡ 16) × (length buffered < 16)) ⊎ ((part + 16 ≡ record_size_at endian buffered) × (16 ≤ length buffered))
 
 -- the file header, the byte order and the ring's capacity are unchanged
 pub record SameSetup {R : Type 0} (old new : JitDumpReader R) : Type 0 where
@@ -122,12 +134,12 @@ module _ {R : Type 0} (state : R → State) where
 
   -- the header of the next record is returned, and the record remains the next one; if the header wasn't buffered before,
   -- the overflow buffer is empty
-  pub record HeaderReturned {A : Type 0} (pick : JitDumpRecordHeader → A) (old : JitDumpReader R) (told : A) (new : JitDumpReader R) : Type 0 where
+  pub record HeaderReturned {A : Type 0} (pick : JitDumpRecordHeader → A) (old : JitDumpReader R) (value : A) (new : JitDumpReader R) : Type 0 where
     pub keeps_position : KeepsPosition old new
     pub reads_only_needed : ReadsForHeader old new
     pub overflow_empty : length (jit_buffered old) < 16 → jit_overflow new ≡ 0
     pub complete : 16 ≤ length (jit_buffered new)
-    pub matches : told ≡ pick (record_header_at (jit_endian old) (jit_buffered new))
+    pub matches : value ≡ pick (record_header_at (jit_endian old) (jit_buffered new))
     pub same_counts : SameCounts (jit_source_state old) (jit_source_state new)
 
   -- the next record header isn't available: one read was empty, and no read failed
@@ -150,14 +162,15 @@ module _ {R : Type 0} (state : R → State) where
 
   -- what a call for the next record header does
   abbrev pub ReturnsHeader : {A : Type 0} → (JitDumpRecordHeader → A) → JitDumpReader R → Result (Option A) Error → JitDumpReader R → Type 0
-  ReturnsHeader pick old (Ok (Some told)) new = HeaderReturned pick old told new
+  ReturnsHeader pick old (Ok (Some value)) new = HeaderReturned pick old value new
   ReturnsHeader pick old (Ok None) new = HeaderNotReady old new
   ReturnsHeader pick old (Err e) new = HeaderReadError old e new ⊎ FailsAfterSeekError (jit_seek_failed old) old e new
 
-  -- a record is returned: its bytes are the first of the unread bytes
+  -- a record is returned: its bytes are the first of the unread bytes; its body is in one slice if it was buffered in one piece
   pub record ReturnsJitRecord (old : JitDumpReader R) (r : JitDumpRawRecord) (new : JitDumpReader R) : Type 0 where
     pub bytes : List ℕ
     pub matches : IsRecordOf (jit_endian old) (jit_offset old) bytes r
+    pub single : IsBodyContiguous (length bytes) old → IsSingle r.body
     pub unread_bytes : jit_unread_bytes old ≡ prepend bytes (jit_unread_bytes new)
     pub offset : jit_offset new ≡ jit_offset old + length bytes
     pub consumed_bytes : List ℕ
@@ -222,12 +235,14 @@ module _ {R : Type 0} (state : R → State) where
     pub seek_ok_before : jit_seek_failed old ≡ false
     pub seek_ok_after : jit_seek_failed new ≡ false
 
-  -- The next record is not completely buffered, by the size in its buffered header, and remains the next one. If the header
-  -- wasn't buffered before, the overflow buffer is empty.
+  -- The next record is not completely buffered, by the size in its buffered header, and remains the next one. A steady source
+  -- doesn't contain the rest of it. If the header wasn't buffered before, the overflow buffer is empty.
   pub record RecordNotSkipped (old new : JitDumpReader R) : Type 0 where
     pub unread_bytes : jit_unread_bytes old ≡ jit_unread_bytes new
     pub offset : jit_offset new ≡ jit_offset old
     pub is_truncated : IsTruncatedRecord (jit_endian old) (jit_offset old) (jit_buffered new)
+    pub no_whole_record : HasNoWholeRecord (jit_endian old) (jit_offset old) (jit_buffered new)
+    pub none_if_steady : IsTrue (jit_source_state old).steady → IfSome (jit_unread_bytes old) (HasNoWholeRecord (jit_endian old) (jit_offset old))
     pub same_counts : SameCounts (jit_source_state old) (jit_source_state new)
     pub same_source : SameSource (jit_source_state old) (jit_source_state new)
     pub reads_for : ReadsFor (jit_ring_capacity old) 16 16 (length (jit_buffered old)) (jit_overflow old) (jit_overflow new)
@@ -258,13 +273,13 @@ module _ {R : Type 0} (state : R → State) where
 
   -- A prefix of the source's bytes was read. It is shorter than the buffer only if a read was empty. No read failed. If the
   -- buffer is full, no read was empty, otherwise at most one.
-  pub record ReadsPrefix (source : R) (size : ℕ) (front : List ℕ) (left : State) : Type 0 where
-    pub consumes : Consumed (state source) front left
-    pub within : length front ≤ size
-    pub if_incomplete : length front < size → EndedOrPaused (state source) left
-    pub errors : left.errors ≡ (state source).errors
-    pub pauses : length front ≡ size → left.pauses ≡ (state source).pauses
-    pub at_most_one_pause : left.pauses ≤ (state source).pauses + 1
+  pub record ReadsPrefix (source : R) (size : ℕ) (prefix_bytes : List ℕ) (after : State) : Type 0 where
+    pub consumes : Consumed (state source) prefix_bytes after
+    pub within : length prefix_bytes ≤ size
+    pub if_incomplete : length prefix_bytes < size → EndedOrPaused (state source) after
+    pub errors : after.errors ≡ (state source).errors
+    pub pauses : length prefix_bytes ≡ size → after.pauses ≡ (state source).pauses
+    pub at_most_one_pause : after.pauses ≤ (state source).pauses + 1
 
   -- the file is opened: its header is parsed from the source's first bytes, and the unread bytes are those after the header
   pub record ReaderOpened (source : R) (size : ℕ) (j : JitDumpReader R) : Type 0 where
@@ -282,5 +297,5 @@ module _ {R : Type 0} (state : R → State) where
   -- was empty.
   abbrev pub OpensReader : R → ℕ → Result (JitDumpReader R) JitDumpError → Type 0
   OpensReader source size (Ok j) = ReaderOpened source size j
-  OpensReader source size (Err (Io e)) = (error_kind e ≡ OutOfMemory) ⊎ ((left : State) × SourceFailed (state source) left × (left.pauses ≡ (state source).pauses))
-  OpensReader source size (Err e) = (front : List ℕ) × ((left : State) × ReadsPrefix source size front left × IsJitHeaderError front e)
+  OpensReader source size (Err (Io e)) = (error_kind e ≡ OutOfMemory) ⊎ ((after : State) × SourceFailed (state source) after × (after.pauses ≡ (state source).pauses))
+  OpensReader source size (Err e) = (prefix_bytes : List ℕ) × ((after : State) × ReadsPrefix source size prefix_bytes after × IsJitHeaderError prefix_bytes e)

@@ -1,7 +1,7 @@
 -- The parsed form of a jitdump's file header (Linux's jitdump specification): a magic of four bytes, which determines the
 -- byte order; version, size of the whole header, machine, padding and pid of four bytes each; timestamp and flags of eight
 -- bytes each. Bytes of a longer header after these forty have no defined meaning.
-use Rattle.std.specs.Prelude.{◌≡◌, ◌≢◌, ℕ, ◌+◌, ◌<◌, ◌≤◌, ◌⊎◌, List, [], ◌∷◌, length, take, drop}
+use Rattle.std.specs.Prelude.{◌≡◌, ◌≢◌, ℕ, ◌+◌, ◌<◌, ◌≤◌, ◌⊎◌, List, [], ◌∷◌, length, take, drop, slice_index}
 use Rattle.std.specs.IoError.{error_kind}
 use Rattle.std.specs.declared.io.Error.{Error}
 use Rattle.std.specs.declared.io.ErrorKind.TheVariants.{UnexpectedEof}
@@ -19,7 +19,14 @@ jit_magic_of BigEndian = 74 ∷ 105 ∷ 84 ∷ 68 ∷ []
 
 -- the magic of no byte order
 abbrev pub IsUnknownMagic : List ℕ → Type 0
-IsUnknownMagic bytes = (order : Endianness) → bytes ≢ jit_magic_of order
+IsUnknownMagic bytes = (endian : Endianness) → bytes ≢ jit_magic_of endian
+
+-- the byte order by the first byte of a magic, which is that of a valid magic; a first byte other than `D` (68) is that of a
+-- big-endian file
+pub record IsEndianOfMagic (bytes : List ℕ) (endian : Endianness) : Type 0 where
+  pub of_magic : (order : Endianness) → bytes ≡ jit_magic_of order → endian ≡ order
+  pub little_endian : slice_index bytes 0 ≡ 68 → endian ≡ LittleEndian
+  pub big_endian : slice_index bytes 0 ≢ 68 → endian ≡ BigEndian
 
 module _ (number : ℕ → List ℕ → ℕ) where
   -- the size of the whole header, from the bytes after the magic
@@ -50,10 +57,10 @@ module _ (number : ℕ → List ℕ → ℕ) where
     pub kind : error_kind e ≡ UnexpectedEof
 
 -- the bytes start with this header, in this byte order, and are at least as many as its size
-pub record IsJitHeader (order : Endianness) (bytes : List ℕ) (header : JitDumpHeader) : Type 0 where
-  pub magic : header.magic ≡ jit_magic_of order
+pub record IsJitHeader (endian : Endianness) (bytes : List ℕ) (header : JitDumpHeader) : Type 0 where
+  pub magic : header.magic ≡ jit_magic_of endian
   pub min_len : 40 ≤ length bytes
-  pub matches : header ≡ header_after_magic (number_in order) (take 4 bytes) (drop 4 bytes)
+  pub matches : header ≡ header_after_magic (number_in endian) (take 4 bytes) (drop 4 bytes)
   pub min_size : 40 ≤ header.total_size
   pub complete : header.total_size ≤ length bytes
 

@@ -9,12 +9,12 @@ use Rattle.perfdata_jit.specs.declared.record.JitDumpRecord.{JitDumpRecord}
 use Rattle.perfdata_jit.specs.declared.record.JitDumpRecord.TheVariants.{CodeLoad, CodeMove, CodeDebugInfo, CodeClose, CodeUnwindingInfo, Other}
 
 -- a record of this type is returned unparsed
-pub record IsUnparsedJitType (kind : ℕ) : Type 0 where
-  pub no_load : kind ≢ 0
-  pub no_move : kind ≢ 1
-  pub no_debug_info : kind ≢ 2
-  pub no_close : kind ≢ 3
-  pub no_unwinding : kind ≢ 4
+pub record IsUnparsedJitType (record_type : ℕ) : Type 0 where
+  pub no_load : record_type ≢ 0
+  pub no_move : record_type ≢ 1
+  pub no_debug_info : record_type ≢ 2
+  pub no_close : record_type ≢ 3
+  pub no_unwinding : record_type ≢ 4
 
 module _ (number : ℕ → List ℕ → ℕ) where
   -- the record header from sixteen bytes: the type, the record's size including its header, and the timestamp

@@ -5,17 +5,12 @@ use Rattle.std.specs.List.{All, Contains}
 use Rattle.std.specs.IoError.{error_kind}
 use Rattle.std.specs.declared.io.Error.{Error}
 use Rattle.std.specs.declared.io.ErrorKind.TheVariants.{UnexpectedEof, OutOfMemory}
-use Rattle.perfdata_base.specs.Raw.{bytes_of, HasNoNul}
+use Rattle.perfdata_base.specs.Raw.{bytes_of, HasNoNul, SplitsAtNul}
 use Rattle.perfdata_jit.specs.declared.records.JitCodeLoadRecord.{JitCodeLoadRecord}
 use Rattle.perfdata_jit.specs.declared.records.JitCodeMoveRecord.{JitCodeMoveRecord}
 use Rattle.perfdata_jit.specs.declared.records.JitCodeDebugInfoRecord.{JitCodeDebugInfoRecord}
 use Rattle.perfdata_jit.specs.declared.records.JitCodeDebugInfoEntry.{JitCodeDebugInfoEntry}
 use Rattle.perfdata_jit.specs.declared.records.JitCodeUnwindingInfoRecord.{JitCodeUnwindingInfoRecord}
-
--- a NUL string at the start of the bytes, and the bytes after its NUL
-pub record IsNulText (bytes text rest : List ℕ) : Type 0 where
-  pub split : bytes ≡ text ++ (0 ∷ rest)
-  pub no_nul : HasNoNul text
 
 -- the entry at the start of the bytes is truncated: its sixteen bytes are, or no NUL ends its path
 abbrev pub IsTruncatedDebugEntry : List ℕ → Type 0
@@ -32,13 +27,13 @@ module _ (number : ℕ → List ℕ → ℕ) where
     pub index : load.code_index ≡ number 8 (drop 32 body)
     pub size : length (bytes_of load.code_bytes) ≡ number 8 (drop 24 body)
     pub after_body : List ℕ
-    pub name_text : IsNulText (drop 40 body) (bytes_of load.function_name) (bytes_of load.code_bytes ++ after_body)
+    pub name_text : SplitsAtNul (drop 40 body) (bytes_of load.function_name) (bytes_of load.code_bytes ++ after_body)
 
   -- the name is complete, and the code after it is truncated
   pub record IsTruncatedCode (body : List ℕ) : Type 0 where
     pub name : List ℕ
     pub after_body : List ℕ
-    pub name_text : IsNulText (drop 40 body) name after_body
+    pub name_text : SplitsAtNul (drop 40 body) name after_body
     pub too_few : length after_body < number 8 (drop 24 body)
 
   -- the body is no load record: the forty bytes or the code are truncated, or no NUL ends the name
@@ -64,12 +59,12 @@ module _ (number : ℕ → List ℕ → ℕ) where
     pub address : entry.code_addr ≡ number 8 bytes
     pub line_number : entry.line ≡ number 4 (drop 8 bytes)
     pub column_number : entry.column ≡ number 4 (drop 12 bytes)
-    pub path_text : IsNulText (drop 16 bytes) (bytes_of entry.file_path) rest
+    pub path_text : SplitsAtNul (drop 16 bytes) (bytes_of entry.file_path) rest
 
   -- the bytes are these consecutive entries, followed by the rest
   abbrev pub AreDebugEntries : List ℕ → List JitCodeDebugInfoEntry → List ℕ → Type 0
   AreDebugEntries bytes [] rest = rest ≡ bytes
-  AreDebugEntries bytes (entry ∷ entries) rest = (behind : List ℕ) × IsDebugEntry bytes entry behind × AreDebugEntries behind entries rest
+  AreDebugEntries bytes (entry ∷ entries) rest = (after_entry : List ℕ) × IsDebugEntry bytes entry after_entry × AreDebugEntries after_entry entries rest
 
   -- the source locations of code: its address and the number of entries of eight bytes each, and the entries
   pub record IsDebugInfo (body : List ℕ) (info : JitCodeDebugInfoRecord) : Type 0 where
@@ -122,15 +117,15 @@ module _ (number : ℕ → List ℕ → ℕ) where
 -- The code of a load record follows the name and its NUL, at this offset from the start of the record header of sixteen
 -- bytes.
 abbrev pub CodeIsAtOffset : Type 0
-CodeIsAtOffset = (number : ℕ → List ℕ → ℕ) (head body : List ℕ) (load : JitCodeLoadRecord) → length head ≡ 16 → IsLoad number body load
-    → (let place = 57 + length (bytes_of load.function_name) in slice_range (head ++ body) place (place + length (bytes_of load.code_bytes)) ≡ bytes_of load.code_bytes)
+CodeIsAtOffset = (number : ℕ → List ℕ → ℕ) (header body : List ℕ) (load : JitCodeLoadRecord) → length header ≡ 16 → IsLoad number body load
+    → (let offset = 57 + length (bytes_of load.function_name) in slice_range (header ++ body) offset (offset + length (bytes_of load.code_bytes)) ≡ bytes_of load.code_bytes)
 
 -- an entry with the greatest address that is not above this address
-pub record IsGreatestBelow (entries : List JitCodeDebugInfoEntry) (address : ℕ) (found : JitCodeDebugInfoEntry) : Type 0 where
-  pub is_entry : Contains entries found
-  pub at_most_address : found.code_addr ≤ address
-  pub greatest : All (λ other. other.code_addr ≤ address → other.code_addr ≤ found.code_addr) entries
+pub record IsGreatestBelow (entries : List JitCodeDebugInfoEntry) (address : ℕ) (entry : JitCodeDebugInfoEntry) : Type 0 where
+  pub is_entry : Contains entries entry
+  pub at_most_address : entry.code_addr ≤ address
+  pub greatest : All (λ other. other.code_addr ≤ address → other.code_addr ≤ entry.code_addr) entries
 
 -- the result is such an entry, or none if all addresses are above this address
 abbrev pub IsLookup : List JitCodeDebugInfoEntry → ℕ → Option JitCodeDebugInfoEntry → Type 0
-IsLookup entries address found = MatchOption found (All (λ other. address < other.code_addr) entries) (λ entry. IsGreatestBelow entries address entry)
+IsLookup entries address result = MatchOption result (All (λ other. address < other.code_addr) entries) (λ entry. IsGreatestBelow entries address entry)

@@ -1,6 +1,6 @@
 -- The bytes in the overflow buffer and the ring.
-use Rattle.std.specs.Prelude.{◌≡◌, ℕ, ◌<◌, ◌≤◌, List, ◌++◌, take, drop, slice_range, vec_len, vec_capacity}
-use Rattle.perfdata_jit.specs.Ring.{ring_bytes, ring_size}
+use Rattle.std.specs.Prelude.{◌≡◌, ℕ, ◌-◌, ◌<◌, ◌≤◌, ◌⊎◌, List, ◌++◌, take, drop, slice_range, vec_len, vec_capacity}
+use Rattle.perfdata_jit.specs.Ring.{DoesNotWrap, ring_bytes, ring_size}
 use Rattle.perfdata_jit.specs.declared.read_buffer.ReadBuffer.{ReadBuffer}
 use Rattle.perfdata_jit.specs.declared.read_buffer.Span.{Span}
 
@@ -20,6 +20,10 @@ overflow_capacity h = vec_capacity h.overflow
 abbrev pub IsOverflowConsumed : ReadBuffer → Type 0
 IsOverflowConsumed h = h.overflow_start ≡ overflow_len h
 
+-- the first n bytes are in one piece: in the overflow buffer, or in the ring without wrapping around its end
+abbrev pub IsContiguous : ℕ → ReadBuffer → Type 0
+IsContiguous n h = (n ≤ overflow_len h - h.overflow_start) ⊎ (IsOverflowConsumed h × DoesNotWrap n h.ring)
+
 -- the capacity of the ring
 abbrev pub ring_capacity : ReadBuffer → ℕ
 ring_capacity h = ring_size h.ring
@@ -32,6 +36,7 @@ pub record ConsumesPrefix (n : ℕ) (old new : ReadBuffer) : Type 0 where
   pub overflow_consumed : overflow_len old ≤ n → IsOverflowConsumed new
   pub overflow_capacity : overflow_capacity new ≡ overflow_capacity old
   pub ring_capacity : ring_capacity new ≡ ring_capacity old
+  pub keeps_contiguous : (m : ℕ) → n ≤ m → IsContiguous m old → IsContiguous (m - n) new
 
 -- the span is within the buffers, and at most two of its three ranges are nonempty
 pub record IsSpanWithin (h : ReadBuffer) (p : Span) : Type 0 where
@@ -41,6 +46,10 @@ pub record IsSpanWithin (h : ReadBuffer) (p : Span) : Type 0 where
   pub ring_within : p.ring_end ≤ ring_capacity h
   pub front_within : p.ring_front ≤ ring_capacity h
   pub two_pieces : 0 < p.ring_front → p.overflow_from ≡ p.overflow_to
+
+-- at most one of the three ranges is nonempty
+abbrev pub IsSpanSingle : Span → Type 0
+IsSpanSingle p = ((p.ring_start ≡ p.ring_end) × ((p.overflow_from ≡ p.overflow_to) ⊎ (p.ring_front ≡ 0))) ⊎ ((p.overflow_from ≡ p.overflow_to) × (p.ring_front ≡ 0))
 
 -- the bytes of a span
 abbrev pub span_bytes : ReadBuffer → Span → List ℕ

@@ -1,5 +1,5 @@
 -- The bytes of a ring.
-use Rattle.std.specs.Prelude.{ℕ, ◌+◌, ◌-◌, List, ◌++◌, take, slice_range, vec_len}
+use Rattle.std.specs.Prelude.{◌≡◌, ℕ, ◌+◌, ◌-◌, ◌≤◌, ◌⊎◌, List, ◌++◌, take, slice_range, vec_len}
 use Rattle.perfdata_jit.specs.declared.ring.Ring.{Ring}
 
 -- the bytes, in order
@@ -9,6 +9,10 @@ ring_bytes r = slice_range r.buffer.items r.start r.end ++ take r.front r.buffer
 -- the number of bytes
 abbrev pub ring_len : Ring → ℕ
 ring_len r = (r.end - r.start) + r.front
+
+-- the first n bytes are in one piece: none of them wraps around the end of the buffer
+abbrev pub DoesNotWrap : ℕ → Ring → Type 0
+DoesNotWrap n r = (n ≤ r.end - r.start) ⊎ ((r.start ≡ r.end) × (n ≤ r.front))
 
 -- the capacity
 abbrev pub ring_size : Ring → ℕ

@@ -25,16 +25,16 @@ consumed_records (returned_record bytes r ∷ more) = bytes ∷ consumed_records
 
 -- Each returned record is the one of its bytes, at the offset after all records before it.
 abbrev pub AreReturned : Endianness → ℕ → List ReaderStep → Type 0
-AreReturned order offset [] = ⊤
-AreReturned order offset (no_progress ∷ more) = AreReturned order offset more
-AreReturned order offset (skipped_record bytes ∷ more) = AreReturned order (offset + length bytes) more
-AreReturned order offset (returned_record bytes r ∷ more) = IsRecordOf order offset bytes r × AreReturned order (offset + length bytes) more
+AreReturned endian offset [] = ⊤
+AreReturned endian offset (no_progress ∷ more) = AreReturned endian offset more
+AreReturned endian offset (skipped_record bytes ∷ more) = AreReturned endian (offset + length bytes) more
+AreReturned endian offset (returned_record bytes r ∷ more) = IsRecordOf endian offset bytes r × AreReturned endian (offset + length bytes) more
 
 module _ {R : Type 0} (state : R → State) where
   -- a call that consumes nothing: one for the next record header, or one that neither returns nor skips the next record
   abbrev pub MakesNoProgress : JitDumpReader R → JitDumpReader R → Type 0
   MakesNoProgress old new =
-      ((told : Result (Option JitDumpRecordHeader) Error) × ReturnsHeader state (λ head. head) old told new)
+      ((result : Result (Option JitDumpRecordHeader) Error) × ReturnsHeader state (λ header. header) old result new)
       ⊎ (NextJitRecord state old (Ok None) new ⊎ (((e : Error) × NextJitRecord state old (Err e) new)
       ⊎ (SkipsRecord state old (Ok false) new ⊎ ((e : Error) × SkipsRecord state old (Err e) new))))
 

@@ -1,15 +1,17 @@
 //! A reader that lends the bytes of a source from two buffers.
-ghost use Rattle.std.specs.Prelude.{◌≡◌, ◌↔◌, ◌<◌, ◌≤◌, IfErr, IsTrue, OnOk, length, take, slice_range, true, false, vec_len};
+ghost use Rattle.std.specs.Prelude.{◌≡◌, ◌↔◌, ◌<◌, ◌≤◌, IfErr, IfOk, IfSome, IsTrue, OnOk, length, take, slice_range, true, false, vec_len};
 ghost use Rattle.std.specs.Borrow.{sem};
 ghost use Rattle.std.specs.Io.BufRead.{Rests};
 ghost use Rattle.std.specs.IoError.{error_kind};
 ghost use Rattle.std.specs.declared.io.ErrorKind.TheVariants.{Other};
-ghost use Rattle.perfdata_base.specs.Raw.{bytes_of};
+ghost use Rattle.perfdata_base.specs.Raw.{IsSingle, bytes_of};
 ghost use Rattle.perfdata_jit.specs.BufferedReader.{EnsuresBuffered, ConsumesData, ConsumesHeader, SkipsBytes, ConsumesBuffered, buffered_in, has_seek_failed, overflow_len_of, ring_capacity_of, source_of};
+ghost use Rattle.perfdata_jit.specs.ReadBuffer.{IsContiguous};
 ghost use Rattle.perfdata_jit.specs.Seeking.{SkipsBySeek};
 ghost use Rattle.perfdata_jit.specs.contracts.buffered_reader.BufferedReader.{the_row};
 
 use crate::read_buffer::ReadBuffer;
+use crate::record::JitDumpRecordHeader;
 use crate::ring::Ring;
 use perfdata_base::raw::RawData;
 use perfdata_base::source::{PlacedSource, Source};
@@ -73,21 +75,18 @@ impl<R: Source> BufferedReader<R> {
 
     // Reads until `count` bytes are buffered. Returns whether they are.
     pub(crate) fn ensure_buffered(&mut self, count: usize) -> Result<bool>
-        ensures { EnsuresBuffered R.state count self.old result self.new }
+        ensures buffers { EnsuresBuffered R.state count self.old result self.new }
+        ensures same_loan { R.loan (source_of self.new) ≡ R.loan (source_of self.old) }
     {
         if count <= self.buffer.len() {
             return Ok(true);
         }
         self.buffer.compact_overflow();
         'reads: while self.buffer.len() < count {
-            match self.buffer.make_room() {
-                Ok(()) => {}
-                Err(error) => return Err(Error::from(error)),
-            }
-            match self.buffer.fill(&mut self.source) {
-                Ok(0) => return Ok(false),
-                Ok(_) => {}
-                Err(error) => return Err(error),
+            self.buffer.make_room()?;
+            let read_count = self.buffer.fill(&mut self.source)?;
+            if read_count == 0 {
+                return Ok(false);
             }
         }
         Ok(true)
@@ -97,6 +96,7 @@ impl<R: Source> BufferedReader<R> {
     pub(crate) fn consume_buffered(&mut self, count: usize) -> RawData<'_>
         requires { count ≤ length (buffered_in self.old) }
         ensures part { bytes_of result ≡ take count (buffered_in self.old) }
+        ensures single { IsContiguous count self.old.buffer → IsSingle result }
         ensures* after_borrow { sem 𝓛 (Rests (the_row R.row) self.entry (λ new. ConsumesBuffered R.state count self.old new)) }
     {
         self.buffer.consume(count)
@@ -104,65 +104,52 @@ impl<R: Source> BufferedReader<R> {
 
     /// Returns the next `count` bytes, or `None` if a read is empty before they are buffered.
     ///
-    /// Reading stops as soon as `count` bytes are buffered. The source is not read if they are buffered before the call.
+    /// Reading stops as soon as `count` bytes are buffered. The source is not read if they are buffered before the call. They
+    /// are in one slice if they are buffered in one piece before the call.
     /// Fails at once with the source's own error, and with kind `OutOfMemory` if `count` exceeds the size of the fixed
     /// buffer and an allocation fails. No byte is lost by `None` or by an error, and the call can be repeated. Once a seek
     /// has failed, each call fails with kind `Other` and does nothing.
     pub fn consume_data(&mut self, count: usize) -> Result<Option<RawData<'_>>>
-        ensures* after_borrow { sem 𝓛 (Rests (the_row R.row) self.entry (λ new. ConsumesData R.state count self.old result new)) }
+        ensures single { IsContiguous count self.old.buffer → IfOk result (λ part. IfSome part IsSingle) }
+        ensures* after_borrow { sem 𝓛 (Rests (the_row R.row) self.entry (λ new. ConsumesData R.state count self.old result new × (R.loan (source_of new) ≡ R.loan (source_of self.old)))) }
     {
-        match self.check_no_seek_failed() {
-            Ok(()) => {}
-            Err(error) => return Err(error),
-        }
-        match self.ensure_buffered(count) {
-            Ok(true) => Ok(Some(self.buffer.consume(count))),
-            Ok(false) => Ok(None),
-            Err(error) => Err(error),
+        self.check_no_seek_failed()?;
+        let is_buffered = self.ensure_buffered(count)?;
+        if is_buffered {
+            Ok(Some(self.buffer.consume(count)))
+        } else {
+            Ok(None)
         }
     }
 
     // Consumes a record header and returns a copy of it, which frees its bytes in the buffers.
-    pub(crate) fn consume_header(&mut self) -> Result<Option<[u8; 16]>>
-        ensures { ConsumesHeader R.state self.old result self.new }
+    pub(crate) fn consume_header(&mut self) -> Result<Option<[u8; JitDumpRecordHeader::SIZE]>>
+        ensures consumes { ConsumesHeader R.state self.old result self.new }
+        ensures same_loan { R.loan (source_of self.new) ≡ R.loan (source_of self.old) }
     {
-        let mut head = [0u8; 16];
-        match self.consume_data(16) {
-            Ok(Some(mut bytes)) => match bytes.read_exact(&mut head) {
-                Ok(()) => {
-                    self.buffer.clear_consumed_overflow();
-                    Ok(Some(head))
-                }
-                Err(error) => Err(error),
-            },
-            Ok(None) => Ok(None),
-            Err(error) => Err(error),
-        }
+        let mut header = [0u8; JitDumpRecordHeader::SIZE];
+        let Some(mut bytes) = self.consume_data(JitDumpRecordHeader::SIZE)? else {
+            return Ok(None);
+        };
+        bytes.read_exact(&mut header)?;
+        self.buffer.clear_consumed_overflow();
+        Ok(Some(header))
     }
 }
 
 // Skips the next `count` bytes by seeks if the source has that many. Returns whether it does.
 fn skip_by_seek<R: PlacedSource>(source: &mut R, count: u64) -> Result<bool>
-    ensures { SkipsBySeek (R.state source.old) count result (R.state source.new) }
+    ensures skips { SkipsBySeek (R.state source.old) count result (R.state source.new) }
+    ensures same_loan { R.loan source.new ≡ R.loan source.old }
 {
-    let here = match source.seek_to(SeekFrom::Current(0)) {
-        Ok(here) => here,
-        Err(error) => return Err(error),
-    };
-    let end = match source.seek_to(SeekFrom::End(0)) {
-        Ok(end) => end,
-        Err(error) => return Err(error),
-    };
-    if end < here || end - here < count {
-        return match source.seek_to(SeekFrom::Start(here)) {
-            Ok(_) => Ok(false),
-            Err(error) => Err(error),
-        };
+    let position = source.seek_to(SeekFrom::Current(0))?;
+    let end = source.seek_to(SeekFrom::End(0))?;
+    if end < position || end - position < count {
+        source.seek_to(SeekFrom::Start(position))?;
+        return Ok(false);
     }
-    match source.seek_to(SeekFrom::Start(here + count)) {
-        Ok(_) => Ok(true),
-        Err(error) => Err(error),
-    }
+    source.seek_to(SeekFrom::Start(position + count))?;
+    Ok(true)
 }
 
 impl<R: PlacedSource> BufferedReader<R> {
@@ -172,18 +159,16 @@ impl<R: PlacedSource> BufferedReader<R> {
     /// bytes, and then to the end of the skipped bytes, or back if it has too few. Fails with the error of a seek. The
     /// position of the source is then unspecified, and each later call fails with kind `Other` and does nothing.
     pub fn skip_bytes(&mut self, count: usize) -> Result<bool>
-        ensures { SkipsBytes R.state count self.old result self.new }
+        ensures skips { SkipsBytes R.state count self.old result self.new }
+        ensures same_loan { R.loan (source_of self.new) ≡ R.loan (source_of self.old) }
     {
-        match self.check_no_seek_failed() {
-            Ok(()) => {}
-            Err(error) => return Err(error),
-        }
-        let held = self.buffer.len();
-        if count <= held {
+        self.check_no_seek_failed()?;
+        let buffered_len = self.buffer.len();
+        if count <= buffered_len {
             self.buffer.advance(count);
             return Ok(true);
         }
-        match skip_by_seek(&mut self.source, (count - held) as u64) {
+        match skip_by_seek(&mut self.source, (count - buffered_len) as u64) {
             Ok(true) => {
                 self.buffer.clear();
                 Ok(true)

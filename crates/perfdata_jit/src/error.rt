@@ -26,9 +26,9 @@ pub enum JitDumpError {
 }
 
 impl From<io::Error> for JitDumpError {
-    ghost from_gives = { λ fault error. error ≡ OfIo fault };
+    ghost from_gives = { λ error made. made ≡ OfIo error };
 
-    fn from(fault: io::Error) -> JitDumpError {
-        JitDumpError::Io(fault)
+    fn from(error: io::Error) -> JitDumpError {
+        JitDumpError::Io(error)
     }
 }

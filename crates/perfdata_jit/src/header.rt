@@ -4,7 +4,7 @@ ghost use Rattle.std.specs.IoError.{error_kind};
 ghost use Rattle.std.specs.declared.io.ErrorKind.TheVariants.{UnexpectedEof};
 ghost use Rattle.perfdata_base.specs.Endian.{number_in};
 ghost use Rattle.perfdata_base.specs.Raw.{bytes_of};
-ghost use Rattle.perfdata_jit.specs.JitHeader.{BeginsWithJitHeader, IsHeaderAfterMagic, IsTruncatedAfterMagic, IsJitHeaderError, IsUnknownMagic, header_after_magic, jit_magic_of};
+ghost use Rattle.perfdata_jit.specs.JitHeader.{BeginsWithJitHeader, IsEndianOfMagic, IsHeaderAfterMagic, IsTruncatedAfterMagic, IsJitHeaderError, IsUnknownMagic, header_after_magic, jit_magic_of};
 
 use crate::error::JitDumpError;
 use byteorder::{BigEndian, LittleEndian};
@@ -41,7 +41,7 @@ pub struct JitDumpHeader {
 
 /// Returns the byte order of a file with this magic, or `None` if it is not the magic of a jitdump.
 pub fn endian_of_magic(magic: &[u8; 4]) -> Option<Endianness>
-    ensures some { IfSome result (λ order. magic.now ≡ jit_magic_of order) }
+    ensures some { IfSome result (λ endian. magic.now ≡ jit_magic_of endian) }
     ensures none { IfNone result (IsUnknownMagic magic.now) }
 {
     if *magic == LITTLE_MAGIC {
@@ -54,41 +54,52 @@ pub fn endian_of_magic(magic: &[u8; 4]) -> Option<Endianness>
 }
 
 // The header with this magic and these 36 bytes after it.
-fn parse_fields<O: FileOrder>(magic: [u8; 4], behind: &[u8]) -> JitDumpHeader
-    requires { length behind.now ≡ 36 }
-    ensures { result ≡ header_after_magic O.number_of magic behind.now }
+fn parse_fields<O: FileOrder>(magic: [u8; 4], rest: &[u8]) -> JitDumpHeader
+    requires { length rest.now ≡ 36 }
+    ensures { result ≡ header_after_magic O.number_of magic rest.now }
 {
     JitDumpHeader {
         magic,
-        version: O::read_u32(behind),
-        total_size: O::read_u32(&behind[4..]),
-        elf_machine_arch: O::read_u32(&behind[8..]),
-        pid: O::read_u32(&behind[16..]),
-        timestamp: O::read_u64(&behind[20..]),
-        flags: O::read_u64(&behind[28..]),
+        version: O::read_u32(rest),
+        total_size: O::read_u32(&rest[4..]),
+        elf_machine_arch: O::read_u32(&rest[8..]),
+        pid: O::read_u32(&rest[16..]),
+        timestamp: O::read_u64(&rest[20..]),
+        flags: O::read_u64(&rest[28..]),
     }
 }
 
-// Parses as `parse_after_magic` does, in the byte order `order`.
+// Parses as `parse_after_magic` does, in the byte order `endian`.
 fn parse_after_magic_in(
-    order: Endianness,
+    endian: Endianness,
     magic: [u8; 4],
-    behind: RawData<'_>,
+    rest: RawData<'_>,
 ) -> io::Result<JitDumpHeader>
-    ensures value { IfOk result (λ header. IsHeaderAfterMagic (number_in order) magic (bytes_of behind.entry) header) }
-    ensures error { IfErr result (λ error. IsTruncatedAfterMagic (number_in order) (bytes_of behind.entry) error) }
+    ensures value { IfOk result (λ header. IsHeaderAfterMagic (number_in endian) magic (bytes_of rest.entry) header) }
+    ensures error { IfErr result (λ error. IsTruncatedAfterMagic (number_in endian) (bytes_of rest.entry) error) }
 {
-    match order {
+    match endian {
         Endianness::LittleEndian => {
-            JitDumpHeader::parse_after_magic::<LittleEndian>(magic, behind)
+            JitDumpHeader::parse_after_magic::<LittleEndian>(magic, rest)
         }
-        Endianness::BigEndian => JitDumpHeader::parse_after_magic::<BigEndian>(magic, behind),
+        Endianness::BigEndian => JitDumpHeader::parse_after_magic::<BigEndian>(magic, rest),
     }
 }
 
 impl JitDumpHeader {
     /// Number of header bytes with a defined meaning, and the minimum size of a header.
     pub const SIZE: usize = 40;
+
+    /// The byte order of the file, by the first byte of its magic: `D` in a little-endian file, any other in a big-endian one.
+    pub fn endian(&self) -> Endianness
+        ensures { IsEndianOfMagic self.now.magic result }
+    {
+        if self.magic[0] == LITTLE_MAGIC[0] {
+            Endianness::LittleEndian
+        } else {
+            Endianness::BigEndian
+        }
+    }
 
     /// Parses the header at the start of the bytes. The bytes must contain the whole header, including the part after the
     /// first 40 bytes.
@@ -101,16 +112,16 @@ impl JitDumpHeader {
         ensures value { IfOk result (λ header. BeginsWithJitHeader (bytes_of bytes.entry) header) }
         ensures error { IfErr result (λ error. IsJitHeaderError (bytes_of bytes.entry) error) }
     {
-        let mut behind = bytes;
+        let mut rest = bytes;
         let mut magic = [0u8; 4];
-        match behind.read_exact(&mut magic) {
+        match rest.read_exact(&mut magic) {
             Ok(()) => {}
             Err(_) => return Err(JitDumpError::NotEnoughBytesForHeader),
         }
-        let Some(order) = endian_of_magic(&magic) else {
+        let Some(endian) = endian_of_magic(&magic) else {
             return Err(JitDumpError::InvalidMagicBytes(magic));
         };
-        match parse_after_magic_in(order, magic, behind) {
+        match parse_after_magic_in(endian, magic, rest) {
             Ok(header) => {
                 if header.total_size < JitDumpHeader::SIZE as u32 {
                     return Err(JitDumpError::InvalidHeaderSize(header.total_size));
@@ -128,22 +139,17 @@ impl JitDumpHeader {
     /// bytes of the magic.
     pub fn parse_after_magic<O: FileOrder>(
         magic: [u8; 4],
-        behind: RawData<'_>,
+        bytes: RawData<'_>,
     ) -> io::Result<JitDumpHeader>
-        ensures value { IfOk result (λ header. IsHeaderAfterMagic O.number_of magic (bytes_of behind.entry) header) }
-        ensures error { IfErr result (λ error. IsTruncatedAfterMagic O.number_of (bytes_of behind.entry) error) }
+        ensures value { IfOk result (λ header. IsHeaderAfterMagic O.number_of magic (bytes_of bytes.entry) header) }
+        ensures error { IfErr result (λ error. IsTruncatedAfterMagic O.number_of (bytes_of bytes.entry) error) }
     {
-        let mut rest = behind;
-        let mut known = [0u8; SIZE_AFTER_MAGIC];
-        match rest.read_exact(&mut known) {
-            Ok(()) => {}
-            Err(error) => return Err(error),
-        }
-        let header = parse_fields::<O>(magic, &known);
-        let mut whole = behind;
-        match whole.skip(header.total_size.saturating_sub(4) as usize) {
-            Ok(()) => Ok(header),
-            Err(error) => Err(error),
-        }
+        let mut rest = bytes;
+        let mut fixed = [0u8; SIZE_AFTER_MAGIC];
+        rest.read_exact(&mut fixed)?;
+        let header = parse_fields::<O>(magic, &fixed);
+        let mut whole = bytes;
+        whole.skip(header.total_size.saturating_sub(4) as usize)?;
+        Ok(header)
     }
 }

@@ -1,27 +1,23 @@
 //! A reader of the records of a jitdump, also while it grows.
-ghost use Rattle.std.specs.Prelude.{◌≡◌, ◌↔◌, ◌≤◌, IsTrue, false, length, vec_len};
+ghost use Rattle.std.specs.Prelude.{◌≡◌, ◌↔◌, ◌≤◌, IfOk, IsTrue, false, length, vec_len};
 ghost use Rattle.std.specs.Borrow.{sem};
 ghost use Rattle.std.specs.Io.BufRead.{Rests};
-ghost use Rattle.perfdata_jit.specs.RecordBytes.{HasWholeRecord, record_header_at};
-ghost use Rattle.perfdata_jit.specs.JitDumpReader.{ReturnsHeader, NextJitRecord, OpensReader, SkipsBuffered, SkipsRecord, jit_header, jit_buffered, jit_seek_failed, jit_offset, jit_endian};
+ghost use Rattle.perfdata_jit.specs.RecordBytes.{HasNoWholeRecord, HasWholeRecord};
+ghost use Rattle.perfdata_jit.specs.JitDumpReader.{ReturnsHeader, NextJitRecord, OpensReader, SkipsBuffered, SkipsRecord, jit_header, jit_source, jit_buffered, jit_seek_failed, jit_offset, jit_endian};
 ghost use Rattle.perfdata_jit.specs.HeaderSteps.{PeeksHeader, PeeksValidHeader, BuffersRecord};
 ghost use Rattle.perfdata_jit.specs.ReadUntilEof.{CountsFill, FillsUntilEof};
 ghost use Rattle.perfdata_jit.specs.contracts.jitdump_reader.JitDumpReader.{the_row};
 
 use crate::buffered_reader::BufferedReader;
 use crate::error::JitDumpError;
-use crate::header::{JitDumpHeader, endian_of_magic};
+use crate::header::JitDumpHeader;
 use crate::read_until_eof::ReadExactOrUntilEof;
 use crate::record::{JitDumpRawRecord, JitDumpRecordHeader, JitDumpRecordType};
-use perfdata_base::endian::{read_u32, read_u64};
 use perfdata_base::raw::{Endianness, RawData};
 use perfdata_base::source::{PlacedSource, Source};
 use std::alloc::Global;
 use std::io::{self, Error, ErrorKind};
 use std::result::Result;
-
-/// The size of a record header in bytes.
-const HEADER_SIZE: usize = JitDumpRecordHeader::SIZE;
 
 /// The buffer size that `new` chooses, in bytes.
 const BUFFER_SIZE: usize = 4096;
@@ -35,12 +31,12 @@ pub struct JitDumpReader<R> {
     reader: BufferedReader<R>,
     header: JitDumpHeader,
     endian: Endianness,
-    pending_header: Option<[u8; HEADER_SIZE]>,
+    pending_header: Option<[u8; JitDumpRecordHeader::SIZE]>,
     offset: u64,
 }
 
 // Copies a record header.
-fn copy_header(bytes: &[u8; HEADER_SIZE]) -> [u8; HEADER_SIZE]
+fn copy_header(bytes: &[u8; JitDumpRecordHeader::SIZE]) -> [u8; JitDumpRecordHeader::SIZE]
     ensures same { result ≡ bytes.now }
     ensures long { length result ≡ 16 }
 {
@@ -51,20 +47,10 @@ fn copy_header(bytes: &[u8; HEADER_SIZE]) -> [u8; HEADER_SIZE]
 fn fill_buffer<R: Source>(source: &mut R, buffer: &mut Vec<u8>) -> io::Result<usize>
     ensures fills { FillsUntilEof (R.state source.old) buffer.new.items result (R.state source.new) }
     ensures counts { CountsFill (R.state source.old) buffer.new.items result (R.state source.new) }
+    ensures same_loan { R.loan source.new ≡ R.loan source.old }
     ensures size { vec_len buffer.new ≡ vec_len buffer.old }
 {
     source.read_exact_or_until_eof(buffer.as_mut_slice())
-}
-
-// Parses a record header of sixteen bytes.
-fn record_header_of(endian: Endianness, bytes: &[u8; HEADER_SIZE]) -> JitDumpRecordHeader
-    ensures { result ≡ record_header_at endian bytes.now }
-{
-    JitDumpRecordHeader {
-        record_type: JitDumpRecordType(read_u32(endian, bytes)),
-        total_size: read_u32(endian, &bytes[4..]),
-        timestamp: read_u64(endian, &bytes[8..]),
-    }
 }
 
 impl<R: Source + Drop> JitDumpReader<R> {
@@ -72,7 +58,8 @@ impl<R: Source + Drop> JitDumpReader<R> {
     ///
     /// Fails as [`JitDumpReader::new_with_buffer_size`] does.
     pub fn new(alloc: Global, source: R) -> Result<JitDumpReader<R>, JitDumpError>
-        ensures { OpensReader R.state source 4096 result }
+        ensures opens { OpensReader R.state source 4096 result }
+        ensures same_loan { IfOk result (λ reader. R.loan (jit_source reader) ≡ R.loan source) }
     {
         JitDumpReader::new_with_buffer_size(alloc, source, BUFFER_SIZE)
     }
@@ -88,25 +75,17 @@ impl<R: Source + Drop> JitDumpReader<R> {
         mut source: R,
         buffer_size: usize,
     ) -> Result<JitDumpReader<R>, JitDumpError>
-        ensures { OpensReader R.state source buffer_size result }
+        ensures opens { OpensReader R.state source buffer_size result }
+        ensures same_loan { IfOk result (λ reader. R.loan (jit_source reader) ≡ R.loan source) }
     {
         let mut buffer = Vec::new(alloc);
         match buffer.resize(buffer_size, 0) {
             Ok(()) => {}
             Err(error) => return Err(JitDumpError::Io(Error::from(error))),
         }
-        let came = match fill_buffer(&mut source, &mut buffer) {
-            Ok(came) => came,
-            Err(error) => return Err(JitDumpError::Io(error)),
-        };
-        let header = match JitDumpHeader::parse(RawData::Single(&buffer[..came])) {
-            Ok(header) => header,
-            Err(error) => return Err(error),
-        };
-        let endian = match endian_of_magic(&header.magic) {
-            Some(endian) => endian,
-            None => return Err(JitDumpError::InvalidMagicBytes(header.magic)),
-        };
+        let read_count = fill_buffer(&mut source, &mut buffer)?;
+        let header = JitDumpHeader::parse(RawData::Single(&buffer[..read_count]))?;
+        let endian = header.endian();
         let offset = header.total_size;
         Ok(JitDumpReader {
             reader: BufferedReader::new_with_partially_read_buffer(
@@ -114,7 +93,7 @@ impl<R: Source + Drop> JitDumpReader<R> {
                 source,
                 buffer,
                 offset as usize,
-                came,
+                read_count,
             ),
             header,
             endian,
@@ -154,74 +133,67 @@ impl<R: Source> JitDumpReader<R> {
         ensures { IsTrue result ↔ count ≤ length (jit_buffered self.now) }
     {
         match self.pending_header {
-            Some(head) => {
-                let head = copy_header(&head);
-                if count <= head.len() {
+            Some(header) => {
+                let header = copy_header(&header);
+                if count <= header.len() {
                     return true;
                 }
-                self.reader.holds(count - head.len())
+                self.reader.holds(count - header.len())
             }
             None => self.reader.holds(count),
         }
     }
 
     // Returns the bytes of the next record header, which becomes the pending header.
-    fn peek_header_bytes(&mut self) -> io::Result<Option<[u8; HEADER_SIZE]>>
+    fn peek_header_bytes(&mut self) -> io::Result<Option<[u8; JitDumpRecordHeader::SIZE]>>
         ensures peeks_header { PeeksHeader R.state self.old result self.new }
+        ensures same_loan { R.loan (jit_source self.new) ≡ R.loan (jit_source self.old) }
     {
-        match self.reader.check_no_seek_failed() {
-            Ok(()) => {}
-            Err(error) => return Err(error),
-        }
+        self.reader.check_no_seek_failed()?;
         match self.pending_header {
-            Some(head) => return Ok(Some(copy_header(&head))),
+            Some(header) => return Ok(Some(copy_header(&header))),
             None => {}
         }
-        match self.reader.consume_header() {
-            Ok(Some(head)) => {
-                self.pending_header = Some(head);
-                Ok(Some(head))
-            }
-            Ok(None) => Ok(None),
-            Err(error) => Err(error),
-        }
+        let Some(header) = self.reader.consume_header()? else {
+            return Ok(None);
+        };
+        self.pending_header = Some(header);
+        Ok(Some(header))
     }
 
     // Returns the next record header, which becomes the pending header, and fails if its size is invalid.
     fn peek_valid_header(&mut self) -> io::Result<Option<JitDumpRecordHeader>>
-        ensures { PeeksValidHeader R.state self.old result self.new }
+        ensures peeks_header { PeeksValidHeader R.state self.old result self.new }
+        ensures same_loan { R.loan (jit_source self.new) ≡ R.loan (jit_source self.old) }
     {
-        let head = match self.peek_header_bytes() {
-            Ok(Some(bytes)) => record_header_of(self.endian, &bytes),
-            Ok(None) => return Ok(None),
-            Err(error) => return Err(error),
+        let Some(bytes) = self.peek_header_bytes()? else {
+            return Ok(None);
         };
-        if (head.total_size as usize) < HEADER_SIZE {
+        let header = JitDumpRecordHeader::from_bytes(self.endian, &bytes);
+        if (header.total_size as usize) < JitDumpRecordHeader::SIZE {
             return Err(Error::from(ErrorKind::InvalidData));
         }
         let offset = self.offset;
-        if head.total_size as u64 > u64::MAX - offset {
+        if header.total_size as u64 > u64::MAX - offset {
             return Err(Error::from(ErrorKind::InvalidData));
         }
-        Ok(Some(head))
+        Ok(Some(header))
     }
 
     // Reads until the next record is buffered. Returns its record header, which becomes the pending header.
     fn buffer_record(&mut self) -> io::Result<Option<JitDumpRecordHeader>>
-        ensures { BuffersRecord R.state self.old result self.new }
+        ensures buffers_record { BuffersRecord R.state self.old result self.new }
+        ensures same_loan { R.loan (jit_source self.new) ≡ R.loan (jit_source self.old) }
     {
-        let head = match self.peek_valid_header() {
-            Ok(Some(head)) => head,
-            Ok(None) => return Ok(None),
-            Err(error) => return Err(error),
+        let Some(header) = self.peek_valid_header()? else {
+            return Ok(None);
         };
-        match self
-            .reader
-            .ensure_buffered(head.total_size as usize - HEADER_SIZE)
-        {
-            Ok(true) => Ok(Some(head)),
-            Ok(false) => Ok(None),
-            Err(error) => Err(error),
+        let body_size = header.total_size as usize - JitDumpRecordHeader::SIZE;
+        let is_buffered = self.reader.ensure_buffered(body_size)?;
+        if is_buffered {
+            Ok(Some(header))
+        } else {
+            Ok(None)
         }
     }
 
@@ -231,65 +203,64 @@ impl<R: Source> JitDumpReader<R> {
     /// Fails with the source's own error. No byte is lost then, and the call can be repeated. Once a seek has failed, the
     /// call fails with kind `Other`.
     pub fn next_record_header(&mut self) -> io::Result<Option<JitDumpRecordHeader>>
-        ensures { ReturnsHeader R.state (λ head. head) self.old result self.new }
+        ensures returns_header { ReturnsHeader R.state (λ header. header) self.old result self.new }
+        ensures same_loan { R.loan (jit_source self.new) ≡ R.loan (jit_source self.old) }
     {
-        match self.peek_header_bytes() {
-            Ok(Some(bytes)) => Ok(Some(record_header_of(self.endian, &bytes))),
-            Ok(None) => Ok(None),
-            Err(error) => Err(error),
-        }
+        let Some(bytes) = self.peek_header_bytes()? else {
+            return Ok(None);
+        };
+        Ok(Some(JitDumpRecordHeader::from_bytes(self.endian, &bytes)))
     }
 
     /// Returns the timestamp of the next record, as [`JitDumpReader::next_record_header`] does.
     pub fn next_record_timestamp(&mut self) -> io::Result<Option<u64>>
-        ensures { ReturnsHeader R.state (λ head. head.timestamp) self.old result self.new }
+        ensures returns_header { ReturnsHeader R.state (λ header. header.timestamp) self.old result self.new }
+        ensures same_loan { R.loan (jit_source self.new) ≡ R.loan (jit_source self.old) }
     {
-        match self.next_record_header() {
-            Ok(Some(head)) => Ok(Some(head.timestamp)),
-            Ok(None) => Ok(None),
-            Err(error) => Err(error),
-        }
+        let Some(header) = self.next_record_header()? else {
+            return Ok(None);
+        };
+        Ok(Some(header.timestamp))
     }
 
     /// Returns the type of the next record, as [`JitDumpReader::next_record_header`] does.
     pub fn next_record_type(&mut self) -> io::Result<Option<JitDumpRecordType>>
-        ensures { ReturnsHeader R.state (λ head. head.record_type) self.old result self.new }
+        ensures returns_header { ReturnsHeader R.state (λ header. header.record_type) self.old result self.new }
+        ensures same_loan { R.loan (jit_source self.new) ≡ R.loan (jit_source self.old) }
     {
-        match self.next_record_header() {
-            Ok(Some(head)) => Ok(Some(head.record_type)),
-            Ok(None) => Ok(None),
-            Err(error) => Err(error),
-        }
+        let Some(header) = self.next_record_header()? else {
+            return Ok(None);
+        };
+        Ok(Some(header.record_type))
     }
 
     /// Returns the next record, borrowed until the next call, or `Ok(None)` if a read is empty before the record is
     /// complete.
     ///
-    /// Reading stops as soon as the record is buffered. The source is not read if the record is buffered before the call.
+    /// Reading stops as soon as the record is buffered. The source is not read if the record is buffered before the call. The
+    /// body is in one slice if the record is buffered before the call and its body doesn't wrap around the end of the buffer.
     /// Fails with `InvalidData` if the size in the record header is less than 16, or if the record's end exceeds 2^64 - 1;
     /// the header stays pending. Fails with the source's own error if a read fails, and with `OutOfMemory` only if the
     /// record's body is longer than the buffer. No byte is lost by an error or by `Ok(None)`, and the call can be repeated.
     /// Once a seek has failed, the call fails with kind `Other`.
     pub fn next_record(&mut self) -> io::Result<Option<JitDumpRawRecord<'_>>>
-        ensures* after_borrow { sem 𝓛 (Rests (the_row R.row) self.entry (λ new. NextJitRecord R.state self.old result new)) }
+        ensures* after_borrow { sem 𝓛 (Rests (the_row R.row) self.entry (λ new. NextJitRecord R.state self.old result new × (R.loan (jit_source new) ≡ R.loan (jit_source self.old)))) }
     {
-        let head = match self.buffer_record() {
-            Ok(Some(head)) => head,
-            Ok(None) => return Ok(None),
-            Err(error) => return Err(error),
+        let Some(header) = self.buffer_record()? else {
+            return Ok(None);
         };
         let endian = self.endian;
         let start_offset = self.offset;
-        let record_size = head.total_size;
+        let record_size = header.total_size;
         self.pending_header = None;
         self.offset += record_size as u64;
         let body = self
             .reader
-            .consume_buffered(record_size as usize - HEADER_SIZE);
+            .consume_buffered(record_size as usize - JitDumpRecordHeader::SIZE);
         Ok(Some(JitDumpRawRecord {
             endian,
-            record_type: head.record_type,
-            timestamp: head.timestamp,
+            record_type: header.record_type,
+            timestamp: header.timestamp,
             start_offset,
             record_size,
             body,
@@ -299,29 +270,30 @@ impl<R: Source> JitDumpReader<R> {
 
 impl<R: PlacedSource> JitDumpReader<R> {
     /// Skips the next record without reading its body. Returns whether it does: `Ok(false)` means that the record header is
-    /// not available, or that the source has too few bytes. The record then remains the next one.
+    /// not available, or that the source has too few bytes. No complete record is buffered then, and the record remains the
+    /// next one.
     ///
     /// If the record is buffered, the source is not used. Otherwise the source seeks as in [`BufferedReader::skip_bytes`].
     /// Fails as [`JitDumpReader::next_record`] does, except that it allocates nothing for a body, and with the error of a
     /// seek. After the error of a seek, each call that can fail fails with kind `Other`.
     pub fn skip_next_record(&mut self) -> io::Result<bool>
         ensures skips { SkipsRecord R.state self.old result self.new }
+        ensures same_loan { R.loan (jit_source self.new) ≡ R.loan (jit_source self.old) }
+        ensures no_whole_record { IfOk result (λ is_skipped. is_skipped ≡ false → HasNoWholeRecord (jit_endian self.old) (jit_offset self.old) (jit_buffered self.new)) }
         ensures buffered { HasWholeRecord (jit_endian self.old) (jit_offset self.old) (jit_buffered self.old) → jit_seek_failed self.old ≡ false → SkipsBuffered self.old result self.new }
     {
-        let head = match self.peek_valid_header() {
-            Ok(Some(head)) => head,
-            Ok(None) => return Ok(false),
-            Err(error) => return Err(error),
+        let Some(header) = self.peek_valid_header()? else {
+            return Ok(false);
         };
-        let record_size = head.total_size;
-        match self.reader.skip_bytes(record_size as usize - HEADER_SIZE) {
-            Ok(true) => {
-                self.pending_header = None;
-                self.offset += record_size as u64;
-                Ok(true)
-            }
-            Ok(false) => Ok(false),
-            Err(error) => Err(error),
+        let record_size = header.total_size;
+        let body_size = record_size as usize - JitDumpRecordHeader::SIZE;
+        let is_skipped = self.reader.skip_bytes(body_size)?;
+        if is_skipped {
+            self.pending_header = None;
+            self.offset += record_size as u64;
+            Ok(true)
+        } else {
+            Ok(false)
         }
     }
 }

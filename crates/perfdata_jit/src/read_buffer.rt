@@ -1,8 +1,8 @@
 //! The bytes that are read but not consumed: those of the overflow buffer, followed by those of the ring.
-ghost use Rattle.std.specs.Prelude.{◌≡◌, ℕ, ◌+◌, ◌-◌, ◌^◌, ◌<◌, ◌≤◌, List, [], ◌++◌, length, take, drop, slice_range, OnErr, OnOk, vec_len};
+ghost use Rattle.std.specs.Prelude.{◌≡◌, ℕ, ◌+◌, ◌-◌, ◌^◌, ◌<◌, ◌≤◌, ◌⊎◌, List, [], ◌++◌, length, take, drop, slice_range, OnErr, OnOk, vec_len};
 ghost use Rattle.std.specs.Borrow.{sem};
 ghost use Rattle.std.specs.Io.BufRead.{Rests};
-ghost use Rattle.perfdata_base.specs.Raw.{bytes_of};
+ghost use Rattle.perfdata_base.specs.Raw.{IsSingle, bytes_of};
 ghost use Rattle.perfdata_base.specs.Source.{CountsRead};
 ghost use Rattle.perfdata_jit.specs.RingFilling.{FillsRing};
 
@@ -34,9 +34,23 @@ pub(crate) struct Span {
     ring_front: usize,
 }
 
+// The bytes of two slices. An empty slice is omitted.
+fn join<'a>(first: &'a [u8], second: &'a [u8]) -> RawData<'a>
+    ensures bytes { bytes_of result ≡ first.now ++ second.now }
+    ensures single { (length first.now ≡ 0) ⊎ (length second.now ≡ 0) → IsSingle result }
+{
+    if first.is_empty() {
+        RawData::Single(second)
+    } else if second.is_empty() {
+        RawData::Single(first)
+    } else {
+        RawData::Split(first, second)
+    }
+}
+
 impl ReadBuffer {
     ghost use Rattle.perfdata_jit.specs.contracts.read_buffer.ReadBuffer.{the_row};
-    ghost use Rattle.perfdata_jit.specs.ReadBuffer.{ConsumesPrefix, IsSpanWithin, span_bytes, read_buffer_bytes, IsOverflowConsumed, overflow_len, overflow_capacity, ring_capacity};
+    ghost use Rattle.perfdata_jit.specs.ReadBuffer.{ConsumesPrefix, IsContiguous, IsSpanSingle, IsSpanWithin, span_bytes, read_buffer_bytes, IsOverflowConsumed, overflow_len, overflow_capacity, ring_capacity};
     ghost use Rattle.perfdata_jit.specs.Ring.{ring_bytes, ring_len, ring_size};
 
     pub(crate) fn new(ring: Ring, overflow: Vec<u8>) -> ReadBuffer
@@ -95,6 +109,7 @@ impl ReadBuffer {
         ensures shorter { overflow_len self.new ≤ overflow_len self.old }
         ensures overflow_empty { IsOverflowConsumed self.old → overflow_len self.new ≡ 0 }
         ensures overflow_consumed { IsOverflowConsumed self.old → IsOverflowConsumed self.new }
+        ensures keeps_contiguous { (m : ℕ) → IsContiguous m self.old → IsContiguous m self.new }
         ensures room { overflow_capacity self.new ≡ overflow_capacity self.old }
         ensures size { ring_capacity self.new ≡ ring_capacity self.old }
     {
@@ -134,8 +149,8 @@ impl ReadBuffer {
         ensures overflow_start { self.new.overflow_start ≡ 0 }
         ensures size { ring_capacity self.new ≡ ring_capacity self.old }
     {
-        let held = self.ring.len();
-        if held == self.ring.size() {
+        let buffered_len = self.ring.len();
+        if buffered_len == self.ring.size() {
             return self.spill_ring();
         }
         let _overflow = self.overflow.len();
@@ -158,11 +173,12 @@ impl ReadBuffer {
         requires { n ≤ length (read_buffer_bytes self.old) }
         ensures span_within { IsSpanWithin self.new result }
         ensures value { span_bytes self.new result ≡ take n (read_buffer_bytes self.old) }
+        ensures single { IsContiguous n self.old → IsSpanSingle result }
         ensures consumes_prefix { ConsumesPrefix n self.old self.new }
     {
         let from = self.overflow_start;
-        let left = self.overflow.len() - from;
-        if n <= left {
+        let remaining = self.overflow.len() - from;
+        if n <= remaining {
             self.overflow_start = from + n;
             return Span {
                 overflow_from: from,
@@ -174,7 +190,7 @@ impl ReadBuffer {
         }
         let to = self.overflow.len();
         self.overflow_start = to;
-        let (start, end, front) = self.ring.advance(n - left);
+        let (start, end, front) = self.ring.advance(n - remaining);
         Span {
             overflow_from: from,
             overflow_to: to,
@@ -187,18 +203,14 @@ impl ReadBuffer {
     // The bytes of a span.
     pub(crate) fn span_data(&self, span: &Span) -> RawData<'_>
         requires { IsSpanWithin self.now span.now }
-        ensures { bytes_of result ≡ span_bytes self.now span.now }
+        ensures bytes { bytes_of result ≡ span_bytes self.now span.now }
+        ensures single { IsSpanSingle span.now → IsSingle result }
     {
-        let passed = &self.overflow[span.overflow_from..span.overflow_to];
         let main = self.ring.range(span.ring_start, span.ring_end);
         if span.ring_front > 0 {
-            RawData::Split(main, self.ring.range(0, span.ring_front))
-        } else if passed.len() == 0 {
-            RawData::Single(main)
-        } else if main.len() == 0 {
-            RawData::Single(passed)
+            join(main, self.ring.range(0, span.ring_front))
         } else {
-            RawData::Split(passed, main)
+            join(&self.overflow[span.overflow_from..span.overflow_to], main)
         }
     }
 
@@ -206,6 +218,7 @@ impl ReadBuffer {
     pub(crate) fn consume(&mut self, n: usize) -> RawData<'_>
         requires { n ≤ length (read_buffer_bytes self.old) }
         ensures value { bytes_of result ≡ take n (read_buffer_bytes self.old) }
+        ensures single { IsContiguous n self.old → IsSingle result }
         ensures* after_borrow { sem 𝓛 (Rests the_row self.entry (λ new. ConsumesPrefix n self.old new)) }
     {
         let span = self.advance(n);

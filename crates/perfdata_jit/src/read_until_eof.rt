@@ -11,30 +11,30 @@ pub trait ReadExactOrUntilEof: Source {
     ///
     /// Returns the source's own error at once, also one of kind `Interrupted`. The prefix of the buffer then contains the
     /// bytes that were read before. Their number is not reported.
-    fn read_exact_or_until_eof(&mut self, place: &mut [u8]) -> Result<usize>
-        ensures fills { FillsUntilEof (Self.state self.old) place.new result (Self.state self.new) }
-        ensures counts { CountsFill (Self.state self.old) place.new result (Self.state self.new) }
+    fn read_exact_or_until_eof(&mut self, buf: &mut [u8]) -> Result<usize>
+        ensures fills { FillsUntilEof (Self.state self.old) buf.new result (Self.state self.new) }
+        ensures counts { CountsFill (Self.state self.old) buf.new result (Self.state self.new) }
         ensures same_loan { Self.loan self.new ≡ Self.loan self.old };
 }
 
 impl<R: Source> ReadExactOrUntilEof for R {
-    fn read_exact_or_until_eof(&mut self, place: &mut [u8]) -> Result<usize> {
-        fill_until_eof(self, place)
+    fn read_exact_or_until_eof(&mut self, buf: &mut [u8]) -> Result<usize> {
+        fill_until_eof(self, buf)
     }
 }
 
-fn fill_until_eof<R: Source>(source: &mut R, place: &mut [u8]) -> Result<usize>
-    ensures fills { FillsUntilEof (R.state source.old) place.new result (R.state source.new) }
-    ensures counts { CountsFill (R.state source.old) place.new result (R.state source.new) }
+fn fill_until_eof<R: Source>(source: &mut R, buf: &mut [u8]) -> Result<usize>
+    ensures fills { FillsUntilEof (R.state source.old) buf.new result (R.state source.new) }
+    ensures counts { CountsFill (R.state source.old) buf.new result (R.state source.new) }
     ensures same_loan { R.loan source.new ≡ R.loan source.old }
 {
     let mut filled = 0;
-    'reads: while filled < place.len() {
-        match source.read_front(&mut place[filled..]) {
-            Ok(0) => return Ok(filled),
-            Ok(count) => filled += count,
-            Err(error) => return Err(error),
+    'reads: while filled < buf.len() {
+        let read_count = source.read_front(&mut buf[filled..])?;
+        if read_count == 0 {
+            return Ok(filled);
         }
+        filled += read_count;
     }
     Ok(filled)
 }

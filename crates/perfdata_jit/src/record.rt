@@ -7,7 +7,7 @@ ghost use Rattle.perfdata_jit.specs.JitRecord.{IsJitRecord, IsJitRecordError, ji
 use crate::records::{
     JitCodeDebugInfoRecord, JitCodeLoadRecord, JitCodeMoveRecord, JitCodeUnwindingInfoRecord,
 };
-use byteorder::{BigEndian, LittleEndian};
+use perfdata_base::endian::{read_u32, read_u64};
 use perfdata_base::raw::{Endianness, FileOrder, RawData};
 use std::alloc::Global;
 use std::io::Result;
@@ -64,32 +64,36 @@ impl JitDumpRecordHeader {
     /// Returns an `UnexpectedEof` error if there are fewer than 16 bytes.
     pub fn parse(endian: Endianness, bytes: RawData<'_>) -> Result<JitDumpRecordHeader>
         ensures enough { IfOk result (λ _. 16 ≤ length (bytes_of bytes.entry)) }
-        ensures value { IfOk result (λ head. head ≡ jit_record_header_of (number_in endian) (bytes_of bytes.entry)) }
+        ensures value { IfOk result (λ header. header ≡ jit_record_header_of (number_in endian) (bytes_of bytes.entry)) }
         ensures too_short { IfErr result (λ error. EndsBefore 16 (bytes_of bytes.entry) error) }
     {
-        match endian {
-            Endianness::LittleEndian => JitDumpRecordHeader::parse_impl::<LittleEndian>(bytes),
-            Endianness::BigEndian => JitDumpRecordHeader::parse_impl::<BigEndian>(bytes),
-        }
+        let mut rest = bytes;
+        let mut header = [0u8; JitDumpRecordHeader::SIZE];
+        rest.read_exact(&mut header)?;
+        Ok(JitDumpRecordHeader::from_bytes(endian, &header))
     }
 
     /// Parses the record header at the start of the bytes as `parse` does, in the byte order `O`.
     pub fn parse_impl<O: FileOrder>(bytes: RawData<'_>) -> Result<JitDumpRecordHeader>
         ensures enough { IfOk result (λ _. 16 ≤ length (bytes_of bytes.entry)) }
-        ensures value { IfOk result (λ head. head ≡ jit_record_header_of O.number_of (bytes_of bytes.entry)) }
+        ensures value { IfOk result (λ header. header ≡ jit_record_header_of O.number_of (bytes_of bytes.entry)) }
         ensures too_short { IfErr result (λ error. EndsBefore 16 (bytes_of bytes.entry) error) }
     {
-        let mut rest = bytes;
-        let mut head = [0u8; JitDumpRecordHeader::SIZE];
-        match rest.read_exact(&mut head) {
-            Ok(()) => {}
-            Err(error) => return Err(error),
+        JitDumpRecordHeader::parse(O::ENDIAN, bytes)
+    }
+
+    /// Returns the record header in sixteen bytes, in the byte order `endian`.
+    pub fn from_bytes(
+        endian: Endianness,
+        bytes: &[u8; JitDumpRecordHeader::SIZE],
+    ) -> JitDumpRecordHeader
+        ensures { result ≡ jit_record_header_of (number_in endian) bytes.now }
+    {
+        JitDumpRecordHeader {
+            record_type: JitDumpRecordType(read_u32(endian, bytes)),
+            total_size: read_u32(endian, &bytes[4..]),
+            timestamp: read_u64(endian, &bytes[8..]),
         }
-        Ok(JitDumpRecordHeader {
-            record_type: JitDumpRecordType(O::read_u32(&head)),
-            total_size: O::read_u32(&head[4..]),
-            timestamp: O::read_u64(&head[8..]),
-        })
     }
 }
 
@@ -137,23 +141,23 @@ impl<'a> JitDumpRawRecord<'a> {
         ensures error { IfErr result (λ error. IsJitRecordError (number_in self.now.endian) self.now error) }
     {
         match self.record_type.0 {
-            LOAD => match JitCodeLoadRecord::parse(self.endian, self.body) {
-                Ok(load) => Ok(JitDumpRecord::CodeLoad(load)),
-                Err(error) => Err(error),
-            },
-            MOVE => match JitCodeMoveRecord::parse(self.endian, self.body) {
-                Ok(moved) => Ok(JitDumpRecord::CodeMove(moved)),
-                Err(error) => Err(error),
-            },
-            DEBUG_INFO => match JitCodeDebugInfoRecord::parse(alloc, self.endian, self.body) {
-                Ok(info) => Ok(JitDumpRecord::CodeDebugInfo(info)),
-                Err(error) => Err(error),
-            },
+            LOAD => {
+                let load = JitCodeLoadRecord::parse(self.endian, self.body)?;
+                Ok(JitDumpRecord::CodeLoad(load))
+            }
+            MOVE => {
+                let moved = JitCodeMoveRecord::parse(self.endian, self.body)?;
+                Ok(JitDumpRecord::CodeMove(moved))
+            }
+            DEBUG_INFO => {
+                let info = JitCodeDebugInfoRecord::parse(alloc, self.endian, self.body)?;
+                Ok(JitDumpRecord::CodeDebugInfo(info))
+            }
             CLOSE => Ok(JitDumpRecord::CodeClose),
-            UNWINDING_INFO => match JitCodeUnwindingInfoRecord::parse(self.endian, self.body) {
-                Ok(unwinding) => Ok(JitDumpRecord::CodeUnwindingInfo(unwinding)),
-                Err(error) => Err(error),
-            },
+            UNWINDING_INFO => {
+                let unwinding = JitCodeUnwindingInfoRecord::parse(self.endian, self.body)?;
+                Ok(JitDumpRecord::CodeUnwindingInfo(unwinding))
+            }
             _ => Ok(JitDumpRecord::Other(JitDumpRawRecord {
                 endian: self.endian,
                 record_type: self.record_type,

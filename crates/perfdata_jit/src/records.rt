@@ -11,8 +11,9 @@ ghost use Rattle.perfdata_jit.specs.JitRecords.{CodeIsAtOffset, IsTruncatedDebug
 use crate::record::JitDumpRecordHeader;
 use byteorder::{BigEndian, LittleEndian};
 use perfdata_base::raw::{Endianness, FileOrder, RawData};
+use perfdata_base::source::unexpected_eof;
 use std::alloc::Global;
-use std::io::{Error, ErrorKind, Result};
+use std::io::Result;
 
 /// Number of bytes in a load record's body before the function's name.
 const LOAD_FIXED_SIZE: usize = 40;
@@ -100,12 +101,6 @@ pub struct JitCodeUnwindingInfoRecord<'a> {
     pub eh_frame: RawData<'a>,
 }
 
-fn unexpected_eof() -> Error
-    ensures { error_kind result ≡ UnexpectedEof }
-{
-    Error::from(ErrorKind::UnexpectedEof)
-}
-
 impl<'a> JitCodeLoadRecord<'a> {
     /// The offset of the function's name from the start of the record header, in bytes.
     pub const NAME_OFFSET_FROM_RECORD_START: usize = JitDumpRecordHeader::SIZE + LOAD_FIXED_SIZE;
@@ -130,26 +125,20 @@ impl<'a> JitCodeLoadRecord<'a> {
         ensures error { IfErr result (λ error. IsLoadError O.number_of (bytes_of bytes.entry) error) }
     {
         let mut rest = bytes;
-        let mut head = [0u8; LOAD_FIXED_SIZE];
-        match rest.read_exact(&mut head) {
-            Ok(()) => {}
-            Err(error) => return Err(error),
-        }
+        let mut fixed = [0u8; LOAD_FIXED_SIZE];
+        rest.read_exact(&mut fixed)?;
         let function_name = match rest.read_string() {
             Some(name) => name,
             None => return Err(unexpected_eof()),
         };
-        let code_size = O::read_u64(&head[24..]);
-        let code_bytes = match rest.split_off_prefix(code_size as usize) {
-            Ok(code) => code,
-            Err(error) => return Err(error),
-        };
+        let code_size = O::read_u64(&fixed[24..]);
+        let code_bytes = rest.split_off_prefix(code_size as usize)?;
         Ok(JitCodeLoadRecord {
-            pid: O::read_u32(&head),
-            tid: O::read_u32(&head[4..]),
-            vma: O::read_u64(&head[8..]),
-            code_addr: O::read_u64(&head[16..]),
-            code_index: O::read_u64(&head[32..]),
+            pid: O::read_u32(&fixed),
+            tid: O::read_u32(&fixed[4..]),
+            vma: O::read_u64(&fixed[8..]),
+            code_addr: O::read_u64(&fixed[16..]),
+            code_index: O::read_u64(&fixed[32..]),
             function_name,
             code_bytes,
         })
@@ -195,10 +184,7 @@ impl JitCodeMoveRecord {
     {
         let mut rest = bytes;
         let mut body = [0u8; MOVE_SIZE];
-        match rest.read_exact(&mut body) {
-            Ok(()) => {}
-            Err(error) => return Err(error),
-        }
+        rest.read_exact(&mut body)?;
         Ok(JitCodeMoveRecord {
             pid: O::read_u32(&body),
             tid: O::read_u32(&body[4..]),
@@ -216,19 +202,16 @@ fn read_entry<'a, O: FileOrder>(bytes: &mut RawData<'a>) -> Result<JitCodeDebugI
     ensures value { IfOk result (λ entry. IsDebugEntry O.number_of (bytes_of bytes.old) entry (bytes_of bytes.new)) }
     ensures error { IfErr result (λ error. (error_kind error ≡ UnexpectedEof) × IsTruncatedDebugEntry (bytes_of bytes.old)) }
 {
-    let mut head = [0u8; ENTRY_FIXED_SIZE];
-    match bytes.read_exact(&mut head) {
-        Ok(()) => {}
-        Err(error) => return Err(error),
-    }
+    let mut fixed = [0u8; ENTRY_FIXED_SIZE];
+    bytes.read_exact(&mut fixed)?;
     let file_path = match bytes.read_string() {
         Some(path) => path,
         None => return Err(unexpected_eof()),
     };
     Ok(JitCodeDebugInfoEntry {
-        code_addr: O::read_u64(&head),
-        line: O::read_u32(&head[8..]),
-        column: O::read_u32(&head[12..]),
+        code_addr: O::read_u64(&fixed),
+        line: O::read_u32(&fixed[8..]),
+        column: O::read_u32(&fixed[12..]),
         file_path,
     })
 }
@@ -245,14 +228,8 @@ fn read_entries<'a, O: FileOrder>(
 {
     let mut entries = Vec::new(alloc);
     'entries: for _index in 0..count {
-        let entry = match read_entry::<O>(bytes) {
-            Ok(entry) => entry,
-            Err(error) => return Err(error),
-        };
-        match entries.push(entry) {
-            Ok(()) => {}
-            Err(refused) => return Err(Error::from(refused)),
-        }
+        let entry = read_entry::<O>(bytes)?;
+        entries.push(entry)?;
     }
     Ok(entries)
 }
@@ -289,18 +266,13 @@ impl<'a> JitCodeDebugInfoRecord<'a> {
         ensures error { IfErr result (λ error. IsDebugInfoError O.number_of (bytes_of bytes.entry) error) }
     {
         let mut rest = bytes;
-        let mut head = [0u8; DEBUG_INFO_FIXED_SIZE];
-        match rest.read_exact(&mut head) {
-            Ok(()) => {}
-            Err(error) => return Err(error),
-        }
-        match read_entries::<O>(alloc, O::read_u64(&head[8..]), &mut rest) {
-            Ok(entries) => Ok(JitCodeDebugInfoRecord {
-                code_addr: O::read_u64(&head),
-                entries,
-            }),
-            Err(error) => Err(error),
-        }
+        let mut fixed = [0u8; DEBUG_INFO_FIXED_SIZE];
+        rest.read_exact(&mut fixed)?;
+        let entries = read_entries::<O>(alloc, O::read_u64(&fixed[8..]), &mut rest)?;
+        Ok(JitCodeDebugInfoRecord {
+            code_addr: O::read_u64(&fixed),
+            entries,
+        })
     }
 
     /// Returns an entry with the greatest address that is not above `addr`, or `None` if all addresses are above it.
@@ -343,21 +315,12 @@ impl<'a> JitCodeUnwindingInfoRecord<'a> {
         ensures error { IfErr result (λ error. IsUnwindingError O.number_of (bytes_of bytes.entry) error) }
     {
         let mut rest = bytes;
-        let mut head = [0u8; UNWINDING_FIXED_SIZE];
-        match rest.read_exact(&mut head) {
-            Ok(()) => {}
-            Err(error) => return Err(error),
-        }
-        let mut unwinding = match rest.split_off_prefix(O::read_u64(&head) as usize) {
-            Ok(unwinding) => unwinding,
-            Err(error) => return Err(error),
-        };
-        let eh_frame_hdr = match unwinding.split_off_prefix(O::read_u64(&head[8..]) as usize) {
-            Ok(index) => index,
-            Err(error) => return Err(error),
-        };
+        let mut fixed = [0u8; UNWINDING_FIXED_SIZE];
+        rest.read_exact(&mut fixed)?;
+        let mut unwinding = rest.split_off_prefix(O::read_u64(&fixed) as usize)?;
+        let eh_frame_hdr = unwinding.split_off_prefix(O::read_u64(&fixed[8..]) as usize)?;
         Ok(JitCodeUnwindingInfoRecord {
-            mapped_size: O::read_u64(&head[16..]),
+            mapped_size: O::read_u64(&fixed[16..]),
             eh_frame_hdr,
             eh_frame: unwinding,
         })

@@ -1,5 +1,5 @@
 //! A buffer of fixed size that is used as a ring: its bytes may wrap around its end.
-ghost use Rattle.std.specs.Prelude.{◌≡◌, ℕ, ◌+◌, ◌-◌, ◌^◌, ◌<◌, ◌≤◌, List, [], ◌++◌, length, take, drop, slice_range, IfOk, vec_len};
+ghost use Rattle.std.specs.Prelude.{◌≡◌, ℕ, ◌+◌, ◌-◌, ◌^◌, ◌<◌, ◌≤◌, ◌⊎◌, List, [], ◌++◌, length, take, drop, slice_range, IfOk, vec_len};
 ghost use Rattle.perfdata_base.specs.Source.{Reads, CountsRead};
 ghost use Rattle.perfdata_jit.specs.RingFilling.{FillsRing};
 
@@ -22,7 +22,7 @@ pub struct Ring {
 }
 
 impl Ring {
-    ghost use Rattle.perfdata_jit.specs.Ring.{ring_bytes, ring_len, ring_size};
+    ghost use Rattle.perfdata_jit.specs.Ring.{DoesNotWrap, ring_bytes, ring_len, ring_size};
 
     // The ring contains `buffer[start..end]`.
     pub(crate) fn new(buffer: Vec<u8>, start: usize, end: usize) -> Ring
@@ -90,6 +90,8 @@ impl Ring {
         ensures bytes { ring_bytes self.new ≡ drop n (ring_bytes self.old) }
         ensures size { ring_size self.new ≡ ring_size self.old }
         ensures at_front { self.old.start ≡ 0 → (result.0 ≡ 0) × (result.2 ≡ 0) × (result.1 ≡ n) }
+        ensures single { DoesNotWrap n self.old → (result.0 ≡ result.1) ⊎ (result.2 ≡ 0) }
+        ensures keeps_contiguous { (m : ℕ) → n ≤ m → DoesNotWrap m self.old → DoesNotWrap (m - n) self.new }
     {
         let start = self.start;
         let main = self.end - start;
@@ -126,21 +128,13 @@ impl Ring {
     {
         let size = self.buffer.len();
         if self.end < size {
-            match read_into_range(source, &mut self.buffer, self.end, size) {
-                Ok(count) => {
-                    self.end += count;
-                    Ok(count)
-                }
-                Err(error) => Err(error),
-            }
+            let count = read_into_range(source, &mut self.buffer, self.end, size)?;
+            self.end += count;
+            Ok(count)
         } else {
-            match read_into_range(source, &mut self.buffer, self.front, self.start) {
-                Ok(count) => {
-                    self.front += count;
-                    Ok(count)
-                }
-                Err(error) => Err(error),
-            }
+            let front_count = read_into_range(source, &mut self.buffer, self.front, self.start)?;
+            self.front += front_count;
+            Ok(front_count)
         }
     }
 }

@@ -33,17 +33,17 @@ record_lines-snoc records h = flat_map_more record_line [] records h
 
 -- lines are written, and a proper prefix of the next line
 pub wrote_prefix : (a b c : Option (List ℕ)) (records : List RecordView) (h : RecordView) (line : List ℕ) → line ≡ record_line h → Appends a b (record_lines records) → AppendsPrefix b c line → WrotePrefix a c records h
-wrote_prefix a b c records h line is before front = record {
-  count = front.count;
-  is_partial = subst (λ l. front.count < length l) is front.is_partial;
-  appends = subst (λ l. Appends a c (record_lines records ++ take front.count l)) is (Appends-trans a b c _ _ before front.appends);
+wrote_prefix a b c records h line is before prefix = record {
+  count = prefix.count;
+  is_partial = subst (λ l. prefix.count < length l) is prefix.is_partial;
+  appends = subst (λ l. Appends a c (record_lines records ++ take prefix.count l)) is (Appends-trans a b c _ _ before prefix.appends);
 }
 
 module _ {R : Type 0} (state : R → State) where
   -- an iterator that hasn't ended after returning records was running before them
   pub was_running : (it now : PerfRecordIter R) (file file' : PerfFile) (records : List RecordView) → HasNotFailed it → ReturnsRecords state it file records now file' → (now.stage ≢ Ended) → it.stage ≡ Running
-  was_running it now file file' records unfailed all runs = elim unfailed.stage [
-    | inl ran ↦ ran
+  was_running it now file file' records not_failed all runs = elim not_failed.stage [
+    | inl running ↦ running
     | inr ended ↦ absurd (runs (ap (λ i. i.stage) (none_of state it now file file' records ended all).1 ∙ ended))
   ]
 
@@ -68,67 +68,67 @@ module _ {R : Type 0} (state : R → State) where
         returns_records_more state old now new file now_file file' records h all.3 step.1,
       )
 
-  pub listed_into : {old now new : PerfRecordIter R} {file now_file file' : PerfFile} {lines : ℕ} → (before mid after : Option (List ℕ)) → HasNotFailed old → SoFar old file before lines mid now now_file
+  pub listed_part_of_next : {old now new : PerfRecordIter R} {file now_file file' : PerfFile} {lines : ℕ} → (before mid after : Option (List ℕ)) → HasNotFailed old → SoFar old file before lines mid now now_file
       → (step : (h : RecordView) × ReturnsRecord state now now_file h new file' × AppendsPrefix mid after (record_line h)) → ListedPartOfNext state old before after lines
-  listed_into {old} {now} {new} {file} {now_file} {file'} {lines} before mid after unfailed all step =
+  listed_part_of_next {old} {now} {new} {file} {now_file} {file'} {lines} before mid after not_failed all step =
       let h : RecordView = step.0 in
       let records : List RecordView = all.0 in
-      let handed : ReturnsRecord state now now_file h new file' = step.1 in
+      let returned : ReturnsRecord state now now_file h new file' = step.1 in
       record {
-        was_running = was_running old now file now_file records unfailed all.3 (λ ended. let r = handed.was_running in absurd cc);
+        was_running = was_running old now file now_file records not_failed all.3 (λ ended. let r = returned.was_running in absurd cc);
         records = records;
         next = h;
         count = all.1;
         wrote = wrote_prefix before mid after records h (record_line h) refl all.2 step.2;
-        prefix = first_of state old new file file' (records ++ h ∷ []) unfailed.offset_fits (returns_records_more state old now new file now_file file' records h all.3 handed);
+        prefix = first_of state old new file file' (records ++ h ∷ []) not_failed.offset_fits (returns_records_more state old now new file now_file file' records h all.3 returned);
       }
 
   pub listed_all : {old now new : PerfRecordIter R} {file now_file file' : PerfFile} {lines : ℕ} → (before mid after : Option (List ℕ)) → HasNotFailed old → SoFar old file before lines mid now now_file
       → ReturnsEnd state now now_file new file' × Keeps mid after → ListedAll state old file before after lines new file'
-  listed_all {old} {now} {new} {file} {now_file} {file'} {lines} before mid after unfailed all (ended, kept) =
+  listed_all {old} {now} {new} {file} {now_file} {file'} {lines} before mid after not_failed all (ended, kept) =
       let records : List RecordView = all.0 in
       record {
         records = records;
         count = all.1;
         appends = Appends-kept before mid after (record_lines records) all.2 kept;
-        prefix = first_of state old now file now_file records unfailed.offset_fits all.3;
-        complete = λ ran. whole_of state old now new file now_file file' records ran all.3 ended;
-        none_if_ended = λ over. (none_of state old now file now_file records over all.3).0;
+        prefix = first_of state old now file now_file records not_failed.offset_fits all.3;
+        complete = λ running. whole_of state old now new file now_file file' records running all.3 ended;
+        none_if_ended = λ ended. (none_of state old now file now_file records ended all.3).0;
         file_updated = subst (λ f. AccumulatesMetadata old.endian (section_size_of state old) records file f) (sym ended.file_unchanged) (holds_of state old now file now_file records all.3);
       }
 
-  pub listed_to : {old now new : PerfRecordIter R} {file now_file file' : PerfFile} {lines : ℕ} {e : Error} → (before mid after : Option (List ℕ)) → HasNotFailed old → HasMatchingFile state old file → SoFar old file before lines mid now now_file
+  pub listed_until_error : {old now new : PerfRecordIter R} {file now_file file' : PerfFile} {lines : ℕ} {e : Error} → (before mid after : Option (List ℕ)) → HasNotFailed old → HasMatchingFile state old file → SoFar old file before lines mid now now_file
       → ReturnsError state now now_file e new file' × Keeps mid after → ListedUntilError state old before after lines e new
-  listed_to {old} {now} {new} {file} {now_file} {file'} {lines} {e} before mid after unfailed own all (refused, kept) =
+  listed_until_error {old} {now} {new} {file} {now_file} {file'} {lines} {e} before mid after not_failed matching_file all (failed, kept) =
       let records : List RecordView = all.0 in
-      let ran = was_running old now file now_file records unfailed all.3 refused.not_ended in
+      let running = was_running old now file now_file records not_failed all.3 failed.not_ended in
       record {
-        was_running = ran;
+        was_running = running;
         records = records;
         count = all.1;
         appends = Appends-kept before mid after (record_lines records) all.2 kept;
-        prefix = first_of state old now file now_file records unfailed.offset_fits all.3;
-        cause = λ other. stops_of state old now new file now_file file' records e ran own all.3 refused other;
+        prefix = first_of state old now file now_file records not_failed.offset_fits all.3;
+        cause = λ other. stops_of state old now new file now_file file' records e running matching_file all.3 failed other;
       }
 
-  pub listed_held : {old now : PerfRecordIter R} {file now_file : PerfFile} {lines : ℕ} → (before mid after : Option (List ℕ)) → HasNotFailed old → SoFar old file before lines mid now now_file
+  pub listed_until_flush_error : {old now : PerfRecordIter R} {file now_file : PerfFile} {lines : ℕ} → (before mid after : Option (List ℕ)) → HasNotFailed old → SoFar old file before lines mid now now_file
       → ¬ IsFinished state now → Keeps mid after → ListedUntilFlushError state old before after lines
-  listed_held {old} {now} {file} {now_file} {lines} before mid after unfailed all running kept =
+  listed_until_flush_error {old} {now} {file} {now_file} {lines} before mid after not_failed all running kept =
       let records : List RecordView = all.0 in
       record {
-        was_running = was_running old now file now_file records unfailed all.3 (λ ended. running (inl (λ runs. absurd cc)));
+        was_running = was_running old now file now_file records not_failed all.3 (λ ended. running (inl (λ runs. absurd cc)));
         records = records;
         count = all.1;
         appends = Appends-kept before mid after (record_lines records) all.2 kept;
-        prefix = first_of state old now file now_file records unfailed.offset_fits all.3;
+        prefix = first_of state old now file now_file records not_failed.offset_fits all.3;
       }
 
-  pub stops_listing : {old now : PerfRecordIter R} {file now_file : PerfFile} {lines : ℕ} → (before mid after : Option (List ℕ)) (new : PerfRecordIter R) (file' : PerfFile) (cause : ListCause) → HasNotFailed old → HasMatchingFile state old file → SoFar old file before lines mid now now_file
+  pub records_listing_fails : {old now : PerfRecordIter R} {file now_file : PerfFile} {lines : ℕ} → (before mid after : Option (List ℕ)) (new : PerfRecordIter R) (file' : PerfFile) (cause : ListCause) → HasNotFailed old → HasMatchingFile state old file → SoFar old file before lines mid now now_file
       → ListsNext state now now_file mid (Err cause) after new file' → ListingFails state old before after lines cause new
-  stops_listing before mid after new file' (Perf e) unfailed own all step = listed_to before mid after unfailed own all step
-  stops_listing before mid after new file' (Write e) unfailed own all step = listed_into before mid after unfailed all step
-  stops_listing before mid after new file' (Jit e) unfailed own all step = elim step [ ]
-  stops_listing before mid after new file' (Read e) unfailed own all step = elim step [ ]
+  records_listing_fails before mid after new file' (Perf e) not_failed matching_file all step = listed_until_error before mid after not_failed matching_file all step
+  records_listing_fails before mid after new file' (Write e) not_failed matching_file all step = listed_part_of_next before mid after not_failed all step
+  records_listing_fails before mid after new file' (Jit e) not_failed matching_file all step = elim step [ ]
+  records_listing_fails before mid after new file' (Read e) not_failed matching_file all step = elim step [ ]
 
   listing_fails : (old : State) (file : PerfFile) (it new : PerfRecordIter R) (before after : Option (List ℕ)) (lines : ℕ) (cause : ListCause) → FileParsed state old file it → ListingFails state it before after lines cause new → FileListingFails old before after lines cause
   listing_fails old file it new before after lines (Perf e) o listed = record {
@@ -167,4 +167,4 @@ module _ {R : Type 0} (state : R → State) where
 
 -- opening a file fails
 pub file_open_error : (old : State) (e : Error) (out : Option (List ℕ)) → FileParseError old e → ListedFileUntilError old out out 0 e
-file_open_error old e out refused = record { records = []; count = refl; appends = Appends-nil out; source_after = refused.final_state; cause = inl (refl, refused.cause) }
+file_open_error old e out failed = record { records = []; count = refl; appends = Appends-nil out; source_after = failed.final_state; cause = inl (refl, failed.cause) }

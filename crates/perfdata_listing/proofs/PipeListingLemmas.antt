@@ -12,7 +12,7 @@ use Rattle.linux_perf_data.specs.OpenedPipe.{EndsInOpening, KeepsPendingHeader, 
 use Rattle.linux_perf_data.specs.PerfFile.{attributes_of_file}
 use Rattle.linux_perf_data.specs.PipeReading.{HoldsForPipeRest, IsCompletePipe}
 use Rattle.linux_perf_data.specs.FileReading.{AreFirstRecords}
-use Rattle.linux_perf_data.proofs.PipeReadings.{error_there, first_after, first_none, first_there, front, holds_all, parsed_none, parsed_there, source_error_there, pauses, whole_none, whole_there}
+use Rattle.linux_perf_data.proofs.PipeReadings.{error_there, first_after, first_none, first_there, opening_prefix, holds_all, parsed_none, parsed_there, source_error_there, pauses, whole_none, whole_there}
 use Rattle.perfdata_listing.specs.Listing.{ListedAll, ListedUntilFlushError, ListsLiveRecords, ListingFails}
 use Rattle.perfdata_listing.specs.PipeListing.{ListedPipeUntilFlushError, ListedPipe, ListsLivePipe, ListedPipeUntilError, PipeListingFails}
 use Rattle.perfdata_listing.specs.declared.list.ListFault.{ListFault}
@@ -21,13 +21,13 @@ use Rattle.perfdata_listing.specs.declared.list.ListCause.TheVariants.{Perf, Jit
 
 module _ {R : Type 0} (state : R → State) (old : State) (file : PerfFile) (it : PerfRecordIter R) (o : PipeParsed state old file it) where
   abbrev before_first : List ℕ
-  before_first = front state old file it o
+  before_first = opening_prefix state old file it o
 
   module _ (k : KeepsPendingHeader state old before_first it) where
-    listed_behind : (new : PerfRecordIter R) (file' : PerfFile) (before after : Option (List ℕ)) (lines : ℕ) → ListedAll state it file before after lines new file' → ListedPipe old before after lines file'
-    listed_behind new file' before after lines l = record {
+    listed_after_header : (new : PerfRecordIter R) (file' : PerfFile) (before after : Option (List ℕ)) (lines : ℕ) → ListedAll state it file before after lines new file' → ListedPipe old before after lines file'
+    listed_after_header new file' before after lines l = record {
       endian = it.endian;
-      pieces = o.raw_records;
+      metadata_records = o.raw_records;
       pending_header = Some k.header_bytes;
       opening = parsed_there state old file it o k;
       records = l.records;
@@ -38,7 +38,7 @@ module _ {R : Type 0} (state : R → State) (old : State) (file : PerfFile) (it 
       first = first_after state old file it o k l.records l.prefix;
       source_after = iter_source_state state new;
       complete = elim (l.complete k.stage_running) [
-        | inl come ↦ inl (whole_there state old file it o k l.records (come (attributes_of_file file) o.represents))
+        | inl complete ↦ inl (whole_there state old file it o k l.records (complete (attributes_of_file file) o.represents))
         | inr paused ↦ inr (pauses state old file it o k (iter_source_state state new) paused.1)
       ];
     }
@@ -48,7 +48,7 @@ module _ {R : Type 0} (state : R → State) (old : State) (file : PerfFile) (it 
     listed_none new file' before after lines l =
         let none = l.none_if_ended e.stage_ended in record {
           endian = it.endian;
-          pieces = o.raw_records;
+          metadata_records = o.raw_records;
           pending_header = None;
           opening = parsed_none state old file it o e;
           records = l.records;
@@ -71,7 +71,7 @@ module _ {R : Type 0} (state : R → State) (old : State) (file : PerfFile) (it 
     appends = l.appends;
     cause = inr (record {
       endian = it.endian;
-      pieces = o.raw_records;
+      metadata_records = o.raw_records;
       pending_header = k.header_bytes;
       opening = parsed_there state old file it o k;
       source_after = iter_source_state state new;
@@ -81,7 +81,7 @@ module _ {R : Type 0} (state : R → State) (old : State) (file : PerfFile) (it 
   }
   pipe_listing_fails new before after lines (Write e) k l = record {
     endian = it.endian;
-    pieces = o.raw_records;
+    metadata_records = o.raw_records;
     pending_header = k.header_bytes;
     opening = parsed_there state old file it o k;
     records = l.records;
@@ -102,35 +102,35 @@ module _ {R : Type 0} (state : R → State) (old : State) (file : PerfFile) (it 
 
   -- a pipe is opened, and its records are listed
   pub lists_pipe : (new : PerfRecordIter R) (file' : PerfFile) (before after : Option (List ℕ)) (lines : ℕ) → ListedAll state it file before after lines new file' → ListedPipe old before after lines file'
-  lists_pipe new file' before after lines l = elim o.end_of_opening [ inl k ↦ listed_behind k new file' before after lines l | inr e ↦ listed_none e new file' before after lines l ]
+  lists_pipe new file' before after lines l = elim o.end_of_opening [ inl k ↦ listed_after_header k new file' before after lines l | inr e ↦ listed_none e new file' before after lines l ]
 
   pub lists_pipe_until_error : (new : PerfRecordIter R) (before after : Option (List ℕ)) (lines : ℕ) (cause : ListCause) → ListingFails state it before after lines cause new → PipeListingFails old before after lines cause
   lists_pipe_until_error new before after lines cause l = elim o.end_of_opening [ inl k ↦ pipe_listing_fails new before after lines cause k l | inr e ↦ absurd (running_or_ended new before after lines cause e l) ]
 
   -- the records are listed live, and then the flush of their lines fails
-  held_behind : (before after : Option (List ℕ)) (lines : ℕ) → KeepsPendingHeader state old before_first it → ListedUntilFlushError state it before after lines → ListedPipeUntilFlushError old before after lines
-  held_behind before after lines k held = record {
+  pipe_until_flush_error : (before after : Option (List ℕ)) (lines : ℕ) → KeepsPendingHeader state old before_first it → ListedUntilFlushError state it before after lines → ListedPipeUntilFlushError old before after lines
+  pipe_until_flush_error before after lines k listed = record {
     endian = it.endian;
-    pieces = o.raw_records;
+    metadata_records = o.raw_records;
     pending_header = k.header_bytes;
     opening = parsed_there state old file it o k;
-    records = held.records;
-    count = held.count;
-    appends = held.appends;
-    first = first_there state old file it o k held.records held.prefix;
+    records = listed.records;
+    count = listed.count;
+    appends = listed.appends;
+    first = first_there state old file it o k listed.records listed.prefix;
   }
 
   pub live_pipe : (new : PerfRecordIter R) (file' : PerfFile) (before after : Option (List ℕ)) (r : Result ℕ ListFault) → ListsLiveRecords state it file before r after new file' → ListsLivePipe old before r after
   live_pipe new file' before after (Ok lines) l = (file', lists_pipe new file' before after lines l)
-  live_pipe new file' before after (Err fault) (inl stops) = inl (lists_pipe_until_error new before after fault.lines fault.cause stops)
-  live_pipe new file' before after (Err fault) (inr held) = inr (
-    held.0,
+  live_pipe new file' before after (Err fault) (inl failed) = inl (lists_pipe_until_error new before after fault.lines fault.cause failed)
+  live_pipe new file' before after (Err fault) (inr listed) = inr (
+    listed.0,
     elim o.end_of_opening [
-      | inl k ↦ held_behind before after fault.lines k held.1
-      | inr ended ↦ (let r = held.1.was_running in let s = ended.stage_ended in absurd cc)
+      | inl k ↦ pipe_until_flush_error before after fault.lines k listed.1
+      | inr ended ↦ (let r = listed.1.was_running in let s = ended.stage_ended in absurd cc)
     ],
   )
 
 -- opening a pipe fails
 pub pipe_open_error : {R : Type 0} (state : R → State) (old : State) (e : Error) (out : Option (List ℕ)) → PipeParseError state old e → ListedPipeUntilError old out out 0 e
-pipe_open_error state old e out refused = record { records = []; count = refl; appends = Appends-nil out; cause = inl (refl, (refused.final_state, refused.error)) }
+pipe_open_error state old e out failed = record { records = []; count = refl; appends = Appends-nil out; cause = inl (refl, (failed.final_state, failed.error)) }

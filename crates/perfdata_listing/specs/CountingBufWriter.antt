@@ -30,9 +30,9 @@ contents_with_buffer contents b = append_known (contents (inner_writer b)) (pend
 
 -- The given bytes are appended to the pending ones. A prefix of all of these is written to the inner writer, the rest is
 -- pending, and the newlines in the prefix are counted.
-pub record BuffersAndForwards {W : Type 0} (contents : W → Option (List ℕ)) (old : CountingBufWriter W) (given : List ℕ) (new : CountingBufWriter W) : Type 0 where
+pub record BuffersAndForwards {W : Type 0} (contents : W → Option (List ℕ)) (old : CountingBufWriter W) (bytes : List ℕ) (new : CountingBufWriter W) : Type 0 where
   pub forwarded : List ℕ
-  pub split : pending_bytes old ++ given ≡ forwarded ++ pending_bytes new
+  pub split : pending_bytes old ++ bytes ≡ forwarded ++ pending_bytes new
   pub appended : Appends (contents (inner_writer old)) (contents (inner_writer new)) forwarded
   pub counted : lines_written new ≡ min (lines_written old + newline_count forwarded) (2 ^ 64 - 1)
 

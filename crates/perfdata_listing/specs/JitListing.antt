@@ -26,47 +26,47 @@ use Rattle.perfdata_listing.specs.declared.list.ListCause.TheVariants.{Jit, Read
 abbrev pub raw_record_text : JitDumpRawRecord → List ℕ
 raw_record_text r = jit_record_text r.start_offset r.timestamp r.record_type.0 r.record_size
 
-module _ (order : Endianness) where
+module _ (endian : Endianness) where
   -- the line of the record with these bytes, at an offset in the file
   abbrev pub jit_line : ℕ → List ℕ → List ℕ
-  jit_line offset piece = jit_record_text offset (record_header_at order piece).timestamp (record_header_at order piece).record_type.0 (record_header_at order piece).total_size
+  jit_line offset raw = jit_record_text offset (record_header_at endian raw).timestamp (record_header_at endian raw).record_type.0 (record_header_at endian raw).total_size
 
   -- the lines of consecutive records, the first of them at this offset
   abbrev pub jit_lines : ℕ → List (List ℕ) → List ℕ
   jit_lines offset [] = []
-  jit_lines offset (piece ∷ pieces) = jit_line offset piece ++ jit_lines (offset + length piece) pieces
+  jit_lines offset (raw ∷ raw_records) = jit_line offset raw ++ jit_lines (offset + length raw) raw_records
 
   -- all remaining bytes are known, and they start with no complete record
-  pub record EndsWithoutWholeRecord (offset : ℕ) (left : Option (List ℕ)) : Type 0 where
+  pub record EndsWithoutWholeRecord (offset : ℕ) (remaining : Option (List ℕ)) : Type 0 where
     pub rest : List ℕ
-    pub matches : left ≡ Some rest
-    pub no_whole_record : HasNoWholeRecord order offset rest
+    pub matches : remaining ≡ Some rest
+    pub no_whole_record : HasNoWholeRecord endian offset rest
 
   -- The lines of these records are written, and a proper prefix of the next record's line.
-  pub record WroteJitPrefix (offset : ℕ) (before after : Option (List ℕ)) (pieces : List (List ℕ)) (next : List ℕ) : Type 0 where
+  pub record WroteJitPrefix (offset : ℕ) (before after : Option (List ℕ)) (raw_records : List (List ℕ)) (next : List ℕ) : Type 0 where
     pub count : ℕ
-    pub is_partial : count < length (jit_line (offset + length (concat pieces)) next)
-    pub appends : Appends before after (jit_lines offset pieces ++ take count (jit_line (offset + length (concat pieces)) next))
+    pub is_partial : count < length (jit_line (offset + length (concat raw_records)) next)
+    pub appends : Appends before after (jit_lines offset raw_records ++ take count (jit_line (offset + length (concat raw_records)) next))
 
 -- The buffered bytes start with a header of invalid size. Or they start with no complete record, and the source failed, or
 -- the header is buffered and an allocation failed for a body larger than the ring.
 abbrev pub JitReadError : State → ℕ → Endianness → ℕ → List ℕ → Error → State → Type 0
-JitReadError first size order offset held e last =
-    (HasInvalidSize order offset held × (error_kind e ≡ InvalidData))
-    ⊎ (HasNoWholeRecord order offset held × (SourceFailed first last ⊎ ((16 ≤ length held) × (size + 16 < record_size_at order held) × (error_kind e ≡ OutOfMemory))))
+JitReadError first size endian offset buffered e source_after =
+    (HasInvalidSize endian offset buffered × (error_kind e ≡ InvalidData))
+    ⊎ (HasNoWholeRecord endian offset buffered × (SourceFailed first source_after ⊎ ((16 ≤ length buffered) × (size + 16 < record_size_at endian buffered) × (error_kind e ≡ OutOfMemory))))
 
 -- If the bytes of the file are known, the file starts with this header, followed by these records and then by the rest.
-pub record BeginsWithJitRecords (bytes : Option (List ℕ)) (order : Endianness) (header : JitDumpHeader) (pieces : List (List ℕ)) (left : Option (List ℕ)) : Type 0 where
-  pub has_header : IfSome bytes (λ all. IsJitHeader order all header)
-  pub split : option_map (λ all. drop header.total_size all) bytes ≡ prepend (concat pieces) left
-  pub elements : AreRecords order header.total_size pieces
+pub record BeginsWithJitRecords (bytes : Option (List ℕ)) (endian : Endianness) (header : JitDumpHeader) (raw_records : List (List ℕ)) (rest : Option (List ℕ)) : Type 0 where
+  pub has_header : IfSome bytes (λ all. IsJitHeader endian all header)
+  pub split : option_map (λ all. drop header.total_size all) bytes ≡ prepend (concat raw_records) rest
+  pub elements : AreRecords endian header.total_size raw_records
 
 module _ {R : Type 0} (state : R → State) where
   -- A reader returned these records, which led from the old state to the new one. No seek failed.
-  pub record ReturnedJitRecords (old : JitDumpReader R) (pieces : List (List ℕ)) (new : JitDumpReader R) : Type 0 where
-    pub elements : AreRecords (jit_endian old) (jit_offset old) pieces
-    pub unread_bytes : jit_unread_bytes state old ≡ prepend (concat pieces) (jit_unread_bytes state new)
-    pub offset : jit_offset new ≡ jit_offset old + length (concat pieces)
+  pub record ReturnedJitRecords (old : JitDumpReader R) (raw_records : List (List ℕ)) (new : JitDumpReader R) : Type 0 where
+    pub elements : AreRecords (jit_endian old) (jit_offset old) raw_records
+    pub unread_bytes : jit_unread_bytes state old ≡ prepend (concat raw_records) (jit_unread_bytes state new)
+    pub offset : jit_offset new ≡ jit_offset old + length (concat raw_records)
     pub same_endian : jit_endian new ≡ jit_endian old
     pub same_capacity : jit_ring_capacity new ≡ jit_ring_capacity old
     pub consumed_bytes : List ℕ
@@ -75,32 +75,32 @@ module _ {R : Type 0} (state : R → State) where
 
   -- the lines of a reader's records
   abbrev pub jit_lines_from : JitDumpReader R → List (List ℕ) → List ℕ
-  jit_lines_from old pieces = jit_lines (jit_endian old) (jit_offset old) pieces
+  jit_lines_from old raw_records = jit_lines (jit_endian old) (jit_offset old) raw_records
 
   -- all complete records are listed, and a read was empty
   pub record ListedJitRecords (old : JitDumpReader R) (before after : Option (List ℕ)) (lines : ℕ) (new : JitDumpReader R) : Type 0 where
-    pub pieces : List (List ℕ)
-    pub count : lines ≡ length pieces
-    pub appends : Appends before after (jit_lines_from old pieces)
-    pub returned : ReturnedJitRecords old pieces new
+    pub raw_records : List (List ℕ)
+    pub count : lines ≡ length raw_records
+    pub appends : Appends before after (jit_lines_from old raw_records)
+    pub returned : ReturnedJitRecords old raw_records new
     pub no_whole_record : HasNoWholeRecord (jit_endian new) (jit_offset new) (jit_buffered new)
     pub ended_or_paused : EndedOrPaused (jit_source_state state old) (jit_source_state state new)
 
   -- the first records are listed, and the read of the next one fails
   pub record ListedJitRecordsUntilError (old : JitDumpReader R) (before after : Option (List ℕ)) (lines : ℕ) (e : Error) (new : JitDumpReader R) : Type 0 where
-    pub pieces : List (List ℕ)
-    pub count : lines ≡ length pieces
-    pub appends : Appends before after (jit_lines_from old pieces)
-    pub returned : ReturnedJitRecords old pieces new
+    pub raw_records : List (List ℕ)
+    pub count : lines ≡ length raw_records
+    pub appends : Appends before after (jit_lines_from old raw_records)
+    pub returned : ReturnedJitRecords old raw_records new
     pub cause : JitReadError (jit_source_state state old) (jit_ring_capacity old) (jit_endian new) (jit_offset new) (jit_buffered new) e (jit_source_state state new)
 
   -- the first records are listed, and a proper prefix of the next record's line is written
   pub record ListedJitRecordsPartOfNext (old : JitDumpReader R) (before after : Option (List ℕ)) (lines : ℕ) (new : JitDumpReader R) : Type 0 where
-    pub pieces : List (List ℕ)
+    pub raw_records : List (List ℕ)
     pub next : List ℕ
-    pub count : lines ≡ length pieces
-    pub wrote : WroteJitPrefix (jit_endian old) (jit_offset old) before after pieces next
-    pub returned : ReturnedJitRecords old (pieces ++ next ∷ []) new
+    pub count : lines ≡ length raw_records
+    pub wrote : WroteJitPrefix (jit_endian old) (jit_offset old) before after raw_records next
+    pub returned : ReturnedJitRecords old (raw_records ++ next ∷ []) new
 
   -- what listing one record does: whether there is a complete one, and its line is written; if the writer fails, a proper
   -- prefix of that line is written
@@ -113,16 +113,16 @@ module _ {R : Type 0} (state : R → State) where
 
   -- nothing is read, and the next record is unchanged
   pub record ReadsNothing (old new : JitDumpReader R) : Type 0 where
-    pub stays : KeepsPosition state old new
+    pub keeps_position : KeepsPosition state old new
     pub source : jit_source new ≡ jit_source old
-    pub held : jit_buffered new ≡ jit_buffered old
+    pub buffered : jit_buffered new ≡ jit_buffered old
 
   -- the first records are listed, and then the flush of their lines fails
-  pub record HeldJitRecords (old : JitDumpReader R) (before after : Option (List ℕ)) (lines : ℕ) (new : JitDumpReader R) : Type 0 where
-    pub pieces : List (List ℕ)
-    pub count : lines ≡ length pieces
-    pub appends : Appends before after (jit_lines_from old pieces)
-    pub handed : ReturnedJitRecords old pieces new
+  pub record ListedJitRecordsUntilFlushError (old : JitDumpReader R) (before after : Option (List ℕ)) (lines : ℕ) (new : JitDumpReader R) : Type 0 where
+    pub raw_records : List (List ℕ)
+    pub count : lines ≡ length raw_records
+    pub appends : Appends before after (jit_lines_from old raw_records)
+    pub returned : ReturnedJitRecords old raw_records new
 
   abbrev pub JitRecordListingFails : JitDumpReader R → Option (List ℕ) → Option (List ℕ) → ℕ → ListCause → JitDumpReader R → Type 0
   JitRecordListingFails old before after lines (Read e) new = ListedJitRecordsUntilError old before after lines e new
@@ -137,7 +137,7 @@ module _ {R : Type 0} (state : R → State) where
   -- the same for a live input, except that the flush of its lines may also fail
   abbrev pub ListsLiveJitRecords : JitDumpReader R → Option (List ℕ) → Result ℕ ListFault → Option (List ℕ) → JitDumpReader R → Type 0
   ListsLiveJitRecords old before (Ok lines) after new = ListedJitRecords old before after lines new
-  ListsLiveJitRecords old before (Err fault) after new = JitRecordListingFails old before after fault.lines fault.cause new ⊎ (IsWrite fault.cause × HeldJitRecords old before after fault.lines new)
+  ListsLiveJitRecords old before (Err fault) after new = JitRecordListingFails old before after fault.lines fault.cause new ⊎ (IsWrite fault.cause × ListedJitRecordsUntilFlushError old before after fault.lines new)
 
 -- the call for the next record may block only without pending bytes: either the record is buffered, or there are none
 abbrev pub MayBlock : {R : Type 0} → JitDumpReader R → List ℕ → Type 0
@@ -149,13 +149,13 @@ module _ {R : Type 0} (state : R → State) (source : R) (size : ℕ) where
   pub record ListedJit (before after : Option (List ℕ)) (lines : ℕ) : Type 0 where
     pub endian : Endianness
     pub header : JitDumpHeader
-    pub pieces : List (List ℕ)
+    pub raw_records : List (List ℕ)
     pub rest : Option (List ℕ)
-    pub count : lines ≡ length pieces
-    pub appends : Appends before after (jit_lines endian header.total_size pieces)
-    pub first : BeginsWithJitRecords (state source).bytes endian header pieces rest
+    pub count : lines ≡ length raw_records
+    pub appends : Appends before after (jit_lines endian header.total_size raw_records)
+    pub first : BeginsWithJitRecords (state source).bytes endian header raw_records rest
     pub source_after : State
-    pub ends : EndsWithoutWholeRecord endian (header.total_size + length (concat pieces)) rest ⊎ SourcePaused (state source) source_after
+    pub ends : EndsWithoutWholeRecord endian (header.total_size + length (concat raw_records)) rest ⊎ SourcePaused (state source) source_after
 
   -- the file isn't opened, and no line is written
   pub record JitOpenError (before after : Option (List ℕ)) (lines : ℕ) (e : JitDumpError) : Type 0 where
@@ -167,34 +167,34 @@ module _ {R : Type 0} (state : R → State) (source : R) (size : ℕ) where
   pub record ListedJitUntilError (before after : Option (List ℕ)) (lines : ℕ) (e : Error) : Type 0 where
     pub endian : Endianness
     pub header : JitDumpHeader
-    pub pieces : List (List ℕ)
+    pub raw_records : List (List ℕ)
     pub buffered : List ℕ
     pub source_after : State
-    pub count : lines ≡ length pieces
-    pub appends : Appends before after (jit_lines endian header.total_size pieces)
-    pub first : BeginsWithJitRecords (state source).bytes endian header pieces (prepend buffered source_after.bytes)
-    pub cause : JitReadError (state source) size endian (header.total_size + length (concat pieces)) buffered e source_after
+    pub count : lines ≡ length raw_records
+    pub appends : Appends before after (jit_lines endian header.total_size raw_records)
+    pub first : BeginsWithJitRecords (state source).bytes endian header raw_records (prepend buffered source_after.bytes)
+    pub cause : JitReadError (state source) size endian (header.total_size + length (concat raw_records)) buffered e source_after
 
   -- the first records are listed, and a proper prefix of the next record's line is written
   pub record ListedJitPartOfNext (before after : Option (List ℕ)) (lines : ℕ) : Type 0 where
     pub endian : Endianness
     pub header : JitDumpHeader
-    pub pieces : List (List ℕ)
+    pub raw_records : List (List ℕ)
     pub next : List ℕ
     pub rest : Option (List ℕ)
-    pub count : lines ≡ length pieces
-    pub wrote : WroteJitPrefix endian header.total_size before after pieces next
-    pub first : BeginsWithJitRecords (state source).bytes endian header (pieces ++ next ∷ []) rest
+    pub count : lines ≡ length raw_records
+    pub wrote : WroteJitPrefix endian header.total_size before after raw_records next
+    pub first : BeginsWithJitRecords (state source).bytes endian header (raw_records ++ next ∷ []) rest
 
   -- the first records are listed, and then the flush of their lines fails
-  pub record HeldJit (before after : Option (List ℕ)) (lines : ℕ) : Type 0 where
-    pub order : Endianness
+  pub record ListedJitUntilFlushError (before after : Option (List ℕ)) (lines : ℕ) : Type 0 where
+    pub endian : Endianness
     pub header : JitDumpHeader
-    pub pieces : List (List ℕ)
-    pub left : Option (List ℕ)
-    pub count : lines ≡ length pieces
-    pub appends : Appends before after (jit_lines order header.total_size pieces)
-    pub first : BeginsWithJitRecords (state source).bytes order header pieces left
+    pub raw_records : List (List ℕ)
+    pub rest : Option (List ℕ)
+    pub count : lines ≡ length raw_records
+    pub appends : Appends before after (jit_lines endian header.total_size raw_records)
+    pub first : BeginsWithJitRecords (state source).bytes endian header raw_records rest
 
   abbrev pub JitListingFails : Option (List ℕ) → Option (List ℕ) → ℕ → ListCause → Type 0
   JitListingFails before after lines (Jit e) = JitOpenError before after lines e
@@ -210,4 +210,4 @@ module _ {R : Type 0} (state : R → State) (source : R) (size : ℕ) where
   -- what a listing of a live jitdump does: the same, except that the flush of its lines may also fail
   abbrev pub ListsLiveJit : Option (List ℕ) → Result ℕ ListFault → Option (List ℕ) → Type 0
   ListsLiveJit before (Ok lines) after = ListedJit before after lines
-  ListsLiveJit before (Err fault) after = JitListingFails before after fault.lines fault.cause ⊎ (IsWrite fault.cause × HeldJit before after fault.lines)
+  ListsLiveJit before (Err fault) after = JitListingFails before after fault.lines fault.cause ⊎ (IsWrite fault.cause × ListedJitUntilFlushError before after fault.lines)

@@ -101,12 +101,12 @@ module _ {R : Type 0} (state : R → State) where
   ListsRecords old file before (Err fault) after new file' = ListingFails old before after fault.lines fault.cause new
 
   -- the same for a live input, except that the flush of its lines may also fail
-  abbrev pub StopsLiveListing : PerfRecordIter R → Option (List ℕ) → Option (List ℕ) → ℕ → ListCause → PerfRecordIter R → Type 0
-  StopsLiveListing old before after lines cause new = ListingFails old before after lines cause new ⊎ (IsWrite cause × ListedUntilFlushError old before after lines)
+  abbrev pub LiveListingFails : PerfRecordIter R → Option (List ℕ) → Option (List ℕ) → ℕ → ListCause → PerfRecordIter R → Type 0
+  LiveListingFails old before after lines cause new = ListingFails old before after lines cause new ⊎ (IsWrite cause × ListedUntilFlushError old before after lines)
 
   abbrev pub ListsLiveRecords : PerfRecordIter R → PerfFile → Option (List ℕ) → Result ℕ ListFault → Option (List ℕ) → PerfRecordIter R → PerfFile → Type 0
   ListsLiveRecords old file before (Ok lines) after new file' = ListedAll old file before after lines new file'
-  ListsLiveRecords old file before (Err fault) after new file' = StopsLiveListing old before after fault.lines fault.cause new
+  ListsLiveRecords old file before (Err fault) after new file' = LiveListingFails old before after fault.lines fault.cause new
 
 -- all records of a file are listed, and its layout is complete
 pub record ListedFile (old : State) (before after : Option (List ℕ)) (lines : ℕ) : Type 0 where

@@ -21,28 +21,28 @@ use Rattle.perfdata_listing.specs.declared.list.ListCause.TheVariants.{Perf, Wri
 -- follows its opening. The `PerfFile` contains exactly the metadata that was read.
 pub record ListedPipe (old : State) (before after : Option (List ℕ)) (lines : ℕ) (file : PerfFile) : Type 0 where
   pub endian : Endianness
-  pub pieces : List (List ℕ)
+  pub metadata_records : List (List ℕ)
   pub pending_header : Option (List ℕ)
-  pub opening : OpensWith endian pieces old pending_header
+  pub opening : OpensWith endian metadata_records old pending_header
   pub records : List RecordView
   pub none_without_header : pending_header ≡ None → records ≡ []
   pub count : lines ≡ length records
   pub appends : Appends before after (record_lines records)
-  pub file_updated : HoldsAllMetadata endian pieces records file
-  pub first : IfSome old.bytes (λ bytes. HoldsForPipeRest endian pieces bytes (λ Come. AreFirstRecords Come records))
+  pub file_updated : HoldsAllMetadata endian metadata_records records file
+  pub first : IfSome old.bytes (λ bytes. HoldsForPipeRest endian metadata_records bytes (λ Come. AreFirstRecords Come records))
   pub source_after : State
-  pub complete : IfSome old.bytes (IsCompletePipe endian pieces records) ⊎ SourcePaused old source_after
+  pub complete : IfSome old.bytes (IsCompletePipe endian metadata_records records) ⊎ SourcePaused old source_after
 
 -- The first records of a pipe are listed, and then its reading fails: after these records the layout ends with an error
 -- that this one reports, or the source failed or paused.
 pub record FailsAfterOpening (old : State) (records : List RecordView) (e : Error) : Type 0 where
   pub endian : Endianness
-  pub pieces : List (List ℕ)
+  pub metadata_records : List (List ℕ)
   pub pending_header : List ℕ
-  pub opening : OpensWith endian pieces old (Some pending_header)
+  pub opening : OpensWith endian metadata_records old (Some pending_header)
   pub source_after : State
-  pub first : IfSome old.bytes (λ bytes. HoldsForPipe endian pieces bytes (λ Come. AreFirstRecords Come records))
-  pub cause : e ≢ Memory → IfSome old.bytes (λ bytes. HoldsForPipe endian pieces bytes (λ Come. (f : LayoutError) × Come records (ends_with_error f) × IsErrorFor f e))
+  pub first : IfSome old.bytes (λ bytes. HoldsForPipe endian metadata_records bytes (λ Come. AreFirstRecords Come records))
+  pub cause : e ≢ Memory → IfSome old.bytes (λ bytes. HoldsForPipe endian metadata_records bytes (λ Come. (f : LayoutError) × Come records (ends_with_error f) × IsErrorFor f e))
       ⊎ SourceErrorInSomeRecord endian None (without_position old) e source_after
 
 -- Some records are listed, and then the reading of the pipe fails: in its opening, with no record listed, or after it.
@@ -50,30 +50,30 @@ pub record ListedPipeUntilError (old : State) (before after : Option (List ℕ))
   pub records : List RecordView
   pub count : lines ≡ length records
   pub appends : Appends before after (record_lines records)
-  pub cause : ((records ≡ []) × ((left : State) × FailsBy IsPipeError old e left)) ⊎ FailsAfterOpening old records e
+  pub cause : ((records ≡ []) × ((source_after : State) × FailsBy IsPipeError old e source_after)) ⊎ FailsAfterOpening old records e
 
 -- the first records of a pipe are listed, and a proper prefix of the next record's line is written
 pub record ListedPipePartOfNext (old : State) (before after : Option (List ℕ)) (lines : ℕ) : Type 0 where
   pub endian : Endianness
-  pub pieces : List (List ℕ)
+  pub metadata_records : List (List ℕ)
   pub pending_header : List ℕ
-  pub opening : OpensWith endian pieces old (Some pending_header)
+  pub opening : OpensWith endian metadata_records old (Some pending_header)
   pub records : List RecordView
   pub next : RecordView
   pub count : lines ≡ length records
   pub wrote : WrotePrefix before after records next
-  pub first : IfSome old.bytes (λ bytes. HoldsForPipe endian pieces bytes (λ Come. AreFirstRecords Come (records ++ next ∷ [])))
+  pub first : IfSome old.bytes (λ bytes. HoldsForPipe endian metadata_records bytes (λ Come. AreFirstRecords Come (records ++ next ∷ [])))
 
 -- the first records of a pipe are listed, and then the flush of their lines before a possible wait fails
 pub record ListedPipeUntilFlushError (old : State) (before after : Option (List ℕ)) (lines : ℕ) : Type 0 where
   pub endian : Endianness
-  pub pieces : List (List ℕ)
+  pub metadata_records : List (List ℕ)
   pub pending_header : List ℕ
-  pub opening : OpensWith endian pieces old (Some pending_header)
+  pub opening : OpensWith endian metadata_records old (Some pending_header)
   pub records : List RecordView
   pub count : lines ≡ length records
   pub appends : Appends before after (record_lines records)
-  pub first : IfSome old.bytes (λ bytes. HoldsForPipe endian pieces bytes (λ Come. AreFirstRecords Come records))
+  pub first : IfSome old.bytes (λ bytes. HoldsForPipe endian metadata_records bytes (λ Come. AreFirstRecords Come records))
 
 abbrev pub PipeListingFails : State → Option (List ℕ) → Option (List ℕ) → ℕ → ListCause → Type 0
 PipeListingFails old before after lines (Perf e) = ListedPipeUntilError old before after lines e

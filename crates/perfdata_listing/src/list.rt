@@ -145,10 +145,7 @@ fn flush_before_blocking<R: Source, W: FlushPending>(
     if iter.is_next_buffered() {
         return Ok(());
     }
-    match out.flush_pending() {
-        Ok(()) => Ok(()),
-        Err(error) => Err(error),
-    }
+    out.flush_pending()
 }
 
 /// Writes a line for each remaining record of a live input. Returns the number of lines. Pending lines are flushed before
@@ -220,10 +217,8 @@ fn list_pipe_with_file<R: Source + Drop, W: Write>(
         Ok(reader) => {
             let mut file = reader.perf_file;
             let mut iter = reader.record_iter;
-            match list_records(&mut iter, &mut file, out) {
-                Ok(lines) => Ok((lines, file)),
-                Err(fault) => Err(fault),
-            }
+            let lines = list_records(&mut iter, &mut file, out)?;
+            Ok((lines, file))
         }
         Err(error) => {
             let cause = ListCause::Perf(error);
@@ -248,10 +243,8 @@ pub fn list_pipe<R: Source + Drop, W: Write>(
 ) -> Result<u64, ListFault>
     ensures { ListsPipe (R.state source) (W.contents out.old) result (W.contents out.new) }
 {
-    match list_pipe_with_file(alloc, source, out) {
-        Ok((lines, _file)) => Ok(lines),
-        Err(fault) => Err(fault),
-    }
+    let (lines, _file) = list_pipe_with_file(alloc, source, out)?;
+    Ok(lines)
 }
 
 /// Lists a live pipe as [`list_pipe`] does, into a writer that may buffer lines. The lines are flushed before each record

@@ -24,7 +24,7 @@ fn write_all_counted<W: Write>(out: &mut W, bytes: &[u8]) -> (usize, io::Result<
     ensures appends { Appends (W.contents out.old) (W.contents out.new) (take result.0 bytes.now) }
 {
     let mut total = 0;
-    'pieces: while total < bytes.len() {
+    'writes: while total < bytes.len() {
         match out.write(&bytes[total..]) {
             Ok(0) => {
                 let error = io::Error::new(ErrorKind::WriteZero, "the writer takes no byte");
@@ -55,10 +55,8 @@ pub fn finish<W: Write>(outcome: Result<u64, u64>, err: &mut W) -> io::Result<u8
         Ok(_) => Ok(0),
         Err(records) => {
             let line = Line::for_error(records);
-            match write_line(err, line.as_bytes()) {
-                Ok(()) => Ok(2),
-                Err(error) => Err(error),
-            }
+            write_line(err, line.as_bytes())?;
+            Ok(2)
         }
     }
 }
@@ -92,11 +90,11 @@ fn count_newlines(bytes: &[u8]) -> u64
     ensures { result ≡ newline_count bytes.now }
 {
     let mut lines = 0;
-    let mut left = bytes;
-    'pieces: while !left.is_empty() {
-        let (piece, behind) = left.split_at(left.len().min(NEWLINE_BLOCK_SIZE));
-        lines += count_newlines_in_block(piece) as u64;
-        left = behind;
+    let mut remaining = bytes;
+    'blocks: while !remaining.is_empty() {
+        let (block, rest) = remaining.split_at(remaining.len().min(NEWLINE_BLOCK_SIZE));
+        lines += count_newlines_in_block(block) as u64;
+        remaining = rest;
     }
     lines
 }
@@ -114,12 +112,12 @@ fn drain_prefix(bytes: &mut Vec<u8>, count: usize)
 
 /// Appends the bytes to the buffered ones, without an allocation.
 #[inline]
-fn append_within_capacity(held: &mut Vec<u8>, bytes: &[u8])
-    requires { vec_len held.old + length bytes.now ≤ vec_capacity held.old }
-    ensures items { held.new.items ≡ held.old.items ++ bytes.now }
-    ensures capacity { vec_capacity held.old ≤ vec_capacity held.new }
+fn append_within_capacity(buffer: &mut Vec<u8>, bytes: &[u8])
+    requires { vec_len buffer.old + length bytes.now ≤ vec_capacity buffer.old }
+    ensures items { buffer.new.items ≡ buffer.old.items ++ bytes.now }
+    ensures capacity { vec_capacity buffer.old ≤ vec_capacity buffer.new }
 {
-    let Ok(()) = held.extend_from_slice(bytes) else {
+    let Ok(()) = buffer.extend_from_slice(bytes) else {
         unreachable!()
     };
 }
@@ -136,15 +134,13 @@ impl<W: Write> CountingBufWriter<W> {
         ensures not_failed { IfOk result (λ b. has_failed b ≡ false) }
         ensures inner { IfOk result (λ b. inner_writer b ≡ inner) }
     {
-        match Vec::with_capacity(alloc, BUFFER_CAPACITY) {
-            Ok(held) => Ok(CountingBufWriter {
-                inner,
-                buffered: held,
-                lines_written: 0,
-                failed: false,
-            }),
-            Err(error) => Err(error),
-        }
+        let buffered = Vec::with_capacity(alloc, BUFFER_CAPACITY)?;
+        Ok(CountingBufWriter {
+            inner,
+            buffered,
+            lines_written: 0,
+            failed: false,
+        })
     }
 
     /// Number of complete lines that were written to the inner writer, at most `u64::MAX`.
@@ -189,10 +185,7 @@ impl<W: Write> CountingBufWriter<W> {
         ensures tries { Tries self.old result self.new }
         ensures progress { IfOk result (λ n. 0 < length bytes.now → 0 < n) }
     {
-        match self.flush_buffer() {
-            Ok(()) => {}
-            Err(error) => return Err(error),
-        }
+        self.flush_buffer()?;
         let count = bytes.len().min(self.buffered.capacity());
         append_within_capacity(&mut self.buffered, &bytes[..count]);
         Ok(count)

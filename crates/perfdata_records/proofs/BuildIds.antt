@@ -1,21 +1,24 @@
 -- From the parts of a build id entry that were read to the entry, or to the error.
-use Rattle.std.proofs.Common.{◌≡◌, ℕ, suc, ◌-◌, ◌++◌, true, List, length, take, drop, nat_eq, refl, sym, ap, ◌∙◌, subst, arith, length-append, length-drop, append_assoc}
-use Rattle.std.specs.Prelude.{Err}
+use Rattle.std.proofs.Common.{◌≡◌, ℕ, suc, ◌-◌, ◌++◌, true, List, length, take, drop, nat_eq, refl, sym, ap, ◌∙◌, subst, inl, inr, arith, length-append, length-drop, append_assoc}
+use Rattle.std.specs.Prelude.{Option, None, Some, Err}
 use Rattle.std.specs.Int.{cast_signed, w32}
 use Rattle.std.specs.List.{ends_with}
 use Rattle.std.proofs.lemmas.List.{take-append-drop, drop-append-le, take_all}
 use Rattle.std.proofs.lemmas.Slice.Eq.{bytes_eq-Decides}
 use Rattle.std.proofs.Math.Seq.{take-append_seam}
 use Rattle.std.specs.declared.io.Error.{Error}
-use Rattle.perfdata_base.specs.Event.{record_header_of}
-use Rattle.perfdata_base.specs.Source.{State, Consumed, ReadExactError}
+use Rattle.perfdata_base.specs.Endian.{number_in}
+use Rattle.perfdata_base.specs.Event.{record_header_of, PeeksRecordHeader}
+use Rattle.perfdata_base.specs.Source.{State, Consumed, ReadExactError, IsIoErrorOf}
 use Rattle.perfdata_base.proofs.ConsumedLemmas.{consumed_more}
 use Rattle.perfdata_base.proofs.Numbers.{ReadsFirst, first_drop_front}
+use Rattle.perfdata_base.specs.declared.event.PerfEventHeader.{PerfEventHeader}
+use Rattle.perfdata_base.specs.declared.raw.Endianness.{Endianness}
 use Rattle.perfdata_base.specs.declared.source.AppendError.{AppendError}
 use Rattle.perfdata_base.specs.declared.source.AppendError.TheVariants.{Memory, Source}
 use Rattle.perfdata_sections.specs.ParsedPart.{PartRead, PartPartlyRead, PartReadError, ReadsBytes}
 use Rattle.perfdata_sections.specs.HeaderString.{before_nul}
-use Rattle.perfdata_records.specs.BuildIdEvent.{zero_group, zero_groups, IsBuildIdIn, IsBuildIdEvent, IsTruncatedBuildIdEntry, IsPrefixOfBuildIdEntry, ReadsBuildIdEvent}
+use Rattle.perfdata_records.specs.BuildIdEvent.{zero_group, zero_groups, IsBuildIdIn, IsBuildIdEvent, IsTruncatedBuildIdEntry, IsPrefixOfBuildIdEntry, ReadsBuildIdEvent, ParsesBuildIdEvent}
 use Rattle.perfdata_records.specs.declared.build_id_event.BuildIdEvent.{BuildIdEvent}
 use Rattle.perfdata_sections.proofs.PartLemmas.{drop_front, stopped_after, stopped_at_once}
 
@@ -23,55 +26,69 @@ use Rattle.perfdata_sections.proofs.PartLemmas.{drop_front, stopped_after, stopp
 pub group_split : (xs rest : List ℕ) (n : ℕ) → xs ≡ rest ++ zero_groups n → ends_with nat_eq rest zero_group ≡ true → xs ≡ take (length rest - 4) rest ++ zero_groups (suc n)
 group_split xs rest n is ends =
     let tail : zero_group ≡ drop (length rest - 4) rest = (bytes_eq-Decides zero_group (drop (length rest - 4) rest)).0 ends in
-    let front : List ℕ = take (length rest - 4) rest in
-    let whole : rest ≡ front ++ zero_group = sym (take-append-drop (length rest - 4) rest) ∙ ap (λ l. front ++ l) (sym tail) in
-    is ∙ ap (λ l. l ++ zero_groups n) whole ∙ append_assoc front zero_group (zero_groups n)
+    let prefix : List ℕ = take (length rest - 4) rest in
+    let whole : rest ≡ prefix ++ zero_group = sym (take-append-drop (length rest - 4) rest) ∙ ap (λ l. prefix ++ l) (sym tail) in
+    is ∙ ap (λ l. l ++ zero_groups n) whole ∙ append_assoc prefix zero_group (zero_groups n)
 
 -- the build id is a copy of the bytes after the pid
-pub id_copied : (misc own : ℕ) (head id copy : List ℕ) → length head ≡ 36 → misc ≡ own → copy ≡ id → IsBuildIdIn misc (take 24 (drop 12 head)) id → IsBuildIdIn own (drop 12 head) copy
-id_copied misc own head id copy long same is id_is =
-    let whole : take 24 (drop 12 head) ≡ drop 12 head = take_all 24 (drop 12 head) (omega (arith, long, length-drop 12 head)) in
-    subst (λ m. IsBuildIdIn m (drop 12 head) copy) same (subst (λ l. IsBuildIdIn misc l copy) whole (subst (IsBuildIdIn misc (take 24 (drop 12 head))) (sym is) id_is))
+pub id_copied : (misc own : ℕ) (fixed id copy : List ℕ) → length fixed ≡ 36 → misc ≡ own → copy ≡ id → IsBuildIdIn misc (take 24 (drop 12 fixed)) id → IsBuildIdIn own (drop 12 fixed) copy
+id_copied misc own fixed id copy long same is id_is =
+    let whole : take 24 (drop 12 fixed) ≡ drop 12 fixed = take_all 24 (drop 12 fixed) (omega (arith, long, length-drop 12 fixed)) in
+    subst (λ m. IsBuildIdIn m (drop 12 fixed) copy) same (subst (λ l. IsBuildIdIn misc l copy) whole (subst (IsBuildIdIn misc (take 24 (drop 12 fixed))) (sym is) id_is))
+
+module _ (number : ℕ → List ℕ → ℕ) where
+  -- the record header was parsed in the byte order of the numbers
+  pub header_peeked : (endian : Endianness) → ((n : ℕ) (xs : List ℕ) → number n xs ≡ number_in endian n xs) → (xs : List ℕ) (found : Option PerfEventHeader) (header : PerfEventHeader)
+      → PeeksRecordHeader (number_in endian) xs found → found ≡ Some header → header ≡ record_header_of number xs
+  header_peeked endian agree xs (Some parsed) header peeked is =
+      let same : header ≡ parsed = cc in
+      same ∙ peeked.1 ∙ (λ i. record { type_ = sym (agree 4 xs) i; misc = sym (agree 2 (drop 4 xs)) i; size = sym (agree 2 (drop 6 xs)) i })
+  header_peeked endian agree xs None header peeked is = cc
+
+  -- the error as an I/O error
+  pub entry_io_error : (old new : State) (append_error : AppendError) (e : Error) → ReadsBuildIdEvent number old (Err append_error) new → IsIoErrorOf append_error e → ParsesBuildIdEvent number old (Err e) new
+  entry_io_error old new Memory e partial memory = inl (memory, partial)
+  entry_io_error old new (Source cause) e read_error is = inr (subst (λ x. PartReadError (IsTruncatedBuildIdEntry number) old x new) (sym is) read_error)
 
 module _ (number : ℕ → List ℕ → ℕ) (first : ReadsFirst number) where
   pub entry_header_truncated : (a b : State) (e : Error) → ReadExactError a 36 e b → PartReadError (IsTruncatedBuildIdEntry number) a e b
-  entry_header_truncated a b e cut = stopped_at_once (IsTruncatedBuildIdEntry number) a b 36 e cut (λ part few enough. absurd (omega arith))
+  entry_header_truncated a b e read_error = stopped_at_once (IsTruncatedBuildIdEntry number) a b 36 e read_error (λ part few enough. absurd (omega arith))
 
   -- the build id can't be allocated
-  pub entry_header_some : (a b : State) (head : List ℕ) → length head ≡ 36 → Consumed a head b → PartPartlyRead (IsPrefixOfBuildIdEntry number) a b
-  entry_header_some a b head long gave = record { bytes = head; is_truncated = λ enough. omega (arith, long); consumes = gave }
+  pub entry_header_some : (a b : State) (fixed : List ℕ) → length fixed ≡ 36 → Consumed a fixed b → PartPartlyRead (IsPrefixOfBuildIdEntry number) a b
+  entry_header_some a b fixed long consumed = record { bytes = fixed; is_truncated = λ enough. omega (arith, long); consumes = consumed }
 
   -- the size is in the first 36 bytes
-  size_in : (head body : List ℕ) → length head ≡ 36 → number 2 (drop 6 (head ++ body)) ≡ number 2 (drop 6 head)
-  size_in head body long = first_drop_front number first 2 6 head body (omega (arith, long))
+  size_in : (fixed body : List ℕ) → length fixed ≡ 36 → number 2 (drop 6 (fixed ++ body)) ≡ number 2 (drop 6 fixed)
+  size_in fixed body long = first_drop_front number first 2 6 fixed body (omega (arith, long))
 
-  pub entry_path_error : (a b c : State) (head : List ℕ) (count : ℕ) (fault : AppendError) → length head ≡ 36 → count ≡ number 2 (drop 6 head) - 36 → Consumed a head b → ReadsBytes b count (Err fault) c
-      → ReadsBuildIdEvent number a (Err fault) c
-  entry_path_error a b c head count Memory long says before came = record {
-    bytes = head ++ came.consumed_bytes;
-    is_truncated = λ enough. let size = size_in head came.consumed_bytes long in let less = came.too_few in omega (arith, size, less, says, long, length-append head came.consumed_bytes);
-    consumes = consumed_more a b c head came.consumed_bytes before came.consumes;
+  pub entry_path_error : (a b c : State) (fixed : List ℕ) (count : ℕ) (error : AppendError) → length fixed ≡ 36 → count ≡ number 2 (drop 6 fixed) - 36 → Consumed a fixed b → ReadsBytes b count (Err error) c
+      → ReadsBuildIdEvent number a (Err error) c
+  entry_path_error a b c fixed count Memory long says before partial = record {
+    bytes = fixed ++ partial.consumed_bytes;
+    is_truncated = λ enough. let size = size_in fixed partial.consumed_bytes long in let less = partial.too_few in omega (arith, size, less, says, long, length-append fixed partial.consumed_bytes);
+    consumes = consumed_more a b c fixed partial.consumed_bytes before partial.consumes;
   }
-  entry_path_error a b c head count (Source e) long says before cut =
-      stopped_after (IsTruncatedBuildIdEntry number) a b c head count e before cut (λ part few enough. let size = size_in head part long in omega (arith, size, few, says, long, length-append head part))
+  entry_path_error a b c fixed count (Source e) long says before read_error =
+      stopped_after (IsTruncatedBuildIdEntry number) a b c fixed count e before read_error (λ part few enough. let size = size_in fixed part long in omega (arith, size, few, says, long, length-append fixed part))
 
-  behind_head : (head body : List ℕ) → length head ≡ 36 → take 24 (drop 12 (head ++ body)) ≡ drop 12 head
-  behind_head head body long =
-      let room : length (drop 12 head) ≡ 24 = omega (arith, long, length-drop 12 head) in
-      ap (take 24) (drop-append-le 12 head body (omega (arith, long))) ∙ ap (λ n. take n (drop 12 head ++ body)) (sym room) ∙ take-append_seam (drop 12 head) body
+  id_field_in : (fixed body : List ℕ) → length fixed ≡ 36 → take 24 (drop 12 (fixed ++ body)) ≡ drop 12 fixed
+  id_field_in fixed body long =
+      let field_len : length (drop 12 fixed) ≡ 24 = omega (arith, long, length-drop 12 fixed) in
+      ap (take 24) (drop-append-le 12 fixed body (omega (arith, long))) ∙ ap (λ n. take n (drop 12 fixed ++ body)) (sym field_len) ∙ take-append_seam (drop 12 fixed) body
 
-  pub entry_read : (a b c : State) (head body : List ℕ) (count : ℕ) (e : BuildIdEvent) → length head ≡ 36 → count ≡ number 2 (drop 6 head) - 36 → length body ≡ count → Consumed a head b → Consumed b body c
-      → e.header ≡ record_header_of number head → e._pid ≡ cast_signed w32 (number 4 (drop 8 head)) → IsBuildIdIn (number 2 (drop 4 head)) (drop 12 head) e.build_id.items → e.file_path.items ≡ before_nul body
+  pub entry_read : (a b c : State) (fixed body : List ℕ) (count : ℕ) (e : BuildIdEvent) → length fixed ≡ 36 → count ≡ number 2 (drop 6 fixed) - 36 → length body ≡ count → Consumed a fixed b → Consumed b body c
+      → e.header ≡ record_header_of number fixed → e._pid ≡ cast_signed w32 (number 4 (drop 8 fixed)) → IsBuildIdIn (number 2 (drop 4 fixed)) (drop 12 fixed) e.build_id.items → e.file_path.items ≡ before_nul body
       → PartRead (IsBuildIdEvent number) a e c
-  entry_read a b c head body count e long says all before gave is_head is_pid is_id is_path = record {
-    bytes = head ++ body;
-    consumes = consumed_more a b c head body before gave;
-    matches = let misc = first_drop_front number first 2 4 head body (omega (arith, long)) in record {
-      has_fixed_part = omega (arith, long, length-append head body);
-      exact_len = let size = size_in head body long in omega (arith, size, says, all, long, length-append head body);
-      header = is_head ∙ sym (rw (first 4 head body (omega (arith, long)), misc, size_in head body long) refl);
-      pid = is_pid ∙ ap (cast_signed w32) (sym (first_drop_front number first 4 8 head body (omega (arith, long))));
-      build_id = subst (λ n. IsBuildIdIn n (take 24 (drop 12 (head ++ body))) e.build_id.items) (sym misc) (subst (λ l. IsBuildIdIn (number 2 (drop 4 head)) l e.build_id.items) (sym (behind_head head body long)) is_id);
-      path = is_path ∙ ap before_nul (sym (drop_front 36 head body long));
+  entry_read a b c fixed body count e long says all before body_consumed is_head is_pid is_id is_path = record {
+    bytes = fixed ++ body;
+    consumes = consumed_more a b c fixed body before body_consumed;
+    matches = let misc = first_drop_front number first 2 4 fixed body (omega (arith, long)) in record {
+      has_fixed_part = omega (arith, long, length-append fixed body);
+      exact_len = let size = size_in fixed body long in omega (arith, size, says, all, long, length-append fixed body);
+      header = is_head ∙ sym (rw (first 4 fixed body (omega (arith, long)), misc, size_in fixed body long) refl);
+      pid = is_pid ∙ ap (cast_signed w32) (sym (first_drop_front number first 4 8 fixed body (omega (arith, long))));
+      build_id = subst (λ n. IsBuildIdIn n (take 24 (drop 12 (fixed ++ body))) e.build_id.items) (sym misc) (subst (λ l. IsBuildIdIn (number 2 (drop 4 fixed)) l e.build_id.items) (sym (id_field_in fixed body long)) is_id);
+      path = is_path ∙ ap before_nul (sym (drop_front 36 fixed body long));
     };
   }

@@ -15,7 +15,7 @@ use Rattle.perfdata_records.specs.HeaderAttr.{Attribute, u64s_of, HoldsAttribute
 
 module _ (number : ℕ → List ℕ → ℕ) where
   numbers_step : (xs : List ℕ) → 8 ≤ length xs → u64s_of number (length xs / 8) xs ≡ number 8 xs ∷ u64s_of number (length (drop 8 xs) / 8) (drop 8 xs)
-  numbers_step xs room =
+  numbers_step xs enough =
       let long : length xs ≡ 8 * 1 + length (drop 8 xs) = omega (arith, length-drop 8 xs) in
       let one : length xs / 8 ≡ suc (length (drop 8 xs) / 8) =
       ap (λ n. n / 8) long ∙ mul-add-div {m = 8} (omega arith) 1 (length (drop 8 xs)) ∙ omega arith
@@ -31,11 +31,11 @@ module _ (number : ℕ → List ℕ → ℕ) where
   abbrev pub AreSoFar : List ℕ → List ℕ → List ℕ → Type 0
   AreSoFar bytes ids rest = u64s_of number (length bytes / 8) bytes ≡ ids ++ u64s_of number (length rest / 8) rest
 
-  pub ids_more : (bytes ids rest now left : List ℕ) → AreSoFar bytes ids rest → 8 ≤ length rest → now ≡ ids ++ number 8 rest ∷ [] → left ≡ drop 8 rest → AreSoFar bytes now left
-  ids_more bytes ids rest now left far room pushed behind =
-      far ∙ ap (λ l. ids ++ l) (numbers_step rest room)
+  pub ids_more : (bytes ids rest now remaining : List ℕ) → AreSoFar bytes ids rest → 8 ≤ length rest → now ≡ ids ++ number 8 rest ∷ [] → remaining ≡ drop 8 rest → AreSoFar bytes now remaining
+  ids_more bytes ids rest now remaining far enough pushed rest_is =
+      far ∙ ap (λ l. ids ++ l) (numbers_step rest enough)
       ∙ sym (append_assoc ids (number 8 rest ∷ []) (u64s_of number (length (drop 8 rest) / 8) (drop 8 rest)))
-      ∙ (λ i. (sym pushed i) ++ u64s_of number (length (sym behind i) / 8) (sym behind i))
+      ∙ (λ i. (sym pushed i) ++ u64s_of number (length (sym rest_is i) / 8) (sym rest_is i))
 
   pub ids_whole : (bytes ids rest : List ℕ) → AreSoFar bytes ids rest → length rest < 8 → ids ≡ u64s_of number (length bytes / 8) bytes
   ids_whole bytes ids rest far few = sym (far ∙ ap (λ l. ids ++ l) (numbers_none rest few) ∙ append-nil ids)
@@ -45,50 +45,50 @@ module _ (number : ℕ → List ℕ → ℕ) where
     some_is xs ys e = cc
 
     -- an attribute was parsed: the bytes begin with it, and the rest follows it
-    pub attr_read : (xs rest : List ℕ) (attr : PerfEventAttr) (own : ℕ) → AttrParsed number (memory_source xs) attr own (memory_source rest) → IsAttr number xs attr × (rest ≡ drop (own_size number xs) xs)
-    attr_read xs rest attr own took =
-        let whole : xs ≡ took.bytes ++ rest = some_is xs (took.bytes ++ rest) took.consumes.bytes in
-        let stays = attr_stays number first took.bytes rest attr took.matches in
-        let own_is : own_size number took.bytes ≡ length took.bytes =
-        sym (size_with number (own_size number took.bytes) took.bytes) ∙ sym (ap (λ a. a.size) took.matches.matches) ∙ took.size ∙ sym took.exact_len
+    pub attr_read : (xs rest : List ℕ) (attr : PerfEventAttr) (size_read : ℕ) → AttrParsed number (memory_source xs) attr size_read (memory_source rest) → IsAttr number xs attr × (rest ≡ drop (own_size number xs) xs)
+    attr_read xs rest attr size_read parsed =
+        let whole : xs ≡ parsed.bytes ++ rest = some_is xs (parsed.bytes ++ rest) parsed.consumes.bytes in
+        let stays = attr_stays number first parsed.bytes rest attr parsed.matches in
+        let size_is : own_size number parsed.bytes ≡ length parsed.bytes =
+        sym (size_with number (own_size number parsed.bytes) parsed.bytes) ∙ sym (ap (λ a. a.size) parsed.matches.matches) ∙ parsed.size ∙ sym parsed.exact_len
         in
-        let least = took.matches.min_size in
-        let size : own_size number xs ≡ length took.bytes =
-        ap (own_size number) whole ∙ own_stays number first took.bytes rest (omega arith) ∙ own_is
+        let min_size = parsed.matches.min_size in
+        let size : own_size number xs ≡ length parsed.bytes =
+        ap (own_size number) whole ∙ own_stays number first parsed.bytes rest (omega arith) ∙ size_is
         in (
           subst (λ l. IsAttr number l attr) (sym whole) stays,
-          sym ((λ i. drop (size i) (whole i)) ∙ drop-append_seam took.bytes rest),
+          sym ((λ i. drop (size i) (whole i)) ∙ drop-append_seam parsed.bytes rest),
         )
 
     -- parsing the attribute failed
     pub attr_error : (xs : List ℕ) (e : Error) (new : State) → AttrParseError number (memory_source xs) e new → IsHeaderAttrError number xs e
-    attr_error xs e new refused = elim (attr_explained number first (memory_source xs) new e refused) [
-      | inl none ↦ elim none [ inl cut ↦ inl (cut.0, inl cut.1) | inr small ↦ inr (inl small) ]
+    attr_error xs e new error = elim (attr_explained number first (memory_source xs) new e error) [
+      | inl none ↦ elim none [ inl truncated ↦ inl (truncated.0, inl truncated.1) | inr small ↦ inr (inl small) ]
       | inr source ↦ elim source [ inl failed ↦ absurd (failed.not_steady refl) | inr paused ↦ absurd (paused.not_steady refl) ]
     ]
 
-  module _ (xs rest : List ℕ) (attr : PerfEventAttr) (is : IsAttr number xs attr) (behind : rest ≡ drop (own_size number xs) xs) where
+  module _ (xs rest : List ℕ) (attr : PerfEventAttr) (is : IsAttr number xs attr) (rest_is : rest ≡ drop (own_size number xs) xs) where
     rest_long : length rest ≡ length xs - own_size number xs
-    rest_long = ap length behind ∙ length-drop (own_size number xs) xs
+    rest_long = ap length rest_is ∙ length-drop (own_size number xs) xs
 
     pub ids_hold : length rest % 8 ≡ 0 → HoldsAttributeWith number xs
     ids_hold even =
-        let least = is.min_size in
-        let there = is.complete in
+        let min_size = is.min_size in
+        let complete = is.complete in
         record { has_fixed_part = omega arith; min_size = is.min_size; complete = is.complete; whole_ids = ap (λ n. n % 8) (sym rest_long) ∙ even }
 
     pub attribute_is : (ids : List ℕ) → ids ≡ u64s_of number (length rest / 8) rest → (let a : Attribute = record { attr = attr; ids = ids } in a) ≡ attribute_with number xs
     attribute_is ids are =
         let same : ids ≡ u64s_of number ((length xs - own_size number xs) / 8) (drop (own_size number xs) xs) =
-        are ∙ (λ i. u64s_of number (rest_long i / 8) (behind i))
+        are ∙ (λ i. u64s_of number (rest_long i / 8) (rest_is i))
         in
         λ i. record { attr = is.matches i; ids = same i }
 
     pub ids_error : (e : Error) → IsIdsError rest e → IsHeaderAttrError number xs e
-    ids_error e why =
-        let least = is.min_size in
-        let there = is.complete in
-        elim why [
-          | inl cut ↦ inl (cut.0, inr (record { has_fixed_part = omega arith; min_size = is.min_size; complete = is.complete; partial_id = λ even. cut.1 (ap (λ n. n % 8) rest_long ∙ even) }))
+    ids_error e cause =
+        let min_size = is.min_size in
+        let complete = is.complete in
+        elim cause [
+          | inl truncated ↦ inl (truncated.0, inr (record { has_fixed_part = omega arith; min_size = is.min_size; complete = is.complete; partial_id = λ even. truncated.1 (ap (λ n. n % 8) rest_long ∙ even) }))
           | inr memory ↦ inr (inr (memory.0, ids_hold memory.1, omega (arith, rest_long, memory.2)))
         ]

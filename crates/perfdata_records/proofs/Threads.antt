@@ -44,7 +44,7 @@ module _ (number : ℕ → List ℕ → ℕ) where
   -- the first thread in complete entries, and the others
   pub threads_step : (xs : List ℕ) → 24 ≤ length xs
       → threads_in number (length xs / 24) xs ≡ thread_at number xs ∷ threads_in number (length (drop 24 xs) / 24) (drop 24 xs)
-  threads_step xs room =
+  threads_step xs enough =
       let long : length xs ≡ 24 * 1 + length (drop 24 xs) = omega (arith, length-drop 24 xs) in
       let one : length xs / 24 ≡ suc (length (drop 24 xs) / 24) =
       ap (λ n. n / 24) long ∙ mul-add-div {m = 24} (omega arith) 1 (length (drop 24 xs)) ∙ omega arith
@@ -60,8 +60,8 @@ module _ (number : ℕ → List ℕ → ℕ) where
   module _ (first : ReadsFirst number) where
     -- bytes after the entries don't change the threads
     pub threads_front : (n : ℕ) (xs ys : List ℕ) → n * 24 ≤ length xs → threads_in number n (xs ++ ys) ≡ threads_in number n xs
-    threads_front zero xs ys room = refl
-    threads_front (suc n) xs ys room =
+    threads_front zero xs ys enough = refl
+    threads_front (suc n) xs ys enough =
         let all : 24 + n * 24 ≤ length xs = omega arith in
         let eight = drop-append-le 8 xs ys (omega arith) in
         let name : take 16 (drop 8 (xs ++ ys)) ≡ take 16 (drop 8 xs) =
@@ -76,15 +76,15 @@ module _ (number : ℕ → List ℕ → ℕ) where
     pub is_map : (other : ℕ → List ℕ → ℕ) → ((n : ℕ) (xs : List ℕ) → number n xs ≡ other n xs) → (body rest entries : List ℕ) → 8 ≤ length body → rest ≡ drop 8 body
         → number 8 body * 24 ≤ length rest → entries ≡ take (number 8 body * 24) rest
         → IsThreadMap number body (threads_in other (length entries / 24) entries)
-    is_map other same body rest entries head behind room cut =
+    is_map other agree body rest entries has_count rest_is enough entries_are =
         let count = number 8 body in
-        let long : length entries ≡ count * 24 + 0 = ap length cut ∙ length-take-le (count * 24) rest room ∙ omega arith in
+        let long : length entries ≡ count * 24 + 0 = ap length entries_are ∙ length-take-le (count * 24) rest enough ∙ omega arith in
         let many : length entries / 24 ≡ count = ap (λ n. n / 24) long ∙ div-mul-add count 24 0 (omega arith) in
-        let order : other ≡ number = λ i n xs. sym (same n xs) i in
+        let same_number : other ≡ number = λ i n xs. sym (agree n xs) i in
         record {
-          has_fixed_part = head;
-          complete = omega (arith, length-drop 8 body, ap length behind);
-          elements = ap (λ f. threads_in f (length entries / 24) entries) order ∙ ap (λ n. threads_in number n entries) many ∙ ap (threads_in number count) cut
-              ∙ sym (threads_front count (take (count * 24) rest) (drop (count * 24) rest) (omega (arith, length-take-le (count * 24) rest room)))
-              ∙ ap (threads_in number count) (take-append-drop (count * 24) rest ∙ behind);
+          has_fixed_part = has_count;
+          complete = omega (arith, length-drop 8 body, ap length rest_is);
+          elements = ap (λ f. threads_in f (length entries / 24) entries) same_number ∙ ap (λ n. threads_in number n entries) many ∙ ap (threads_in number count) entries_are
+              ∙ sym (threads_front count (take (count * 24) rest) (drop (count * 24) rest) (omega (arith, length-take-le (count * 24) rest enough)))
+              ∙ ap (threads_in number count) (take-append-drop (count * 24) rest ∙ rest_is);
         }

@@ -7,6 +7,7 @@ use Rattle.std.specs.declared.io.ErrorKind.TheVariants.{UnexpectedEof, InvalidDa
 use Rattle.perfdata_base.specs.Raw.{bytes_of}
 use Rattle.perfdata_base.specs.Endian.{number_in}
 use Rattle.perfdata_base.specs.declared.raw.Endianness.{Endianness}
+use Rattle.perfdata_sections.specs.RecordTypes.{auxtrace}
 use Rattle.perfdata_records.specs.declared.auxtrace.Auxtrace.{Auxtrace}
 
 module _ (number : ℕ → List ℕ → ℕ) where
@@ -15,15 +16,15 @@ module _ (number : ℕ → List ℕ → ℕ) where
   HoldsAuxtrace body = length body ≡ 40 + number 8 body
 
   -- The body is that of this auxtrace record.
-  pub record IsAuxtrace (body : List ℕ) (trace : Auxtrace) : Type 0 where
+  pub record IsAuxtrace (body : List ℕ) (parsed : Auxtrace) : Type 0 where
     pub exact_len : HoldsAuxtrace body
-    pub size : trace.size ≡ number 8 body
-    pub offset : trace.offset ≡ number 8 (drop 8 body)
-    pub reference : trace.reference ≡ number 8 (drop 16 body)
-    pub index : trace.index ≡ number 4 (drop 24 body)
-    pub tid : trace.tid ≡ number 4 (drop 28 body)
-    pub cpu : trace.cpu ≡ number 4 (drop 32 body)
-    pub aux_data : bytes_of trace.aux_data ≡ drop 40 body
+    pub size : parsed.size ≡ number 8 body
+    pub offset : parsed.offset ≡ number 8 (drop 8 body)
+    pub reference : parsed.reference ≡ number 8 (drop 16 body)
+    pub index : parsed.index ≡ number 4 (drop 24 body)
+    pub tid : parsed.tid ≡ number 4 (drop 28 body)
+    pub cpu : parsed.cpu ≡ number 4 (drop 32 body)
+    pub aux_data : bytes_of parsed.aux_data ≡ drop 40 body
 
   -- The body is invalid, and this is the error: the 40 bytes are truncated, or the size of the aux data differs from that in the
   -- body.
@@ -34,11 +35,11 @@ module _ (number : ℕ → List ℕ → ℕ) where
 
 -- A complete auxtrace record, with its record header and aux data, and a size of 48 bytes in the record header. The aux data
 -- after these 48 bytes has the size in the body.
-pub record IsAuxtraceRecord (order : Endianness) (piece : List ℕ) : Type 0 where
-  pub record_type : number_in order 4 piece ≡ 71
-  pub size : number_in order 2 (drop 6 piece) ≡ 48
-  pub exact_len : length piece ≡ 48 + number_in order 8 (drop 8 piece)
+pub record IsAuxtraceRecord (endian : Endianness) (raw_record : List ℕ) : Type 0 where
+  pub record_type : number_in endian 4 raw_record ≡ auxtrace
+  pub size : number_in endian 2 (drop 6 raw_record) ≡ 48
+  pub exact_len : length raw_record ≡ 48 + number_in endian 8 (drop 8 raw_record)
 
 -- The bytes after the record header are a valid body with its aux data.
 abbrev pub AuxtraceBodiesParse : Type 0
-AuxtraceBodiesParse = (order : Endianness) (piece : List ℕ) → IsAuxtraceRecord order piece → HoldsAuxtrace (number_in order) (drop 8 piece)
+AuxtraceBodiesParse = (endian : Endianness) (raw_record : List ℕ) → IsAuxtraceRecord endian raw_record → HoldsAuxtrace (number_in endian) (drop 8 raw_record)

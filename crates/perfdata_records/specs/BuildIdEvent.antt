@@ -4,11 +4,13 @@ use Rattle.std.specs.Int.{cast_signed, w32}
 use Rattle.std.specs.List.{ends_with}
 use Rattle.std.specs.IoError.{error_kind}
 use Rattle.std.specs.declared.io.Error.{Error}
-use Rattle.std.specs.declared.io.ErrorKind.TheVariants.{OutOfMemory}
+use Rattle.std.specs.declared.io.ErrorKind.TheVariants.{UnexpectedEof, OutOfMemory}
+use Rattle.perfdata_base.specs.Endian.{number_in}
 use Rattle.perfdata_base.specs.Event.{record_header_of}
 use Rattle.perfdata_base.specs.ParseInfo.{is_set}
 use Rattle.perfdata_base.specs.Source.{State}
 use Rattle.perfdata_base.specs.declared.event.PerfEventHeader.{PerfEventHeader}
+use Rattle.perfdata_base.specs.declared.raw.Endianness.{Endianness}
 use Rattle.perfdata_base.specs.declared.source.AppendError.{AppendError}
 use Rattle.perfdata_base.specs.declared.source.AppendError.TheVariants.{Memory, Source}
 use Rattle.perfdata_sections.specs.ParsedPart.{PartRead, PartPartlyRead, PartReadError}
@@ -81,3 +83,10 @@ module _ (number : ℕ → List ℕ → ℕ) where
   abbrev pub ParsesBuildIdEvent : State → Result BuildIdEvent Error → State → Type 0
   ParsesBuildIdEvent old (Ok e) new = PartRead IsBuildIdEvent old e new
   ParsesBuildIdEvent old (Err e) new = ((error_kind e ≡ OutOfMemory) × PartPartlyRead IsPrefixOfBuildIdEntry old new) ⊎ PartReadError IsTruncatedBuildIdEntry old e new
+
+-- What reading the entry at the start of `bytes` does: it leaves `rest`, the bytes after the entry. A truncated entry is an
+-- unexpected end of file. `Memory` reports an allocation failure.
+abbrev pub ReadsFirstEntry : Endianness → List ℕ → Result BuildIdEvent AppendError → List ℕ → Type 0
+ReadsFirstEntry endian bytes (Ok e) rest = (first : List ℕ) × (bytes ≡ first ++ rest) × IsBuildIdEvent (number_in endian) first e
+ReadsFirstEntry endian bytes (Err Memory) rest = (first : List ℕ) × (bytes ≡ first ++ rest) × IsPrefixOfBuildIdEntry (number_in endian) first
+ReadsFirstEntry endian bytes (Err (Source e)) rest = IsTruncatedBuildIdEntry (number_in endian) bytes × (error_kind e ≡ UnexpectedEof)

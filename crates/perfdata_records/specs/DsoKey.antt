@@ -66,7 +66,7 @@ lossy_text xs = encode_utf8_all (lossy_chars xs)
 -- The part of a path after an index, or all of it.
 abbrev pub after_offset : List ℕ → Option ℕ → List ℕ
 after_offset path None = path
-after_offset path (Some place) = drop (place + 1) path
+after_offset path (Some offset) = drop (offset + 1) path
 
 -- The part of a path after the last slash, or all of it if there is none.
 abbrev pub file_name_of : List ℕ → List ℕ
@@ -82,10 +82,10 @@ module_name_of path = if starts_with nat_eq path (codes "[") then Some (lossy_te
     else if ends_with nat_eq (file_name_of path) (codes ".ko") then Some (codes "[" ++ lossy_text (take (length (file_name_of path) - 3) (file_name_of path)) ++ codes "]")
     else None
 
--- The key of the module, or `own` if there is none.
+-- The key of the module, or `otherwise` if there is none.
 abbrev pub module_key_or : Option (List ℕ) → Key → Key
-module_key_or None own = own
-module_key_or (Some name) own = kernel_module name
+module_key_or None otherwise = otherwise
+module_key_or (Some name) otherwise = kernel_module name
 
 -- The key of a path that isn't a special name of the kernel, a vDSO or the vsyscall page.
 abbrev pub key_of_file : List ℕ → CpuMode → Option Key

@@ -52,10 +52,10 @@ module _ (number : ℕ → List ℕ → ℕ) where
 
 -- `HoldsAttributeWith` and `attribute_with` for a byte order.
 abbrev pub HoldsAttribute : Endianness → List ℕ → Type 0
-HoldsAttribute order body = HoldsAttributeWith (number_in order) body
+HoldsAttribute endian body = HoldsAttributeWith (number_in endian) body
 
 abbrev pub attribute_in : Endianness → List ℕ → Attribute
-attribute_in order body = attribute_with (number_in order) body
+attribute_in endian body = attribute_with (number_in endian) body
 
 -- The contents of the record.
 abbrev pub attribute_of : HeaderAttr → Attribute

@@ -8,9 +8,6 @@ ghost use Rattle.perfdata_records.specs.Auxtrace.{AuxtraceBodiesParse, HoldsAuxt
 use perfdata_base::raw::{FileOrder, RawData};
 use std::io::{Error, ErrorKind, Result};
 
-/// The size of the part before the aux data, in bytes.
-const FIXED_SIZE: usize = 40;
-
 /// The body of an auxtrace record (`PERF_RECORD_AUXTRACE` of Linux's perf), for example of Intel PT.
 #[derive(Clone, Debug, Drop, PartialEq, Eq)]
 pub struct Auxtrace<'a> {
@@ -31,6 +28,9 @@ pub struct Auxtrace<'a> {
 }
 
 impl<'a> Auxtrace<'a> {
+    /// The size of the part of the body before the aux data, in bytes.
+    pub const FIXED_SIZE: usize = 40;
+
     /// Parses the body of an auxtrace record and the aux data after it.
     ///
     /// The body is a size, an offset and a reference of eight bytes each, and an index, a thread id, a CPU and a
@@ -40,27 +40,24 @@ impl<'a> Auxtrace<'a> {
     /// exactly `size` bytes follow them.
     pub fn parse<T: FileOrder>(body: RawData<'a>) -> Result<Auxtrace<'a>>
         ensures accepts { IsOk result ↔ HoldsAuxtrace T.number_of (bytes_of body.entry) }
-        ensures value { IfOk result (λ trace. IsAuxtrace T.number_of (bytes_of body.entry) trace) }
-        ensures single { IfOk result (λ trace. IsSingle body.entry → IsSingle trace.aux_data) }
+        ensures value { IfOk result (λ parsed. IsAuxtrace T.number_of (bytes_of body.entry) parsed) }
+        ensures single { IfOk result (λ parsed. IsSingle body.entry → IsSingle parsed.aux_data) }
         ensures error { IfErr result (λ error. IsAuxtraceError T.number_of (bytes_of body.entry) error) }
     {
         let mut rest = body;
-        let mut head = [0u8; FIXED_SIZE];
-        match rest.read_exact(&mut head) {
-            Ok(()) => {}
-            Err(error) => return Err(error),
-        }
-        let size = T::read_u64(&head);
+        let mut fixed = [0u8; Auxtrace::FIXED_SIZE];
+        rest.read_exact(&mut fixed)?;
+        let size = T::read_u64(&fixed);
         if rest.len() as u64 != size {
             return Err(Error::from(ErrorKind::InvalidData));
         }
         Ok(Auxtrace {
             size,
-            offset: T::read_u64(&head[8..]),
-            reference: T::read_u64(&head[16..]),
-            index: T::read_u32(&head[24..]),
-            tid: T::read_u32(&head[28..]),
-            cpu: T::read_u32(&head[32..]),
+            offset: T::read_u64(&fixed[8..]),
+            reference: T::read_u64(&fixed[16..]),
+            index: T::read_u32(&fixed[24..]),
+            tid: T::read_u32(&fixed[28..]),
+            cpu: T::read_u32(&fixed[32..]),
             aux_data: rest,
         })
     }

@@ -1,13 +1,14 @@
 //! Entries of the section BUILD_ID.
 ghost use Rattle.std.specs.Prelude.{◌≡◌, length};
 ghost use Rattle.perfdata_base.specs.Source.{State, PausesOnlyOnError};
-ghost use Rattle.perfdata_records.specs.BuildIdEvent.{IsWithoutZeroGroups, IsBuildIdIn, ReadsBuildIdEvent, ParsesBuildIdEvent};
+ghost use Rattle.perfdata_records.specs.BuildIdEvent.{IsWithoutZeroGroups, IsBuildIdIn, ReadsBuildIdEvent, ReadsFirstEntry, ParsesBuildIdEvent};
 ghost use Rattle.perfdata_sections.specs.HeaderString.{before_nul};
 
+use byteorder::{BigEndian, LittleEndian};
 use perfdata_base::event::PerfEventHeader;
-use perfdata_base::raw::FileOrder;
+use perfdata_base::raw::{Endianness, FileOrder};
 use perfdata_base::source::{AppendError, Source, read_exact};
-use perfdata_sections::bytes::{into_io_error, read_bytes};
+use perfdata_sections::bytes::read_bytes;
 use perfdata_sections::feature_sections::before_nul;
 use std::alloc::Global;
 use std::io;
@@ -88,28 +89,36 @@ impl BuildIdEvent {
         ensures same_loan { R.loan source.new ≡ R.loan source.old }
     {
         let mut bytes = [0u8; FIXED_SIZE];
-        match read_exact(source, &mut bytes) {
-            Ok(()) => {}
-            Err(error) => return Err(AppendError::Source(error)),
-        }
-        let header = PerfEventHeader {
-            type_: T::read_u32(&bytes),
-            misc: T::read_u16(&bytes[4..]),
-            size: T::read_u16(&bytes[6..]),
-        };
-        let build_id = match build_id_bytes(header.misc, &bytes[12..]).to_vec(alloc) {
-            Ok(build_id) => build_id,
-            Err(_) => return Err(AppendError::Memory),
-        };
-        let length = (header.size as usize).saturating_sub(FIXED_SIZE);
-        match read_bytes(alloc, source, length) {
-            Ok(path) => Ok(BuildIdEvent {
-                header,
-                _pid: T::read_i32(&bytes[8..]),
-                build_id,
-                file_path: truncate_at_nul(path),
-            }),
-            Err(fault) => Err(fault),
+        read_exact(source, &mut bytes)?;
+        let header = PerfEventHeader::peek(T::ENDIAN, &bytes).unwrap();
+        let build_id = build_id_bytes(header.misc, &bytes[12..]).to_vec(alloc)?;
+        let path_size = (header.size as usize).saturating_sub(FIXED_SIZE);
+        let path = read_bytes(alloc, source, path_size)?;
+        Ok(BuildIdEvent {
+            header,
+            _pid: T::read_i32(&bytes[8..]),
+            build_id,
+            file_path: truncate_at_nul(path),
+        })
+    }
+
+    /// Reads the entry at the start of `bytes`, whose numbers have the byte order `endian`, and leaves the bytes after it
+    /// in `bytes`. See `read_from`.
+    ///
+    /// Fails with an `UnexpectedEof` source error if the entry is truncated, and with `AppendError::Memory` if memory runs
+    /// out.
+    pub fn read_from_in(
+        alloc: Global,
+        endian: Endianness,
+        bytes: &mut &[u8],
+    ) -> Result<BuildIdEvent, AppendError>
+        ensures { ReadsFirstEntry endian bytes.old.now result bytes.new.now }
+    {
+        match endian {
+            Endianness::LittleEndian => {
+                BuildIdEvent::read_from::<&[u8], LittleEndian>(alloc, bytes)
+            }
+            Endianness::BigEndian => BuildIdEvent::read_from::<&[u8], BigEndian>(alloc, bytes),
         }
     }
 
@@ -121,11 +130,8 @@ impl BuildIdEvent {
         alloc: Global,
         mut reader: R,
     ) -> io::Result<BuildIdEvent>
-        ensures { (left : State) × ParsesBuildIdEvent T.number_of (R.state reader) result left }
+        ensures { (after : State) × ParsesBuildIdEvent T.number_of (R.state reader) result after }
     {
-        match BuildIdEvent::read_from::<R, T>(alloc, &mut reader) {
-            Ok(entry) => Ok(entry),
-            Err(fault) => Err(into_io_error(fault)),
-        }
+        Ok(BuildIdEvent::read_from::<R, T>(alloc, &mut reader)?)
     }
 }

@@ -44,7 +44,7 @@ fn file_name(path: &[u8]) -> &[u8]
     ensures { result.now ≡ file_name_of path.now }
 {
     match memrchr(b'/', path) {
-        Some(place) => &path[place + 1..],
+        Some(slash_offset) => &path[slash_offset + 1..],
         None => path,
     }
 }
@@ -52,16 +52,16 @@ fn file_name(path: &[u8]) -> &[u8]
 // Returns the bytes as a string, between a prefix and a suffix, with U+FFFD for invalid UTF-8.
 fn lossy_between(
     alloc: Global,
-    front: &str,
+    prefix: &str,
     bytes: &[u8],
-    behind: &str,
+    suffix: &str,
 ) -> Result<String, AllocError>
-    ensures { IfOk result (λ text. string_bytes text ≡ front.now ++ lossy_text bytes.now ++ behind.now) }
+    ensures { IfOk result (λ text. string_bytes text ≡ prefix.now ++ lossy_text bytes.now ++ suffix.now) }
 {
     let mut text = String::new(alloc);
-    text.push_str(front)?;
+    text.push_str(prefix)?;
     bytes.to_str_lossy_into(&mut text)?;
-    text.push_str(behind)?;
+    text.push_str(suffix)?;
     Ok(text)
 }
 

@@ -247,3 +247,47 @@ pub enum PerfFileRecord<'a> {
     /// A record that a tool wrote.
     UserRecord(RawUserRecord<'a>),
 }
+
+impl<'a> PerfFileRecord<'a> {
+    ghost use Rattle.perfdata_records.specs.FileRecord.{file_record_type, file_record_misc, file_record_body, file_record_attr_index};
+
+    /// Returns the record's type: below 64 if the kernel wrote the record, 64 or above if a tool did.
+    pub fn record_type(&self) -> RecordType
+        ensures { result.0 ≡ file_record_type self.now }
+    {
+        match self {
+            PerfFileRecord::EventRecord { event, .. } => event.record_type,
+            PerfFileRecord::UserRecord(user) => user.record_type.record_type(),
+        }
+    }
+
+    /// Returns the `misc` field of the record header.
+    pub fn misc(&self) -> u16
+        ensures { result ≡ file_record_misc self.now }
+    {
+        match self {
+            PerfFileRecord::EventRecord { event, .. } => event.misc,
+            PerfFileRecord::UserRecord(user) => user.misc,
+        }
+    }
+
+    /// Returns all bytes after the record header, including aux data.
+    pub fn body(&self) -> RawData<'a>
+        ensures { result ≡ file_record_body self.now }
+    {
+        match self {
+            PerfFileRecord::EventRecord { event, .. } => event.body,
+            PerfFileRecord::UserRecord(user) => user.body,
+        }
+    }
+
+    /// Returns the index of the attribute of the record's event, or `None` if a tool wrote the record.
+    pub fn attr_index(&self) -> Option<usize>
+        ensures { result ≡ file_record_attr_index self.now }
+    {
+        match self {
+            PerfFileRecord::EventRecord { attr_index, .. } => Some(*attr_index),
+            PerfFileRecord::UserRecord(_) => None,
+        }
+    }
+}

@@ -13,12 +13,13 @@ use byteorder::{BigEndian, LittleEndian};
 use perfdata_base::attr::PerfEventAttr;
 use perfdata_base::features::Feature;
 use perfdata_base::raw::{Endianness, FileOrder, RawData};
+use perfdata_base::source::unexpected_eof;
 use perfdata_sections::constants::{
     PERF_RECORD_AUXTRACE, PERF_RECORD_HEADER_ATTR, PERF_RECORD_HEADER_FEATURE,
     PERF_RECORD_THREAD_MAP,
 };
 use std::alloc::Global;
-use std::io::{Error, ErrorKind, Result};
+use std::io::Result;
 
 /// An event's attribute from a record (`PERF_RECORD_HEADER_ATTR` of Linux's perf).
 #[derive(Debug, Drop)]
@@ -73,19 +74,13 @@ fn parse_ids<T: FileOrder>(alloc: Global, bytes: RawData<'_>) -> Result<Vec<u64>
     ensures error { IfErr result (λ error. IsIdsError (bytes_of bytes.entry) error) }
 {
     if bytes.len() % 8 != 0 {
-        return Err(Error::from(ErrorKind::UnexpectedEof));
+        return Err(unexpected_eof());
     }
     let mut ids = Vec::new(alloc);
     let mut rest = bytes;
     'ids: while rest.len() >= 8 {
-        let id = match rest.read_u64::<T>() {
-            Ok(id) => id,
-            Err(error) => return Err(error),
-        };
-        match ids.push(id) {
-            Ok(()) => {}
-            Err(refused) => return Err(Error::from(refused)),
-        }
+        let id = rest.read_u64::<T>()?;
+        ids.push(id)?;
     }
     Ok(ids)
 }
@@ -102,14 +97,9 @@ impl HeaderAttr {
         ensures error { IfErr result (λ error. IsHeaderAttrError T.number_of (bytes_of body.entry) error) }
     {
         let mut rest = body;
-        let attr = match PerfEventAttr::parse_from::<_, T>(&mut rest) {
-            Ok((attr, _)) => attr,
-            Err(error) => return Err(error),
-        };
-        match parse_ids::<T>(alloc, rest) {
-            Ok(ids) => Ok(HeaderAttr { attr, ids }),
-            Err(error) => Err(error),
-        }
+        let (attr, _) = PerfEventAttr::parse_from::<_, T>(&mut rest)?;
+        let ids = parse_ids::<T>(alloc, rest)?;
+        Ok(HeaderAttr { attr, ids })
     }
 }
 
@@ -124,10 +114,7 @@ impl HeaderFeature {
         ensures error { IfErr result (λ error. IsHeaderFeatureError (bytes_of body.entry) error) }
     {
         let mut rest = body;
-        let number = match rest.read_u64::<T>() {
-            Ok(number) => number,
-            Err(error) => return Err(error),
-        };
+        let number = rest.read_u64::<T>()?;
         let feature = Feature((number % (1 << 32)) as u32);
         if rest.is_empty() {
             return Ok(HeaderFeature {
@@ -135,14 +122,9 @@ impl HeaderFeature {
                 bytes: Vec::new(alloc),
             });
         }
-        let slice = match rest.as_slice(alloc) {
-            Ok(slice) => slice,
-            Err(refused) => return Err(Error::from(refused)),
-        };
-        match slice.into_owned(alloc) {
-            Ok(bytes) => Ok(HeaderFeature { feature, bytes }),
-            Err(refused) => Err(Error::from(refused)),
-        }
+        let slice = rest.as_slice(alloc)?;
+        let bytes = slice.into_owned(alloc)?;
+        Ok(HeaderFeature { feature, bytes })
     }
 }
 
@@ -167,22 +149,22 @@ impl<'a> RawUserRecord<'a> {
         ensures error { IfErr result (λ error. IsUserRecordError T.number_of self.now error) }
     {
         match self.record_type.record_type().0 {
-            PERF_RECORD_HEADER_ATTR => match HeaderAttr::parse::<T>(alloc, self.body) {
-                Ok(header) => Ok(UserRecord::HeaderAttr(header)),
-                Err(error) => Err(error),
-            },
-            PERF_RECORD_AUXTRACE => match Auxtrace::parse::<T>(self.body) {
-                Ok(trace) => Ok(UserRecord::Auxtrace(trace)),
-                Err(error) => Err(error),
-            },
-            PERF_RECORD_THREAD_MAP => match ThreadMap::parse::<T>(self.body) {
-                Ok(map) => Ok(UserRecord::ThreadMap(map)),
-                Err(error) => Err(error),
-            },
-            PERF_RECORD_HEADER_FEATURE => match HeaderFeature::parse::<T>(alloc, self.body) {
-                Ok(header) => Ok(UserRecord::HeaderFeature(header)),
-                Err(error) => Err(error),
-            },
+            PERF_RECORD_HEADER_ATTR => {
+                let attr = HeaderAttr::parse::<T>(alloc, self.body)?;
+                Ok(UserRecord::HeaderAttr(attr))
+            }
+            PERF_RECORD_AUXTRACE => {
+                let auxtrace = Auxtrace::parse::<T>(self.body)?;
+                Ok(UserRecord::Auxtrace(auxtrace))
+            }
+            PERF_RECORD_THREAD_MAP => {
+                let map = ThreadMap::parse::<T>(self.body)?;
+                Ok(UserRecord::ThreadMap(map))
+            }
+            PERF_RECORD_HEADER_FEATURE => {
+                let feature = HeaderFeature::parse::<T>(alloc, self.body)?;
+                Ok(UserRecord::HeaderFeature(feature))
+            }
             _ => Ok(UserRecord::Raw(RawUserRecord {
                 record_type: self.record_type,
                 endian: self.endian,

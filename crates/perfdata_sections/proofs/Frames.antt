@@ -15,7 +15,7 @@ use Rattle.perfdata_base.specs.declared.section.PerfFileSection.{PerfFileSection
 use Rattle.perfdata_sections.specs.AttributeDescription.{attr_in, name_in, ids_in}
 use Rattle.perfdata_sections.specs.Items.{NextReadError, ItemRead}
 use Rattle.perfdata_sections.specs.AttrFrames.{IsFrameReadError, IsAttrInFrame, IsTruncatedFrame, ConsumesFrameError, FrameRead, ReadsFrame, ReadsFrameAt, IsPlainDescription, IsInvalidAttrSection}
-use Rattle.perfdata_sections.proofs.ItemRuns.{if_some_more, later, why_bytes, why_few, error_there, read_there, Carries}
+use Rattle.perfdata_sections.proofs.ItemRuns.{if_some_more, later, cause_in_bytes, cause_of_truncation, error_there, read_there, Carries}
 use Rattle.perfdata_sections.specs.declared.feature_sections.AttributeDescription.{AttributeDescription}
 use Rattle.perfdata_sections.specs.declared.error.Error.{Error}
 use Rattle.perfdata_sections.specs.declared.error.Error.TheVariants.{Read, InconsistentAttributeSizes}
@@ -24,8 +24,8 @@ use Rattle.perfdata_sections.specs.declared.error.ReadError.TheVariants.{PerfEve
 zeros : (n : ℕ) → (xs : List ℕ) × (length xs ≡ n)
 zeros n = (replicate n 0, length-replicate n 0)
 
-first_eight : (head rest : List ℕ) → length head ≡ 8 → head ≡ take 8 (head ++ rest)
-first_eight head rest long = sym (ap (λ n. take n (head ++ rest)) (sym long) ∙ take-append_seam head rest)
+first_eight : (header rest : List ℕ) → length header ≡ 8 → header ≡ take 8 (header ++ rest)
+first_eight header rest long = sym (ap (λ n. take n (header ++ rest)) (sym long) ∙ take-append_seam header rest)
 
 module _ (number : ℕ → List ℕ → ℕ) (first : (n : ℕ) (xs ys : List ℕ) → n ≤ length xs → number n (xs ++ ys) ≡ number n xs) (attr_size : ℕ) where
   -- the first 8 bytes have an error
@@ -34,47 +34,47 @@ module _ (number : ℕ → List ℕ → ℕ) (first : (n : ℕ) (xs ys : List �
     consumed_bytes = own.consumed_bytes;
     consumes = own.consumes;
     cause = elim own.cause [
-      | inl short ↦ why_few (ConsumesFrameError number attr_size) (IsFrameReadError number attr_size) a b own.consumed_bytes (Read OfAttr) own.consumes (inl (inl short.0), inl (inl short.0, refl)) (λ end. ((refl, inl short.0), end)) (elim short.1 [ inl none ↦ inl none.1 | inr failed ↦ inr failed ])
-      | inr small ↦ why_bytes (ConsumesFrameError number attr_size) (IsFrameReadError number attr_size) a b own.consumed_bytes (Read OfAttr) own.consumes (λ rest.
+      | inl short ↦ cause_of_truncation (ConsumesFrameError number attr_size) (IsFrameReadError number attr_size) a b own.consumed_bytes (Read OfAttr) own.consumes (inl (inl short.0), inl (inl short.0, refl)) (λ end. ((refl, inl short.0), end)) (elim short.1 [ inl none ↦ inl none.1 | inr failed ↦ inr failed ])
+      | inr small ↦ cause_in_bytes (ConsumesFrameError number attr_size) (IsFrameReadError number attr_size) a b own.consumed_bytes (Read OfAttr) own.consumes (λ rest.
           let size = own_stays number first own.consumed_bytes rest (omega (arith, small.0)) in
-          let room : 8 ≤ length (own.consumed_bytes ++ rest) = omega (arith, length-append own.consumed_bytes rest, small.0) in
+          let long_enough : 8 ≤ length (own.consumed_bytes ++ rest) = omega (arith, length-append own.consumed_bytes rest, small.0) in
           let low : own_size number (own.consumed_bytes ++ rest) < 64 = omega (arith, small.1, size) in
-          (inr (room, low), inr (λ cut. elim cut [ inl few ↦ omega arith | inr part ↦ (let least = part.0 in omega arith) ], first_eight own.consumed_bytes rest small.0)))
+          (inr (long_enough, low), inr (λ truncated. elim truncated [ inl too_few ↦ omega arith | inr part ↦ (let least = part.0 in omega arith) ], first_eight own.consumed_bytes rest small.0)))
     ];
   }
 
   -- the attribute's own size exceeds that of the frame
-  pub frame_too_long : (a b : State) (head : List ℕ) (own : ℕ) → length head ≡ 8 → OwnSizeRead number a head own b → attr_size < own → NextReadError (ConsumesFrameError number attr_size) (IsFrameReadError number attr_size) a (InconsistentAttributeSizes own attr_size) b
-  frame_too_long a b head own long took more = record {
-    consumed_bytes = head;
-    consumes = took.consumes;
-    cause = why_bytes (ConsumesFrameError number attr_size) (IsFrameReadError number attr_size) a b head (InconsistentAttributeSizes own attr_size) took.consumes (λ rest.
-        let size = own_stays number first head rest (omega arith) in
-        let room : 8 ≤ length (head ++ rest) = omega (arith, length-append head rest) in
-        let same : own ≡ own_size number (head ++ rest) = took.matches ∙ sym size in
-        ((room, same, refl, took.min_size, more), inr (λ cut. elim cut [ inl few ↦ omega arith | inr part ↦ (let within = part.1 in omega arith) ], first_eight head rest long)));
+  pub frame_too_long : (a b : State) (header : List ℕ) (own : ℕ) → length header ≡ 8 → OwnSizeRead number a header own b → attr_size < own → NextReadError (ConsumesFrameError number attr_size) (IsFrameReadError number attr_size) a (InconsistentAttributeSizes own attr_size) b
+  frame_too_long a b header own long was_read more = record {
+    consumed_bytes = header;
+    consumes = was_read.consumes;
+    cause = cause_in_bytes (ConsumesFrameError number attr_size) (IsFrameReadError number attr_size) a b header (InconsistentAttributeSizes own attr_size) was_read.consumes (λ rest.
+        let size = own_stays number first header rest (omega arith) in
+        let long_enough : 8 ≤ length (header ++ rest) = omega (arith, length-append header rest) in
+        let same : own ≡ own_size number (header ++ rest) = was_read.matches ∙ sym size in
+        ((long_enough, same, refl, was_read.min_size, more), inr (λ truncated. elim truncated [ inl too_few ↦ omega arith | inr part ↦ (let within = part.1 in omega arith) ], first_eight header rest long)));
   }
 
   -- the bytes after the first 8 are truncated
-  pub frame_rest_error : (a b c : State) (head : List ℕ) (own : ℕ) (e : SourceError) → length head ≡ 8 → OwnSizeRead number a head own b → own ≤ attr_size → ReadExactError b (own - 8) e c → NextReadError (ConsumesFrameError number attr_size) (IsFrameReadError number attr_size) a (Read OfAttr) c
-  frame_rest_error a b c head own e long took within cut =
-      let size : own_size number (head ++ cut.consumed_bytes) ≡ own = own_stays number first head cut.consumed_bytes (omega arith) ∙ sym took.matches in
-      let least = took.min_size in
-      let less = cut.too_few in
-      let few : IsTruncatedFrame number attr_size (head ++ cut.consumed_bytes) = inr (omega arith, omega arith, omega (arith, length-append head cut.consumed_bytes)) in
+  pub frame_rest_error : (a b c : State) (header : List ℕ) (own : ℕ) (e : SourceError) → length header ≡ 8 → OwnSizeRead number a header own b → own ≤ attr_size → ReadExactError b (own - 8) e c → NextReadError (ConsumesFrameError number attr_size) (IsFrameReadError number attr_size) a (Read OfAttr) c
+  frame_rest_error a b c header own e long was_read within truncated =
+      let size : own_size number (header ++ truncated.consumed_bytes) ≡ own = own_stays number first header truncated.consumed_bytes (omega arith) ∙ sym was_read.matches in
+      let least = was_read.min_size in
+      let less = truncated.too_few in
+      let too_few : IsTruncatedFrame number attr_size (header ++ truncated.consumed_bytes) = inr (omega arith, omega arith, omega (arith, length-append header truncated.consumed_bytes)) in
       record {
-        consumed_bytes = head ++ cut.consumed_bytes;
-        consumes = consumed_more a b c head cut.consumed_bytes took.consumes cut.consumes;
-        cause = why_few (ConsumesFrameError number attr_size) (IsFrameReadError number attr_size) a c (head ++ cut.consumed_bytes) (Read OfAttr) (consumed_more a b c head cut.consumed_bytes took.consumes cut.consumes)
-            (inl few, inl (few, refl)) (λ end. ((refl, few), end)) (elim cut.cause [
-              | inl short ↦ inl (consumed_none_later a b c head took.consumes short.1)
-              | inr failed ↦ inr (failed_later a b c head took.consumes failed)
+        consumed_bytes = header ++ truncated.consumed_bytes;
+        consumes = consumed_more a b c header truncated.consumed_bytes was_read.consumes truncated.consumes;
+        cause = cause_of_truncation (ConsumesFrameError number attr_size) (IsFrameReadError number attr_size) a c (header ++ truncated.consumed_bytes) (Read OfAttr) (consumed_more a b c header truncated.consumed_bytes was_read.consumes truncated.consumes)
+            (inl too_few, inl (too_few, refl)) (λ end. ((refl, too_few), end)) (elim truncated.cause [
+              | inl short ↦ inl (consumed_none_later a b c header was_read.consumes short.1)
+              | inr failed ↦ inr (failed_later a b c header was_read.consumes failed)
             ]);
       }
 
-  pub frame_whole : (a b c : State) (head : List ℕ) (own : ℕ) (attr : PerfEventAttr) → length head ≡ 8 → OwnSizeRead number a head own b → own ≤ attr_size → AttrRestRead number b head own attr c → FrameRead number attr_size a attr c
-  frame_whole a b c head own attr long took within more =
-      let whole = whole_attr number first a b c head own attr long took more in
+  pub frame_whole : (a b c : State) (header : List ℕ) (own : ℕ) (attr : PerfEventAttr) → length header ≡ 8 → OwnSizeRead number a header own b → own ≤ attr_size → AttrRestRead number b header own attr c → FrameRead number attr_size a attr c
+  frame_whole a b c header own attr long was_read within more =
+      let whole = whole_attr number first a b c header own attr long was_read more in
       let size : own_size number whole.bytes ≡ own = sym (size_with number (own_size number whole.bytes) whole.bytes) ∙ sym (ap (λ a. a.size) whole.matches.matches) ∙ whole.size in
       let sized : attr.size ≡ own = whole.size in
       record {
@@ -104,9 +104,9 @@ module _ (number : ℕ → List ℕ → ℕ) (first : (n : ℕ) (xs ys : List �
 
   -- the first `attr_size` bytes contain the frame, if there are as many
   pub frame_prefix : (xs : List ℕ) (a : PerfEventAttr) → IsAttrInFrame number attr_size xs a → attr_size ≤ length xs → IsAttrInFrame number attr_size (take attr_size xs) a
-  frame_prefix xs a framed room =
+  frame_prefix xs a framed long_enough =
       let within = framed.within in
-      let long = length-take-le attr_size xs room in
+      let long = length-take-le attr_size xs long_enough in
       framed_same xs (take attr_size xs) a framed (omega arith) (sym (take-take (own_size number xs) attr_size xs within))
 
   -- the bytes of the attribute, padded to `attr_size` bytes, contain the frame
@@ -135,23 +135,23 @@ module _ (number : ℕ → List ℕ → ℕ) (first : (n : ℕ) (xs ys : List �
 
   -- an I/O error in reading a frame from a later state is also one from the earlier state
   pub frame_carries : Carries (IsFrameReadError number attr_size)
-  frame_carries a b c e front stood owed = (owed.0, later a b c stood owed.1)
+  frame_carries a b c e prefix after_seek read_error = (read_error.0, later a b c after_seek read_error.1)
 
   -- a seek, followed by reading a frame, which succeeds or fails
   pub frame_result : (a b c : State) (at n : ℕ) (r : Result PerfEventAttr Error) → SeekSucceeded a (Start at) n b → ReadsFrame number attr_size b r c → ReadsFrameAt number attr_size a at r c
-  frame_result a b c at n (Ok attr) sought took = read_there (IsAttrInFrame number attr_size) a b c at n took.bytes attr sought took.consumes (λ rest. frame_stays took.bytes rest attr took.matches)
-  frame_result a b c at n (Err e) sought refused = error_there (ConsumesFrameError number attr_size) (IsFrameReadError number attr_size) frame_carries a b c at n e sought refused
+  frame_result a b c at n (Ok attr) seek was_read = read_there (IsAttrInFrame number attr_size) a b c at n was_read.bytes attr seek was_read.consumes (λ rest. frame_stays was_read.bytes rest attr was_read.matches)
+  frame_result a b c at n (Err e) seek read_error = error_there (ConsumesFrameError number attr_size) (IsFrameReadError number attr_size) frame_carries a b c at n e seek read_error
 
   -- the attribute of a frame is described without a name and without ids
   pub described : (a b : State) (at : ℕ) (attr : PerfEventAttr) (d : AttributeDescription) → attr_in d ≡ attr → name_in d ≡ None → ids_in d ≡ [] → ItemRead (IsAttrInFrame number attr_size) a at attr b → ItemRead (IsPlainDescription number attr_size) a at d b
-  described a b at attr d same name ids took =
+  described a b at attr d same name ids was_read =
       let is_described : (xs : List ℕ) → IsAttrInFrame number attr_size xs attr → IsPlainDescription number attr_size xs d = λ xs framed. record { attr_in_frame = subst (λ x. IsAttrInFrame number attr_size xs x) (sym same) framed; name = name; ids = ids } in
       record {
-        after_seek = took.after_seek;
-        is_possible = (took.is_possible.0, is_described took.is_possible.0 took.is_possible.1);
-        matches = if_some_more _ _ _ (λ all framed. is_described _ framed) took.matches;
+        after_seek = was_read.after_seek;
+        is_possible = (was_read.is_possible.0, is_described was_read.is_possible.0 was_read.is_possible.1);
+        matches = if_some_more _ _ _ (λ all framed. is_described _ framed) was_read.matches;
       }
 
 -- the end of a section of frames fits into 64 bits
-pub can_be : (number : ℕ → List ℕ → ℕ) (attr_size : ℕ) (section : PerfFileSection) → 0 < attr_size → section.offset + section.size < 2 ^ 64 → ¬ IsInvalidAttrSection number attr_size section
-can_be number attr_size section some low no_section = elim no_section [ inl none ↦ omega arith | inr far ↦ omega arith ]
+pub attr_section_valid : (number : ℕ → List ℕ → ℕ) (attr_size : ℕ) (section : PerfFileSection) → 0 < attr_size → section.offset + section.size < 2 ^ 64 → ¬ IsInvalidAttrSection number attr_size section
+attr_section_valid number attr_size section some low no_section = elim no_section [ inl none ↦ omega arith | inr far ↦ omega arith ]

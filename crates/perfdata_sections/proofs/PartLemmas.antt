@@ -11,48 +11,48 @@ use Rattle.perfdata_sections.specs.NumberSections.{IsClockSection, IsTruncatedCl
 use Rattle.perfdata_sections.specs.declared.feature_sections.number_sections.ClockData.{ClockData}
 
 -- the bytes `n` bytes after a prefix
-pub drop_after : (k n : ℕ) (front rest : List ℕ) → length front ≡ k → drop (k + n) (front ++ rest) ≡ drop n rest
-drop_after k n front rest long =
-    sym (drop-drop n k (front ++ rest)) ∙ ap (λ m. drop n (drop m (front ++ rest))) (sym long) ∙ ap (drop n) (drop-append_seam front rest)
+pub drop_after : (k n : ℕ) (prefix rest : List ℕ) → length prefix ≡ k → drop (k + n) (prefix ++ rest) ≡ drop n rest
+drop_after k n prefix rest long =
+    sym (drop-drop n k (prefix ++ rest)) ∙ ap (λ m. drop n (drop m (prefix ++ rest))) (sym long) ∙ ap (drop n) (drop-append_seam prefix rest)
 
-pub drop_front : (k : ℕ) (front rest : List ℕ) → length front ≡ k → drop k (front ++ rest) ≡ rest
-drop_front k front rest long = ap (λ m. drop m (front ++ rest)) (sym long) ∙ drop-append_seam front rest
+pub drop_front : (k : ℕ) (prefix rest : List ℕ) → length prefix ≡ k → drop k (prefix ++ rest) ≡ rest
+drop_front k prefix rest long = ap (λ m. drop m (prefix ++ rest)) (sym long) ∙ drop-append_seam prefix rest
 
 -- a prefix was read, and the bytes after it are truncated
-pub stopped_after : (IsCut : List ℕ → Type 0) (a b c : State) (front : List ℕ) (count : ℕ) (e : Error) → Consumed a front b → ReadExactError b count e c
-    → ((part : List ℕ) → length part < count → IsCut (front ++ part)) → PartReadError IsCut a e c
-stopped_after IsCut a b c front count e before cut few = record {
-  bytes = front ++ cut.consumed_bytes;
-  is_truncated = few cut.consumed_bytes cut.too_few;
-  consumes = consumed_more a b c front cut.consumed_bytes before cut.consumes;
-  cause = elim cut.cause [
-    | inl short ↦ inl (short.0, consumed_none_later a b c front before short.1)
-    | inr failed ↦ inr (failed_later a b c front before failed)
+pub stopped_after : (IsTruncated : List ℕ → Type 0) (a b c : State) (prefix : List ℕ) (count : ℕ) (e : Error) → Consumed a prefix b → ReadExactError b count e c
+    → ((part : List ℕ) → length part < count → IsTruncated (prefix ++ part)) → PartReadError IsTruncated a e c
+stopped_after IsTruncated a b c prefix count e before read_error too_few = record {
+  bytes = prefix ++ read_error.consumed_bytes;
+  is_truncated = too_few read_error.consumed_bytes read_error.too_few;
+  consumes = consumed_more a b c prefix read_error.consumed_bytes before read_error.consumes;
+  cause = elim read_error.cause [
+    | inl short ↦ inl (short.0, consumed_none_later a b c prefix before short.1)
+    | inr failed ↦ inr (failed_later a b c prefix before failed)
   ];
 }
 
 -- the bytes are truncated from the start
-pub stopped_at_once : (IsCut : List ℕ → Type 0) (a b : State) (count : ℕ) (e : Error) → ReadExactError a count e b
-    → ((part : List ℕ) → length part < count → IsCut part) → PartReadError IsCut a e b
-stopped_at_once IsCut a b count e cut few = record { bytes = cut.consumed_bytes; is_truncated = few cut.consumed_bytes cut.too_few; consumes = cut.consumes; cause = cut.cause }
+pub stopped_at_once : (IsTruncated : List ℕ → Type 0) (a b : State) (count : ℕ) (e : Error) → ReadExactError a count e b
+    → ((part : List ℕ) → length part < count → IsTruncated part) → PartReadError IsTruncated a e b
+stopped_at_once IsTruncated a b count e read_error too_few = record { bytes = read_error.consumed_bytes; is_truncated = too_few read_error.consumed_bytes read_error.too_few; consumes = read_error.consumes; cause = read_error.cause }
 
 module _ (number : ℕ → List ℕ → ℕ) (first : ReadsFirst number) where
   pub clock_header_truncated : (a b : State) (e : Error) → ReadExactError a 4 e b → PartReadError (IsTruncatedClock number) a e b
-  clock_header_truncated a b e cut = stopped_at_once (IsTruncatedClock number) a b 4 e cut (λ part few. (omega arith, λ enough. absurd (omega arith)))
+  clock_header_truncated a b e read_error = stopped_at_once (IsTruncatedClock number) a b 4 e read_error (λ part too_few. (omega arith, λ enough. absurd (omega arith)))
 
   pub clock_rest_truncated : (a b c : State) (version : List ℕ) (count : ℕ) (e : Error) → length version ≡ 4 → number 4 version ≡ 1 → count ≡ 20 → Consumed a version b → ReadExactError b count e c
       → PartReadError (IsTruncatedClock number) a e c
-  clock_rest_truncated a b c version count e long one all before cut =
-      stopped_after (IsTruncatedClock number) a b c version count e before cut (λ part few. (
+  clock_rest_truncated a b c version count e long one all before read_error =
+      stopped_after (IsTruncatedClock number) a b c version count e before read_error (λ part too_few. (
         omega (arith, length-append version part),
         λ _. first 4 version part (omega arith) ∙ one,
       ))
 
   pub clock_read : (a b c : State) (version rest : List ℕ) (d : ClockData) → length version ≡ 4 → length rest ≡ 20 → number 4 version ≡ 1 → Consumed a version b → Consumed b rest c
       → d ≡ record { clockid = number 4 rest; wall_clock_ns = number 8 (drop 4 rest); clockid_time_ns = number 8 (drop 12 rest) } → PartRead (IsClockSection number) a d c
-  clock_read a b c version rest d long long_rest one before gave is = record {
+  clock_read a b c version rest d long long_rest one before consumed is = record {
     bytes = version ++ rest;
-    consumes = consumed_more a b c version rest before gave;
+    consumes = consumed_more a b c version rest before consumed;
     matches = (
       omega (arith, length-append version rest),
       first 4 version rest (omega arith) ∙ one,

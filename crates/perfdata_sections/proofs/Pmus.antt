@@ -38,33 +38,33 @@ same_number : (k q : ℕ) → is_eq (nat_cmp k q) ≡ nat_eq k q
 same_number k q = unsigned_tied k q
 
 -- a fact on all keys holds for the key after a prefix
-behind_front : {X : Type 0} (P : ℕ → Type 0) (es rest : List (ℕ × X)) (k : ℕ) (x : X) → AllByRecursion P (keys_of (es ++ (k, x) ∷ rest)) → P k
-behind_front P [] rest k x all = all.0
-behind_front P (e ∷ es) rest k x all = behind_front P es rest k x all.1
+key_after_prefix : {X : Type 0} (P : ℕ → Type 0) (es rest : List (ℕ × X)) (k : ℕ) (x : X) → AllByRecursion P (keys_of (es ++ (k, x) ∷ rest)) → P k
+key_after_prefix P [] rest k x all = all.0
+key_after_prefix P (e ∷ es) rest k x all = key_after_prefix P es rest k x all.1
 
 -- a number above another differs from it
 apart : (low high : ℕ) → nat_cmp low high ≡ Less → nat_eq high low ≡ false
 apart low high less = ne_eqb high low (λ same. let below = subst (λ r. MatchOrdering r (low < high) (low ≡ high) (high < low)) less (ranks low high) in absurd (omega arith))
 
 -- in a sorted list, a key isn't among those before it
-not_in_front : {X : Type 0} (es rest : List (ℕ × X)) (k : ℕ) (x : X) → IsStrictlySortedBy nat_cmp (keys_of (es ++ (k, x) ∷ rest)) → lookup (nat_eq k) es ≡ None
-not_in_front [] rest k x up = refl
-not_in_front (e ∷ es) rest k x up =
-    ap (λ b. cond b (Some e.1) (lookup (nat_eq k) es)) (apart e.0 k (behind_front (λ y. nat_cmp e.0 y ≡ Less) es rest k x (sorted_head nat_cmp e.0 (keys_of (es ++ (k, x) ∷ rest)) up)))
-    ∙ not_in_front es rest k x (sorted_tail nat_cmp e.0 (keys_of (es ++ (k, x) ∷ rest)) up)
+not_in_prefix : {X : Type 0} (es rest : List (ℕ × X)) (k : ℕ) (x : X) → IsStrictlySortedBy nat_cmp (keys_of (es ++ (k, x) ∷ rest)) → lookup (nat_eq k) es ≡ None
+not_in_prefix [] rest k x up = refl
+not_in_prefix (e ∷ es) rest k x up =
+    ap (λ b. cond b (Some e.1) (lookup (nat_eq k) es)) (apart e.0 k (key_after_prefix (λ y. nat_cmp e.0 y ≡ Less) es rest k x (sorted_head nat_cmp e.0 (keys_of (es ++ (k, x) ∷ rest)) up)))
+    ∙ not_in_prefix es rest k x (sorted_tail nat_cmp e.0 (keys_of (es ++ (k, x) ∷ rest)) up)
 
 -- one more name is appended to the map
 pub names_ordered : {S : Type 0} (all rest : List (ℕ × String Global)) (m new : IndexMap ℕ (String Global) S) (k : ℕ) (name : String Global) → IsStrictlySortedBy nat_cmp (keys_of all)
     → m.entries ++ (k, name) ∷ rest ≡ all → new.entries ≡ insert_entry nat_eq m.entries k name → new.entries ++ rest ≡ all
 names_ordered all rest m new k name up is put =
-    ap (λ es. es ++ rest) (put ∙ insert_entry-new nat_eq m k name (not_in_front m.entries rest k name (subst (λ es. IsStrictlySortedBy nat_cmp (keys_of es)) (sym is) up)))
+    ap (λ es. es ++ rest) (put ∙ insert_entry-new nat_eq m k name (not_in_prefix m.entries rest k name (subst (λ es. IsStrictlySortedBy nat_cmp (keys_of es)) (sym is) up)))
     ∙ append_assoc m.entries ((k, name) ∷ []) rest ∙ is
 
 -- the map contains all names in order
-pub orders_units : {S : Type 0} (kept : BTreeMap ℕ (String Global)) (m : IndexMap ℕ (String Global) S) → IsOrdered nat_cmp kept → m.entries ≡ kept.entries → SortsUnits kept m
-orders_units kept m up is = record {
+pub sorts_units : {S : Type 0} (names_by_number : BTreeMap ℕ (String Global)) (m : IndexMap ℕ (String Global) S) → IsOrdered nat_cmp names_by_number → m.entries ≡ names_by_number.entries → SortsUnits names_by_number m
+sorts_units names_by_number m up is = record {
   is_ascending = IsStrictlyIncreasing-from_sorted (keys m) (subst (λ es. IsStrictlySortedBy nat_cmp (keys_of es)) (sym is) up);
-  names = λ k. ap (option_map string_bytes) (ap (lookup (nat_eq k)) is ∙ same_lookup k kept.entries);
+  names = λ k. ap (option_map string_bytes) (ap (lookup (nat_eq k)) is ∙ same_lookup k names_by_number.entries);
 }
   where
     same_lookup : (k : ℕ) (es : List (ℕ × String Global)) → lookup (nat_eq k) es ≡ lookup (λ q. is_eq (nat_cmp k q)) es
@@ -72,24 +72,24 @@ orders_units kept m up is = record {
     same_lookup k (e ∷ es) = ap (λ b. cond b (Some e.1) (lookup (nat_eq k) es)) (sym (same_number k e.0)) ∙ ap (cond (is_eq (nat_cmp k e.0)) (Some e.1)) (same_lookup k es)
 
 -- a truncation after a prefix is a truncation of the whole
-pub stopped_more : (IsCut IsCutRest : List ℕ → Type 0) (a b c : State) (front : List ℕ) (e : Error) → Consumed a front b → PartReadError IsCutRest b e c
-    → ((part : List ℕ) → IsCutRest part → IsCut (front ++ part)) → PartReadError IsCut a e c
-stopped_more IsCut IsCutRest a b c front e before cut whole = record {
-  bytes = front ++ cut.bytes;
-  is_truncated = whole cut.bytes cut.is_truncated;
-  consumes = consumed_more a b c front cut.bytes before cut.consumes;
-  cause = elim cut.cause [
-    | inl short ↦ inl (short.0, consumed_none_later a b c front before short.1)
-    | inr failed ↦ inr (failed_later a b c front before failed)
+pub read_error_after : (IsTruncated IsTruncatedRest : List ℕ → Type 0) (a b c : State) (prefix : List ℕ) (e : Error) → Consumed a prefix b → PartReadError IsTruncatedRest b e c
+    → ((part : List ℕ) → IsTruncatedRest part → IsTruncated (prefix ++ part)) → PartReadError IsTruncated a e c
+read_error_after IsTruncated IsTruncatedRest a b c prefix e before truncated whole = record {
+  bytes = prefix ++ truncated.bytes;
+  is_truncated = whole truncated.bytes truncated.is_truncated;
+  consumes = consumed_more a b c prefix truncated.bytes before truncated.consumes;
+  cause = elim truncated.cause [
+    | inl short ↦ inl (short.0, consumed_none_later a b c prefix before short.1)
+    | inr failed ↦ inr (failed_later a b c prefix before failed)
   ];
 }
 
-pub some_more : (IsCut IsCutRest : List ℕ → Type 0) (a b c : State) (front : List ℕ) → Consumed a front b → PartPartlyRead IsCutRest b c
-    → ((part : List ℕ) → IsCutRest part → IsCut (front ++ part)) → PartPartlyRead IsCut a c
-some_more IsCut IsCutRest a b c front before some whole = record {
-  bytes = front ++ some.bytes;
+pub partly_read_after : (IsTruncated IsTruncatedRest : List ℕ → Type 0) (a b c : State) (prefix : List ℕ) → Consumed a prefix b → PartPartlyRead IsTruncatedRest b c
+    → ((part : List ℕ) → IsTruncatedRest part → IsTruncated (prefix ++ part)) → PartPartlyRead IsTruncated a c
+partly_read_after IsTruncated IsTruncatedRest a b c prefix before some whole = record {
+  bytes = prefix ++ some.bytes;
   is_truncated = whole some.bytes some.is_truncated;
-  consumes = consumed_more a b c front some.bytes before some.consumes;
+  consumes = consumed_more a b c prefix some.bytes before some.consumes;
 }
 
 -- a unit with a name is the last of its number
@@ -115,33 +115,33 @@ module _ (number : ℕ → List ℕ → ℕ) (first : ReadsFirst number) where
   -- ---- a unit
 
   pub unit_header_truncated : (a b : State) (e : Error) → ReadExactError a 4 e b → PartReadError (IsTruncatedUnit number) a e b
-  unit_header_truncated a b e cut = stopped_at_once (IsTruncatedUnit number) a b 4 e cut (λ part few enough. absurd (omega arith))
+  unit_header_truncated a b e truncated = stopped_at_once (IsTruncatedUnit number) a b 4 e truncated (λ part too_few enough. absurd (omega arith))
 
-  cut_unit : (head part : List ℕ) → length head ≡ 4 → IsTruncatedString number part → IsTruncatedUnit number (head ++ part)
-  cut_unit head part long cut = λ _. subst (IsTruncatedString number) (sym (drop_front 4 head part long)) cut
+  unit_truncated : (header part : List ℕ) → length header ≡ 4 → IsTruncatedString number part → IsTruncatedUnit number (header ++ part)
+  unit_truncated header part long truncated = λ _. subst (IsTruncatedString number) (sym (drop_front 4 header part long)) truncated
 
-  pub unit_error : (a b c : State) (head : List ℕ) (fault : AppendError) → length head ≡ 4 → Consumed a head b → ReadsHeaderString number b (Err fault) c → ReadsPmuUnit number a (Err fault) c
-  unit_error a b c head Memory long before some = some_more (IsTruncatedUnit number) (IsTruncatedString number) a b c head before some (λ part. cut_unit head part long)
-  unit_error a b c head (Source e) long before cut = stopped_more (IsTruncatedUnit number) (IsTruncatedString number) a b c head e before cut (λ part. cut_unit head part long)
+  pub unit_error : (a b c : State) (header : List ℕ) (error : AppendError) → length header ≡ 4 → Consumed a header b → ReadsHeaderString number b (Err error) c → ReadsPmuUnit number a (Err error) c
+  unit_error a b c header Memory long before some = partly_read_after (IsTruncatedUnit number) (IsTruncatedString number) a b c header before some (λ part. unit_truncated header part long)
+  unit_error a b c header (Source e) long before truncated = read_error_after (IsTruncatedUnit number) (IsTruncatedString number) a b c header e before truncated (λ part. unit_truncated header part long)
 
-  pub unit_read : (a b c : State) (head : List ℕ) (n : ℕ) (name : Option (List ℕ)) → length head ≡ 4 → n ≡ number 4 head → Consumed a head b → PartRead (IsHeaderStringOf number) b name c
+  pub unit_read : (a b c : State) (header : List ℕ) (n : ℕ) (name : Option (List ℕ)) → length header ≡ 4 → n ≡ number 4 header → Consumed a header b → PartRead (IsHeaderStringOf number) b name c
       → PartRead (IsPmuUnit number) a (n, name) c
-  unit_read a b c head n name long is before took = record {
-    bytes = head ++ took.bytes;
-    consumes = consumed_more a b c head took.bytes before took.consumes;
+  unit_read a b c header n name long is before was_read = record {
+    bytes = header ++ was_read.bytes;
+    consumes = consumed_more a b c header was_read.bytes before was_read.consumes;
     matches = (
-      omega (arith, length-append head took.bytes),
-      is ∙ sym (first 4 head took.bytes (omega arith)),
-      subst (λ l. IsHeaderStringOf number l name) (sym (drop_front 4 head took.bytes long)) took.matches,
+      omega (arith, length-append header was_read.bytes),
+      is ∙ sym (first 4 header was_read.bytes (omega arith)),
+      subst (λ l. IsHeaderStringOf number l name) (sym (drop_front 4 header was_read.bytes long)) was_read.matches,
     );
   }
 
   -- ---- the units
 
-  units_push : (front p : List ℕ) (us : List PmuUnit) (u : PmuUnit) → ArePmuUnits number front us → IsPmuUnit number p u → ArePmuUnits number (front ++ p) (us ++ u ∷ [])
-  units_push front p [] u none is = (p, [], ap (λ l. l ++ p) none ∙ sym (append-nil p), is, refl)
-  units_push front p (v ∷ us) u (one, rest, cut, is_one, are) is =
-      (one, rest ++ p, ap (λ l. l ++ p) cut ∙ append_assoc one rest p, is_one, units_push rest p us u are is)
+  units_push : (prefix p : List ℕ) (us : List PmuUnit) (u : PmuUnit) → ArePmuUnits number prefix us → IsPmuUnit number p u → ArePmuUnits number (prefix ++ p) (us ++ u ∷ [])
+  units_push prefix p [] u none is = (p, [], ap (λ l. l ++ p) none ∙ sym (append-nil p), is, refl)
+  units_push prefix p (v ∷ us) u (one, rest, truncated, is_one, are) is =
+      (one, rest ++ p, ap (λ l. l ++ p) truncated ∙ append_assoc one rest p, is_one, units_push rest p us u are is)
 
   pub units_none : (a : State) (m : BTreeMap ℕ (String Global)) → m.entries ≡ [] → PmuUnitsRead number 0 a m a
   units_none a m empty = record { units = []; bytes = []; exact_len = refl; consumes = consumed_none a; elements = refl; names = λ k. ap (λ es. option_map string_bytes (lookup (λ q. is_eq (nat_cmp k q)) es)) empty }
@@ -149,90 +149,90 @@ module _ (number : ℕ → List ℕ → ℕ) (first : ReadsFirst number) where
   -- one more unit
   pub units_more : (i : ℕ) (a b c : State) (m new : BTreeMap ℕ (String Global)) (u : PmuUnit) → PmuUnitsRead number i a m b → PartRead (IsPmuUnit number) b u c
       → ((us : List PmuUnit) → ((q : ℕ) → collected_name m q ≡ last_name us q) → (q : ℕ) → collected_name new q ≡ last_name (us ++ u ∷ []) q) → PmuUnitsRead number (i + 1) a new c
-  units_more i a b c m new u took one keeps = record {
-    units = took.units ++ u ∷ [];
-    bytes = took.bytes ++ one.bytes;
-    exact_len = let long = took.exact_len in omega (arith, length-append took.units (u ∷ []));
-    consumes = consumed_more a b c took.bytes one.bytes took.consumes one.consumes;
-    elements = units_push took.bytes one.bytes took.units u took.elements one.matches;
-    names = keeps took.units took.names;
+  units_more i a b c m new u was_read one keeps = record {
+    units = was_read.units ++ u ∷ [];
+    bytes = was_read.bytes ++ one.bytes;
+    exact_len = let long = was_read.exact_len in omega (arith, length-append was_read.units (u ∷ []));
+    consumes = consumed_more a b c was_read.bytes one.bytes was_read.consumes one.consumes;
+    elements = units_push was_read.bytes one.bytes was_read.units u was_read.elements one.matches;
+    names = keeps was_read.units was_read.names;
   }
 
   -- the next unit has an error
-  pub units_error : (i count : ℕ) (a b c : State) (m : BTreeMap ℕ (String Global)) (fault : AppendError) → i < count → PmuUnitsRead number i a m b → ReadsPmuUnit number b (Err fault) c
-      → ReadsPmuUnits number count a (Err fault) c
-  units_error i count a b c m Memory low took some =
-      some_more (TruncatedUnits number (count + 1)) (IsTruncatedUnit number) a b c took.bytes took.consumes some (λ part cut.
-      let long = took.exact_len in record { units = took.units; unit_bytes = took.bytes; rest = part; too_few = omega arith; matches = refl; elements = took.elements; is_truncated = cut })
-  units_error i count a b c m (Source e) low took stopped =
-      stopped_more (TruncatedUnits number count) (IsTruncatedUnit number) a b c took.bytes e took.consumes stopped (λ part cut.
-      let long = took.exact_len in record { units = took.units; unit_bytes = took.bytes; rest = part; too_few = omega arith; matches = refl; elements = took.elements; is_truncated = cut })
+  pub units_error : (i count : ℕ) (a b c : State) (m : BTreeMap ℕ (String Global)) (error : AppendError) → i < count → PmuUnitsRead number i a m b → ReadsPmuUnit number b (Err error) c
+      → ReadsPmuUnits number count a (Err error) c
+  units_error i count a b c m Memory low was_read some =
+      partly_read_after (TruncatedUnits number (count + 1)) (IsTruncatedUnit number) a b c was_read.bytes was_read.consumes some (λ part truncated.
+      let long = was_read.exact_len in record { units = was_read.units; unit_bytes = was_read.bytes; rest = part; too_few = omega arith; matches = refl; elements = was_read.elements; is_truncated = truncated })
+  units_error i count a b c m (Source e) low was_read stopped =
+      read_error_after (TruncatedUnits number count) (IsTruncatedUnit number) a b c was_read.bytes e was_read.consumes stopped (λ part truncated.
+      let long = was_read.exact_len in record { units = was_read.units; unit_bytes = was_read.bytes; rest = part; too_few = omega arith; matches = refl; elements = was_read.elements; is_truncated = truncated })
 
   -- the names of the units can't be allocated
-  pub units_some : (i count : ℕ) (a b : State) (m : BTreeMap ℕ (String Global)) → i ≤ count → PmuUnitsRead number i a m b → PartPartlyRead (TruncatedUnits number (count + 1)) a b
-  units_some i count a b m low took =
-      let long = took.exact_len in record {
-        bytes = took.bytes;
-        is_truncated = record { units = took.units; unit_bytes = took.bytes; rest = []; too_few = omega arith; matches = sym (append-nil took.bytes); elements = took.elements; is_truncated = λ enough. absurd (omega arith) };
-        consumes = took.consumes;
+  pub units_partly_read : (i count : ℕ) (a b : State) (m : BTreeMap ℕ (String Global)) → i ≤ count → PmuUnitsRead number i a m b → PartPartlyRead (TruncatedUnits number (count + 1)) a b
+  units_partly_read i count a b m low was_read =
+      let long = was_read.exact_len in record {
+        bytes = was_read.bytes;
+        is_truncated = record { units = was_read.units; unit_bytes = was_read.bytes; rest = []; too_few = omega arith; matches = sym (append-nil was_read.bytes); elements = was_read.elements; is_truncated = λ enough. absurd (omega arith) };
+        consumes = was_read.consumes;
       }
 
   -- nor can the name of one more unit
-  pub units_unkept : (i count : ℕ) (a b c : State) (m : BTreeMap ℕ (String Global)) (u : PmuUnit) → i < count → PmuUnitsRead number i a m b → PartRead (IsPmuUnit number) b u c
+  pub units_out_of_memory : (i count : ℕ) (a b c : State) (m : BTreeMap ℕ (String Global)) (u : PmuUnit) → i < count → PmuUnitsRead number i a m b → PartRead (IsPmuUnit number) b u c
       → PartPartlyRead (TruncatedUnits number (count + 1)) a c
-  units_unkept i count a b c m u low took one =
-      let long = took.exact_len in record {
-        bytes = took.bytes ++ one.bytes;
+  units_out_of_memory i count a b c m u low was_read one =
+      let long = was_read.exact_len in record {
+        bytes = was_read.bytes ++ one.bytes;
         is_truncated = record {
-          units = took.units ++ u ∷ [];
-          unit_bytes = took.bytes ++ one.bytes;
+          units = was_read.units ++ u ∷ [];
+          unit_bytes = was_read.bytes ++ one.bytes;
           rest = [];
-          too_few = omega (arith, length-append took.units (u ∷ []));
-          matches = sym (append-nil (took.bytes ++ one.bytes));
-          elements = units_push took.bytes one.bytes took.units u took.elements one.matches;
+          too_few = omega (arith, length-append was_read.units (u ∷ []));
+          matches = sym (append-nil (was_read.bytes ++ one.bytes));
+          elements = units_push was_read.bytes one.bytes was_read.units u was_read.elements one.matches;
           is_truncated = λ enough. absurd (omega arith);
         };
-        consumes = consumed_more a b c took.bytes one.bytes took.consumes one.consumes;
+        consumes = consumed_more a b c was_read.bytes one.bytes was_read.consumes one.consumes;
       }
 
   -- ---- the section
 
   pub section_header_truncated : (a b : State) (e : Error) → ReadExactError a 4 e b → PartReadError (IsTruncatedPmuSection number) a e b
-  section_header_truncated a b e cut = stopped_at_once (IsTruncatedPmuSection number) a b 4 e cut (λ part few enough. absurd (omega arith))
+  section_header_truncated a b e truncated = stopped_at_once (IsTruncatedPmuSection number) a b 4 e truncated (λ part too_few enough. absurd (omega arith))
 
-  pub section_error : (a b c : State) (head : List ℕ) (count : ℕ) (fault : AppendError) → length head ≡ 4 → count ≡ number 4 head → Consumed a head b
-      → ReadsPmuUnits number count b (Err fault) c → ReadsPmus number a (Err fault) c
-  section_error a b c head count Memory long says before some = some_more (IsPrefixOfPmuSection number) (TruncatedUnits number (count + 1)) a b c head before some (λ part cut _.
-      let same = first 4 head part (omega arith) in
-      let all : count + 1 ≡ number 4 (head ++ part) + 1 = omega arith in
-      subst (TruncatedUnits number (number 4 (head ++ part) + 1)) (sym (drop_front 4 head part long)) (subst (λ n. TruncatedUnits number n part) all cut))
-  section_error a b c head count (Source e) long says before stopped = stopped_more (IsTruncatedPmuSection number) (TruncatedUnits number count) a b c head e before stopped (λ part cut _.
-      let same = first 4 head part (omega arith) in
-      let all : count ≡ number 4 (head ++ part) = omega arith in
-      subst (TruncatedUnits number (number 4 (head ++ part))) (sym (drop_front 4 head part long)) (subst (λ n. TruncatedUnits number n part) all cut))
+  pub section_error : (a b c : State) (header : List ℕ) (count : ℕ) (error : AppendError) → length header ≡ 4 → count ≡ number 4 header → Consumed a header b
+      → ReadsPmuUnits number count b (Err error) c → ReadsPmus number a (Err error) c
+  section_error a b c header count Memory long says before some = partly_read_after (IsPrefixOfPmuSection number) (TruncatedUnits number (count + 1)) a b c header before some (λ part truncated _.
+      let same = first 4 header part (omega arith) in
+      let all : count + 1 ≡ number 4 (header ++ part) + 1 = omega arith in
+      subst (TruncatedUnits number (number 4 (header ++ part) + 1)) (sym (drop_front 4 header part long)) (subst (λ n. TruncatedUnits number n part) all truncated))
+  section_error a b c header count (Source e) long says before stopped = read_error_after (IsTruncatedPmuSection number) (TruncatedUnits number count) a b c header e before stopped (λ part truncated _.
+      let same = first 4 header part (omega arith) in
+      let all : count ≡ number 4 (header ++ part) = omega arith in
+      subst (TruncatedUnits number (number 4 (header ++ part))) (sym (drop_front 4 header part long)) (subst (λ n. TruncatedUnits number n part) all truncated))
 
-  section_is : (head bytes : List ℕ) (count : ℕ) (us : List PmuUnit) → length head ≡ 4 → count ≡ number 4 head → length us ≡ count → ArePmuUnits number bytes us → IsPmuSection number (head ++ bytes) us
-  section_is head bytes count us long says all are =
-      let same = first 4 head bytes (omega arith) in record {
-        has_count = omega (arith, length-append head bytes);
+  section_is : (header bytes : List ℕ) (count : ℕ) (us : List PmuUnit) → length header ≡ 4 → count ≡ number 4 header → length us ≡ count → ArePmuUnits number bytes us → IsPmuSection number (header ++ bytes) us
+  section_is header bytes count us long says all are =
+      let same = first 4 header bytes (omega arith) in record {
+        has_count = omega (arith, length-append header bytes);
         count = omega arith;
-        elements = subst (λ l. ArePmuUnits number l us) (sym (drop_front 4 head bytes long)) are;
+        elements = subst (λ l. ArePmuUnits number l us) (sym (drop_front 4 header bytes long)) are;
       }
 
   -- the map in ascending order can't be allocated
-  pub section_some : (a b c : State) (head : List ℕ) (count : ℕ) (m : BTreeMap ℕ (String Global)) → length head ≡ 4 → count ≡ number 4 head → Consumed a head b → PmuUnitsRead number count b m c
+  pub section_partly_read : (a b c : State) (header : List ℕ) (count : ℕ) (m : BTreeMap ℕ (String Global)) → length header ≡ 4 → count ≡ number 4 header → Consumed a header b → PmuUnitsRead number count b m c
       → PartPartlyRead (IsPrefixOfPmuSection number) a c
-  section_some a b c head count m long says before took =
-      section_error a b c head count Memory long says before (units_some count count b c m (omega arith) took)
+  section_partly_read a b c header count m long says before was_read =
+      section_error a b c header count Memory long says before (units_partly_read count count b c m (omega arith) was_read)
 
-  pub section_read : (a b c : State) (head : List ℕ) (count : ℕ) (m : BTreeMap ℕ (String Global)) (ordered : PmuMappings) → length head ≡ 4 → count ≡ number 4 head → Consumed a head b
-      → PmuUnitsRead number count b m c → SortsUnits m ordered.0 → PartRead (IsPmuSectionOf number) a ordered c
-  section_read a b c head count m ordered long says before took orders = record {
-    bytes = head ++ took.bytes;
-    consumes = consumed_more a b c head took.bytes before took.consumes;
+  pub section_read : (a b c : State) (header : List ℕ) (count : ℕ) (m : BTreeMap ℕ (String Global)) (pmus : PmuMappings) → length header ≡ 4 → count ≡ number 4 header → Consumed a header b
+      → PmuUnitsRead number count b m c → SortsUnits m pmus.0 → PartRead (IsPmuSectionOf number) a pmus c
+  section_read a b c header count m pmus long says before was_read sorted = record {
+    bytes = header ++ was_read.bytes;
+    consumes = consumed_more a b c header was_read.bytes before was_read.consumes;
     matches = (
-      took.units,
-      section_is head took.bytes count took.units long says took.exact_len took.elements,
-      record { is_ascending = orders.is_ascending; names = λ k. orders.names k ∙ took.names k },
+      was_read.units,
+      section_is header was_read.bytes count was_read.units long says was_read.exact_len was_read.elements,
+      record { is_ascending = sorted.is_ascending; names = λ k. sorted.names k ∙ was_read.names k },
     );
   }

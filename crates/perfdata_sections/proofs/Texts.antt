@@ -19,20 +19,20 @@ use Rattle.perfdata_sections.specs.HeaderString.{before_nul, utf8_text, IsTrunca
 use Rattle.perfdata_sections.proofs.PartLemmas.{drop_front, stopped_after, stopped_at_once}
 
 -- the text ends at the first NUL
-pub nul_there : (xs : List ℕ) (place : ℕ) → place < length xs → Nowhere (Passes (is_byte 0) xs) 0 place → Passes (is_byte 0) xs place → take place xs ≡ before_nul xs
-nul_there xs place within before is =
-    let at = position_or_len_is (λ b. b == 0) xs place 0 (omega arith) (λ k low. false_from_ne_true (get_or xs k 0 == 0) (before k (omega arith) low)) (λ _. is) in
+pub text_ends_at_nul : (xs : List ℕ) (nul_index : ℕ) → nul_index < length xs → Nowhere (Passes (is_byte 0) xs) 0 nul_index → Passes (is_byte 0) xs nul_index → take nul_index xs ≡ before_nul xs
+text_ends_at_nul xs nul_index within before is =
+    let at = position_or_len_is (λ b. b == 0) xs nul_index 0 (omega arith) (λ k low. false_from_ne_true (get_or xs k 0 == 0) (before k (omega arith) low)) (λ _. is) in
     ap (λ n. take n xs) (sym at)
 
 -- there is no NUL
-pub nul_nowhere : (xs : List ℕ) → Nowhere (Passes (is_byte 0) xs) 0 (length xs) → xs ≡ before_nul xs
-nul_nowhere xs before =
+pub text_without_nul : (xs : List ℕ) → Nowhere (Passes (is_byte 0) xs) 0 (length xs) → xs ≡ before_nul xs
+text_without_nul xs before =
     let at = position_or_len_is (λ b. b == 0) xs (length xs) 0 (omega arith) (λ k low. false_from_ne_true (get_or xs k 0 == 0) (before k (omega arith) low)) (λ low. absurd (omega arith)) in
     sym (take_all (length xs) xs (omega arith)) ∙ ap (λ n. take n xs) (sym at)
 
 -- a prefix with the length of the text is the text
-pub text_truncated : (xs kept : List ℕ) → kept ≡ take (length (before_nul xs)) xs → kept ≡ before_nul xs
-text_truncated xs kept is = is ∙ ap (λ n. take n xs) (length-prefix_len _ xs)
+pub text_is_prefix : (xs kept : List ℕ) → kept ≡ take (length (before_nul xs)) xs → kept ≡ before_nul xs
+text_is_prefix xs kept is = is ∙ ap (λ n. take n xs) (length-prefix_len _ xs)
 
 pub text_is_utf8 : (xs text : List ℕ) → text ≡ xs → IsUtf8 text → Some text ≡ utf8_text xs
 text_is_utf8 xs text same utf8 =
@@ -45,35 +45,35 @@ text_is_not_utf8 xs isnt =
     rw no_text refl
 
 module _ (number : ℕ → List ℕ → ℕ) (first : ReadsFirst number) where
-  -- the bytes after the length are too few
-  few_bytes : (head part : List ℕ) → length head ≡ 4 → length part < number 4 head → IsTruncatedString number (head ++ part)
-  few_bytes head part long few = λ _. let same = first 4 head part (omega arith) in omega (arith, length-append head part)
+  -- the bytes after the length are too too_few
+  string_too_short : (header part : List ℕ) → length header ≡ 4 → length part < number 4 header → IsTruncatedString number (header ++ part)
+  string_too_short header part long too_few = λ _. let same = first 4 header part (omega arith) in omega (arith, length-append header part)
 
   pub string_header_truncated : (a b : State) (e : Error) → ReadExactError a 4 e b → PartReadError (IsTruncatedString number) a e b
-  string_header_truncated a b e cut = stopped_at_once (IsTruncatedString number) a b 4 e cut (λ part few enough. absurd (omega arith))
+  string_header_truncated a b e read_error = stopped_at_once (IsTruncatedString number) a b 4 e read_error (λ part too_few enough. absurd (omega arith))
 
-  pub string_body_truncated : (a b c : State) (head : List ℕ) (count : ℕ) (e : Error) → length head ≡ 4 → count ≡ number 4 head → Consumed a head b → ReadExactError b count e c
+  pub string_body_truncated : (a b c : State) (header : List ℕ) (count : ℕ) (e : Error) → length header ≡ 4 → count ≡ number 4 header → Consumed a header b → ReadExactError b count e c
       → PartReadError (IsTruncatedString number) a e c
-  string_body_truncated a b c head count e long says before cut = stopped_after (IsTruncatedString number) a b c head count e before cut (λ part few. few_bytes head part long (omega arith))
+  string_body_truncated a b c header count e long says before read_error = stopped_after (IsTruncatedString number) a b c header count e before read_error (λ part too_few. string_too_short header part long (omega arith))
 
-  pub string_body_some : (a b c : State) (head : List ℕ) (count : ℕ) → length head ≡ 4 → count ≡ number 4 head → Consumed a head b → PartlyRead b count c
+  pub string_body_partly_read : (a b c : State) (header : List ℕ) (count : ℕ) → length header ≡ 4 → count ≡ number 4 header → Consumed a header b → PartlyRead b count c
       → PartPartlyRead (IsTruncatedString number) a c
-  string_body_some a b c head count long says before came =
-      let less = came.too_few in
-      record { bytes = head ++ came.consumed_bytes; is_truncated = few_bytes head came.consumed_bytes long (omega arith); consumes = consumed_more a b c head came.consumed_bytes before came.consumes }
+  string_body_partly_read a b c header count long says before partial =
+      let less = partial.too_few in
+      record { bytes = header ++ partial.consumed_bytes; is_truncated = string_too_short header partial.consumed_bytes long (omega arith); consumes = consumed_more a b c header partial.consumed_bytes before partial.consumes }
 
-  pub string_read : (a b c : State) (head body : List ℕ) (count : ℕ) (text : Option (List ℕ)) → length head ≡ 4 → count ≡ number 4 head → length body ≡ count → Consumed a head b → Consumed b body c
+  pub string_read : (a b c : State) (header body : List ℕ) (count : ℕ) (text : Option (List ℕ)) → length header ≡ 4 → count ≡ number 4 header → length body ≡ count → Consumed a header b → Consumed b body c
       → text ≡ utf8_text (before_nul body) → PartRead (IsHeaderStringOf number) a text c
-  string_read a b c head body count text long says all before gave is = record {
-    bytes = head ++ body;
-    consumes = consumed_more a b c head body before gave;
-    matches = let same = first 4 head body (omega arith) in (
-      (omega (arith, length-append head body), omega (arith, length-append head body)),
-      is ∙ ap (λ l. utf8_text (before_nul l)) (sym (drop_front 4 head body long)),
+  string_read a b c header body count text long says all before consumed is = record {
+    bytes = header ++ body;
+    consumes = consumed_more a b c header body before consumed;
+    matches = let same = first 4 header body (omega arith) in (
+      (omega (arith, length-append header body), omega (arith, length-append header body)),
+      is ∙ ap (λ l. utf8_text (before_nul l)) (sym (drop_front 4 header body long)),
     );
   }
 
-  pub string_body_error : (a b c : State) (head : List ℕ) (count : ℕ) (fault : AppendError) → length head ≡ 4 → count ≡ number 4 head → Consumed a head b → ReadsBytes b count (Err fault) c
-      → ReadsHeaderString number a (Err fault) c
-  string_body_error a b c head count Memory long says before came = string_body_some a b c head count long says before came
-  string_body_error a b c head count (Source e) long says before cut = string_body_truncated a b c head count e long says before cut
+  pub string_body_error : (a b c : State) (header : List ℕ) (count : ℕ) (error : AppendError) → length header ≡ 4 → count ≡ number 4 header → Consumed a header b → ReadsBytes b count (Err error) c
+      → ReadsHeaderString number a (Err error) c
+  string_body_error a b c header count Memory long says before partial = string_body_partly_read a b c header count long says before partial
+  string_body_error a b c header count (Source e) long says before read_error = string_body_truncated a b c header count e long says before read_error

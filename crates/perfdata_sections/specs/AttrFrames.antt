@@ -38,7 +38,7 @@ module _ (number : ℕ → List ℕ → ℕ) (attr_size : ℕ) where
   -- Like `IsFrameError`. A reader consumes this prefix of `xs` to detect the error: all bytes if the frame is truncated, else the
   -- first eight.
   abbrev pub ConsumesFrameError : Error → List ℕ → List ℕ → Type 0
-  ConsumesFrameError e front xs = IsFrameError e xs × ((IsTruncatedFrame xs × (front ≡ xs)) ⊎ ((¬ IsTruncatedFrame xs) × (front ≡ take 8 xs)))
+  ConsumesFrameError e prefix xs = IsFrameError e xs × ((IsTruncatedFrame xs × (prefix ≡ xs)) ⊎ ((¬ IsTruncatedFrame xs) × (prefix ≡ take 8 xs)))
 
   -- A read of a frame failed or paused after the bytes `xs` of it.
   abbrev pub IsFrameReadError : Error → List ℕ → State → State → Type 0

@@ -49,7 +49,7 @@ module _ (number : ℕ → List ℕ → ℕ) where
   -- What reading the part after the frame does. If memory runs out, some bytes of it may be consumed.
   abbrev pub ReadsNameAndIds : State → Result NameAndIds AppendError → State → Type 0
   ReadsNameAndIds old (Ok t) new = PartRead (λ xs t. IsNameAndIds xs (option_map string_bytes t.name) t.event_ids.items) old t new
-  ReadsNameAndIds old (Err NoMemory) new = (front : List ℕ) × Consumed old front new
+  ReadsNameAndIds old (Err NoMemory) new = (prefix : List ℕ) × Consumed old prefix new
   ReadsNameAndIds old (Err (Source e)) new = PartReadError IsTruncatedNameAndIds old e new
 
   -- ---- events
@@ -139,10 +139,10 @@ module _ (number : ℕ → List ℕ → ℕ) where
 
   -- The number of events of a section, from its first eight bytes.
   abbrev pub event_count_of : List ℕ → ℕ
-  event_count_of head = number 4 head
+  event_count_of header = number 4 header
 
   abbrev pub frame_size_of : List ℕ → ℕ
-  frame_size_of head = number 4 (drop 4 head)
+  frame_size_of header = number 4 (drop 4 header)
 
   -- `xs` is exactly a section of these events.
   pub record IsEventDesc (xs : List ℕ) (ds : List DescribedEvent) : Type 0 where
@@ -155,7 +155,7 @@ module _ (number : ℕ → List ℕ → ℕ) where
 
   -- `xs` starts with a section of exactly these events.
   abbrev pub BeginsWithEventDesc : List ℕ → List DescribedEvent → Type 0
-  BeginsWithEventDesc xs ds = (front : List ℕ) × (rest : List ℕ) × (xs ≡ front ++ rest) × IsEventDesc front ds
+  BeginsWithEventDesc xs ds = (prefix : List ℕ) × (rest : List ℕ) × (xs ≡ prefix ++ rest) × IsEventDesc prefix ds
 
   -- The descriptions describe the events of the section at the start of `xs`, in order.
   abbrev pub DescribesByEventDesc : List ℕ → List AttributeDescription → Type 0

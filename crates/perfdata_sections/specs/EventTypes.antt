@@ -1,9 +1,9 @@
 -- The event types section. An entry consists of a frame and the section of the event's ids (`perf_file_attr` of Linux's perf).
-use Rattle.std.specs.Prelude.{◌≡◌, ◌≢◌, ℕ, ◌+◌, ◌*◌, ◌/◌, ◌^◌, ◌<◌, ◌≤◌, ◌⊎◌, List, [], ◌∷◌, ◌++◌, length, drop, slice_get, Option, Some, Result, Ok, Err, IfSome, Vec, String, string_bytes}
+use Rattle.std.specs.Prelude.{◌≡◌, ◌≢◌, ℕ, ◌+◌, ◌*◌, ◌/◌, ◌^◌, ◌<◌, ◌≤◌, ◌⊎◌, List, [], ◌∷◌, ◌++◌, length, drop, slice_get, Option, Some, Result, Ok, Err, IfSome, Vec, string_bytes}
 use Rattle.std.specs.Option.{option_map}
 use Rattle.std.specs.declared.alloc.Global.{Global}
 use Rattle.perfdata_base.specs.Source.{State, Position, AfterSeek, at_offset, all_bytes_of}
-use Rattle.perfdata_base.specs.Section.{IsSectionEntry}
+use Rattle.perfdata_base.specs.Section.{EndFitsU64, EndOverflowsU64, IsSectionEntry}
 use Rattle.perfdata_base.specs.declared.attr.PerfEventAttr.{PerfEventAttr}
 use Rattle.perfdata_base.specs.declared.section.PerfFileSection.{PerfFileSection}
 use Rattle.perfdata_sections.specs.AttributeDescription.{attr_in, name_in, ids_in}
@@ -22,27 +22,14 @@ use Rattle.perfdata_sections.specs.declared.error.ReadError.TheVariants.{PerfEve
 abbrev pub type_name_at : List SimplePerfEventType → ℕ → Option (List ℕ)
 type_name_at types i = option_map (λ t. string_bytes t.name) (slice_get types i)
 
--- What cloning a name does.
-abbrev pub CopiesName : Option (List ℕ) → Result (Option (String Global)) Error → Type 0
-CopiesName name (Ok copy) = option_map string_bytes copy ≡ name
-CopiesName name (Err e) = e ≡ Memory
-
--- The end of the section is below 2^64.
-abbrev pub EndFitsU64 : PerfFileSection → Type 0
-EndFitsU64 s = s.offset + s.size < 2 ^ 64
-
--- The end of the section is 2^64 or above.
-abbrev pub EndOverflowsU64 : PerfFileSection → Type 0
-EndOverflowsU64 s = 2 ^ 64 ≤ s.offset + s.size
-
 -- The offset after the last whole id of a section.
 abbrev pub ids_end : PerfFileSection → ℕ
 ids_end s = s.offset + 8 * (s.size / 8)
 
 -- The position after the ids of these entries, or the given position if there are no entries.
 abbrev pub position_after_ids : Option Position → List EventTypeEntry → Option Position
-position_after_ids place [] = place
-position_after_ids place (entry ∷ entries) = position_after_ids (at_offset (ids_end entry.ids) place) entries
+position_after_ids position [] = position
+position_after_ids position (entry ∷ entries) = position_after_ids (at_offset (ids_end entry.ids) position) entries
 
 -- The source's position is after the ids of `entries`, or `start` if there are none. Its number of pauses is unchanged.
 pub record IsAfterIds (old : State) (start : Option Position) (entries : List EventTypeEntry) (new : State) : Type 0 where
@@ -92,33 +79,33 @@ module _ (number : ℕ → List ℕ → ℕ) where
   -- ---- the ids of an entry
 
   -- `ids` has one element for each whole id of the section. They are the ids in the section if all bytes are known.
-  pub record AreSectionIds (told : Option (List ℕ)) (s : PerfFileSection) (ids : List ℕ) : Type 0 where
+  pub record AreSectionIds (all_bytes : Option (List ℕ)) (s : PerfFileSection) (ids : List ℕ) : Type 0 where
     pub end_fits : EndFitsU64 s
     pub count : length ids ≡ s.size / 8
-    pub elements : IfSome told (λ all. BeginsWithIds number (s.size / 8) (drop s.offset all) ids)
+    pub elements : IfSome all_bytes (λ all. BeginsWithIds number (s.size / 8) (drop s.offset all) ids)
 
   -- The section doesn't contain its ids: its end is 2^64 or above, or its last whole id is truncated.
   abbrev pub IsSectionIdsError : Error → PerfFileSection → List ℕ → Type 0
   IsSectionIdsError e s all = (EndOverflowsU64 s × (e ≡ Read OfAttr)) ⊎ (EndFitsU64 s × IsUnexpectedEof e × (length (drop s.offset all) < 8 * (s.size / 8)))
 
-  -- Reading the ids of a section fails. Either its end is 2^64 or above, and `Stands` holds for the source; or reading them at
+  -- Reading the ids of a section fails. Either its end is 2^64 or above, and `Unchanged` holds for the source; or reading them at
   -- their offset fails.
   abbrev pub SectionIdsReadError : (State → Type 0) → State → PerfFileSection → Error → State → Type 0
-  SectionIdsReadError Stands old s e new = (EndOverflowsU64 s × (e ≡ Read OfAttr) × Stands new) ⊎ (EndFitsU64 s × ReadOrSeekErrorAt (IsTruncationOf (IsShorterThan (8 * (s.size / 8)))) (IsReadErrorOf (IsShorterThan (8 * (s.size / 8)))) old s.offset e new)
+  SectionIdsReadError Unchanged old s e new = (EndOverflowsU64 s × (e ≡ Read OfAttr) × Unchanged new) ⊎ (EndFitsU64 s × ReadOrSeekErrorAt (IsTruncationOf (IsShorterThan (8 * (s.size / 8)))) (IsReadErrorOf (IsShorterThan (8 * (s.size / 8)))) old s.offset e new)
 
   -- What reading the ids of a section does. If the end of the section is 2^64 or above, the source is unchanged.
   abbrev pub ReadsSectionIds : State → PerfFileSection → Result (Vec ℕ Global) Error → State → Type 0
   ReadsSectionIds old s (Ok v) new = AfterSeek old new × AreSectionIds (all_bytes_of old.position) s v.items
-  ReadsSectionIds old s (Err e) new = AfterSeek old new × (e ≢ Memory → SectionIdsReadError (λ left. left ≡ old) old s e new)
+  ReadsSectionIds old s (Err e) new = AfterSeek old new × (e ≢ Memory → SectionIdsReadError (λ final. final ≡ old) old s e new)
 
   -- ---- descriptions
 
-  module _ (told : Option (List ℕ)) (names : ℕ → Option (List ℕ)) where
+  module _ (all_bytes : Option (List ℕ)) (names : ℕ → Option (List ℕ)) where
     -- `d` describes an entry: its attribute, the name for its index, and the ids of its section.
     pub record IsEntryDescription (i : ℕ) (entry : EventTypeEntry) (d : AttributeDescription) : Type 0 where
       pub attr : attr_in d ≡ entry.attr
       pub name : name_in d ≡ names i
-      pub ids : AreSectionIds told entry.ids (ids_in d)
+      pub ids : AreSectionIds all_bytes entry.ids (ids_in d)
 
     -- The descriptions describe the entries one by one. The first has the index `i`.
     abbrev pub AreEntryDescriptions : ℕ → List EventTypeEntry → List AttributeDescription → Type 0

@@ -10,14 +10,14 @@ use Rattle.perfdata_sections.specs.declared.error.Error.TheVariants.{Memory}
 abbrev pub SomeBytes : (List ℕ → Type 0) → Type 0
 SomeBytes P = (xs : List ℕ) × P xs
 
--- `IsNot e front xs`: the bytes `xs` don't start with an item, for the error `e`, and a reader consumes the prefix `front` of
--- `xs` to detect that. `IsOfRead e front old new`: a read of an item failed or paused after its bytes `front`, with the error
+-- `IsNot e prefix xs`: the bytes `xs` don't start with an item, for the error `e`, and a reader consumes the prefix `prefix` of
+-- `xs` to detect that. `IsOfRead e prefix old new`: a read of an item failed or paused after its bytes `prefix`, with the error
 -- `e`.
 module _ (IsNot : Error → List ℕ → List ℕ → Type 0) (IsOfRead : Error → List ℕ → State → State → Type 0) where
-  -- The cause of the error `e` of an item, of which the bytes `front` are consumed. Some bytes with this prefix have this error,
+  -- The cause of the error `e` of an item, of which the bytes `prefix` are consumed. Some bytes with this prefix have this error,
   -- and the source's bytes satisfy `Shows` if they are known; or a read failed or paused.
   abbrev pub ReadErrorCause : State → Option (List ℕ) → (List ℕ → Type 0) → List ℕ → Error → State → Type 0
-  ReadErrorCause old bytes Shows front e new = (SomeBytes (IsNot e front) × IfSome bytes Shows) ⊎ IsOfRead e front old new
+  ReadErrorCause old bytes Shows prefix e new = (SomeBytes (IsNot e prefix) × IfSome bytes Shows) ⊎ IsOfRead e prefix old new
 
   -- Reading an item at the source's position fails.
   pub record NextReadError (old : State) (e : Error) (new : State) : Type 0 where
@@ -38,11 +38,11 @@ module _ (IsNot : Error → List ℕ → List ℕ → Type 0) (IsOfRead : Error 
 
 -- The bytes `xs` are too few for an item. A read consumes all of them and ends with an unexpected end of file.
 abbrev pub IsTruncationOf : (List ℕ → Type 0) → Error → List ℕ → List ℕ → Type 0
-IsTruncationOf IsCut e front xs = IsUnexpectedEof e × IsCut xs × (front ≡ xs)
+IsTruncationOf IsTruncated e prefix xs = IsUnexpectedEof e × IsTruncated xs × (prefix ≡ xs)
 
 -- A read of an item failed with the source's own error after the bytes `xs`, or paused, which is an unexpected end of file.
 abbrev pub IsReadErrorOf : (List ℕ → Type 0) → Error → List ℕ → State → State → Type 0
-IsReadErrorOf IsCut e xs old new = IsCut xs × ((IsIoError e × SourceFailed old new) ⊎ (IsUnexpectedEof e × SourcePaused old new))
+IsReadErrorOf IsTruncated e xs old new = IsTruncated xs × ((IsIoError e × SourceFailed old new) ⊎ (IsUnexpectedEof e × SourcePaused old new))
 
 -- `xs` has fewer than `n` bytes.
 abbrev pub IsShorterThan : ℕ → List ℕ → Type 0
@@ -74,20 +74,20 @@ module _ {D : Type 0} (IsOne : List ℕ → D → Type 0) where
       pub is_possible : All (λ d. SomeBytes (λ xs. IsOne xs d)) ds
       pub matches : IfSome (all_bytes_of old.position) (λ all. AreItems offset size all ds)
 
-  -- `Refuses old at e new`: reading an item at the offset `at` fails with `e`.
-  module _ (Refuses : State → ℕ → Error → State → Type 0) where
+  -- `Fails old at e new`: reading an item at the offset `at` fails with `e`.
+  module _ (Fails : State → ℕ → Error → State → Type 0) where
     -- The first items are read, fewer than `size / step`, and reading the next at its offset fails.
     pub record ItemsReadErrorBy (step : ℕ) (old : State) (offset size : ℕ) (e : Error) (new : State) : Type 0 where
       pub before : List D
       pub too_few : length before < size / step
       pub is_possible : All (λ d. SomeBytes (λ xs. IsOne xs d)) before
       pub elements : IfSome (all_bytes_of old.position) (λ all. ItemsAt step all offset before)
-      pub error : Refuses old (offset + length before * step) e new
+      pub error : Fails old (offset + length before * step) e new
 
     -- What reading an item at an offset does. If memory runs out, no cause is specified.
     abbrev pub ReadsItemAtBy : State → ℕ → Result D Error → State → Type 0
     ReadsItemAtBy old at (Ok d) new = ItemRead old at d new
-    ReadsItemAtBy old at (Err e) new = AfterSeek old new × (e ≢ Memory → Refuses old at e new)
+    ReadsItemAtBy old at (Err e) new = AfterSeek old new × (e ≢ Memory → Fails old at e new)
 
     -- What reading all items of a part of `size` bytes does. If memory runs out, no cause is specified.
     abbrev pub ReadsItemsBy : ℕ → State → ℕ → ℕ → Result (Vec D Global) Error → State → Type 0

@@ -1,4 +1,5 @@
 pub mod Error
+pub mod RecordTypes
 pub mod Items
 pub mod AttributeDescription
 pub mod AttrFrames

@@ -1,10 +1,8 @@
 -- Parts of a file at the source's position, and what reading them does.
-use Rattle.std.specs.Prelude.{◌≡◌, ℕ, ◌⊎◌, List, length, Result, Ok, Err, Vec}
+use Rattle.std.specs.Prelude.{◌≡◌, ℕ, List, length, Result, Ok, Err, Vec}
 use Rattle.std.specs.declared.alloc.Global.{Global}
-use Rattle.std.specs.IoError.{error_kind}
 use Rattle.std.specs.declared.io.Error.{Error}
-use Rattle.std.specs.declared.io.ErrorKind.TheVariants.{UnexpectedEof, OutOfMemory}
-use Rattle.perfdata_base.specs.Source.{State, Consumed, EndedOrPaused, SourceFailed, PartlyRead, ReadExactError}
+use Rattle.perfdata_base.specs.Source.{State, Consumed, EndedOrFailed, PartlyRead, ReadExactError}
 use Rattle.perfdata_base.specs.declared.source.AppendError.{AppendError}
 use Rattle.perfdata_base.specs.declared.source.AppendError.TheVariants.{Memory, Source}
 use Rattle.perfdata_sections.specs.declared.error.Error.{Error as FileError}
@@ -18,20 +16,20 @@ module _ {D : Type 0} (Is : List ℕ → D → Type 0) where
     pub consumes : Consumed old bytes new
     pub matches : Is bytes d
 
--- `IsCut xs`: the bytes `xs` are a truncated part.
-module _ (IsCut : List ℕ → Type 0) where
-  -- Only these bytes of the part are consumed, for which `IsCut` holds.
+-- `IsTruncated xs`: the bytes `xs` are a truncated part.
+module _ (IsTruncated : List ℕ → Type 0) where
+  -- Only these bytes of the part are consumed, for which `IsTruncated` holds.
   pub record PartPartlyRead (old new : State) : Type 0 where
     pub bytes : List ℕ
-    pub is_truncated : IsCut bytes
+    pub is_truncated : IsTruncated bytes
     pub consumes : Consumed old bytes new
 
   -- The part is truncated: the source ended or paused, which is an unexpected end of file, or it failed.
   pub record PartReadError (old : State) (e : Error) (new : State) : Type 0 where
     pub bytes : List ℕ
-    pub is_truncated : IsCut bytes
+    pub is_truncated : IsTruncated bytes
     pub consumes : Consumed old bytes new
-    pub cause : ((error_kind e ≡ UnexpectedEof) × EndedOrPaused old new) ⊎ SourceFailed old new
+    pub cause : EndedOrFailed e old new
 
 -- A part of `size` bytes whose value is `of` these bytes.
 module _ {D : Type 0} (size : ℕ) (of : List ℕ → D) where
@@ -49,11 +47,6 @@ abbrev pub ReadsBytes : State → ℕ → Result (Vec ℕ Global) AppendError �
 ReadsBytes old count (Ok v) new = (length v.items ≡ count) × Consumed old v.items new
 ReadsBytes old count (Err Memory) new = PartlyRead old count new
 ReadsBytes old count (Err (Source e)) new = ReadExactError old count e new
-
--- `e` is the I/O error for this error: `OutOfMemory` for `Memory`, else the source's own error.
-abbrev pub IsIoErrorOf : AppendError → Error → Type 0
-IsIoErrorOf Memory e = error_kind e ≡ OutOfMemory
-IsIoErrorOf (Source own) e = e ≡ own
 
 -- The file error for an `AppendError`.
 abbrev pub file_error_of : AppendError → FileError

@@ -1,12 +1,10 @@
-//! Reading a given number of bytes, and converting the errors.
+//! Reading a given number of bytes.
 ghost use Rattle.std.specs.Prelude.{◌≡◌};
 ghost use Rattle.perfdata_base.specs.Source.{PausesOnlyOnError};
-ghost use Rattle.perfdata_sections.specs.ParsedPart.{ReadsBytes, IsIoErrorOf, file_error_of};
+ghost use Rattle.perfdata_sections.specs.ParsedPart.{ReadsBytes};
 
-use crate::error::Error as FileError;
-use perfdata_base::source::{AppendError, Source, append_up_to, unexpected_eof};
+use perfdata_base::source::{AppendError, Source, append_exact};
 use std::alloc::Global;
-use std::io::{Error, ErrorKind};
 
 /// Reads `count` bytes into a new `Vec`, in chunks of at most 4,096 bytes.
 ///
@@ -22,33 +20,6 @@ pub fn read_bytes<R: Source>(
     ensures same_loan { R.loan source.new ≡ R.loan source.old }
 {
     let mut bytes = Vec::new(alloc);
-    match append_up_to(source, &mut bytes, count) {
-        Ok(came) => {
-            if came < count {
-                return Err(AppendError::Source(unexpected_eof()));
-            }
-            Ok(bytes)
-        }
-        Err(fault) => Err(fault),
-    }
-}
-
-/// Converts to an I/O error. `Memory` becomes an `OutOfMemory` error.
-pub fn into_io_error(fault: AppendError) -> Error
-    ensures { IsIoErrorOf fault result }
-{
-    match fault {
-        AppendError::Memory => Error::from(ErrorKind::OutOfMemory),
-        AppendError::Source(error) => error,
-    }
-}
-
-/// Converts to the error of a file.
-pub fn into_file_error(fault: AppendError) -> FileError
-    ensures { result ≡ file_error_of fault }
-{
-    match fault {
-        AppendError::Memory => FileError::Memory,
-        AppendError::Source(error) => FileError::IoError(error),
-    }
+    append_exact(source, &mut bytes, count)?;
+    Ok(bytes)
 }

@@ -1,10 +1,11 @@
 //! The errors of opening and reading a file or a pipe.
 ghost use Rattle.std.specs.Prelude.{◌≡◌};
-ghost use Rattle.perfdata_sections.specs.Error.{IsUnexpectedEof, IsUnsupported};
+ghost use Rattle.perfdata_sections.specs.Error.{IsUnsupported};
+ghost use Rattle.perfdata_sections.specs.ParsedPart.{file_error_of};
 ghost use Rattle.perfdata_sections.specs.declared.error.Error.TheVariants.{Memory as OfMemory, Read as OfRead, IoError as OfIo, StringUtf8 as OfUtf8};
 
 use crate::decode_error::DecodeError;
-use perfdata_base::source;
+use perfdata_base::source::AppendError;
 use std::alloc::{AllocError, AllocFailed};
 use std::io;
 use std::io::ErrorKind;
@@ -123,17 +124,17 @@ impl From<ReadError> for Error {
 }
 
 impl From<io::Error> for Error {
-    ghost from_gives = { λ fault error. error ≡ OfIo fault };
+    ghost from_gives = { λ io_error error. error ≡ OfIo io_error };
 
-    fn from(fault: io::Error) -> Error {
-        Error::IoError(fault)
+    fn from(io_error: io::Error) -> Error {
+        Error::IoError(io_error)
     }
 }
 
 impl From<Utf8Error> for Error {
     ghost from_gives = { λ _ error. error ≡ OfUtf8 };
 
-    fn from(_fault: Utf8Error) -> Error {
+    fn from(_error: Utf8Error) -> Error {
         Error::StringUtf8
     }
 }
@@ -155,16 +156,21 @@ impl<T: Drop> From<AllocFailed<T>> for Error {
     }
 }
 
-/// Returns the error of truncated input where no `ReadError` applies.
-pub fn unexpected_eof() -> Error
-    ensures { IsUnexpectedEof result }
-{
-    Error::IoError(source::unexpected_eof())
+// Out of memory becomes `Memory`; the source's error becomes an `IoError`.
+impl From<AppendError> for Error {
+    ghost from_gives = { λ append_error error. error ≡ file_error_of append_error };
+
+    fn from(append_error: AppendError) -> Error {
+        match append_error {
+            AppendError::Memory => Error::Memory,
+            AppendError::Source(error) => Error::IoError(error),
+        }
+    }
 }
 
 /// Returns the error of a record that can't be handled, such as one with compressed bytes.
 pub fn unsupported() -> Error
     ensures { IsUnsupported result }
 {
-    Error::IoError(io::Error::from(ErrorKind::Unsupported))
+    Error::from(io::Error::from(ErrorKind::Unsupported))
 }

@@ -16,7 +16,7 @@ impl SimplePerfEventType {
     /// Creates an event type with a name, and the type and config of its `perf_event_attr`.
     pub fn new(name: String, type_: u64, config: u64) -> SimplePerfEventType
         ensures name { result.name ≡ name }
-        ensures kind { result.type_ ≡ type_ }
+        ensures event_type { result.type_ ≡ type_ }
         ensures config { result.config ≡ config }
     {
         SimplePerfEventType {

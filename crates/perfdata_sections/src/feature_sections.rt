@@ -53,14 +53,14 @@ fn read_attr_frame<R: Source, T: FileOrder>(
     ensures same_loan { R.loan source.new ≡ R.loan source.old }
 {
     let mut bytes = [0u8; KNOWN_SIZE];
-    let own = match read_own_size::<R, T>(source, &mut bytes[..8]) {
-        Ok(own) => own,
+    let own_size = match read_own_size::<R, T>(source, &mut bytes[..8]) {
+        Ok(own_size) => own_size,
         Err(_) => return Err(Error::Read(ReadError::PerfEventAttr)),
     };
-    if own as u64 > attr_size {
-        return Err(Error::InconsistentAttributeSizes(own as u64, attr_size));
+    if own_size as u64 > attr_size {
+        return Err(Error::InconsistentAttributeSizes(own_size as u64, attr_size));
     }
-    match read_after_own_size::<R, T>(source, &mut bytes, own) {
+    match read_after_own_size::<R, T>(source, &mut bytes, own_size) {
         Ok(attr) => Ok(attr),
         Err(_) => Err(Error::Read(ReadError::PerfEventAttr)),
     }
@@ -76,10 +76,8 @@ fn read_attr_frame_at<C: PlacedSource, T: FileOrder>(
     ensures pauses { PausesOnlyOnError (C.state source.old) result (C.state source.new) }
     ensures same_loan { C.loan source.new ≡ C.loan source.old }
 {
-    match source.seek_to(SeekFrom::Start(at)) {
-        Ok(_) => read_attr_frame::<C, T>(source, attr_size),
-        Err(error) => Err(Error::IoError(error)),
-    }
+    source.seek_to(SeekFrom::Start(at))?;
+    read_attr_frame::<C, T>(source, attr_size)
 }
 
 impl AttributeDescription {
@@ -158,19 +156,13 @@ impl AttributeDescription {
         let mut all = Vec::new(alloc);
         let mut at = section.offset;
         'frames: while end - at >= attr_size {
-            let attr = match read_attr_frame_at::<C, T>(c, at, attr_size) {
-                Ok(attr) => attr,
-                Err(error) => return Err(error),
-            };
+            let attr = read_attr_frame_at::<C, T>(c, at, attr_size)?;
             let description = AttributeDescription {
                 attr,
                 name: None,
                 event_ids: Vec::new(alloc),
             };
-            match all.push(description) {
-                Ok(()) => {}
-                Err(_) => return Err(Error::Memory),
-            }
+            all.push(description)?;
             at += attr_size;
         }
         Ok(all)
@@ -183,7 +175,7 @@ impl AttributeDescription {
         section: &PerfFileSection,
         attr_size: u64,
     ) -> Result<Vec<AttributeDescription>, Error>
-        ensures { (left : State) × ReadsAttrSection T.number_of attr_size section.now (C.state c) result left }
+        ensures { (final : State) × ReadsAttrSection T.number_of attr_size section.now (C.state c) result final }
     {
         AttributeDescription::parse_attr_section_from::<C, T>(alloc, &mut c, section, attr_size)
     }
@@ -215,7 +207,7 @@ impl AttributeDescription {
         alloc: Global,
         mut cursor: C,
     ) -> Result<Vec<AttributeDescription>, Error>
-        ensures { (left : State) × ReadsEventDesc T.number_of (C.state cursor) result left }
+        ensures { (final : State) × ReadsEventDesc T.number_of (C.state cursor) result final }
     {
         AttributeDescription::parse_event_desc_section_from::<C, T>(alloc, &mut cursor)
     }
@@ -251,7 +243,7 @@ impl AttributeDescription {
         section: &PerfFileSection,
         attr_size: u64,
     ) -> Result<Vec<AttributeDescription>, Error>
-        ensures { (left : State) × ReadsEventTypes T.number_of attr_size section.now (C.state cursor) result left }
+        ensures { (final : State) × ReadsEventTypes T.number_of attr_size section.now (C.state cursor) result final }
     {
         AttributeDescription::parse_event_types_section_from::<C, T>(
             alloc,
@@ -290,7 +282,7 @@ impl AttributeDescription {
         attr_size: u64,
         types: &[SimplePerfEventType],
     ) -> Result<Vec<AttributeDescription>, Error>
-        ensures { (left : State) × ReadsSimpleperfAttrs T.number_of attr_size section.now types.now (C.state cursor) result left }
+        ensures { (final : State) × ReadsSimpleperfAttrs T.number_of attr_size section.now types.now (C.state cursor) result final }
     {
         AttributeDescription::parse_simpleperf_attr_section_from::<C, T>(
             alloc,

@@ -6,67 +6,67 @@ use Rattle.perfdata_base.specs.declared.raw.Endianness.{Endianness}
 use Rattle.perfdata_simpleperf.specs.Chunks.{ChunkError, truncated_length, exceeds_section, invalid_record, ReportsChunkError, ChunkAt, IsTruncatedLength, IsTruncatedChunk, ChunksAt, AreChunks, ChunkErrorAt, FirstChunkError}
 use Rattle.perfdata_sections.specs.declared.error.Error.{Error}
 use Rattle.perfdata_sections.specs.declared.error.Error.TheVariants.{Memory}
-use Rattle.perfdata_simpleperf.proofs.Decoding.OneToken.{splits_same}
+use Rattle.perfdata_simpleperf.proofs.Decoding.ItemUniqueness.{splits_same}
 
 module _ (endian : Endianness) where
-  pub chunk_shorter : (bs piece rest : List ℕ) → ChunkAt endian bs piece rest → length rest < length bs
-  chunk_shorter bs piece rest at =
+  pub chunk_shorter : (bs chunk rest : List ℕ) → ChunkAt endian bs chunk rest → length rest < length bs
+  chunk_shorter bs chunk rest at =
       let d = length-drop 4 bs in
-      let s = ap length at.split ∙ length-append piece rest in
+      let s = ap length at.split ∙ length-append chunk rest in
       let e = at.enough in
       omega (arith, d, s, e)
 
-  piece_same : (bs p q r s : List ℕ) → ChunkAt endian bs p r → ChunkAt endian bs q s → (p ≡ q) × (r ≡ s)
-  piece_same bs p q r s a b = splits_same (drop 4 bs) (number_in endian 4 bs) p q r s (record { exact_len = a.exact_len; split = a.split }) (record { exact_len = b.exact_len; split = b.split })
+  chunk_same : (bs p q r s : List ℕ) → ChunkAt endian bs p r → ChunkAt endian bs q s → (p ≡ q) × (r ≡ s)
+  chunk_same bs p q r s a b = splits_same (drop 4 bs) (number_in endian 4 bs) p q r s (record { exact_len = a.exact_len; split = a.split }) (record { exact_len = b.exact_len; split = b.split })
 
-  piece_there : (bs p r : List ℕ) → ChunkAt endian bs p r → IsTruncatedLength bs → ⊥
-  piece_there bs p r at cut = let e = at.enough in omega (arith, e, cut)
+  chunk_not_truncated_length : (bs p r : List ℕ) → ChunkAt endian bs p r → IsTruncatedLength bs → ⊥
+  chunk_not_truncated_length bs p r at truncated = let e = at.enough in omega (arith, e, truncated)
 
-  piece_whole : (bs p r : List ℕ) → ChunkAt endian bs p r → IsTruncatedChunk endian bs → ⊥
-  piece_whole bs p r at cut =
+  chunk_not_truncated : (bs p r : List ℕ) → ChunkAt endian bs p r → IsTruncatedChunk endian bs → ⊥
+  chunk_not_truncated bs p r at truncated =
       let d = length-drop 4 bs in
       let s = ap length at.split ∙ length-append p r in
       let z = at.exact_len in
-      omega (arith, d, s, z, cut.0, cut.1)
+      omega (arith, d, s, z, truncated.0, truncated.1)
 
   module _ {D : Type 0} (Is : List ℕ → D → Type 0) where
-    pub chunks_then : (bs : List ℕ) (ds : List D) (mid piece : List ℕ) (d : D) (rest : List ℕ) → ChunksAt endian Is bs ds mid → ChunkAt endian mid piece rest → Is piece d → ChunksAt endian Is bs (ds ++ d ∷ []) rest
-    chunks_then bs [] mid piece d rest before at is = (piece, rest, subst (λ (x : List ℕ). ChunkAt endian x piece rest) (sym before) at, is, refl)
-    chunks_then bs (x ∷ ds) mid piece d rest before at is = (before.0, before.1, before.2, before.3, chunks_then before.1 ds mid piece d rest before.4 at is)
+    pub chunks_then : (bs : List ℕ) (ds : List D) (mid chunk : List ℕ) (d : D) (rest : List ℕ) → ChunksAt endian Is bs ds mid → ChunkAt endian mid chunk rest → Is chunk d → ChunksAt endian Is bs (ds ++ d ∷ []) rest
+    chunks_then bs [] mid chunk d rest before at is = (chunk, rest, subst (λ (x : List ℕ). ChunkAt endian x chunk rest) (sym before) at, is, refl)
+    chunks_then bs (x ∷ ds) mid chunk d rest before at is = (before.0, before.1, before.2, before.3, chunks_then before.1 ds mid chunk d rest before.4 at is)
 
     module _ {F : Type 0} (IsNot : List ℕ → F → Type 0) where
       -- a chunk follows valid ones, and its bytes have an error
-      pub bad_chunk : (Tells : F → Error → Type 0) (bs : List ℕ) (ds : List D) (mid piece rest : List ℕ) (e : Error) → ChunksAt endian Is bs ds mid → ChunkAt endian mid piece rest → (e ≡ Memory) ⊎ ((f : F) × IsNot piece f × Tells f e) → (e ≡ Memory) ⊎ ((f : ChunkError F) × FirstChunkError endian Is IsNot bs f × ReportsChunkError Tells f e)
-      bad_chunk Tells bs ds mid piece rest e before at (inl m) = inl m
-      bad_chunk Tells bs ds mid piece rest e before at (inr w) = inr (invalid_record w.0, record { earlier = ds; mid = mid; elements = before; error_here = record { piece = piece; rest = rest; reads = at; error = w.1 } }, w.2)
+      pub bad_chunk : (Reports : F → Error → Type 0) (bs : List ℕ) (ds : List D) (mid chunk rest : List ℕ) (e : Error) → ChunksAt endian Is bs ds mid → ChunkAt endian mid chunk rest → (e ≡ Memory) ⊎ ((f : F) × IsNot chunk f × Reports f e) → (e ≡ Memory) ⊎ ((f : ChunkError F) × FirstChunkError endian Is IsNot bs f × ReportsChunkError Reports f e)
+      bad_chunk Reports bs ds mid chunk rest e before at (inl m) = inl m
+      bad_chunk Reports bs ds mid chunk rest e before at (inr w) = inr (invalid_record w.0, record { earlier = ds; mid = mid; elements = before; error_here = record { chunk = chunk; rest = rest; reads = at; error = w.1 } }, w.2)
 
       -- the bytes of a chunk encode at most one value, or else have at most one error
-      pub record OnePiece : Type 0 where
+      pub record UniqueChunk : Type 0 where
         pub value : (bs : List ℕ) (d e : D) → Is bs d → Is bs e → d ≡ e
-        pub whole : (bs : List ℕ) (d : D) (f : F) → Is bs d → IsNot bs f → ⊥
-        pub fault : (bs : List ℕ) (f g : F) → IsNot bs f → IsNot bs g → f ≡ g
+        pub not_both : (bs : List ℕ) (d : D) (f : F) → Is bs d → IsNot bs f → ⊥
+        pub error : (bs : List ℕ) (f g : F) → IsNot bs f → IsNot bs g → f ≡ g
 
-      module _ (one : OnePiece) where
+      module _ (one : UniqueChunk) where
         -- bytes that begin with a valid chunk have no error at that chunk
-        no_fault : (bs piece rest : List ℕ) (d : D) (f : ChunkError F) → ChunkAt endian bs piece rest → Is piece d → ChunkErrorAt endian Is IsNot bs f → ⊥
-        no_fault bs piece rest d truncated_length at is w = piece_there bs piece rest at w.1
-        no_fault bs piece rest d exceeds_section at is w = piece_whole bs piece rest at w
-        no_fault bs piece rest d (invalid_record f) at is w =
-            let s = piece_same bs piece w.piece rest w.rest at w.reads in
-            one.whole w.piece d f (subst (λ (x : List ℕ). Is x d) s.0 is) w.error
+        chunk_not_both : (bs chunk rest : List ℕ) (d : D) (f : ChunkError F) → ChunkAt endian bs chunk rest → Is chunk d → ChunkErrorAt endian Is IsNot bs f → ⊥
+        chunk_not_both bs chunk rest d truncated_length at is w = chunk_not_truncated_length bs chunk rest at w.1
+        chunk_not_both bs chunk rest d exceeds_section at is w = chunk_not_truncated bs chunk rest at w
+        chunk_not_both bs chunk rest d (invalid_record f) at is w =
+            let s = chunk_same bs chunk w.chunk rest w.rest at w.reads in
+            one.not_both w.chunk d f (subst (λ (x : List ℕ). Is x d) s.0 is) w.error
 
-        fault_same : (bs : List ℕ) (f g : ChunkError F) → ChunkErrorAt endian Is IsNot bs f → ChunkErrorAt endian Is IsNot bs g → f ≡ g
-        fault_same bs truncated_length truncated_length v w = refl
-        fault_same bs truncated_length exceeds_section v w = let a = v.1 in let b = w.0 in absurd (omega (arith, a, b))
-        fault_same bs truncated_length (invalid_record g) v w = absurd (piece_there bs w.piece w.rest w.reads v.1)
-        fault_same bs exceeds_section truncated_length v w = let a = w.1 in let b = v.0 in absurd (omega (arith, a, b))
-        fault_same bs exceeds_section exceeds_section v w = refl
-        fault_same bs exceeds_section (invalid_record g) v w = absurd (piece_whole bs w.piece w.rest w.reads v)
-        fault_same bs (invalid_record f) truncated_length v w = absurd (piece_there bs v.piece v.rest v.reads w.1)
-        fault_same bs (invalid_record f) exceeds_section v w = absurd (piece_whole bs v.piece v.rest v.reads w)
-        fault_same bs (invalid_record f) (invalid_record g) v w =
-            let s = piece_same bs v.piece w.piece v.rest w.rest v.reads w.reads in
-            ap invalid_record (one.fault w.piece f g (subst (λ (x : List ℕ). IsNot x f) s.0 v.error) w.error)
+        chunk_error_same : (bs : List ℕ) (f g : ChunkError F) → ChunkErrorAt endian Is IsNot bs f → ChunkErrorAt endian Is IsNot bs g → f ≡ g
+        chunk_error_same bs truncated_length truncated_length v w = refl
+        chunk_error_same bs truncated_length exceeds_section v w = let a = v.1 in let b = w.0 in absurd (omega (arith, a, b))
+        chunk_error_same bs truncated_length (invalid_record g) v w = absurd (chunk_not_truncated_length bs w.chunk w.rest w.reads v.1)
+        chunk_error_same bs exceeds_section truncated_length v w = let a = w.1 in let b = v.0 in absurd (omega (arith, a, b))
+        chunk_error_same bs exceeds_section exceeds_section v w = refl
+        chunk_error_same bs exceeds_section (invalid_record g) v w = absurd (chunk_not_truncated bs w.chunk w.rest w.reads v)
+        chunk_error_same bs (invalid_record f) truncated_length v w = absurd (chunk_not_truncated_length bs v.chunk v.rest v.reads w.1)
+        chunk_error_same bs (invalid_record f) exceeds_section v w = absurd (chunk_not_truncated bs v.chunk v.rest v.reads w)
+        chunk_error_same bs (invalid_record f) (invalid_record g) v w =
+            let s = chunk_same bs v.chunk w.chunk v.rest w.rest v.reads w.reads in
+            ap invalid_record (one.error w.chunk f g (subst (λ (x : List ℕ). IsNot x f) s.0 v.error) w.error)
 
         -- the end of the bytes has no error
         none_at_end : (f : ChunkError F) → ChunkErrorAt endian Is IsNot [] f → ⊥
@@ -74,54 +74,54 @@ module _ (endian : Endianness) where
         none_at_end exceeds_section w = let a = w.0 in omega (arith, a)
         none_at_end (invalid_record f) w = let a = w.reads.enough in omega (arith, a)
 
-        pub pieces_same : (bs : List ℕ) (ds es : List D) → AreChunks endian Is bs ds → AreChunks endian Is bs es → ds ≡ es
-        pieces_same bs [] [] p q = refl
-        pieces_same bs [] (e ∷ es) p q = absurd (let s = chunk_shorter bs q.0 q.1 q.2 in let z = ap length p in omega (arith, s, z))
-        pieces_same bs (d ∷ ds) [] p q = absurd (let s = chunk_shorter bs p.0 p.1 p.2 in let z = ap length q in omega (arith, s, z))
-        pieces_same bs (d ∷ ds) (e ∷ es) p q =
-            let s = piece_same bs p.0 q.0 p.1 q.1 p.2 q.2 in
+        pub chunks_same : (bs : List ℕ) (ds es : List D) → AreChunks endian Is bs ds → AreChunks endian Is bs es → ds ≡ es
+        chunks_same bs [] [] p q = refl
+        chunks_same bs [] (e ∷ es) p q = absurd (let s = chunk_shorter bs q.0 q.1 q.2 in let z = ap length p in omega (arith, s, z))
+        chunks_same bs (d ∷ ds) [] p q = absurd (let s = chunk_shorter bs p.0 p.1 p.2 in let z = ap length q in omega (arith, s, z))
+        chunks_same bs (d ∷ ds) (e ∷ es) p q =
+            let s = chunk_same bs p.0 q.0 p.1 q.1 p.2 q.2 in
             let v = one.value q.0 d e (subst (λ (x : List ℕ). Is x d) s.0 p.3) q.3 in
-            let t = pieces_same q.1 ds es (subst (λ (x : List ℕ). AreChunks endian Is x ds) s.1 p.4) q.4 in
+            let t = chunks_same q.1 ds es (subst (λ (x : List ℕ). AreChunks endian Is x ds) s.1 p.4) q.4 in
             ap (λ (x : D). x ∷ ds) v ∙ ap (λ (xs : List D). e ∷ xs) t
 
-        whole_by : (bs : List ℕ) (ds es : List D) (mid : List ℕ) (f : ChunkError F) → AreChunks endian Is bs ds → ChunksAt endian Is bs es mid → ChunkErrorAt endian Is IsNot mid f → ⊥
-        whole_by bs [] [] mid f p q w = none_at_end f (subst (λ (x : List ℕ). ChunkErrorAt endian Is IsNot x f) (sym q ∙ p) w)
-        whole_by bs (d ∷ ds) [] mid f p q w = no_fault bs p.0 p.1 d f p.2 p.3 (subst (λ (x : List ℕ). ChunkErrorAt endian Is IsNot x f) (sym q) w)
-        whole_by bs [] (e ∷ es) mid f p q w = let s = chunk_shorter bs q.0 q.1 q.2 in let z = ap length p in omega (arith, s, z)
-        whole_by bs (d ∷ ds) (e ∷ es) mid f p q w =
-            let s = piece_same bs p.0 q.0 p.1 q.1 p.2 q.2 in
-            whole_by q.1 ds es mid f (subst (λ (x : List ℕ). AreChunks endian Is x ds) s.1 p.4) q.4 w
+        not_both_by : (bs : List ℕ) (ds es : List D) (mid : List ℕ) (f : ChunkError F) → AreChunks endian Is bs ds → ChunksAt endian Is bs es mid → ChunkErrorAt endian Is IsNot mid f → ⊥
+        not_both_by bs [] [] mid f p q w = none_at_end f (subst (λ (x : List ℕ). ChunkErrorAt endian Is IsNot x f) (sym q ∙ p) w)
+        not_both_by bs (d ∷ ds) [] mid f p q w = chunk_not_both bs p.0 p.1 d f p.2 p.3 (subst (λ (x : List ℕ). ChunkErrorAt endian Is IsNot x f) (sym q) w)
+        not_both_by bs [] (e ∷ es) mid f p q w = let s = chunk_shorter bs q.0 q.1 q.2 in let z = ap length p in omega (arith, s, z)
+        not_both_by bs (d ∷ ds) (e ∷ es) mid f p q w =
+            let s = chunk_same bs p.0 q.0 p.1 q.1 p.2 q.2 in
+            not_both_by q.1 ds es mid f (subst (λ (x : List ℕ). AreChunks endian Is x ds) s.1 p.4) q.4 w
 
-        pub pieces_whole : (bs : List ℕ) (ds : List D) (f : ChunkError F) → AreChunks endian Is bs ds → FirstChunkError endian Is IsNot bs f → ⊥
-        pieces_whole bs ds f p q = whole_by bs ds q.earlier q.mid f p q.elements q.error_here
+        pub chunks_not_both : (bs : List ℕ) (ds : List D) (f : ChunkError F) → AreChunks endian Is bs ds → FirstChunkError endian Is IsNot bs f → ⊥
+        chunks_not_both bs ds f p q = not_both_by bs ds q.earlier q.mid f p q.elements q.error_here
 
-        stops_by : (bs : List ℕ) (ds es : List D) (m n : List ℕ) (f g : ChunkError F) → ChunksAt endian Is bs ds m → ChunksAt endian Is bs es n → ChunkErrorAt endian Is IsNot m f → ChunkErrorAt endian Is IsNot n g → f ≡ g
-        stops_by bs [] [] m n f g p q v w = fault_same m f g v (subst (λ (x : List ℕ). ChunkErrorAt endian Is IsNot x g) (sym q ∙ p) w)
-        stops_by bs [] (e ∷ es) m n f g p q v w = absurd (no_fault bs q.0 q.1 e f q.2 q.3 (subst (λ (x : List ℕ). ChunkErrorAt endian Is IsNot x f) (sym p) v))
-        stops_by bs (d ∷ ds) [] m n f g p q v w = absurd (no_fault bs p.0 p.1 d g p.2 p.3 (subst (λ (x : List ℕ). ChunkErrorAt endian Is IsNot x g) (sym q) w))
-        stops_by bs (d ∷ ds) (e ∷ es) m n f g p q v w =
-            let s = piece_same bs p.0 q.0 p.1 q.1 p.2 q.2 in
-            stops_by q.1 ds es m n f g (subst (λ (x : List ℕ). ChunksAt endian Is x ds m) s.1 p.4) q.4 v w
+        error_by : (bs : List ℕ) (ds es : List D) (m n : List ℕ) (f g : ChunkError F) → ChunksAt endian Is bs ds m → ChunksAt endian Is bs es n → ChunkErrorAt endian Is IsNot m f → ChunkErrorAt endian Is IsNot n g → f ≡ g
+        error_by bs [] [] m n f g p q v w = chunk_error_same m f g v (subst (λ (x : List ℕ). ChunkErrorAt endian Is IsNot x g) (sym q ∙ p) w)
+        error_by bs [] (e ∷ es) m n f g p q v w = absurd (chunk_not_both bs q.0 q.1 e f q.2 q.3 (subst (λ (x : List ℕ). ChunkErrorAt endian Is IsNot x f) (sym p) v))
+        error_by bs (d ∷ ds) [] m n f g p q v w = absurd (chunk_not_both bs p.0 p.1 d g p.2 p.3 (subst (λ (x : List ℕ). ChunkErrorAt endian Is IsNot x g) (sym q) w))
+        error_by bs (d ∷ ds) (e ∷ es) m n f g p q v w =
+            let s = chunk_same bs p.0 q.0 p.1 q.1 p.2 q.2 in
+            error_by q.1 ds es m n f g (subst (λ (x : List ℕ). ChunksAt endian Is x ds m) s.1 p.4) q.4 v w
 
-        pub pieces_fault : (bs : List ℕ) (f g : ChunkError F) → FirstChunkError endian Is IsNot bs f → FirstChunkError endian Is IsNot bs g → f ≡ g
-        pieces_fault bs f g p q = stops_by bs p.earlier q.earlier p.mid q.mid f g p.elements q.elements p.error_here q.error_here
+        pub chunks_error : (bs : List ℕ) (f g : ChunkError F) → FirstChunkError endian Is IsNot bs f → FirstChunkError endian Is IsNot bs g → f ≡ g
+        chunks_error bs f g p q = error_by bs p.earlier q.earlier p.mid q.mid f g p.elements q.elements p.error_here q.error_here
 
         -- ---- the result
 
-        module _ (Tells : F → Error → Type 0) where
-          refused : (bs : List ℕ) (ds : List D) (e : Error) → AreChunks endian Is bs ds → (e ≡ Memory) ⊎ ((f : ChunkError F) × FirstChunkError endian Is IsNot bs f × ReportsChunkError Tells f e) → e ≡ Memory
-          refused bs ds e p (inl m) = m
-          refused bs ds e p (inr f) = absurd (pieces_whole bs ds f.0 p f.1)
+        module _ (Reports : F → Error → Type 0) where
+          is_memory : (bs : List ℕ) (ds : List D) (e : Error) → AreChunks endian Is bs ds → (e ≡ Memory) ⊎ ((f : ChunkError F) × FirstChunkError endian Is IsNot bs f × ReportsChunkError Reports f e) → e ≡ Memory
+          is_memory bs ds e p (inl m) = m
+          is_memory bs ds e p (inr f) = absurd (chunks_not_both bs ds f.0 p f.1)
 
-          told : (bs : List ℕ) (f : ChunkError F) (e : Error) → FirstChunkError endian Is IsNot bs f → (e ≡ Memory) ⊎ ((g : ChunkError F) × FirstChunkError endian Is IsNot bs g × ReportsChunkError Tells g e) → (e ≡ Memory) ⊎ ReportsChunkError Tells f e
-          told bs f e p (inl m) = inl m
-          told bs f e p (inr g) = inr (subst (λ (x : ChunkError F). ReportsChunkError Tells x e) (pieces_fault bs g.0 f g.1 p) g.2)
+          reports_error : (bs : List ℕ) (f : ChunkError F) (e : Error) → FirstChunkError endian Is IsNot bs f → (e ≡ Memory) ⊎ ((g : ChunkError F) × FirstChunkError endian Is IsNot bs g × ReportsChunkError Reports g e) → (e ≡ Memory) ⊎ ReportsChunkError Reports f e
+          reports_error bs f e p (inl m) = inl m
+          reports_error bs f e p (inr g) = inr (subst (λ (x : ChunkError F). ReportsChunkError Reports x e) (chunks_error bs g.0 f g.1 p) g.2)
 
           module _ {X : Type 0} (value : X → D) where
-            pub only_pieces : (bs : List ℕ) (r : Result (Vec X Global) Error) → IfOk r (λ v. AreChunks endian Is bs (map value v.items)) → IfErr r (λ e. (e ≡ Memory) ⊎ ((f : ChunkError F) × FirstChunkError endian Is IsNot bs f × ReportsChunkError Tells f e)) → (ds : List D) → AreChunks endian Is bs ds → MatchResult r (λ v. map value v.items ≡ ds) (λ e. e ≡ Memory)
-            only_pieces bs (Ok v) found fault ds p = pieces_same bs (map value v.items) ds found p
-            only_pieces bs (Err e) found fault ds p = refused bs ds e p fault
+            pub only_chunks : (bs : List ℕ) (r : Result (Vec X Global) Error) → IfOk r (λ v. AreChunks endian Is bs (map value v.items)) → IfErr r (λ e. (e ≡ Memory) ⊎ ((f : ChunkError F) × FirstChunkError endian Is IsNot bs f × ReportsChunkError Reports f e)) → (ds : List D) → AreChunks endian Is bs ds → MatchResult r (λ v. map value v.items ≡ ds) (λ e. e ≡ Memory)
+            only_chunks bs (Ok v) on_ok on_error ds p = chunks_same bs (map value v.items) ds on_ok p
+            only_chunks bs (Err e) on_ok on_error ds p = is_memory bs ds e p on_error
 
-            pub first_piece : (bs : List ℕ) (r : Result (Vec X Global) Error) → IfOk r (λ v. AreChunks endian Is bs (map value v.items)) → IfErr r (λ e. (e ≡ Memory) ⊎ ((f : ChunkError F) × FirstChunkError endian Is IsNot bs f × ReportsChunkError Tells f e)) → (f : ChunkError F) → FirstChunkError endian Is IsNot bs f → IsErrAnd r (λ e. (e ≡ Memory) ⊎ ReportsChunkError Tells f e)
-            first_piece bs (Ok v) found fault f p = absurd (pieces_whole bs (map value v.items) f found p)
-            first_piece bs (Err e) found fault f p = told bs f e p fault
+            pub first_chunk_error : (bs : List ℕ) (r : Result (Vec X Global) Error) → IfOk r (λ v. AreChunks endian Is bs (map value v.items)) → IfErr r (λ e. (e ≡ Memory) ⊎ ((f : ChunkError F) × FirstChunkError endian Is IsNot bs f × ReportsChunkError Reports f e)) → (f : ChunkError F) → FirstChunkError endian Is IsNot bs f → IsErrAnd r (λ e. (e ≡ Memory) ⊎ ReportsChunkError Reports f e)
+            first_chunk_error bs (Ok v) on_ok on_error f p = absurd (chunks_not_both bs (map value v.items) f on_ok p)
+            first_chunk_error bs (Err e) on_ok on_error f p = reports_error bs f e p on_error

@@ -23,12 +23,12 @@ module _ {S : Type 0} (steps : S → Option (Bor (List ℕ)) → S → Type 0) w
   three_lack_third (p ∷ q ∷ []) s t u w a b runs one two none = tt
   three_lack_third (p ∷ q ∷ r ∷ more) s t u w a b runs one two none = absurd (((runs.1 a t one).1.1 b u two).1.0 w none)
 
-  pub three_there : (xs : List (List ℕ)) (s t u w : S) (a b c : Bor (List ℕ)) → AlwaysYields steps (λ x. x.now) s xs → steps s (Some a) t → steps t (Some b) u → steps u (Some c) w
+  pub three_items : (xs : List (List ℕ)) (s t u w : S) (a b c : Bor (List ℕ)) → AlwaysYields steps (λ x. x.now) s xs → steps s (Some a) t → steps t (Some b) u → steps u (Some c) w
       → IsFirstThree {A = Bor (List ℕ)} (λ x. x.now) xs (Some (a, b, c))
-  three_there [] s t u w a b c runs one two three = absurd (runs a t one)
-  three_there (p ∷ []) s t u w a b c runs one two three = absurd ((runs.1 a t one).1 b u two)
-  three_there (p ∷ q ∷ []) s t u w a b c runs one two three = absurd (((runs.1 a t one).1.1 b u two).1 c w three)
-  three_there (p ∷ q ∷ r ∷ more) s t u w a b c runs one two three =
+  three_items [] s t u w a b c runs one two three = absurd (runs a t one)
+  three_items (p ∷ []) s t u w a b c runs one two three = absurd ((runs.1 a t one).1 b u two)
+  three_items (p ∷ q ∷ []) s t u w a b c runs one two three = absurd (((runs.1 a t one).1.1 b u two).1 c w three)
+  three_items (p ∷ q ∷ r ∷ more) s t u w a b c runs one two three =
       let first = runs.1 a t one in
       let second = first.1.1 b u two in
       let third = second.1.1 c w three in
@@ -47,49 +47,49 @@ module _ {S : Type 0} (steps : S → Option (Bor (List ℕ)) → S → Type 0) w
   events_none text s items none runs = record {
     rest = text_lines text;
     runs = runs;
-    whole = λ es tell. subst (λ l. DescribeEvents (text_lines text) (map event_type_of l ++ es)) (sym none) tell;
-    only = λ es tell. (es, tell);
+    whole = λ es describes. subst (λ l. DescribeEvents (text_lines text) (map event_type_of l ++ es)) (sym none) describes;
+    only = λ es describes. (es, describes);
   }
 
-  first_of : (line : List ℕ) (left : List (List ℕ)) (es : List EventType) → DescribeEvents (line ∷ left) es → (e : EventType) × (more : List EventType) × DescribesEvent (line_fields line) e × DescribeEvents left more
-  first_of line left [] tell = absurd tell
-  first_of line left (e ∷ more) tell = (e, more, tell.0, tell.1)
+  first_of : (line : List ℕ) (others : List (List ℕ)) (es : List EventType) → DescribeEvents (line ∷ others) es → (e : EventType) × (more : List EventType) × DescribesEvent (line_fields line) e × DescribeEvents others more
+  first_of line others [] describes = absurd describes
+  first_of line others (e ∷ more) describes = (e, more, describes.0, describes.1)
 
   events_more_in : (text : List ℕ) (s t : S) (items new : List SimplePerfEventType) (x : Bor (List ℕ)) (e : SimplePerfEventType) (rest : List (List ℕ)) → AlwaysYields steps (λ y. y.now) s rest
       → ((es : List EventType) → DescribeEvents rest es → DescribeEvents (text_lines text) (map event_type_of items ++ es))
       → ((es : List EventType) → DescribeEvents (text_lines text) es → (more : List EventType) × DescribeEvents rest more)
       → steps s (Some x) t → DescribesEvent (line_fields x.now) (event_type_of e) → new ≡ items ++ e ∷ [] → EventsSoFar text t new
-  events_more_in text s t items new x e [] runs whole only step tells pushed = absurd (runs x t step)
-  events_more_in text s t items new x e (line ∷ left) runs whole only step tells pushed =
+  events_more_in text s t items new x e [] runs whole only step describes_event pushed = absurd (runs x t step)
+  events_more_in text s t items new x e (line ∷ others) runs whole only step describes_event pushed =
       let next = runs.1 x t step in
-      let here : DescribesEvent (line_fields line) (event_type_of e) = subst (λ l. DescribesEvent (line_fields l) (event_type_of e)) next.0 tells in
+      let here : DescribesEvent (line_fields line) (event_type_of e) = subst (λ l. DescribesEvent (line_fields l) (event_type_of e)) next.0 describes_event in
       let all : map event_type_of new ≡ map event_type_of items ++ event_type_of e ∷ [] = ap (map event_type_of) pushed ∙ map_push event_type_of items e in
       record {
-        rest = left;
+        rest = others;
         runs = record { runs = next.1 };
-        whole = λ es tell. subst (DescribeEvents (text_lines text)) (sym (ap (λ l. l ++ es) all ∙ append_assoc (map event_type_of items) (event_type_of e ∷ []) es)) (whole (event_type_of e ∷ es) (here, tell));
-        only = λ es tell. let old = only es tell in let parted = first_of line left old.0 old.1 in (parted.1, parted.3);
+        whole = λ es describes. subst (DescribeEvents (text_lines text)) (sym (ap (λ l. l ++ es) all ∙ append_assoc (map event_type_of items) (event_type_of e ∷ []) es)) (whole (event_type_of e ∷ es) (here, describes));
+        only = λ es describes. let old = only es describes in let parted = first_of line others old.0 old.1 in (parted.1, parted.3);
       }
 
   pub events_more : (text : List ℕ) (s t : S) (items new : List SimplePerfEventType) (x : Bor (List ℕ)) (e : SimplePerfEventType) → EventsSoFar text s items → steps s (Some x) t
       → DescribesEvent (line_fields x.now) (event_type_of e) → new ≡ items ++ e ∷ [] → EventsSoFar text t new
-  events_more text s t items new x e so_far step tells pushed = events_more_in text s t items new x e so_far.rest so_far.runs.runs so_far.whole so_far.only step tells pushed
+  events_more text s t items new x e so_far step describes_event pushed = events_more_in text s t items new x e so_far.rest so_far.runs.runs so_far.whole so_far.only step describes_event pushed
 
   stops_in : (s t : S) (x : Bor (List ℕ)) (rest : List (List ℕ)) → AlwaysYields steps (λ y. y.now) s rest → steps s (Some x) t → ((e : EventType) → ¬ DescribesEvent (line_fields x.now) e)
       → (es : List EventType) → ¬ DescribeEvents rest es
-  stops_in s t x [] runs step none es = λ tell. runs x t step
-  stops_in s t x (line ∷ left) runs step none es = λ tell.
+  stops_in s t x [] runs step none es = λ describes. runs x t step
+  stops_in s t x (line ∷ others) runs step none es = λ describes.
       let next = runs.1 x t step in
-      let parted = first_of line left es tell in
+      let parted = first_of line others es describes in
       none parted.0 (subst (λ l. DescribesEvent (line_fields l) parted.0) (sym next.0) parted.2)
 
   pub events_stop : (text : List ℕ) (s t : S) (items : List SimplePerfEventType) (x : Bor (List ℕ)) → EventsSoFar text s items → steps s (Some x) t → ((e : EventType) → ¬ DescribesEvent (line_fields x.now) e)
       → (es : List EventType) → ¬ DescribeEvents (text_lines text) es
-  events_stop text s t items x so_far step none es = λ tell. let old = so_far.only es tell in stops_in s t x so_far.rest so_far.runs.runs step none old.0 old.1
+  events_stop text s t items x so_far step none es = λ describes. let old = so_far.only es describes in stops_in s t x so_far.rest so_far.runs.runs step none old.0 old.1
 
   whole_in : (s t : S) (rest : List (List ℕ)) → AlwaysYields steps (λ y. y.now) s rest → steps s None t → DescribeEvents rest []
   whole_in s t [] runs step = refl
-  whole_in s t (line ∷ left) runs step = absurd (runs.0 t step)
+  whole_in s t (line ∷ others) runs step = absurd (runs.0 t step)
 
   pub events_whole : (text : List ℕ) (s t : S) (items : List SimplePerfEventType) → EventsSoFar text s items → steps s None t → DescribeEvents (text_lines text) (map event_type_of items)
   events_whole text s t items so_far step = subst (DescribeEvents (text_lines text)) (append-nil (map event_type_of items)) (so_far.whole [] (whole_in s t so_far.rest so_far.runs.runs step))

@@ -5,25 +5,25 @@ use Rattle.perfdata_base.specs.declared.raw.Endianness.{Endianness}
 use Rattle.perfdata_simpleperf.specs.File2.{IsFile2Of, File2Error, ReportsFile2Error, ReportsMessageError}
 use Rattle.perfdata_simpleperf.specs.FileRecord.{FileValue, record_value}
 use Rattle.perfdata_simpleperf.specs.Chunks.{ChunkError}
-use Rattle.perfdata_simpleperf.specs.Protobuf.Messages.{FileFault}
+use Rattle.perfdata_simpleperf.specs.Protobuf.Messages.{FileMessageError}
 use Rattle.perfdata_simpleperf.specs.Protobuf.Values.{IsFileRecord}
 use Rattle.perfdata_sections.specs.declared.error.Error.{Error}
 use Rattle.perfdata_sections.specs.declared.error.Error.TheVariants.{Memory}
 use Rattle.perfdata_sections.specs.declared.decode_error.DecodeError.{DecodeError}
 use Rattle.perfdata_simpleperf.specs.declared.simpleperf.file_record.SimpleperfFileRecord.{SimpleperfFileRecord}
-use Rattle.perfdata_simpleperf.proofs.ChunkLemmas.{OnePiece, only_pieces, first_piece}
-use Rattle.perfdata_simpleperf.proofs.Decoding.OneMessage.{file_whole, file_fault}
-use Rattle.perfdata_simpleperf.proofs.Decoding.OneValue.{record_same}
+use Rattle.perfdata_simpleperf.proofs.ChunkLemmas.{UniqueChunk, only_chunks, first_chunk_error}
+use Rattle.perfdata_simpleperf.proofs.Decoding.MessageUniqueness.{file_not_both, file_error}
+use Rattle.perfdata_simpleperf.proofs.Decoding.ValueUniqueness.{record_same}
 
-messages : (endian : Endianness) → OnePiece endian IsFileRecord FileFault
-messages endian = record {
+messages_are_unique : (endian : Endianness) → UniqueChunk endian IsFileRecord FileMessageError
+messages_are_unique endian = record {
   value = record_same;
-  whole = λ bs d f r w. file_whole bs r.0 f r.1 w;
-  fault = file_fault;
+  not_both = λ bs d f r w. file_not_both bs r.0 f r.1 w;
+  error = file_error;
 }
 
 pub only_messages : (endian : Endianness) (bs : List ℕ) (r : Result (Vec SimpleperfFileRecord Global) Error) → IfOk r (λ v. IsFile2Of endian bs (map record_value v.items)) → IfErr r (λ e. (e ≡ Memory) ⊎ ((f : ChunkError DecodeError) × File2Error endian bs f × ReportsFile2Error f e)) → (vs : List FileValue) → IsFile2Of endian bs vs → MatchResult r (λ v. map record_value v.items ≡ vs) (λ e. e ≡ Memory)
-only_messages endian bs r found fault vs p = only_pieces endian IsFileRecord FileFault (messages endian) ReportsMessageError record_value bs r found fault vs p
+only_messages endian bs r on_ok on_error vs p = only_chunks endian IsFileRecord FileMessageError (messages_are_unique endian) ReportsMessageError record_value bs r on_ok on_error vs p
 
 pub first_message : (endian : Endianness) (bs : List ℕ) (r : Result (Vec SimpleperfFileRecord Global) Error) → IfOk r (λ v. IsFile2Of endian bs (map record_value v.items)) → IfErr r (λ e. (e ≡ Memory) ⊎ ((f : ChunkError DecodeError) × File2Error endian bs f × ReportsFile2Error f e)) → (f : ChunkError DecodeError) → File2Error endian bs f → IsErrAnd r (λ e. (e ≡ Memory) ⊎ ReportsFile2Error f e)
-first_message endian bs r found fault f p = first_piece endian IsFileRecord FileFault (messages endian) ReportsMessageError record_value bs r found fault f p
+first_message endian bs r on_ok on_error f p = first_chunk_error endian IsFileRecord FileMessageError (messages_are_unique endian) ReportsMessageError record_value bs r on_ok on_error f p

@@ -4,5 +4,5 @@ pub mod Decoding
 pub mod ChunkLemmas
 pub mod File2
 pub mod V1Parts
-pub mod OneV1
+pub mod V1Uniqueness
 pub mod FileRecords

@@ -12,19 +12,18 @@ use Rattle.std.proofs.lemmas.List.Elements.{All-nil, All-push, All-drop, All-hea
 use Rattle.std.proofs.lemmas.List.Splits.{slice_split_at, slice_split_none}
 use Rattle.std.proofs.lemmas.List.Sums.{fold_push}
 use Rattle.std.proofs.lemmas.Map.Text.{hash_map_updates_str}
-use Rattle.perfdata_base.specs.Raw.{HasNoNul}
+use Rattle.perfdata_base.specs.Raw.{HasNoNul, SplitsAtNul}
 use Rattle.perfdata_simpleperf.specs.MetaInfo.{Pair, nul_segments, meta_pairs, last_value, map_text_at, IsUtf8Pair, InsertsPair, IsMetaInfo, ParsesMetaInfo}
 use Rattle.perfdata_sections.specs.declared.error.Error.{Error}
 use Rattle.perfdata_sections.specs.declared.error.Error.TheVariants.{StringUtf8, Memory}
-use Rattle.perfdata_simpleperf.specs.NulText.{SplitsAtNul}
 
 -- no byte is NUL
 none_passes : (xs : List ℕ) → HasNoNul xs → All (λ b. (b == 0) ≡ false) xs
 none_passes xs plain = λ k d low. false_from_ne_true (get_or xs k d == 0) (λ is. plain k d low (eqb-true (get_or xs k d) 0 is))
 
 -- the first segment ends at the first NUL
-pub segment_ends : (bytes piece rest : List ℕ) → SplitsAtNul bytes piece rest → nul_segments bytes ≡ piece ∷ nul_segments rest
-segment_ends bytes piece rest ends = ap nul_segments ends.split ∙ slice_split_at (λ b. b == 0) piece 0 rest (none_passes piece ends.no_nul) refl
+pub segment_ends : (bytes chunk rest : List ℕ) → SplitsAtNul bytes chunk rest → nul_segments bytes ≡ chunk ∷ nul_segments rest
+segment_ends bytes chunk rest ends = ap nul_segments ends.split ∙ slice_split_at (λ b. b == 0) chunk 0 rest (none_passes chunk ends.no_nul) refl
 
 -- bytes without a NUL are the last segment
 pub segment_last : (bytes : List ℕ) → HasNoNul bytes → nul_segments bytes ≡ bytes ∷ []
@@ -36,10 +35,10 @@ last_push ps p key = ap (λ f. f key) (fold_push (λ g q. update bytes_eq g q.0 
 
 module _ {S : Type 0} where
   -- the values of a map after a pair is inserted
-  pub pair_put : (old new : HashMap (Bor (List ℕ)) (Bor (List ℕ)) S) (key value : Bor (List ℕ)) (p : Pair) → key.now ≡ p.0 → value.now ≡ p.1
+  pub pair_inserted : (old new : HashMap (Bor (List ℕ)) (Bor (List ℕ)) S) (key value : Bor (List ℕ)) (p : Pair) → key.now ≡ p.0 → value.now ≡ p.1
       → UpdatesBy (λ x y. bytes_eq x.now y.now) (λ k. bytes_eq key.now k.now) old new (Some value) → (ps : List Pair)
       → ((q : List ℕ) → map_text_at old q ≡ last_value ps q) → (q : List ℕ) → map_text_at new q ≡ last_value (ps ++ p ∷ []) q
-  pair_put old new key value p same_key same_value updates ps before q =
+  pair_inserted old new key value p same_key same_value updates ps before q =
       ap (option_map (λ v. v.now)) (hash_map_updates_str key.now old new (Some value) updates q)
       ∙ elim (bytes_eq key.now q) as (λ b. option_map (λ v. v.now) (cond b (Some value) (get_by (λ k. bytes_eq q k.now) old)) ≡ cond b (Some value.now) (last_value ps q)) [ true ↦ refl | false ↦ before q ]
       ∙ sym (last_push ps (key.now, value.now) q)
@@ -60,27 +59,27 @@ module _ {S : Type 0} where
     has = λ key. ap (λ es. option_map (λ v. v.now) (lookup (λ k. bytes_eq key k.now) es)) empty;
   }
 
-  pub pairs_more : (bytes : List ℕ) (old new : HashMap (Bor (List ℕ)) (Bor (List ℕ)) S) (rest left : List Pair) (p : Pair) → PairsSoFar bytes old rest → rest ≡ p ∷ left → InsertsPair old p (Ok tt) new
-      → PairsSoFar bytes new left
-  pairs_more bytes old new rest left p so_far is put = record {
+  pub pairs_more : (bytes : List ℕ) (old new : HashMap (Bor (List ℕ)) (Bor (List ℕ)) S) (rest remaining : List Pair) (p : Pair) → PairsSoFar bytes old rest → rest ≡ p ∷ remaining → InsertsPair old p (Ok tt) new
+      → PairsSoFar bytes new remaining
+  pairs_more bytes old new rest remaining p so_far is inserts = record {
     before = so_far.before ++ p ∷ [];
-    all = so_far.all ∙ ap (λ l. so_far.before ++ l) is ∙ sym (append_assoc so_far.before (p ∷ []) left);
-    texts = All-push IsUtf8Pair so_far.before p so_far.texts put.0;
-    has = put.1 so_far.before so_far.has;
+    all = so_far.all ∙ ap (λ l. so_far.before ++ l) is ∙ sym (append_assoc so_far.before (p ∷ []) remaining);
+    texts = All-push IsUtf8Pair so_far.before p so_far.texts inserts.0;
+    has = inserts.1 so_far.before so_far.has;
   }
 
-  pairs_stop : (bytes : List ℕ) (m : HashMap (Bor (List ℕ)) (Bor (List ℕ)) S) (rest left : List Pair) (p : Pair) → PairsSoFar bytes m rest → rest ≡ p ∷ left → ¬ IsUtf8Pair p
+  pairs_stop : (bytes : List ℕ) (m : HashMap (Bor (List ℕ)) (Bor (List ℕ)) S) (rest remaining : List Pair) (p : Pair) → PairsSoFar bytes m rest → rest ≡ p ∷ remaining → ¬ IsUtf8Pair p
       → ¬ All IsUtf8Pair (meta_pairs bytes)
-  pairs_stop bytes m rest left p so_far is bad = λ texts.
-      let all : meta_pairs bytes ≡ so_far.before ++ p ∷ left = so_far.all ∙ ap (λ l. so_far.before ++ l) is in
-      let here : drop (length so_far.before) (meta_pairs bytes) ≡ p ∷ left = ap (drop (length so_far.before)) all ∙ drop-append_seam so_far.before (p ∷ left) in
-      bad (All-head IsUtf8Pair p left (subst (All IsUtf8Pair) here (All-drop IsUtf8Pair (length so_far.before) (meta_pairs bytes) texts)))
+  pairs_stop bytes m rest remaining p so_far is bad = λ texts.
+      let all : meta_pairs bytes ≡ so_far.before ++ p ∷ remaining = so_far.all ∙ ap (λ l. so_far.before ++ l) is in
+      let here : drop (length so_far.before) (meta_pairs bytes) ≡ p ∷ remaining = ap (drop (length so_far.before)) all ∙ drop-append_seam so_far.before (p ∷ remaining) in
+      bad (All-head IsUtf8Pair p remaining (subst (All IsUtf8Pair) here (All-drop IsUtf8Pair (length so_far.before) (meta_pairs bytes) texts)))
 
-  pub pairs_error : (bytes : List ℕ) (m new : HashMap (Bor (List ℕ)) (Bor (List ℕ)) S) (rest left : List Pair) (p : Pair) (e : Error) → PairsSoFar bytes m rest → rest ≡ p ∷ left → InsertsPair m p (Err e) new
+  pub pairs_error : (bytes : List ℕ) (m new : HashMap (Bor (List ℕ)) (Bor (List ℕ)) S) (rest remaining : List Pair) (p : Pair) (e : Error) → PairsSoFar bytes m rest → rest ≡ p ∷ remaining → InsertsPair m p (Err e) new
       → ParsesMetaInfo {S = S} bytes (Err e)
-  pairs_error bytes m new rest left p StringUtf8 so_far is bad = pairs_stop bytes m rest left p so_far is bad
-  pairs_error bytes m new rest left p Memory so_far is memory = tt
-  pairs_error bytes m new rest left p e so_far is none = absurd none
+  pairs_error bytes m new rest remaining p StringUtf8 so_far is bad = pairs_stop bytes m rest remaining p so_far is bad
+  pairs_error bytes m new rest remaining p Memory so_far is memory = tt
+  pairs_error bytes m new rest remaining p e so_far is none = absurd none
 
   pub pairs_whole : (bytes : List ℕ) (m : HashMap (Bor (List ℕ)) (Bor (List ℕ)) S) (rest : List Pair) → PairsSoFar bytes m rest → rest ≡ [] → IsMetaInfo bytes m
   pairs_whole bytes m rest so_far is =

@@ -14,9 +14,9 @@ pub data ChunkError (F : Type 0) : Type 0 where
 
 -- an error reports that of a chunk; `Tells f e` says that `e` reports the error `f` in the bytes of a chunk
 abbrev pub ReportsChunkError : {F : Type 0} → (F → Error → Type 0) → ChunkError F → Error → Type 0
-ReportsChunkError Tells truncated_length e = IsUnexpectedEof e
-ReportsChunkError Tells exceeds_section e = e ≡ FeatureSectionTooSmall
-ReportsChunkError Tells (invalid_record f) e = Tells f e
+ReportsChunkError Reports truncated_length e = IsUnexpectedEof e
+ReportsChunkError Reports exceeds_section e = e ≡ FeatureSectionTooSmall
+ReportsChunkError Reports (invalid_record f) e = Reports f e
 
 -- the bytes are too few for a length
 abbrev pub IsTruncatedLength : List ℕ → Type 0
@@ -24,10 +24,10 @@ IsTruncatedLength bs = length bs < 4
 
 module _ (endian : Endianness) where
   -- the bytes begin with a length and a chunk of that length, followed by `rest`
-  pub record ChunkAt (bs piece rest : List ℕ) : Type 0 where
+  pub record ChunkAt (bs chunk rest : List ℕ) : Type 0 where
     pub enough : 4 ≤ length bs
-    pub exact_len : length piece ≡ number_in endian 4 bs
-    pub split : drop 4 bs ≡ piece ++ rest
+    pub exact_len : length chunk ≡ number_in endian 4 bs
+    pub split : drop 4 bs ≡ chunk ++ rest
 
   -- the length is complete, but the bytes after it are fewer
   abbrev pub IsTruncatedChunk : List ℕ → Type 0
@@ -37,25 +37,25 @@ module _ (endian : Endianness) where
   abbrev pub IsChunkReadError : List ℕ → Error → Type 0
   IsChunkReadError bs e = (IsUnexpectedEof e × IsTruncatedLength bs) ⊎ ((e ≡ FeatureSectionTooSmall) × IsTruncatedChunk bs)
 
-  -- `Is piece d` says that the bytes of a chunk encode `d`
+  -- `Is chunk d` says that the bytes of a chunk encode `d`
   module _ {D : Type 0} (Is : List ℕ → D → Type 0) where
     -- the bytes begin with consecutive chunks that encode these values, followed by `rest`
     abbrev pub ChunksAt : List ℕ → List D → List ℕ → Type 0
     ChunksAt bs [] rest = bs ≡ rest
-    ChunksAt bs (d ∷ ds) rest = (piece : List ℕ) × (mid : List ℕ) × ChunkAt bs piece mid × Is piece d × ChunksAt mid ds rest
+    ChunksAt bs (d ∷ ds) rest = (chunk : List ℕ) × (mid : List ℕ) × ChunkAt bs chunk mid × Is chunk d × ChunksAt mid ds rest
 
     -- the bytes are chunks that encode these values
     abbrev pub AreChunks : List ℕ → List D → Type 0
     AreChunks bs ds = ChunksAt bs ds []
 
-    -- `IsNot piece f` says that the bytes of a chunk have the error `f`
+    -- `IsNot chunk f` says that the bytes of a chunk have the error `f`
     module _ {F : Type 0} (IsNot : List ℕ → F → Type 0) where
       -- the bytes begin with a complete chunk that has the error `f`
       pub record InvalidChunk (bs : List ℕ) (f : F) : Type 0 where
-        pub piece : List ℕ
+        pub chunk : List ℕ
         pub rest : List ℕ
-        pub reads : ChunkAt bs piece rest
-        pub error : IsNot piece f
+        pub reads : ChunkAt bs chunk rest
+        pub error : IsNot chunk f
 
       abbrev pub ChunkErrorAt : List ℕ → ChunkError F → Type 0
       ChunkErrorAt bs truncated_length = (0 < length bs) × IsTruncatedLength bs
@@ -63,8 +63,8 @@ module _ (endian : Endianness) where
       ChunkErrorAt bs (invalid_record f) = InvalidChunk bs f
 
       -- valid chunks, followed by the first error from left to right
-      pub record FirstChunkError (bs : List ℕ) (fault : ChunkError F) : Type 0 where
+      pub record FirstChunkError (bs : List ℕ) (error : ChunkError F) : Type 0 where
         pub earlier : List D
         pub mid : List ℕ
         pub elements : ChunksAt bs earlier mid
-        pub error_here : ChunkErrorAt mid fault
+        pub error_here : ChunkErrorAt mid error

@@ -3,7 +3,7 @@ use Rattle.std.specs.Prelude.{◌≡◌, ℕ, List}
 use Rattle.perfdata_base.specs.declared.raw.Endianness.{Endianness}
 use Rattle.perfdata_simpleperf.specs.FileRecord.{FileValue}
 use Rattle.perfdata_simpleperf.specs.Chunks.{ChunkError, AreChunks, FirstChunkError, ReportsChunkError}
-use Rattle.perfdata_simpleperf.specs.Protobuf.Messages.{FileFault}
+use Rattle.perfdata_simpleperf.specs.Protobuf.Messages.{FileMessageError}
 use Rattle.perfdata_simpleperf.specs.Protobuf.Values.{IsFileRecord}
 use Rattle.perfdata_sections.specs.declared.error.Error.{Error}
 use Rattle.perfdata_sections.specs.declared.error.Error.TheVariants.{ProtobufParsingSimpleperfFileSection}
@@ -15,11 +15,11 @@ IsFile2Of endian bs vs = AreChunks endian IsFileRecord bs vs
 
 -- the section's first error
 abbrev pub File2Error : Endianness → List ℕ → ChunkError DecodeError → Type 0
-File2Error endian bs fault = FirstChunkError endian IsFileRecord FileFault bs fault
+File2Error endian bs error = FirstChunkError endian IsFileRecord FileMessageError bs error
 
 abbrev pub ReportsMessageError : DecodeError → Error → Type 0
 ReportsMessageError f e = e ≡ ProtobufParsingSimpleperfFileSection f
 
 -- an error reports the section's first error
 abbrev pub ReportsFile2Error : ChunkError DecodeError → Error → Type 0
-ReportsFile2Error fault e = ReportsChunkError ReportsMessageError fault e
+ReportsFile2Error error e = ReportsChunkError ReportsMessageError error e

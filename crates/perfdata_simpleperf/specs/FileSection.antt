@@ -16,7 +16,7 @@ IsFileSectionOf endian bs vs = AreChunks endian (IsV1 (number_in endian)) bs vs
 
 -- the section's first error
 abbrev pub FileSectionError : Endianness → List ℕ → ChunkError ErrorKind → Type 0
-FileSectionError endian bs fault = FirstChunkError endian (IsV1 (number_in endian)) (V1Error (number_in endian)) bs fault
+FileSectionError endian bs error = FirstChunkError endian (IsV1 (number_in endian)) (V1Error (number_in endian)) bs error
 
 -- an error reports that of a record, by its kind
 abbrev pub ReportsV1Error : ErrorKind → Error → Type 0
@@ -25,4 +25,4 @@ ReportsV1Error kind _ = ⊥
 
 -- an error reports the section's first error
 abbrev pub ReportsFileSectionError : ChunkError ErrorKind → Error → Type 0
-ReportsFileSectionError fault e = ReportsChunkError ReportsV1Error fault e
+ReportsFileSectionError error e = ReportsChunkError ReportsV1Error error e

@@ -12,23 +12,23 @@ module _ {A B : Type 0} (FirstAt : List ℕ → A → List ℕ → Type 0) (Next
   abbrev pub SequenceAt : List ℕ → A × B → List ℕ → Type 0
   SequenceAt bs p rest = (mid : List ℕ) × FirstAt bs p.0 mid × NextAt p.0 mid p.1 rest
 
-module _ {A : Type 0} (FirstAt : List ℕ → A → List ℕ → Type 0) (FirstFault : List ℕ → ErrorKind → Type 0) (NextFault : A → List ℕ → ErrorKind → Type 0) where
+module _ {A : Type 0} (FirstAt : List ℕ → A → List ℕ → Type 0) (FirstError : List ℕ → ErrorKind → Type 0) (NextError : A → List ℕ → ErrorKind → Type 0) where
   abbrev pub SequenceError : List ℕ → ErrorKind → Type 0
-  SequenceError bs kind = FirstFault bs kind ⊎ ((a : A) × (mid : List ℕ) × FirstAt bs a mid × NextFault a mid kind)
+  SequenceError bs kind = FirstError bs kind ⊎ ((a : A) × (mid : List ℕ) × FirstAt bs a mid × NextError a mid kind)
 
 -- consecutive parts of one type
-module _ {A : Type 0} (OneAt : List ℕ → A → List ℕ → Type 0) where
+module _ {A : Type 0} (ItemAt : List ℕ → A → List ℕ → Type 0) where
   abbrev pub RepeatedAt : List ℕ → List A → List ℕ → Type 0
   RepeatedAt bs [] rest = rest ≡ bs
-  RepeatedAt bs (a ∷ more) rest = (mid : List ℕ) × OneAt bs a mid × RepeatedAt mid more rest
+  RepeatedAt bs (a ∷ more) rest = (mid : List ℕ) × ItemAt bs a mid × RepeatedAt mid more rest
 
   -- fewer than `count` parts, followed by an error in the next
-  pub record RepeatedError (OneFault : List ℕ → ErrorKind → Type 0) (count : ℕ) (bs : List ℕ) (kind : ErrorKind) : Type 0 where
+  pub record RepeatedError (ItemError : List ℕ → ErrorKind → Type 0) (count : ℕ) (bs : List ℕ) (kind : ErrorKind) : Type 0 where
     pub earlier : List A
     pub mid : List ℕ
     pub too_few : length earlier < count
     pub elements : RepeatedAt bs earlier mid
-    pub error_here : OneFault mid kind
+    pub error_here : ItemError mid kind
 
 module _ (number : ℕ → List ℕ → ℕ) where
   -- an integer of `size` bytes
@@ -56,12 +56,12 @@ module _ (number : ℕ → List ℕ → ℕ) where
     BoundedError bs kind = IntegerError 4 bs kind ⊎ ((kind ≡ InvalidData) × ExceedsBound bs)
 
   -- a count, which isn't above the number of bytes after it, and that many parts
-  module _ {A : Type 0} (OneAt : List ℕ → A → List ℕ → Type 0) where
+  module _ {A : Type 0} (ItemAt : List ℕ → A → List ℕ → Type 0) where
     abbrev pub CountedAt : List ℕ → List A → List ℕ → Type 0
-    CountedAt bs ds rest = SequenceAt (BoundedAt length) (λ n mid es end. (n ≡ length es) × RepeatedAt OneAt mid es end) bs (length ds, ds) rest
+    CountedAt bs ds rest = SequenceAt (BoundedAt length) (λ n mid es end. (n ≡ length es) × RepeatedAt ItemAt mid es end) bs (length ds, ds) rest
 
     abbrev pub CountedError : (List ℕ → ErrorKind → Type 0) → List ℕ → ErrorKind → Type 0
-    CountedError OneFault bs kind = SequenceError (BoundedAt length) (BoundedError length) (RepeatedError OneAt OneFault) bs kind
+    CountedError ItemError bs kind = SequenceError (BoundedAt length) (BoundedError length) (RepeatedError ItemAt ItemError) bs kind
 
   -- a symbol: its address, its length, and its name up to a NUL
   abbrev pub SymbolAt : List ℕ → SymbolValue → List ℕ → Type 0

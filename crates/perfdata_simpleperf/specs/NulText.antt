@@ -1,19 +1,14 @@
 -- NUL-terminated strings.
-use Rattle.std.specs.Prelude.{◌≡◌, ◌⊎◌, ℕ, List, ◌∷◌, ◌++◌, Result, Ok, Err}
+use Rattle.std.specs.Prelude.{◌≡◌, ◌⊎◌, ℕ, List, Result, Ok, Err}
 use Rattle.std.specs.Borrow.{Bor}
 use Rattle.std.specs.IoError.{error_kind}
 use Rattle.std.specs.Str.{IsUtf8}
 use Rattle.std.specs.declared.io.Error.{Error}
 use Rattle.std.specs.declared.io.ErrorKind.{ErrorKind}
 use Rattle.std.specs.declared.io.ErrorKind.TheVariants.{UnexpectedEof, InvalidData}
-use Rattle.perfdata_base.specs.Raw.{HasNoNul}
+use Rattle.perfdata_base.specs.Raw.{HasNoNul, SplitsAtNul}
 
--- the bytes begin with a string and its NUL, followed by `rest`
-pub record SplitsAtNul (bytes text rest : List ℕ) : Type 0 where
-  pub split : bytes ≡ text ++ 0 ∷ rest
-  pub no_nul : HasNoNul text
-
--- the same with a string of UTF-8
+-- the bytes begin with a string of UTF-8 and its NUL, followed by `rest`
 pub record TextAt (bytes text rest : List ℕ) : Type 0 where
   pub splits_at_nul : SplitsAtNul bytes text rest
   pub utf8 : IsUtf8 text

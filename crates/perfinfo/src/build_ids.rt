@@ -13,15 +13,18 @@ use std::io::Write;
 type DsoEntry<'a> = (&'a DsoKey, &'a DsoInfo);
 
 /// Writes the build ids, ordered by path, and the symbol files.
-pub fn show<W: Write>(alloc: Global, file: &PerfFile, page: &mut Report<W>) {
-    if let Some(ids) = page.value_or_note("build ids", file.build_ids(alloc).map(Some)) {
-        show_build_ids(alloc, &ids, page);
+pub(crate) fn show<W: Write>(alloc: Global, file: &PerfFile, report: &mut Report<W>) {
+    if let Some(ids) = report.value_or_note("build ids", file.build_ids(alloc).map(Some)) {
+        show_build_ids(alloc, &ids, report);
     }
-    if let Some(files) = page.value_or_note("symbol files", file.simpleperf_symbol_tables(alloc)) {
-        page.line("symbol files", files.len());
+    if let Some(files) = report.value_or_note(
+        "symbol files",
+        file.simpleperf_symbol_tables(alloc),
+    ) {
+        report.line("symbol files", files.len());
         for file in files.iter() {
             let (kind, count) = (symbol_file_kind_name(file.type_), file.symbol.len());
-            page.item(
+            report.item(
                 Escaped(file.path.as_bytes()),
                 format_args!("{kind} symbols {count}"),
             );
@@ -30,12 +33,12 @@ pub fn show<W: Write>(alloc: Global, file: &PerfFile, page: &mut Report<W>) {
 }
 
 /// Writes the build ids, ordered by path.
-fn show_build_ids<W: Write>(alloc: Global, ids: &HashMap<DsoKey, DsoInfo>, page: &mut Report<W>) {
-    page.line("build ids", ids.len());
-    if let Some(objects) = page.value_or_note("build ids", sorted_by_path(alloc, ids)) {
+fn show_build_ids<W: Write>(alloc: Global, ids: &HashMap<DsoKey, DsoInfo>, report: &mut Report<W>) {
+    report.line("build ids", ids.len());
+    if let Some(objects) = report.value_or_note("build ids", sorted_by_path(alloc, ids)) {
         for (key, object) in objects.iter() {
             let (kind, path) = (dso_kind_name(key), Escaped(object.path.as_slice()));
-            page.item(
+            report.item(
                 Hex(object.build_id.as_slice()),
                 format_args!("{kind} {path}"),
             );

@@ -3,6 +3,7 @@ ghost use Rattle.std.specs.Prelude.{◌≡◌, ◌⊎◌, OnOk, OnErr, IsErrOf};
 
 use linux_perf_data::Error;
 use linux_perf_data::jitdump::JitDumpError;
+use perfdata_cli::args::ArgsError;
 use std::{fmt, io};
 
 /// An error that ends the program or makes its report incomplete.
@@ -14,18 +15,27 @@ pub enum InfoError {
     Open(io::Error),
     /// The input can't be parsed as a perf.data file or pipe.
     Parse(Error),
-    /// A record can't be read. The records before it end `behind` bytes after the start of the first record.
-    Record { behind: u64, cause: Error },
+    /// A record can't be read. The records before it have `bytes_before` bytes.
+    Record { bytes_before: u64, cause: Error },
     /// The input can't be parsed as a jitdump file.
     JitParse(JitDumpError),
-    /// A jitdump record can't be read. The records before it end `behind` bytes after the start of the file.
-    JitRecord { behind: u64, cause: io::Error },
+    /// A jitdump record can't be read. The file header and the records before it have `bytes_before` bytes.
+    JitRecord { bytes_before: u64, cause: io::Error },
     /// Number of sections that can't be read. Each section's line states its error.
     UnreadableSections(u64),
     /// Writing to standard output fails.
     Write(io::Error),
     /// Out of memory.
     OutOfMemory,
+}
+
+impl From<ArgsError> for InfoError {
+    fn from(error: ArgsError) -> InfoError {
+        match error {
+            ArgsError::Usage => InfoError::Usage,
+            ArgsError::OutOfMemory => InfoError::OutOfMemory,
+        }
+    }
 }
 
 impl fmt::Display for InfoError {
@@ -35,16 +45,22 @@ impl fmt::Display for InfoError {
             InfoError::Open(cause) => write!(f, "perfinfo: can't open: {cause}"),
             InfoError::Parse(cause) => write!(f, "perfinfo: can't open: {cause}"),
             InfoError::JitParse(cause) => write!(f, "perfinfo: can't open: {cause}"),
-            InfoError::Record { behind, cause } => {
+            InfoError::Record {
+                bytes_before,
+                cause,
+            } => {
                 write!(
                     f,
-                    "perfinfo: fault behind {behind} bytes of records: {cause}"
+                    "perfinfo: fault behind {bytes_before} bytes of records: {cause}"
                 )
             }
-            InfoError::JitRecord { behind, cause } => {
+            InfoError::JitRecord {
+                bytes_before,
+                cause,
+            } => {
                 write!(
                     f,
-                    "perfinfo: fault behind {behind} bytes of the file: {cause}"
+                    "perfinfo: fault behind {bytes_before} bytes of the file: {cause}"
                 )
             }
             InfoError::UnreadableSections(count) => write!(

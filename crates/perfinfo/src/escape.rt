@@ -31,11 +31,11 @@ impl fmt::Display for Escaped<'_> {
 }
 
 fn write_escaped_text<W: fmt::Write>(text: &str, f: &mut fmt::Formatter<W>) -> fmt::Result {
-    for letter in text.chars() {
-        if is_shown(letter) {
-            f.write_char(letter)?;
+    for character in text.chars() {
+        if is_shown(character) {
+            f.write_char(character)?;
         } else {
-            write!(f, "\\x{:02x}", letter as u32)?;
+            write!(f, "\\x{:02x}", character as u32)?;
         }
     }
     Ok(())

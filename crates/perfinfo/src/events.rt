@@ -12,36 +12,36 @@ use std::io::Write;
 const FREQ_FLAG: u64 = 1 << 10;
 
 /// Writes one item for each event, with the fields of its attribute, its ids and its counts.
-pub fn show<W: Write>(file: &PerfFile, tally: &RecordCounts, page: &mut Report<W>) {
-    page.line("events", file.event_attributes().len());
+pub(crate) fn show<W: Write>(file: &PerfFile, counts: &RecordCounts, report: &mut Report<W>) {
+    report.line("events", file.event_attributes().len());
     for (index, event) in file.event_attributes().iter().enumerate() {
-        page.item(
+        report.item(
             format_args!("event {index}"),
             Escaped(event.name().unwrap_or("unnamed").as_bytes()),
         );
-        show_attr(event.attributes(), page);
-        page.detail("ids", IdList(event.ids()));
-        show_counts(tally.event_counts(index), page);
+        show_attr(event.attributes(), report);
+        report.detail("ids", IdList(event.ids()));
+        show_counts(counts.event_counts(index), report);
     }
 }
 
 /// Writes the fields of an attribute.
-fn show_attr<W: Write>(attr: &PerfEventAttr, page: &mut Report<W>) {
-    page.detail("type", event_type_name(attr.type_));
-    page.detail("type number", attr.type_);
-    page.detail("config", attr.config);
+fn show_attr<W: Write>(attr: &PerfEventAttr, report: &mut Report<W>) {
+    report.detail("type", event_type_name(attr.type_));
+    report.detail("type number", attr.type_);
+    report.detail("config", attr.config);
     let name = if attr.flags.0 & FREQ_FLAG == 0 {
         "period"
     } else {
         "frequency"
     };
-    page.detail(name, attr.period_or_freq);
+    report.detail(name, attr.period_or_freq);
     let (bits, names) = (attr.sample_format.0, SAMPLE_FORMAT);
-    page.detail("sample format", BitNames { bits, names });
+    report.detail("sample format", BitNames { bits, names });
     let (bits, names) = (attr.read_format, READ_FORMAT);
-    page.detail("read format", BitNames { bits, names });
+    report.detail("read format", BitNames { bits, names });
     let (bits, names) = (attr.flags.0, ATTR_FLAGS);
-    page.detail("flags", BitNames { bits, names });
+    report.detail("flags", BitNames { bits, names });
 }
 
 /// Displays the number of ids and then each id.
@@ -61,11 +61,11 @@ impl fmt::Display for IdList<'_> {
 }
 
 /// Writes the counts of an event and the times of its first and last sample.
-fn show_counts<W: Write>(count: EventCounts, page: &mut Report<W>) {
-    page.detail("records", count.records);
-    page.detail("samples", count.samples);
-    if let (Some(first), Some(last)) = (count.first_sample, count.last_sample) {
-        page.detail("first sample in ns", first);
-        page.detail("last sample in ns", last);
+fn show_counts<W: Write>(counts: EventCounts, report: &mut Report<W>) {
+    report.detail("records", counts.records);
+    report.detail("samples", counts.samples);
+    if let (Some(first), Some(last)) = (counts.first_sample, counts.last_sample) {
+        report.detail("first sample in ns", first);
+        report.detail("last sample in ns", last);
     }
 }

@@ -9,52 +9,52 @@ use std::fmt;
 use std::io::Write;
 
 /// Writes all lines. A missing value has no line.
-pub fn show<W: Write>(alloc: Global, file: &PerfFile, page: &mut Report<W>) {
-    show_strings(file, page);
-    show_numbers(file, page);
-    show_command_line(alloc, file, page);
-    show_times(file, page);
-    show_clock(file, page);
-    show_compression(file, page);
-    show_features(file, page);
-    show_pmu_mappings(alloc, file, page);
-    show_meta_info(alloc, file, page);
+pub(crate) fn show<W: Write>(alloc: Global, file: &PerfFile, report: &mut Report<W>) {
+    show_strings(file, report);
+    show_numbers(file, report);
+    show_command_line(alloc, file, report);
+    show_times(file, report);
+    show_clock(file, report);
+    show_compression(file, report);
+    show_features(file, report);
+    show_pmu_mappings(alloc, file, report);
+    show_meta_info(alloc, file, report);
 }
 
 /// Writes the feature sections that contain a string.
-fn show_strings<W: Write>(file: &PerfFile, page: &mut Report<W>) {
-    page.string_line("host name", file.hostname());
-    page.string_line("OS release", file.os_release());
-    page.string_line("perf version", file.perf_version());
-    page.string_line("architecture", file.arch());
-    page.string_line("CPU description", file.cpu_desc());
-    page.string_line("CPU id", file.cpu_id());
+fn show_strings<W: Write>(file: &PerfFile, report: &mut Report<W>) {
+    report.string_line("host name", file.hostname());
+    report.string_line("OS release", file.os_release());
+    report.string_line("perf version", file.perf_version());
+    report.string_line("architecture", file.arch());
+    report.string_line("CPU description", file.cpu_desc());
+    report.string_line("CPU id", file.cpu_id());
 }
 
 /// Returns the name of a byte order.
-pub fn byte_order_name(order: Endianness) -> &'static str {
-    match order {
+pub(crate) fn byte_order_name(endian: Endianness) -> &'static str {
+    match endian {
         Endianness::LittleEndian => "little-endian",
         Endianness::BigEndian => "big-endian",
     }
 }
 
 /// Writes the numeric values and the byte order.
-fn show_numbers<W: Write>(file: &PerfFile, page: &mut Report<W>) {
-    if let Some(cpus) = page.value_or_note("CPUs", file.nr_cpus()) {
-        page.line("CPUs available", cpus.nr_cpus_available);
-        page.line("CPUs online", cpus.nr_cpus_online);
+fn show_numbers<W: Write>(file: &PerfFile, report: &mut Report<W>) {
+    if let Some(cpus) = report.value_or_note("CPUs", file.nr_cpus()) {
+        report.line("CPUs available", cpus.nr_cpus_available);
+        report.line("CPUs online", cpus.nr_cpus_online);
     }
-    page.number_line("memory in kB", file.total_mem());
-    page.line("byte order", byte_order_name(file.endian()));
+    report.number_line("memory in kB", file.total_mem());
+    report.line("byte order", byte_order_name(file.endian()));
     let stat = if file.is_stats() { "yes" } else { "no" };
-    page.line("written by perf stat", stat);
+    report.line("written by perf stat", stat);
 }
 
 /// Writes the recording's command line, with spaces between the arguments.
-fn show_command_line<W: Write>(alloc: Global, file: &PerfFile, page: &mut Report<W>) {
-    if let Some(words) = page.value_or_note("command line", file.cmdline(alloc)) {
-        page.line("command line", CommandLine(words.as_slice()));
+fn show_command_line<W: Write>(alloc: Global, file: &PerfFile, report: &mut Report<W>) {
+    if let Some(arguments) = report.value_or_note("command line", file.cmdline(alloc)) {
+        report.line("command line", CommandLine(arguments.as_slice()));
     }
 }
 
@@ -65,8 +65,8 @@ struct CommandLine<'a>(&'a [&'a str]);
 impl fmt::Display for CommandLine<'_> {
     fn fmt<W: fmt::Write>(&self, f: &mut fmt::Formatter<W>) -> fmt::Result {
         let mut separator = "";
-        for word in self.0 {
-            write!(f, "{separator}{}", Escaped(word.as_bytes()))?;
+        for argument in self.0 {
+            write!(f, "{separator}{}", Escaped(argument.as_bytes()))?;
             separator = " ";
         }
         Ok(())
@@ -74,62 +74,62 @@ impl fmt::Display for CommandLine<'_> {
 }
 
 /// Writes the times of the first and the last sample from the sample time section.
-fn show_times<W: Write>(file: &PerfFile, page: &mut Report<W>) {
-    if let Some(times) = page.value_or_note("sample times", file.sample_time_range()) {
-        page.line("first sample in ns", times.first_sample_time);
-        page.line("last sample in ns", times.last_sample_time);
+fn show_times<W: Write>(file: &PerfFile, report: &mut Report<W>) {
+    if let Some(times) = report.value_or_note("sample times", file.sample_time_range()) {
+        report.line("first sample in ns", times.first_sample_time);
+        report.line("last sample in ns", times.last_sample_time);
     }
 }
 
 /// Writes the clock of the timestamps.
-fn show_clock<W: Write>(file: &PerfFile, page: &mut Report<W>) {
-    page.number_line("clock tick in ns", file.clock_frequency());
-    if let Some(clock) = page.value_or_note("clock", file.clock_data()) {
-        page.line("clock", clock_name(clock.clockid));
-        page.line("clock number", clock.clockid);
-        page.line("clock time in ns", clock.clockid_time_ns);
-        page.line("wall clock in ns", clock.wall_clock_ns);
+fn show_clock<W: Write>(file: &PerfFile, report: &mut Report<W>) {
+    report.number_line("clock tick in ns", file.clock_frequency());
+    if let Some(clock) = report.value_or_note("clock", file.clock_data()) {
+        report.line("clock", clock_name(clock.clockid));
+        report.line("clock number", clock.clockid);
+        report.line("clock time in ns", clock.clockid_time_ns);
+        report.line("wall clock in ns", clock.wall_clock_ns);
     }
 }
 
 /// Writes how the records are compressed.
-fn show_compression<W: Write>(file: &PerfFile, page: &mut Report<W>) {
-    if let Some(compression) = page.value_or_note("compression", file.compression_info()) {
-        page.line("compression type", compression.type_);
-        page.line("compression version", compression.version);
-        page.line("compression level", compression.level);
-        page.line("compression ratio", compression.ratio);
-        page.line("compression buffer in bytes", compression.mmap_len);
+fn show_compression<W: Write>(file: &PerfFile, report: &mut Report<W>) {
+    if let Some(compression) = report.value_or_note("compression", file.compression_info()) {
+        report.line("compression type", compression.type_);
+        report.line("compression version", compression.version);
+        report.line("compression level", compression.level);
+        report.line("compression ratio", compression.ratio);
+        report.line("compression buffer in bytes", compression.mmap_len);
     }
 }
 
 /// Writes the features, each with the size of its section in bytes.
-fn show_features<W: Write>(file: &PerfFile, page: &mut Report<W>) {
-    page.line("features", file.features().len());
+fn show_features<W: Write>(file: &PerfFile, report: &mut Report<W>) {
+    report.line("features", file.features().len());
     for feature in file.features().iter() {
         if let Some(section) = file.feature_section_data(feature) {
-            page.item(feature, section.len());
+            report.item(feature, section.len());
         }
     }
 }
 
 /// Writes the performance monitoring units, ordered by number.
-fn show_pmu_mappings<W: Write>(alloc: Global, file: &PerfFile, page: &mut Report<W>) {
-    if let Some(units) = page.value_or_note("PMU mappings", file.pmu_mappings(alloc)) {
-        page.line("PMU mappings", units.0.len());
+fn show_pmu_mappings<W: Write>(alloc: Global, file: &PerfFile, report: &mut Report<W>) {
+    if let Some(units) = report.value_or_note("PMU mappings", file.pmu_mappings(alloc)) {
+        report.line("PMU mappings", units.0.len());
         for (number, name) in units.0.iter() {
-            page.item(*number, Escaped(name.as_bytes()));
+            report.item(*number, Escaped(name.as_bytes()));
         }
     }
 }
 
 /// Writes simpleperf's meta info, ordered by key.
-fn show_meta_info<W: Write>(alloc: Global, file: &PerfFile, page: &mut Report<W>) {
-    if let Some(map) = page.value_or_note("meta info", file.simpleperf_meta_info(alloc)) {
-        page.line("meta info", map.len());
-        if let Some(pairs) = page.value_or_note("meta info", sorted_pairs(alloc, &map)) {
+fn show_meta_info<W: Write>(alloc: Global, file: &PerfFile, report: &mut Report<W>) {
+    if let Some(map) = report.value_or_note("meta info", file.simpleperf_meta_info(alloc)) {
+        report.line("meta info", map.len());
+        if let Some(pairs) = report.value_or_note("meta info", sorted_pairs(alloc, &map)) {
             for (key, value) in pairs.iter() {
-                page.item(Escaped(key.as_bytes()), Escaped(value.as_bytes()));
+                report.item(Escaped(key.as_bytes()), Escaped(value.as_bytes()));
             }
         }
     }

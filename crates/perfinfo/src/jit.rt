@@ -29,7 +29,7 @@ struct JitFunction {
 #[derive(Drop)]
 struct JitCounts {
     per_type: BTreeMap<u32, u64>,
-    code: u64,
+    code_bytes: u64,
     /// The largest functions, ordered by decreasing size.
     largest: Vec<JitFunction>,
     /// File offset of the end of the records that were read, in bytes.
@@ -54,7 +54,7 @@ impl JitCounts {
     fn new(alloc: Global) -> JitCounts {
         JitCounts {
             per_type: BTreeMap::new(alloc),
-            code: 0,
+            code_bytes: 0,
             largest: Vec::new(alloc),
             end: 0,
         }
@@ -67,7 +67,7 @@ impl JitCounts {
         size: u64,
         name: RawData<'_>,
     ) -> Result<(), AllocError> {
-        self.code = self.code.saturating_add(size);
+        self.code_bytes = self.code_bytes.saturating_add(size);
         let name = to_vec(alloc, name)?;
         self.largest.push(JitFunction { size, name })?;
         self.largest
@@ -92,28 +92,28 @@ impl JitCounts {
 fn count_records<R: Source>(
     alloc: Global,
     reader: &mut JitDumpReader<R>,
-    tally: &mut JitCounts,
+    counts: &mut JitCounts,
 ) -> io::Result<()> {
     for _ in 0..u64::MAX {
         let Some(raw) = reader.next_record()? else {
             break;
         };
-        tally.add(alloc, &raw)?;
+        counts.add(alloc, &raw)?;
     }
     Ok(())
 }
 
 impl<R: Source + Drop> JitSummary<R> {
     /// Reads a jitdump file until its last complete record or the first error. Fails if the header can't be parsed.
-    pub fn read(alloc: Global, source: R) -> Result<JitSummary<R>, InfoError> {
+    pub(crate) fn read(alloc: Global, source: R) -> Result<JitSummary<R>, InfoError> {
         let mut reader = JitDumpReader::new(alloc, source).map_err(InfoError::JitParse)?;
-        let mut tally = JitCounts::new(alloc);
-        tally.end = reader.next_record_offset();
-        let fault = count_records(alloc, &mut reader, &mut tally).err();
+        let mut counts = JitCounts::new(alloc);
+        counts.end = reader.next_record_offset();
+        let error = count_records(alloc, &mut reader, &mut counts).err();
         Ok(JitSummary {
             reader,
-            counts: tally,
-            error: fault,
+            counts,
+            error,
         })
     }
 
@@ -121,41 +121,44 @@ impl<R: Source + Drop> JitSummary<R> {
     pub fn into_result(self) -> Result<(), InfoError>
         ensures { IsOk result ↔ IsNone self.error }
     {
-        let behind = self.counts.end;
+        let bytes_before = self.counts.end;
         match self.error {
-            Some(cause) => Err(InfoError::JitRecord { behind, cause }),
+            Some(cause) => Err(InfoError::JitRecord {
+                bytes_before,
+                cause,
+            }),
             None => Ok(()),
         }
     }
 
     /// Writes the header and the counts.
-    pub fn show<W: Write>(&self, page: &mut Report<W>) {
+    pub(crate) fn show<W: Write>(&self, report: &mut Report<W>) {
         let header = self.reader.header();
-        page.line("byte order", byte_order_name(self.reader.endian()));
-        page.line("version", header.version);
-        page.line("machine number", header.elf_machine_arch);
-        page.line("process", header.pid);
-        page.line("time", header.timestamp);
-        page.line("flags", header.flags);
-        self.counts.show(page);
+        report.line("byte order", byte_order_name(self.reader.endian()));
+        report.line("version", header.version);
+        report.line("machine number", header.elf_machine_arch);
+        report.line("process", header.pid);
+        report.line("time", header.timestamp);
+        report.line("flags", header.flags);
+        self.counts.show(report);
     }
 }
 
 impl JitCounts {
     /// Writes the counts.
-    fn show<W: Write>(&self, page: &mut Report<W>) {
-        page.line("records by type", self.per_type.len());
-        for (kind, count) in self.per_type.iter() {
-            page.item(
-                format_args!("{} ({kind})", jit_record_type_name(*kind)),
+    fn show<W: Write>(&self, report: &mut Report<W>) {
+        report.line("records by type", self.per_type.len());
+        for (record_type, count) in self.per_type.iter() {
+            report.item(
+                format_args!("{} ({record_type})", jit_record_type_name(*record_type)),
                 *count,
             );
         }
-        page.line("bytes of records", self.end);
-        page.line("bytes of code", self.code);
-        page.line("largest functions", self.largest.len());
+        report.line("bytes of records", self.end);
+        report.line("bytes of code", self.code_bytes);
+        report.line("largest functions", self.largest.len());
         for function in self.largest.iter() {
-            page.item(function.size, Escaped(function.name.as_slice()));
+            report.item(function.size, Escaped(function.name.as_slice()));
         }
     }
 }

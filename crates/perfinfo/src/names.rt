@@ -2,7 +2,7 @@
 use std::fmt;
 
 /// Returns the name of a clock of `clock_gettime`.
-pub fn clock_name(number: u32) -> &'static str {
+pub(crate) fn clock_name(number: u32) -> &'static str {
     match number {
         0 => "realtime",
         1 => "monotonic",
@@ -14,7 +14,7 @@ pub fn clock_name(number: u32) -> &'static str {
 }
 
 /// Returns the name of an event type (`perf_type_id`). Higher numbers are dynamic units of PMU_MAPPINGS.
-pub fn event_type_name(number: u32) -> &'static str {
+pub(crate) fn event_type_name(number: u32) -> &'static str {
     match number {
         0 => "hardware",
         1 => "software",
@@ -49,12 +49,12 @@ pub struct BitNames {
 impl fmt::Display for BitNames {
     fn fmt<W: fmt::Write>(&self, f: &mut fmt::Formatter<W>) -> fmt::Result {
         write!(f, "{:#x}", self.bits)?;
-        let mut left = self.bits;
+        let mut remaining = self.bits;
         for name in self.names.split(' ') {
-            if left % 2 == 1 {
+            if remaining % 2 == 1 {
                 write!(f, " {name}")?;
             }
-            left /= 2;
+            remaining /= 2;
         }
         Ok(())
     }
@@ -77,12 +77,12 @@ const JIT_RECORD_NAMES: &str = "CODE_LOAD CODE_MOVE CODE_DEBUG_INFO CODE_CLOSE C
 
 /// Returns the name of a number in a list that starts with the name of `first`.
 fn name_at(names: &'static str, first: u32, number: u32) -> Option<&'static str> {
-    let place = number.checked_sub(first)?;
-    names.split(' ').nth(place as usize)
+    let index = number.checked_sub(first)?;
+    names.split(' ').nth(index as usize)
 }
 
 /// Returns the name of a record type.
-pub fn record_type_name(number: u32) -> &'static str {
+pub(crate) fn record_type_name(number: u32) -> &'static str {
     name_at(KERNEL_RECORD_NAMES, 1, number)
         .or(name_at(USER_RECORD_NAMES, 64, number))
         .or(name_at(SIMPLEPERF_RECORD_NAMES, 32769, number))
@@ -90,6 +90,6 @@ pub fn record_type_name(number: u32) -> &'static str {
 }
 
 /// Returns the name of a record type of jitdump files.
-pub fn jit_record_type_name(number: u32) -> &'static str {
+pub(crate) fn jit_record_type_name(number: u32) -> &'static str {
     name_at(JIT_RECORD_NAMES, 0, number).unwrap_or("unknown")
 }

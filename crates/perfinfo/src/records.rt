@@ -5,6 +5,7 @@ ghost use Rattle.perfinfo.specs.Times.{IsEarliest, IsLatest};
 use crate::error::InfoError;
 use crate::names::record_type_name;
 use crate::report::Report;
+use linux_perf_data::event::{PerfEventHeader, RecordType};
 use linux_perf_data::source::Source;
 use linux_perf_data::{
     Error, PerfFile, PerfFileReader, PerfFileRecord, PerfRecordIter, RawUserRecord, UserRecord,
@@ -13,12 +14,6 @@ use linux_perf_data::{
 use std::alloc::{AllocError, Global};
 use std::collections::BTreeMap;
 use std::io::Write;
-
-/// The record type of samples.
-const SAMPLE: u32 = 9;
-
-/// Size of a record header in bytes.
-const RECORD_HEADER_SIZE: u64 = 8;
 
 /// Counts of an event's records.
 #[derive(Clone, Copy)]
@@ -53,7 +48,7 @@ impl EventCounts {
         ensures same_last { IfNone summary.timestamp (self.new.last_sample ≡ self.old.last_sample) }
     {
         self.records = self.records.saturating_add(1);
-        if summary.record_type == SAMPLE {
+        if summary.record_type == RecordType::SAMPLE.0 {
             self.samples = self.samples.saturating_add(1);
             if let Some(time) = summary.timestamp {
                 self.first_sample = Some(self.first_sample.unwrap_or(time).min(time));
@@ -98,7 +93,7 @@ impl RecordCounts {
     }
 
     /// Returns the counts of an event's records, which are zero if there are none.
-    pub fn event_counts(&self, index: usize) -> EventCounts {
+    pub(crate) fn event_counts(&self, index: usize) -> EventCounts {
         self.per_event
             .get(index)
             .copied()
@@ -152,35 +147,20 @@ fn next_summary<R: Source>(
     let Some((place, record)) = records.next_record(file)? else {
         return Ok(None);
     };
-    let (kind, event, size, auxiliary) = match record {
-        PerfFileRecord::EventRecord { attr_index, event } => {
-            (
-                event.record_type.0,
-                Some(attr_index),
-                event.body.len() as u64,
-                0,
-            )
-        }
-        PerfFileRecord::UserRecord(user) => {
-            let kind = user.record_type.record_type().0;
-            (
-                kind,
-                None,
-                user.body.len() as u64,
-                aux_data_size(alloc, &user)?,
-            )
-        }
+    let aux_size = match record {
+        PerfFileRecord::UserRecord(user) => aux_data_size(alloc, &user)?,
+        PerfFileRecord::EventRecord { .. } => 0,
     };
     Ok(Some(RecordSummary {
-        record_type: kind,
-        attr_index: event,
+        record_type: record.record_type().0,
+        attr_index: record.attr_index(),
         timestamp: place.timestamp,
         round: place.round,
         end: place
             .offset
-            .saturating_add(size)
-            .saturating_add(RECORD_HEADER_SIZE),
-        aux_size: auxiliary,
+            .saturating_add(record.body().len() as u64)
+            .saturating_add(PerfEventHeader::STRUCT_SIZE as u64),
+        aux_size,
     }))
 }
 
@@ -196,15 +176,15 @@ pub struct Recording {
 
 impl Recording {
     /// Reads records until the end or the first error.
-    pub fn read<R: Source + Drop>(alloc: Global, reader: PerfFileReader<R>) -> Recording {
+    pub(crate) fn read<R: Source + Drop>(alloc: Global, reader: PerfFileReader<R>) -> Recording {
         let mut file = reader.perf_file;
         let mut records = reader.record_iter;
-        let mut tally = RecordCounts::new(alloc);
-        let fault = count_records(alloc, &mut records, &mut file, &mut tally).err();
+        let mut counts = RecordCounts::new(alloc);
+        let error = count_records(alloc, &mut records, &mut file, &mut counts).err();
         Recording {
             file,
-            counts: tally,
-            error: fault,
+            counts,
+            error,
         }
     }
 
@@ -212,9 +192,12 @@ impl Recording {
     pub fn into_result(self) -> Result<(), InfoError>
         ensures { IsOk result ↔ IsNone self.error }
     {
-        let behind = self.counts.end;
+        let bytes_before = self.counts.end;
         match self.error {
-            Some(cause) => Err(InfoError::Record { behind, cause }),
+            Some(cause) => Err(InfoError::Record {
+                bytes_before,
+                cause,
+            }),
             None => Ok(()),
         }
     }
@@ -225,24 +208,27 @@ fn count_records<R: Source>(
     alloc: Global,
     records: &mut PerfRecordIter<R>,
     file: &mut PerfFile,
-    tally: &mut RecordCounts,
+    counts: &mut RecordCounts,
 ) -> Result<(), Error> {
     for _ in 0..u64::MAX {
-        let Some(step) = next_summary(alloc, records, file)? else {
+        let Some(summary) = next_summary(alloc, records, file)? else {
             break;
         };
-        tally.add(step)?;
+        counts.add(summary)?;
     }
     Ok(())
 }
 
 /// Writes the number of records of each type, the number of rounds, and the total sizes of aux data and of all records.
-pub fn show<W: Write>(tally: &RecordCounts, page: &mut Report<W>) {
-    page.line("records by type", tally.per_type.len());
-    for (kind, count) in tally.per_type.iter() {
-        page.item(format_args!("{} ({kind})", record_type_name(*kind)), *count);
+pub(crate) fn show<W: Write>(counts: &RecordCounts, report: &mut Report<W>) {
+    report.line("records by type", counts.per_type.len());
+    for (record_type, count) in counts.per_type.iter() {
+        report.item(
+            format_args!("{} ({record_type})", record_type_name(*record_type)),
+            *count,
+        );
     }
-    page.line("rounds before the last record", tally.rounds);
-    page.line("bytes of auxiliary data", tally.aux_bytes);
-    page.line("bytes of records", tally.end);
+    report.line("rounds before the last record", counts.rounds);
+    report.line("bytes of auxiliary data", counts.aux_bytes);
+    report.line("bytes of records", counts.end);
 }

@@ -18,7 +18,7 @@ pub struct Report<W> {
 
 impl<W: Write> Report<W> {
     /// Creates a report without lines.
-    pub fn new(out: W) -> Report<W> {
+    pub(crate) fn new(out: W) -> Report<W> {
         Report {
             out,
             write_error: None,
@@ -42,24 +42,28 @@ impl<W: Write> Report<W> {
     }
 
     /// Writes a line without indentation.
-    pub fn line<N: Display + Drop, V: Display + Drop>(&mut self, name: N, value: V) {
+    pub(crate) fn line<N: Display + Drop, V: Display + Drop>(&mut self, name: N, value: V) {
         self.write_indented("", name, value);
     }
 
     /// Writes a line for an item of a list.
-    pub fn item<N: Display + Drop, V: Display + Drop>(&mut self, name: N, value: V) {
+    pub(crate) fn item<N: Display + Drop, V: Display + Drop>(&mut self, name: N, value: V) {
         self.write_indented("  ", name, value);
     }
 
     /// Writes a line for a detail of an item.
-    pub fn detail<N: Display + Drop, V: Display + Drop>(&mut self, name: N, value: V) {
+    pub(crate) fn detail<N: Display + Drop, V: Display + Drop>(&mut self, name: N, value: V) {
         self.write_indented("    ", name, value);
     }
 
     /// Returns the value of a section, or `None` if the section is missing or can't be read. For an unreadable section it writes
     /// a line with the error.
-    pub fn value_or_note<T>(&mut self, name: &str, answer: Result<Option<T>, Error>) -> Option<T> {
-        match answer {
+    pub(crate) fn value_or_note<T>(
+        &mut self,
+        name: &str,
+        section: Result<Option<T>, Error>,
+    ) -> Option<T> {
+        match section {
             Ok(value) => value,
             Err(error) => {
                 self.unreadable_sections = self.unreadable_sections.saturating_add(1);
@@ -70,15 +74,15 @@ impl<W: Write> Report<W> {
     }
 
     /// Writes the line of a section that contains a string.
-    pub fn string_line(&mut self, name: &str, answer: Result<Option<&str>, Error>) {
-        if let Some(text) = self.value_or_note(name, answer) {
+    pub(crate) fn string_line(&mut self, name: &str, section: Result<Option<&str>, Error>) {
+        if let Some(text) = self.value_or_note(name, section) {
             self.line(name, Escaped(text.as_bytes()));
         }
     }
 
     /// Writes the line of a section that contains a number.
-    pub fn number_line(&mut self, name: &str, answer: Result<Option<u64>, Error>) {
-        if let Some(number) = self.value_or_note(name, answer) {
+    pub(crate) fn number_line(&mut self, name: &str, section: Result<Option<u64>, Error>) {
+        if let Some(number) = self.value_or_note(name, section) {
             self.line(name, number);
         }
     }
@@ -93,14 +97,14 @@ impl<W: Write> Report<W> {
     {
         let Report {
             mut out,
-            write_error: refused,
-            unreadable_sections: unread,
+            write_error,
+            unreadable_sections,
         } = self;
-        if let Some(error) = refused {
+        if let Some(error) = write_error {
             return Err(InfoError::Write(error));
         }
         out.flush().map_err(InfoError::Write)?;
-        match unread {
+        match unreadable_sections {
             0 => Ok(()),
             count => Err(InfoError::UnreadableSections(count)),
         }

@@ -1,14 +1,14 @@
 //! Attributes of each size: their fields in both byte orders, and the sizes that are errors.
-use crate::compare::{same, same_at};
+use crate::expect::{expect_eq, expect_eq_at};
 use bitflags::Flags;
 use byteorder::{BigEndian, LittleEndian};
 use perfdata_base::attr::{AttrFlags, PerfEventAttr, SampleFormat};
 use std::io::ErrorKind;
 use std::test::Fail;
-use test_support::values::by_kind;
+use test_support::values::to_error_kind;
 
 // Each byte is its own index, but the clock's bytes are 255, and the attribute's own size is little-endian.
-fn attribute(own: u8) -> [u8; 150] {
+fn attr_bytes(own: u8) -> [u8; 150] {
     let mut bytes = [0u8; 150];
     for (index, byte) in bytes.iter_mut().enumerate() {
         *byte = index as u8;
@@ -24,7 +24,7 @@ fn attribute(own: u8) -> [u8; 150] {
 }
 
 // The four-byte fields and the eight-byte fields.
-fn fields(attr: &PerfEventAttr) -> ([u32; 7], [u64; 12]) {
+fn attr_fields(attr: &PerfEventAttr) -> ([u32; 7], [u64; 12]) {
     (
         [
             attr.type_,
@@ -54,15 +54,15 @@ fn fields(attr: &PerfEventAttr) -> ([u32; 7], [u64; 12]) {
 
 #[test]
 fn reads_each_field(rt: HostRuntime) -> Result<(), Fail> {
-    let bytes = attribute(144);
+    let bytes = attr_bytes(144);
     let mut rest = &bytes[..];
     let (attr, own) = PerfEventAttr::parse_from::<_, LittleEndian>(&mut rest)?;
-    same(&rt, &own, &144);
-    same(&rt, &rest, &[144, 145, 146, 147, 148, 149].as_slice());
-    let (halves, words) = fields(&attr);
-    same(
+    expect_eq(&rt, &own, &144);
+    expect_eq(&rt, &rest, &[144, 145, 146, 147, 148, 149].as_slice());
+    let (u32_fields, u64_fields) = attr_fields(&attr);
+    expect_eq(
         &rt,
-        &halves,
+        &u32_fields,
         &[
             0x0302_0100,
             144,
@@ -73,9 +73,9 @@ fn reads_each_field(rt: HostRuntime) -> Result<(), Fail> {
             0x7372_7170,
         ],
     );
-    same(
+    expect_eq(
         &rt,
-        &words,
+        &u64_fields,
         &[
             0x0f0e_0d0c_0b0a_0908,
             0x1716_1514_1312_1110,
@@ -91,16 +91,16 @@ fn reads_each_field(rt: HostRuntime) -> Result<(), Fail> {
             0x8786_8584_8382_8180,
         ],
     );
-    same(&rt, &(attr.clockid, attr.sample_max_stack), &(-1, 0x6d6c));
+    expect_eq(&rt, &(attr.clockid, attr.sample_max_stack), &(-1, 0x6d6c));
     Ok(())
 }
 
 #[test]
 fn reads_big_endian(rt: HostRuntime) -> Result<(), Fail> {
-    let mut bytes = attribute(0);
+    let mut bytes = attr_bytes(0);
     bytes[7] = 64;
     let (attr, own) = PerfEventAttr::parse::<_, BigEndian>(&bytes[..])?;
-    same(
+    expect_eq(
         &rt,
         &(own, attr.type_, attr.config, attr.bp_type),
         &(64, 0x0001_0203, 0x0809_0a0b_0c0d_0e0f, 0x3435_3637),
@@ -109,11 +109,11 @@ fn reads_big_endian(rt: HostRuntime) -> Result<(), Fail> {
 }
 
 #[test]
-fn takes_zero_beyond_its_own_size(rt: HostRuntime) -> Result<(), Fail> {
+fn fields_past_the_own_size_are_zero(rt: HostRuntime) -> Result<(), Fail> {
     const CONFIG1: u64 = 0x3f3e_3d3c_3b3a_3938;
     const CONFIG2: u64 = 0x4746_4544_4342_4140;
     // own size in the bytes, parsed own size, config2, branch_sample_type, remaining bytes
-    for (size, own, config2, branch, left) in [
+    for (size, own, config2, branch, remaining) in [
         (0u8, 64u64, 0u64, 0u64, 86usize),
         (64, 64, 0, 0, 86),
         (71, 71, 0, 0, 79),
@@ -121,23 +121,23 @@ fn takes_zero_beyond_its_own_size(rt: HostRuntime) -> Result<(), Fail> {
         (79, 79, CONFIG2, 0, 71),
         (80, 80, CONFIG2, 0x4f4e_4d4c_4b4a_4948, 70),
     ] {
-        let bytes = attribute(size);
+        let bytes = attr_bytes(size);
         let mut rest = &bytes[..];
-        let (attr, told) = PerfEventAttr::parse_from::<_, LittleEndian>(&mut rest)?;
-        let sizes = (told, attr.size as u64, rest.len());
+        let (attr, parsed_size) = PerfEventAttr::parse_from::<_, LittleEndian>(&mut rest)?;
+        let sizes = (parsed_size, attr.size as u64, rest.len());
         let configs = (attr.config1, attr.config2);
-        same_at(
+        expect_eq_at(
             &rt,
             &size,
             &(sizes, configs, attr.branch_sample_type, attr.clockid),
-            &((own, own, left), (CONFIG1, config2), branch, 0),
+            &((own, own, remaining), (CONFIG1, config2), branch, 0),
         );
     }
     Ok(())
 }
 
 #[test]
-fn refuses_small_sizes_and_missing_bytes(rt: HostRuntime) {
+fn small_sizes_and_truncation_fail(rt: HostRuntime) {
     for (size, count, kind) in [
         (1u8, 150usize, ErrorKind::InvalidData),
         (63, 150, ErrorKind::InvalidData),
@@ -147,17 +147,22 @@ fn refuses_small_sizes_and_missing_bytes(rt: HostRuntime) {
         (0, 63, ErrorKind::UnexpectedEof),
         (144, 143, ErrorKind::UnexpectedEof),
     ] {
-        let bytes = attribute(size);
+        let bytes = attr_bytes(size);
         let parsed = PerfEventAttr::parse::<_, LittleEndian>(&bytes[..count]);
-        same_at(&rt, &(size, count), &by_kind(parsed).err(), &Some(kind));
+        expect_eq_at(
+            &rt,
+            &(size, count),
+            &to_error_kind(parsed).err(),
+            &Some(kind),
+        );
     }
 }
 
 #[test]
 fn keeps_all_bits(rt: HostRuntime) {
     let format = SampleFormat::from_bits_retain(0x8001_0204);
-    same(&rt, &format.bits(), &0x8001_0204);
-    for (flag, held) in [
+    expect_eq(&rt, &format.bits(), &0x8001_0204);
+    for (flag, is_set) in [
         (SampleFormat::TIME, true),
         (SampleFormat::STREAM_ID, true),
         (SampleFormat::IDENTIFIER, true),
@@ -167,10 +172,10 @@ fn keeps_all_bits(rt: HostRuntime) {
         (SampleFormat::ID, false),
         (SampleFormat::CPU, false),
     ] {
-        same_at(&rt, &flag, &format.contains(flag), &held);
+        expect_eq_at(&rt, &flag, &format.contains(flag), &is_set);
     }
     let flags = AttrFlags::from_bits_retain(0x8004_0000);
-    same(
+    expect_eq(
         &rt,
         &(flags.bits(), flags.contains(AttrFlags::SAMPLE_ID_ALL)),
         &(0x8004_0000, true),

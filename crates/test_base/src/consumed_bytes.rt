@@ -1,5 +1,5 @@
 //! Parsers that own their source consume exactly their own bytes.
-use crate::compare::same_at;
+use crate::expect::expect_eq_at;
 use byteorder::{BigEndian, LittleEndian};
 use perfdata_base::attr::PerfEventAttr;
 use perfdata_base::event::PerfEventHeader;
@@ -11,19 +11,19 @@ use std::io::Cursor;
 /// The part that is parsed.
 #[derive(Clone, Copy, Debug)]
 enum Part {
-    Head,
-    Entry,
+    RecordHeader,
+    SectionEntry,
     Attribute,
     PipeHeader,
 }
 
 /// Whether parsing the part from a source succeeds.
-fn is_parsed<R: Source + Drop>(part: Part, is_little: bool, source: R) -> bool {
+fn parses<R: Source + Drop>(part: Part, is_little: bool, source: R) -> bool {
     match (part, is_little) {
-        (Part::Head, true) => PerfEventHeader::parse::<R, LittleEndian>(source).is_ok(),
-        (Part::Head, false) => PerfEventHeader::parse::<R, BigEndian>(source).is_ok(),
-        (Part::Entry, true) => PerfFileSection::parse::<R, LittleEndian>(source).is_ok(),
-        (Part::Entry, false) => PerfFileSection::parse::<R, BigEndian>(source).is_ok(),
+        (Part::RecordHeader, true) => PerfEventHeader::parse::<R, LittleEndian>(source).is_ok(),
+        (Part::RecordHeader, false) => PerfEventHeader::parse::<R, BigEndian>(source).is_ok(),
+        (Part::SectionEntry, true) => PerfFileSection::parse::<R, LittleEndian>(source).is_ok(),
+        (Part::SectionEntry, false) => PerfFileSection::parse::<R, BigEndian>(source).is_ok(),
         (Part::Attribute, true) => PerfEventAttr::parse::<R, LittleEndian>(source).is_ok(),
         (Part::Attribute, false) => PerfEventAttr::parse::<R, BigEndian>(source).is_ok(),
         (Part::PipeHeader, _) => PerfPipeHeader::parse(source).is_ok(),
@@ -31,7 +31,7 @@ fn is_parsed<R: Source + Drop>(part: Part, is_little: bool, source: R) -> bool {
 }
 
 // 200 bytes with an attribute of this own size at offset 3.
-fn attribute(size: u8, is_little: bool) -> [u8; 200] {
+fn attr_bytes(size: u8, is_little: bool) -> [u8; 200] {
     let mut bytes = [0; 200];
     if is_little {
         bytes[7] = size;
@@ -42,7 +42,7 @@ fn attribute(size: u8, is_little: bool) -> [u8; 200] {
 }
 
 // 200 bytes with a pipe header or file header of this size at offset 3.
-fn header(size: u8, is_little: bool) -> [u8; 200] {
+fn header_bytes(size: u8, is_little: bool) -> [u8; 200] {
     let mut bytes = [0; 200];
     if is_little {
         bytes[3..11].copy_from_slice(b"PERFILE2");
@@ -55,46 +55,46 @@ fn header(size: u8, is_little: bool) -> [u8; 200] {
 }
 
 #[test]
-fn parts_take_their_own_bytes(rt: HostRuntime) {
+fn parts_consume_their_own_size(rt: HostRuntime) {
     for is_little in [true, false] {
-        for (part, bytes, taken) in [
-            (Part::Head, attribute(0, is_little), 8usize),
-            (Part::Entry, attribute(0, is_little), 16),
-            (Part::Attribute, attribute(0, is_little), 64),
-            (Part::Attribute, attribute(64, is_little), 64),
-            (Part::Attribute, attribute(136, is_little), 136),
-            (Part::PipeHeader, header(16, is_little), 16),
-            (Part::PipeHeader, header(20, is_little), 20),
+        for (part, bytes, consumed) in [
+            (Part::RecordHeader, attr_bytes(0, is_little), 8usize),
+            (Part::SectionEntry, attr_bytes(0, is_little), 16),
+            (Part::Attribute, attr_bytes(0, is_little), 64),
+            (Part::Attribute, attr_bytes(64, is_little), 64),
+            (Part::Attribute, attr_bytes(136, is_little), 136),
+            (Part::PipeHeader, header_bytes(16, is_little), 16),
+            (Part::PipeHeader, header_bytes(20, is_little), 20),
         ] {
             let mut rest = &bytes[3..];
-            let first = is_parsed(part, is_little, &mut rest);
+            let first = parses(part, is_little, &mut rest);
             let mut cursor = Cursor::new(&bytes[..]);
             cursor.set_position(3);
-            let second = is_parsed(part, is_little, &mut cursor);
-            same_at(&rt, &(part, is_little), &(first, second), &(true, true));
-            same_at(
+            let second = parses(part, is_little, &mut cursor);
+            expect_eq_at(&rt, &(part, is_little), &(first, second), &(true, true));
+            expect_eq_at(
                 &rt,
                 &(part, is_little),
                 &(rest.len(), cursor.position()),
-                &(197 - taken, 3 + taken as u64),
+                &(197 - consumed, 3 + consumed as u64),
             );
         }
     }
 }
 
 #[test]
-fn a_header_takes_its_own_bytes(rt: HostRuntime) {
+fn header_consumes_its_own_size(rt: HostRuntime) {
     for is_little in [true, false] {
-        for (size, taken) in [(0u8, 104u64), (104, 104), (112, 112)] {
-            let bytes = header(size, is_little);
+        for (size, consumed) in [(0u8, 104u64), (104, 104), (112, 112)] {
+            let bytes = header_bytes(size, is_little);
             let mut cursor = Cursor::new(&bytes[..]);
             cursor.set_position(3);
             let parsed = PerfHeader::parse(&mut cursor).is_ok();
-            same_at(
+            expect_eq_at(
                 &rt,
                 &(size, is_little),
                 &(parsed, cursor.position()),
-                &(true, 3 + taken),
+                &(true, 3 + consumed),
             );
         }
     }

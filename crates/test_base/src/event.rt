@@ -1,41 +1,91 @@
 //! Record headers, user record types and CPU modes.
-use crate::compare::{same, same_at};
+use crate::expect::{expect_eq, expect_eq_at};
 use byteorder::{BigEndian, LittleEndian};
 use perfdata_base::event::{CpuMode, PerfEventHeader, RecordType};
+use perfdata_base::raw::Endianness;
 use std::io::ErrorKind;
 use std::test::Fail;
-use test_support::values::by_kind;
+use test_support::values::to_error_kind;
 
-const HEAD: [u8; 10] = [9, 0, 0, 1, 2, 3, 0x10, 0x20, 0xaa, 0xbb];
+const HEADER: [u8; 10] = [9, 0, 0, 1, 2, 3, 0x10, 0x20, 0xaa, 0xbb];
+
+// The type, the misc and the size of a record header.
+fn header_fields(header: &PerfEventHeader) -> (u32, u16, u16) {
+    (header.type_, header.misc, header.size)
+}
+
+// The fields of `HEADER` in each byte order.
+const FIELDS: [(Endianness, (u32, u16, u16)); 2] = [
+    (Endianness::LittleEndian, (0x0100_0009, 0x0302, 0x2010)),
+    (Endianness::BigEndian, (0x0900_0001, 0x0203, 0x1020)),
+];
 
 #[test]
-fn reads_a_head(rt: HostRuntime) -> Result<(), Fail> {
-    let mut source = &HEAD[..];
-    let head = PerfEventHeader::parse_from::<_, LittleEndian>(&mut source)?;
-    same(
-        &rt,
-        &(head.type_, head.misc, head.size),
-        &(0x0100_0009, 0x0302, 0x2010),
-    );
-    same(&rt, &source, &[0xaa, 0xbb].as_slice());
-    let head = PerfEventHeader::parse::<_, BigEndian>(&HEAD[..])?;
-    same(
-        &rt,
-        &(head.type_, head.misc, head.size),
-        &(0x0900_0001, 0x0203, 0x1020),
-    );
+fn parses_record_header(rt: HostRuntime) -> Result<(), Fail> {
+    let [(_, little_endian), (_, big_endian)] = FIELDS;
+    let mut source = &HEADER[..];
+    let header = PerfEventHeader::parse_from::<_, LittleEndian>(&mut source)?;
+    expect_eq(&rt, &header_fields(&header), &little_endian);
+    expect_eq(&rt, &source, &[0xaa, 0xbb].as_slice());
+    let header = PerfEventHeader::parse::<_, BigEndian>(&HEADER[..])?;
+    expect_eq(&rt, &header_fields(&header), &big_endian);
     Ok(())
 }
 
 #[test]
-fn is_short_below_eight_bytes(rt: HostRuntime) {
-    let parsed = PerfEventHeader::parse::<_, LittleEndian>(&HEAD[..7]);
-    same(&rt, &by_kind(parsed).err(), &Some(ErrorKind::UnexpectedEof));
+fn converts_eight_bytes(rt: HostRuntime) {
+    let [
+        first,
+        second,
+        third,
+        fourth,
+        fifth,
+        sixth,
+        seventh,
+        eighth,
+        _,
+        _,
+    ] = HEADER;
+    let bytes = [first, second, third, fourth, fifth, sixth, seventh, eighth];
+    for (endian, fields) in FIELDS {
+        let header = PerfEventHeader::from_bytes(endian, &bytes);
+        expect_eq(&rt, &header_fields(&header), &fields);
+    }
+}
+
+// The fields of the record header at the start of the bytes.
+fn peeked_fields(endian: Endianness, bytes: &[u8]) -> Option<(u32, u16, u16)> {
+    let header = PerfEventHeader::peek(endian, bytes)?;
+    Some(header_fields(&header))
 }
 
 #[test]
-fn user_types_begin_at_64(rt: HostRuntime) {
-    for (number, user) in [
+fn peeks_at_eight_bytes(rt: HostRuntime) {
+    for (endian, fields) in FIELDS {
+        for (len, wanted) in [
+            (10usize, Some(fields)),
+            (8, Some(fields)),
+            (7, None),
+            (0, None),
+        ] {
+            expect_eq_at(&rt, &len, &peeked_fields(endian, &HEADER[..len]), &wanted);
+        }
+    }
+}
+
+#[test]
+fn truncated_header_is_eof(rt: HostRuntime) {
+    let parsed = PerfEventHeader::parse::<_, LittleEndian>(&HEADER[..7]);
+    expect_eq(
+        &rt,
+        &to_error_kind(parsed).err(),
+        &Some(ErrorKind::UnexpectedEof),
+    );
+}
+
+#[test]
+fn user_types_start_at_64(rt: HostRuntime) {
+    for (number, is_user) in [
         (0, false),
         (9, false),
         (63, false),
@@ -43,18 +93,18 @@ fn user_types_begin_at_64(rt: HostRuntime) {
         (u32::MAX, true),
     ] {
         let record_type = RecordType(number);
-        same_at(
+        expect_eq_at(
             &rt,
             &number,
             &(record_type.is_user_type(), record_type.is_builtin_type()),
-            &(user, !user),
+            &(is_user, !is_user),
         );
     }
-    same(&rt, &RecordType::SAMPLE, &RecordType(9));
+    expect_eq(&rt, &RecordType::SAMPLE, &RecordType(9));
 }
 
 #[test]
-fn modes_are_the_lowest_three_bits(rt: HostRuntime) {
+fn cpu_mode_is_the_low_three_bits(rt: HostRuntime) {
     for (misc, mode) in [
         (0, CpuMode::Unknown),
         (1, CpuMode::Kernel),
@@ -67,6 +117,6 @@ fn modes_are_the_lowest_three_bits(rt: HostRuntime) {
         (8, CpuMode::Unknown),
         (0x8002, CpuMode::User),
     ] {
-        same_at(&rt, &misc, &CpuMode::from_misc(misc), &mode);
+        expect_eq_at(&rt, &misc, &CpuMode::from_misc(misc), &mode);
     }
 }

@@ -1,5 +1,5 @@
 //! Features: their names, and the members of a set.
-use crate::compare::{check, same, same_at};
+use crate::expect::{expect, expect_eq, expect_eq_at};
 use perfdata_base::features::{Feature, FeatureSet};
 use std::alloc::Global;
 use std::test::Fail;
@@ -46,24 +46,24 @@ const NAMES: [(u32, &str); 38] = [
 ];
 
 #[test]
-fn shows_names(rt: HostRuntime) -> Result<(), Fail> {
+fn displays_names(rt: HostRuntime) -> Result<(), Fail> {
     for (number, name) in NAMES {
         let feature = Feature(number);
         let text = format!(in rt.alloc(); "{feature}")?;
         let debug = format!(in rt.alloc(); "{feature:?}")?;
-        same(&rt, &(text.as_str(), debug.as_str()), &(name, name));
+        expect_eq(&rt, &(text.as_str(), debug.as_str()), &(name, name));
     }
     Ok(())
 }
 
 // The length of the set, whether it is empty, and its debug text.
-fn described(alloc: Global, set: &FeatureSet) -> Result<(usize, bool, String), Fail> {
+fn summary(alloc: Global, set: &FeatureSet) -> Result<(usize, bool, String), Fail> {
     let debug = format!(in alloc; "{set:?}")?;
     Ok((set.len(), set.is_empty(), debug))
 }
 
 #[test]
-fn goes_over_members(rt: HostRuntime) -> Result<(), Fail> {
+fn iterates_members(rt: HostRuntime) -> Result<(), Fail> {
     let set = FeatureSet([8, 0, 1, 0]);
     let mut members = set.iter();
     let four = [
@@ -72,7 +72,7 @@ fn goes_over_members(rt: HostRuntime) -> Result<(), Fail> {
         members.next(),
         members.next(),
     ];
-    same(
+    expect_eq(
         &rt,
         &four,
         &[
@@ -82,31 +82,31 @@ fn goes_over_members(rt: HostRuntime) -> Result<(), Fail> {
             None,
         ],
     );
-    let (count, empty, debug) = described(rt.alloc(), &set)?;
-    same(
+    let (count, empty, debug) = summary(rt.alloc(), &set)?;
+    expect_eq(
         &rt,
         &(count, empty, debug.as_str()),
         &(2, false, "{HOSTNAME, SIMPLEPERF_FILE}"),
     );
     let ends = FeatureSet([1, 0, 0, 1 << 63]);
-    check(&rt, ends.iter().eq([Feature(0), Feature(255)]));
-    for (set, feature, held) in [
+    expect(&rt, ends.iter().eq([Feature(0), Feature(255)]));
+    for (set, feature, is_member) in [
         (set, Feature::HOSTNAME, true),
         (set, Feature::OSRELEASE, false),
         (set, Feature(300), false),
         (ends, Feature(256), false),
     ] {
-        same_at(&rt, &feature, &set.has_feature(feature), &held);
+        expect_eq_at(&rt, &feature, &set.has_feature(feature), &is_member);
     }
     Ok(())
 }
 
 #[test]
-fn is_empty_without_a_bit(rt: HostRuntime) -> Result<(), Fail> {
+fn empty_set(rt: HostRuntime) -> Result<(), Fail> {
     let none = FeatureSet([0; 4]);
-    let (count, empty, debug) = described(rt.alloc(), &none)?;
-    same(&rt, &(count, empty, debug.as_str()), &(0, true, "{}"));
-    same(&rt, &none.iter().next(), &None);
-    check(&rt, !FeatureSet([0, 0, 0, 1]).is_empty());
+    let (count, empty, debug) = summary(rt.alloc(), &none)?;
+    expect_eq(&rt, &(count, empty, debug.as_str()), &(0, true, "{}"));
+    expect_eq(&rt, &none.iter().next(), &None);
+    expect(&rt, !FeatureSet([0, 0, 0, 1]).is_empty());
     Ok(())
 }

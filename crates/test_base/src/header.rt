@@ -1,12 +1,12 @@
 //! File headers: their fields in both byte orders, and their errors.
-use crate::compare::{same, same_at};
+use crate::expect::{expect_eq, expect_eq_at};
 use perfdata_base::header::PerfHeader;
 use std::io::{Cursor, ErrorKind};
 use std::test::Fail;
-use test_support::values::by_kind;
+use test_support::values::to_error_kind;
 
 // Each byte is its own index, except the first byte and the bytes of the header's size.
-fn header(first: u8, size: [u8; 8]) -> [u8; 120] {
+fn header_bytes(first: u8, size: [u8; 8]) -> [u8; 120] {
     let mut bytes = [0u8; 120];
     for (index, byte) in bytes.iter_mut().enumerate() {
         *byte = index as u8;
@@ -16,7 +16,7 @@ fn header(first: u8, size: [u8; 8]) -> [u8; 120] {
     bytes
 }
 
-fn numbers(header: &PerfHeader) -> [u64; 12] {
+fn header_fields(header: &PerfHeader) -> [u64; 12] {
     [
         header.header_size,
         header.attr_size,
@@ -35,20 +35,15 @@ fn numbers(header: &PerfHeader) -> [u64; 12] {
 
 #[test]
 fn reads_each_field(rt: HostRuntime) -> Result<(), Fail> {
-    let bytes = header(b'P', [112, 0, 0, 0, 0, 0, 0, 0]);
+    let bytes = header_bytes(b'P', [112, 0, 0, 0, 0, 0, 0, 0]);
     let mut cursor = Cursor::new(&bytes[..]);
     let header = PerfHeader::parse_from(&mut cursor)?;
     let at = cursor.position();
-    same_at(
+    expect_eq_at(&rt, &"bytes after the known ones are skipped", &at, &112);
+    expect_eq(&rt, &header.magic, &[b'P', 1, 2, 3, 4, 5, 6, 7]);
+    expect_eq(
         &rt,
-        &"bytes behind the known ones are passed over",
-        &at,
-        &112,
-    );
-    same(&rt, &header.magic, &[b'P', 1, 2, 3, 4, 5, 6, 7]);
-    same(
-        &rt,
-        &numbers(&header),
+        &header_fields(&header),
         &[
             112,
             0x1716_1514_1312_1110,
@@ -69,12 +64,12 @@ fn reads_each_field(rt: HostRuntime) -> Result<(), Fail> {
 
 #[test]
 fn reads_big_endian(rt: HostRuntime) -> Result<(), Fail> {
-    let bytes = header(b'2', [0, 0, 0, 0, 0, 0, 0, 64]);
+    let bytes = header_bytes(b'2', [0, 0, 0, 0, 0, 0, 0, 64]);
     let mut cursor = Cursor::new(&bytes[..]);
     let header = PerfHeader::parse_from(&mut cursor)?;
     let at = cursor.position();
-    same_at(&rt, &"a smaller size changes nothing", &at, &104);
-    same(
+    expect_eq_at(&rt, &"a smaller size changes nothing", &at, &104);
+    expect_eq(
         &rt,
         &(
             header.header_size,
@@ -84,12 +79,12 @@ fn reads_big_endian(rt: HostRuntime) -> Result<(), Fail> {
         &(64, 0x1011_1213_1415_1617, 0x1819_1a1b_1c1d_1e1f),
     );
     let header = PerfHeader::parse(Cursor::new(&bytes[..]))?;
-    same(&rt, &header.features.0[3], &0x6061_6263_6465_6667);
+    expect_eq(&rt, &header.features.0[3], &0x6061_6263_6465_6667);
     Ok(())
 }
 
 #[test]
-fn refuses_missing_bytes_and_far_ends(rt: HostRuntime) {
+fn truncation_and_overflow_fail(rt: HostRuntime) {
     let far = [255u8; 8];
     let first_far = [104, 0, 0, 0, 0, 0, 0, 128];
     let last_near = [103, 0, 0, 0, 0, 0, 0, 128];
@@ -99,8 +94,8 @@ fn refuses_missing_bytes_and_far_ends(rt: HostRuntime) {
         (first_far, 104, Some(ErrorKind::InvalidInput)),
         (last_near, 120, None),
     ] {
-        let bytes = header(b'P', size);
+        let bytes = header_bytes(b'P', size);
         let parsed = PerfHeader::parse(Cursor::new(&bytes[..count]));
-        same_at(&rt, &(size, count), &by_kind(parsed).err(), &kind);
+        expect_eq_at(&rt, &(size, count), &to_error_kind(parsed).err(), &kind);
     }
 }

@@ -1,14 +1,14 @@
 //! The id cache, with ids that share a slot.
-use crate::compare::{same, same_at};
+use crate::expect::{expect_eq, expect_eq_at};
 use perfdata_base::place::IdCache;
 
 // Of two ids with the same slot the later one remains. An empty slot has no value for any id.
 #[test]
-fn keeps_the_last_of_a_slot(rt: HostRuntime) {
+fn slot_keeps_the_last_id(rt: HostRuntime) {
     let mut cache = IdCache::new();
-    same(&rt, &cache.get(0), &None);
+    expect_eq(&rt, &cache.get(0), &None);
     cache.put(1, 0);
-    same(&rt, &cache.get(1), &Some(0));
+    expect_eq(&rt, &cache.get(1), &Some(0));
     cache.put(65, 1);
     cache.put(u64::MAX, 3);
     for (id, index) in [
@@ -19,10 +19,10 @@ fn keeps_the_last_of_a_slot(rt: HostRuntime) {
         (63, None),
         (u64::MAX, Some(3)),
     ] {
-        same_at(&rt, &id, &cache.get(id), &index);
+        expect_eq_at(&rt, &id, &cache.get(id), &index);
     }
     cache.clear();
     for id in [0, 65, u64::MAX] {
-        same_at(&rt, &id, &cache.get(id), &None);
+        expect_eq_at(&rt, &id, &cache.get(id), &None);
     }
 }

@@ -4,13 +4,13 @@
 #[cfg(test)]
 mod attr;
 #[cfg(test)]
-mod compare;
-#[cfg(test)]
 mod consumed_bytes;
 #[cfg(test)]
 mod counted_buffer;
 #[cfg(test)]
 mod event;
+#[cfg(test)]
+mod expect;
 #[cfg(test)]
 mod features;
 #[cfg(test)]

@@ -1,17 +1,17 @@
 //! Pipe headers: complete, followed by other bytes, and truncated.
-use crate::compare::same;
+use crate::expect::expect_eq;
 use perfdata_base::header::PerfPipeHeader;
 use std::io::ErrorKind;
 use std::test::Fail;
-use test_support::values::by_kind;
+use test_support::values::to_error_kind;
 
 #[test]
-fn reads_pipe_headers(rt: HostRuntime) -> Result<(), Fail> {
+fn parses_pipe_headers(rt: HostRuntime) -> Result<(), Fail> {
     let little = *b"PERFILE2\x14\0\0\0\0\0\0\0abcdef";
     let big = *b"2ELIFREP\0\0\0\0\0\0\0\x10abcdef";
     let small = *b"PERFILE2\x08\0\0\0\0\0\0\0abcdef";
     let far = *b"PERFILE2\xff\xff\xff\xff\xff\xff\xff\xffabcdef";
-    for (bytes, first, size, left) in [
+    for (bytes, first, size, remaining) in [
         (little, b'P', 20u64, 2usize),
         (big, b'2', 16, 6),
         (small, b'P', 8, 6),
@@ -19,19 +19,19 @@ fn reads_pipe_headers(rt: HostRuntime) -> Result<(), Fail> {
     ] {
         let mut source = &bytes[..];
         let (_, whole) = PerfPipeHeader::parse_with_extra(&mut source)?;
-        same(&rt, &(whole, source.len()), &(left > 0, left));
+        expect_eq(&rt, &(whole, source.len()), &(remaining > 0, remaining));
         let mut source = &bytes[..];
         let header = PerfPipeHeader::parse_from(&mut source)?;
-        same(
+        expect_eq(
             &rt,
             &(header.size, header.magic[0], source.len()),
-            &(size, first, left),
+            &(size, first, remaining),
         );
     }
-    let cut = b"PERFILE2\x10\0\0\0\0\0\0".as_slice();
-    same(
+    let truncated = b"PERFILE2\x10\0\0\0\0\0\0".as_slice();
+    expect_eq(
         &rt,
-        &by_kind(PerfPipeHeader::parse(cut)).err(),
+        &to_error_kind(PerfPipeHeader::parse(truncated)).err(),
         &Some(ErrorKind::UnexpectedEof),
     );
     Ok(())

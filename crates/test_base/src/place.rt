@@ -1,6 +1,6 @@
 //! The parse info of a sample format, and the timestamps and ids that are read with it.
 use super::raw::split;
-use crate::compare::{same, same_at};
+use crate::expect::{expect_eq, expect_eq_at};
 use byteorder::{BigEndian, LittleEndian};
 use perfdata_base::attr::{AttrFlags, PerfEventAttr, SampleFormat};
 use perfdata_base::event::RecordType;
@@ -10,7 +10,7 @@ use perfdata_base::place::{
 use perfdata_base::raw::{Endianness, RawData};
 
 // The parse info of an attribute with this format and these flags.
-fn places(sample_format: u64, flags: u64) -> RecordParseInfo {
+fn parse_info(sample_format: u64, flags: u64) -> RecordParseInfo {
     let attr = PerfEventAttr {
         type_: 0,
         size: 64,
@@ -40,7 +40,7 @@ fn places(sample_format: u64, flags: u64) -> RecordParseInfo {
 // Formats and flags, with the offsets of the id and of the time: in a sample from the start of the body, and in another record
 // from its end.
 #[test]
-fn places_follow_the_format(rt: HostRuntime) {
+fn offsets_follow_the_sample_format(rt: HostRuntime) {
     for (format, flags, id, time) in [
         (4, 0, (None, None), (Some(0), None)),
         (0x10006, 0x40000, (Some(0), Some(8)), (Some(16), Some(16))),
@@ -51,9 +51,9 @@ fn places_follow_the_format(rt: HostRuntime) {
         (0x2c8, 0x40000, (Some(8), Some(24)), (None, None)),
         (0, 0x40000, (None, None), (None, None)),
     ] {
-        let info = places(format, flags);
+        let info = parse_info(format, flags);
         let found = info.id_parse_info;
-        same_at(
+        expect_eq_at(
             &rt,
             &format,
             &[
@@ -66,39 +66,39 @@ fn places_follow_the_format(rt: HostRuntime) {
 }
 
 // The time of a record as each function returns it, and its id.
-fn told(
+fn field_values(
     info: &RecordParseInfo,
     record_type: RecordType,
     body: &[u8],
 ) -> ([Option<u64>; 3], [Option<u64>; 5]) {
     let single = RawData::Single(body);
-    let pieces = split(body, 5);
+    let parts = split(body, 5);
     let id = &info.id_parse_info;
     (
         [
             info.time_of(record_type, body),
             get_record_timestamp::<LittleEndian>(record_type, single, info),
-            get_record_timestamp::<LittleEndian>(record_type, pieces, info),
+            get_record_timestamp::<LittleEndian>(record_type, parts, info),
         ],
         [
             id.identifier_of(Endianness::LittleEndian, record_type, body),
             get_record_id::<LittleEndian>(record_type, single, id),
-            get_record_id::<LittleEndian>(record_type, pieces, id),
+            get_record_id::<LittleEndian>(record_type, parts, id),
             get_record_identifier::<LittleEndian>(record_type, single, true),
-            get_record_identifier::<LittleEndian>(record_type, pieces, true),
+            get_record_identifier::<LittleEndian>(record_type, parts, true),
         ],
     )
 }
 
 // Three u64 fields: TID, TIME and IDENTIFIER, or in a sample IDENTIFIER, TID and TIME.
 #[test]
-fn numbers_stand_at_their_places(rt: HostRuntime) {
+fn fields_are_at_their_offsets(rt: HostRuntime) {
     let mut body = [0u8; 24];
     body[0] = 7;
     body[8] = 33;
     body[16] = 9;
-    let info = places(0x10006, 0x40000);
-    for (kind, len, time, id) in [
+    let info = parse_info(0x10006, 0x40000);
+    for (record_type, len, time, id) in [
         (3, 24, Some(33), Some(9)),
         (3, 15, None, Some(33 << 8)),
         (3, 7, None, None),
@@ -106,22 +106,22 @@ fn numbers_stand_at_their_places(rt: HostRuntime) {
         (9, 23, None, Some(7)),
         (64, 24, None, None),
     ] {
-        same_at(
+        expect_eq_at(
             &rt,
-            &(kind, len),
-            &told(&info, RecordType(kind), &body[..len]),
+            &(record_type, len),
+            &field_values(&info, RecordType(record_type), &body[..len]),
             &([time; 3], [id; 5]),
         );
     }
 }
 
 #[test]
-fn the_order_is_the_type_parameter(rt: HostRuntime) {
+fn endian_is_the_type_parameter(rt: HostRuntime) {
     let body = [0, 0, 0, 0, 0, 0, 1, 2];
     let raw = RawData::Single(&body);
-    let info = places(4, 0x40000);
+    let info = parse_info(4, 0x40000);
     let sample = RecordType::SAMPLE;
-    same(
+    expect_eq(
         &rt,
         &[
             get_record_timestamp::<BigEndian>(sample, raw, &info),

@@ -1,18 +1,18 @@
 //! The scripted source.
-use crate::compare::{same, same_at};
-use crate::source::reads;
+use crate::expect::{expect_eq, expect_eq_at};
+use crate::source::read_once;
 use perfdata_base::source::{PlacedSource, Script, Step};
 use std::io::{ErrorKind, SeekFrom};
 use std::test::Fail;
 
 // Reads once into a buffer of five bytes, and returns the number of bytes and the buffer.
-fn five(source: &mut Script) -> (Option<usize>, [u8; 5]) {
-    let mut place = [0u8; 5];
-    (reads(source, &mut place), place)
+fn read_five(source: &mut Script) -> (Option<usize>, [u8; 5]) {
+    let mut buf = [0u8; 5];
+    (read_once(source, &mut buf), buf)
 }
 
 #[test]
-fn follows_its_steps(rt: HostRuntime) -> Result<(), Fail> {
+fn follows_steps(rt: HostRuntime) -> Result<(), Fail> {
     // ten bytes, of which four are available at first; the second seek fails
     let steps = [
         Step::Give(1),
@@ -22,9 +22,9 @@ fn follows_its_steps(rt: HostRuntime) -> Result<(), Fail> {
         Step::Give(9),
     ];
     let steps = Vec::from_array(rt.alloc(), steps)?;
-    let seek_faults = Vec::from_array(rt.alloc(), [1])?;
+    let seek_errors = Vec::from_array(rt.alloc(), [1])?;
     let bytes = b"0123456789".to_vec(rt.alloc())?;
-    let mut source = Script::new(bytes, 4, steps, seek_faults);
+    let mut source = Script::new(bytes, 4, steps, seek_errors);
     for read in [
         (Some(1), *b"0\0\0\0\0"),
         (Some(0), [0; 5]),
@@ -32,15 +32,15 @@ fn follows_its_steps(rt: HostRuntime) -> Result<(), Fail> {
         (Some(5), *b"12345"),
         (Some(1), *b"6\0\0\0\0"),
     ] {
-        same(&rt, &five(&mut source), &read);
+        expect_eq(&rt, &read_five(&mut source), &read);
     }
     for (to, at) in [
         (SeekFrom::End(0), Some(7)),
         (SeekFrom::Start(0), None),
         (SeekFrom::Start(2), Some(2)),
     ] {
-        same_at(&rt, &to, &source.seek_to(to).ok(), &at);
+        expect_eq_at(&rt, &to, &source.seek_to(to).ok(), &at);
     }
-    same(&rt, &five(&mut source), &(Some(5), *b"23456"));
+    expect_eq(&rt, &read_five(&mut source), &(Some(5), *b"23456"));
     Ok(())
 }

@@ -2,14 +2,14 @@
 #![tactic(auto)]
 
 #[cfg(test)]
-mod answers;
-#[cfg(test)]
-mod compare;
-#[cfg(test)]
 mod empty_reads;
+#[cfg(test)]
+mod expect;
+#[cfg(test)]
+mod read_errors;
+#[cfg(test)]
+mod results;
 #[cfg(test)]
 mod seek_errors;
 #[cfg(test)]
-mod source_errors;
-#[cfg(test)]
-mod truncated;
+mod truncation;

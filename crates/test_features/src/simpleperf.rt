@@ -1,6 +1,6 @@
 //! Symbol tables and meta info of simpleperf.
-use crate::compare::{check, same};
-use crate::features::little;
+use crate::expect::{expect, expect_eq};
+use crate::features::open_with_section;
 use linux_perf_data::{Feature, PerfFileReader};
 use std::io::Cursor;
 use std::test::Fail;
@@ -12,12 +12,12 @@ fn symbol_tables_of_either_section(rt: HostRuntime) -> Result<(), Fail> {
         (Feature::SIMPLEPERF_FILE2, SYMBOLS_FILE2.as_slice(), 128),
         (Feature::SIMPLEPERF_FILE, SYMBOLS_FILE.as_slice(), 16),
     ] {
-        let file = little(rt.alloc(), feature, content)?;
+        let file = open_with_section(rt.alloc(), feature, content)?;
         let tables = file.simpleperf_symbol_tables(rt.alloc())?;
-        check(&rt, matches!(&tables, Some(records) if records.len() == 1));
+        expect(&rt, matches!(&tables, Some(records) if records.len() == 1));
         for records in &tables {
             for record in records {
-                same(
+                expect_eq(
                     &rt,
                     &(record.path.as_str(), record.min_vaddr),
                     &("a", address),
@@ -25,9 +25,9 @@ fn symbol_tables_of_either_section(rt: HostRuntime) -> Result<(), Fail> {
             }
         }
     }
-    let file = little(rt.alloc(), Feature::ARCH, &[0; 4])?;
-    check(&rt, file.simpleperf_symbol_tables(rt.alloc())?.is_none());
-    check(&rt, file.simpleperf_meta_info(rt.alloc())?.is_none());
+    let file = open_with_section(rt.alloc(), Feature::ARCH, &[0; 4])?;
+    expect(&rt, file.simpleperf_symbol_tables(rt.alloc())?.is_none());
+    expect(&rt, file.simpleperf_meta_info(rt.alloc())?.is_none());
     Ok(())
 }
 
@@ -36,13 +36,13 @@ fn meta_info_of_a_file(rt: HostRuntime) -> Result<(), Fail> {
     let image = simpleperf_file(rt.alloc(), 80, META_INFO)?;
     let reader = PerfFileReader::parse_file(rt.alloc(), Cursor::new(image.bytes.as_slice()))?;
     let attributes = reader.perf_file.event_attributes();
-    same(&rt, &attributes.len(), &1);
-    same(&rt, &attributes[0].name(), &Some("cpu-clock"));
-    same(&rt, &attributes[0].ids(), &[5].as_slice());
+    expect_eq(&rt, &attributes.len(), &1);
+    expect_eq(&rt, &attributes[0].name(), &Some("cpu-clock"));
+    expect_eq(&rt, &attributes[0].ids(), &[5].as_slice());
     let meta_info = reader.perf_file.simpleperf_meta_info(rt.alloc())?;
-    check(&rt, matches!(&meta_info, Some(pairs) if pairs.len() == 1));
+    expect(&rt, matches!(&meta_info, Some(pairs) if pairs.len() == 1));
     for pairs in &meta_info {
-        same(
+        expect_eq(
             &rt,
             &pairs.get("event_type_info").copied(),
             &Some("cpu-clock,1,0"),

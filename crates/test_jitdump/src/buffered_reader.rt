@@ -1,5 +1,5 @@
 //! The buffered reader: parts that cross the end of the buffer, and skipped bytes.
-use crate::compare::{check_at, same, same_at};
+use crate::expect::{expect_at, expect_eq, expect_eq_at};
 use perfdata_base::raw::RawData;
 use perfdata_jit::{BufferedReader, ReadExactOrUntilEof};
 use std::io::Cursor;
@@ -8,13 +8,13 @@ use std::test::Fail;
 const BYTES: &[u8] = b"123456789";
 
 #[test]
-fn a_part_runs_over_the_end(rt: HostRuntime) -> Result<(), Fail> {
+fn part_spans_the_buffer_end(rt: HostRuntime) -> Result<(), Fail> {
     // a buffer of six bytes: two are filled, and one of these is consumed
     let mut source = Cursor::new(BYTES);
     let mut buffer = Vec::new(rt.alloc());
     buffer.resize(6, 0)?;
-    let came = source.read_exact_or_until_eof(&mut buffer[..2])?;
-    same(&rt, &came, &2);
+    let read_count = source.read_exact_or_until_eof(&mut buffer[..2])?;
+    expect_eq(&rt, &read_count, &2);
     let mut reader = BufferedReader::new_with_partially_read_buffer(
         rt.alloc(),
         source,
@@ -33,13 +33,13 @@ fn a_part_runs_over_the_end(rt: HostRuntime) -> Result<(), Fail> {
             (None, None) => true,
             _ => false,
         };
-        check_at(&rt, &count, is_part);
+        expect_at(&rt, &count, is_part);
     }
     Ok(())
 }
 
 #[test]
-fn passes_over_bytes(rt: HostRuntime) -> Result<(), Fail> {
+fn skips_bytes(rt: HostRuntime) -> Result<(), Fail> {
     // a buffer of four bytes: none is filled
     let mut buffer = Vec::new(rt.alloc());
     buffer.resize(4, 0)?;
@@ -52,7 +52,7 @@ fn passes_over_bytes(rt: HostRuntime) -> Result<(), Fail> {
         0,
     );
     for (count, skipped) in [(7, true), (3, false), (2, true), (1, false)] {
-        same_at(&rt, &count, &reader.skip_bytes(count)?, &skipped);
+        expect_eq_at(&rt, &count, &reader.skip_bytes(count)?, &skipped);
     }
     Ok(())
 }

@@ -1,12 +1,12 @@
 //! The messages of errors.
-use crate::compare::same;
+use crate::expect::expect_eq;
 use perfdata_jit::JitDumpError;
 use std::io::{Error, ErrorKind};
 use std::test::Fail;
 
 #[test]
-fn shows_why(rt: HostRuntime) -> Result<(), Fail> {
-    let short = Error::from(ErrorKind::UnexpectedEof);
+fn displays_messages(rt: HostRuntime) -> Result<(), Fail> {
+    let eof = Error::from(ErrorKind::UnexpectedEof);
     for (error, text) in [
         (
             JitDumpError::NotEnoughBytesForHeader,
@@ -29,12 +29,12 @@ fn shows_why(rt: HostRuntime) -> Result<(), Fail> {
             "The jitdump file has an unrecognized version: 2",
         ),
         (
-            JitDumpError::from(short),
+            JitDumpError::from(eof),
             "Failed to read from the jitdump file: unexpected end of file",
         ),
     ] {
         let shown = format!(in rt.alloc(); "{error}")?;
-        same(&rt, &shown.as_str(), &text);
+        expect_eq(&rt, &shown.as_str(), &text);
     }
     Ok(())
 }

@@ -1,21 +1,22 @@
 //! Jitdump headers: whatever the split, and which error has priority.
-use crate::compare::{same, same_at};
+use crate::expect::{expect_eq, expect_eq_at};
 use byteorder::LittleEndian;
-use perfdata_base::raw::RawData;
+use perfdata_base::raw::{Endianness, RawData};
 use perfdata_jit::{JitDumpError, JitDumpHeader};
 use std::io::ErrorKind;
+use std::test::Fail;
 use test_support::recordings::JITDUMP;
 
 // Version 1 and 40 bytes. All other numbers differ.
-const BIG: [u8; 40] = [
+const BIG_ENDIAN: [u8; 40] = [
     0x4a, 0x69, 0x54, 0x44, 0, 0, 0, 1, 0, 0, 0, 40, 0, 0, 0, 2, 0, 0, 0, 3, 0, 0, 0, 4, 0, 0, 0,
     0, 0, 0, 0, 5, 0, 0, 0, 0, 0, 0, 0, 6,
 ];
 
 // The magic, the version and the size, the machine and the pid, the time and the flags.
-type Fields = ([u8; 4], (u32, u32), (u32, u32), (u64, u64));
+type HeaderFields = ([u8; 4], (u32, u32), (u32, u32), (u64, u64));
 
-fn fields_of(header: &JitDumpHeader) -> Fields {
+fn header_fields(header: &JitDumpHeader) -> HeaderFields {
     (
         header.magic,
         (header.version, header.total_size),
@@ -32,9 +33,9 @@ enum HeaderError {
     Other,
 }
 
-fn parse(bytes: RawData<'_>) -> Result<Fields, HeaderError> {
+fn parse(bytes: RawData<'_>) -> Result<HeaderFields, HeaderError> {
     match JitDumpHeader::parse(bytes) {
-        Ok(header) => Ok(fields_of(&header)),
+        Ok(header) => Ok(header_fields(&header)),
         Err(JitDumpError::NotEnoughBytesForHeader) => Err(HeaderError::NotEnoughBytes),
         Err(JitDumpError::InvalidHeaderSize(size)) => Err(HeaderError::Size(size)),
         Err(JitDumpError::InvalidMagicBytes(magic)) => Err(HeaderError::Magic(magic)),
@@ -43,40 +44,40 @@ fn parse(bytes: RawData<'_>) -> Result<Fields, HeaderError> {
 }
 
 // Parses the first `count` bytes of the file with one byte changed.
-fn changed(at: usize, byte: u8, count: usize) -> Result<Fields, HeaderError> {
+fn parse_with_byte(at: usize, byte: u8, count: usize) -> Result<HeaderFields, HeaderError> {
     let mut bytes = JITDUMP;
     if let Some(slot) = bytes.get_mut(at) {
         *slot = byte;
     }
     match bytes.get(..count) {
-        Some(front) => parse(RawData::Single(front)),
+        Some(prefix) => parse(RawData::Single(prefix)),
         None => Err(HeaderError::Other),
     }
 }
 
 // Parses a header after its magic, and returns its size and time.
-fn after_magic(after: &[u8]) -> Result<(u32, u64), ErrorKind> {
+fn parse_rest(rest: &[u8]) -> Result<(u32, u64), ErrorKind> {
     let magic = [0x44, 0x54, 0x69, 0x4a];
-    match JitDumpHeader::parse_after_magic::<LittleEndian>(magic, RawData::Single(after)) {
+    match JitDumpHeader::parse_after_magic::<LittleEndian>(magic, RawData::Single(rest)) {
         Ok(header) => Ok((header.total_size, header.timestamp)),
         Err(error) => Err(error.kind()),
     }
 }
 
 #[test]
-fn reads_each_field_wherever_it_is_split(rt: HostRuntime) {
+fn parses_fields_at_every_split(rt: HostRuntime) {
     let wanted = ([0x44, 0x54, 0x69, 0x4a], (1, 40), (62, 7), (5, 0));
     for at in 0..41usize {
-        let (front, back) = JITDUMP[..40].split_at(at);
-        let got = parse(RawData::Split(front, back));
-        same_at(&rt, &at, &got, &Ok(wanted));
+        let (prefix, rest) = JITDUMP[..40].split_at(at);
+        let got = parse(RawData::Split(prefix, rest));
+        expect_eq_at(&rt, &at, &got, &Ok(wanted));
     }
     let wanted = ([0x4a, 0x69, 0x54, 0x44], (1, 40), (2, 4), (5, 6));
-    same(&rt, &parse(RawData::Single(&BIG)), &Ok(wanted));
+    expect_eq(&rt, &parse(RawData::Single(&BIG_ENDIAN)), &Ok(wanted));
 }
 
 #[test]
-fn the_first_error_counts(rt: HostRuntime) {
+fn first_error_wins(rt: HostRuntime) {
     for (at, byte, count, error) in [
         (4usize, 1u8, 3usize, HeaderError::NotEnoughBytes),
         (4, 1, 4, HeaderError::NotEnoughBytes),
@@ -87,13 +88,13 @@ fn the_first_error_counts(rt: HostRuntime) {
         (8, 3, 40, HeaderError::Size(3)),
         (8, 39, 40, HeaderError::Size(39)),
     ] {
-        let got = changed(at, byte, count);
-        same_at(&rt, &(byte, at, count), &got, &Err(error));
+        let got = parse_with_byte(at, byte, count);
+        expect_eq_at(&rt, &(byte, at, count), &got, &Err(error));
     }
     let wanted = ([0x44, 0x54, 0x69, 0x4a], (9, 40), (62, 7), (5, 0));
-    same(&rt, &changed(4, 9, 40), &Ok(wanted));
+    expect_eq(&rt, &parse_with_byte(4, 9, 40), &Ok(wanted));
     let elf = [0x7f, 0x45, 0x4c, 0x46];
-    same(
+    expect_eq(
         &rt,
         &parse(RawData::Single(&elf)),
         &Err(HeaderError::Magic(elf)),
@@ -101,13 +102,25 @@ fn the_first_error_counts(rt: HostRuntime) {
 }
 
 #[test]
-fn reads_small_headers_after_the_magic(rt: HostRuntime) {
+fn small_header_after_the_magic(rt: HostRuntime) {
     let mut bytes = JITDUMP;
     bytes[8] = 39;
-    same(&rt, &after_magic(&bytes[4..40]), &Ok((39, 5)));
-    same(
+    expect_eq(&rt, &parse_rest(&bytes[4..40]), &Ok((39, 5)));
+    expect_eq(
         &rt,
-        &after_magic(&bytes[4..39]),
+        &parse_rest(&bytes[4..39]),
         &Err(ErrorKind::UnexpectedEof),
     );
+}
+
+#[test]
+fn endian_by_the_magic(rt: HostRuntime) -> Result<(), Fail> {
+    for (bytes, endian) in [
+        (&JITDUMP[..40], Endianness::LittleEndian),
+        (&BIG_ENDIAN, Endianness::BigEndian),
+    ] {
+        let header = JitDumpHeader::parse(RawData::Single(bytes))?;
+        expect_eq(&rt, &header.endian(), &endian);
+    }
+    Ok(())
 }

@@ -1,6 +1,6 @@
 //! The jitdump reader, over sources that grow in small steps, pause and fail.
-use crate::code_size::code_size;
-use crate::compare::{check, same, same_at};
+use crate::expect::{expect, expect_eq, expect_eq_at};
+use example_jit_code_size::code_size;
 use perfdata_base::raw::RawData;
 use perfdata_base::source::{Script, Source, Step};
 use perfdata_jit::{
@@ -10,68 +10,53 @@ use std::alloc::Global;
 use std::io::{Cursor, ErrorKind, Result as IoResult};
 use std::test::Fail;
 use test_support::recordings::JITDUMP;
-use test_support::values::by_kind;
+use test_support::sources::bytes_then;
+use test_support::values::to_error_kind;
 
 // The result of a call for the next record.
 #[derive(Clone, Copy, Debug, PartialEq, Eq)]
-pub enum Answer {
+pub enum CallResult {
     // A record's offset, time, type and size, and whether its body is that of the file's record.
     Record((u64, u64, u32, u32), bool),
-    Nothing,
-    Error(ErrorKind),
+    NotReady,
+    Failure(ErrorKind),
 }
 
-pub const LOAD: Answer = Answer::Record((40, 9, 0, 62), true);
+pub const LOAD: CallResult = CallResult::Record((40, 9, 0, 62), true);
 
-fn answer_of(next: IoResult<Option<JitDumpRawRecord<'_>>>) -> Answer {
-    match next {
-        Ok(Some(r)) => Answer::Record(
+fn call_result(returned: IoResult<Option<JitDumpRawRecord<'_>>>) -> CallResult {
+    match returned {
+        Ok(Some(r)) => CallResult::Record(
             (r.start_offset, r.timestamp, r.record_type.0, r.record_size),
             r.body == RawData::Single(&JITDUMP[56..102]),
         ),
-        Ok(None) => Answer::Nothing,
-        Err(error) => Answer::Error(error.kind()),
+        Ok(None) => CallResult::NotReady,
+        Err(error) => CallResult::Failure(error.kind()),
     }
 }
 
 // The result of a call for the next record, and the offset of the next record after it.
-pub fn next<R: Source>(reader: &mut JitDumpReader<R>) -> (Answer, u64) {
-    let answer = answer_of(reader.next_record());
-    (answer, reader.next_record_offset())
+pub fn next_result<R: Source>(reader: &mut JitDumpReader<R>) -> (CallResult, u64) {
+    let result = call_result(reader.next_record());
+    (result, reader.next_record_offset())
 }
 
 // The type and the size of the next record.
 fn type_and_size<R: Source>(reader: &mut JitDumpReader<R>) -> Option<(u32, u32)> {
-    let kind = match reader.next_record_type() {
-        Ok(Some(kind)) => kind.0,
+    let record_type = match reader.next_record_type() {
+        Ok(Some(record_type)) => record_type.0,
         _ => return None,
     };
     match reader.next_record_header() {
-        Ok(Some(head)) => Some((kind, head.total_size)),
+        Ok(Some(header)) => Some((record_type, header.total_size)),
         _ => None,
     }
 }
 
-// Appends `count` times the same step.
-fn push_steps(steps: &mut Vec<Step>, count: usize, step: Step) -> Result<(), Fail> {
-    for _ in 0..count {
-        steps.push(step)?;
-    }
-    Ok(())
-}
-
-// `count` reads of one byte each, and then this step.
-fn bytes_then(alloc: Global, count: usize, step: Step) -> Result<Vec<Step>, Fail> {
-    let mut steps = Vec::new(alloc);
-    push_steps(&mut steps, count, Step::Give(1))?;
-    steps.push(step)?;
-    Ok(steps)
-}
-
-// A source of the first 102 bytes of the file with these steps. At first `shown` bytes are available.
-fn script(alloc: Global, shown: usize, steps: Vec<Step>) -> Result<Script, Fail> {
+// A source of the first 102 bytes of the file with these steps. At first `available` bytes are available.
+fn script_of_file(alloc: Global, available: usize, steps: Vec<Step>) -> Result<Script, Fail> {
     let bytes = JITDUMP[..102].to_vec(alloc)?;
-    Ok(Script::new(bytes, shown, steps, Vec::new(alloc)))
+    Ok(Script::new(bytes, available, steps, Vec::new(alloc)))
 }
 
 // The jitdump header, a record header that declares this size, and then these bytes.
@@ -84,7 +69,7 @@ pub fn header_of_size(alloc: Global, size: u32, after: &[u8]) -> Result<Vec<u8>,
     Ok(bytes)
 }
 
-fn opened<R: Source + Drop>(
+fn open_reader<R: Source + Drop>(
     alloc: Global,
     source: R,
     size: usize,
@@ -93,54 +78,54 @@ fn opened<R: Source + Drop>(
 }
 
 // The first `count` results of a reader with a buffer of this size.
-fn answers<R: Source + Drop>(
+fn results<R: Source + Drop>(
     alloc: Global,
     source: R,
     size: usize,
     count: usize,
-) -> Result<Vec<(Answer, u64)>, Fail> {
-    let mut reader = opened(alloc, source, size)?;
-    let mut answers = Vec::new(alloc);
+) -> Result<Vec<(CallResult, u64)>, Fail> {
+    let mut reader = open_reader(alloc, source, size)?;
+    let mut results = Vec::new(alloc);
     for _ in 0..count {
-        answers.push(next(&mut reader))?;
+        results.push(next_result(&mut reader))?;
     }
-    Ok(answers)
+    Ok(results)
 }
 
 // The file, of which `at` bytes are available at first and which grows by one byte at a time.
-fn growing(alloc: Global, at: usize, stops_again: bool) -> Result<Script, Fail> {
+fn growing_source(alloc: Global, at: usize, is_paused_again: bool) -> Result<Script, Fail> {
     let mut steps = bytes_then(alloc, at, Step::Pause)?;
     for _ in at..102 {
         steps.push(Step::Grow(1))?;
         steps.push(Step::Give(1))?;
-        if stops_again {
+        if is_paused_again {
             steps.push(Step::Pause)?;
         }
     }
-    script(alloc, at, steps)
+    script_of_file(alloc, at, steps)
 }
 
 #[test]
-fn loses_nothing_where_the_file_grows_by_a_byte(rt: HostRuntime) -> Result<(), Fail> {
+fn loses_nothing_when_the_file_grows_by_bytes(rt: HostRuntime) -> Result<(), Fail> {
     for at in 40..102usize {
-        for (stops_again, waits) in [(false, 1), (true, 102 - at)] {
-            let source = growing(rt.alloc(), at, stops_again)?;
+        for (is_paused_again, pauses) in [(false, 1), (true, 102 - at)] {
+            let source = growing_source(rt.alloc(), at, is_paused_again)?;
             let mut wanted = Vec::new(rt.alloc());
-            for _ in 0..waits {
-                wanted.push((Answer::Nothing, 40))?;
+            for _ in 0..pauses {
+                wanted.push((CallResult::NotReady, 40))?;
             }
             wanted.push((LOAD, 102))?;
-            let came = answers(rt.alloc(), source, 40, wanted.len())?;
-            same_at(&rt, &at, &came.as_slice(), &wanted.as_slice());
+            let actual = results(rt.alloc(), source, 40, wanted.len())?;
+            expect_eq_at(&rt, &at, &actual.as_slice(), &wanted.as_slice());
         }
     }
     Ok(())
 }
 
 // The kind of error that the opening returns if this error occurs after `at` bytes.
-fn error_of_opening(alloc: Global, at: usize, kind: ErrorKind) -> Result<Option<ErrorKind>, Fail> {
+fn open_error(alloc: Global, at: usize, kind: ErrorKind) -> Result<Option<ErrorKind>, Fail> {
     let steps = bytes_then(alloc, at, Step::Fault(kind))?;
-    let source = script(alloc, 102, steps)?;
+    let source = script_of_file(alloc, 102, steps)?;
     match JitDumpReader::new_with_buffer_size(alloc, source, 40) {
         Err(JitDumpError::Io(error)) => Ok(Some(error.kind())),
         _ => Ok(None),
@@ -148,44 +133,44 @@ fn error_of_opening(alloc: Global, at: usize, kind: ErrorKind) -> Result<Option<
 }
 
 #[test]
-fn an_opening_returns_an_error_at_once(rt: HostRuntime) -> Result<(), Fail> {
+fn open_returns_an_error_at_once(rt: HostRuntime) -> Result<(), Fail> {
     for at in 0..40usize {
         for kind in [ErrorKind::Interrupted, ErrorKind::TimedOut] {
-            let error = error_of_opening(rt.alloc(), at, kind)?;
-            same_at(&rt, &at, &error, &Some(kind));
+            let error = open_error(rt.alloc(), at, kind)?;
+            expect_eq_at(&rt, &at, &error, &Some(kind));
         }
     }
     Ok(())
 }
 
 // The first result for these bytes. If the opening fails, whether they are too few for a header.
-fn first_answer(alloc: Global, bytes: &[u8]) -> Result<(Answer, u64), bool> {
+fn first_result(alloc: Global, bytes: &[u8]) -> Result<(CallResult, u64), bool> {
     match JitDumpReader::new_with_buffer_size(alloc, bytes, 40) {
-        Ok(mut reader) => Ok(next(&mut reader)),
+        Ok(mut reader) => Ok(next_result(&mut reader)),
         Err(JitDumpError::NotEnoughBytesForHeader) => Err(true),
         Err(_) => Err(false),
     }
 }
 
 #[test]
-fn a_truncated_file_waits(rt: HostRuntime) {
+fn truncated_file_is_not_ready(rt: HostRuntime) {
     for cut in 0..102usize {
         let wanted = if cut < 40 {
             Err(true)
         } else {
-            Ok((Answer::Nothing, 40))
+            Ok((CallResult::NotReady, 40))
         };
-        same_at(
+        expect_eq_at(
             &rt,
             &cut,
-            &first_answer(rt.alloc(), &JITDUMP[..cut]),
+            &first_result(rt.alloc(), &JITDUMP[..cut]),
             &wanted,
         );
     }
 }
 
 // The offset of the code in a load record with a name below 100 bytes, and whether the code is the file's two bytes.
-fn code_in(alloc: Global, record: &JitDumpRawRecord<'_>) -> Option<(usize, bool)> {
+fn code_of(alloc: Global, record: &JitDumpRawRecord<'_>) -> Option<(usize, bool)> {
     match record.parse(alloc) {
         Ok(JitDumpRecord::CodeLoad(load)) => {
             if load.function_name.len() >= 100 {
@@ -198,27 +183,31 @@ fn code_in(alloc: Global, record: &JitDumpRawRecord<'_>) -> Option<(usize, bool)
     }
 }
 
-// The result for the next record, and the result of `code_in` for it.
+// The result for the next record, and the result of `code_of` for it.
 fn next_code<R: Source>(
     alloc: Global,
     reader: &mut JitDumpReader<R>,
-) -> (Answer, Option<(usize, bool)>) {
+) -> (CallResult, Option<(usize, bool)>) {
     match reader.next_record() {
         Ok(Some(record)) => {
-            let code = code_in(alloc, &record);
-            (answer_of(Ok(Some(record))), code)
+            let code = code_of(alloc, &record);
+            (call_result(Ok(Some(record))), code)
         }
-        other => (answer_of(other), None),
+        other => (call_result(other), None),
     }
 }
 
 #[test]
-fn reports_the_next_record(rt: HostRuntime) -> Result<(), Fail> {
+fn peeks_the_next_record(rt: HostRuntime) -> Result<(), Fail> {
     let mut reader = JitDumpReader::new(rt.alloc(), &JITDUMP[..102])?;
-    same(&rt, &reader.header().pid, &7);
-    same(&rt, &by_kind(reader.next_record_timestamp()), &Ok(Some(9)));
-    same(&rt, &type_and_size(&mut reader), &Some((0, 62)));
-    same(
+    expect_eq(&rt, &reader.header().pid, &7);
+    expect_eq(
+        &rt,
+        &to_error_kind(reader.next_record_timestamp()),
+        &Ok(Some(9)),
+    );
+    expect_eq(&rt, &type_and_size(&mut reader), &Some((0, 62)));
+    expect_eq(
         &rt,
         &next_code(rt.alloc(), &mut reader),
         &(LOAD, Some((60, true))),
@@ -227,21 +216,21 @@ fn reports_the_next_record(rt: HostRuntime) -> Result<(), Fail> {
 }
 
 #[test]
-fn a_record_comes_in_single_bytes(rt: HostRuntime) -> Result<(), Fail> {
+fn record_read_byte_by_byte(rt: HostRuntime) -> Result<(), Fail> {
     let steps = bytes_then(rt.alloc(), 102, Step::Pause)?;
-    let source = script(rt.alloc(), 102, steps)?;
-    let mut reader = opened(rt.alloc(), source, 40)?;
-    same(
+    let source = script_of_file(rt.alloc(), 102, steps)?;
+    let mut reader = open_reader(rt.alloc(), source, 40)?;
+    expect_eq(
         &rt,
         &next_code(rt.alloc(), &mut reader),
         &(LOAD, Some((60, true))),
     );
-    same(&rt, &reader.next_record_offset(), &102);
+    expect_eq(&rt, &reader.next_record_offset(), &102);
     Ok(())
 }
 
 // Whether the body of the next record is that of the file, and the sizes of its slices.
-fn next_pieces<R: Source>(reader: &mut JitDumpReader<R>) -> Option<(bool, usize, usize)> {
+fn next_slices<R: Source>(reader: &mut JitDumpReader<R>) -> Option<(bool, usize, usize)> {
     match reader.next_record() {
         Ok(Some(record)) => {
             let is_body = record.body == RawData::Single(&JITDUMP[56..102]);
@@ -255,102 +244,107 @@ fn next_pieces<R: Source>(reader: &mut JitDumpReader<R>) -> Option<(bool, usize,
 }
 
 #[test]
-fn a_body_may_lie_in_two_pieces(rt: HostRuntime) -> Result<(), Fail> {
-    let mut reader = opened(rt.alloc(), &JITDUMP[..102], 64)?;
-    same(&rt, &next_pieces(&mut reader), &Some((true, 8, 38)));
+fn body_may_be_split(rt: HostRuntime) -> Result<(), Fail> {
+    let mut reader = open_reader(rt.alloc(), &JITDUMP[..102], 64)?;
+    expect_eq(&rt, &next_slices(&mut reader), &Some((true, 8, 38)));
     Ok(())
 }
 
 // The file with a header of 48 bytes.
 #[test]
-fn records_begin_after_the_whole_header(rt: HostRuntime) -> Result<(), Fail> {
+fn records_start_after_the_header(rt: HostRuntime) -> Result<(), Fail> {
     let mut bytes = JITDUMP[..40].to_vec(rt.alloc())?;
     if let Some(size) = bytes.get_mut(8) {
         *size = 48;
     }
     bytes.extend_from_slice(&[0xee; 8])?;
     bytes.extend_from_slice(&JITDUMP[40..102])?;
-    let mut reader = opened(rt.alloc(), bytes.as_slice(), 64)?;
-    same(&rt, &reader.next_record_offset(), &48);
-    let wanted = (Answer::Record((48, 9, 0, 62), true), 110);
-    same(&rt, &next(&mut reader), &wanted);
+    let mut reader = open_reader(rt.alloc(), bytes.as_slice(), 64)?;
+    expect_eq(&rt, &reader.next_record_offset(), &48);
+    let wanted = (CallResult::Record((48, 9, 0, 62), true), 110);
+    expect_eq(&rt, &next_result(&mut reader), &wanted);
     Ok(())
 }
 
 // The first two results if a record header has this size, and the type and the size that the header reports after them.
-fn answers_of_size(
+fn results_for_size(
     alloc: Global,
     size: u32,
-) -> Result<([(Answer, u64); 2], Option<(u32, u32)>), Fail> {
+) -> Result<([(CallResult, u64); 2], Option<(u32, u32)>), Fail> {
     let bytes = header_of_size(alloc, size, &[])?;
-    let mut reader = opened(alloc, bytes.as_slice(), 40)?;
-    let answers = [next(&mut reader), next(&mut reader)];
-    Ok((answers, type_and_size(&mut reader)))
+    let mut reader = open_reader(alloc, bytes.as_slice(), 40)?;
+    let results = [next_result(&mut reader), next_result(&mut reader)];
+    Ok((results, type_and_size(&mut reader)))
 }
 
 // The first result if a record header has the greatest size, whether the record is skipped, and the offset of the next record.
-fn answer_of_greatest(
+fn result_for_max_size(
     alloc: Global,
     after: &[u8],
     size: usize,
-) -> Result<(Answer, bool, u64), Fail> {
+) -> Result<(CallResult, bool, u64), Fail> {
     let bytes = header_of_size(alloc, u32::MAX, after)?;
-    let mut reader = opened(alloc, Cursor::new(bytes), size)?;
-    let (answer, _) = next(&mut reader);
+    let mut reader = open_reader(alloc, Cursor::new(bytes), size)?;
+    let (result, _) = next_result(&mut reader);
     let skipped = reader.skip_next_record()?;
-    Ok((answer, skipped, reader.next_record_offset()))
+    Ok((result, skipped, reader.next_record_offset()))
 }
 
 #[test]
-fn a_size_below_the_header_is_an_error(rt: HostRuntime) -> Result<(), Fail> {
+fn size_below_the_header_fails(rt: HostRuntime) -> Result<(), Fail> {
     for size in 0..16u32 {
-        let invalid = (Answer::Error(ErrorKind::InvalidData), 40);
-        let got = answers_of_size(rt.alloc(), size)?;
-        same(&rt, &got, &([invalid, invalid], Some((0, size))));
+        let invalid = (CallResult::Failure(ErrorKind::InvalidData), 40);
+        let got = results_for_size(rt.alloc(), size)?;
+        expect_eq(&rt, &got, &([invalid, invalid], Some((0, size))));
     }
-    let got = answer_of_greatest(rt.alloc(), &[], 40)?;
-    same(&rt, &got, &(Answer::Nothing, false, 40));
+    let got = result_for_max_size(rt.alloc(), &[], 40)?;
+    expect_eq(&rt, &got, &(CallResult::NotReady, false, 40));
     Ok(())
 }
 
 #[test]
-fn neither_returns_nor_skips_a_record_longer_than_its_file(rt: HostRuntime) -> Result<(), Fail> {
+fn record_longer_than_the_file_is_not_ready(rt: HostRuntime) -> Result<(), Fail> {
     for size in [40usize, 4096] {
-        let got = answer_of_greatest(rt.alloc(), &JITDUMP[56..102], size)?;
-        same_at(&rt, &size, &got, &(Answer::Nothing, false, 40));
+        let got = result_for_max_size(rt.alloc(), &JITDUMP[56..102], size)?;
+        expect_eq_at(&rt, &size, &got, &(CallResult::NotReady, false, 40));
     }
     Ok(())
 }
 
 // A source of a record header of the greatest size, a body of 46 bytes, and a close record that becomes available after `pauses`
 // pauses.
-fn greatest(alloc: Global, pauses: usize) -> Result<Script, Fail> {
+fn max_size_source(alloc: Global, pauses: usize) -> Result<Script, Fail> {
     let mut bytes = header_of_size(alloc, u32::MAX, &JITDUMP[56..102])?;
     bytes.extend_from_slice(&JITDUMP[102..])?;
     let mut steps = bytes_then(alloc, 102, Step::Pause)?;
-    push_steps(&mut steps, pauses, Step::Pause)?;
+    for _ in 0..pauses {
+        steps.push(Step::Pause)?;
+    }
     steps.push(Step::Grow(16))?;
     Ok(Script::new(bytes, 102, steps, Vec::new(alloc)))
 }
 
 // A reader of that source, with a buffer of this size or of the default size.
-fn waiting(
+fn max_size_reader(
     alloc: Global,
     size: Option<usize>,
     pauses: usize,
 ) -> Result<JitDumpReader<Script>, Fail> {
-    let source = greatest(alloc, pauses)?;
+    let source = max_size_source(alloc, pauses)?;
     match size {
-        Some(size) => opened(alloc, source, size),
+        Some(size) => open_reader(alloc, source, size),
         None => Ok(JitDumpReader::new(alloc, source)?),
     }
 }
 
 // The same bytes in a `BufferedReader`: three calls for the record's body return nothing, and a call for 62 bytes returns them.
-fn parts_of_greatest(alloc: Global, size: usize) -> Result<([Option<usize>; 5], bool), Fail> {
+fn buffered_parts_of_max_size(
+    alloc: Global,
+    size: usize,
+) -> Result<([Option<usize>; 5], bool), Fail> {
     let mut buffer = Vec::new(alloc);
     buffer.resize(size.max(1), 0)?;
-    let source = greatest(alloc, 1)?;
+    let source = max_size_source(alloc, 1)?;
     let mut reader = BufferedReader::new_with_partially_read_buffer(alloc, source, buffer, 0, 0);
     let mut lengths = [None; 5];
     let body = u32::MAX as usize - 16;
@@ -365,17 +359,26 @@ fn parts_of_greatest(alloc: Global, size: usize) -> Result<([Option<usize>; 5], 
 }
 
 #[test]
-fn waits_for_a_record_longer_than_any_file(rt: HostRuntime) -> Result<(), Fail> {
+fn max_size_record_is_not_ready(rt: HostRuntime) -> Result<(), Fail> {
     for (size, pauses) in [(Some(40usize), 1usize), (None, 2)] {
-        let mut reader = waiting(rt.alloc(), size, pauses)?;
+        let mut reader = max_size_reader(rt.alloc(), size, pauses)?;
         for call in 0..3u32 {
-            same_at(&rt, &call, &next(&mut reader), &(Answer::Nothing, 40));
-            same(&rt, &by_kind(reader.next_record_timestamp()), &Ok(Some(9)));
+            expect_eq_at(
+                &rt,
+                &call,
+                &next_result(&mut reader),
+                &(CallResult::NotReady, 40),
+            );
+            expect_eq(
+                &rt,
+                &to_error_kind(reader.next_record_timestamp()),
+                &Ok(Some(9)),
+            );
         }
     }
     for size in [40usize, 4096] {
-        let got = parts_of_greatest(rt.alloc(), size)?;
-        same(&rt, &got, &([Some(40), Some(16), None, None, None], true));
+        let got = buffered_parts_of_max_size(rt.alloc(), size)?;
+        expect_eq(&rt, &got, &([Some(40), Some(16), None, None, None], true));
     }
     Ok(())
 }
@@ -383,50 +386,50 @@ fn waits_for_a_record_longer_than_any_file(rt: HostRuntime) -> Result<(), Fail> 
 #[test]
 fn skips_records(rt: HostRuntime) -> Result<(), Fail> {
     let bytes = JITDUMP.to_vec(rt.alloc())?;
-    let mut reader = opened(rt.alloc(), Cursor::new(bytes), 4096)?;
-    check(&rt, reader.skip_next_record()?);
-    let wanted = (Answer::Record((102, 11, 3, 16), false), 118);
-    same(&rt, &next(&mut reader), &wanted);
-    check(&rt, !reader.skip_next_record()?);
-    same(&rt, &next(&mut reader), &(Answer::Nothing, 118));
+    let mut reader = open_reader(rt.alloc(), Cursor::new(bytes), 4096)?;
+    expect(&rt, reader.skip_next_record()?);
+    let wanted = (CallResult::Record((102, 11, 3, 16), false), 118);
+    expect_eq(&rt, &next_result(&mut reader), &wanted);
+    expect(&rt, !reader.skip_next_record()?);
+    expect_eq(&rt, &next_result(&mut reader), &(CallResult::NotReady, 118));
     Ok(())
 }
 
 // The result of skipping a record and the offset of the next record after it, the time of the next record, and the result of a
 // call for it.
-type Skipped = (
+type SkipResult = (
     (Result<bool, ErrorKind>, u64),
     Result<Option<u64>, ErrorKind>,
-    (Answer, u64),
+    (CallResult, u64),
 );
 
-// Skips a record of 100 bytes, over a source of which `shown` bytes are available at first.
-pub fn skipped(
+// Skips a record of 100 bytes, over a source of which `available` bytes are available at first.
+pub fn skip_result(
     alloc: Global,
-    shown: usize,
+    available: usize,
     steps: &[Step],
     seek_errors: &[(u64, ErrorKind)],
-) -> Result<Skipped, Fail> {
+) -> Result<SkipResult, Fail> {
     let bytes = header_of_size(alloc, 100, &[0xee; 84])?;
     let steps = Vec::from_slice(alloc, steps)?;
     let seek_errors = Vec::from_slice(alloc, seek_errors)?;
-    let source = Script::with_seek_errors(bytes, shown, steps, seek_errors);
-    let mut reader = opened(alloc, source, 40)?;
-    let skipped = by_kind(reader.skip_next_record());
+    let source = Script::with_seek_errors(bytes, available, steps, seek_errors);
+    let mut reader = open_reader(alloc, source, 40)?;
+    let skipped = to_error_kind(reader.skip_next_record());
     let at = reader.next_record_offset();
-    let time = by_kind(reader.next_record_timestamp());
-    Ok(((skipped, at), time, next(&mut reader)))
+    let time = to_error_kind(reader.next_record_timestamp());
+    Ok(((skipped, at), time, next_result(&mut reader)))
 }
 
 #[test]
-fn skips_only_what_is_shown(rt: HostRuntime) -> Result<(), Fail> {
+fn skips_available_bytes_only(rt: HostRuntime) -> Result<(), Fail> {
     let steps = [Step::Give(40), Step::Give(20), Step::Grow(80)];
-    let came = skipped(rt.alloc(), 60, &steps, &[])?;
-    let record = (Answer::Record((40, 9, 0, 100), false), 140);
-    same(&rt, &came, &((Ok(false), 40), Ok(Some(9)), record));
-    let came = skipped(rt.alloc(), 140, &[], &[])?;
-    let whole = ((Ok(true), 140), Ok(None), (Answer::Nothing, 140));
-    same(&rt, &came, &whole);
+    let result = skip_result(rt.alloc(), 60, &steps, &[])?;
+    let record = (CallResult::Record((40, 9, 0, 100), false), 140);
+    expect_eq(&rt, &result, &((Ok(false), 40), Ok(Some(9)), record));
+    let result = skip_result(rt.alloc(), 140, &[], &[])?;
+    let whole = ((Ok(true), 140), Ok(None), (CallResult::NotReady, 140));
+    expect_eq(&rt, &result, &whole);
     Ok(())
 }
 
@@ -441,21 +444,21 @@ fn ten_records(alloc: Global) -> Result<Script, Fail> {
 }
 
 #[test]
-fn ten_records_go_round_the_ring(rt: HostRuntime) -> Result<(), Fail> {
+fn ten_records_wrap_the_ring(rt: HostRuntime) -> Result<(), Fail> {
     let mut wanted = Vec::new(rt.alloc());
     for number in 0..10u64 {
-        let place = 40 + 62 * number;
-        wanted.push((Answer::Record((place, 9, 0, 62), true), place + 62))?;
+        let offset = 40 + 62 * number;
+        wanted.push((CallResult::Record((offset, 9, 0, 62), true), offset + 62))?;
     }
-    wanted.push((Answer::Nothing, 660))?;
-    let came = answers(rt.alloc(), ten_records(rt.alloc())?, 64, 11)?;
-    same(&rt, &came.as_slice(), &wanted.as_slice());
+    wanted.push((CallResult::NotReady, 660))?;
+    let actual = results(rt.alloc(), ten_records(rt.alloc())?, 64, 11)?;
+    expect_eq(&rt, &actual.as_slice(), &wanted.as_slice());
     Ok(())
 }
 
 #[test]
-fn the_example_sums_code(rt: HostRuntime) -> Result<(), Fail> {
-    same(
+fn example_sums_code(rt: HostRuntime) -> Result<(), Fail> {
+    expect_eq(
         &rt,
         &code_size(rt.alloc(), Cursor::new(&JITDUMP[..102]))?,
         &2,

@@ -4,11 +4,10 @@
 #[cfg(test)]
 mod buffered_reader;
 #[cfg(test)]
-mod code_size;
-#[cfg(test)]
-mod compare;
 #[cfg(test)]
 mod error;
+#[cfg(test)]
+mod expect;
 #[cfg(test)]
 mod header;
 #[cfg(test)]

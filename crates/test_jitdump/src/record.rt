@@ -1,7 +1,8 @@
 //! Record headers, the numbers of record types, and the parsed form of each type.
-use crate::compare::{same, same_at};
+use crate::expect::{expect_eq, expect_eq_at};
 use crate::records::{
-    debug_info, unwinding, values_of_info, values_of_unwinding, with_code_missing, without_nul,
+    debug_info_bytes, debug_info_fields, load_without_code, load_without_nul, unwinding_bytes,
+    unwinding_fields,
 };
 use byteorder::LittleEndian;
 use perfdata_base::raw::{Endianness, RawData};
@@ -12,10 +13,13 @@ use std::alloc::Global;
 use std::io::ErrorKind;
 use std::test::Fail;
 use test_support::recordings::JITDUMP;
-use test_support::values::by_kind;
+use test_support::values::to_error_kind;
 
 // A big-endian header of type 0, size 62 and time 9. The file contains it in little-endian.
-const BIG: [u8; 16] = [0, 0, 0, 0, 0, 0, 0, 62, 0, 0, 0, 0, 0, 0, 0, 9];
+const BIG_ENDIAN_HEADER: [u8; 16] = [0, 0, 0, 0, 0, 0, 0, 62, 0, 0, 0, 0, 0, 0, 0, 9];
+
+// The same header in little-endian.
+const LITTLE_ENDIAN_HEADER: [u8; 16] = [0, 0, 0, 0, 62, 0, 0, 0, 9, 0, 0, 0, 0, 0, 0, 0];
 
 // Whether the record is the file's load record, with its code 60 bytes after the start of the record header.
 fn is_foo(load: &JitCodeLoadRecord<'_>) -> bool {
@@ -41,7 +45,7 @@ enum Parsed {
     // Whether the record is the file's load record.
     Load(bool),
     Move,
-    // The result of `values_of_info`.
+    // The result of `debug_info_fields`.
     DebugInfo((u64, usize, bool)),
     Close,
     Unwinding((u64, bool, bool)),
@@ -49,10 +53,10 @@ enum Parsed {
     Other(usize),
 }
 
-fn parse(alloc: Global, kind: u32, body: RawData<'_>) -> Result<Parsed, ErrorKind> {
+fn parse_body(alloc: Global, record_type: u32, body: RawData<'_>) -> Result<Parsed, ErrorKind> {
     let record = JitDumpRawRecord {
         endian: Endianness::LittleEndian,
-        record_type: JitDumpRecordType(kind),
+        record_type: JitDumpRecordType(record_type),
         timestamp: 9,
         start_offset: 40,
         record_size: 62,
@@ -61,10 +65,10 @@ fn parse(alloc: Global, kind: u32, body: RawData<'_>) -> Result<Parsed, ErrorKin
     match record.parse(alloc) {
         Ok(JitDumpRecord::CodeLoad(load)) => Ok(Parsed::Load(is_foo(&load))),
         Ok(JitDumpRecord::CodeMove(_)) => Ok(Parsed::Move),
-        Ok(JitDumpRecord::CodeDebugInfo(info)) => Ok(Parsed::DebugInfo(values_of_info(&info))),
+        Ok(JitDumpRecord::CodeDebugInfo(info)) => Ok(Parsed::DebugInfo(debug_info_fields(&info))),
         Ok(JitDumpRecord::CodeClose) => Ok(Parsed::Close),
         Ok(JitDumpRecord::CodeUnwindingInfo(info)) => {
-            Ok(Parsed::Unwinding(values_of_unwinding(&info)))
+            Ok(Parsed::Unwinding(unwinding_fields(&info)))
         }
         Ok(JitDumpRecord::Other(raw)) => Ok(Parsed::Other(raw.body.len())),
         Err(error) => Err(error.kind()),
@@ -72,38 +76,60 @@ fn parse(alloc: Global, kind: u32, body: RawData<'_>) -> Result<Parsed, ErrorKin
 }
 
 #[test]
-fn reads_heads(rt: HostRuntime) -> Result<(), Fail> {
-    for (order, bytes) in [
+fn parses_record_headers(rt: HostRuntime) -> Result<(), Fail> {
+    for (endian, bytes) in [
         (Endianness::LittleEndian, &JITDUMP[40..56]),
-        (Endianness::BigEndian, &BIG),
+        (Endianness::BigEndian, &BIG_ENDIAN_HEADER),
     ] {
         let wanted = (JitDumpRecordType::JIT_CODE_LOAD, 62, 9);
-        let head = JitDumpRecordHeader::parse(order, RawData::Single(bytes))?;
-        same(
+        let header = JitDumpRecordHeader::parse(endian, RawData::Single(bytes))?;
+        expect_eq(
             &rt,
-            &(head.record_type, head.total_size, head.timestamp),
+            &(header.record_type, header.total_size, header.timestamp),
             &wanted,
         );
     }
-    let cut = RawData::Single(&JITDUMP[40..55]);
-    let parsed = JitDumpRecordHeader::parse_impl::<LittleEndian>(cut);
-    same(&rt, &by_kind(parsed).err(), &Some(ErrorKind::UnexpectedEof));
+    let truncated = RawData::Single(&JITDUMP[40..55]);
+    let parsed = JitDumpRecordHeader::parse_impl::<LittleEndian>(truncated);
+    expect_eq(
+        &rt,
+        &to_error_kind(parsed).err(),
+        &Some(ErrorKind::UnexpectedEof),
+    );
     Ok(())
 }
 
 #[test]
-fn types_have_their_numbers(rt: HostRuntime) {
-    for (number, kind) in [
+fn converts_sixteen_bytes(rt: HostRuntime) {
+    for (endian, bytes) in [
+        (Endianness::LittleEndian, LITTLE_ENDIAN_HEADER),
+        (Endianness::BigEndian, BIG_ENDIAN_HEADER),
+    ] {
+        let header = JitDumpRecordHeader::from_bytes(endian, &bytes);
+        expect_eq(
+            &rt,
+            &(header.record_type, header.total_size, header.timestamp),
+            &(JitDumpRecordType::JIT_CODE_LOAD, 62, 9),
+        );
+    }
+}
+
+#[test]
+fn type_numbers(rt: HostRuntime) {
+    for (number, record_type) in [
         (0, JitDumpRecordType::JIT_CODE_LOAD),
         (1, JitDumpRecordType::JIT_CODE_MOVE),
         (2, JitDumpRecordType::JIT_CODE_DEBUG_INFO),
         (3, JitDumpRecordType::JIT_CODE_CLOSE),
         (4, JitDumpRecordType::JIT_CODE_UNWINDING_INFO),
     ] {
-        same(
+        expect_eq(
             &rt,
-            &(JitDumpRecordType(number), kind < JitDumpRecordType(5)),
-            &(kind, true),
+            &(
+                JitDumpRecordType(number),
+                record_type < JitDumpRecordType(5),
+            ),
+            &(record_type, true),
         );
     }
 }
@@ -111,36 +137,36 @@ fn types_have_their_numbers(rt: HostRuntime) {
 #[test]
 fn parses_by_type(rt: HostRuntime) {
     for at in 0..47usize {
-        let (front, back) = JITDUMP[56..102].split_at(at);
-        let got = parse(rt.alloc(), 0, RawData::Split(front, back));
-        same_at(&rt, &at, &got, &Ok(Parsed::Load(true)));
+        let (prefix, rest) = JITDUMP[56..102].split_at(at);
+        let got = parse_body(rt.alloc(), 0, RawData::Split(prefix, rest));
+        expect_eq_at(&rt, &at, &got, &Ok(Parsed::Load(true)));
     }
-    for (kind, wanted) in [
+    for (record_type, wanted) in [
         (2, Err(ErrorKind::UnexpectedEof)),
         (1, Err(ErrorKind::UnexpectedEof)),
         (4, Err(ErrorKind::UnexpectedEof)),
         (3, Ok(Parsed::Close)),
         (5, Ok(Parsed::Other(46))),
     ] {
-        let got = parse(rt.alloc(), kind, RawData::Single(&JITDUMP[56..102]));
-        same_at(&rt, &kind, &got, &wanted);
+        let got = parse_body(rt.alloc(), record_type, RawData::Single(&JITDUMP[56..102]));
+        expect_eq_at(&rt, &record_type, &got, &wanted);
     }
 }
 
 #[test]
 fn parses_bodies_by_type(rt: HostRuntime) {
-    let short = Err(ErrorKind::UnexpectedEof);
+    let eof = Err(ErrorKind::UnexpectedEof);
     let info = Ok(Parsed::DebugInfo((0x10, 1, true)));
     let unwound = Ok(Parsed::Unwinding((2, true, true)));
-    for (kind, body, wanted) in [
-        (0u32, &with_code_missing()[56..102], short),
-        (0, &without_nul()[56..102], short),
-        (2, &debug_info(u64::MAX), short),
-        (2, &debug_info(1), info),
-        (4, &unwinding(1), unwound),
-        (4, &unwinding(3), short),
+    for (record_type, body, wanted) in [
+        (0u32, &load_without_code()[56..102], eof),
+        (0, &load_without_nul()[56..102], eof),
+        (2, &debug_info_bytes(u64::MAX), eof),
+        (2, &debug_info_bytes(1), info),
+        (4, &unwinding_bytes(1), unwound),
+        (4, &unwinding_bytes(3), eof),
     ] {
-        let got = parse(rt.alloc(), kind, RawData::Single(body));
-        same_at(&rt, &(kind, body), &got, &wanted);
+        let got = parse_body(rt.alloc(), record_type, RawData::Single(body));
+        expect_eq_at(&rt, &(record_type, body), &got, &wanted);
     }
 }

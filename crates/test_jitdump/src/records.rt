@@ -1,5 +1,5 @@
 //! The bodies of records: their fields and errors, and the lookup of an address.
-use crate::compare::{same, same_at};
+use crate::expect::{expect_eq, expect_eq_at};
 use byteorder::{ByteOrder, LittleEndian};
 use perfdata_base::raw::{Endianness, RawData};
 use perfdata_jit::{
@@ -9,45 +9,45 @@ use perfdata_jit::{
 use std::alloc::{AllocError, Global};
 use std::io::ErrorKind;
 use std::test::Fail;
-use test_support::recordings::JITDUMP;
-use test_support::values::by_kind;
+use test_support::recordings::{JIT_DEBUG_INFO, JITDUMP};
+use test_support::values::to_error_kind;
 
 // The file, with a load record that declares one more byte of code than it contains.
-pub fn with_code_missing() -> [u8; 118] {
+pub fn load_without_code() -> [u8; 118] {
     let mut bytes = JITDUMP;
     bytes[56 + 24] = 3;
     bytes
 }
 
 // The file, with a load record without a NUL after the name.
-pub fn without_nul() -> [u8; 118] {
+pub fn load_without_nul() -> [u8; 118] {
     let mut bytes = JITDUMP;
     bytes[56 + 43] = b'o';
     bytes
 }
 
 #[test]
-fn loads_are_short_without_code_or_nul(rt: HostRuntime) -> Result<(), Fail> {
-    let (more, nameless) = (with_code_missing(), without_nul());
-    for bytes in [&more[56..102], &nameless[56..102], &JITDUMP[56..95]] {
+fn truncated_load_is_eof(rt: HostRuntime) -> Result<(), Fail> {
+    let (codeless, nameless) = (load_without_code(), load_without_nul());
+    for bytes in [&codeless[56..102], &nameless[56..102], &JITDUMP[56..95]] {
         let load = JitCodeLoadRecord::parse(Endianness::LittleEndian, RawData::Single(bytes));
-        same_at(
+        expect_eq_at(
             &rt,
             &bytes,
-            &by_kind(load).err(),
+            &to_error_kind(load).err(),
             &Some(ErrorKind::UnexpectedEof),
         );
     }
     let load = JitCodeLoadRecord::parse_impl::<LittleEndian>(RawData::Single(&JITDUMP[56..102]))?;
-    same(&rt, &load.code_bytes.len(), &2);
-    same(&rt, &JitCodeLoadRecord::NAME_OFFSET_FROM_RECORD_START, &56);
+    expect_eq(&rt, &load.code_bytes.len(), &2);
+    expect_eq(&rt, &JitCodeLoadRecord::NAME_OFFSET_FROM_RECORD_START, &56);
     Ok(())
 }
 
 // The pid, the tid and the vma, the old and the new address, the size and the index.
-type Move = ((u32, u32, u64), (u64, u64), (u64, u64));
+type MoveFields = ((u32, u32, u64), (u64, u64), (u64, u64));
 
-fn big_move(bytes: &[u8]) -> Result<Move, ErrorKind> {
+fn parse_big_endian_move(bytes: &[u8]) -> Result<MoveFields, ErrorKind> {
     match JitCodeMoveRecord::parse(Endianness::BigEndian, RawData::Single(bytes)) {
         Ok(moved) => Ok((
             (moved.pid, moved.tid, moved.vma),
@@ -65,25 +65,28 @@ const MOVE: [u8; 49] = [
 ];
 
 #[test]
-fn reads_moves(rt: HostRuntime) {
-    same(&rt, &big_move(&MOVE), &Ok(((1, 2, 3), (4, 5), (6, 7))));
-    same(&rt, &big_move(&MOVE[..47]), &Err(ErrorKind::UnexpectedEof));
+fn parses_moves(rt: HostRuntime) {
+    expect_eq(
+        &rt,
+        &parse_big_endian_move(&MOVE),
+        &Ok(((1, 2, 3), (4, 5), (6, 7))),
+    );
+    expect_eq(
+        &rt,
+        &parse_big_endian_move(&MOVE[..47]),
+        &Err(ErrorKind::UnexpectedEof),
+    );
 }
 
 // Debug info for the address 0x10 that declares `count` entries and contains one, for 0x20, line 3, column 4 and `a.js`.
-pub fn debug_info(count: u64) -> [u8; 37] {
-    let mut body = [0; 37];
-    LittleEndian::write_u64(&mut body, 0x10);
+pub fn debug_info_bytes(count: u64) -> [u8; 37] {
+    let mut body = JIT_DEBUG_INFO;
     LittleEndian::write_u64(&mut body[8..], count);
-    LittleEndian::write_u64(&mut body[16..], 0x20);
-    LittleEndian::write_u32(&mut body[24..], 3);
-    LittleEndian::write_u32(&mut body[28..], 4);
-    body[32..36].copy_from_slice(b"a.js");
     body
 }
 
-// The address, the number of entries, and whether the first is the entry of `debug_info`.
-pub fn values_of_info(info: &JitCodeDebugInfoRecord<'_>) -> (u64, usize, bool) {
+// The address, the number of entries, and whether the first is the entry of `debug_info_bytes`.
+pub fn debug_info_fields(info: &JitCodeDebugInfoRecord<'_>) -> (u64, usize, bool) {
     let is_expected = match info.entries.first() {
         Some(entry) => {
             let path = entry.file_path == RawData::Single(b"a.js");
@@ -94,28 +97,28 @@ pub fn values_of_info(info: &JitCodeDebugInfoRecord<'_>) -> (u64, usize, bool) {
     (info.code_addr, info.entries.len(), is_expected)
 }
 
-fn info_of(alloc: Global, body: RawData<'_>) -> Result<(u64, usize, bool), ErrorKind> {
-    let info = by_kind(JitCodeDebugInfoRecord::parse(alloc, Endianness::LittleEndian, body))?;
-    Ok(values_of_info(&info))
+fn parse_debug_info(alloc: Global, body: RawData<'_>) -> Result<(u64, usize, bool), ErrorKind> {
+    let info = to_error_kind(JitCodeDebugInfoRecord::parse(alloc, Endianness::LittleEndian, body))?;
+    Ok(debug_info_fields(&info))
 }
 
 #[test]
-fn reads_debug_info(rt: HostRuntime) {
-    let body = debug_info(1);
+fn parses_debug_info(rt: HostRuntime) {
+    let body = debug_info_bytes(1);
     for at in 0..38usize {
-        let (front, back) = body.split_at(at);
-        let got = info_of(rt.alloc(), RawData::Split(front, back));
-        same_at(&rt, &at, &got, &Ok((0x10, 1, true)));
+        let (prefix, rest) = body.split_at(at);
+        let got = parse_debug_info(rt.alloc(), RawData::Split(prefix, rest));
+        expect_eq_at(&rt, &at, &got, &Ok((0x10, 1, true)));
     }
-    for (count, held) in [(u64::MAX, 37usize), (2, 37), (1, 36), (1, 31), (1, 15)] {
-        let body = debug_info(count);
-        let got = info_of(rt.alloc(), RawData::Single(&body[..held]));
-        same_at(&rt, &(count, held), &got, &Err(ErrorKind::UnexpectedEof));
+    for (count, len) in [(u64::MAX, 37usize), (2, 37), (1, 36), (1, 31), (1, 15)] {
+        let body = debug_info_bytes(count);
+        let got = parse_debug_info(rt.alloc(), RawData::Single(&body[..len]));
+        expect_eq_at(&rt, &(count, len), &got, &Err(ErrorKind::UnexpectedEof));
     }
 }
 
 // Unwinding info for two bytes of data and a mapped size of two. The size of its index is `index`.
-pub fn unwinding(index: u8) -> [u8; 26] {
+pub fn unwinding_bytes(index: u8) -> [u8; 26] {
     let mut body = [0; 26];
     body[0] = 2;
     body[8] = index;
@@ -126,7 +129,7 @@ pub fn unwinding(index: u8) -> [u8; 26] {
 }
 
 // The mapped size, whether the index is 0xaa, and whether the data is 0xbb.
-pub fn values_of_unwinding(info: &JitCodeUnwindingInfoRecord<'_>) -> (u64, bool, bool) {
+pub fn unwinding_fields(info: &JitCodeUnwindingInfoRecord<'_>) -> (u64, bool, bool) {
     (
         info.mapped_size,
         info.eh_frame_hdr == RawData::Single(&[0xaa]),
@@ -134,29 +137,29 @@ pub fn values_of_unwinding(info: &JitCodeUnwindingInfoRecord<'_>) -> (u64, bool,
     )
 }
 
-fn unwinding_of(bytes: &[u8]) -> Result<(u64, bool, bool), ErrorKind> {
+fn parse_unwinding(bytes: &[u8]) -> Result<(u64, bool, bool), ErrorKind> {
     match JitCodeUnwindingInfoRecord::parse(Endianness::LittleEndian, RawData::Single(bytes)) {
-        Ok(read) => Ok(values_of_unwinding(&read)),
+        Ok(read) => Ok(unwinding_fields(&read)),
         Err(error) => Err(error.kind()),
     }
 }
 
 #[test]
-fn reads_unwinding_info(rt: HostRuntime) {
-    let body = unwinding(1);
-    same(&rt, &unwinding_of(&body), &Ok((2, true, true)));
-    for bytes in [&unwinding(3)[..], &body[..23], &body[..25]] {
-        same_at(
+fn parses_unwinding_info(rt: HostRuntime) {
+    let body = unwinding_bytes(1);
+    expect_eq(&rt, &parse_unwinding(&body), &Ok((2, true, true)));
+    for bytes in [&unwinding_bytes(3)[..], &body[..23], &body[..25]] {
+        expect_eq_at(
             &rt,
             &bytes,
-            &unwinding_of(bytes),
+            &parse_unwinding(bytes),
             &Err(ErrorKind::UnexpectedEof),
         );
     }
 }
 
 // Debug info with entries for these addresses.
-fn with_entries(
+fn info_with_entries(
     alloc: Global,
     addresses: &[u64],
 ) -> Result<JitCodeDebugInfoRecord<'static>, AllocError> {
@@ -176,7 +179,7 @@ fn with_entries(
 }
 
 // The address of the entry that `lookup` returns for an address.
-fn looked_up(info: &JitCodeDebugInfoRecord<'_>, addr: u64) -> Option<u64> {
+fn lookup_address(info: &JitCodeDebugInfoRecord<'_>, addr: u64) -> Option<u64> {
     match info.lookup(addr) {
         Some(entry) => Some(entry.code_addr),
         None => None,
@@ -184,10 +187,10 @@ fn looked_up(info: &JitCodeDebugInfoRecord<'_>, addr: u64) -> Option<u64> {
 }
 
 #[test]
-fn looks_up_the_entry_of_an_address(rt: HostRuntime) -> Result<(), Fail> {
-    let none = with_entries(rt.alloc(), &[])?;
-    same(&rt, &looked_up(&none, u64::MAX), &None);
-    let info = with_entries(rt.alloc(), &[0x10, 0x20])?;
+fn looks_up_an_address(rt: HostRuntime) -> Result<(), Fail> {
+    let none = info_with_entries(rt.alloc(), &[])?;
+    expect_eq(&rt, &lookup_address(&none, u64::MAX), &None);
+    let info = info_with_entries(rt.alloc(), &[0x10, 0x20])?;
     for (addr, found) in [
         (0x0f, None),
         (0x10, Some(0x10)),
@@ -195,7 +198,7 @@ fn looks_up_the_entry_of_an_address(rt: HostRuntime) -> Result<(), Fail> {
         (0x20, Some(0x20)),
         (u64::MAX, Some(0x20)),
     ] {
-        same(&rt, &looked_up(&info, addr), &found);
+        expect_eq(&rt, &lookup_address(&info, addr), &found);
     }
     Ok(())
 }

@@ -1,56 +1,56 @@
 //! Several attributes: in event types, in EVENT_DESC and in the attribute section.
-use crate::compare::same;
-use crate::listing::{FIRST, opens, shows};
+use crate::expect::expect_eq;
+use crate::listing::{FIRST_LINES, lists_and_matches_reference, lists_three_ways};
 use linux_perf_data::{Endianness, PerfFileReader};
 use std::alloc::{AllocError, Global};
 use std::io::Cursor;
 use std::test::Fail;
-use test_support::ending::End;
 use test_support::image::Image;
+use test_support::outcome::Outcome;
 use test_support::recordings::{EVENT_TYPES, event_desc};
 
-const BY_IDS: &str = "0 0 7 1 9 0 16\n24 0 8 0 9 0 16\n48 0 1 0 9 0 16\n";
+const LINES_BY_ID: &str = "0 0 7 1 9 0 16\n24 0 8 0 9 0 16\n48 0 1 0 9 0 16\n";
 
 #[test]
-fn identifiers_choose_attributes(rt: HostRuntime) -> Result<(), Fail> {
+fn attribute_by_identifier(rt: HostRuntime) -> Result<(), Fail> {
     let image = EVENT_TYPES.image(rt.alloc())?;
-    same(&rt, &image.bytes.len(), &352);
+    expect_eq(&rt, &image.bytes.len(), &352);
     let mut shared = EVENT_TYPES;
-    shared.ids_at = [(264, 8), (264, 8)];
+    shared.id_sections = [(264, 8), (264, 8)];
     let mut zero = EVENT_TYPES;
     zero.ids = [5, 0];
     zero.samples = [(0, 7), (5, 8), (9, 1)];
     let mut slot = EVENT_TYPES;
     slot.ids = [6, 70];
     slot.samples = [(6, 7), (70, 8), (6, 1)];
-    let turned = "0 0 7 0 9 0 16\n24 0 8 1 9 0 16\n48 0 1 0 9 0 16\n";
+    let swapped = "0 0 7 0 9 0 16\n24 0 8 1 9 0 16\n48 0 1 0 9 0 16\n";
     for (name, events, wanted) in [
-        ("two event types", EVENT_TYPES, BY_IDS),
-        ("one identifier of both", shared, turned),
-        ("the identifier 0", zero, BY_IDS),
-        ("identifiers of one slot", slot, turned),
+        ("two event types", EVENT_TYPES, LINES_BY_ID),
+        ("an identifier of both", shared, swapped),
+        ("the identifier 0", zero, LINES_BY_ID),
+        ("identifiers of one slot", slot, swapped),
     ] {
         let image = events.image(rt.alloc())?;
-        opens(&rt, name, &image.bytes, wanted, End::Whole)?;
+        lists_and_matches_reference(&rt, name, &image.bytes, wanted, Outcome::Complete)?;
     }
     let mut other = EVENT_TYPES;
     other.second = (0x10006, 0);
-    let mut image = other.front(rt.alloc(), 32)?;
+    let mut image = other.prefix(rt.alloc(), 32)?;
     image.push_record_header(9, 0, 32)?;
     for word in [6, 1, 33] {
         image.push_u64(word)?;
     }
-    opens(
+    lists_and_matches_reference(
         &rt,
-        "the time at its attribute's place",
+        "the time at its attribute's offset",
         &image.bytes,
         "0 0 33 1 9 0 24\n",
-        End::Whole,
+        Outcome::Complete,
     )
 }
 
 #[test]
-fn event_types_with_errors(rt: HostRuntime) -> Result<(), Fail> {
+fn invalid_event_types_fail(rt: HostRuntime) -> Result<(), Fail> {
     let mut lacks = EVENT_TYPES;
     lacks.second = (4, 0);
     let mut differs = EVENT_TYPES;
@@ -58,21 +58,21 @@ fn event_types_with_errors(rt: HostRuntime) -> Result<(), Fail> {
     let mut large = EVENT_TYPES;
     large.attr_size = u64::MAX - 15;
     let mut far = EVENT_TYPES;
-    far.ids_at = [(u64::MAX, 8), (272, 8)];
+    far.id_sections = [(u64::MAX, 8), (272, 8)];
     for (name, events, end) in [
-        ("no IDENTIFIER", lacks, End::Lacks(1)),
-        ("another SAMPLE_ID_ALL", differs, End::Differs(1)),
-        ("frames too large", large, End::Attribute),
-        ("ids too far", far, End::Attribute),
+        ("no IDENTIFIER", lacks, Outcome::NoIdentifier(1)),
+        ("another SAMPLE_ID_ALL", differs, Outcome::SampleIdAll(1)),
+        ("attributes too large", large, Outcome::Attribute),
+        ("ids out of range", far, Outcome::Attribute),
     ] {
         let image = events.image(rt.alloc())?;
-        shows(&rt, name, &image.bytes, "", end)?;
+        lists_three_ways(&rt, name, &image.bytes, "", end)?;
     }
     Ok(())
 }
 
 /// A file of one sample, whose attribute is in EVENT_DESC: the event `c` with the id 5, with this attribute size.
-fn described(alloc: Global, size: u32) -> Result<Image, AllocError> {
+fn event_desc_image(alloc: Global, size: u32) -> Result<Image, AllocError> {
     let numbers = [104, 64, 0, 0, 104, 16, 0, 0, 1 << 12, 0, 0, 0];
     let mut image = Image::header(alloc, numbers)?;
     image.push_sample(20)?;
@@ -84,17 +84,23 @@ fn described(alloc: Global, size: u32) -> Result<Image, AllocError> {
 }
 
 #[test]
-fn event_desc_describes_attributes(rt: HostRuntime) -> Result<(), Fail> {
-    let image = described(rt.alloc(), 56)?;
-    shows(&rt, "a small frame", &image.bytes, "", End::Sizes)?;
-    let image = described(rt.alloc(), 64)?;
+fn attributes_from_event_desc(rt: HostRuntime) -> Result<(), Fail> {
+    let image = event_desc_image(rt.alloc(), 56)?;
+    lists_three_ways(
+        &rt,
+        "a small attribute size",
+        &image.bytes,
+        "",
+        Outcome::AttributeSizes,
+    )?;
+    let image = event_desc_image(rt.alloc(), 64)?;
     let line = "0 0 20 0 9 0 8\n";
-    opens(&rt, "EVENT_DESC", &image.bytes, line, End::Whole)?;
+    lists_and_matches_reference(&rt, "EVENT_DESC", &image.bytes, line, Outcome::Complete)?;
     let reader = PerfFileReader::parse_file(rt.alloc(), Cursor::new(image.bytes.as_slice()))?;
     let attributes = reader.perf_file.event_attributes();
-    same(&rt, &attributes.len(), &1);
-    same(&rt, &attributes[0].name(), &Some("c"));
-    same(&rt, &attributes[0].ids(), &[5].as_slice());
+    expect_eq(&rt, &attributes.len(), &1);
+    expect_eq(&rt, &attributes[0].name(), &Some("c"));
+    expect_eq(&rt, &attributes[0].ids(), &[5].as_slice());
     Ok(())
 }
 
@@ -108,5 +114,11 @@ fn attributes_without_identifiers(rt: HostRuntime) -> Result<(), Fail> {
     image.push_sample(20)?;
     image.push_round_marker(8)?;
     image.push_sample(10)?;
-    opens(&rt, "two attributes", &image.bytes, FIRST, End::Whole)
+    lists_and_matches_reference(
+        &rt,
+        "two attributes",
+        &image.bytes,
+        FIRST_LINES,
+        Outcome::Complete,
+    )
 }

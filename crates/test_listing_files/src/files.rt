@@ -1,163 +1,215 @@
 //! Listings of files: their lines and their end.
-use crate::compare::{check, same};
-use crate::listing::{FIRST, lists, opens, patched, reads, shows};
+use crate::expect::{expect, expect_eq};
+use crate::listing::{
+    FIRST_LINES, lists_and_matches_reference, lists_image, lists_source, lists_three_ways,
+    patched_file_fails,
+};
 use linux_perf_data::{Endianness, PerfFileReader};
 use perfdata_listing::list::{flush_listing, list_file};
 use perfdata_listing::output::{CountingBufWriter, finish};
 use std::io::Cursor;
 use std::process::Abort;
 use std::test::Fail;
-use test_support::ending::End;
-use test_support::image::{Image, Part, little_file};
-use test_support::sources::{interrupted, one_by_one};
+use test_support::image::{Image, Part, little_endian_file};
+use test_support::outcome::Outcome;
+use test_support::sources::{byte_by_byte, interrupted_source};
 
 #[test]
-fn two_samples_and_a_marker(rt: HostRuntime) -> Result<(), Fail> {
+fn samples_around_a_round_marker(rt: HostRuntime) -> Result<(), Fail> {
     for endian in [Endianness::LittleEndian, Endianness::BigEndian] {
         let image = Image::first_file(rt.alloc(), endian)?;
-        same(&rt, &image.bytes.len(), &208);
-        opens(&rt, "first", &image.bytes, FIRST, End::Whole)?;
+        expect_eq(&rt, &image.bytes.len(), &208);
+        lists_and_matches_reference(&rt, "first", &image.bytes, FIRST_LINES, Outcome::Complete)?;
     }
     let zeros = [0u8; 104];
-    shows(&rt, "zeros", &zeros, "", End::ZeroMagic)
+    lists_three_ways(&rt, "zeros", &zeros, "", Outcome::ZeroMagic)
 }
 
 #[test]
-fn numbers_written_over(rt: HostRuntime) -> Result<(), Fail> {
-    for (endian, of_sample) in [
-        (Endianness::LittleEndian, End::Sizes),
-        (Endianness::BigEndian, End::Attribute),
+fn corrupt_header_fields(rt: HostRuntime) -> Result<(), Fail> {
+    for (endian, sample_outcome) in [
+        (Endianness::LittleEndian, Outcome::AttributeSizes),
+        (Endianness::BigEndian, Outcome::Attribute),
     ] {
         for (name, patch, end) in [
-            ("no attribute size", (16usize, 0u64), End::Attribute),
-            ("a feature without its entry", (72, 8), End::Short),
-            ("no event types", (64, 1), End::NoAttributes),
-            ("a sample as an attribute", (32, 128), of_sample),
-            ("no attributes", (32, 63), End::NoAttributes),
+            ("no attribute size", (16usize, 0u64), Outcome::Attribute),
+            (
+                "a feature without its entry",
+                (72, 8),
+                Outcome::UnexpectedEof,
+            ),
+            ("no event types", (64, 1), Outcome::NoAttributes),
+            ("a sample as an attribute", (32, 128), sample_outcome),
+            ("no attributes", (32, 63), Outcome::NoAttributes),
         ] {
-            patched(&rt, name, endian, &[patch], end)?;
+            patched_file_fails(&rt, name, endian, &[patch], end)?;
         }
-        let far = [(40, u64::MAX), (48, 1)];
-        patched(&rt, "data far away", endian, &far, End::Feature)?;
+        let overflow = [(40, u64::MAX), (48, 1)];
+        patched_file_fails(
+            &rt,
+            "data out of range",
+            endian,
+            &overflow,
+            Outcome::Feature,
+        )?;
     }
     Ok(())
 }
 
 #[test]
-fn a_header_longer_than_its_numbers(rt: HostRuntime) -> Result<(), Fail> {
+fn long_header_is_skipped(rt: HostRuntime) -> Result<(), Fail> {
     for endian in [Endianness::LittleEndian, Endianness::BigEndian] {
         for size in [0, 112, 0x8000_0000_0000_0067] {
             let image = Image::patched_first_file(rt.alloc(), endian, &[(8, size)])?;
-            shows(&rt, "passed over", &image.bytes, FIRST, End::Whole)?;
+            lists_three_ways(&rt, "skipped", &image.bytes, FIRST_LINES, Outcome::Complete)?;
         }
         for size in [0x8000_0000_0000_0068, u64::MAX] {
             let patch = (8, size);
-            patched(&rt, "too long", endian, &[patch], End::Foreign)?;
+            patched_file_fails(&rt, "too long", endian, &[patch], Outcome::InvalidInput)?;
             for other in [(40, u64::MAX), (32, 63)] {
-                patched(&rt, "and more", endian, &[patch, other], End::Foreign)?;
+                patched_file_fails(
+                    &rt,
+                    "and more",
+                    endian,
+                    &[patch, other],
+                    Outcome::InvalidInput,
+                )?;
             }
         }
         let magic = [(8, u64::MAX), (0, 0)];
-        patched(&rt, "of no magic", endian, &magic, End::Foreign)?;
+        patched_file_fails(&rt, "of no magic", endian, &magic, Outcome::InvalidInput)?;
     }
     Ok(())
 }
 
 #[test]
-fn every_prefix_of_the_first_file(rt: HostRuntime) -> Result<(), Fail> {
+fn truncation_at_each_byte(rt: HostRuntime) -> Result<(), Fail> {
     let image = Image::first_file(rt.alloc(), Endianness::LittleEndian)?;
     let first = "0 0 20 0 9 0 8\n";
     for (index, _) in image.bytes.iter().enumerate() {
-        let cut = image.bytes.get(..index).unwrap_or(&[]);
-        let name = format!(in rt.alloc(); "cut to {index}")?;
+        let prefix = image.bytes.get(..index).unwrap_or(&[]);
+        let name = format!(in rt.alloc(); "truncated to {index}")?;
         match index {
-            0..=103 => shows(&rt, &name, cut, "", End::Short)?,
-            104..=167 => shows(&rt, &name, cut, "", End::Attribute)?,
-            168..=175 => opens(&rt, &name, cut, "", End::Short)?,
-            176..=183 => opens(&rt, &name, cut, "", End::Data)?,
-            184..=199 => opens(&rt, &name, cut, first, End::Short)?,
-            _ => opens(&rt, &name, cut, first, End::Data)?,
+            0..=103 => lists_three_ways(&rt, &name, prefix, "", Outcome::UnexpectedEof)?,
+            104..=167 => lists_three_ways(&rt, &name, prefix, "", Outcome::Attribute)?,
+            168..=175 => lists_and_matches_reference(
+                &rt,
+                &name,
+                prefix,
+                "",
+                Outcome::UnexpectedEof,
+            )?,
+            176..=183 => lists_and_matches_reference(&rt, &name, prefix, "", Outcome::RecordData)?,
+            184..=199 => lists_and_matches_reference(
+                &rt,
+                &name,
+                prefix,
+                first,
+                Outcome::UnexpectedEof,
+            )?,
+            _ => lists_and_matches_reference(&rt, &name, prefix, first, Outcome::RecordData)?,
         }
     }
     Ok(())
 }
 
 #[test]
-fn markers_and_the_end_of_a_section(rt: HostRuntime) -> Result<(), Fail> {
+fn round_markers_at_the_section_end(rt: HostRuntime) -> Result<(), Fail> {
     let wanted = "0 0 20 0 9 0 8\n32 1 10 0 9 0 8\n";
     let parts = [Part::Sample(20), Part::RoundMarker(16), Part::Sample(10)];
-    reads(
+    lists_image(
         &rt,
         "a marker's body",
         (48, 4, 0),
         &parts,
         wanted,
-        End::Whole,
+        Outcome::Complete,
     )?;
     let both = "0 0 20 0 9 0 8\n16 0 10 0 9 0 8\n";
     let parts = [Part::Sample(20), Part::Sample(10)];
     for (size, wanted) in [(20, both), (16, "0 0 20 0 9 0 8\n"), (0, "")] {
-        reads(
+        lists_image(
             &rt,
             "a section's end",
             (size, 4, 0),
             &parts,
             wanted,
-            End::Whole,
+            Outcome::Complete,
         )?;
     }
-    reads(
+    lists_image(
         &rt,
         "markers alone",
         (16, 4, 0),
         &[Part::RoundMarker(16)],
         "",
-        End::Whole,
+        Outcome::Complete,
     )
 }
 
 #[test]
-fn records_of_every_kind(rt: HostRuntime) -> Result<(), Fail> {
+fn record_types(rt: HostRuntime) -> Result<(), Fail> {
     let parts = [Part::RecordHeader(73, 0, 8), Part::Sample(7)];
     let wanted = "0 0 - - 73 0 0\n8 0 7 0 9 0 8\n";
-    reads(&rt, "a user record", (24, 4, 0), &parts, wanted, End::Whole)?;
-    reads(
+    lists_image(
+        &rt,
+        "a user record",
+        (24, 4, 0),
+        &parts,
+        wanted,
+        Outcome::Complete,
+    )?;
+    lists_image(
         &rt,
         "no time",
         (16, 0, 0),
         &[Part::Sample(7)],
         "0 0 - 0 9 0 8\n",
-        End::Whole,
+        Outcome::Complete,
     )?;
-    let of_user = [Part::RecordHeader(9, 2, 16), Part::U64(20)];
+    let in_user_mode = [Part::RecordHeader(9, 2, 16), Part::U64(20)];
     let wanted = "0 0 20 0 9 2 8\n";
-    reads(&rt, "misc", (16, 4, 0), &of_user, wanted, End::Whole)?;
-    reads(
+    lists_image(
+        &rt,
+        "misc",
+        (16, 4, 0),
+        &in_user_mode,
+        wanted,
+        Outcome::Complete,
+    )?;
+    lists_image(
         &rt,
         "a size of 7",
         (8, 4, 0),
         &[Part::RecordHeader(9, 0, 7)],
         "",
-        End::Size,
+        Outcome::RecordSize,
     )?;
     let parts = [
         Part::RecordHeader(81, 0, 16),
         Part::Fill(0, 4),
         Part::Fill(0, 4),
     ];
-    reads(
+    lists_image(
         &rt,
-        "compressed, cut",
+        "compressed, truncated",
         (16, 4, 0),
         &parts[..2],
         "",
-        End::Data,
+        Outcome::RecordData,
     )?;
-    reads(&rt, "compressed", (16, 4, 0), &parts, "", End::Unsupported)
+    lists_image(
+        &rt,
+        "compressed",
+        (16, 4, 0),
+        &parts,
+        "",
+        Outcome::Unsupported,
+    )
 }
 
 #[test]
-fn records_with_trailing_ids(rt: HostRuntime) -> Result<(), Fail> {
+fn trailing_sample_ids(rt: HostRuntime) -> Result<(), Fail> {
     let parts = [
         Part::RecordHeader(3, 0, 32),
         Part::U64(1),
@@ -165,127 +217,155 @@ fn records_with_trailing_ids(rt: HostRuntime) -> Result<(), Fail> {
         Part::U64(5),
     ];
     let wanted = "0 0 33 0 3 0 24\n";
-    reads(
+    lists_image(
         &rt,
         "trailing ids",
         (32, 0x10006, 0x40000),
         &parts,
         wanted,
-        End::Whole,
+        Outcome::Complete,
     )?;
     let parts = [Part::RecordHeader(3, 0, 23), Part::Fill(1, 15)];
     let wanted = "0 0 - 0 3 0 15\n";
-    reads(
+    lists_image(
         &rt,
         "no room for ids",
         (23, 0x10006, 0x40000),
         &parts,
         wanted,
-        End::Whole,
+        Outcome::Complete,
     )
 }
 
 #[test]
-fn auxiliary_data(rt: HostRuntime) -> Result<(), Fail> {
+fn aux_data(rt: HostRuntime) -> Result<(), Fail> {
     let both = "0 0 - - 71 0 41\n49 0 20 0 9 0 8\n";
     let parts = [Part::Auxtrace(1, &[0]), Part::Sample(20)];
     for (size, wanted) in [(65, both), (48, "0 0 - - 71 0 41\n")] {
-        reads(
+        lists_image(
             &rt,
-            "one byte of it",
+            "one byte",
             (size, 4, 0),
             &parts,
             wanted,
-            End::Whole,
+            Outcome::Complete,
         )?;
     }
     let parts = [Part::Auxtrace(0, &[]), Part::Sample(20)];
     let wanted = "0 0 - - 71 0 40\n48 0 20 0 9 0 8\n";
-    reads(&rt, "none of it", (64, 4, 0), &parts, wanted, End::Whole)?;
+    lists_image(
+        &rt,
+        "no bytes",
+        (64, 4, 0),
+        &parts,
+        wanted,
+        Outcome::Complete,
+    )?;
     let parts = [Part::Auxtrace(u64::MAX, &[])];
-    reads(&rt, "too much of it", (64, 4, 0), &parts, "", End::Data)?;
+    lists_image(
+        &rt,
+        "too many bytes",
+        (64, 4, 0),
+        &parts,
+        "",
+        Outcome::RecordData,
+    )?;
     let parts = [Part::Auxtrace(9, &[1, 2, 3, 4, 5, 6, 7, 8])];
-    reads(&rt, "cut", (64, 4, 0), &parts, "", End::Data)?;
+    lists_image(
+        &rt,
+        "truncated",
+        (64, 4, 0),
+        &parts,
+        "",
+        Outcome::RecordData,
+    )?;
     let parts = [Part::RecordHeader(71, 0, 47), Part::Fill(0, 39)];
-    reads(&rt, "a short body", (47, 4, 0), &parts, "", End::Short)
+    lists_image(
+        &rt,
+        "a small body",
+        (47, 4, 0),
+        &parts,
+        "",
+        Outcome::UnexpectedEof,
+    )
 }
 
 #[test]
-fn memory_is_there(rt: HostRuntime) -> Result<(), Fail> {
+fn allocations_succeed(rt: HostRuntime) -> Result<(), Fail> {
     for size in 8..601u16 {
-        body_of(&rt, size)?;
+        lists_zero_body(&rt, size)?;
     }
     for size in [4104, 4105, 65535u16] {
-        body_of(&rt, size)?;
+        lists_zero_body(&rt, size)?;
     }
     Ok(())
 }
 
 /// Lists one sample of this size, whose body consists of zeros.
-fn body_of(rt: &(impl Abort + AllocGlobal), size: u16) -> Result<(), Fail> {
-    let long = (size as usize).saturating_sub(8);
-    let parts = [Part::RecordHeader(9, 0, size), Part::Fill(0, long)];
-    let wanted = format!(in rt.alloc(); "0 0 - 0 9 0 {long}\n")?;
-    reads(
+fn lists_zero_body(rt: &(impl Abort + AllocGlobal), size: u16) -> Result<(), Fail> {
+    let body_size = (size as usize).saturating_sub(8);
+    let parts = [Part::RecordHeader(9, 0, size), Part::Fill(0, body_size)];
+    let wanted = format!(in rt.alloc(); "0 0 - 0 9 0 {body_size}\n")?;
+    lists_image(
         rt,
         "a body of zeros",
         (size as u64, 0, 0),
         &parts,
         &wanted,
-        End::Whole,
+        Outcome::Complete,
     )
 }
 
 /// Compares the results of the first calls of `next_record` with the expected ones, one end for each call.
-fn ends(
+fn outcomes_are(
     rt: &(impl Abort + AllocGlobal),
     file: (u64, u64, u64),
     parts: &[Part<'_>],
-    wanted: &[End],
+    wanted: &[Outcome],
 ) -> Result<(), Fail> {
-    let image = little_file(rt.alloc(), file, parts)?;
+    let image = little_endian_file(rt.alloc(), file, parts)?;
     let PerfFileReader {
         mut perf_file,
         mut record_iter,
     } = PerfFileReader::parse_file(rt.alloc(), Cursor::new(image.bytes.as_slice()))?;
     for end in wanted {
-        let came = match record_iter.next_record(&mut perf_file) {
-            Ok(Some(_)) => End::Other,
-            Ok(None) => End::Whole,
-            Err(error) => End::of(&error),
+        let result = match record_iter.next_record(&mut perf_file) {
+            Ok(Some(_)) => Outcome::Other,
+            Ok(None) => Outcome::Complete,
+            Err(error) => Outcome::of(&error),
         };
-        same(rt, &came, end);
+        expect_eq(rt, &result, end);
     }
     Ok(())
 }
 
 #[test]
-fn an_error_and_an_end_stay(rt: HostRuntime) -> Result<(), Fail> {
-    let failed = [End::Size, End::Failed, End::Failed];
-    ends(&rt, (8, 4, 0), &[Part::RecordHeader(9, 0, 7)], &failed)?;
-    let ended = [End::Whole, End::Whole];
-    ends(&rt, (16, 4, 0), &[Part::RoundMarker(16)], &ended)?;
-    ends(&rt, (0, 4, 0), &[Part::Sample(20)], &ended[..1])
+fn error_and_end_are_final(rt: HostRuntime) -> Result<(), Fail> {
+    let failed = [Outcome::RecordSize, Outcome::Failed, Outcome::Failed];
+    outcomes_are(&rt, (8, 4, 0), &[Part::RecordHeader(9, 0, 7)], &failed)?;
+    let ended = [Outcome::Complete, Outcome::Complete];
+    outcomes_are(&rt, (16, 4, 0), &[Part::RoundMarker(16)], &ended)?;
+    outcomes_are(&rt, (0, 4, 0), &[Part::Sample(20)], &ended[..1])
 }
 
 #[test]
-fn what_a_file_says_of_itself(rt: HostRuntime) -> Result<(), Fail> {
+fn attributes_and_endianness(rt: HostRuntime) -> Result<(), Fail> {
     for endian in [Endianness::LittleEndian, Endianness::BigEndian] {
         let image = Image::first_file(rt.alloc(), endian)?;
         let reader = PerfFileReader::parse_file(rt.alloc(), Cursor::new(image.bytes.as_slice()))?;
-        same(&rt, &reader.perf_file.endian(), &endian);
-        check(&rt, reader.perf_file.features().is_empty());
+        expect_eq(&rt, &reader.perf_file.endian(), &endian);
+        expect(&rt, reader.perf_file.features().is_empty());
         let attributes = reader.perf_file.event_attributes();
-        same(&rt, &attributes.len(), &1);
-        same(&rt, &attributes[0].attributes().sample_format.0, &4);
-        check(&rt, attributes[0].name().is_none());
-        check(&rt, attributes[0].ids().is_empty());
+        expect_eq(&rt, &attributes.len(), &1);
+        expect_eq(&rt, &attributes[0].attributes().sample_format.0, &4);
+        expect(&rt, attributes[0].name().is_none());
+        expect(&rt, attributes[0].ids().is_empty());
     }
     Ok(())
 }
 
 /// Compares the exit status and the line on standard error after a file is listed.
-fn ends_with(
+fn status_and_line_are(
     rt: &(impl Abort + AllocGlobal),
     file: &[u8],
     status: u8,
@@ -295,30 +375,40 @@ fn ends_with(
     let mut err: Vec<u8> = Vec::new(rt.alloc());
     let listed = list_file(rt.alloc(), Cursor::new(file), &mut out);
     let outcome = flush_listing(listed, &mut out);
-    same(rt, &finish(outcome, &mut err)?, &status);
-    same(rt, &err.as_slice(), &line.as_bytes());
+    expect_eq(rt, &finish(outcome, &mut err)?, &status);
+    expect_eq(rt, &err.as_slice(), &line.as_bytes());
     Ok(())
 }
 
 #[test]
-fn the_program_reports_an_error(rt: HostRuntime) -> Result<(), Fail> {
+fn error_line_and_status(rt: HostRuntime) -> Result<(), Fail> {
     let good = Image::first_file(rt.alloc(), Endianness::LittleEndian)?;
-    ends_with(&rt, &good.bytes, 0, "")?;
-    let cut = good.bytes.get(..200).unwrap_or(&[]);
-    ends_with(&rt, cut, 2, "perflist: fault after 1 records\n")?;
-    let bad = little_file(rt.alloc(), (8, 4, 0), &[Part::RecordHeader(9, 0, 7)])?;
-    ends_with(&rt, &bad.bytes, 2, "perflist: fault after 0 records\n")
+    status_and_line_are(&rt, &good.bytes, 0, "")?;
+    let truncated = good.bytes.get(..200).unwrap_or(&[]);
+    status_and_line_are(&rt, truncated, 2, "perflist: fault after 1 records\n")?;
+    let bad = little_endian_file(rt.alloc(), (8, 4, 0), &[Part::RecordHeader(9, 0, 7)])?;
+    status_and_line_are(&rt, &bad.bytes, 2, "perflist: fault after 0 records\n")
 }
 
 #[test]
 fn interrupted_reads(rt: HostRuntime) -> Result<(), Fail> {
     let file = Image::first_file(rt.alloc(), Endianness::LittleEndian)?;
-    let source = one_by_one(rt.alloc(), &file.bytes)?;
-    lists(&rt, "a file", "one byte a read", source, FIRST, End::Whole);
-    for (times, lines, end) in [(16usize, FIRST, End::Whole), (17, "", End::Interrupted)] {
+    let source = byte_by_byte(rt.alloc(), &file.bytes)?;
+    lists_source(
+        &rt,
+        "a file",
+        "one byte a read",
+        source,
+        FIRST_LINES,
+        Outcome::Complete,
+    );
+    for (times, lines, end) in [
+        (16usize, FIRST_LINES, Outcome::Complete),
+        (17, "", Outcome::Interrupted),
+    ] {
         // the header and the attribute have 168 bytes
-        let source = interrupted(rt.alloc(), &file.bytes, 168, times)?;
-        lists(&rt, "a file", "interrupted", source, lines, end);
+        let source = interrupted_source(rt.alloc(), &file.bytes, 168, times)?;
+        lists_source(&rt, "a file", "interrupted", source, lines, end);
     }
     Ok(())
 }
@@ -328,9 +418,28 @@ fn interrupted_reads(rt: HostRuntime) -> Result<(), Fail> {
 fn metadata_among_the_records_of_a_file(rt: HostRuntime) -> Result<(), Fail> {
     let parts = [Part::Sample(1), Part::HeaderAttr(4, 0, &[])];
     let wanted = "0 0 1 0 9 0 8\n16 0 - - 64 0 64\n";
-    reads(&rt, "an attribute", (88, 4, 0), &parts, wanted, End::Whole)?;
-    let cut = [Part::Sample(1), Part::RecordHeader(80, 0, 8)];
+    lists_image(
+        &rt,
+        "an attribute",
+        (88, 4, 0),
+        &parts,
+        wanted,
+        Outcome::Complete,
+    )?;
+    let without_body = [Part::Sample(1), Part::RecordHeader(80, 0, 8)];
     let wanted = "0 0 1 0 9 0 8\n16 0 - - 80 0 0\n";
-    reads(&rt, "no contents", (24, 4, 0), &cut, wanted, End::Whole)?;
-    ends(&rt, (24, 4, 0), &cut, &[End::Other, End::Other, End::Whole])
+    lists_image(
+        &rt,
+        "no body",
+        (24, 4, 0),
+        &without_body,
+        wanted,
+        Outcome::Complete,
+    )?;
+    outcomes_are(
+        &rt,
+        (24, 4, 0),
+        &without_body,
+        &[Outcome::Other, Outcome::Other, Outcome::Complete],
+    )
 }

@@ -4,7 +4,7 @@
 #[cfg(test)]
 mod attributes;
 #[cfg(test)]
-mod compare;
+mod expect;
 #[cfg(test)]
 mod features;
 #[cfg(test)]

@@ -1,106 +1,111 @@
 //! Listings of files, compared with the expected lines and end.
-use crate::compare::{same, same_at};
+use crate::expect::expect_eq_at;
 use linux_perf_data::Endianness;
 use linux_perf_data::source::{Counted, PlacedSource};
 use perfdata_listing::list::{ListCause, ListFault, list_file};
 use std::io::{BufReader, Cursor};
 use std::process::Abort;
 use std::test::Fail;
-use test_support::ending::End;
-use test_support::image::{Image, Part, little_file};
-use test_support::plain;
+use test_support::image::{Image, Part, little_endian_file};
+use test_support::outcome::Outcome;
+use test_support::reference;
 
-pub fn end_of(listed: &Result<u64, ListFault>) -> End {
+pub fn outcome_of(listed: &Result<u64, ListFault>) -> Outcome {
     match listed {
-        Ok(_) => End::Whole,
-        Err(fault) => match &fault.cause {
-            ListCause::Perf(error) => End::of(error),
-            _ => End::Other,
+        Ok(_) => Outcome::Complete,
+        Err(error) => match &error.cause {
+            ListCause::Perf(error) => Outcome::of(error),
+            _ => Outcome::Other,
         },
     }
 }
 
-pub fn lines_of(listed: &Result<u64, ListFault>) -> u64 {
+pub fn line_count(listed: &Result<u64, ListFault>) -> u64 {
     match listed {
         Ok(lines) => *lines,
-        Err(fault) => fault.lines,
+        Err(error) => error.lines,
     }
 }
 
 /// Lists a file from a source, and compares the lines, their number and the end with the expected ones.
-pub fn lists<C: PlacedSource + Drop>(
+pub fn lists_source<C: PlacedSource + Drop>(
     rt: &(impl Abort + AllocGlobal),
     name: &str,
-    way: &str,
+    source_name: &str,
     source: C,
     wanted: &str,
-    end: End,
+    end: Outcome,
 ) {
     let mut out: Vec<u8> = Vec::new(rt.alloc());
     let listed = list_file(rt.alloc(), source, &mut out);
-    same_at(rt, &(name, way), &end_of(&listed), &end);
-    same_at(
+    expect_eq_at(rt, &(name, source_name), &outcome_of(&listed), &end);
+    expect_eq_at(
         rt,
-        &(name, way),
-        &lines_of(&listed),
+        &(name, source_name),
+        &line_count(&listed),
         &(wanted.lines().count() as u64),
     );
-    same_at(rt, &(name, way), &out.as_slice(), &wanted.as_bytes());
+    expect_eq_at(
+        rt,
+        &(name, source_name),
+        &out.as_slice(),
+        &wanted.as_bytes(),
+    );
 }
 
 /// Lists a file from a borrowed, an owned and a counted source.
-pub fn shows(
+pub fn lists_three_ways(
     rt: &(impl Abort + AllocGlobal),
     name: &str,
     file: &[u8],
     wanted: &str,
-    end: End,
+    end: Outcome,
 ) -> Result<(), Fail> {
-    lists(rt, name, "lent", Cursor::new(file), wanted, end);
+    lists_source(rt, name, "borrowed", Cursor::new(file), wanted, end);
     let copy = Vec::from_slice(rt.alloc(), file)?;
-    lists(rt, name, "owned", Cursor::new(copy), wanted, end);
+    lists_source(rt, name, "owned", Cursor::new(copy), wanted, end);
     let buffered = BufReader::new(rt.alloc(), Cursor::new(file))?;
-    lists(rt, name, "counted", Counted::new(buffered), wanted, end);
+    lists_source(rt, name, "counted", Counted::new(buffered), wanted, end);
     Ok(())
 }
 
 /// Lists a file that opens in the same ways, and compares the reference implementation's result too.
-pub fn opens(
+pub fn lists_and_matches_reference(
     rt: &(impl Abort + AllocGlobal),
     name: &str,
     file: &[u8],
     wanted: &str,
-    end: End,
+    end: Outcome,
 ) -> Result<(), Fail> {
-    shows(rt, name, file, wanted, end)?;
-    let (text, plain) = plain::lines_of(rt.alloc(), file)?;
-    same_at(rt, &name, &(text.as_str(), plain), &(wanted, end));
+    lists_three_ways(rt, name, file, wanted, end)?;
+    let (text, outcome) = reference::file_lines(rt.alloc(), file)?;
+    expect_eq_at(rt, &name, &(text.as_str(), outcome), &(wanted, end));
     Ok(())
 }
 
 /// Lists a file of these parts, which opens, and compares the lines and the end.
-pub fn reads(
+pub fn lists_image(
     rt: &(impl Abort + AllocGlobal),
     name: &str,
     file: (u64, u64, u64),
     parts: &[Part<'_>],
     wanted: &str,
-    end: End,
+    end: Outcome,
 ) -> Result<(), Fail> {
-    let image = little_file(rt.alloc(), file, parts)?;
-    opens(rt, name, &image.bytes, wanted, end)
+    let image = little_endian_file(rt.alloc(), file, parts)?;
+    lists_and_matches_reference(rt, name, &image.bytes, wanted, end)
 }
 
-pub const FIRST: &str = "0 0 20 0 9 0 8\n24 1 10 0 9 0 8\n";
+pub const FIRST_LINES: &str = "0 0 20 0 9 0 8\n24 1 10 0 9 0 8\n";
 
 /// Lists `first_file` with these numbers written at these offsets, which doesn't open.
-pub fn patched(
+pub fn patched_file_fails(
     rt: &(impl Abort + AllocGlobal),
     name: &str,
     endian: Endianness,
     patches: &[(usize, u64)],
-    end: End,
+    end: Outcome,
 ) -> Result<(), Fail> {
     let image = Image::patched_first_file(rt.alloc(), endian, patches)?;
-    shows(rt, name, &image.bytes, "", end)
+    lists_three_ways(rt, name, &image.bytes, "", end)
 }

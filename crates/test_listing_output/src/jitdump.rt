@@ -1,5 +1,5 @@
 //! Listings of jitdump files.
-use crate::compare::{check, same};
+use crate::expect::{expect, expect_eq};
 use linux_perf_data::source::{Counted, Source, Step};
 use perfdata_listing::jit::list_jit;
 use perfdata_listing::list::{ListCause, ListFault};
@@ -8,9 +8,9 @@ use std::io::{Cursor, ErrorKind};
 use std::process::Abort;
 use std::test::Fail;
 use test_support::recordings::JITDUMP;
-use test_support::sources::scripted;
+use test_support::sources::script_of;
 
-const FIRST: &[u8] = b"40 9 0 62\n";
+const FIRST_LINE: &[u8] = b"40 9 0 62\n";
 
 const LINES: &[u8] = b"40 9 0 62\n102 11 3 16\n";
 
@@ -39,113 +39,123 @@ const NODE_LINES: &[u8] =
 
 /// The end of a listing.
 #[derive(Clone, Copy, Debug, PartialEq, Eq)]
-pub enum End {
-    Whole,
-    Unopened,
+pub enum JitOutcome {
+    Complete,
+    OpenError,
     Read(ErrorKind),
     Write(ErrorKind),
     Other,
 }
 
 // The end of a listing and the number of lines that it reports.
-pub fn end_of(listed: Result<u64, ListFault>) -> (End, u64) {
+pub fn jit_outcome(listed: Result<u64, ListFault>) -> (JitOutcome, u64) {
     match listed {
-        Ok(lines) => (End::Whole, lines),
-        Err(fault) => {
-            let end = match fault.cause {
-                ListCause::Jit(_) => End::Unopened,
-                ListCause::Read(error) => End::Read(error.kind()),
-                ListCause::Write(error) => End::Write(error.kind()),
-                ListCause::Perf(_) => End::Other,
+        Ok(lines) => (JitOutcome::Complete, lines),
+        Err(error) => {
+            let end = match error.cause {
+                ListCause::Jit(_) => JitOutcome::OpenError,
+                ListCause::Read(error) => JitOutcome::Read(error.kind()),
+                ListCause::Write(error) => JitOutcome::Write(error.kind()),
+                ListCause::Perf(_) => JitOutcome::Other,
             };
-            (end, fault.lines)
+            (end, error.lines)
         }
     }
 }
 
 // The end of a listing of a jitdump file, the number of lines that it reports, and the lines.
-fn listed<R: Source + Drop>(alloc: Global, source: R) -> (End, u64, Vec<u8>) {
+fn list_jit_into_vec<R: Source + Drop>(alloc: Global, source: R) -> (JitOutcome, u64, Vec<u8>) {
     let mut out: Vec<u8> = Vec::new(alloc);
-    let (end, lines) = end_of(list_jit(alloc, source, &mut out));
+    let (end, lines) = jit_outcome(list_jit(alloc, source, &mut out));
     (end, lines, out)
 }
 
 /// Lists a jitdump file from a source, and compares the end, the number of lines and the lines with the expected ones.
-fn lists<R: Source + Drop>(
+fn lists_jit_source<R: Source + Drop>(
     rt: &(impl Abort + AllocGlobal),
     source: R,
-    end: End,
+    end: JitOutcome,
     lines: u64,
     wanted: &[u8],
 ) {
-    let (came, counted, out) = listed(rt.alloc(), source);
-    same(rt, &(came, counted, out.as_slice()), &(end, lines, wanted));
+    let (outcome, counted, out) = list_jit_into_vec(rt.alloc(), source);
+    expect_eq(
+        rt,
+        &(outcome, counted, out.as_slice()),
+        &(end, lines, wanted),
+    );
 }
 
 #[test]
 fn lists_a_jitdump_file(rt: HostRuntime) -> Result<(), Fail> {
-    lists(&rt, JITDUMP.as_slice(), End::Whole, 2, LINES);
+    lists_jit_source(&rt, JITDUMP.as_slice(), JitOutcome::Complete, 2, LINES);
     let file = Counted::new(Cursor::new(JITDUMP.as_slice()));
-    lists(&rt, file, End::Whole, 2, LINES);
+    lists_jit_source(&rt, file, JitOutcome::Complete, 2, LINES);
     Ok(())
 }
 
 #[test]
-fn lists_what_node_wrote(rt: HostRuntime) -> Result<(), Fail> {
-    lists(&rt, NODE.as_slice(), End::Whole, 3, NODE_LINES);
+fn lists_a_jitdump_of_node(rt: HostRuntime) -> Result<(), Fail> {
+    lists_jit_source(&rt, NODE.as_slice(), JitOutcome::Complete, 3, NODE_LINES);
     Ok(())
 }
 
 #[test]
-fn lists_what_is_whole(rt: HostRuntime) -> Result<(), Fail> {
+fn lists_complete_records(rt: HostRuntime) -> Result<(), Fail> {
     // the number of bytes, the end, the number of lines that the listing reports, and the lines
-    let cases: [(usize, End, u64, &[u8]); 7] = [
-        (0, End::Unopened, 0, b""),
-        (39, End::Unopened, 0, b""),
-        (40, End::Whole, 0, b""),
-        (101, End::Whole, 0, b""),
-        (102, End::Whole, 1, FIRST),
-        (117, End::Whole, 1, FIRST),
-        (118, End::Whole, 2, LINES),
+    let cases: [(usize, JitOutcome, u64, &[u8]); 7] = [
+        (0, JitOutcome::OpenError, 0, b""),
+        (39, JitOutcome::OpenError, 0, b""),
+        (40, JitOutcome::Complete, 0, b""),
+        (101, JitOutcome::Complete, 0, b""),
+        (102, JitOutcome::Complete, 1, FIRST_LINE),
+        (117, JitOutcome::Complete, 1, FIRST_LINE),
+        (118, JitOutcome::Complete, 2, LINES),
     ];
-    for (shown, end, lines, wanted) in cases {
-        let prefix = JITDUMP.get(..shown);
-        check(&rt, prefix.is_some());
-        lists(&rt, prefix.unwrap_or(&[]), end, lines, wanted);
+    for (len, end, lines, wanted) in cases {
+        let prefix = JITDUMP.get(..len);
+        expect(&rt, prefix.is_some());
+        lists_jit_source(&rt, prefix.unwrap_or(&[]), end, lines, wanted);
     }
     let mut bytes = JITDUMP;
     bytes[106] = 15;
     let bytes = bytes.as_slice();
-    lists(&rt, bytes, End::Read(ErrorKind::InvalidData), 1, FIRST);
+    lists_jit_source(
+        &rt,
+        bytes,
+        JitOutcome::Read(ErrorKind::InvalidData),
+        1,
+        FIRST_LINE,
+    );
     Ok(())
 }
 
 #[test]
-fn lists_lines_before_an_error(rt: HostRuntime) -> Result<(), Fail> {
+fn counts_lines_before_an_error(rt: HostRuntime) -> Result<(), Fail> {
     let error = Step::Fault(ErrorKind::TimedOut);
-    let failed = End::Read(ErrorKind::TimedOut);
-    let cases: [(&[Step], End, &[u8]); 4] = [
-        (&[Step::Give(39), error], End::Unopened, b""),
+    let failed = JitOutcome::Read(ErrorKind::TimedOut);
+    let cases: [(&[Step], JitOutcome, &[u8]); 4] = [
+        (&[Step::Give(39), error], JitOutcome::OpenError, b""),
         (&[Step::Give(40), Step::Pause, error], failed, b""),
-        (&[Step::Give(102), Step::Pause, error], failed, FIRST),
-        (&[Step::Give(110), Step::Pause, error], failed, FIRST),
+        (&[Step::Give(102), Step::Pause, error], failed, FIRST_LINE),
+        (&[Step::Give(110), Step::Pause, error], failed, FIRST_LINE),
     ];
     for (steps, end, wanted) in cases {
         let lines = if wanted.is_empty() { 0 } else { 1 };
         let steps = Vec::from_slice(rt.alloc(), steps)?;
-        let source = scripted(rt.alloc(), &JITDUMP, steps)?;
-        lists(&rt, source, end, lines, wanted);
+        let source = script_of(rt.alloc(), &JITDUMP, steps)?;
+        lists_jit_source(&rt, source, end, lines, wanted);
     }
     Ok(())
 }
 
 #[test]
-fn a_listing_ends_at_an_empty_read(rt: HostRuntime) -> Result<(), Fail> {
+fn listing_ends_at_an_empty_read(rt: HostRuntime) -> Result<(), Fail> {
     // the first record arrives completely
     let steps = [Step::Give(102), Step::Pause, Step::Pause];
-    let source = scripted(rt.alloc(), &JITDUMP, Vec::from_array(rt.alloc(), steps)?)?;
+    let source = script_of(rt.alloc(), &JITDUMP, Vec::from_array(rt.alloc(), steps)?)?;
     let mut out: Vec<u8> = Vec::new(rt.alloc());
     let lines = list_jit(rt.alloc(), source, &mut out).ok();
-    same(&rt, &lines, &Some(1));
+    expect_eq(&rt, &lines, &Some(1));
     Ok(())
 }

@@ -2,7 +2,7 @@
 #![tactic(auto)]
 
 #[cfg(test)]
-mod compare;
+mod expect;
 #[cfg(test)]
 mod jitdump;
 #[cfg(test)]

@@ -5,8 +5,8 @@ use std::io::{Error, ErrorKind, Result, Write};
 /// Accepts at most `most` bytes a call. Once it contains `capacity` bytes, it fails, or accepts no more.
 #[derive(Drop)]
 pub struct LimitedWriter {
-    pub taken: Vec<u8>,
-    most: usize,
+    pub written: Vec<u8>,
+    max_per_call: usize,
     capacity: usize,
     error: Option<ErrorKind>,
     pub writes: u64,
@@ -16,13 +16,13 @@ pub struct LimitedWriter {
 impl LimitedWriter {
     pub fn new(
         alloc: Global,
-        most: usize,
+        max_per_call: usize,
         capacity: usize,
         error: Option<ErrorKind>,
     ) -> LimitedWriter {
         LimitedWriter {
-            taken: Vec::new(alloc),
-            most,
+            written: Vec::new(alloc),
+            max_per_call,
             capacity,
             error,
             writes: 0,
@@ -34,15 +34,15 @@ impl LimitedWriter {
 impl Write for LimitedWriter {
     fn write(&mut self, bytes: &[u8]) -> Result<usize> {
         self.writes = self.writes.saturating_add(1);
-        let left = self.capacity.saturating_sub(self.taken.len());
-        let count = bytes.len().min(self.most).min(left);
+        let remaining = self.capacity.saturating_sub(self.written.len());
+        let count = bytes.len().min(self.max_per_call).min(remaining);
         if count == 0 {
             return match self.error {
                 Some(kind) => Err(Error::from(kind)),
                 None => Ok(0),
             };
         }
-        self.taken.extend_from_slice(&bytes[..count])?;
+        self.written.extend_from_slice(&bytes[..count])?;
         Ok(count)
     }
 

@@ -1,9 +1,9 @@
 //! The text of lines.
-use crate::compare::check;
+use crate::expect::expect;
 use perfdata_listing::line::{Line, RecordFields};
 use std::test::Fail;
 
-const NONE: RecordFields = RecordFields {
+const ZERO: RecordFields = RecordFields {
     offset: 0,
     round: 0,
     timestamp: None,
@@ -13,18 +13,18 @@ const NONE: RecordFields = RecordFields {
     body_length: 0,
 };
 
-fn holds(line: &Line, text: &[u8]) -> bool {
+fn has_text(line: &Line, text: &[u8]) -> bool {
     line.as_bytes() == text
 }
 
-fn is_jit(line: &mut Line, numbers: (u64, u64, u32, u64), text: &[u8]) -> bool {
-    let (offset, time, kind, size) = numbers;
-    line.set_jit_record(offset, time, kind, size);
-    holds(line, text)
+fn has_jit_text(line: &mut Line, numbers: (u64, u64, u32, u64), text: &[u8]) -> bool {
+    let (offset, time, record_type, size) = numbers;
+    line.set_jit_record(offset, time, record_type, size);
+    has_text(line, text)
 }
 
 #[test]
-fn writes_lines(rt: HostRuntime) -> Result<(), Fail> {
+fn formats_record_lines(rt: HostRuntime) -> Result<(), Fail> {
     let sample = RecordFields {
         offset: 104,
         round: 3,
@@ -43,47 +43,47 @@ fn writes_lines(rt: HostRuntime) -> Result<(), Fail> {
         misc: u16::MAX,
         body_length: u64::MAX,
     };
-    let of_tool = RecordFields {
+    let user_record = RecordFields {
         record_type: 73,
         body_length: 10_000,
-        ..NONE
+        ..ZERO
     };
     let cases: [(RecordFields, &[u8]); 4] = [
-        (NONE, b"0 0 - - 0 0 0\n"),
+        (ZERO, b"0 0 - - 0 0 0\n"),
         (sample, b"104 3 1000200030004 0 9 2 40\n"),
-        (of_tool, b"0 0 - - 73 0 10000\n"),
+        (user_record, b"0 0 - - 73 0 10000\n"),
         (
             longest,
             b"18446744073709551615 18446744073709551615 18446744073709551615 18446744073709551615 4294967295 65535 18446744073709551615\n",
         ),
     ];
     let mut line = Line::new();
-    check(&rt, holds(&line, b""));
+    expect(&rt, has_text(&line, b""));
     for (fields, text) in cases {
         line.set_record(fields);
-        check(&rt, holds(&line, text));
+        expect(&rt, has_text(&line, text));
     }
     Ok(())
 }
 
 #[test]
-fn writes_jit_lines(rt: HostRuntime) -> Result<(), Fail> {
+fn formats_jit_lines(rt: HostRuntime) -> Result<(), Fail> {
     let most = u64::MAX;
     let mut line = Line::new();
-    check(
+    expect(
         &rt,
-        is_jit(
+        has_jit_text(
             &mut line,
             (most, 1_000, u32::MAX, most),
             b"18446744073709551615 1000 4294967295 18446744073709551615\n",
         ),
     );
-    check(&rt, is_jit(&mut line, (40, 0, 3, 16), b"40 0 3 16\n"));
+    expect(&rt, has_jit_text(&mut line, (40, 0, 3, 16), b"40 0 3 16\n"));
     Ok(())
 }
 
 #[test]
-fn writes_error_lines(rt: HostRuntime) -> Result<(), Fail> {
+fn formats_error_lines(rt: HostRuntime) -> Result<(), Fail> {
     let cases: [(u64, &[u8]); 4] = [
         (0, b"perflist: fault after 0 records\n"),
         (1, b"perflist: fault after 1 records\n"),
@@ -94,7 +94,7 @@ fn writes_error_lines(rt: HostRuntime) -> Result<(), Fail> {
         ),
     ];
     for (records, text) in cases {
-        check(&rt, holds(&Line::for_error(records), text));
+        expect(&rt, has_text(&Line::for_error(records), text));
     }
     Ok(())
 }

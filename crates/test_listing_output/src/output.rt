@@ -1,12 +1,12 @@
 //! Output to a writer that may fail.
-use crate::compare::{check, check_at};
+use crate::expect::{expect, expect_at};
 use crate::limited_writer::LimitedWriter;
 use perfdata_listing::output::{CountingBufWriter, finish, write_line};
 use std::io;
 use std::io::{ErrorKind, Write};
 use std::test::Fail;
 
-fn kind_of<T: Drop>(outcome: io::Result<T>) -> Option<ErrorKind> {
+fn error_kind_of<T: Drop>(outcome: io::Result<T>) -> Option<ErrorKind> {
     match outcome {
         Ok(_) => None,
         Err(error) => Some(error.kind()),
@@ -14,7 +14,7 @@ fn kind_of<T: Drop>(outcome: io::Result<T>) -> Option<ErrorKind> {
 }
 
 #[test]
-fn writes_a_line_or_a_prefix(rt: HostRuntime) -> Result<(), Fail> {
+fn writes_line_or_prefix(rt: HostRuntime) -> Result<(), Fail> {
     let line = b"104 3 77 0 9 2 40\n";
     let interrupted = Some(ErrorKind::Interrupted);
     let full = Some(ErrorKind::StorageFull);
@@ -29,40 +29,44 @@ fn writes_a_line_or_a_prefix(rt: HostRuntime) -> Result<(), Fail> {
         (5, 10, interrupted, 10, 3, interrupted),
         (5, 10, None, 10, 3, Some(ErrorKind::WriteZero)),
     ];
-    for (most, capacity, error, taken, calls, kind) in cases {
-        let mut out = LimitedWriter::new(rt.alloc(), most, capacity, error);
-        let written = write_line(&mut out, line);
-        check_at(&rt, &(most, capacity), kind_of(written) == kind);
-        check_at(
+    for (max_per_call, capacity, error, len, calls, kind) in cases {
+        let mut out = LimitedWriter::new(rt.alloc(), max_per_call, capacity, error);
+        let result = write_line(&mut out, line);
+        expect_at(
             &rt,
-            &(most, capacity),
-            out.taken.as_slice() == &line[..taken],
+            &(max_per_call, capacity),
+            error_kind_of(result) == kind,
         );
-        check_at(&rt, &(most, capacity), out.writes == calls);
+        expect_at(
+            &rt,
+            &(max_per_call, capacity),
+            out.written.as_slice() == &line[..len],
+        );
+        expect_at(&rt, &(max_per_call, capacity), out.writes == calls);
     }
     Ok(())
 }
 
 #[test]
-fn finishes(rt: HostRuntime) -> Result<(), Fail> {
+fn writes_error_line_and_status(rt: HostRuntime) -> Result<(), Fail> {
     let full = Some(ErrorKind::StorageFull);
     let mut out = LimitedWriter::new(rt.alloc(), 9, 100, None);
-    check(&rt, finish(Ok(7), &mut out)? == 0);
-    check(&rt, out.taken.is_empty());
-    check(&rt, finish(Err(7), &mut out)? == 2);
-    check(
+    expect(&rt, finish(Ok(7), &mut out)? == 0);
+    expect(&rt, out.written.is_empty());
+    expect(&rt, finish(Err(7), &mut out)? == 2);
+    expect(
         &rt,
-        out.taken.as_slice() == b"perflist: fault after 7 records\n".as_slice(),
+        out.written.as_slice() == b"perflist: fault after 7 records\n".as_slice(),
     );
 
     let mut short = LimitedWriter::new(rt.alloc(), 9, 12, full);
-    check(&rt, kind_of(finish(Err(7), &mut short)) == full);
-    check(&rt, short.taken.as_slice() == b"perflist: fa".as_slice());
+    expect(&rt, error_kind_of(finish(Err(7), &mut short)) == full);
+    expect(&rt, short.written.as_slice() == b"perflist: fa".as_slice());
 
     let mut none = LimitedWriter::new(rt.alloc(), 9, 0, None);
-    check(
+    expect(
         &rt,
-        kind_of(finish(Err(7), &mut none)) == Some(ErrorKind::WriteZero),
+        error_kind_of(finish(Err(7), &mut none)) == Some(ErrorKind::WriteZero),
     );
     Ok(())
 }
@@ -78,27 +82,27 @@ fn counts_written_lines(rt: HostRuntime) -> Result<(), Fail> {
         for _ in 0..10 {
             write_line(&mut out, b"abc\n")?;
         }
-        check_at(&rt, &capacity, out.lines_written() == 0);
+        expect_at(&rt, &capacity, out.lines_written() == 0);
         let flushed = out.flush();
-        check_at(&rt, &capacity, flushed.is_ok() == (capacity >= 40));
-        check_at(&rt, &capacity, out.lines_written() == lines);
+        expect_at(&rt, &capacity, flushed.is_ok() == (capacity >= 40));
+        expect_at(&rt, &capacity, out.lines_written() == lines);
         drop(out);
-        check_at(&rt, &capacity, inner.taken.len() == capacity.min(40));
+        expect_at(&rt, &capacity, inner.written.len() == capacity.min(40));
     }
     Ok(())
 }
 
 #[test]
-fn writes_more_than_it_holds(rt: HostRuntime) -> Result<(), Fail> {
+fn writes_more_than_capacity(rt: HostRuntime) -> Result<(), Fail> {
     let line = b"0123456789abcde\n".as_slice();
     let many = line.repeat(rt.alloc(), 10_000)?;
     let mut inner = LimitedWriter::new(rt.alloc(), 1_000_000, 100_000, None);
     let mut out = CountingBufWriter::new(rt.alloc(), &mut inner)?;
-    let written = write_line(&mut out, many.as_slice());
-    check(&rt, kind_of(written) == Some(ErrorKind::WriteZero));
-    check(&rt, out.lines_written() == 100_000 / 16);
+    let result = write_line(&mut out, many.as_slice());
+    expect(&rt, error_kind_of(result) == Some(ErrorKind::WriteZero));
+    expect(&rt, out.lines_written() == 100_000 / 16);
     drop(out);
-    check(&rt, inner.taken.len() == 100_000);
-    check(&rt, many.as_slice().starts_with(inner.taken.as_slice()));
+    expect(&rt, inner.written.len() == 100_000);
+    expect(&rt, many.as_slice().starts_with(inner.written.as_slice()));
     Ok(())
 }

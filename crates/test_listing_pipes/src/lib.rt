@@ -2,8 +2,8 @@
 #![tactic(auto)]
 
 #[cfg(test)]
-mod compare;
+mod expect;
 #[cfg(test)]
-mod late;
+mod late_metadata;
 #[cfg(test)]
 mod pipes;

@@ -1,6 +1,6 @@
 //! Listings of pipes: their lines and their end, and how far their source is read.
-use crate::compare::{check, check_at, same, same_at};
-use crate::late::has_host;
+use crate::expect::{expect, expect_at, expect_eq, expect_eq_at};
+use crate::late_metadata::hostname_and_features;
 use linux_perf_data::source::{Counted, Script, Source, Step};
 use linux_perf_data::{Endianness, Feature, PerfFile, PerfFileReader, SimpleperfFileRecord};
 use perfdata_listing::list::{ListCause, ListFault, list_pipe};
@@ -8,235 +8,275 @@ use std::alloc::{AllocError, Global};
 use std::io::{BufReader, Cursor, ErrorKind};
 use std::process::Abort;
 use std::test::Fail;
-use test_support::ending::End;
-use test_support::image::{Image, Part, little_pipe, piped};
+use test_support::image::{Image, Part, little_endian_pipe, pipe_image};
+use test_support::outcome::Outcome;
 use test_support::recordings::{
     SYMBOLS_FILE, SYMBOLS_FILE2, TWO_ATTRIBUTES, event_desc, event_desc_of,
 };
-use test_support::sources::{interrupted, one_by_one, scripted, steps_of};
+use test_support::sources::{byte_by_byte, bytes_then, interrupted_source, script_of};
 
-fn end_of(listed: &Result<u64, ListFault>) -> End {
+fn outcome_of(listed: &Result<u64, ListFault>) -> Outcome {
     match listed {
-        Ok(_) => End::Whole,
-        Err(fault) => match &fault.cause {
-            ListCause::Perf(error) => End::of(error),
-            _ => End::Other,
+        Ok(_) => Outcome::Complete,
+        Err(error) => match &error.cause {
+            ListCause::Perf(error) => Outcome::of(error),
+            _ => Outcome::Other,
         },
     }
 }
 
-fn lines_of(listed: &Result<u64, ListFault>) -> u64 {
+fn line_count(listed: &Result<u64, ListFault>) -> u64 {
     match listed {
         Ok(lines) => *lines,
-        Err(fault) => fault.lines,
+        Err(error) => error.lines,
     }
 }
 
 /// The end of a listing of a pipe, the number of lines that it reports, and the lines.
-pub fn listed<R: Source + Drop>(alloc: Global, source: R) -> (End, u64, Vec<u8>) {
+pub fn list_into_vec<R: Source + Drop>(alloc: Global, source: R) -> (Outcome, u64, Vec<u8>) {
     let mut out: Vec<u8> = Vec::new(alloc);
     let listed = list_pipe(alloc, source, &mut out);
-    (end_of(&listed), lines_of(&listed), out)
+    (outcome_of(&listed), line_count(&listed), out)
 }
 
 /// Lists a pipe from a source, and compares the end, the number of lines and the lines with the expected ones.
-fn pipes<R: Source + Drop>(
+fn lists_pipe_source<R: Source + Drop>(
     rt: &(impl Abort + AllocGlobal),
     name: &str,
-    way: &str,
+    source_name: &str,
     source: R,
     wanted: &str,
-    end: End,
+    end: Outcome,
 ) {
-    let (came, counted, out) = listed(rt.alloc(), source);
+    let (outcome, counted, out) = list_into_vec(rt.alloc(), source);
     let lines = wanted.lines().count() as u64;
-    same_at(
+    expect_eq_at(
         rt,
-        &(name, way),
-        &(came, counted, out.as_slice()),
+        &(name, source_name),
+        &(outcome, counted, out.as_slice()),
         &(end, lines, wanted.as_bytes()),
     );
 }
 
 /// Lists a pipe from a borrowed, an owned and a counted source, and from a source that returns one byte a read.
-pub fn shows(
+pub fn lists_four_ways(
     rt: &(impl Abort + AllocGlobal),
     name: &str,
     bytes: &[u8],
     wanted: &str,
-    end: End,
+    end: Outcome,
 ) -> Result<(), Fail> {
-    pipes(rt, name, "lent", bytes, wanted, end);
+    lists_pipe_source(rt, name, "borrowed", bytes, wanted, end);
     let copy = Vec::from_slice(rt.alloc(), bytes)?;
-    pipes(rt, name, "owned", Cursor::new(copy), wanted, end);
+    lists_pipe_source(rt, name, "owned", Cursor::new(copy), wanted, end);
     let buffered = BufReader::new(rt.alloc(), bytes)?;
-    pipes(rt, name, "counted", Counted::new(buffered), wanted, end);
-    let source = one_by_one(rt.alloc(), bytes)?;
-    pipes(rt, name, "one byte a read", source, wanted, end);
+    lists_pipe_source(rt, name, "counted", Counted::new(buffered), wanted, end);
+    let source = byte_by_byte(rt.alloc(), bytes)?;
+    lists_pipe_source(rt, name, "one byte a read", source, wanted, end);
     Ok(())
 }
 
 /// Lists a little-endian pipe of these parts, and compares the lines and the end.
-pub fn reads(
+pub fn lists_parts(
     rt: &(impl Abort + AllocGlobal),
     name: &str,
     parts: &[Part<'_>],
     wanted: &str,
-    end: End,
+    end: Outcome,
 ) -> Result<(), Fail> {
-    let image = little_pipe(rt.alloc(), parts)?;
-    shows(rt, name, &image.bytes, wanted, end)
+    let image = little_endian_pipe(rt.alloc(), parts)?;
+    lists_four_ways(rt, name, &image.bytes, wanted, end)
 }
 
-const PLAIN: Part<'_> = Part::HeaderAttr(4, 0, &[]);
+const ONE_ATTRIBUTE: Part<'_> = Part::HeaderAttr(4, 0, &[]);
 
-const TWO_LINES: &str = "0 0 7 1 9 0 16\n24 0 8 0 9 0 16\n";
+const SHARED_ID_LINES: &str = "0 0 7 1 9 0 16\n24 0 8 0 9 0 16\n";
 
 /// An attribute, an auxtrace record with one byte of aux data, and a sample: 153 bytes.
-const TRACED: [Part<'_>; 3] = [PLAIN, Part::Auxtrace(1, &[0]), Part::Sample(20)];
+const AUXTRACE_AND_SAMPLE: [Part<'_>; 3] = [
+    ONE_ATTRIBUTE,
+    Part::Auxtrace(1, &[0]),
+    Part::Sample(20),
+];
 
-const TRACED_LINES: &str = "0 0 - - 71 0 41\n49 0 20 0 9 0 8\n";
+const AUXTRACE_AND_SAMPLE_LINES: &str = "0 0 - - 71 0 41\n49 0 20 0 9 0 8\n";
 
-const TRACE_LINE: &str = "0 0 - - 71 0 41\n";
+const AUXTRACE_LINE: &str = "0 0 - - 71 0 41\n";
 
 /// Lists a pipe with this byte order and these parts, compares the lines, and returns its size in bytes.
-fn reads_in(
+fn lists_with_endian(
     rt: &(impl Abort + AllocGlobal),
     name: &str,
     endian: Endianness,
     parts: &[Part<'_>],
     wanted: &str,
 ) -> Result<usize, Fail> {
-    let image = piped(rt.alloc(), endian, parts)?;
-    shows(rt, name, &image.bytes, wanted, End::Whole)?;
+    let image = pipe_image(rt.alloc(), endian, parts)?;
+    lists_four_ways(rt, name, &image.bytes, wanted, Outcome::Complete)?;
     Ok(image.bytes.len())
 }
 
 #[test]
-fn lines_of_pipes(rt: HostRuntime) -> Result<(), Fail> {
+fn lists_pipes(rt: HostRuntime) -> Result<(), Fail> {
     for endian in [Endianness::LittleEndian, Endianness::BigEndian] {
-        let _ = reads_in(&rt, "two attributes", endian, &TWO_ATTRIBUTES, TWO_LINES)?;
-        let long = reads_in(&rt, "a trace", endian, &TRACED, TRACED_LINES)?;
-        same(&rt, &long, &153);
+        let _ = lists_with_endian(
+            &rt,
+            "two attributes",
+            endian,
+            &TWO_ATTRIBUTES,
+            SHARED_ID_LINES,
+        )?;
+        let len = lists_with_endian(
+            &rt,
+            "aux data",
+            endian,
+            &AUXTRACE_AND_SAMPLE,
+            AUXTRACE_AND_SAMPLE_LINES,
+        )?;
+        expect_eq(&rt, &len, &153);
     }
-    reads(
+    lists_parts(
         &rt,
         "a marker's body",
-        &[PLAIN, Part::RoundMarker(16), Part::Sample(3)],
+        &[ONE_ATTRIBUTE, Part::RoundMarker(16), Part::Sample(3)],
         "16 1 3 0 9 0 8\n",
-        End::Whole,
+        Outcome::Complete,
     )
 }
 
 #[test]
-fn attributes_of_pipes_with_errors(rt: HostRuntime) -> Result<(), Fail> {
+fn invalid_attributes_fail(rt: HostRuntime) -> Result<(), Fail> {
     let first = Part::HeaderAttr(0x10004, 0, &[]);
     let lacks = [first, Part::HeaderAttr(4, 0, &[])];
     let differs = [first, Part::HeaderAttr(0x10004, 0x40000, &[])];
     for (name, parts, end) in [
-        ("no IDENTIFIER", lacks.as_slice(), End::Lacks(1)),
-        ("another SAMPLE_ID_ALL", &differs, End::Differs(1)),
-        ("no attributes", &[], End::NoAttributes),
-        ("a record alone", &[Part::Sample(3)], End::NoAttributes),
+        ("no IDENTIFIER", lacks.as_slice(), Outcome::NoIdentifier(1)),
+        ("another SAMPLE_ID_ALL", &differs, Outcome::SampleIdAll(1)),
+        ("no attributes", &[], Outcome::NoAttributes),
+        ("a record alone", &[Part::Sample(3)], Outcome::NoAttributes),
     ] {
-        reads(&rt, name, parts, "", end)?;
+        lists_parts(&rt, name, parts, "", end)?;
     }
     Ok(())
 }
 
 #[test]
-fn ends_of_pipes(rt: HostRuntime) -> Result<(), Fail> {
+fn pipe_ends(rt: HostRuntime) -> Result<(), Fail> {
     // the first 12 bytes of a sample with the time 20
     let sample = [
-        PLAIN,
+        ONE_ATTRIBUTE,
         Part::RecordHeader(9, 0, 16),
         Part::Bytes(&[20, 0, 0, 0]),
     ];
-    let compressed = [PLAIN, Part::RecordHeader(81, 0, 16), Part::Fill(0, 4)];
-    let marker = [PLAIN, Part::RecordHeader(68, 0, 16), Part::Fill(0, 4)];
-    let small = [PLAIN, Part::RecordHeader(9, 0, 7)];
+    let compressed = [
+        ONE_ATTRIBUTE,
+        Part::RecordHeader(81, 0, 16),
+        Part::Fill(0, 4),
+    ];
+    let marker = [
+        ONE_ATTRIBUTE,
+        Part::RecordHeader(68, 0, 16),
+        Part::Fill(0, 4),
+    ];
+    let small = [ONE_ATTRIBUTE, Part::RecordHeader(9, 0, 7)];
     let small_first = [Part::RecordHeader(64, 0, 7)];
-    let whole = [PLAIN, Part::RecordHeader(81, 0, 16), Part::Fill(0, 8)];
-    let trace = [PLAIN, Part::RecordHeader(71, 0, 47), Part::Fill(0, 39)];
+    let whole = [
+        ONE_ATTRIBUTE,
+        Part::RecordHeader(81, 0, 16),
+        Part::Fill(0, 8),
+    ];
+    let small_auxtrace = [
+        ONE_ATTRIBUTE,
+        Part::RecordHeader(71, 0, 47),
+        Part::Fill(0, 39),
+    ];
     for (name, parts, end) in [
-        ("a cut sample", sample.as_slice(), End::Whole),
-        ("a cut compressed record", &compressed, End::Whole),
-        ("a cut marker", &marker, End::Whole),
-        ("a compressed record", &whole, End::Unsupported),
-        ("a short body of auxiliary data", &trace, End::Short),
-        ("a size of 7", &small, End::Size),
-        ("a size of 7 in front", &small_first, End::Size),
+        ("a truncated sample", sample.as_slice(), Outcome::Complete),
+        (
+            "a truncated compressed record",
+            &compressed,
+            Outcome::Complete,
+        ),
+        ("a truncated marker", &marker, Outcome::Complete),
+        ("a compressed record", &whole, Outcome::Unsupported),
+        (
+            "a small auxtrace record",
+            &small_auxtrace,
+            Outcome::UnexpectedEof,
+        ),
+        ("a size of 7", &small, Outcome::RecordSize),
+        ("a size of 7 first", &small_first, Outcome::RecordSize),
     ] {
-        reads(&rt, name, parts, "", end)?;
+        lists_parts(&rt, name, parts, "", end)?;
     }
     Ok(())
 }
 
 #[test]
-fn an_opening_takes_all_of_its_metadata(rt: HostRuntime) -> Result<(), Fail> {
+fn opening_reads_all_metadata(rt: HostRuntime) -> Result<(), Fail> {
     let two = [
-        PLAIN,
-        PLAIN,
+        ONE_ATTRIBUTE,
+        ONE_ATTRIBUTE,
         Part::RecordHeader(81, 0, 16),
         Part::Fill(0, 8),
     ];
-    reads(&rt, "two attributes", &two, "", End::Unsupported)?;
+    lists_parts(&rt, "two attributes", &two, "", Outcome::Unsupported)?;
     let none = [Part::RecordHeader(81, 0, 16), Part::Fill(0, 8)];
-    reads(&rt, "no attribute", &none, "", End::NoAttributes)?;
+    lists_parts(&rt, "no attribute", &none, "", Outcome::NoAttributes)?;
     let small = event_desc(rt.alloc(), Endianness::LittleEndian, 56)?;
     let later = event_desc(rt.alloc(), Endianness::LittleEndian, 64)?;
     // later names don't replace the names of the opening
     let named = [
-        PLAIN,
+        ONE_ATTRIBUTE,
         Part::HeaderFeature(12, &small.bytes),
         Part::Sample(3),
         Part::HeaderFeature(12, &later.bytes),
     ];
-    reads(&rt, "names that come later", &named, "", End::Sizes)
+    lists_parts(&rt, "late names", &named, "", Outcome::AttributeSizes)
 }
 
 /// The end of a pipe's opening, whatever its records are.
-fn opening_of(rt: &impl AllocGlobal, bytes: &[u8]) -> End {
+fn open_outcome(rt: &impl AllocGlobal, bytes: &[u8]) -> Outcome {
     match PerfFileReader::parse_pipe(rt.alloc(), bytes) {
-        Ok(_) => End::Whole,
-        Err(error) => End::of(&error),
+        Ok(_) => Outcome::Complete,
+        Err(error) => Outcome::of(&error),
     }
 }
 
 #[test]
-fn every_prefix_of_a_pipe(rt: HostRuntime) -> Result<(), Fail> {
-    let image = little_pipe(rt.alloc(), &TRACED)?;
+fn truncation_at_each_byte(rt: HostRuntime) -> Result<(), Fail> {
+    let image = little_endian_pipe(rt.alloc(), &AUXTRACE_AND_SAMPLE)?;
     for index in 0..image.bytes.len() {
-        is_truncated(&rt, &image.bytes, index)?;
+        truncation_is(&rt, &image.bytes, index)?;
     }
     Ok(())
 }
 
-/// Compares the results for the first `length` bytes of `TRACED`: the end of the opening, the lines, and the end of the listing.
-fn is_truncated(rt: &(impl Abort + AllocGlobal), bytes: &[u8], length: usize) -> Result<(), Fail> {
-    let cut = bytes.get(..length).unwrap_or(&[]);
-    let name = format!(in rt.alloc(); "cut to {length}")?;
+/// Compares the results for the first `length` bytes of `AUXTRACE_AND_SAMPLE`: the end of the opening, the lines, and the end of the listing.
+fn truncation_is(rt: &(impl Abort + AllocGlobal), bytes: &[u8], length: usize) -> Result<(), Fail> {
+    let prefix = bytes.get(..length).unwrap_or(&[]);
+    let name = format!(in rt.alloc(); "truncated to {length}")?;
     let (opening, lines, end) = match length {
-        0..=15 => (End::Short, "", End::Short),
-        16..=23 => (End::NoAttributes, "", End::NoAttributes),
-        24..=87 => (End::Short, "", End::Short),
-        88..=135 => (End::Whole, "", End::Whole),
-        136 => (End::Whole, "", End::Data),
-        _ => (End::Whole, TRACE_LINE, End::Whole),
+        0..=15 => (Outcome::UnexpectedEof, "", Outcome::UnexpectedEof),
+        16..=23 => (Outcome::NoAttributes, "", Outcome::NoAttributes),
+        24..=87 => (Outcome::UnexpectedEof, "", Outcome::UnexpectedEof),
+        88..=135 => (Outcome::Complete, "", Outcome::Complete),
+        136 => (Outcome::Complete, "", Outcome::RecordData),
+        _ => (Outcome::Complete, AUXTRACE_LINE, Outcome::Complete),
     };
-    same_at(rt, &name, &opening_of(rt, cut), &opening);
-    shows(rt, &name, cut, lines, end)
+    expect_eq_at(rt, &name, &open_outcome(rt, prefix), &opening);
+    lists_four_ways(rt, &name, prefix, lines, end)
 }
 
 /// Opens a pipe.
-pub fn opened<R: Source + Drop>(alloc: Global, source: R) -> Result<PerfFileReader<R>, Fail> {
+pub fn open_pipe<R: Source + Drop>(alloc: Global, source: R) -> Result<PerfFileReader<R>, Fail> {
     Ok(PerfFileReader::parse_pipe(alloc, source)?)
 }
 
 /// The metadata of a pipe of these parts after its opening.
-fn metadata_of(alloc: Global, parts: &[Part<'_>]) -> Result<PerfFile, Fail> {
-    let image = little_pipe(alloc, parts)?;
-    Ok(opened(alloc, image.bytes.as_slice())?.perf_file)
+fn open_file_state(alloc: Global, parts: &[Part<'_>]) -> Result<PerfFile, Fail> {
+    let image = little_endian_pipe(alloc, parts)?;
+    Ok(open_pipe(alloc, image.bytes.as_slice())?.perf_file)
 }
 
 /// Whether the reader of a pipe returns `count` more records.
@@ -254,70 +294,103 @@ fn has_records<R: Source + Drop>(reader: PerfFileReader<R>, count: usize) -> Res
 }
 
 /// The number of remaining bytes of a pipe after it is opened and `calls` records are read.
-fn left_after(rt: &(impl Abort + AllocGlobal), bytes: &[u8], calls: usize) -> Result<usize, Fail> {
+fn remaining_after(
+    rt: &(impl Abort + AllocGlobal),
+    bytes: &[u8],
+    calls: usize,
+) -> Result<usize, Fail> {
     let mut rest = bytes;
-    let came = has_records(opened(rt.alloc(), &mut rest)?, calls)?;
-    check(rt, came);
+    let has_all = has_records(open_pipe(rt.alloc(), &mut rest)?, calls)?;
+    expect(rt, has_all);
     Ok(rest.len())
 }
 
 #[test]
-fn nothing_is_read_ahead(rt: HostRuntime) -> Result<(), Fail> {
-    let image = little_pipe(rt.alloc(), &TRACED)?;
-    for (calls, left) in [(0usize, 57usize), (1, 16), (2, 0)] {
-        same_at(&rt, &calls, &left_after(&rt, &image.bytes, calls)?, &left);
+fn no_read_ahead(rt: HostRuntime) -> Result<(), Fail> {
+    let image = little_endian_pipe(rt.alloc(), &AUXTRACE_AND_SAMPLE)?;
+    for (calls, remaining) in [(0usize, 57usize), (1, 16), (2, 0)] {
+        expect_eq_at(
+            &rt,
+            &calls,
+            &remaining_after(&rt, &image.bytes, calls)?,
+            &remaining,
+        );
     }
     Ok(())
 }
 
 #[test]
-fn a_longer_header(rt: HostRuntime) -> Result<(), Fail> {
+fn long_pipe_header(rt: HostRuntime) -> Result<(), Fail> {
     let early = [Part::Fill(7, 2)];
-    let whole = [Part::Fill(7, 4), PLAIN, Part::Sample(3)];
+    let whole = [Part::Fill(7, 4), ONE_ATTRIBUTE, Part::Sample(3)];
     for (name, parts, wanted, end) in [
-        ("it ends early", early.as_slice(), "", End::NoAttributes),
-        ("four bytes more", &whole, LINE, End::Whole),
+        ("it ends early", early.as_slice(), "", Outcome::NoAttributes),
+        ("four bytes more", &whole, SAMPLE_LINE, Outcome::Complete),
     ] {
-        let image = with_header_of_twenty(rt.alloc(), parts)?;
-        shows(&rt, name, &image.bytes, wanted, end)?;
+        let image = with_header_size_20(rt.alloc(), parts)?;
+        lists_four_ways(&rt, name, &image.bytes, wanted, end)?;
     }
-    shows(&rt, "zeros", &[0u8; 16], "", End::ZeroMagic)
+    lists_four_ways(&rt, "zeros", &[0u8; 16], "", Outcome::ZeroMagic)
 }
 
 /// A pipe of these parts whose header declares a size of 20 bytes.
-fn with_header_of_twenty(alloc: Global, parts: &[Part<'_>]) -> Result<Image, AllocError> {
-    let mut image = little_pipe(alloc, parts)?;
+fn with_header_size_20(alloc: Global, parts: &[Part<'_>]) -> Result<Image, AllocError> {
+    let mut image = little_endian_pipe(alloc, parts)?;
     image.overwrite_u64(8, 20);
     Ok(image)
 }
 
-const LINE: &str = "0 0 3 0 9 0 8\n";
+const SAMPLE_LINE: &str = "0 0 3 0 9 0 8\n";
 
 /// A feature that no set contains, and its data.
-const FEATURE_300: [Part<'_>; 3] = [PLAIN, Part::HeaderFeature(300, b"a"), Part::Sample(3)];
+const FEATURE_300: [Part<'_>; 3] = [
+    ONE_ATTRIBUTE,
+    Part::HeaderFeature(300, b"a"),
+    Part::Sample(3),
+];
 
 /// A host name, and another one whose feature number has 64 bits.
-const TWO_NAMES: [Part<'_>; 3] = [
+const TWO_HOSTNAMES: [Part<'_>; 3] = [
     Part::HeaderFeature(3, &[1, 0, 0, 0, b'a']),
-    PLAIN,
+    ONE_ATTRIBUTE,
     Part::HeaderFeature((1 << 32) + 3, &[1, 0, 0, 0, b'b']),
 ];
 
 #[test]
-fn features_of_pipes(rt: HostRuntime) -> Result<(), Fail> {
-    reads(&rt, "feature 300", &FEATURE_300, LINE, End::Whole)?;
-    let file = metadata_of(rt.alloc(), &FEATURE_300)?;
-    check_at(&rt, &"no set has it", file.features().is_empty());
+fn pipe_features(rt: HostRuntime) -> Result<(), Fail> {
+    lists_parts(
+        &rt,
+        "feature 300",
+        &FEATURE_300,
+        SAMPLE_LINE,
+        Outcome::Complete,
+    )?;
+    let file = open_file_state(rt.alloc(), &FEATURE_300)?;
+    expect_at(&rt, &"no set has it", file.features().is_empty());
     let data = file.feature_section_data(Feature(300));
-    same(&rt, &data, &Some(b"a".as_slice()));
-    let file = metadata_of(rt.alloc(), &TWO_NAMES)?;
-    same(&rt, &has_host(&file, Some("b"))?, &(false, 1, true));
-    let cut = [PLAIN, Part::RecordHeader(80, 0, 12), Part::Fill(0, 4)];
-    reads(&rt, "a cut number", &cut, "", End::Short)
+    expect_eq(&rt, &data, &Some(b"a".as_slice()));
+    let file = open_file_state(rt.alloc(), &TWO_HOSTNAMES)?;
+    expect_eq(
+        &rt,
+        &hostname_and_features(&file, Some("b"))?,
+        &(false, 1, true),
+    );
+    let truncated = [
+        ONE_ATTRIBUTE,
+        Part::RecordHeader(80, 0, 12),
+        Part::Fill(0, 4),
+    ];
+    lists_parts(
+        &rt,
+        "a truncated number",
+        &truncated,
+        "",
+        Outcome::UnexpectedEof,
+    )
 }
 
 #[test]
-fn the_first_description_names(rt: HostRuntime) -> Result<(), Fail> {
+fn first_description_names_the_attribute(rt: HostRuntime) -> Result<(), Fail> {
     for (letters, name) in [
         (b"cd".as_slice(), Some("c")),
         (b"\xffd", None),
@@ -329,8 +402,8 @@ fn the_first_description_names(rt: HostRuntime) -> Result<(), Fail> {
             Part::HeaderFeature(12, &events.bytes),
             Part::HeaderAttr(4, 0, &[5]),
         ];
-        let file = metadata_of(rt.alloc(), &parts)?;
-        same_at(&rt, &letters, &first_name(&file), &name);
+        let file = open_file_state(rt.alloc(), &parts)?;
+        expect_eq_at(&rt, &letters, &first_name(&file), &name);
     }
     Ok(())
 }
@@ -341,7 +414,7 @@ pub fn first_name(file: &PerfFile) -> Option<&str> {
 }
 
 /// Compares the name that EVENT_DESC contains for an attribute with these ids, and the pipe's line.
-fn is_named(
+fn event_desc_names(
     rt: &(impl Abort + AllocGlobal),
     events: &[u8],
     ids: &'static [u64],
@@ -352,11 +425,11 @@ fn is_named(
         Part::HeaderFeature(12, events),
         Part::Sample(3),
     ];
-    reads(rt, "EVENT_DESC", &parts, LINE, End::Whole)?;
-    let file = metadata_of(rt.alloc(), &parts)?;
+    lists_parts(rt, "EVENT_DESC", &parts, SAMPLE_LINE, Outcome::Complete)?;
+    let file = open_file_state(rt.alloc(), &parts)?;
     let attributes = file.event_attributes();
-    same(rt, &attributes.len(), &1);
-    same(
+    expect_eq(rt, &attributes.len(), &1);
+    expect_eq(
         rt,
         &(attributes[0].ids(), attributes[0].name()),
         &(ids, name),
@@ -365,14 +438,20 @@ fn is_named(
 }
 
 #[test]
-fn event_desc_names_attributes(rt: HostRuntime) -> Result<(), Fail> {
+fn attribute_names_from_event_desc(rt: HostRuntime) -> Result<(), Fail> {
     let events = event_desc(rt.alloc(), Endianness::LittleEndian, 64)?;
-    same(&rt, &events.bytes.len(), &90);
-    is_named(&rt, &events.bytes, &[5], Some("c"))?;
-    is_named(&rt, &events.bytes, &[6], None)?;
+    expect_eq(&rt, &events.bytes.len(), &90);
+    event_desc_names(&rt, &events.bytes, &[5], Some("c"))?;
+    event_desc_names(&rt, &events.bytes, &[6], None)?;
     let small = event_desc(rt.alloc(), Endianness::LittleEndian, 56)?;
-    let parts = [PLAIN, Part::HeaderFeature(12, &small.bytes)];
-    reads(&rt, "a small frame", &parts, "", End::Sizes)
+    let parts = [ONE_ATTRIBUTE, Part::HeaderFeature(12, &small.bytes)];
+    lists_parts(
+        &rt,
+        "a small attribute size",
+        &parts,
+        "",
+        Outcome::AttributeSizes,
+    )
 }
 
 #[test]
@@ -381,15 +460,18 @@ fn symbol_tables_of_pipes(rt: HostRuntime) -> Result<(), Fail> {
         (132, SYMBOLS_FILE2.as_slice(), 128),
         (128, SYMBOLS_FILE.as_slice(), 16),
     ] {
-        let file = metadata_of(rt.alloc(), &[PLAIN, Part::HeaderFeature(feature, content)])?;
+        let file = open_file_state(
+            rt.alloc(),
+            &[ONE_ATTRIBUTE, Part::HeaderFeature(feature, content)],
+        )?;
         let tables = file.simpleperf_symbol_tables(rt.alloc())?;
-        check_at(&rt, &feature, are_one(&tables, "a", address));
+        expect_at(&rt, &feature, is_single_table(&tables, "a", address));
     }
     Ok(())
 }
 
 /// Whether there is exactly one symbol table, with this path and this minimum address.
-fn are_one(tables: &Option<Vec<SimpleperfFileRecord>>, path: &str, address: u64) -> bool {
+fn is_single_table(tables: &Option<Vec<SimpleperfFileRecord>>, path: &str, address: u64) -> bool {
     let Some(records) = tables else {
         return false;
     };
@@ -398,71 +480,77 @@ fn are_one(tables: &Option<Vec<SimpleperfFileRecord>>, path: &str, address: u64)
 }
 
 #[test]
-fn memory_is_there_for_pipes(rt: HostRuntime) -> Result<(), Fail> {
+fn allocations_succeed(rt: HostRuntime) -> Result<(), Fail> {
     for size in 8..601u16 {
-        body_of(&rt, size)?;
+        lists_zero_body(&rt, size)?;
     }
     for size in [4104, 4105, 65535u16] {
-        body_of(&rt, size)?;
+        lists_zero_body(&rt, size)?;
     }
     Ok(())
 }
 
 /// Lists one sample of this size, whose body consists of zeros.
-fn body_of(rt: &(impl Abort + AllocGlobal), size: u16) -> Result<(), Fail> {
-    let long = (size as usize).saturating_sub(8);
+fn lists_zero_body(rt: &(impl Abort + AllocGlobal), size: u16) -> Result<(), Fail> {
+    let body_size = (size as usize).saturating_sub(8);
     let parts = [
         Part::HeaderAttr(0, 0, &[]),
         Part::RecordHeader(9, 0, size),
-        Part::Fill(0, long),
+        Part::Fill(0, body_size),
     ];
-    let wanted = format!(in rt.alloc(); "0 0 - 0 9 0 {long}\n")?;
-    let image = little_pipe(rt.alloc(), &parts)?;
+    let wanted = format!(in rt.alloc(); "0 0 - 0 9 0 {body_size}\n")?;
+    let image = little_endian_pipe(rt.alloc(), &parts)?;
     let source = image.bytes.as_slice();
-    pipes(rt, "a body of zeros", "lent", source, &wanted, End::Whole);
+    lists_pipe_source(
+        rt,
+        "a body of zeros",
+        "borrowed",
+        source,
+        &wanted,
+        Outcome::Complete,
+    );
     Ok(())
 }
 
 #[test]
 fn interrupted_reads_of_pipes(rt: HostRuntime) -> Result<(), Fail> {
-    let pipe = little_pipe(rt.alloc(), &TRACED)?;
+    let pipe = little_endian_pipe(rt.alloc(), &AUXTRACE_AND_SAMPLE)?;
     for (times, lines, end) in [
-        (16usize, TRACED_LINES, End::Whole),
-        (17, "", End::Interrupted),
+        (16usize, AUXTRACE_AND_SAMPLE_LINES, Outcome::Complete),
+        (17, "", Outcome::Interrupted),
     ] {
         // the header and the attribute have 88 bytes
-        let source = interrupted(rt.alloc(), &pipe.bytes, 88, times)?;
-        pipes(&rt, "a pipe", "interrupted", source, lines, end);
+        let source = interrupted_source(rt.alloc(), &pipe.bytes, 88, times)?;
+        lists_pipe_source(&rt, "a pipe", "interrupted", source, lines, end);
     }
     Ok(())
 }
 
-/// A source that returns `given` bytes, then an interrupted error and then a timeout.
-fn failing(alloc: Global, bytes: &[u8], given: usize) -> Result<Script, AllocError> {
-    let mut steps = steps_of(alloc, Step::Give(1), given)?;
-    steps.push(Step::Fault(ErrorKind::Interrupted))?;
+/// A source that returns `prefix_len` bytes, then an interrupted error and then a timeout.
+fn failing_source(alloc: Global, bytes: &[u8], prefix_len: usize) -> Result<Script, AllocError> {
+    let mut steps = bytes_then(alloc, prefix_len, Step::Fault(ErrorKind::Interrupted))?;
     steps.push(Step::Fault(ErrorKind::TimedOut))?;
-    scripted(alloc, bytes, steps)
+    script_of(alloc, bytes, steps)
 }
 
 #[test]
-fn an_error_is_no_end(rt: HostRuntime) -> Result<(), Fail> {
-    let image = little_pipe(rt.alloc(), &TRACED)?;
-    for given in 0..image.bytes.len() {
-        let source = failing(rt.alloc(), &image.bytes, given)?;
-        let (lines, end) = of_error(given);
-        pipes(&rt, "a pipe", "failing", source, lines, end);
+fn read_error_is_not_the_end(rt: HostRuntime) -> Result<(), Fail> {
+    let image = little_endian_pipe(rt.alloc(), &AUXTRACE_AND_SAMPLE)?;
+    for prefix_len in 0..image.bytes.len() {
+        let source = failing_source(rt.alloc(), &image.bytes, prefix_len)?;
+        let (lines, end) = expected_after_error(prefix_len);
+        lists_pipe_source(&rt, "a pipe", "failing", source, lines, end);
     }
     Ok(())
 }
 
-/// The lines of `TRACED` and the end, if its source fails after `given` bytes.
-fn of_error(given: usize) -> (&'static str, End) {
-    match given {
+/// The lines of `AUXTRACE_AND_SAMPLE` and the end, if its source fails after `prefix_len` bytes.
+fn expected_after_error(prefix_len: usize) -> (&'static str, Outcome) {
+    match prefix_len {
         // in the pipe header and the attribute's record, and in a record header
-        0..=95 => ("", End::Other),
-        96..=136 => ("", End::Data),
-        137..=144 => (TRACE_LINE, End::Other),
-        _ => (TRACE_LINE, End::Data),
+        0..=95 => ("", Outcome::Other),
+        96..=136 => ("", Outcome::RecordData),
+        137..=144 => (AUXTRACE_LINE, Outcome::Other),
+        _ => (AUXTRACE_LINE, Outcome::RecordData),
     }
 }

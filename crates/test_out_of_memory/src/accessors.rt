@@ -46,7 +46,7 @@ fn call_accessor(file: &PerfFile, alloc: Global, which: &str) -> Result<Option<b
     match which {
         "cmdline" => Ok(
             file.cmdline(alloc)?
-                .map(|words| words.as_slice() == ["perf", "record"].as_slice()),
+                .map(|args| args.as_slice() == ["perf", "record"].as_slice()),
         ),
         "build_ids" => {
             let ids = file.build_ids(alloc)?;
@@ -72,7 +72,7 @@ fn call_each_twice(rt: &HostRuntime, file: &PerfFile) -> io::Result<()> {
     for name in NAMES {
         for _ in 0..2 {
             match call_accessor(file, rt.alloc(), name) {
-                Ok(Some(right)) => println!(rt; "{name} {right}")?,
+                Ok(Some(is_expected)) => println!(rt; "{name} {is_expected}")?,
                 Ok(None) => println!(rt; "{name} none")?,
                 Err(error) => println!(rt; "{name} {}", error_name(&error))?,
             }

@@ -17,9 +17,9 @@ struct ByteByByte {
 }
 
 impl Read for ByteByByte {
-    fn read(&mut self, place: &mut [u8]) -> io::Result<usize> {
-        let count = place.len().min(1);
-        self.file.read(&mut place[..count])
+    fn read(&mut self, buf: &mut [u8]) -> io::Result<usize> {
+        let count = buf.len().min(1);
+        self.file.read(&mut buf[..count])
     }
 }
 
@@ -64,10 +64,10 @@ fn print_records<R: Source + Drop>(
     for _ in 0..MAX_CALLS {
         let offset = reader.next_record_offset();
         match next_result(&mut reader) {
-            CallResult::Record(time, kind, size, first, second) => {
-                println!(rt; "{offset} {time} {kind} {size} {first} {second}")?
+            CallResult::Record(time, record_type, size, first, second) => {
+                println!(rt; "{offset} {time} {record_type} {size} {first} {second}")?
             }
-            CallResult::Name(word) => println!(rt; "{offset} {word}")?,
+            CallResult::Name(name) => println!(rt; "{offset} {name}")?,
         }
     }
     Ok(())

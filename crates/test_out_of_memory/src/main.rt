@@ -18,9 +18,9 @@ use std::{env, io};
 
 /// Runs the scenario of the arguments `SCENARIO PATH`.
 fn run(rt: &HostRuntime) -> io::Result<()> {
-    let mut words = env::args(rt)?;
-    let _program = words.next();
-    let (Some(scenario), Some(path)) = (words.next(), words.next()) else {
+    let mut args = env::args(rt)?;
+    let _program = args.next();
+    let (Some(scenario), Some(path)) = (args.next(), args.next()) else {
         return Ok(());
     };
     match scenario.as_str() {

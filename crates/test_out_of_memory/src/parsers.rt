@@ -68,8 +68,8 @@ pub fn run_parsers(rt: &HostRuntime) -> io::Result<()> {
     for name in NAMES {
         for _ in 0..2 {
             match call_parser(rt.alloc(), name) {
-                Ok(right) => println!(rt; "{name} {right}")?,
-                Err(word) => println!(rt; "{name} {word}")?,
+                Ok(is_expected) => println!(rt; "{name} {is_expected}")?,
+                Err(error) => println!(rt; "{name} {error}")?,
             }
         }
     }

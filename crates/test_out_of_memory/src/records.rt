@@ -2,7 +2,7 @@
 
 use crate::error_names::error_name;
 use linux_perf_data::source::{Counted, Source};
-use linux_perf_data::{PerfFile, PerfFileReader, PerfFileRecord, PerfRecordIter};
+use linux_perf_data::{PerfFile, PerfFileReader, PerfRecordIter};
 use std::fs::File;
 use std::io;
 
@@ -15,22 +15,12 @@ enum CallResult {
     Name(&'static str),
 }
 
-/// The offset, type and body size of a record.
-fn summary_of(offset: u64, record: &PerfFileRecord<'_>) -> CallResult {
-    match record {
-        PerfFileRecord::EventRecord { event, .. } => {
-            CallResult::Record(offset, event.record_type.0, event.body.len())
-        }
-        PerfFileRecord::UserRecord(user) => {
-            CallResult::Record(offset, user.record_type.record_type().0, user.body.len())
-        }
-    }
-}
-
 /// Calls for the next record.
 fn next_result<R: Source>(records: &mut PerfRecordIter<R>, file: &mut PerfFile) -> CallResult {
     match records.next_record(file) {
-        Ok(Some((place, record))) => summary_of(place.offset, &record),
+        Ok(Some((place, record))) => {
+            CallResult::Record(place.offset, record.record_type().0, record.body().len())
+        }
         Ok(None) => CallResult::Name("end"),
         Err(error) => CallResult::Name(error_name(&error)),
     }
@@ -43,13 +33,13 @@ fn print_records<R: Source + Drop>(rt: &HostRuntime, reader: PerfFileReader<R>) 
         mut record_iter,
     } = reader;
     for _ in 0..MAX_CALLS {
-        let came = next_result(&mut record_iter, &mut perf_file);
+        let call = next_result(&mut record_iter, &mut perf_file);
         let count = perf_file.event_attributes().len();
-        match came {
-            CallResult::Record(offset, kind, long) => println!(rt;
-                "{offset} {kind} {long} {count}"
+        match call {
+            CallResult::Record(offset, record_type, body_size) => println!(rt;
+                "{offset} {record_type} {body_size} {count}"
             )?,
-            CallResult::Name(word) => println!(rt; "{word} {count}")?,
+            CallResult::Name(name) => println!(rt; "{name} {count}")?,
         }
     }
     Ok(())

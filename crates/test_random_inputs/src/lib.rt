@@ -2,6 +2,6 @@
 #![tactic(auto)]
 
 #[cfg(test)]
-mod compare;
+mod expect;
 #[cfg(test)]
-mod random;
+mod random_inputs;

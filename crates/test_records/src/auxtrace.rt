@@ -1,47 +1,41 @@
 //! Auxtrace records: whatever the split, in both byte orders, and errors.
-use crate::compare::{check_at, same, same_at};
+use crate::expect::{expect_at, expect_eq, expect_eq_at};
 use byteorder::{BigEndian, LittleEndian};
 use perfdata_base::raw::{FileOrder, RawData};
 use perfdata_parts::auxtrace::Auxtrace;
 use std::io::ErrorKind;
-use test_support::values::by_kind;
-
-// The body of an auxtrace record with one byte of aux data, and an extra byte.
-pub const BODY: [u8; 42] = [
-    1, 0, 0, 0, 0, 0, 0, 0, 0, 0, 0, 0, 0, 0, 0, 0, 0xf9, 0xcd, 0x2a, 0x49, 0x28, 4, 0, 0, 8, 0, 0,
-    0, 0x7a, 0x24, 0, 0, 8, 0, 0, 0, 0, 0, 0, 0, 0, 7,
-];
+use test_support::recordings::AUXTRACE_BODY;
+use test_support::values::to_error_kind;
 
 // The size, the offset and the reference, and the index, the tid and the CPU.
-type Numbers = ((u64, u64, u64), (u32, u32, u32));
+type AuxtraceFields = ((u64, u64, u64), (u32, u32, u32));
 
 // The numbers of an auxtrace record, if this is its aux data.
-fn numbers_of<T: FileOrder>(body: RawData<'_>, aux_data: &[u8]) -> Option<Numbers> {
+fn auxtrace_fields<T: FileOrder>(body: RawData<'_>, aux_data: &[u8]) -> Option<AuxtraceFields> {
     match Auxtrace::parse::<T>(body) {
-        Ok(trace) if trace.aux_data == RawData::Single(aux_data) => Some((
-            (trace.size, trace.offset, trace.reference),
-            (trace.index, trace.tid, trace.cpu),
+        Ok(auxtrace) if auxtrace.aux_data == RawData::Single(aux_data) => Some((
+            (auxtrace.size, auxtrace.offset, auxtrace.reference),
+            (auxtrace.index, auxtrace.tid, auxtrace.cpu),
         )),
         _ => None,
     }
 }
 
 // Whether parsing the two slices returns the same as parsing the single slice.
-fn is_same(front: &[u8], back: &[u8], whole: &[u8]) -> bool {
-    let split = Auxtrace::parse::<LittleEndian>(RawData::Split(front, back));
+fn is_equal_when_split(prefix: &[u8], rest: &[u8], whole: &[u8]) -> bool {
+    let split = Auxtrace::parse::<LittleEndian>(RawData::Split(prefix, rest));
     let single = Auxtrace::parse::<LittleEndian>(RawData::Single(whole));
     matches!((&split, &single), (Ok(split), Ok(single)) if split == single)
 }
 
 #[test]
-fn parses_wherever_it_is_split(rt: HostRuntime) {
-    let body = &BODY[..41];
+fn parses_at_every_split(rt: HostRuntime) {
     let wanted = Some(((1, 0, 0x428_492a_cdf9), (8, 0x247a, 8)));
-    let values = numbers_of::<LittleEndian>(RawData::Single(body), &[0]);
-    same(&rt, &values, &wanted);
+    let values = auxtrace_fields::<LittleEndian>(RawData::Single(&AUXTRACE_BODY), &[7]);
+    expect_eq(&rt, &values, &wanted);
     for at in 0..42usize {
-        let (front, back) = body.split_at(at);
-        check_at(&rt, &at, is_same(front, back, body));
+        let (prefix, rest) = AUXTRACE_BODY.split_at(at);
+        expect_at(&rt, &at, is_equal_when_split(prefix, rest, &AUXTRACE_BODY));
     }
 }
 
@@ -61,12 +55,15 @@ fn parses_big_endian(rt: HostRuntime) {
     }
     body[41] = 9;
     let wanted = Some(((2, 3, 4), (5, 6, 7)));
-    let values = numbers_of::<BigEndian>(RawData::Single(&body), &[0, 9]);
-    same(&rt, &values, &wanted);
+    let values = auxtrace_fields::<BigEndian>(RawData::Single(&body), &[0, 9]);
+    expect_eq(&rt, &values, &wanted);
 }
 
 #[test]
-fn other_lengths_are_errors(rt: HostRuntime) {
+fn wrong_sizes_fail(rt: HostRuntime) {
+    expect_eq(&rt, &Auxtrace::FIXED_SIZE, &40);
+    let mut longer = [0; 42];
+    longer[..41].copy_from_slice(&AUXTRACE_BODY);
     for (count, kind) in [
         (0usize, ErrorKind::UnexpectedEof),
         (39, ErrorKind::UnexpectedEof),
@@ -74,9 +71,9 @@ fn other_lengths_are_errors(rt: HostRuntime) {
         (42, ErrorKind::InvalidData),
     ] {
         for at in 0..count + 1 {
-            let (front, back) = BODY[..count].split_at(at);
-            let parsed = Auxtrace::parse::<LittleEndian>(RawData::Split(front, back));
-            same_at(&rt, &(count, at), &by_kind(parsed).err(), &Some(kind));
+            let (prefix, rest) = longer[..count].split_at(at);
+            let parsed = Auxtrace::parse::<LittleEndian>(RawData::Split(prefix, rest));
+            expect_eq_at(&rt, &(count, at), &to_error_kind(parsed).err(), &Some(kind));
         }
     }
 }

@@ -1,5 +1,5 @@
 //! Keys of mapped objects: each type of path in each CPU mode, and which keys are equal.
-use crate::compare::{check_at, same_at};
+use crate::expect::{expect_at, expect_eq_at};
 use perfdata_base::event::CpuMode;
 use perfdata_parts::dso_key::DsoKey;
 use std::alloc::{AllocError, Global};
@@ -58,7 +58,7 @@ const ROWS: [Row; 26] = [
 ];
 
 // The letter of a key.
-fn letter(key: &Option<DsoKey>) -> u8 {
+fn key_letter(key: &Option<DsoKey>) -> u8 {
     match key {
         None => b'-',
         Some(DsoKey::Kernel) => b'K',
@@ -73,7 +73,7 @@ fn letter(key: &Option<DsoKey>) -> u8 {
 }
 
 // The name of a key with this letter.
-fn name(letter: u8, module: &'static str, file: &'static str) -> &'static str {
+fn name_for_letter(letter: u8, module: &'static str, file: &'static str) -> &'static str {
     match letter {
         b'K' => "[kernel.kallsyms]",
         b'G' => "[guest.kernel.kallsyms]",
@@ -88,7 +88,7 @@ fn name(letter: u8, module: &'static str, file: &'static str) -> &'static str {
 }
 
 // The full path of a user key. For other keys it is empty.
-fn full_path(key: &Option<DsoKey>) -> &[u8] {
+fn full_path_of(key: &Option<DsoKey>) -> &[u8] {
     match key {
         Some(DsoKey::User { full_path, .. }) => full_path.as_slice(),
         _ => &[],
@@ -96,7 +96,7 @@ fn full_path(key: &Option<DsoKey>) -> &[u8] {
 }
 
 // The name of a key.
-fn name_of(key: &Option<DsoKey>) -> &str {
+fn name_or_empty(key: &Option<DsoKey>) -> &str {
     match key {
         Some(key) => key.name(),
         None => "",
@@ -112,9 +112,9 @@ fn is_detected(
 ) -> Result<bool, AllocError> {
     let (path, module, file) = row;
     let key = DsoKey::detect(alloc, path, mode)?;
-    let shown = name(wanted, module, file);
+    let shown = name_for_letter(wanted, module, file);
     let kept: &[u8] = if wanted == b'U' { path } else { &[] };
-    Ok((letter(&key), name_of(&key), full_path(&key)) == (wanted, shown, kept))
+    Ok((key_letter(&key), name_or_empty(&key), full_path_of(&key)) == (wanted, shown, kept))
 }
 
 #[test]
@@ -122,13 +122,13 @@ fn detects_each_path_in_each_mode(rt: HostRuntime) -> Result<(), Fail> {
     for (path, letters, module, file) in ROWS {
         for (mode, wanted) in MODES.iter().zip(letters) {
             let detected = is_detected(rt.alloc(), *mode, wanted, (path, module, file))?;
-            check_at(&rt, &(path, mode), detected);
+            expect_at(&rt, &(path, mode), detected);
         }
     }
     Ok(())
 }
 
-fn hash(key: &DsoKey) -> u64 {
+fn hash_of(key: &DsoKey) -> u64 {
     let mut state = DefaultHasher::new();
     key.hash(&mut state);
     state.finish()
@@ -145,10 +145,10 @@ fn equal_keys_hash_equally(rt: HostRuntime) -> Result<(), Fail> {
         let key = DsoKey::detect(rt.alloc(), path, mode)?;
         let other = DsoKey::detect(rt.alloc(), other, mode)?;
         let compared = match (&key, &other) {
-            (Some(key), Some(other)) => Some((*key == *other, hash(key) == hash(other))),
+            (Some(key), Some(other)) => Some((*key == *other, hash_of(key) == hash_of(other))),
             _ => None,
         };
-        same_at(&rt, &path, &compared, &Some((equal, equal)));
+        expect_eq_at(&rt, &path, &compared, &Some((equal, equal)));
     }
     Ok(())
 }

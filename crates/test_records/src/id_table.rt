@@ -1,13 +1,13 @@
 //! The lookup of a sample's attribute by its id.
-use crate::compare::same;
-use crate::stream::{IDENTIFIER, SAMPLE_ID_ALL, indices_of, pipe_answers};
+use crate::call_results::{IDENTIFIER, SAMPLE_ID_ALL, attr_indices_in, pipe_results};
+use crate::expect::expect_eq;
 use linux_perf_data::Endianness;
 use std::alloc::{AllocError, Global};
 use std::test::Fail;
 use test_support::image::Image;
 
 // Appends an attribute for each of these lists of ids.
-fn push_lists(image: &mut Image, lists: &[&[u64]]) -> Result<(), AllocError> {
+fn push_attrs(image: &mut Image, lists: &[&[u64]]) -> Result<(), AllocError> {
     for ids in lists {
         image.push_header_attr(IDENTIFIER, SAMPLE_ID_ALL, ids)?;
     }
@@ -16,7 +16,7 @@ fn push_lists(image: &mut Image, lists: &[&[u64]]) -> Result<(), AllocError> {
 
 // The attribute indices of samples with these ids, in a pipe of an attribute without ids, attributes with these lists, a sample
 // with the id 9, and late attributes with these lists.
-fn indices(
+fn attr_indices(
     alloc: Global,
     first: &[&[u64]],
     late: &[&[u64]],
@@ -24,24 +24,24 @@ fn indices(
 ) -> Result<Vec<usize>, Fail> {
     let mut image = Image::pipe_header(alloc, Endianness::LittleEndian)?;
     image.push_header_attr(IDENTIFIER, SAMPLE_ID_ALL, &[])?;
-    push_lists(&mut image, first)?;
+    push_attrs(&mut image, first)?;
     image.push_sample(9)?;
-    push_lists(&mut image, late)?;
+    push_attrs(&mut image, late)?;
     for id in samples {
         image.push_sample(*id)?;
     }
-    let answers = pipe_answers(alloc, image.bytes.as_slice(), 20)?;
-    Ok(indices_of(alloc, &answers)?)
+    let results = pipe_results(alloc, image.bytes.as_slice(), 20)?;
+    Ok(attr_indices_in(alloc, &results)?)
 }
 
 // If several attributes list an id, the one with the greatest index counts. An id that no attribute lists belongs to the first
 // attribute.
 #[test]
-fn finds_the_last_index(rt: HostRuntime) -> Result<(), Fail> {
+fn last_listing_wins(rt: HostRuntime) -> Result<(), Fail> {
     let lists: [&[u64]; 3] = [&[70, 5, u64::MAX, 0], &[6, 5], &[5, 0]];
     let samples = [0, 1, 5, 6, 70, 71, u64::MAX];
-    let indices = indices(rt.alloc(), &lists, &[], &samples)?;
-    same(
+    let indices = attr_indices(rt.alloc(), &lists, &[], &samples)?;
+    expect_eq(
         &rt,
         &indices.as_slice(),
         &[0, 3, 0, 3, 2, 1, 0, 1].as_slice(),
@@ -51,11 +51,11 @@ fn finds_the_last_index(rt: HostRuntime) -> Result<(), Fail> {
 
 // An id that is listed again gets the later index, wherever it is in a list.
 #[test]
-fn inserts(rt: HostRuntime) -> Result<(), Fail> {
+fn late_listings_override(rt: HostRuntime) -> Result<(), Fail> {
     let lists: [&[u64]; 4] = [&[70, 5, u64::MAX, 0, 5], &[], &[6, 5], &[5, 0, 71]];
     let samples = [0, 1, 5, 6, 70, 71, 72, u64::MAX];
-    let indices = indices(rt.alloc(), &[], &lists, &samples)?;
-    same(
+    let indices = attr_indices(rt.alloc(), &[], &lists, &samples)?;
+    expect_eq(
         &rt,
         &indices.as_slice(),
         &[0, 4, 0, 4, 3, 1, 4, 0, 1].as_slice(),

@@ -8,19 +8,19 @@ mod build_id_event;
 #[cfg(test)]
 mod build_ids;
 #[cfg(test)]
-mod compare;
+mod call_results;
 #[cfg(test)]
 mod dso_key;
+#[cfg(test)]
+mod expect;
 #[cfg(test)]
 mod id_table;
 #[cfg(test)]
 mod iter;
 #[cfg(test)]
-mod known;
+mod late_attributes;
 #[cfg(test)]
 mod record;
-#[cfg(test)]
-mod stream;
 #[cfg(test)]
 mod thread_map;
 #[cfg(test)]

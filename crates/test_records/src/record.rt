@@ -1,5 +1,5 @@
 //! User record types: their constants, numbers and texts.
-use crate::compare::{same, same_at};
+use crate::expect::{expect_eq, expect_eq_at};
 use perfdata_base::event::RecordType;
 use perfdata_parts::constants::*;
 use perfdata_parts::record::UserRecordType;
@@ -181,7 +181,7 @@ const ROWS: [Row; 28] = [
 ];
 
 // Whether a type has this number and this text.
-fn belongs(
+fn matches_constants(
     alloc: Global,
     user: UserRecordType,
     number: u32,
@@ -192,7 +192,7 @@ fn belongs(
 }
 
 #[test]
-fn distinguishes_user_types(rt: HostRuntime) {
+fn user_type_numbers(rt: HostRuntime) {
     for (number, values) in [
         (0, None),
         (9, None),
@@ -205,22 +205,22 @@ fn distinguishes_user_types(rt: HostRuntime) {
             Some(user) => Some((user.record_type().0, RecordType::from(user).0)),
             None => None,
         };
-        same_at(&rt, &number, &numbers, &values);
+        expect_eq_at(&rt, &number, &numbers, &values);
     }
 }
 
 #[test]
-fn names_the_constants(rt: HostRuntime) -> Result<(), Fail> {
+fn debug_names(rt: HostRuntime) -> Result<(), Fail> {
     for row in &ROWS {
         let (user, constant, number, text) = *row;
-        let belongs = belongs(rt.alloc(), user, number, text)?;
-        same_at(&rt, &text, &(constant, belongs), &(number, true));
+        let is_match = matches_constants(rt.alloc(), user, number, text)?;
+        expect_eq_at(&rt, &text, &(constant, is_match), &(number, true));
     }
     Ok(())
 }
 
 #[test]
-fn shows_other_types_by_number(rt: HostRuntime) -> Result<(), Fail> {
+fn debug_of_unknown_types(rt: HostRuntime) -> Result<(), Fail> {
     for (number, text) in [
         (82, "Unknown UserRecordType 82"),
         (84, "Unknown UserRecordType 84"),
@@ -232,7 +232,7 @@ fn shows_other_types_by_number(rt: HostRuntime) -> Result<(), Fail> {
             return Err(Fail::from("no user's type"));
         };
         let shown = format!(in rt.alloc(); "{user:?}")?;
-        same(&rt, &shown.as_str(), &text);
+        expect_eq(&rt, &shown.as_str(), &text);
     }
     Ok(())
 }

@@ -1,17 +1,17 @@
 //! Thread maps: whatever the split, in both byte orders, and errors.
-use crate::compare::{same, same_at};
+use crate::expect::{expect_eq, expect_eq_at};
 use byteorder::{BigEndian, ByteOrder, LittleEndian};
 use perfdata_base::raw::{FileOrder, RawData};
 use perfdata_parts::thread_map::ThreadMap;
 use std::io::ErrorKind;
-use test_support::values::by_kind;
+use test_support::values::to_error_kind;
 
 const TIDS: [u64; 12] = [
     95141, 95145, 95147, 95148, 95163, 95164, 95165, 95166, 95167, 95170, 95173, 95175,
 ];
 
 // A map of the threads `TIDS` without names, with this count.
-fn twelve(count: u64) -> [u8; 296] {
+fn twelve_threads(count: u64) -> [u8; 296] {
     let mut body = [0; 296];
     LittleEndian::write_u64(&mut body, count);
     for (index, tid) in TIDS.iter().enumerate() {
@@ -20,8 +20,8 @@ fn twelve(count: u64) -> [u8; 296] {
     body
 }
 
-fn parsed<T: FileOrder>(body: RawData<'_>) -> Result<ThreadMap<'_>, ErrorKind> {
-    by_kind(ThreadMap::parse::<T>(body))
+fn parse_map<T: FileOrder>(body: RawData<'_>) -> Result<ThreadMap<'_>, ErrorKind> {
+    to_error_kind(ThreadMap::parse::<T>(body))
 }
 
 // Whether a map is empty, its length, and the number of threads that its iterator returns.
@@ -33,9 +33,9 @@ fn lengths(map: &Result<ThreadMap<'_>, ErrorKind>) -> Option<(bool, usize, usize
 }
 
 // The tid of the thread at an index, if its name is this one.
-fn nth(map: &Result<ThreadMap<'_>, ErrorKind>, place: usize, name: &[u8]) -> Option<u64> {
+fn nth_tid(map: &Result<ThreadMap<'_>, ErrorKind>, index: usize, name: &[u8]) -> Option<u64> {
     match map {
-        Ok(map) => match map.iter().nth(place) {
+        Ok(map) => match map.iter().nth(index) {
             Some(entry) => {
                 if entry.name == RawData::Single(name) {
                     Some(entry.tid)
@@ -50,7 +50,7 @@ fn nth(map: &Result<ThreadMap<'_>, ErrorKind>, place: usize, name: &[u8]) -> Opt
 }
 
 // The tid of the last thread.
-fn last(map: &Result<ThreadMap<'_>, ErrorKind>) -> Option<u64> {
+fn last_tid(map: &Result<ThreadMap<'_>, ErrorKind>) -> Option<u64> {
     match map {
         Ok(map) => match map.iter().last() {
             Some(entry) => Some(entry.tid),
@@ -61,7 +61,7 @@ fn last(map: &Result<ThreadMap<'_>, ErrorKind>) -> Option<u64> {
 }
 
 // The number of threads that have the tid in `TIDS` and no name.
-fn in_order(map: &Result<ThreadMap<'_>, ErrorKind>) -> usize {
+fn count_in_order(map: &Result<ThreadMap<'_>, ErrorKind>) -> usize {
     let mut count = 0usize;
     if let Ok(map) = map {
         for (entry, tid) in map.iter().zip(&TIDS) {
@@ -74,37 +74,37 @@ fn in_order(map: &Result<ThreadMap<'_>, ErrorKind>) -> usize {
 }
 
 #[test]
-fn returns_each_thread_wherever_it_is_split(rt: HostRuntime) {
-    let body = twelve(12);
-    let whole = parsed::<LittleEndian>(RawData::Single(&body));
-    same(&rt, &lengths(&whole), &Some((false, 12, 12)));
-    same(&rt, &nth(&whole, 8, &[]), &Some(95167));
+fn iterates_at_every_split(rt: HostRuntime) {
+    let body = twelve_threads(12);
+    let whole = parse_map::<LittleEndian>(RawData::Single(&body));
+    expect_eq(&rt, &lengths(&whole), &Some((false, 12, 12)));
+    expect_eq(&rt, &nth_tid(&whole, 8, &[]), &Some(95167));
     for at in 0..297usize {
-        let (front, back) = body.split_at(at);
-        let map = parsed::<LittleEndian>(RawData::Split(front, back));
-        same_at(&rt, &at, &(in_order(&map), map == whole), &(12, true));
+        let (prefix, rest) = body.split_at(at);
+        let map = parse_map::<LittleEndian>(RawData::Split(prefix, rest));
+        expect_eq_at(&rt, &at, &(count_in_order(&map), map == whole), &(12, true));
     }
 }
 
 #[test]
-fn passes_over_what_follows(rt: HostRuntime) {
-    let body = twelve(11);
-    let map = parsed::<LittleEndian>(RawData::Single(&body));
-    same(
+fn ignores_trailing_bytes(rt: HostRuntime) {
+    let body = twelve_threads(11);
+    let map = parse_map::<LittleEndian>(RawData::Single(&body));
+    expect_eq(
         &rt,
-        &(lengths(&map), last(&map)),
+        &(lengths(&map), last_tid(&map)),
         &(Some((false, 11, 11)), Some(95173)),
     );
-    let none = parsed::<BigEndian>(RawData::Single(&[0; 30]));
-    same(
+    let none = parse_map::<BigEndian>(RawData::Single(&[0; 30]));
+    expect_eq(
         &rt,
-        &(lengths(&none), last(&none)),
+        &(lengths(&none), last_tid(&none)),
         &(Some((true, 0, 0)), None),
     );
 }
 
 // A map of one thread with this name of 16 bytes, in little-endian and in big-endian.
-fn named(name: &[u8; 16]) -> ([u8; 32], [u8; 32]) {
+fn one_named_thread(name: &[u8; 16]) -> ([u8; 32], [u8; 32]) {
     let mut little = [0; 32];
     let mut big = [0; 32];
     LittleEndian::write_u64(&mut little, 1);
@@ -117,24 +117,24 @@ fn named(name: &[u8; 16]) -> ([u8; 32], [u8; 32]) {
 }
 
 #[test]
-fn names_end_at_nul(rt: HostRuntime) {
+fn truncates_names_at_nul(rt: HostRuntime) {
     for (name, shown) in [
         (b"\0\0\0\0\0\0\0\0\0\0\0\0\0\0\0\0", &b""[..]),
         (b"worker\0rest\0\0\0\0\0", b"worker"),
         (b"sixteen bytes...", b"sixteen bytes..."),
     ] {
-        let (first, second) = named(name);
+        let (first, second) = one_named_thread(name);
         let wanted = (Some((false, 1, 1)), Some(542_572));
-        let map = parsed::<LittleEndian>(RawData::Single(&first));
-        same(&rt, &(lengths(&map), nth(&map, 0, shown)), &wanted);
-        let map = parsed::<BigEndian>(RawData::Single(&second));
-        same(&rt, &(lengths(&map), nth(&map, 0, shown)), &wanted);
+        let map = parse_map::<LittleEndian>(RawData::Single(&first));
+        expect_eq(&rt, &(lengths(&map), nth_tid(&map, 0, shown)), &wanted);
+        let map = parse_map::<BigEndian>(RawData::Single(&second));
+        expect_eq(&rt, &(lengths(&map), nth_tid(&map, 0, shown)), &wanted);
     }
 }
 
 #[test]
-fn bad_counts_are_errors(rt: HostRuntime) {
-    for (count, held, kind) in [
+fn bad_counts_fail(rt: HostRuntime) {
+    for (count, len, kind) in [
         (13, 296usize, ErrorKind::UnexpectedEof),
         (12, 295, ErrorKind::UnexpectedEof),
         (1, 7, ErrorKind::UnexpectedEof),
@@ -143,11 +143,11 @@ fn bad_counts_are_errors(rt: HostRuntime) {
         (768_614_336_404_564_651, 8, ErrorKind::InvalidData),
         (u64::MAX, 296, ErrorKind::InvalidData),
     ] {
-        let body = twelve(count);
-        for at in 0..held + 1 {
-            let (front, back) = body[..held].split_at(at);
-            let got = parsed::<LittleEndian>(RawData::Split(front, back)).err();
-            same_at(&rt, &(count, at), &got, &Some(kind));
+        let body = twelve_threads(count);
+        for at in 0..len + 1 {
+            let (prefix, rest) = body[..len].split_at(at);
+            let got = parse_map::<LittleEndian>(RawData::Split(prefix, rest)).err();
+            expect_eq_at(&rt, &(count, at), &got, &Some(kind));
         }
     }
 }

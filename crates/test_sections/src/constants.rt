@@ -1,5 +1,5 @@
 //! The values of constants that no section in the tests contains.
-use crate::compare::same;
+use crate::expect::expect_eq;
 use perfdata_base::features::Feature;
 use perfdata_parts::feature_sections::{ClockData, CompressionInfo};
 use perfdata_parts::simpleperf::simpleperf_dso_type::{
@@ -8,7 +8,7 @@ use perfdata_parts::simpleperf::simpleperf_dso_type::{
 };
 
 #[test]
-fn numbers_of_features(rt: HostRuntime) {
+fn feature_numbers(rt: HostRuntime) {
     for (feature, number) in [
         (Feature::TRACING_DATA, 1u32),
         (Feature::BUILD_ID, 2),
@@ -47,13 +47,13 @@ fn numbers_of_features(rt: HostRuntime) {
         (Feature::SIMPLEPERF_DEBUG_UNWIND_FILE, 131),
         (Feature::SIMPLEPERF_FILE2, 132),
     ] {
-        same(&rt, &feature.0, &number);
+        expect_eq(&rt, &feature.0, &number);
     }
 }
 
 #[test]
-fn numbers_of_sections(rt: HostRuntime) {
-    let kinds = [
+fn section_constants(rt: HostRuntime) {
+    let dso_types = [
         DSO_KERNEL,
         DSO_KERNEL_MODULE,
         DSO_ELF_FILE,
@@ -61,9 +61,9 @@ fn numbers_of_sections(rt: HostRuntime) {
         DSO_SYMBOL_MAP_FILE,
         DSO_UNKNOWN_FILE,
     ];
-    same(&rt, &kinds, &[0, 1, 2, 3, 4, 5]);
-    same(&rt, &CompressionInfo::ZSTD_TYPE, &1);
-    same(
+    expect_eq(&rt, &dso_types, &[0, 1, 2, 3, 4, 5]);
+    expect_eq(&rt, &CompressionInfo::ZSTD_TYPE, &1);
+    expect_eq(
         &rt,
         &(CompressionInfo::STRUCT_SIZE, ClockData::STRUCT_SIZE),
         &(20, 24),

@@ -1,10 +1,10 @@
 //! The texts of protobuf decode errors.
-use crate::compare::same;
+use crate::expect::expect_eq;
 use perfdata_parts::decode_error::DecodeError;
 use std::test::Fail;
 
 #[test]
-fn shows_its_name(rt: HostRuntime) -> Result<(), Fail> {
+fn displays_the_variant(rt: HostRuntime) -> Result<(), Fail> {
     for (error, name) in [
         (DecodeError::Truncated, "Truncated"),
         (DecodeError::Varint, "Varint"),
@@ -16,7 +16,7 @@ fn shows_its_name(rt: HostRuntime) -> Result<(), Fail> {
         (DecodeError::Memory, "Memory"),
     ] {
         let shown = format!(in rt.alloc(); "{error}")?;
-        same(&rt, &shown.as_str(), &name);
+        expect_eq(&rt, &shown.as_str(), &name);
     }
     Ok(())
 }

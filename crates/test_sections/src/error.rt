@@ -1,21 +1,22 @@
 //! The texts of errors, and their conversions.
-use crate::compare::{check, same};
+use crate::expect::{expect, expect_eq};
+use perfdata_base::source::unexpected_eof;
 use perfdata_parts::decode_error::DecodeError;
-use perfdata_parts::error::{Error, ReadError, unexpected_eof, unsupported};
+use perfdata_parts::error::{Error, ReadError, unsupported};
 use std::alloc::{AllocError, AllocFailed};
 use std::io;
 use std::io::ErrorKind;
 use std::process::Abort;
 use std::test::Fail;
 
-fn shows(rt: &(impl Abort + AllocGlobal), error: Error, text: &str) -> Result<(), Fail> {
+fn displays(rt: &(impl Abort + AllocGlobal), error: Error, text: &str) -> Result<(), Fail> {
     let shown = format!(in rt.alloc(); "{error}")?;
-    same(rt, &shown.as_str(), &text);
+    expect_eq(rt, &shown.as_str(), &text);
     Ok(())
 }
 
 #[test]
-fn shows_each_part(rt: HostRuntime) -> Result<(), Fail> {
+fn displays_read_errors(rt: HostRuntime) -> Result<(), Fail> {
     for (part, text) in [
         (
             ReadError::PerfHeader,
@@ -49,15 +50,15 @@ fn shows_each_part(rt: HostRuntime) -> Result<(), Fail> {
             "Read error: Could not read PerfEvent data",
         ),
     ] {
-        shows(&rt, Error::Read(part), text)?;
+        displays(&rt, Error::Read(part), text)?;
     }
     Ok(())
 }
 
 // The errors with a value except `Read`, in the order of the texts below.
-fn holding(index: u32) -> Error {
+fn error_with_value(index: u32) -> Error {
     match index {
-        0 => unexpected_eof(),
+        0 => Error::from(unexpected_eof()),
         1 => Error::UnrecognizedMagicValue([0, 1, 2, 3, 4, 5, 6, 255]),
         2 => Error::InconsistentAttributeSizes(64, 56),
         3 => Error::NoIdentifierDespiteMultiEvent(1),
@@ -68,7 +69,7 @@ fn holding(index: u32) -> Error {
 }
 
 #[test]
-fn shows_what_errors_hold(rt: HostRuntime) -> Result<(), Fail> {
+fn displays_error_values(rt: HostRuntime) -> Result<(), Fail> {
     for (index, text) in [
         (0, "I/O error: unexpected end of file"),
         (
@@ -96,13 +97,13 @@ fn shows_what_errors_hold(rt: HostRuntime) -> Result<(), Fail> {
             "Parsing error in Simpleperf file v1 feature: unexpected end of file",
         ),
     ] {
-        shows(&rt, holding(index), text)?;
+        displays(&rt, error_with_value(index), text)?;
     }
     Ok(())
 }
 
 // The errors without a value, in the order of the texts below.
-fn plain(index: u32) -> Error {
+fn plain_error(index: u32) -> Error {
     match index {
         0 => Error::SectionSizeTooBig,
         1 => Error::NoAttributes,
@@ -121,7 +122,7 @@ fn plain(index: u32) -> Error {
 }
 
 #[test]
-fn shows_plain_errors(rt: HostRuntime) -> Result<(), Fail> {
+fn displays_plain_errors(rt: HostRuntime) -> Result<(), Fail> {
     for (index, text) in [
         (0, "Section size did not fit into usize"),
         (
@@ -158,19 +159,19 @@ fn shows_plain_errors(rt: HostRuntime) -> Result<(), Fail> {
         (11, "The iterator has failed"),
         (12, "Out of memory"),
     ] {
-        shows(&rt, plain(index), text)?;
+        displays(&rt, plain_error(index), text)?;
     }
     Ok(())
 }
 
-fn is_io_of(error: Error, kind: ErrorKind) -> bool {
+fn is_io_error_of(error: Error, kind: ErrorKind) -> bool {
     match error {
-        Error::IoError(fault) => fault.kind() == kind,
+        Error::IoError(source) => source.kind() == kind,
         _ => false,
     }
 }
 
-fn is_utf8_fault(bytes: &[u8]) -> bool {
+fn is_utf8_error(bytes: &[u8]) -> bool {
     match std::str::from_utf8(bytes) {
         Ok(_) => false,
         Err(invalid) => matches!(Error::from(invalid), Error::StringUtf8),
@@ -178,14 +179,14 @@ fn is_utf8_fault(bytes: &[u8]) -> bool {
 }
 
 #[test]
-fn comes_from_other_errors(rt: HostRuntime) {
+fn converts_from_other_errors(rt: HostRuntime) {
     let part = Error::from(ReadError::NrCpus);
-    check(&rt, matches!(part, Error::Read(ReadError::NrCpus)));
-    let fault = Error::from(io::Error::from(ErrorKind::OutOfMemory));
-    check(&rt, is_io_of(fault, ErrorKind::OutOfMemory));
-    check(&rt, is_utf8_fault(b"\xff"));
-    check(&rt, matches!(Error::from(AllocError), Error::Memory));
+    expect(&rt, matches!(part, Error::Read(ReadError::NrCpus)));
+    let io_error = Error::from(io::Error::from(ErrorKind::OutOfMemory));
+    expect(&rt, is_io_error_of(io_error, ErrorKind::OutOfMemory));
+    expect(&rt, is_utf8_error(b"\xff"));
+    expect(&rt, matches!(Error::from(AllocError), Error::Memory));
     let failed = Error::from(AllocFailed { value: 7u8 });
-    check(&rt, matches!(failed, Error::Memory));
-    check(&rt, is_io_of(unsupported(), ErrorKind::Unsupported));
+    expect(&rt, matches!(failed, Error::Memory));
+    expect(&rt, is_io_error_of(unsupported(), ErrorKind::Unsupported));
 }

@@ -1,5 +1,5 @@
 //! The event types section: its entries with their ids, and its errors.
-use crate::compare::{same, same_at};
+use crate::expect::{expect_eq, expect_eq_at};
 use byteorder::LittleEndian;
 use perfdata_base::section::PerfFileSection;
 use perfdata_parts::error::Error;
@@ -8,11 +8,11 @@ use std::alloc::Global;
 use std::io::Cursor;
 use std::process::Abort;
 use std::test::Fail;
-use test_support::error_key::{ATTRIBUTE, ErrorKey, SHORT};
+use test_support::error_key::{ATTRIBUTE, ErrorKey, UNEXPECTED_EOF};
 
 // Two entries of 80 bytes, whose attributes have 64 bytes and the configs 1 and 2. The ids of the first entry are the 8 bytes at
 // offset 160, and those of the second are the 23 bytes at offset 168.
-pub fn two_entries() -> [u8; 192] {
+pub fn two_entry_bytes() -> [u8; 192] {
     let mut bytes = [0; 192];
     bytes[4] = 64;
     bytes[8] = 1;
@@ -28,7 +28,7 @@ pub fn two_entries() -> [u8; 192] {
     bytes
 }
 
-fn parsed(
+fn parse_section(
     alloc: Global,
     bytes: &[u8],
     section: &PerfFileSection,
@@ -43,7 +43,10 @@ fn parsed(
 }
 
 // The config of the attribute at an index, whether it has a name, and its first three ids.
-fn told(all: &[AttributeDescription], index: usize) -> Option<(u64, bool, [Option<u64>; 3])> {
+fn event_summary(
+    all: &[AttributeDescription],
+    index: usize,
+) -> Option<(u64, bool, [Option<u64>; 3])> {
     let description = all.get(index)?;
     let ids = description.ids();
     Some((
@@ -58,15 +61,19 @@ fn told(all: &[AttributeDescription], index: usize) -> Option<(u64, bool, [Optio
 }
 
 #[test]
-fn reads_entries_and_their_ids(rt: HostRuntime) -> Result<(), Fail> {
+fn parses_entries_and_ids(rt: HostRuntime) -> Result<(), Fail> {
     let section = PerfFileSection {
         offset: 0,
         size: 239,
     };
-    let all = parsed(rt.alloc(), &two_entries(), &section, 64)?;
-    same(
+    let all = parse_section(rt.alloc(), &two_entry_bytes(), &section, 64)?;
+    expect_eq(
         &rt,
-        &[told(&all, 0), told(&all, 1), told(&all, 2)],
+        &[
+            event_summary(&all, 0),
+            event_summary(&all, 1),
+            event_summary(&all, 2),
+        ],
         &[
             Some((1, false, [Some(5), None, None])),
             Some((2, false, [Some(6), Some(7), None])),
@@ -76,7 +83,7 @@ fn reads_entries_and_their_ids(rt: HostRuntime) -> Result<(), Fail> {
     Ok(())
 }
 
-fn refusal(
+fn parse_error(
     rt: &(impl Abort + AllocGlobal),
     bytes: &[u8],
     offset: u64,
@@ -84,61 +91,61 @@ fn refusal(
     attr_size: u64,
 ) -> Option<ErrorKey> {
     let section = PerfFileSection { offset, size };
-    ErrorKey::of_answer(parsed(rt.alloc(), bytes, &section, attr_size))
+    ErrorKey::of_result(parse_section(rt.alloc(), bytes, &section, attr_size))
 }
 
 // The two entries, with the ids of the first one at the greatest offset, and with this own size of the second one.
-fn far_ids(own: u8) -> [u8; 192] {
-    let mut bytes = two_entries();
+fn ids_at_max_offset(own: u8) -> [u8; 192] {
+    let mut bytes = two_entry_bytes();
     bytes[64..72].copy_from_slice(&[0xff; 8]);
     bytes[84] = own;
     bytes
 }
 
 #[test]
-fn refuses_sections_that_end_too_far(rt: HostRuntime) {
-    let bytes = two_entries();
+fn section_overflow_fails(rt: HostRuntime) {
+    let bytes = two_entry_bytes();
     for (offset, attr_size) in [(0, u64::MAX - 15), (u64::MAX - 159, 64)] {
-        same(
+        expect_eq(
             &rt,
-            &refusal(&rt, &bytes, offset, 160, attr_size),
+            &parse_error(&rt, &bytes, offset, 160, attr_size),
             &Some(ATTRIBUTE),
         );
     }
-    same(
+    expect_eq(
         &rt,
-        &refusal(&rt, &far_ids(64), 0, 160, 64),
+        &parse_error(&rt, &ids_at_max_offset(64), 0, 160, 64),
         &Some(ATTRIBUTE),
     );
-    same_at(
+    expect_eq_at(
         &rt,
         &"all entries are read before any ids",
-        &refusal(&rt, &far_ids(65), 0, 160, 64),
+        &parse_error(&rt, &ids_at_max_offset(65), 0, 160, 64),
         &Some(ErrorKey::InconsistentAttributeSizes(65, 64)),
     );
 }
 
 #[test]
-fn is_short_where_bytes_are_missing(rt: HostRuntime) {
-    let bytes = two_entries();
-    for held in [159, 167, 183] {
-        same_at(
+fn truncation_is_eof(rt: HostRuntime) {
+    let bytes = two_entry_bytes();
+    for len in [159, 167, 183] {
+        expect_eq_at(
             &rt,
-            &held,
-            &refusal(&rt, &bytes[..held], 0, 160, 64),
-            &Some(SHORT),
+            &len,
+            &parse_error(&rt, &bytes[..len], 0, 160, 64),
+            &Some(UNEXPECTED_EOF),
         );
     }
 }
 
 #[test]
-fn refuses_an_attribute_that_is_cut(rt: HostRuntime) {
-    let bytes = two_entries();
-    for held in [63, 143] {
-        same_at(
+fn truncated_attribute_fails(rt: HostRuntime) {
+    let bytes = two_entry_bytes();
+    for len in [63, 143] {
+        expect_eq_at(
             &rt,
-            &held,
-            &refusal(&rt, &bytes[..held], 0, 160, 64),
+            &len,
+            &parse_error(&rt, &bytes[..len], 0, 160, 64),
             &Some(ATTRIBUTE),
         );
     }

@@ -1,5 +1,5 @@
-//! The attribute section: its attr frames, and its errors.
-use crate::compare::{same, same_at};
+//! The attribute section: its attributes, and its errors.
+use crate::expect::{expect_eq, expect_eq_at};
 use byteorder::{BigEndian, LittleEndian};
 use perfdata_base::attr::PerfEventAttr;
 use perfdata_base::section::PerfFileSection;
@@ -12,9 +12,8 @@ use std::process::Abort;
 use std::test::Fail;
 use test_support::error_key::{ATTRIBUTE, ErrorKey};
 
-// Eight other bytes, then two attributes with the own sizes 64 and 0 in attr frames of 72 bytes. The end of the second frame is
-// missing.
-fn two_frames() -> [u8; 144] {
+// Eight other bytes, then two attributes with the own sizes 64 and 0 in 72 bytes each. The end of the second one is missing.
+fn two_attr_bytes() -> [u8; 144] {
     let mut bytes = [0; 144];
     bytes[12] = 64;
     bytes[8 + 8] = 5;
@@ -22,7 +21,7 @@ fn two_frames() -> [u8; 144] {
     bytes
 }
 
-fn parsed<C: PlacedSource + Drop>(
+fn parse_section<C: PlacedSource + Drop>(
     alloc: Global,
     source: C,
     offset: u64,
@@ -34,7 +33,7 @@ fn parsed<C: PlacedSource + Drop>(
 }
 
 // The size and the config of the attribute at an index, whether it has a name, and the number of its ids.
-fn told(all: &[AttributeDescription], index: usize) -> Option<(u32, u64, bool, usize)> {
+fn attr_summary(all: &[AttributeDescription], index: usize) -> Option<(u32, u64, bool, usize)> {
     let description = all.get(index)?;
     let attr = description.attributes();
     Some((
@@ -46,13 +45,17 @@ fn told(all: &[AttributeDescription], index: usize) -> Option<(u32, u64, bool, u
 }
 
 #[test]
-fn reads_frames(rt: HostRuntime) -> Result<(), Fail> {
-    let bytes = two_frames();
+fn parses_attributes(rt: HostRuntime) -> Result<(), Fail> {
+    let bytes = two_attr_bytes();
     let mut cursor = Cursor::new(&bytes[..]);
-    let all = parsed(rt.alloc(), &mut cursor, 8, 145, 72)?;
-    same(
+    let all = parse_section(rt.alloc(), &mut cursor, 8, 145, 72)?;
+    expect_eq(
         &rt,
-        &[told(&all, 0), told(&all, 1), told(&all, 2)],
+        &[
+            attr_summary(&all, 0),
+            attr_summary(&all, 1),
+            attr_summary(&all, 2),
+        ],
         &[Some((64, 5, false, 0)), Some((64, 6, false, 0)), None],
     );
     // an empty section at the greatest offset
@@ -66,12 +69,12 @@ fn reads_frames(rt: HostRuntime) -> Result<(), Fail> {
         &section,
         72,
     )?;
-    same(&rt, &none.len(), &0);
+    expect_eq(&rt, &none.len(), &0);
     Ok(())
 }
 
 // The number of attributes, and the size and the fields of the first one.
-fn first(all: &[AttributeDescription]) -> Option<(usize, u32, [u64; 4])> {
+fn first_attr_summary(all: &[AttributeDescription]) -> Option<(usize, u32, [u64; 4])> {
     let attr = all.first()?.attributes();
     let fields = [
         attr.config1,
@@ -84,40 +87,40 @@ fn first(all: &[AttributeDescription]) -> Option<(usize, u32, [u64; 4])> {
 
 // A field that the attribute's own size doesn't include isn't read, whatever bytes follow the attribute.
 #[test]
-fn reads_as_many_fields_as_the_size_tells(rt: HostRuntime) -> Result<(), Fail> {
+fn own_size_limits_fields(rt: HostRuntime) -> Result<(), Fail> {
     const SEVENS: u64 = 0x0707_0707_0707_0707;
-    for (told, own, config2, config3) in [
+    for (declared, own, config2, config3) in [
         (0, 64, 0, 0),
         (72, 72, SEVENS, 0),
         (136, 136, SEVENS, SEVENS),
     ] {
-        // one attr frame of 136 bytes, all 7 except for the attribute's own size
+        // one attribute of 136 bytes, all 7 except for the attribute's own size
         let mut bytes = [7u8; 136];
-        bytes[4..8].copy_from_slice(&[told, 0, 0, 0]);
-        let all = parsed(rt.alloc(), Cursor::new(&bytes[..]), 0, 136, 136)?;
-        same(
+        bytes[4..8].copy_from_slice(&[declared, 0, 0, 0]);
+        let all = parse_section(rt.alloc(), Cursor::new(&bytes[..]), 0, 136, 136)?;
+        expect_eq(
             &rt,
-            &first(&all),
+            &first_attr_summary(&all),
             &Some((1, own, [SEVENS, config2, config3, config3])),
         );
     }
     Ok(())
 }
 
-fn refusal<C: PlacedSource + Drop>(
+fn parse_error<C: PlacedSource + Drop>(
     rt: &(impl Abort + AllocGlobal),
     source: C,
     offset: u64,
     size: u64,
     attr_size: u64,
 ) -> Option<ErrorKey> {
-    ErrorKey::of_answer(parsed(rt.alloc(), source, offset, size, attr_size))
+    ErrorKey::of_result(parse_section(rt.alloc(), source, offset, size, attr_size))
 }
 
 #[test]
-fn refuses_frames(rt: HostRuntime) {
-    let mut bytes = two_frames();
-    for (held, offset, size, attr_size, refused) in [
+fn invalid_attributes_fail(rt: HostRuntime) {
+    let mut bytes = two_attr_bytes();
+    for (len, offset, size, attr_size, error) in [
         (
             144,
             8,
@@ -131,34 +134,34 @@ fn refuses_frames(rt: HostRuntime) {
         (15, 8, 72, 72, Some(ATTRIBUTE)),
         (144, 200, 64, 64, Some(ATTRIBUTE)),
     ] {
-        let cut = Cursor::new(&bytes[..held]);
-        same_at(
+        let truncated = Cursor::new(&bytes[..len]);
+        expect_eq_at(
             &rt,
-            &(held, offset, attr_size),
-            &refusal(&rt, cut, offset, size, attr_size),
-            &refused,
+            &(len, offset, attr_size),
+            &parse_error(&rt, truncated, offset, size, attr_size),
+            &error,
         );
     }
     bytes[12] = 63;
     let small = Cursor::new(&bytes[..]);
-    same(&rt, &refusal(&rt, small, 8, 64, 64), &Some(ATTRIBUTE));
+    expect_eq(&rt, &parse_error(&rt, small, 8, 64, 64), &Some(ATTRIBUTE));
 }
 
 // Fails at each read, and at each seek unless `seeks` is set.
 #[derive(Drop)]
-struct Broken {
-    seeks: bool,
+struct FailingReader {
+    seeks_succeed: bool,
 }
 
-impl Read for Broken {
+impl Read for FailingReader {
     fn read(&mut self, _place: &mut [u8]) -> std::io::Result<usize> {
         Err(std::io::Error::from(ErrorKind::Other))
     }
 }
 
-impl Seek for Broken {
+impl Seek for FailingReader {
     fn seek(&mut self, _to: SeekFrom) -> std::io::Result<u64> {
-        if self.seeks {
+        if self.seeks_succeed {
             Ok(0)
         } else {
             Err(std::io::Error::from(ErrorKind::BrokenPipe))
@@ -167,25 +170,25 @@ impl Seek for Broken {
 }
 
 #[test]
-fn tells_read_faults_from_seek_faults(rt: HostRuntime) {
-    for (seeks, refused) in [
+fn read_and_seek_errors_differ(rt: HostRuntime) {
+    for (seeks_succeed, error) in [
         (true, Some(ATTRIBUTE)),
         (false, Some(ErrorKey::IoError(ErrorKind::BrokenPipe))),
     ] {
-        let source = Counted::new(Broken { seeks });
-        same(&rt, &refusal(&rt, source, 0, 64, 64), &refused);
+        let source = Counted::new(FailingReader { seeks_succeed });
+        expect_eq(&rt, &parse_error(&rt, source, 0, 64, 64), &error);
     }
 }
 
 #[test]
-fn tells_a_name(rt: HostRuntime) -> Result<(), Fail> {
-    let (attr, _) = PerfEventAttr::parse::<_, LittleEndian>(&two_frames()[8..])?;
+fn returns_name_and_ids(rt: HostRuntime) -> Result<(), Fail> {
+    let (attr, _) = PerfEventAttr::parse::<_, LittleEndian>(&two_attr_bytes()[8..])?;
     let description = AttributeDescription {
         attr,
         name: Some(String::from_str(rt.alloc(), "cycles")?),
         event_ids: Vec::from_array(rt.alloc(), [7, 8])?,
     };
-    same(&rt, &description.name(), &Some("cycles"));
-    same(&rt, &description.ids(), &[7, 8].as_slice());
+    expect_eq(&rt, &description.name(), &Some("cycles"));
+    expect_eq(&rt, &description.ids(), &[7, 8].as_slice());
     Ok(())
 }

@@ -1,6 +1,6 @@
 //! Ids at an offset that no file can have are an error, and nothing is read there.
-use crate::compare::same_at;
-use crate::event_types::two_entries;
+use crate::event_types::two_entry_bytes;
+use crate::expect::expect_eq_at;
 use byteorder::LittleEndian;
 use perfdata_base::section::PerfFileSection;
 use perfdata_base::source::Counted;
@@ -15,35 +15,35 @@ use std::test::Fail;
 /// A reader that records the greatest position that it seeks to, the number of bytes that it returns, and the number of calls
 /// after 80 bytes are returned.
 #[derive(Drop)]
-struct Noting<'a> {
+struct LoggingReader<'a> {
     inner: Cursor<&'a [u8]>,
-    farthest: u64,
-    given: usize,
-    later: u64,
+    max_position: u64,
+    bytes_read: usize,
+    late_calls: u64,
 }
 
-impl Noting<'_> {
-    fn note(&mut self) {
-        if self.given >= 80 {
-            self.later = self.later.saturating_add(1);
+impl LoggingReader<'_> {
+    fn log_call(&mut self) {
+        if self.bytes_read >= 80 {
+            self.late_calls = self.late_calls.saturating_add(1);
         }
     }
 }
 
-impl Read for Noting<'_> {
-    fn read(&mut self, place: &mut [u8]) -> std::io::Result<usize> {
-        self.note();
-        let count = Read::read(&mut self.inner, place)?;
-        self.given = self.given.saturating_add(count);
+impl Read for LoggingReader<'_> {
+    fn read(&mut self, buf: &mut [u8]) -> std::io::Result<usize> {
+        self.log_call();
+        let count = Read::read(&mut self.inner, buf)?;
+        self.bytes_read = self.bytes_read.saturating_add(count);
         Ok(count)
     }
 }
 
-impl Seek for Noting<'_> {
+impl Seek for LoggingReader<'_> {
     fn seek(&mut self, to: SeekFrom) -> std::io::Result<u64> {
-        self.note();
+        self.log_call();
         let at = Seek::seek(&mut self.inner, to)?;
-        self.farthest = self.farthest.max(at);
+        self.max_position = self.max_position.max(at);
         Ok(at)
     }
 }
@@ -55,7 +55,7 @@ const SECTION: PerfFileSection = PerfFileSection {
 };
 
 /// The number of attributes with and without a name, or whether the error is that of an attribute.
-fn told(read: Result<Vec<AttributeDescription>, Error>) -> Result<(usize, usize), bool> {
+fn attr_counts(read: Result<Vec<AttributeDescription>, Error>) -> Result<(usize, usize), bool> {
     match read {
         Ok(events) => {
             let named = events.iter().filter(|event| event.name().is_some()).count();
@@ -67,22 +67,22 @@ fn told(read: Result<Vec<AttributeDescription>, Error>) -> Result<(usize, usize)
 }
 
 /// Parses the first of two entries, with its ids at this offset, as the event types section, or with `types` as simpleperf's
-/// attribute section, whose attr frames include the 16 bytes for the section of the ids. Returns the result, and what the reader
+/// attribute section, whose attribute size includes the 16 bytes for the section of the ids. Returns the result, and what the reader
 /// records: its greatest position, the number of bytes that it returns, and whether it is called after the entry is read.
-fn noted(
+fn reader_log(
     alloc: Global,
     offset: u64,
     types: Option<&[SimplePerfEventType]>,
 ) -> (Result<(usize, usize), bool>, (u64, usize, bool)) {
-    let mut bytes = two_entries();
+    let mut bytes = two_entry_bytes();
     bytes[64..72].copy_from_slice(&offset.to_le_bytes());
-    let mut noting = Noting {
+    let mut reader = LoggingReader {
         inner: Cursor::new(bytes.as_slice()),
-        farthest: 0,
-        given: 0,
-        later: 0,
+        max_position: 0,
+        bytes_read: 0,
+        late_calls: 0,
     };
-    let mut source = Counted::new(&mut noting);
+    let mut source = Counted::new(&mut reader);
     let read = match types {
         Some(types) => AttributeDescription::parse_simpleperf_attr_section_from::<_, LittleEndian>(
             alloc,
@@ -96,24 +96,28 @@ fn noted(
         ),
     };
     (
-        told(read),
-        (noting.farthest, noting.given, noting.later > 0),
+        attr_counts(read),
+        (
+            reader.max_position,
+            reader.bytes_read,
+            reader.late_calls > 0,
+        ),
     )
 }
 
 #[test]
-fn ids_past_every_place_are_refused_untouched(rt: HostRuntime) {
+fn id_section_overflow_reads_nothing(rt: HostRuntime) {
     for (offset, wanted) in [
         (88, (Ok((0usize, 1usize)), (88u64, 88usize, true))),
         (u64::MAX, (Err(true), (0, 80, false))),
         (u64::MAX - 7, (Err(true), (0, 80, false))),
     ] {
-        same_at(&rt, &offset, &noted(rt.alloc(), offset, None), &wanted);
+        expect_eq_at(&rt, &offset, &reader_log(rt.alloc(), offset, None), &wanted);
     }
 }
 
 #[test]
-fn ids_of_named_events_past_every_place_are_refused_untouched(rt: HostRuntime) -> Result<(), Fail> {
+fn named_id_section_overflow_reads_nothing(rt: HostRuntime) -> Result<(), Fail> {
     let name = String::from_str(rt.alloc(), "cycles")?;
     let event = SimplePerfEventType::new(name, 0, 0);
     for (offset, wanted) in [
@@ -121,8 +125,8 @@ fn ids_of_named_events_past_every_place_are_refused_untouched(rt: HostRuntime) -
         (u64::MAX, (Err(true), (0, 80, false))),
         (u64::MAX - 7, (Err(true), (0, 80, false))),
     ] {
-        let came = noted(rt.alloc(), offset, Some(slice::from_ref(&event)));
-        same_at(&rt, &offset, &came, &wanted);
+        let result = reader_log(rt.alloc(), offset, Some(slice::from_ref(&event)));
+        expect_eq_at(&rt, &offset, &result, &wanted);
     }
     Ok(())
 }

@@ -2,8 +2,6 @@
 #![tactic(auto)]
 
 #[cfg(test)]
-mod compare;
-#[cfg(test)]
 mod constants;
 #[cfg(test)]
 mod decode_error;
@@ -15,6 +13,8 @@ mod event_desc;
 mod event_type;
 #[cfg(test)]
 mod event_types;
+#[cfg(test)]
+mod expect;
 #[cfg(test)]
 mod feature_sections;
 #[cfg(test)]

@@ -1,53 +1,53 @@
 //! Strings of sections: up to their first NUL, and truncated.
-use crate::compare::{same, same_at};
+use crate::expect::{expect_eq, expect_eq_at};
 use byteorder::{BigEndian, LittleEndian};
 use perfdata_parts::feature_sections::{HeaderString, before_nul};
 use std::alloc::Global;
 use std::io::{Error, ErrorKind};
 use std::test::Fail;
-use test_support::values::by_kind;
+use test_support::values::to_error_kind;
 
-fn big_endian(alloc: Global, bytes: &[u8]) -> Result<Option<String>, Error> {
+fn parse_big_endian(alloc: Global, bytes: &[u8]) -> Result<Option<String>, Error> {
     HeaderString::parse::<_, BigEndian>(alloc, bytes)
 }
 
 #[test]
-fn reads_texts(rt: HostRuntime) -> Result<(), Fail> {
+fn parses_strings(rt: HostRuntime) -> Result<(), Fail> {
     let bytes = [5, 0, 0, 0, b'a', b'b', 0, b'c', b'd', 7];
     let mut source = &bytes[..];
     let text = HeaderString::read_from::<_, LittleEndian>(rt.alloc(), &mut source)?;
-    same(&rt, &text.as_deref(), &Some("ab"));
-    same_at(&rt, &"all of the string is taken", &source.len(), &1);
-    let text = big_endian(rt.alloc(), &[0, 0, 0, 2, b'a', b'b'])?;
-    same(&rt, &text.as_deref(), &Some("ab"));
-    let text = big_endian(rt.alloc(), &[0; 4])?;
-    same(&rt, &text.as_deref(), &Some(""));
-    let text = big_endian(rt.alloc(), &[0, 0, 0, 1, 0xff])?;
-    same(&rt, &text.as_deref(), &None);
+    expect_eq(&rt, &text.as_deref(), &Some("ab"));
+    expect_eq_at(&rt, &"the whole string is consumed", &source.len(), &1);
+    let text = parse_big_endian(rt.alloc(), &[0, 0, 0, 2, b'a', b'b'])?;
+    expect_eq(&rt, &text.as_deref(), &Some("ab"));
+    let text = parse_big_endian(rt.alloc(), &[0; 4])?;
+    expect_eq(&rt, &text.as_deref(), &Some(""));
+    let text = parse_big_endian(rt.alloc(), &[0, 0, 0, 1, 0xff])?;
+    expect_eq(&rt, &text.as_deref(), &None);
     Ok(())
 }
 
 #[test]
-fn is_short_where_bytes_are_missing(rt: HostRuntime) {
+fn truncation_is_eof(rt: HostRuntime) {
     let bytes = [6, 0, 0, 0, b'a', b'b', 0, b'c', b'd'];
-    for held in [0usize, 3, 4, 9] {
-        let parsed = HeaderString::parse::<_, LittleEndian>(rt.alloc(), &bytes[..held]);
-        same_at(
+    for len in [0usize, 3, 4, 9] {
+        let parsed = HeaderString::parse::<_, LittleEndian>(rt.alloc(), &bytes[..len]);
+        expect_eq_at(
             &rt,
-            &held,
-            &by_kind(parsed).err(),
+            &len,
+            &to_error_kind(parsed).err(),
             &Some(ErrorKind::UnexpectedEof),
         );
     }
 }
 
 #[test]
-fn cuts_at_the_first_nul(rt: HostRuntime) {
-    for (bytes, front) in [
+fn truncates_at_the_first_nul(rt: HostRuntime) {
+    for (bytes, prefix) in [
         (b"ab\0c\0".as_slice(), b"ab".as_slice()),
         (b"ab", b"ab"),
         (b"\0", b""),
     ] {
-        same(&rt, &before_nul(bytes), &front);
+        expect_eq(&rt, &before_nul(bytes), &prefix);
     }
 }

@@ -30,7 +30,7 @@ pub enum ErrorKey {
 }
 
 /// Unexpected end of file, without the name of a part.
-pub const SHORT: ErrorKey = ErrorKey::IoError(ErrorKind::UnexpectedEof);
+pub const UNEXPECTED_EOF: ErrorKey = ErrorKey::IoError(ErrorKind::UnexpectedEof);
 
 /// An attribute can't be read.
 pub const ATTRIBUTE: ErrorKey = ErrorKey::Read(ReadError::PerfEventAttr);
@@ -47,8 +47,8 @@ impl ErrorKey {
             Error::UnrecognizedMagicValue(_) => ErrorKey::UnrecognizedMagicValue,
             Error::SectionSizeTooBig => ErrorKey::SectionSizeTooBig,
             Error::NoAttributes => ErrorKey::NoAttributes,
-            Error::InconsistentAttributeSizes(own, frame) => {
-                ErrorKey::InconsistentAttributeSizes(*own, *frame)
+            Error::InconsistentAttributeSizes(own, available) => {
+                ErrorKey::InconsistentAttributeSizes(*own, *available)
             }
             Error::NoIdentifierDespiteMultiEvent(index) => {
                 ErrorKey::NoIdentifierDespiteMultiEvent(*index)
@@ -77,8 +77,8 @@ impl ErrorKey {
     }
 
     /// Converts the error of a result, if it is one.
-    pub fn of_answer<T: Drop>(answer: Result<T, Error>) -> Option<ErrorKey> {
-        match answer {
+    pub fn of_result<T: Drop>(outcome: Result<T, Error>) -> Option<ErrorKey> {
+        match outcome {
             Ok(_) => None,
             Err(error) => Some(ErrorKey::of(&error)),
         }

@@ -152,30 +152,34 @@ impl Image {
 
     pub fn push_record_header(
         &mut self,
-        kind: u32,
+        record_type: u32,
         misc: u16,
         size: u16,
     ) -> Result<(), AllocError> {
-        self.push_u32(kind)?;
+        self.push_u32(record_type)?;
         self.push_u16(misc)?;
         self.push_u16(size)
     }
 
     pub fn push_part(&mut self, part: Part<'_>) -> Result<(), AllocError> {
         match part {
-            Part::RecordHeader(kind, misc, size) => self.push_record_header(kind, misc, size),
+            Part::RecordHeader(record_type, misc, size) => self.push_record_header(
+                record_type,
+                misc,
+                size,
+            ),
             Part::U64(number) => self.push_u64(number),
             Part::Fill(value, count) => self.push_fill(value, count),
             Part::Sample(time) => self.push_sample(time),
             Part::RoundMarker(size) => self.push_round_marker(size),
-            Part::Auxtrace(promised, content) => self.push_auxtrace(promised, content),
+            Part::Auxtrace(aux_size, data) => self.push_auxtrace(aux_size, data),
             Part::SampleWithId(id, time) => self.push_sample_with_id(id, time),
             Part::HeaderAttr(sample_type, flags, ids) => self.push_header_attr(
                 sample_type,
                 flags,
                 ids,
             ),
-            Part::HeaderFeature(number, content) => self.push_header_feature(number, content),
+            Part::HeaderFeature(number, data) => self.push_header_feature(number, data),
             Part::Bytes(bytes) => self.push_bytes(bytes),
         }
     }
@@ -209,10 +213,10 @@ impl Image {
     }
 
     /// Appends a HEADER_FEATURE record of a feature and its data.
-    pub fn push_header_feature(&mut self, number: u64, content: &[u8]) -> Result<(), AllocError> {
-        self.push_record_header(80, 0, record_size(16, content.len()))?;
+    pub fn push_header_feature(&mut self, number: u64, data: &[u8]) -> Result<(), AllocError> {
+        self.push_record_header(80, 0, record_size(16, data.len()))?;
         self.push_u64(number)?;
-        self.push_bytes(content)
+        self.push_bytes(data)
     }
 
     /// Appends a round marker of this size, whose body consists of `ff` bytes.
@@ -221,17 +225,17 @@ impl Image {
         self.push_fill(0xff, (size as usize).saturating_sub(8))
     }
 
-    /// Appends an auxtrace record with this declared size of its aux data, and the aux data `content`.
-    pub fn push_auxtrace(&mut self, promised: u64, content: &[u8]) -> Result<(), AllocError> {
+    /// Appends an auxtrace record with this declared size of its aux data, and the aux data `aux_data`.
+    pub fn push_auxtrace(&mut self, aux_size: u64, aux_data: &[u8]) -> Result<(), AllocError> {
         self.push_record_header(71, 0, 48)?;
-        self.push_u64(promised)?;
+        self.push_u64(aux_size)?;
         self.push_u64(0)?;
         self.push_u64(0x428_492a_cdf9)?;
         self.push_u32(8)?;
         self.push_u32(0x247a)?;
         self.push_u32(8)?;
         self.push_u32(0)?;
-        self.push_bytes(content)
+        self.push_bytes(aux_data)
     }
 
     /// The first test file: two samples with the times 20 and 10 and a round marker between them, 208 bytes.
@@ -272,7 +276,11 @@ impl Image {
 }
 
 /// A pipe header and these parts.
-pub fn piped(alloc: Global, endian: Endianness, parts: &[Part<'_>]) -> Result<Image, AllocError> {
+pub fn pipe_image(
+    alloc: Global,
+    endian: Endianness,
+    parts: &[Part<'_>],
+) -> Result<Image, AllocError> {
     let mut image = Image::pipe_header(alloc, endian)?;
     for part in parts {
         image.push_part(*part)?;
@@ -281,13 +289,13 @@ pub fn piped(alloc: Global, endian: Endianness, parts: &[Part<'_>]) -> Result<Im
 }
 
 /// A little-endian pipe header and these parts.
-pub fn little_pipe(alloc: Global, parts: &[Part<'_>]) -> Result<Image, AllocError> {
-    piped(alloc, Endianness::LittleEndian, parts)
+pub fn little_endian_pipe(alloc: Global, parts: &[Part<'_>]) -> Result<Image, AllocError> {
+    pipe_image(alloc, Endianness::LittleEndian, parts)
 }
 
 /// A little-endian file with a data section of this size and an attribute with this sample type and these flags, that ends with
 /// these parts.
-pub fn little_file(
+pub fn little_endian_file(
     alloc: Global,
     (size, sample_type, flags): (u64, u64, u64),
     parts: &[Part<'_>],

@@ -2,10 +2,10 @@
 //! pipes.
 #![tactic(auto)]
 
-pub mod ending;
 pub mod error_key;
 pub mod image;
-pub mod plain;
+pub mod outcome;
 pub mod recordings;
+pub mod reference;
 pub mod sources;
 pub mod values;

@@ -4,6 +4,37 @@ use perfdata_base::features::Feature;
 use perfdata_base::raw::Endianness;
 use std::alloc::{AllocError, Global};
 
+/// The body of an auxtrace record and its aux data, as the record of `auxtrace_pipe` has them: the size of the aux data (one byte),
+/// its offset, reference, index, tid, CPU and a reserved u32 of 0; and then the aux data.
+pub const AUXTRACE_BODY: [u8; 41] = [
+    1, 0, 0, 0, 0, 0, 0, 0, 0, 0, 0, 0, 0, 0, 0, 0, 0xf9, 0xcd, 0x2a, 0x49, 0x28, 4, 0, 0, 8, 0, 0,
+    0, 0x7a, 0x24, 0, 0, 8, 0, 0, 0, 0, 0, 0, 0, 7,
+];
+
+/// The body of a HEADER_ATTR record: an attribute of 64 bytes whose samples contain the time, and the ids 5 and 6.
+pub fn header_attr_body() -> [u8; 80] {
+    let mut bytes = [0; 80];
+    bytes[4] = 64;
+    bytes[24] = 4;
+    bytes[64] = 5;
+    bytes[72] = 6;
+    bytes
+}
+
+/// A little-endian EVENT_DESC section of one event, `c`, with the id 5. Its attribute has 64 bytes, and its samples contain the time.
+pub fn event_desc_section() -> [u8; 90] {
+    let mut bytes = [0; 90];
+    bytes[0] = 1;
+    bytes[4] = 64;
+    bytes[12] = 64;
+    bytes[32] = 4;
+    bytes[72] = 1;
+    bytes[76] = 2;
+    bytes[80] = b'c';
+    bytes[82] = 5;
+    bytes
+}
+
 /// Two attributes with the same id, and two samples.
 pub const TWO_ATTRIBUTES: [Part<'_>; 4] = [
     Part::HeaderAttr(0x10004, 0, &[5]),
@@ -13,7 +44,7 @@ pub const TWO_ATTRIBUTES: [Part<'_>; 4] = [
 ];
 
 /// A pipe with an auxtrace record. Its header has 16 bytes and `more` extra bytes.
-pub fn traced_pipe(alloc: Global, more: u8) -> Result<Image, AllocError> {
+pub fn auxtrace_pipe(alloc: Global, more: u8) -> Result<Image, AllocError> {
     let mut image = Image::pipe_header(alloc, Endianness::LittleEndian)?;
     image.overwrite_u64(8, 16u64.saturating_add(more as u64));
     image.push_fill(0xee, more as usize)?;
@@ -50,7 +81,7 @@ pub fn event_desc_of(
 }
 
 /// `first_file` with these u64 fields of feature bits. The entries and their contents follow its 208 bytes.
-pub fn with_features(
+pub fn file_with_features(
     alloc: Global,
     endian: Endianness,
     words: [u64; 4],
@@ -71,29 +102,39 @@ pub fn with_features(
     Ok(image)
 }
 
+/// `first_file`, little-endian, with the bit of a host name, these entries and these bytes.
+pub fn file_with_entries(
+    alloc: Global,
+    entries: &[(u64, u64)],
+    content: &[u8],
+) -> Result<Image, AllocError> {
+    let little = Endianness::LittleEndian;
+    file_with_features(alloc, little, [8, 0, 0, 0], entries, content)
+}
+
 /// The u64 field of feature bits from `from` on, with only this feature's bit set.
-fn word_of(feature: Feature, from: u32) -> u64 {
-    if feature.0 >= from && feature.0 - from < 64 {
-        1 << (feature.0 - from)
+fn feature_word(feature: Feature, first_bit: u32) -> u64 {
+    if feature.0 >= first_bit && feature.0 - first_bit < 64 {
+        1 << (feature.0 - first_bit)
     } else {
         0
     }
 }
 
 /// `first_file` with one feature, whose section contains these bytes.
-pub fn with_section(
+pub fn file_with_section(
     alloc: Global,
     endian: Endianness,
     feature: Feature,
     content: &[u8],
 ) -> Result<Image, AllocError> {
     let words = [
-        word_of(feature, 0),
-        word_of(feature, 64),
-        word_of(feature, 128),
-        word_of(feature, 192),
+        feature_word(feature, 0),
+        feature_word(feature, 64),
+        feature_word(feature, 128),
+        feature_word(feature, 192),
     ];
-    with_features(
+    file_with_features(
         alloc,
         endian,
         words,
@@ -112,34 +153,34 @@ pub fn two_features(alloc: Global) -> Result<Image, AllocError> {
     ];
     let words = [24, 0, 0, 0];
     let entries = [(240, 9), (249, 6)];
-    with_features(alloc, Endianness::LittleEndian, words, &entries, &sections)
+    file_with_features(alloc, Endianness::LittleEndian, words, &entries, &sections)
 }
 
 /// A file of 352 bytes: two event types, the ids of each, and three samples with an id and a time.
 #[derive(Clone, Copy)]
-pub struct EventTypes {
+pub struct EventTypesFile {
     pub attr_size: u64,
     /// The second attribute's sample type and flags.
     pub second: (u64, u64),
-    pub ids_at: [(u64, u64); 2],
+    pub id_sections: [(u64, u64); 2],
     pub ids: [u64; 2],
     pub samples: [(u64, u64); 3],
 }
 
-pub const EVENT_TYPES: EventTypes = EventTypes {
+pub const EVENT_TYPES: EventTypesFile = EventTypesFile {
     attr_size: 64,
     second: (0x10004, 0),
-    ids_at: [(264, 8), (272, 8)],
+    id_sections: [(264, 8), (272, 8)],
     ids: [5, 6],
     samples: [(6, 7), (5, 8), (9, 1)],
 };
 
-impl EventTypes {
+impl EventTypesFile {
     /// The bytes before the samples. The data section has this size.
-    pub fn front(&self, alloc: Global, size: u64) -> Result<Image, AllocError> {
+    pub fn prefix(&self, alloc: Global, size: u64) -> Result<Image, AllocError> {
         let numbers = [104, self.attr_size, 0, 0, 280, size, 104, 160, 0, 0, 0, 0];
         let mut image = Image::header(alloc, numbers)?;
-        let [(first, first_size), (second, second_size)] = self.ids_at;
+        let [(first, first_size), (second, second_size)] = self.id_sections;
         image.push_attr(0x10004, 0)?;
         image.push_u64(first)?;
         image.push_u64(first_size)?;
@@ -154,7 +195,7 @@ impl EventTypes {
 
     /// The whole file: its records are the samples.
     pub fn image(&self, alloc: Global) -> Result<Image, AllocError> {
-        let mut image = self.front(alloc, 72)?;
+        let mut image = self.prefix(alloc, 72)?;
         for (id, time) in self.samples {
             image.push_sample_with_id(id, time)?;
         }
@@ -162,7 +203,7 @@ impl EventTypes {
     }
 }
 
-/// A length, and a message with the path `a`, type 2, address 128 and the DEX offsets 1, 2, 3.
+/// A length, and a message with the path `a`, type 2, address 128, an unknown field, and the packed and single DEX offsets 1, 2, 3.
 pub const SYMBOLS_FILE2: [u8; 24] = [
     0x14, 0, 0, 0, 0x0a, 1, b'a', 0x10, 2, 0x18, 0x80, 1, 0x40, 5, 0x2a, 4, 0x0a, 2, 1, 2, 0x2a, 2,
     8, 3,
@@ -194,6 +235,12 @@ pub fn simpleperf_file(
 
 /// Meta info that names an event type.
 pub const META_INFO: &[u8] = b"event_type_info\0cpu-clock,1,0\0";
+
+/// The body of a jitdump debug info record: the address 16, and one entry with the address 32, line 3, column 4 and the path `a.js`.
+pub const JIT_DEBUG_INFO: [u8; 37] = [
+    16, 0, 0, 0, 0, 0, 0, 0, 1, 0, 0, 0, 0, 0, 0, 0, 32, 0, 0, 0, 0, 0, 0, 0, 3, 0, 0, 0, 4, 0, 0,
+    0, b'a', b'.', b'j', b's', 0,
+];
 
 /// A jitdump file. Its header has version 1, 40 bytes, machine 62, pid 7 and time 5. A load record of 62 bytes at time 9 has pid
 /// and tid 7, addresses 0x1000, index 0, the name `foo` and two bytes of code. A close record of 16 bytes has time 11.

@@ -8,10 +8,10 @@ records-init c =
     let opened = c.in_ok-reader.ensures.parses in
     let start = opened.at_first_record.offset in
     record {
-      fits = omega (arith, start);
-      few = omega arith;
+      offset_in_range = omega (arith, start);
+      count_below_offset = omega arith;
       opened = (state c.new.result, (λ i. Some (record { all_bytes = (c.new.ensures.inner i).now; offset = c.new.ensures.position i })), opened);
-      read = ([], refl, c.consecutive_calls.ensures.none _ _);
+      returned = ([], refl, c.consecutive_calls.ensures.none _ _);
     }
 
 pub overflow_add-count : goal.overflow_add-count
@@ -19,11 +19,11 @@ overflow_add-count c =
     let rested = c.next_record.follows.lender-at-none in
     let nexts = subst (λ r. NextRecord state (λ _. 0) c.records.iter c.records.file r rested c.next_record.new.perf_file) (c.in-Ok-Some.is ∙ ap Ok c.in-Ok-Some.field-0-is) c.next_record.follows.holds-at-none in
     let step = nexts.0 in
-    let few = c.records.invariant.few in
-    let place = step.record_offset in
+    let below = c.records.invariant.count_below_offset in
+    let record_offset = step.record_offset in
     let offset = step.offset in
     let fits = step.offset_fits in
-    omega (arith, few, place, offset, fits)
+    omega (arith, below, record_offset, offset, fits)
 
 pub records-preserved : goal.records-preserved
 records-preserved c =
@@ -31,19 +31,19 @@ records-preserved c =
     let rested = c.next_record.follows.lender-at-none in
     let nexts = subst (λ r. NextRecord state (λ _. 0) c.records.iter c.records.file r rested c.next_record.new.perf_file) (c.in-Ok-Some.is ∙ ap Ok c.in-Ok-Some.field-0-is) c.next_record.follows.holds-at-none in
     let step = nexts.0 in
-    let few = before.few in
-    let place = step.record_offset in
+    let below = before.count_below_offset in
+    let record_offset = step.record_offset in
     let offset = step.offset in
-    let count = before.read.1 in
+    let count = before.returned.1 in
     let h = record_view_of c.in-Ok-Some._place c.in-Ok-Some._record in
     record {
-      fits = step.offset_fits;
-      few = omega (arith, few, place, offset);
+      offset_in_range = step.offset_fits;
+      count_below_offset = omega (arith, below, record_offset, offset);
       opened = before.opened;
-      read = (
-        before.read.0 ++ h ∷ [],
-        omega (arith, count, length-append before.read.0 (h ∷ [])),
-        c.consecutive_calls.ensures.more _ c.records.iter rested _ c.records.file c.next_record.new.perf_file before.read.0 h before.read.2 step,
+      returned = (
+        before.returned.0 ++ h ∷ [],
+        omega (arith, count, length-append before.returned.0 (h ∷ [])),
+        c.consecutive_calls.ensures.more _ c.records.iter rested _ c.records.file c.next_record.new.perf_file before.returned.0 h before.returned.2 step,
       );
     }
 
@@ -51,6 +51,6 @@ pub returns-in-Ok-None : goal.returns-in-Ok-None
 returns-in-Ok-None c =
     let before = c.records.invariant in
     let rested = c.next_record.follows.lender-at-none in
-    let ended = subst (λ r. NextRecord state (λ _. 0) c.records.iter c.records.file r rested c.next_record.new.perf_file) (c.in-Ok-None.is ∙ ap Ok c.in-Ok-None.field-0-is) c.next_record.follows.holds-at-none in
-    let whole = (c.file_reading.ensures.end _ before.opened.0 _ c.records.file c.next_record.new.perf_file _ c.records.iter rested before.read.0 before.opened.1 before.opened.2 before.read.2 ended.0).0 in
-    (c.in_ok-reader.reader.perf_file, (whole.header, whole.describes, (before.read.0, whole.all_records, before.read.1)))
+    let at_end = subst (λ r. NextRecord state (λ _. 0) c.records.iter c.records.file r rested c.next_record.new.perf_file) (c.in-Ok-None.is ∙ ap Ok c.in-Ok-None.field-0-is) c.next_record.follows.holds-at-none in
+    let whole = (c.file_reading.ensures.end _ before.opened.0 _ c.records.file c.next_record.new.perf_file _ c.records.iter rested before.returned.0 before.opened.1 before.opened.2 before.returned.2 at_end.0).0 in
+    (c.in_ok-reader.reader.perf_file, (whole.header, whole.describes, (before.returned.0, whole.all_records, before.returned.1)))

@@ -1,11 +1,10 @@
 use Rattle.std.proofs.Common.{◌≡◌, ℕ, ◌-◌, ◌^◌, ◌<◌, ◌≤◌, List, length, Bor, Some}
 use Rattle.std.specs.Io.Cursor.{cursor_inner, cursor_position}
 use Rattle.std.specs.declared.io.impls.Cursor.{Cursor}
-use Rattle.perfdata_base.specs.Source.{State, memory_source_at}
+use Rattle.perfdata_base.specs.Source.{State, memory_source_at, at_start}
 use Rattle.linux_perf_data.specs.Layout.{RecordView}
 use Rattle.linux_perf_data.specs.OpenedFile.{FileParsed}
 use Rattle.linux_perf_data.specs.FileReading.{ReturnsRecords}
-use Rattle.example_proved_count.specs.RecordCount.{at_start}
 use Rattle.example_proved_count.proofs.count_records.Given as goal
 
 -- the source's state in contracts, for a slice that is read from its start
@@ -14,10 +13,10 @@ state c = memory_source_at (cursor_inner c).now (cursor_position c)
 
 abbrev pub invariant-records : goal.invariant-records
 invariant-records l = record {
-  fits : l.iter.offset < 2 ^ 64;
-  few : l.count ≤ l.iter.offset;
+  offset_in_range : l.iter.offset < 2 ^ 64;
+  count_below_offset : l.count ≤ l.iter.offset;
   opened : (old : State) × (old.position ≡ Some (at_start l.fn.bytes)) × FileParsed state old l.initial.file l.initial.iter;
-  read : (records : List RecordView) × (l.count ≡ length records) × ReturnsRecords state l.initial.iter l.initial.file records l.iter l.file;
+  returned : (records : List RecordView) × (l.count ≡ length records) × ReturnsRecords state l.initial.iter l.initial.file records l.iter l.file;
 }
 
 abbrev pub decreases-records : goal.decreases-records

@@ -15,9 +15,9 @@ use perfdata_parts::feature_sections::AttributeDescription;
 fn id_offsets_agree(first: &AttributeDescription, attributes: &[AttributeDescription]) -> bool
     ensures { TestsIdOffsets (described_attribute first.now) (described_attributes attributes.now) result }
 {
-    let places = RecordIdParseInfo::new(first.attributes());
+    let id_parse_info = RecordIdParseInfo::new(first.attributes());
     'attributes: for attribute in attributes {
-        if RecordIdParseInfo::new(attribute.attributes()) != places {
+        if RecordIdParseInfo::new(attribute.attributes()) != id_parse_info {
             return false;
         }
     }

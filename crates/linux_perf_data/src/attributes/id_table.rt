@@ -144,10 +144,8 @@ impl IdTable {
     pub(crate) fn insert(&mut self, id: u64, index: usize) -> Result<(), AllocError>
         ensures { InsertsId self.old id index result self.new }
     {
-        match self.late_ids.insert(id, index) {
-            Ok(_) => Ok(()),
-            Err(_) => Err(AllocError),
-        }
+        self.late_ids.insert(id, index)?;
+        Ok(())
     }
 
     // Maps each of the identifiers to this index, in order.
@@ -155,10 +153,7 @@ impl IdTable {
         ensures { InsertsIds self.old ids.now index result self.new }
     {
         'ids: for id in ids {
-            match self.insert(*id, index) {
-                Ok(()) => {}
-                Err(error) => return Err(error),
-            }
+            self.insert(*id, index)?;
         }
         Ok(())
     }

@@ -40,14 +40,11 @@ fn collect_parse_infos(
 ) -> Result<Vec<RecordParseInfo>, Error>
     ensures { CollectsParseInfos endian (described_attributes attributes.now) result }
 {
-    let mut places = Vec::new(alloc);
+    let mut parse_infos = Vec::new(alloc);
     'attributes: for attribute in attributes {
-        match places.push(RecordParseInfo::new(attribute.attributes(), endian)) {
-            Ok(()) => {}
-            Err(_) => return Err(Error::Memory),
-        }
+        parse_infos.push(RecordParseInfo::new(attribute.attributes(), endian))?;
     }
-    Ok(places)
+    Ok(parse_infos)
 }
 
 impl AttributeLookup {
@@ -59,29 +56,24 @@ impl AttributeLookup {
         attributes: &[AttributeDescription],
         endian: Endianness,
     ) -> Result<AttributeLookup, Error>
-        requires some { 0 < length attributes.now }
-        requires rule { AreConsistent (described_attributes attributes.now) }
+        requires nonempty { 0 < length attributes.now }
+        requires consistent { AreConsistent (described_attributes attributes.now) }
         ensures { BuildsLookup endian (described_attributes attributes.now) result }
     {
-        let places = match collect_parse_infos(alloc, attributes, endian) {
-            Ok(places) => places,
-            Err(error) => return Err(error),
-        };
-        match IdTable::new(alloc, attributes) {
-            Ok(table) => Ok(AttributeLookup {
-                first_parse_info: RecordParseInfo::new(attributes[0].attributes(), endian),
-                parse_infos: places,
-                first_without_identifier: first_without_identifier(attributes),
-                table,
-                cache: IdCache::new(),
-            }),
-            Err(_) => Err(Error::Memory),
-        }
+        let parse_infos = collect_parse_infos(alloc, attributes, endian)?;
+        let table = IdTable::new(alloc, attributes)?;
+        Ok(AttributeLookup {
+            first_parse_info: RecordParseInfo::new(attributes[0].attributes(), endian),
+            parse_infos,
+            first_without_identifier: first_without_identifier(attributes),
+            table,
+            cache: IdCache::new(),
+        })
     }
 
     // Checks one more attribute for consistency, in constant time. It is consistent if its identifiers are at the offsets of
-    // the known ones. Otherwise the error names the first known attribute without IDENTIFIER. If all known ones have it, the
-    // error names the new attribute: it lacks IDENTIFIER or, as the offsets differ, its SAMPLE_ID_ALL differs.
+    // those of the earlier attributes. Otherwise the error names the first earlier attribute without IDENTIFIER. If all of them
+    // have it, the error names the new attribute: it lacks IDENTIFIER or, as the offsets differ, its SAMPLE_ID_ALL differs.
     fn check_next(&self, attr: &PerfEventAttr) -> Result<(), Error>
         ensures { ChecksNextAttribute self.now attr.now result }
     {
@@ -109,19 +101,10 @@ impl AttributeLookup {
     ) -> Result<(), Error>
         ensures { AddsAttribute endian self.old (record { attr = attr.now; ids = ids.now }) result self.new }
     {
-        match self.check_next(attr) {
-            Ok(()) => {}
-            Err(error) => return Err(error),
-        }
+        self.check_next(attr)?;
         let index = self.parse_infos.len();
-        match self.parse_infos.push(RecordParseInfo::new(attr, endian)) {
-            Ok(()) => {}
-            Err(_) => return Err(Error::Memory),
-        }
-        match self.table.insert_all(ids, index) {
-            Ok(()) => {}
-            Err(_) => return Err(Error::Memory),
-        }
+        self.parse_infos.push(RecordParseInfo::new(attr, endian))?;
+        self.table.insert_all(ids, index)?;
         self.first_without_identifier = first_without_identifier_with(
             self.first_without_identifier,
             attr,
@@ -135,7 +118,7 @@ impl AttributeLookup {
     fn attr_index_by_id(&mut self, id: u64) -> usize
         ensures index_in_bounds { result < vec_len self.old.parse_infos }
         ensures same_parse_infos { (self.new.parse_infos ≡ self.old.parse_infos) × (self.new.first_parse_info ≡ self.old.first_parse_info) }
-        ensures tells { ResolvesId self.old id result }
+        ensures resolves { ResolvesId self.old id result }
         ensures keeps_attributes { KeepsAttributes self.old self.new }
     {
         match self.cache.get(id) {
@@ -150,7 +133,7 @@ impl AttributeLookup {
 
     // The index of the attribute of a kernel record with this body.
     pub(crate) fn attr_index_of(&mut self, record_type: RecordType, body: &[u8]) -> usize
-        ensures tells { ResolvesEvent self.old record_type.0 body.now result self.new }
+        ensures resolves { ResolvesEvent self.old record_type.0 body.now result self.new }
         ensures keeps_attributes { KeepsAttributes self.old self.new }
     {
         if self.parse_infos.len() == 1 {
@@ -168,7 +151,7 @@ impl AttributeLookup {
         ensures { result.now ≡ parse_info_at self.now index }
     {
         match self.parse_infos.as_slice().get(index) {
-            Some(places) => places,
+            Some(parse_info) => parse_info,
             None => &self.first_parse_info,
         }
     }

@@ -32,27 +32,22 @@ fn insert_first(
     if ids.is_empty() {
         return Ok(());
     }
-    match first.insert(ids[0], index) {
-        Ok(_) => Ok(()),
-        Err(_) => Err(AllocError),
-    }
+    first.insert(ids[0], index)?;
+    Ok(())
 }
 
 // Maps each first id to the index of the first of these events with it.
 fn index_first_ids(
     alloc: Global,
-    told: &[AttributeDescription],
+    events: &[AttributeDescription],
 ) -> Result<BTreeMap<u64, usize>, AllocError>
-    ensures { IfOk result (λ first. IndexesFirstIds first told.now) }
+    ensures { IfOk result (λ first. IndexesFirstIds first events.now) }
 {
     let mut first = BTreeMap::new(alloc);
-    let mut index = told.len();
+    let mut index = events.len();
     'events: while index > 0 {
         index -= 1;
-        match insert_first(&mut first, told[index].ids(), index) {
-            Ok(()) => {}
-            Err(error) => return Err(error),
-        }
+        insert_first(&mut first, events[index].ids(), index)?;
     }
     Ok(first)
 }
@@ -78,18 +73,13 @@ impl NameTable {
                 });
             }
         };
-        let told = match read_event_desc(alloc, endian, bytes) {
-            Ok(told) => told,
-            Err(error) => return Err(error),
-        };
-        match index_first_ids(alloc, &told) {
-            Ok(first) => Ok(NameTable {
-                endian,
-                events: told,
-                index_by_first_id: first,
-            }),
-            Err(_) => Err(Error::Memory),
-        }
+        let events = read_event_desc(alloc, endian, bytes)?;
+        let first = index_first_ids(alloc, &events)?;
+        Ok(NameTable {
+            endian,
+            events,
+            index_by_first_id: first,
+        })
     }
 
     // Whether EVENT_DESC was parsed in this byte order.
@@ -117,10 +107,7 @@ impl NameTable {
         ensures { CopiesName (name_from_table self.now ids.now) result }
     {
         match self.get(ids) {
-            Some(name) => match String::from_str(alloc, name) {
-                Ok(name) => Ok(Some(name)),
-                Err(_) => Err(Error::Memory),
-            },
+            Some(name) => Ok(Some(String::from_str(alloc, name)?)),
             None => Ok(None),
         }
     }
@@ -135,14 +122,8 @@ impl NameTable {
     {
         let mut names = Vec::new(alloc);
         'attributes: for attribute in attributes {
-            let name = match self.clone_name(alloc, attribute.ids()) {
-                Ok(name) => name,
-                Err(error) => return Err(error),
-            };
-            match names.push(name) {
-                Ok(()) => {}
-                Err(_) => return Err(Error::Memory),
-            }
+            let name = self.clone_name(alloc, attribute.ids())?;
+            names.push(name)?;
         }
         Ok(names)
     }

@@ -58,14 +58,8 @@ pub(crate) fn name_attributes(
 ) -> Result<NameTable, Error>
     ensures { NamesAttributes endian (option_map (λ s. s.now) event_desc.entry) attributes.old result attributes.new }
 {
-    let table = match NameTable::read(alloc, endian, event_desc) {
-        Ok(table) => table,
-        Err(error) => return Err(error),
-    };
-    let names = match table.clone_names(alloc, attributes) {
-        Ok(names) => names,
-        Err(error) => return Err(error),
-    };
+    let table = NameTable::read(alloc, endian, event_desc)?;
+    let names = table.clone_names(alloc, attributes)?;
     set_names(attributes, names);
     Ok(table)
 }

@@ -12,22 +12,20 @@ use perfdata_base::features::{Feature, FeatureSet};
 use perfdata_base::raw::Endianness;
 use perfdata_base::section::PerfFileSection;
 use perfdata_base::source::PlacedSource;
-use perfdata_parts::bytes::{into_file_error, read_bytes};
+use perfdata_parts::bytes::read_bytes;
 use perfdata_parts::error::Error;
 use std::alloc::Global;
 use std::io;
 use std::io::SeekFrom;
 
 // Seeks to an offset in bytes from the first byte of the source.
-pub(crate) fn seek_to_offset<C: PlacedSource>(source: &mut C, place: u64) -> Result<(), Error>
-    ensures seeks { SeeksToOffset (C.state source.old) place result (C.state source.new) }
+pub(crate) fn seek_to_offset<C: PlacedSource>(source: &mut C, offset: u64) -> Result<(), Error>
+    ensures seeks { SeeksToOffset (C.state source.old) offset result (C.state source.new) }
     ensures pauses { PausesOnlyOnError (C.state source.old) result (C.state source.new) }
-    ensures lent { C.loan source.new ≡ C.loan source.old }
+    ensures same_loan { C.loan source.new ≡ C.loan source.old }
 {
-    match source.seek_to(SeekFrom::Start(place)) {
-        Ok(_) => Ok(()),
-        Err(error) => Err(Error::IoError(error)),
-    }
+    source.seek_to(SeekFrom::Start(offset))?;
+    Ok(())
 }
 
 // Reads a table entry at the position of the source.
@@ -37,7 +35,7 @@ fn read_section_entry<C: PlacedSource>(
 ) -> io::Result<PerfFileSection>
     ensures parses { ParsesSectionEntry (number_in endian) (C.state source.old) result (C.state source.new) }
     ensures pauses { PausesOnlyOnError (C.state source.old) result (C.state source.new) }
-    ensures lent { C.loan source.new ≡ C.loan source.old }
+    ensures same_loan { C.loan source.new ≡ C.loan source.old }
 {
     match endian {
         Endianness::LittleEndian => PerfFileSection::parse_from::<C, LittleEndian>(source),
@@ -54,18 +52,12 @@ fn read_section_table<C: PlacedSource>(
 ) -> Result<Vec<(Feature, PerfFileSection)>, Error>
     ensures reads { ReadsFeatureTable endian (features_of features.now) (C.state source.old) result (C.state source.new) }
     ensures pauses { PausesOnlyOnError (C.state source.old) result (C.state source.new) }
-    ensures lent { C.loan source.new ≡ C.loan source.old }
+    ensures same_loan { C.loan source.new ≡ C.loan source.old }
 {
     let mut table = Vec::new(alloc);
     'entries: for feature in features.iter() {
-        let entry = match read_section_entry(source, endian) {
-            Ok(entry) => entry,
-            Err(error) => return Err(Error::IoError(error)),
-        };
-        match table.push((feature, entry)) {
-            Ok(()) => {}
-            Err(_) => return Err(Error::Memory),
-        }
+        let entry = read_section_entry(source, endian)?;
+        table.push((feature, entry))?;
     }
     Ok(table)
 }
@@ -78,15 +70,12 @@ fn read_section_data<C: PlacedSource>(
 ) -> Result<Vec<u8>, Error>
     ensures reads { ReadsSectionBytes section (C.state source.old) result (C.state source.new) }
     ensures pauses { PausesOnlyOnError (C.state source.old) result (C.state source.new) }
-    ensures lent { C.loan source.new ≡ C.loan source.old }
+    ensures same_loan { C.loan source.new ≡ C.loan source.old }
 {
-    match seek_to_offset(source, section.offset) {
-        Ok(()) => {}
-        Err(error) => return Err(error),
-    }
+    seek_to_offset(source, section.offset)?;
     match read_bytes(alloc, source, section.size as usize) {
         Ok(bytes) => Ok(bytes),
-        Err(fault) => Err(into_file_error(fault)),
+        Err(error) => Err(Error::from(error)),
     }
 }
 
@@ -98,41 +87,30 @@ fn read_feature_data<C: PlacedSource>(
 ) -> Result<IndexMap<Feature, Vec<u8>>, Error>
     ensures reads { ReadsFeatureData (feature_entries_of table.now) (C.state source.old) result (C.state source.new) }
     ensures pauses { PausesOnlyOnError (C.state source.old) result (C.state source.new) }
-    ensures lent { C.loan source.new ≡ C.loan source.old }
+    ensures same_loan { C.loan source.new ≡ C.loan source.old }
 {
     let mut sections = IndexMap::new(alloc);
     'sections: for entry in table {
         let (feature, section) = *entry;
-        let bytes = match read_section_data(alloc, source, section) {
-            Ok(bytes) => bytes,
-            Err(error) => return Err(error),
-        };
-        match sections.insert(feature, bytes) {
-            Ok(_) => {}
-            Err(_) => return Err(Error::Memory),
-        }
+        let bytes = read_section_data(alloc, source, section)?;
+        sections.insert(feature, bytes)?;
     }
     Ok(sections)
 }
 
-// Reads the sections of these features. The table starts at the offset `place`, with one entry for each feature, ascending.
+// Reads the sections of these features. The table starts at the offset `offset`, with one entry for each feature, ascending.
 pub(crate) fn read_features<C: PlacedSource>(
     alloc: Global,
     source: &mut C,
     endian: Endianness,
     features: &FeatureSet,
-    place: u64,
+    offset: u64,
 ) -> Result<IndexMap<Feature, Vec<u8>>, Error>
-    ensures reads { ReadsFeatures endian place (features_of features.now) (C.state source.old) result (C.state source.new) }
+    ensures reads { ReadsFeatures endian offset (features_of features.now) (C.state source.old) result (C.state source.new) }
     ensures pauses { PausesOnlyOnError (C.state source.old) result (C.state source.new) }
-    ensures lent { C.loan source.new ≡ C.loan source.old }
+    ensures same_loan { C.loan source.new ≡ C.loan source.old }
 {
-    match seek_to_offset(source, place) {
-        Ok(()) => {}
-        Err(error) => return Err(error),
-    }
-    match read_section_table(alloc, source, endian, features) {
-        Ok(table) => read_feature_data(alloc, source, &table),
-        Err(error) => Err(error),
-    }
+    seek_to_offset(source, offset)?;
+    let table = read_section_table(alloc, source, endian, features)?;
+    read_feature_data(alloc, source, &table)
 }

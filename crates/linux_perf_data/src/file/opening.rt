@@ -71,7 +71,7 @@ fn read_event_types<C: PlacedSource>(
 ) -> Result<Vec<AttributeDescription>, Error>
     ensures reads { ReadsTypesSection endian attr_size section.now (C.state source.old) result (C.state source.new) }
     ensures pauses { PausesOnlyOnError (C.state source.old) result (C.state source.new) }
-    ensures lent { C.loan source.new ≡ C.loan source.old }
+    ensures same_loan { C.loan source.new ≡ C.loan source.old }
 {
     match endian {
         Endianness::LittleEndian => {
@@ -97,7 +97,7 @@ fn read_attr_section<C: PlacedSource>(
 ) -> Result<Vec<AttributeDescription>, Error>
     ensures reads { ReadsAttrsSection endian attr_size section.now (C.state source.old) result (C.state source.new) }
     ensures pauses { PausesOnlyOnError (C.state source.old) result (C.state source.new) }
-    ensures lent { C.loan source.new ≡ C.loan source.old }
+    ensures same_loan { C.loan source.new ≡ C.loan source.old }
 {
     match endian {
         Endianness::LittleEndian => {
@@ -116,10 +116,9 @@ fn parse_event_types(alloc: Global, bytes: &[u8]) -> Result<Vec<SimplePerfEventT
     ensures { ParsesMetaEventTypes bytes.now result }
 {
     let map = parse_meta_info_map(alloc, bytes)?;
-    match get_event_types(alloc, &map) {
-        Ok(Some(types)) => Ok(types),
-        Ok(None) => Err(Error::NoEventTypesInSimpleperfMetaInfo),
-        Err(_) => Err(Error::Memory),
+    match get_event_types(alloc, &map)? {
+        Some(types) => Ok(types),
+        None => Err(Error::NoEventTypesInSimpleperfMetaInfo),
     }
 }
 
@@ -133,7 +132,7 @@ fn read_simpleperf_attrs<C: PlacedSource>(
 ) -> Result<Vec<AttributeDescription>, Error>
     ensures reads { ReadsSimpleperfSection endian header.now.attr_size header.now.attr_section types.now (C.state source.old) result (C.state source.new) }
     ensures pauses { PausesOnlyOnError (C.state source.old) result (C.state source.new) }
-    ensures lent { C.loan source.new ≡ C.loan source.old }
+    ensures same_loan { C.loan source.new ≡ C.loan source.old }
 {
     let section = &header.attr_section;
     let attr_size = header.attr_size;
@@ -162,7 +161,7 @@ fn read_attributes<C: PlacedSource>(
 ) -> Result<Vec<AttributeDescription>, Error>
     ensures reads { ReadsAttributes endian header.now (known_sections (option_map (λ s. s.now) event_desc.entry) (option_map (λ s. s.now) meta_info.entry)) (C.state source.old) result (C.state source.new) }
     ensures pauses { PausesOnlyOnError (C.state source.old) result (C.state source.new) }
-    ensures lent { C.loan source.new ≡ C.loan source.old }
+    ensures same_loan { C.loan source.new ≡ C.loan source.old }
 {
     match event_desc {
         Some(bytes) => return read_event_desc(alloc, endian, bytes),
@@ -173,10 +172,10 @@ fn read_attributes<C: PlacedSource>(
         return read_event_types(alloc, source, endian, section, header.attr_size);
     }
     match meta_info {
-        Some(bytes) => match parse_event_types(alloc, bytes) {
-            Ok(types) => read_simpleperf_attrs(alloc, source, endian, header, &types),
-            Err(error) => Err(error),
-        },
+        Some(bytes) => {
+            let types = parse_event_types(alloc, bytes)?;
+            read_simpleperf_attrs(alloc, source, endian, header, &types)
+        }
         None => {
             let section = &header.attr_section;
             read_attr_section(alloc, source, endian, section, header.attr_size)
@@ -193,34 +192,22 @@ fn open_after_header<C: PlacedSource>(
 ) -> Result<FileOpening, Error>
     ensures reads { OpensAfterHeader endian header.now (C.state source.old) result (C.state source.new) }
     ensures pauses { PausesOnlyOnError (C.state source.old) result (C.state source.new) }
-    ensures lent { C.loan source.new ≡ C.loan source.old }
+    ensures same_loan { C.loan source.new ≡ C.loan source.old }
 {
     let data = header.data_section;
     let table = match data.offset.checked_add(data.size) {
         Some(table) => table,
         None => return Err(Error::Read(ReadError::FeatureSection)),
     };
-    let sections = match read_features(alloc, source, endian, &header.features, table) {
-        Ok(sections) => sections,
-        Err(error) => return Err(error),
-    };
+    let sections = read_features(alloc, source, endian, &header.features, table)?;
     let event_desc = feature_bytes(&sections, Feature::EVENT_DESC);
     let meta_info = feature_bytes(&sections, Feature::SIMPLEPERF_META_INFO);
-    let attributes = match read_attributes(alloc, source, endian, header, event_desc, meta_info) {
-        Ok(attributes) => attributes,
-        Err(error) => return Err(error),
-    };
+    let attributes = read_attributes(alloc, source, endian, header, event_desc, meta_info)?;
     if attributes.is_empty() {
         return Err(Error::NoAttributes);
     }
-    match check_consistency(&attributes) {
-        Ok(()) => {}
-        Err(error) => return Err(error),
-    }
-    match seek_to_offset(source, data.offset) {
-        Ok(()) => {}
-        Err(error) => return Err(error),
-    }
+    check_consistency(&attributes)?;
+    seek_to_offset(source, data.offset)?;
     Ok(FileOpening {
         endian,
         features: header.features,
@@ -237,14 +224,9 @@ pub(crate) fn open_file<C: PlacedSource>(
 ) -> Result<FileOpening, Error>
     ensures reads { OpensPerfFile (C.state source.old) result (C.state source.new) }
     ensures pauses { PausesOnlyOnError (C.state source.old) result (C.state source.new) }
-    ensures lent { C.loan source.new ≡ C.loan source.old }
+    ensures same_loan { C.loan source.new ≡ C.loan source.old }
 {
-    let header = match PerfHeader::parse_from::<C>(source) {
-        Ok(header) => header,
-        Err(error) => return Err(Error::IoError(error)),
-    };
-    match endian_of_magic(header.magic) {
-        Ok(endian) => open_after_header(alloc, source, endian, &header),
-        Err(error) => Err(error),
-    }
+    let header = PerfHeader::parse_from::<C>(source)?;
+    let endian = endian_of_magic(header.magic)?;
+    open_after_header(alloc, source, endian, &header)
 }

@@ -1,9 +1,7 @@
 //! The map from the keys of paths to build ids.
-ghost use Rattle.std.specs.Prelude.{◌≡◌};
 ghost use Rattle.perfdata_records.specs.BuildIdEvent.{build_id_entry_of};
-ghost use Rattle.linux_perf_data.specs.BuildIds.{ReadsFirstEntry, InsertsEntry, ParsesBuildIds};
+ghost use Rattle.linux_perf_data.specs.BuildIds.{InsertsEntry, ParsesBuildIds};
 
-use byteorder::{BigEndian, LittleEndian};
 use perfdata_base::event::CpuMode;
 use perfdata_base::raw::Endianness;
 use perfdata_base::source::AppendError;
@@ -13,20 +11,6 @@ use perfdata_parts::dso_key::DsoKey;
 use perfdata_parts::error::Error;
 use std::alloc::Global;
 use std::collections::HashMap;
-
-// Reads the entry at the start of `bytes`, and leaves the rest after it in `bytes`.
-fn read_entry(
-    alloc: Global,
-    endian: Endianness,
-    bytes: &mut &[u8],
-) -> Result<BuildIdEvent, AppendError>
-    ensures { ReadsFirstEntry endian bytes.old.now result bytes.new.now }
-{
-    match endian {
-        Endianness::LittleEndian => { BuildIdEvent::read_from::<&[u8], LittleEndian>(alloc, bytes) }
-        Endianness::BigEndian => BuildIdEvent::read_from::<&[u8], BigEndian>(alloc, bytes),
-    }
-}
 
 // Maps the key of an entry's path to the path and the build id, if the path has a key.
 fn insert_entry(
@@ -43,19 +27,16 @@ fn insert_entry(
         ..
     } = entry;
     let mode = CpuMode::from_misc(header.misc);
-    let key = match DsoKey::detect(alloc, file_path.as_slice(), mode) {
-        Ok(Some(key)) => key,
-        Ok(None) => return Ok(()),
-        Err(_) => return Err(Error::Memory),
+    let key = match DsoKey::detect(alloc, file_path.as_slice(), mode)? {
+        Some(key) => key,
+        None => return Ok(()),
     };
     let info = DsoInfo {
         path: file_path,
         build_id,
     };
-    match ids.insert(key, info) {
-        Ok(_) => Ok(()),
-        Err(_) => Err(Error::Memory),
-    }
+    ids.insert(key, info)?;
+    Ok(())
 }
 
 // The build ids of a section: for each key the path and the build id of the last entry with it.
@@ -66,18 +47,15 @@ pub(crate) fn parse_build_ids(
 ) -> Result<HashMap<DsoKey, DsoInfo>, Error>
     ensures { ParsesBuildIds endian bytes.now result }
 {
-    let mut behind = bytes;
+    let mut rest = bytes;
     let mut ids = HashMap::new(alloc);
-    'entries: while !behind.is_empty() {
-        let entry = match read_entry(alloc, endian, &mut behind) {
+    'entries: while !rest.is_empty() {
+        let entry = match BuildIdEvent::read_from_in(alloc, endian, &mut rest) {
             Ok(entry) => entry,
             Err(AppendError::Memory) => return Err(Error::Memory),
             Err(AppendError::Source(_)) => return Ok(ids),
         };
-        match insert_entry(alloc, &mut ids, entry) {
-            Ok(()) => {}
-            Err(error) => return Err(error),
-        }
+        insert_entry(alloc, &mut ids, entry)?;
     }
     Ok(ids)
 }

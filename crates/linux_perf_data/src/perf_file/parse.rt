@@ -6,7 +6,6 @@ ghost use Rattle.linux_perf_data.specs.Values.{ParsesStringSection, ParsesString
 use byteorder::{BigEndian, LittleEndian};
 use perfdata_base::endian::{read_u32, read_u64};
 use perfdata_base::raw::Endianness;
-use perfdata_parts::bytes::into_file_error;
 use perfdata_parts::error::Error;
 use perfdata_parts::feature_sections::{
     ClockData, CompressionInfo, NrCpus, PmuMappings, SampleTimeRange, before_nul,
@@ -21,24 +20,20 @@ fn split_string(endian: Endianness, bytes: &[u8]) -> Result<(&str, &[u8]), Error
         return Err(Error::NotEnoughSpaceForStringLen);
     }
     let length = read_u32(endian, bytes) as usize;
-    let behind = &bytes[4..];
-    if behind.len() < length {
+    let rest = &bytes[4..];
+    if rest.len() < length {
         return Err(Error::StringLengthTooLong);
     }
-    match std::str::from_utf8(before_nul(&behind[..length])) {
-        Ok(text) => Ok((text, &behind[length..])),
-        Err(_) => Err(Error::StringUtf8),
-    }
+    let text = std::str::from_utf8(before_nul(&rest[..length]))?;
+    Ok((text, &rest[length..]))
 }
 
 // The text of a section that contains one string.
 pub(crate) fn parse_string(endian: Endianness, bytes: &[u8]) -> Result<&str, Error>
     ensures { ParsesStringSection endian bytes.now result }
 {
-    match split_string(endian, bytes) {
-        Ok((text, _)) => Ok(text),
-        Err(error) => Err(error),
-    }
+    let (text, _) = split_string(endian, bytes)?;
+    Ok(text)
 }
 
 // The texts of a section that contains a list of strings.
@@ -53,18 +48,12 @@ pub(crate) fn parse_string_list(
         return Err(Error::NotEnoughSpaceForStringListLen);
     }
     let count = read_u32(endian, bytes);
-    let mut behind = &bytes[4..];
+    let mut rest = &bytes[4..];
     let mut texts = Vec::new(alloc);
     'texts: for _index in 0..count {
-        let (text, rest) = match split_string(endian, behind) {
-            Ok(split) => split,
-            Err(error) => return Err(error),
-        };
-        match texts.push(text) {
-            Ok(()) => {}
-            Err(_) => return Err(Error::Memory),
-        }
-        behind = rest;
+        let (text, after) = split_string(endian, rest)?;
+        texts.push(text)?;
+        rest = after;
     }
     Ok(texts)
 }
@@ -86,10 +75,7 @@ pub(crate) fn parse_nr_cpus(endian: Endianness, bytes: &[u8]) -> Result<NrCpus, 
         Endianness::LittleEndian => NrCpus::parse::<&[u8], LittleEndian>(bytes),
         Endianness::BigEndian => NrCpus::parse::<&[u8], BigEndian>(bytes),
     };
-    match parsed {
-        Ok(cpus) => Ok(cpus),
-        Err(error) => Err(Error::IoError(error)),
-    }
+    Ok(parsed?)
 }
 
 pub(crate) fn parse_sample_times(endian: Endianness, bytes: &[u8]) -> Result<SampleTimeRange, Error>
@@ -99,10 +85,7 @@ pub(crate) fn parse_sample_times(endian: Endianness, bytes: &[u8]) -> Result<Sam
         Endianness::LittleEndian => SampleTimeRange::parse::<&[u8], LittleEndian>(bytes),
         Endianness::BigEndian => SampleTimeRange::parse::<&[u8], BigEndian>(bytes),
     };
-    match parsed {
-        Ok(times) => Ok(times),
-        Err(error) => Err(Error::IoError(error)),
-    }
+    Ok(parsed?)
 }
 
 pub(crate) fn parse_compression(endian: Endianness, bytes: &[u8]) -> Result<CompressionInfo, Error>
@@ -112,10 +95,7 @@ pub(crate) fn parse_compression(endian: Endianness, bytes: &[u8]) -> Result<Comp
         Endianness::LittleEndian => CompressionInfo::parse::<&[u8], LittleEndian>(bytes),
         Endianness::BigEndian => CompressionInfo::parse::<&[u8], BigEndian>(bytes),
     };
-    match parsed {
-        Ok(compression) => Ok(compression),
-        Err(error) => Err(Error::IoError(error)),
-    }
+    Ok(parsed?)
 }
 
 pub(crate) fn parse_clock_data(endian: Endianness, bytes: &[u8]) -> Result<ClockData, Error>
@@ -147,6 +127,6 @@ pub(crate) fn parse_pmu_mappings(
     };
     match read {
         Ok(units) => Ok(units),
-        Err(fault) => Err(into_file_error(fault)),
+        Err(error) => Err(Error::from(error)),
     }
 }

@@ -3,6 +3,7 @@ ghost use Rattle.std.specs.Prelude.{◌≡◌, ◌≢◌, None, Some};
 ghost use Rattle.perfdata_sections.specs.AttributeDescription.{ids_in};
 ghost use Rattle.perfdata_sections.specs.Error.{IsInvalidInput};
 ghost use Rattle.linux_perf_data.specs.Descriptions.{described_attribute};
+ghost use Rattle.linux_perf_data.specs.FeatureNumbers.{event_desc};
 ghost use Rattle.linux_perf_data.specs.LateMetadata.{AppliesMetadata};
 ghost use Rattle.linux_perf_data.specs.LateSteps.{AppliesAttribute, AppliesFeature};
 
@@ -41,10 +42,8 @@ impl PerfFile {
         if count < self.attributes.capacity() {
             return Ok(());
         }
-        match self.attributes.try_reserve_exact(count + 4) {
-            Ok(()) => Ok(()),
-            Err(_) => Err(Error::Memory),
-        }
+        self.attributes.try_reserve_exact(count + 4)?;
+        Ok(())
     }
 
     // Parses EVENT_DESC again, and clones the names of all attributes and of one more, which has these ids.
@@ -56,19 +55,11 @@ impl PerfFile {
     ) -> Result<LateNames, Error>
         ensures { FindsLateNames endian self.now ids.now result }
     {
-        let event_desc = self.feature_section_data(Feature::EVENT_DESC);
-        let table = match NameTable::read(alloc, endian, event_desc) {
-            Ok(table) => table,
-            Err(error) => return Err(error),
-        };
-        let names = match table.clone_names(alloc, &self.attributes) {
-            Ok(names) => names,
-            Err(error) => return Err(error),
-        };
-        match table.clone_name(alloc, ids) {
-            Ok(own) => Ok(LateNames::All(table, names, own)),
-            Err(error) => Err(error),
-        }
+        let section = self.feature_section_data(Feature::EVENT_DESC);
+        let table = NameTable::read(alloc, endian, section)?;
+        let names = table.clone_names(alloc, &self.attributes)?;
+        let own = table.clone_name(alloc, ids)?;
+        Ok(LateNames::All(table, names, own))
     }
 
     // The names to set for a late attribute with these ids: only its own if `name_table` is present in this byte order.
@@ -82,15 +73,12 @@ impl PerfFile {
         if !table.has_endian(endian) {
             return self.read_all_names(alloc, endian, ids);
         }
-        match table.clone_name(alloc, ids) {
-            Ok(name) => Ok(LateNames::Single(name)),
-            Err(error) => Err(error),
-        }
+        Ok(LateNames::Single(table.clone_name(alloc, ids)?))
     }
 
     // Appends an attribute, within the capacity, with its name by `name_table`.
     fn push_named(&mut self, attribute: AttributeDescription, name: Option<String>)
-        requires room { HasSpareCapacity self.old }
+        requires capacity { HasSpareCapacity self.old }
         requires fits { IsNameFor self.old (ids_in attribute) name }
         ensures { PushesNamed self.old (described_attribute attribute) self.old.name_table self.new }
     {
@@ -110,7 +98,7 @@ impl PerfFile {
         names: Vec<Option<String>>,
         own: Option<String>,
     )
-        requires room { HasSpareCapacity self.old }
+        requires capacity { HasSpareCapacity self.old }
         requires fits { AreNamesForAll self.old (ids_in attribute) table names own }
         ensures { PushesNamed self.old (described_attribute attribute) (Some table) self.new }
     {
@@ -127,7 +115,7 @@ impl PerfFile {
 
     // Appends an attribute, within the capacity, and sets the names in `naming`.
     fn push_attribute(&mut self, attribute: AttributeDescription, naming: LateNames)
-        requires room { HasSpareCapacity self.old }
+        requires capacity { HasSpareCapacity self.old }
         requires fits { AreLateNamesFor self.old (ids_in attribute) naming }
         ensures { PushesAttribute self.old (described_attribute attribute) naming self.new }
     {
@@ -137,15 +125,12 @@ impl PerfFile {
         }
     }
 
-    // Replaces the data of a feature. If the feature is EVENT_DESC (12), `name_table` must be `None`.
+    // Replaces the data of a feature. If the feature is EVENT_DESC, `name_table` must be `None`.
     fn replace_feature(&mut self, feature: Feature, bytes: Vec<u8>) -> Result<(), Error>
-        requires { feature.0 ≡ 12 → self.old.name_table ≡ None }
+        requires { feature.0 ≡ event_desc → self.old.name_table ≡ None }
         ensures { ReplacesFeature self.old feature.0 bytes.items result self.new }
     {
-        match self.sections.insert(feature, bytes) {
-            Ok(_) => {}
-            Err(_) => return Err(Error::Memory),
-        }
+        self.sections.insert(feature, bytes)?;
         self.features.insert(feature);
         Ok(())
     }
@@ -159,21 +144,12 @@ impl PerfFile {
     ) -> Result<(), Error>
         ensures { ReplacesEventDesc endian self.old bytes.items result self.new }
     {
-        let told = match NameTable::read(alloc, endian, Some(bytes.as_slice())) {
-            Ok(told) => told,
-            Err(error) => return Err(error),
-        };
-        let names = match told.clone_names(alloc, &self.attributes) {
-            Ok(names) => names,
-            Err(error) => return Err(error),
-        };
+        let table = NameTable::read(alloc, endian, Some(bytes.as_slice()))?;
+        let names = table.clone_names(alloc, &self.attributes)?;
         self.name_table = None;
-        match self.replace_feature(Feature::EVENT_DESC, bytes) {
-            Ok(()) => {}
-            Err(error) => return Err(error),
-        }
+        self.replace_feature(Feature::EVENT_DESC, bytes)?;
         set_names(&mut self.attributes, names);
-        self.name_table = Some(told);
+        self.name_table = Some(table);
         Ok(())
     }
 }
@@ -190,28 +166,16 @@ fn mismatched_perf_file() -> Error
 fn apply_attribute(
     alloc: Global,
     endian: Endianness,
-    known: &mut AttributeLookup,
+    lookup: &mut AttributeLookup,
     file: &mut PerfFile,
     body: &[u8],
 ) -> Result<(), Error>
-    ensures { AppliesAttribute endian known.old file.old body.now result known.new file.new }
+    ensures { AppliesAttribute endian lookup.old file.old body.now result lookup.new file.new }
 {
-    let header = match parse_attribute(alloc, endian, body) {
-        Ok(header) => header,
-        Err(error) => return Err(error),
-    };
-    let naming = match file.find_names(alloc, endian, &header.ids) {
-        Ok(naming) => naming,
-        Err(error) => return Err(error),
-    };
-    match file.reserve_one() {
-        Ok(()) => {}
-        Err(error) => return Err(error),
-    }
-    match known.add(&header.attr, &header.ids, endian) {
-        Ok(()) => {}
-        Err(error) => return Err(error),
-    }
+    let header = parse_attribute(alloc, endian, body)?;
+    let naming = file.find_names(alloc, endian, &header.ids)?;
+    file.reserve_one()?;
+    lookup.add(&header.attr, &header.ids, endian)?;
     file.push_attribute(
         AttributeDescription::new(header.attr, None, header.ids),
         naming,
@@ -241,22 +205,22 @@ fn apply_feature(
 pub(crate) fn apply_metadata(
     alloc: Global,
     endian: Endianness,
-    known: &mut AttributeLookup,
+    lookup: &mut AttributeLookup,
     file: &mut PerfFile,
     record_type: u32,
     body: &[u8],
 ) -> Result<(), Error>
-    ensures takes { AppliesMetadata endian known.old file.old record_type body.now result known.new file.new }
-    ensures other { record_type ≢ 64 → record_type ≢ 80 → (known.new ≡ known.old) × (file.new ≡ file.old) }
+    ensures applies { AppliesMetadata endian lookup.old file.old record_type body.now result lookup.new file.new }
+    ensures other { record_type ≢ 64 → record_type ≢ 80 → (lookup.new ≡ lookup.old) × (file.new ≡ file.old) }
 {
     if !is_metadata(record_type) {
         return Ok(());
     }
-    if file.attributes.len() != known.attribute_count() {
+    if file.attributes.len() != lookup.attribute_count() {
         return Err(mismatched_perf_file());
     }
     if record_type == PERF_RECORD_HEADER_ATTR {
-        return apply_attribute(alloc, endian, known, file, body);
+        return apply_attribute(alloc, endian, lookup, file, body);
     }
     apply_feature(alloc, endian, file, body)
 }

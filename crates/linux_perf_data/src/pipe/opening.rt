@@ -4,23 +4,23 @@ ghost use Rattle.linux_perf_data.specs.LateMetadata.{IsMetadataType};
 ghost use Rattle.perfdata_base.specs.Source.{PausesOnlyOnError};
 ghost use Rattle.linux_perf_data.specs.Pauses.{PausesOnlyWithoutHeader, PausesOnlyWithoutPendingHeader, PausesOnlyInEndedOpening};
 ghost use Rattle.linux_perf_data.specs.PipeOpening.{OpensPerfPipe};
-ghost use Rattle.linux_perf_data.specs.PipeSteps.{FinishesOpening, AddsRecord, OpensAfterPipeHeader, ParsesAttribute, ParsesFeature, ReadsMetadata, ReadsMetadataBody, ReadsNext, ReadsMetadataRecord, HoldsMetadataOf, ReportsContentsError, TestsMetadataType};
+ghost use Rattle.linux_perf_data.specs.PipeSteps.{FinishesOpening, AddsRecord, OpensAfterPipeHeader, ParsesAttribute, ParsesFeature, ReadsMetadata, ReadsMetadataBody, ReadsNext, HoldsMetadataOf, ReportsContentsError, TestsMetadataType};
 
 use crate::attributes::consistency::check_consistency;
 use crate::attributes::names::name_attributes;
 use crate::file::opening::{endian_of_magic, feature_bytes};
 use crate::pipe::pipe_opening::PipeOpening;
-use crate::records::framing::{HEADER_SIZE_U16, record_end, record_header_of};
-use crate::records::input::read_header_bytes;
+use crate::records::framing::{body_size, record_end};
+use crate::records::input::{HeaderBytes, read_header_bytes};
 use byteorder::{BigEndian, LittleEndian};
 use indexmap::IndexMap;
 use perfdata_base::event::PerfEventHeader;
 use perfdata_base::features::{Feature, FeatureSet};
 use perfdata_base::header::PerfPipeHeader;
 use perfdata_base::raw::{Endianness, RawData};
-use perfdata_base::source::{AppendError, Source, append_up_to};
+use perfdata_base::source::{Source, append_exact};
 use perfdata_parts::constants::{PERF_RECORD_HEADER_ATTR, PERF_RECORD_HEADER_FEATURE};
-use perfdata_parts::error::{Error, unexpected_eof};
+use perfdata_parts::error::Error;
 use perfdata_parts::feature_sections::AttributeDescription;
 use perfdata_parts::record::{HeaderAttr, HeaderFeature};
 use std::alloc::Global;
@@ -40,7 +40,7 @@ pub(crate) struct PipeMetadata {
 #[derive(Clone, Copy)]
 pub(crate) enum NextInOpening {
     Record(u64),
-    End(Option<[u8; 8]>),
+    End(Option<HeaderBytes>),
 }
 
 pub(crate) fn is_metadata(record_type: u32) -> bool
@@ -55,21 +55,12 @@ fn read_metadata_body<R: Source>(
     body: &mut Vec<u8>,
     count: usize,
 ) -> Result<(), Error>
-    ensures takes { ReadsMetadataBody (R.state source.old) count result body.new.items (R.state source.new) }
+    ensures reads { ReadsMetadataBody (R.state source.old) count result body.new.items (R.state source.new) }
     ensures pauses { PausesOnlyOnError (R.state source.old) result (R.state source.new) }
-    ensures lent { R.loan source.new ≡ R.loan source.old }
+    ensures same_loan { R.loan source.new ≡ R.loan source.old }
 {
     body.clear();
-    match append_up_to(source, body, count) {
-        Ok(came) => {
-            if came < count {
-                return Err(unexpected_eof());
-            }
-            Ok(())
-        }
-        Err(AppendError::Memory) => Err(Error::Memory),
-        Err(AppendError::Source(error)) => Err(Error::IoError(error)),
-    }
+    Ok(append_exact(source, body, count)?)
 }
 
 // Converts the parse error of a metadata body: an allocation failure is `Error::Memory`.
@@ -137,24 +128,16 @@ impl PipeMetadata {
     {
         let header = parse_attribute(alloc, endian, body)?;
         let attribute = AttributeDescription::new(header.attr, None, header.ids);
-        match self.attributes.push(attribute) {
-            Ok(()) => Ok(()),
-            Err(_) => Err(Error::Memory),
-        }
+        self.attributes.push(attribute)?;
+        Ok(())
     }
 
     // Stores the feature data of a record of type 80, which replace the feature's previous data.
     fn add_feature(&mut self, alloc: Global, endian: Endianness, body: &[u8]) -> Result<(), Error>
         ensures { AddsRecord endian 80 body.now self.old result self.new }
     {
-        let header = match parse_feature(alloc, endian, body) {
-            Ok(header) => header,
-            Err(error) => return Err(error),
-        };
-        match self.sections.insert(header.feature, header.bytes) {
-            Ok(_) => {}
-            Err(_) => return Err(Error::Memory),
-        }
+        let header = parse_feature(alloc, endian, body)?;
+        self.sections.insert(header.feature, header.bytes)?;
         self.features.insert(header.feature);
         Ok(())
     }
@@ -177,36 +160,6 @@ impl PipeMetadata {
     }
 }
 
-// Reads the body of a metadata record and adds it to `metadata`. Returns the end offset of the record.
-fn read_metadata_record<R: Source>(
-    alloc: Global,
-    source: &mut R,
-    endian: Endianness,
-    offset: u64,
-    head: PerfEventHeader,
-    body: &mut Vec<u8>,
-    metadata: &mut PipeMetadata,
-) -> Result<u64, Error>
-    requires size { 8 ≤ head.size }
-    requires metadata { IsMetadataType head.type_ }
-    ensures takes { ReadsMetadataRecord endian offset head (R.state source.old) metadata.old result (R.state source.new) metadata.new }
-    ensures pauses { PausesOnlyOnError (R.state source.old) result (R.state source.new) }
-    ensures lent { R.loan source.new ≡ R.loan source.old }
-{
-    let end = match record_end(offset, head.size) {
-        Ok(end) => end,
-        Err(error) => return Err(error),
-    };
-    match read_metadata_body(source, body, (head.size - HEADER_SIZE_U16) as usize) {
-        Ok(()) => {}
-        Err(error) => return Err(error),
-    }
-    match metadata.add_record(alloc, endian, head.type_, body.as_slice()) {
-        Ok(()) => Ok(end),
-        Err(error) => Err(error),
-    }
-}
-
 // Reads the next metadata record and adds it to `metadata`, or reads the record header that ends the metadata records.
 fn read_next<R: Source>(
     alloc: Global,
@@ -216,26 +169,23 @@ fn read_next<R: Source>(
     body: &mut Vec<u8>,
     metadata: &mut PipeMetadata,
 ) -> Result<NextInOpening, Error>
-    ensures takes { ReadsNext endian offset (R.state source.old) metadata.old result (R.state source.new) metadata.new }
+    ensures reads { ReadsNext endian offset (R.state source.old) metadata.old result (R.state source.new) metadata.new }
     ensures pauses { PausesOnlyWithoutHeader (R.state source.old) result (R.state source.new) }
-    ensures lent { R.loan source.new ≡ R.loan source.old }
+    ensures same_loan { R.loan source.new ≡ R.loan source.old }
 {
-    let bytes = match read_header_bytes(source) {
-        Ok(Some(bytes)) => bytes,
-        Ok(None) => return Ok(NextInOpening::End(None)),
-        Err(error) => return Err(error),
+    let bytes = match read_header_bytes(source)? {
+        Some(bytes) => bytes,
+        None => return Ok(NextInOpening::End(None)),
     };
-    let head = record_header_of(endian, &bytes);
-    if head.size < HEADER_SIZE_U16 {
-        return Err(Error::InvalidPerfEventSize);
-    }
-    if !is_metadata(head.type_) {
+    let header = PerfEventHeader::from_bytes(endian, &bytes);
+    let body_size = body_size(header)?;
+    if !is_metadata(header.type_) {
         return Ok(NextInOpening::End(Some(bytes)));
     }
-    match read_metadata_record(alloc, source, endian, offset, head, body, metadata) {
-        Ok(end) => Ok(NextInOpening::Record(end)),
-        Err(error) => Err(error),
-    }
+    let end = record_end(offset, header.size)?;
+    read_metadata_body(source, body, body_size as usize)?;
+    metadata.add_record(alloc, endian, header.type_, body.as_slice())?;
+    Ok(NextInOpening::Record(end))
 }
 
 // Reads all metadata records and the record header that ends them, which is `None` if no whole record header remains.
@@ -243,19 +193,18 @@ fn read_metadata<R: Source>(
     alloc: Global,
     source: &mut R,
     endian: Endianness,
-) -> Result<(PipeMetadata, Option<[u8; 8]>), Error>
+) -> Result<(PipeMetadata, Option<HeaderBytes>), Error>
     ensures reads { ReadsMetadata endian (R.state source.old) result (R.state source.new) }
     ensures pauses { PausesOnlyWithoutPendingHeader (R.state source.old) result (R.state source.new) }
-    ensures lent { R.loan source.new ≡ R.loan source.old }
+    ensures same_loan { R.loan source.new ≡ R.loan source.old }
 {
     let mut metadata = PipeMetadata::new(alloc);
     let mut body = Vec::new(alloc);
     let mut offset: u64 = 0;
     'records: loop {
-        match read_next(alloc, source, endian, offset, &mut body, &mut metadata) {
-            Ok(NextInOpening::Record(end)) => offset = end,
-            Ok(NextInOpening::End(head)) => return Ok((metadata, head)),
-            Err(error) => return Err(error),
+        match read_next(alloc, source, endian, offset, &mut body, &mut metadata)? {
+            NextInOpening::Record(end) => offset = end,
+            NextInOpening::End(pending_header) => return Ok((metadata, pending_header)),
         }
     }
 }
@@ -265,9 +214,9 @@ fn finish_opening(
     alloc: Global,
     endian: Endianness,
     metadata: PipeMetadata,
-    head: Option<[u8; 8]>,
+    pending_header: Option<HeaderBytes>,
 ) -> Result<PipeOpening, Error>
-    ensures { FinishesOpening endian metadata head result }
+    ensures { FinishesOpening endian metadata pending_header result }
 {
     let PipeMetadata {
         features,
@@ -279,21 +228,15 @@ fn finish_opening(
         return Err(Error::NoAttributes);
     }
     let event_desc = feature_bytes(&sections, Feature::EVENT_DESC);
-    let told = match name_attributes(alloc, endian, event_desc, &mut attributes) {
-        Ok(told) => told,
-        Err(error) => return Err(error),
-    };
-    match check_consistency(&attributes) {
-        Ok(()) => {}
-        Err(error) => return Err(error),
-    }
+    let name_table = name_attributes(alloc, endian, event_desc, &mut attributes)?;
+    check_consistency(&attributes)?;
     Ok(PipeOpening {
         endian,
         features,
         sections,
         attributes,
-        name_table: told,
-        pending_header: head,
+        name_table,
+        pending_header,
     })
 }
 
@@ -305,29 +248,21 @@ fn open_after_header<R: Source>(
 ) -> Result<PipeOpening, Error>
     ensures opens { OpensAfterPipeHeader endian (R.state source.old) result (R.state source.new) }
     ensures pauses { PausesOnlyInEndedOpening (R.state source.old) result (R.state source.new) }
-    ensures lent { R.loan source.new ≡ R.loan source.old }
+    ensures same_loan { R.loan source.new ≡ R.loan source.old }
 {
-    match read_metadata(alloc, source, endian) {
-        Ok((metadata, head)) => finish_opening(alloc, endian, metadata, head),
-        Err(error) => Err(error),
-    }
+    let (metadata, pending_header) = read_metadata(alloc, source, endian)?;
+    finish_opening(alloc, endian, metadata, pending_header)
 }
 
 // Opens a pipe. Consumes its header, its metadata records and the record header that ends them, and no byte more.
 pub(crate) fn open_pipe<R: Source>(alloc: Global, source: &mut R) -> Result<PipeOpening, Error>
     ensures reads { OpensPerfPipe (R.state source.old) result (R.state source.new) }
     ensures pauses { PausesOnlyInEndedOpening (R.state source.old) result (R.state source.new) }
-    ensures lent { R.loan source.new ≡ R.loan source.old }
+    ensures same_loan { R.loan source.new ≡ R.loan source.old }
 {
-    let (header, whole) = match PerfPipeHeader::parse_with_extra(source) {
-        Ok(front) => front,
-        Err(error) => return Err(Error::IoError(error)),
-    };
-    let endian = match endian_of_magic(header.magic) {
-        Ok(endian) => endian,
-        Err(error) => return Err(error),
-    };
-    if !whole {
+    let (header, is_complete) = PerfPipeHeader::parse_with_extra(source)?;
+    let endian = endian_of_magic(header.magic)?;
+    if !is_complete {
         return Err(Error::NoAttributes);
     }
     open_after_header(alloc, source, endian)

@@ -4,6 +4,7 @@ ghost use Rattle.linux_perf_data.specs.NameTable.{TableHasEvents, TableNamesAll,
 ghost use Rattle.linux_perf_data.specs.FeatureData.{feature_data_of};
 
 use crate::attributes::name_table::NameTable;
+use crate::records::input::HeaderBytes;
 use indexmap::IndexMap;
 use perfdata_base::features::{Feature, FeatureSet};
 use perfdata_base::raw::Endianness;
@@ -18,7 +19,7 @@ pub(crate) struct PipeOpening {
     pub(crate) attributes: Vec<AttributeDescription>,
     // The table that names the attributes.
     pub(crate) name_table: NameTable,
-    pub(crate) pending_header: Option<[u8; 8]>,
+    pub(crate) pending_header: Option<HeaderBytes>,
     ghost names_match_table: { TableNamesAll (Some name_table) attributes.items },
     ghost empty_without_event_desc: { TableEmptyWithoutEventDesc (Some name_table) (feature_data_of sections 12) },
     ghost table_readable: { TableIsReadable (Some name_table) (feature_data_of sections 12) },

@@ -1,57 +1,39 @@
 //! The check whether bytes contain the whole next record.
 ghost use Rattle.std.specs.Prelude.{◌≡◌, ◌↔◌, ◌+◌, ◌≤◌, IsTrue, length, drop};
-ghost use Rattle.linux_perf_data.specs.BufferedRecord.{ContainsNextRecord, WholeRecordLength};
+ghost use Rattle.linux_perf_data.specs.BufferedRecord.{ContainsNextRecord, StartsWithMarker};
 ghost use Rattle.linux_perf_data.specs.Input.{HasNoPendingHeader, section_size_in};
 ghost use Rattle.linux_perf_data.specs.Layout.{MayStartAt};
 
-use crate::records::framing::is_compressed;
-use crate::records::input::{HEADER_SIZE, Input};
-use perfdata_base::endian::{read_u16, read_u32, read_u64};
+use crate::records::framing::record_length;
+use crate::records::input::Input;
+use perfdata_base::event::PerfEventHeader;
 use perfdata_base::raw::Endianness;
-use perfdata_parts::constants::{PERF_RECORD_AUXTRACE, PERF_RECORD_FINISHED_ROUND};
+use perfdata_parts::constants::PERF_RECORD_FINISHED_ROUND;
 
-/// The minimum size of an auxtrace record before its aux data, in bytes, with its record header.
-const AUX_RECORD_MIN_SIZE: usize = 48;
-
-// The bytes from index `at` on.
-fn from_offset(bytes: &[u8], at: usize) -> &[u8]
-    requires { at ≤ length bytes.now }
-    ensures { result.now ≡ drop at bytes.now }
+// The bytes from `offset` on.
+fn from_offset(bytes: &[u8], offset: usize) -> &[u8]
+    requires { offset ≤ length bytes.now }
+    ensures { result.now ≡ drop offset bytes.now }
 {
-    &bytes[at..]
+    &bytes[offset..]
 }
 
-// The total size of the record at the start of `bytes`, with its aux data. `None` if they don't start with a whole record.
-fn record_length(endian: Endianness, bytes: &[u8]) -> Option<usize>
-    ensures { WholeRecordLength endian bytes.now result }
+// Whether the bytes start with the header of a marker.
+fn starts_with_marker(endian: Endianness, bytes: &[u8]) -> bool
+    ensures { IsTrue result ↔ StartsWithMarker endian bytes.now }
 {
-    if bytes.len() < HEADER_SIZE {
-        return None;
+    match PerfEventHeader::peek(endian, bytes) {
+        Some(header) => header.type_ == PERF_RECORD_FINISHED_ROUND,
+        None => false,
     }
-    let kind = read_u32(endian, bytes);
-    let size = read_u16(endian, from_offset(bytes, 6)) as usize;
-    if size < HEADER_SIZE || bytes.len() < size || is_compressed(kind) {
-        return None;
-    }
-    if kind != PERF_RECORD_AUXTRACE {
-        return Some(size);
-    }
-    if size < AUX_RECORD_MIN_SIZE {
-        return None;
-    }
-    let trace = read_u64(endian, from_offset(bytes, 8));
-    if ((bytes.len() - size) as u64) < trace {
-        return None;
-    }
-    Some(size + trace as usize)
 }
 
-// Whether a record may start `at` bytes after an offset.
-fn may_start_at(input: Input, offset: u64, at: usize) -> bool
-    ensures { IsTrue result ↔ MayStartAt (section_size_in input) (offset + at) }
+// Whether a record may start `distance` bytes after an offset.
+fn may_start_at(input: Input, offset: u64, distance: usize) -> bool
+    ensures { IsTrue result ↔ MayStartAt (section_size_in input) (offset + distance) }
 {
     match input {
-        Input::Section(size) => offset < size && (at as u64) < size - offset,
+        Input::Section(size) => offset < size && (distance as u64) < size - offset,
         Input::Pipe(_) => true,
     }
 }
@@ -76,15 +58,15 @@ pub(crate) fn contains_next_record(
 ) -> bool
     ensures { IsTrue result ↔ ContainsNextRecord endian (section_size_in input) offset bytes.now }
 {
-    let mut at = 0;
-    'records: while may_start_at(input, offset, at) {
-        let rest = from_offset(bytes, at);
+    let mut position = 0;
+    'records: while may_start_at(input, offset, position) {
+        let rest = from_offset(bytes, position);
         match record_length(endian, rest) {
             Some(length) => {
-                if read_u32(endian, rest) != PERF_RECORD_FINISHED_ROUND {
+                if !starts_with_marker(endian, rest) {
                     return true;
                 }
-                at += length;
+                position += length;
             }
             None => return false,
         }

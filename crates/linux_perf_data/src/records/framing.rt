@@ -1,37 +1,76 @@
 //! Reads the parts of a record from a source: record header, body, aux data.
 ghost use Rattle.std.specs.Prelude.{◌≡◌, ◌≤◌, []};
-ghost use Rattle.perfdata_base.specs.Event.{record_header_of};
-ghost use Rattle.perfdata_base.specs.Endian.{number_in};
 ghost use Rattle.perfdata_base.specs.Source.{PausesOnlyOnError};
+ghost use Rattle.linux_perf_data.specs.BufferedRecord.{WholeRecordLength};
 ghost use Rattle.linux_perf_data.specs.Input.{TakesPendingHeader, input_source_state};
 ghost use Rattle.linux_perf_data.specs.Pauses.{PausesOnlyAtEndOrError, PausesOnlyIfTruncated};
-ghost use Rattle.linux_perf_data.specs.RecordFraming.{ChecksRecordEnd, SkipsBody, AppendsExactly, ReadsRecordBody, ReadsRecordHeader, ReadsAuxData, TestsCompressed};
+ghost use Rattle.linux_perf_data.specs.RecordFraming.{ChecksBodySize, ChecksRecordEnd, SkipsBody, AppendsBody, ReadsRecordBody, ReadsRecordHeader, ReadsAuxData, TestsCompressed};
 
-use crate::records::input::{HEADER_SIZE, Input, next_header_bytes};
-use perfdata_base::endian::{read_u16, read_u32, read_u64};
+use crate::records::input::{Input, next_header_bytes};
+use perfdata_base::endian::read_u64;
 use perfdata_base::event::PerfEventHeader;
 use perfdata_base::raw::Endianness;
-use perfdata_base::source::{AppendError, Source, append_up_to, skip_up_to};
+use perfdata_base::source::{AppendError, Source, append_up_to, skip_up_to, unexpected_eof};
+use perfdata_parts::auxtrace::Auxtrace;
 use perfdata_parts::constants::{
     PERF_RECORD_AUXTRACE, PERF_RECORD_COMPRESSED, PERF_RECORD_COMPRESSED2,
 };
-use perfdata_parts::error::{Error, ReadError, unexpected_eof, unsupported};
+use perfdata_parts::error::{Error, ReadError, unsupported};
 
 /// The size of a record header in bytes, as a `u16`.
-pub(crate) const HEADER_SIZE_U16: u16 = HEADER_SIZE as u16;
+const HEADER_SIZE: u16 = PerfEventHeader::STRUCT_SIZE as u16;
 
-/// The minimum size of the body of an auxtrace record in bytes, without its aux data.
-const AUX_BODY_MIN_SIZE: usize = 40;
-
-// Parses a record header.
-pub(crate) fn record_header_of(endian: Endianness, bytes: &[u8; HEADER_SIZE]) -> PerfEventHeader
-    ensures { result ≡ record_header_of (number_in endian) bytes.now }
+// The size in bytes of the body after a record header, without aux data.
+pub(crate) fn body_size(header: PerfEventHeader) -> Result<u16, Error>
+    ensures { ChecksBodySize header.size result }
 {
-    PerfEventHeader {
-        type_: read_u32(endian, bytes),
-        misc: read_u16(endian, &bytes[4..]),
-        size: read_u16(endian, &bytes[6..]),
+    if header.size < HEADER_SIZE {
+        return Err(Error::InvalidPerfEventSize);
     }
+    Ok(header.size - HEADER_SIZE)
+}
+
+// The end offset of a record of this size that starts at `offset`.
+pub(crate) fn record_end(offset: u64, size: u16) -> Result<u64, Error>
+    ensures { ChecksRecordEnd offset size result }
+{
+    match offset.checked_add(size as u64) {
+        Some(end) => Ok(end),
+        None => Err(Error::Read(ReadError::PerfEventData)),
+    }
+}
+
+// Whether this is the type of a compressed record.
+pub(crate) fn is_compressed(record_type: u32) -> bool
+    ensures { TestsCompressed record_type result }
+{
+    record_type == PERF_RECORD_COMPRESSED || record_type == PERF_RECORD_COMPRESSED2
+}
+
+// The total size of the record at the start of `bytes`, with its aux data. `None` if they don't start with a whole record.
+pub(crate) fn record_length(endian: Endianness, bytes: &[u8]) -> Option<usize>
+    ensures { WholeRecordLength endian bytes.now result }
+{
+    let header = PerfEventHeader::peek(endian, bytes)?;
+    let body_size = match body_size(header) {
+        Ok(size) => size as usize,
+        Err(_) => return None,
+    };
+    let size = header.size as usize;
+    if bytes.len() < size || is_compressed(header.type_) {
+        return None;
+    }
+    if header.type_ != PERF_RECORD_AUXTRACE {
+        return Some(size);
+    }
+    if body_size < Auxtrace::FIXED_SIZE {
+        return None;
+    }
+    let aux_size = read_u64(endian, &bytes[PerfEventHeader::STRUCT_SIZE..]);
+    if ((bytes.len() - size) as u64) < aux_size {
+        return None;
+    }
+    Some(size + aux_size as usize)
 }
 
 // The pending header, or the record header at the position of the source. `None` if the source has fewer bytes.
@@ -43,25 +82,11 @@ pub(crate) fn read_header<R: Source>(
     ensures pending_header { TakesPendingHeader input.old input.new }
     ensures header { ReadsRecordHeader endian (input_source_state input.old (R.state source.old)) result (input_source_state input.new (R.state source.new)) }
     ensures pauses { PausesOnlyAtEndOrError (R.state source.old) result (R.state source.new) }
-    ensures lent { R.loan source.new ≡ R.loan source.old }
+    ensures same_loan { R.loan source.new ≡ R.loan source.old }
 {
-    match next_header_bytes(source, input) {
-        Ok(Some(bytes)) => Ok(Some(record_header_of(endian, &bytes))),
-        Ok(None) => Ok(None),
-        Err(error) => Err(error),
-    }
-}
-
-// The end offset of a record of this size that starts at `offset`.
-pub(crate) fn record_end(offset: u64, size: u16) -> Result<u64, Error>
-    ensures { ChecksRecordEnd offset size result }
-{
-    if size < HEADER_SIZE_U16 {
-        return Err(Error::InvalidPerfEventSize);
-    }
-    match offset.checked_add(size as u64) {
-        Some(end) => Ok(end),
-        None => Err(Error::Read(ReadError::PerfEventData)),
+    match next_header_bytes(source, input)? {
+        Some(bytes) => Ok(Some(PerfEventHeader::from_bytes(endian, &bytes))),
+        None => Ok(None),
     }
 }
 
@@ -69,11 +94,11 @@ pub(crate) fn record_end(offset: u64, size: u16) -> Result<u64, Error>
 pub(crate) fn skip_body<R: Source>(source: &mut R, count: u64) -> Result<bool, Error>
     ensures skips { SkipsBody (R.state source.old) count result (R.state source.new) }
     ensures pauses { PausesOnlyIfTruncated (R.state source.old) result (R.state source.new) }
-    ensures lent { R.loan source.new ≡ R.loan source.old }
+    ensures same_loan { R.loan source.new ≡ R.loan source.old }
 {
     match skip_up_to(source, count) {
-        Ok(came) => {
-            if came < count {
+        Ok(skipped) => {
+            if skipped < count {
                 return Ok(false);
             }
             Ok(true)
@@ -83,14 +108,14 @@ pub(crate) fn skip_body<R: Source>(source: &mut R, count: u64) -> Result<bool, E
 }
 
 // Appends `count` bytes of the source to `body`. `false` if the source has fewer.
-fn append_exact<R: Source>(source: &mut R, body: &mut Vec<u8>, count: usize) -> Result<bool, Error>
-    ensures reads { AppendsExactly (R.state source.old) body.old.items count result body.new.items (R.state source.new) }
+fn append_body<R: Source>(source: &mut R, body: &mut Vec<u8>, count: usize) -> Result<bool, Error>
+    ensures appends { AppendsBody (R.state source.old) body.old.items count result body.new.items (R.state source.new) }
     ensures pauses { PausesOnlyIfTruncated (R.state source.old) result (R.state source.new) }
-    ensures lent { R.loan source.new ≡ R.loan source.old }
+    ensures same_loan { R.loan source.new ≡ R.loan source.old }
 {
     match append_up_to(source, body, count) {
-        Ok(came) => {
-            if came < count {
+        Ok(appended) => {
+            if appended < count {
                 return Ok(false);
             }
             Ok(true)
@@ -98,13 +123,6 @@ fn append_exact<R: Source>(source: &mut R, body: &mut Vec<u8>, count: usize) -> 
         Err(AppendError::Memory) => Err(Error::Memory),
         Err(AppendError::Source(_)) => Err(Error::Read(ReadError::PerfEventData)),
     }
-}
-
-// Whether this is the type of a compressed record.
-pub(crate) fn is_compressed(record_type: u32) -> bool
-    ensures { TestsCompressed record_type result }
-{
-    record_type == PERF_RECORD_COMPRESSED || record_type == PERF_RECORD_COMPRESSED2
 }
 
 // Appends the aux data to `body`, whose first eight bytes contain their size. Returns the end offset of the record with them.
@@ -116,21 +134,20 @@ fn read_aux_data<R: Source>(
 ) -> Result<u64, Error>
     ensures reads { ReadsAuxData endian (R.state source.old) body.old.items end result body.new.items (R.state source.new) }
     ensures pauses { PausesOnlyOnError (R.state source.old) result (R.state source.new) }
-    ensures lent { R.loan source.new ≡ R.loan source.old }
+    ensures same_loan { R.loan source.new ≡ R.loan source.old }
 {
-    if body.len() < AUX_BODY_MIN_SIZE {
-        return Err(unexpected_eof());
+    if body.len() < Auxtrace::FIXED_SIZE {
+        return Err(Error::from(unexpected_eof()));
     }
-    let count = read_u64(endian, body.as_slice());
-    let whole = match end.checked_add(count) {
-        Some(whole) => whole,
+    let aux_size = read_u64(endian, body.as_slice());
+    let aux_end = match end.checked_add(aux_size) {
+        Some(aux_end) => aux_end,
         None => return Err(Error::Read(ReadError::PerfEventData)),
     };
-    match append_exact(source, body, count as usize) {
-        Ok(true) => Ok(whole),
-        Ok(false) => Err(Error::Read(ReadError::PerfEventData)),
-        Err(error) => Err(error),
+    if !append_body(source, body, aux_size as usize)? {
+        return Err(Error::Read(ReadError::PerfEventData));
     }
+    Ok(aux_end)
 }
 
 // Reads the body and the aux data of a record that is no marker into an empty `body`. Returns the end offset of the record,
@@ -138,29 +155,24 @@ fn read_aux_data<R: Source>(
 pub(crate) fn read_record_body<R: Source>(
     source: &mut R,
     endian: Endianness,
-    head: PerfEventHeader,
+    header: PerfEventHeader,
     body: &mut Vec<u8>,
     end: u64,
 ) -> Result<Option<u64>, Error>
-    requires size { 8 ≤ head.size }
+    requires size { 8 ≤ header.size }
     requires empty { body.old.items ≡ [] }
-    ensures reads { ReadsRecordBody endian (R.state source.old) head end result body.new.items (R.state source.new) }
+    ensures reads { ReadsRecordBody endian (R.state source.old) header end result body.new.items (R.state source.new) }
     ensures pauses { PausesOnlyAtEndOrError (R.state source.old) result (R.state source.new) }
-    ensures lent { R.loan source.new ≡ R.loan source.old }
+    ensures same_loan { R.loan source.new ≡ R.loan source.old }
 {
-    match append_exact(source, body, (head.size - HEADER_SIZE_U16) as usize) {
-        Ok(true) => {}
-        Ok(false) => return Ok(None),
-        Err(error) => return Err(error),
+    if !append_body(source, body, (header.size - HEADER_SIZE) as usize)? {
+        return Ok(None);
     }
-    if is_compressed(head.type_) {
+    if is_compressed(header.type_) {
         return Err(unsupported());
     }
-    if head.type_ != PERF_RECORD_AUXTRACE {
+    if header.type_ != PERF_RECORD_AUXTRACE {
         return Ok(Some(end));
     }
-    match read_aux_data(source, endian, body, end) {
-        Ok(whole) => Ok(Some(whole)),
-        Err(error) => Err(error),
-    }
+    Ok(Some(read_aux_data(source, endian, body, end)?))
 }

@@ -8,54 +8,48 @@ use perfdata_base::event::PerfEventHeader;
 use perfdata_base::source::{Source, fill};
 use perfdata_parts::error::Error;
 
-/// The size of a record header in bytes.
-pub(crate) const HEADER_SIZE: usize = 8;
+// The bytes of a record header.
+pub(crate) type HeaderBytes = [u8; PerfEventHeader::STRUCT_SIZE];
 
 #[derive(Clone, Copy)]
 pub(crate) enum Input {
     // The data section of a file, with its size in bytes.
     Section(u64),
     // A pipe, with the record header that its opening read ahead, until that header is consumed.
-    Pipe(Option<[u8; HEADER_SIZE]>),
+    Pipe(Option<HeaderBytes>),
 }
 
 // The same bytes, with their length as a fact for the prover.
-fn header_of_eight(bytes: [u8; HEADER_SIZE]) -> [u8; HEADER_SIZE]
+fn header_of_eight(bytes: HeaderBytes) -> HeaderBytes
     ensures same { result ≡ bytes }
-    ensures long { length result ≡ 8 }
+    ensures exact_len { length result ≡ 8 }
 {
     bytes
 }
 
 // Reads the next eight bytes of the source. `None` if fewer remain.
-pub(crate) fn read_header_bytes<R: Source>(
-    source: &mut R,
-) -> Result<Option<[u8; HEADER_SIZE]>, Error>
-    ensures takes { ReadsHeaderBytes (R.state source.old) result (R.state source.new) }
+pub(crate) fn read_header_bytes<R: Source>(source: &mut R) -> Result<Option<HeaderBytes>, Error>
+    ensures reads { ReadsHeaderBytes (R.state source.old) result (R.state source.new) }
     ensures pauses { PausesOnlyAtEndOrError (R.state source.old) result (R.state source.new) }
-    ensures lent { R.loan source.new ≡ R.loan source.old }
+    ensures same_loan { R.loan source.new ≡ R.loan source.old }
 {
-    let mut bytes = [0u8; HEADER_SIZE];
-    match fill(source, &mut bytes) {
-        Ok(came) => {
-            if came < HEADER_SIZE {
-                return Ok(None);
-            }
-            Ok(Some(bytes))
-        }
-        Err(error) => Err(Error::IoError(error)),
+    let mut bytes = [0u8; PerfEventHeader::STRUCT_SIZE];
+    let read_count = fill(source, &mut bytes)?;
+    if read_count < PerfEventHeader::STRUCT_SIZE {
+        return Ok(None);
     }
+    Ok(Some(bytes))
 }
 
 // The bytes of the next record header: the pending header, or the next bytes of the source. `None` if fewer remain.
 pub(crate) fn next_header_bytes<R: Source>(
     source: &mut R,
     input: &mut Input,
-) -> Result<Option<[u8; HEADER_SIZE]>, Error>
+) -> Result<Option<HeaderBytes>, Error>
     ensures pending_header { TakesPendingHeader input.old input.new }
-    ensures takes { ReadsHeaderBytes (input_source_state input.old (R.state source.old)) result (input_source_state input.new (R.state source.new)) }
+    ensures reads { ReadsHeaderBytes (input_source_state input.old (R.state source.old)) result (input_source_state input.new (R.state source.new)) }
     ensures pauses { PausesOnlyAtEndOrError (R.state source.old) result (R.state source.new) }
-    ensures lent { R.loan source.new ≡ R.loan source.old }
+    ensures same_loan { R.loan source.new ≡ R.loan source.old }
 {
     match *input {
         Input::Pipe(Some(bytes)) => {

@@ -1,5 +1,5 @@
 //! The iterator over records.
-ghost use Rattle.std.specs.Prelude.{◌≡◌, ◌≤◌, [], IsTrue, IfSome};
+ghost use Rattle.std.specs.Prelude.{◌≡◌, ◌↔◌, ◌≤◌, [], IsTrue, IfSome};
 ghost use Rattle.perfdata_base.specs.Raw.{bytes_of};
 ghost use Rattle.linux_perf_data.specs.Pauses.{PausesOnlyAtEndOrError};
 
@@ -7,16 +7,14 @@ use crate::attributes::lookup::AttributeLookup;
 use crate::perf_file::PerfFile;
 use crate::pipe::late_metadata::apply_metadata;
 use crate::records::buffered::{contains_next_record, has_no_pending_header};
-use crate::records::framing::{
-    HEADER_SIZE_U16, read_header, read_record_body, record_end, skip_body,
-};
+use crate::records::framing::{body_size, read_header, read_record_body, record_end, skip_body};
 use crate::records::input::{Input, at_truncation};
 use perfdata_base::event::{PerfEventHeader, RawEventRecord, RecordType};
 use perfdata_base::place::RecordParseInfo;
 use perfdata_base::raw::{Endianness, RawData};
-use perfdata_base::source::Source;
+use perfdata_base::source::{Source, unexpected_eof};
 use perfdata_parts::constants::PERF_RECORD_FINISHED_ROUND;
-use perfdata_parts::error::{Error, ReadError, unexpected_eof};
+use perfdata_parts::error::{Error, ReadError};
 use perfdata_parts::record::{PerfFileRecord, RawUserRecord, UserRecordType};
 use std::alloc::Global;
 
@@ -65,12 +63,12 @@ impl RecordInfo {
         body: &[u8],
         offset: u64,
         round: u64,
-        head: PerfEventHeader,
+        header: PerfEventHeader,
     ) -> RecordInfo
-        ensures identifies { IdentifiesRecord known.old offset round head body.now result known.new }
+        ensures identifies { IdentifiesRecord known.old offset round header body.now result known.new }
         ensures keeps_attributes { KeepsAttributes known.old known.new }
     {
-        let record_type = RecordType(head.type_);
+        let record_type = RecordType(header.type_);
         let (writer, timestamp) = match UserRecordType::try_from(record_type) {
             Some(user_type) => (Writer::User(user_type), None),
             None => {
@@ -86,7 +84,7 @@ impl RecordInfo {
                 round,
             },
             record_type,
-            misc: head.misc,
+            misc: header.misc,
             writer,
         }
     }
@@ -179,7 +177,7 @@ impl<R> PerfRecordIter<R> {
 }
 
 impl<R: Source> PerfRecordIter<R> {
-    ghost use Rattle.linux_perf_data.specs.BufferedRecord.{IsFinished, ContainsNextRecord, TestsNextBuffered};
+    ghost use Rattle.linux_perf_data.specs.BufferedRecord.{IsFinished, IsNextBuffered, ContainsNextRecord, TestsNextBuffered};
     ghost use Rattle.linux_perf_data.specs.Iter.{ReadsRawRecord, TestsMayStart, ProcessesRecord, Advances, NextRecord, section_size_of, iter_source_state};
     ghost use Rattle.std.specs.Io.BufRead.{Rests};
     ghost use Rattle.std.specs.Borrow.{sem};
@@ -211,10 +209,11 @@ impl<R: Source> PerfRecordIter<R> {
     /// Otherwise it returns false, because the next call may wait, the next bytes are no valid record, or the source ends. It
     /// also returns false while the record header that the opening of a pipe read ahead is pending.
     pub fn is_next_buffered(&self) -> bool
-        ensures tells { TestsNextBuffered R.state self.now result }
+        ensures exact { IsTrue result ↔ IsNextBuffered R.state R.buffered self.now }
+        ensures prefix_of_remaining { TestsNextBuffered R.state self.now result }
         ensures contains_next { IsTrue result → ¬ IsFinished R.state self.now → IfSome (iter_source_state R.state self.now).bytes (ContainsNextRecord self.now.endian (section_size_of R.state self.now) self.now.offset) }
     {
-        let hand = self.source.buffer();
+        let buffered = self.source.buffer();
         match self.stage {
             Stage::Running => {}
             Stage::Failed => return true,
@@ -226,7 +225,7 @@ impl<R: Source> PerfRecordIter<R> {
         if !has_no_pending_header(self.input) {
             return false;
         }
-        contains_next_record(self.endian, self.input, self.offset, hand)
+        contains_next_record(self.endian, self.input, self.offset, buffered)
     }
 
     // Reads the next raw record: a marker, or a record whose body is then in `self.body`. `None` if a pipe ends.
@@ -234,37 +233,28 @@ impl<R: Source> PerfRecordIter<R> {
         requires empty { self.old.body.items ≡ [] }
         ensures raw_record { ReadsRawRecord R.state self.old result self.new }
         ensures pauses { PausesOnlyAtEndOrError (R.state self.old.source) result (R.state self.new.source) }
-        ensures lent { R.loan self.new.source ≡ R.loan self.old.source }
+        ensures same_loan { R.loan self.new.source ≡ R.loan self.old.source }
     {
-        let head = match read_header(&mut self.source, &mut self.input, self.endian) {
-            Ok(Some(head)) => head,
-            Ok(None) => return at_truncation(self.input, unexpected_eof()),
-            Err(error) => return Err(error),
+        let header = match read_header(&mut self.source, &mut self.input, self.endian)? {
+            Some(header) => header,
+            None => return at_truncation(self.input, Error::from(unexpected_eof())),
         };
-        let end = match record_end(self.offset, head.size) {
-            Ok(end) => end,
-            Err(error) => return Err(error),
-        };
-        if head.type_ == PERF_RECORD_FINISHED_ROUND {
-            match skip_body(&mut self.source, (head.size - HEADER_SIZE_U16) as u64) {
-                Ok(true) => {}
-                Ok(false) => return at_truncation(
-                    self.input,
-                    Error::Read(ReadError::PerfEventData),
-                ),
-                Err(error) => return Err(error),
+        let body_size = body_size(header)?;
+        let end = record_end(self.offset, header.size)?;
+        if header.type_ == PERF_RECORD_FINISHED_ROUND {
+            if !skip_body(&mut self.source, body_size as u64)? {
+                return at_truncation(self.input, Error::Read(ReadError::PerfEventData));
             }
             self.round += 1;
             self.offset = end;
-            return Ok(Some(head));
+            return Ok(Some(header));
         }
-        match read_record_body(&mut self.source, self.endian, head, &mut self.body, end) {
-            Ok(Some(whole)) => {
-                self.offset = whole;
-                Ok(Some(head))
+        match read_record_body(&mut self.source, self.endian, header, &mut self.body, end)? {
+            Some(end) => {
+                self.offset = end;
+                Ok(Some(header))
             }
-            Ok(None) => at_truncation(self.input, Error::Read(ReadError::PerfEventData)),
-            Err(error) => Err(error),
+            None => at_truncation(self.input, Error::Read(ReadError::PerfEventData)),
         }
     }
 
@@ -274,29 +264,21 @@ impl<R: Source> PerfRecordIter<R> {
         file: &mut PerfFile,
         offset: u64,
         round: u64,
-        head: PerfEventHeader,
+        header: PerfEventHeader,
     ) -> Result<RecordInfo, Error>
-        ensures takes { ProcessesRecord R.state self.old file.old offset round head result self.new file.new }
+        ensures processes { ProcessesRecord R.state self.old file.old offset round header result self.new file.new }
         ensures pauses { R.state self.new.source ≡ R.state self.old.source }
-        ensures lent { R.loan self.new.source ≡ R.loan self.old.source }
+        ensures same_loan { R.loan self.new.source ≡ R.loan self.old.source }
     {
         let body = self.body.as_slice();
-        let found = RecordInfo::identify(&mut self.attribute_lookup, body, offset, round, head);
+        let found = RecordInfo::identify(&mut self.attribute_lookup, body, offset, round, header);
         match self.input {
             Input::Section(_) => Ok(found),
             Input::Pipe(_) => {
                 let (alloc, endian) = (self.alloc, self.endian);
-                match apply_metadata(
-                    alloc,
-                    endian,
-                    &mut self.attribute_lookup,
-                    file,
-                    head.type_,
-                    body,
-                ) {
-                    Ok(()) => Ok(found),
-                    Err(error) => Err(error),
-                }
+                let lookup = &mut self.attribute_lookup;
+                apply_metadata(alloc, endian, lookup, file, header.type_, body)?;
+                Ok(found)
             }
         }
     }
@@ -305,7 +287,7 @@ impl<R: Source> PerfRecordIter<R> {
     fn advance(&mut self, file: &mut PerfFile) -> Result<Option<RecordInfo>, Error>
         ensures advances { Advances R.state self.old file.old result self.new file.new }
         ensures pauses { PausesOnlyAtEndOrError (R.state self.old.source) result (R.state self.new.source) }
-        ensures lent { R.loan self.new.source ≡ R.loan self.old.source }
+        ensures same_loan { R.loan self.new.source ≡ R.loan self.old.source }
     {
         match self.stage {
             Stage::Running => {}
@@ -318,9 +300,9 @@ impl<R: Source> PerfRecordIter<R> {
             let offset = self.offset;
             let round = self.round;
             match self.next_raw_record() {
-                Ok(Some(head)) => {
-                    if head.type_ != PERF_RECORD_FINISHED_ROUND {
-                        match self.process_record(file, offset, round, head) {
+                Ok(Some(header)) => {
+                    if header.type_ != PERF_RECORD_FINISHED_ROUND {
+                        match self.process_record(file, offset, round, header) {
                             Ok(found) => return Ok(Some(found)),
                             Err(error) => {
                                 self.offset = offset;

@@ -50,16 +50,11 @@ impl PerfPipeHeader {
         ensures same_loan { R.loan source.new ≡ R.loan source.old }
     {
         let mut bytes = [0u8; KNOWN_SIZE];
-        match read_exact(source, &mut bytes) {
-            Ok(()) => {}
-            Err(error) => return Err(error),
-        }
+        read_exact(source, &mut bytes)?;
         let header = parse_header(&bytes);
         let extra = header.size.saturating_sub(KNOWN_SIZE as u64);
-        match skip_up_to(source, extra) {
-            Ok(passed) => Ok((header, passed == extra)),
-            Err(error) => Err(error),
-        }
+        let skipped = skip_up_to(source, extra)?;
+        Ok((header, skipped == extra))
     }
 
     /// Parses a pipe header from a borrowed source, and leaves the source after it.
@@ -70,10 +65,8 @@ impl PerfPipeHeader {
         ensures pauses { (R.state source.new).pauses ≤ (R.state source.old).pauses + 1 }
         ensures same_loan { R.loan source.new ≡ R.loan source.old }
     {
-        match PerfPipeHeader::parse_with_extra(source) {
-            Ok((header, _)) => Ok(header),
-            Err(error) => Err(error),
-        }
+        let (header, _) = PerfPipeHeader::parse_with_extra(source)?;
+        Ok(header)
     }
 
     /// Parses a pipe header from a source, as `parse_from` does.

@@ -3,7 +3,10 @@ ghost use Rattle.std.specs.Prelude.{◌≡◌, ◌<◌, length, Ok, refl};
 ghost use Rattle.std.proofs.lemmas.Bool.{false≢true};
 ghost use Rattle.perfdata_base.specs.Source.{opaque_source, CountsRead, CountsSeek, SizeFitsI64, PositionFitsU64, Reads, Seeks};
 ghost use Rattle.perfdata_base.specs.Buffered.{IsPrefixOfRemaining, ReadsBuffered, AppendsBuffered};
-ghost use Rattle.perfdata_base.specs.RelativeSeek.{ReadUpdatesPosition, SeekUpdatesPosition};
+ghost use Rattle.perfdata_base.specs.RelativeSeek.{AgreesWithPosition, ReadUpdatesPosition, SeekUpdatesPosition};
+ghost use Rattle.std.specs.Io.Buffered.{reader_inner, reader_position, reader_remaining};
+ghost use Rattle.std.specs.Io.KnownBytes.{Keeps, ReadConsumes};
+ghost use Rattle.std.specs.Io.Seek.{SeekMoves};
 
 use crate::source::relative_seek::{position_after, seek_from};
 use crate::source::{PlacedSource, Source};
@@ -19,9 +22,9 @@ use std::io::{BufRead, BufReader, Read, Result, Seek, SeekFrom};
 #[derive(Drop)]
 pub struct CountedBuffer<R> {
     reader: BufReader<R>,
-    faults: u64,
+    errors: u64,
     pauses: u64,
-    place: Option<u64>,
+    position: Option<u64>,
 }
 
 impl<R: Read> CountedBuffer<R> {
@@ -35,9 +38,9 @@ impl<R: Read> CountedBuffer<R> {
     {
         CountedBuffer {
             reader,
-            faults: 0,
+            errors: 0,
             pauses: 0,
-            place: None,
+            position: None,
         }
     }
 }
@@ -49,27 +52,30 @@ impl<R: Read> Source for CountedBuffer<R> {
 
     ghost loan = { λ _. 0 };
 
+    ghost buffered = { counted_buffer_bytes };
+
     fn read_front(&mut self, buf: &mut [u8]) -> Result<usize>
         ensures idle { length buf.old ≡ 0 → (result ≡ Ok 0) × (buffered_state self.new ≡ buffered_state self.old) }
         ensures reads { 0 < length buf.old → Reads (buffered_state self.old) buf.new result (buffered_state self.new) }
         ensures counts { CountsRead (buffered_state self.old) result (buffered_state self.new) }
-        ensures position { 0 < length buf.old → ReadUpdatesPosition self.old.place result self.new.place }
-        ensures position_kept { length buf.old ≡ 0 → self.new.place ≡ self.old.place }
+        ensures position { 0 < length buf.old → ReadUpdatesPosition self.old.position result self.new.position }
+        ensures unchanged_if_empty { length buf.old ≡ 0 → self.new ≡ self.old }
+        ensures reader_consumes { ReadConsumes (reader_remaining R.remaining self.old.reader) (reader_remaining R.remaining self.new.reader) result buf.new }
     {
         if buf.is_empty() {
             return Ok(0);
         }
         match self.reader.read(buf) {
-            Ok(came) => {
-                if came == 0 {
+            Ok(count) => {
+                if count == 0 {
                     self.pauses = self.pauses.saturating_add(1);
                 }
-                self.place = position_after(self.place, came);
-                Ok(came)
+                self.position = position_after(self.position, count);
+                Ok(count)
             }
             Err(error) => {
-                self.faults = self.faults.saturating_add(1);
-                self.place = None;
+                self.errors = self.errors.saturating_add(1);
+                self.position = None;
                 Err(error)
             }
         }
@@ -86,14 +92,14 @@ impl<R: Read> Source for CountedBuffer<R> {
         ensures reads_buffered { ReadsBuffered (buffered_state self.old) buf.old result buf.new (buffered_state self.new) }
         ensures takes_from_buffer { TakesFromBuffer self.old buf.new result self.new }
     {
-        let held = self.reader.buffer();
+        let buffered = self.reader.buffer();
         let size = buf.len();
-        if held.len() < size {
+        if buffered.len() < size {
             return false;
         }
-        buf.copy_from_slice(&held[..size]);
+        buf.copy_from_slice(&buffered[..size]);
         self.reader.consume(size);
-        self.place = position_after(self.place, size);
+        self.position = position_after(self.position, size);
         true
     }
 
@@ -105,13 +111,13 @@ impl<R: Read> Source for CountedBuffer<R> {
         ensures appends { AppendsBuffered (buffered_state self.old) buffer.old.items count result buffer.new.items (buffered_state self.new) }
         ensures takes_from_buffer { AppendsFromBuffer self.old buffer.old.items count result buffer.new.items self.new }
     {
-        let held = self.reader.buffer();
-        if held.len() < count {
+        let buffered = self.reader.buffer();
+        if buffered.len() < count {
             return Ok(false);
         }
-        buffer.extend_from_slice(&held[..count])?;
+        buffer.extend_from_slice(&buffered[..count])?;
         self.reader.consume(count);
-        self.place = position_after(self.place, count);
+        self.position = position_after(self.position, count);
         Ok(true)
     }
 
@@ -126,16 +132,18 @@ impl<R: Read + Seek> PlacedSource for CountedBuffer<R> {
         ensures counts { CountsSeek (buffered_state self.old) result (buffered_state self.new) }
         ensures size_fits { SizeFitsI64 (buffered_state self.old) }
         ensures position_fits { PositionFitsU64 (buffered_state self.old) }
-        ensures position { SeekUpdatesPosition result self.new.place }
+        ensures position { SeekUpdatesPosition result self.new.position }
+        ensures reader_moves { AgreesWithPosition self.old.position (reader_position R.stream_position self.old.reader) → SeekMoves (reader_position R.stream_position self.old.reader) (reader_position R.stream_position self.new.reader) (R.stream_bytes (reader_inner self.old.reader)) to result }
+        ensures reader_keeps_bytes { Keeps (R.stream_bytes (reader_inner self.old.reader)) (R.stream_bytes (reader_inner self.new.reader)) }
     {
-        match seek_from(&mut self.reader, self.place, to) {
+        match seek_from(&mut self.reader, self.position, to) {
             Ok(at) => {
-                self.place = Some(at);
+                self.position = Some(at);
                 Ok(at)
             }
             Err(error) => {
-                self.faults = self.faults.saturating_add(1);
-                self.place = None;
+                self.errors = self.errors.saturating_add(1);
+                self.position = None;
                 Err(error)
             }
         }

@@ -18,62 +18,62 @@ struct RelativeSeek {
 }
 
 // The relative seek between two positions of a file.
-fn relative_seek_between(here: u64, there: u64) -> RelativeSeek
-    requires here { here ≤ 9223372036854775807 }
-    requires target { there ≤ 9223372036854775807 }
-    ensures { IsRelativeSeek here (Start there) result.offset result.target }
+fn relative_seek_between(position: u64, target: u64) -> RelativeSeek
+    requires position { position ≤ 9223372036854775807 }
+    requires target { target ≤ 9223372036854775807 }
+    ensures { IsRelativeSeek position (Start target) result.offset result.target }
 {
-    if here <= there {
+    if position <= target {
         return RelativeSeek {
-            offset: (there - here) as i64,
-            target: there,
+            offset: (target - position) as i64,
+            target,
         };
     }
     RelativeSeek {
-        offset: -((here - there) as i64),
-        target: there,
+        offset: -((position - target) as i64),
+        target,
     }
 }
 
 // The position at an offset from `here`. `None` if it isn't in 0 to `u64::MAX`.
-fn position_at_offset(here: u64, offset: i64) -> Option<u64>
-    ensures { IfSome result (IsAtOffset here offset) }
+fn position_at_offset(position: u64, offset: i64) -> Option<u64>
+    ensures { IfSome result (IsAtOffset position offset) }
 {
     let size = offset.unsigned_abs();
     if offset >= 0 {
-        return here.checked_add(size);
+        return position.checked_add(size);
     }
-    here.checked_sub(size)
+    position.checked_sub(size)
 }
 
 // The relative seek from a known position to the target of `to`. `None` if the position is unknown, if only the reader
 // knows the target, or if either isn't a position of a file.
-fn relative_seek_to(place: Option<u64>, to: SeekFrom) -> Option<RelativeSeek>
-    ensures { IfSome result (λ way. IsSomeAnd place (λ here. IsRelativeSeek here to way.offset way.target)) }
+fn relative_seek_to(known_position: Option<u64>, to: SeekFrom) -> Option<RelativeSeek>
+    ensures { IfSome result (λ relative. IsSomeAnd known_position (λ position. IsRelativeSeek position to relative.offset relative.target)) }
 {
-    let here = match place {
-        Some(here) => here,
+    let position = match known_position {
+        Some(position) => position,
         None => return None,
     };
-    let there = match to {
-        SeekFrom::Start(there) => there,
-        SeekFrom::Current(offset) => match position_at_offset(here, offset) {
-            Some(there) => there,
+    let target = match to {
+        SeekFrom::Start(target) => target,
+        SeekFrom::Current(offset) => match position_at_offset(position, offset) {
+            Some(target) => target,
             None => return None,
         },
         SeekFrom::End(_) => return None,
     };
-    if here > MAX_POSITION || there > MAX_POSITION {
+    if position > MAX_POSITION || target > MAX_POSITION {
         return None;
     }
-    Some(relative_seek_between(here, there))
+    Some(relative_seek_between(position, target))
 }
 
 /// The position `count` bytes after `place`. `None` if it is unknown or exceeds `u64::MAX`.
-pub(super) fn position_after(place: Option<u64>, count: usize) -> Option<u64>
-    ensures { IsPositionAfter place count result }
+pub(super) fn position_after(position: Option<u64>, count: usize) -> Option<u64>
+    ensures { IsPositionAfter position count result }
 {
-    match place {
+    match position {
         Some(at) => at.checked_add(count as u64),
         None => None,
     }
@@ -81,16 +81,20 @@ pub(super) fn position_after(place: Option<u64>, count: usize) -> Option<u64>
 
 /// Seeks to `to`, and returns the new position. If the position and the target are known, the seek is relative, and a
 /// seek to the current position doesn't call the reader.
-pub(super) fn seek_from<R: Seek>(reader: &mut R, place: Option<u64>, to: SeekFrom) -> Result<u64>
-    ensures position { AgreesWithPosition place (R.stream_position reader.old) → SeekMoves (R.stream_position reader.old) (R.stream_position reader.new) (R.stream_bytes reader.old) to result }
+pub(super) fn seek_from<R: Seek>(
+    reader: &mut R,
+    known_position: Option<u64>,
+    to: SeekFrom,
+) -> Result<u64>
+    ensures position { AgreesWithPosition known_position (R.stream_position reader.old) → SeekMoves (R.stream_position reader.old) (R.stream_position reader.new) (R.stream_bytes reader.old) to result }
     ensures bytes { Keeps (R.stream_bytes reader.old) (R.stream_bytes reader.new) }
 {
-    match relative_seek_to(place, to) {
-        Some(way) => {
-            if way.offset != 0 {
-                reader.seek_relative(way.offset)?;
+    match relative_seek_to(known_position, to) {
+        Some(relative) => {
+            if relative.offset != 0 {
+                reader.seek_relative(relative.offset)?;
             }
-            Ok(way.target)
+            Ok(relative.target)
         }
         None => Seek::seek(reader, to),
     }

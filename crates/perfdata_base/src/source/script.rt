@@ -1,8 +1,8 @@
 //! A scripted source for tests.
-ghost use Rattle.std.specs.Prelude.{◌≡◌, ◌≤◌, vec_len, refl};
+ghost use Rattle.std.specs.Prelude.{◌≡◌, ◌≤◌, [], vec_len, refl};
 ghost use Rattle.std.proofs.lemmas.Bool.{false≢true};
 
-use crate::source::{PlacedSource, Source, copy_from_offset};
+use crate::source::{NOT_BUFFERED, PlacedSource, Source, copy_from_offset};
 use std::io::{Cursor, Error, ErrorKind, Result, SeekFrom};
 
 /// The effect of one read of a [`Script`].
@@ -57,7 +57,7 @@ pub struct Script {
     next_step: usize,
     seek_errors: SeekErrors,
     seek_count: u64,
-    faults: u64,
+    errors: u64,
     pauses: u64,
     ghost shown_within_bytes: { shown ≤ vec_len bytes },
 }
@@ -67,12 +67,12 @@ impl Script {
 
     /// Makes a source of `bytes` that shows the first `shown` of them, at most all.
     ///
-    /// A seek fails with an error of kind [`ErrorKind::Other`] if its number is in `seek_faults`. The first seek has
+    /// A seek fails with an error of kind [`ErrorKind::Other`] if its number is in `failing_seeks`. The first seek has
     /// number 0.
-    pub fn new(bytes: Vec<u8>, shown: usize, steps: Vec<Step>, seek_faults: Vec<u64>) -> Script
+    pub fn new(bytes: Vec<u8>, shown: usize, steps: Vec<Step>, failing_seeks: Vec<u64>) -> Script
         ensures { script_state result ≡ unread_script_state bytes.items }
     {
-        Script::failing(bytes, shown, steps, SeekErrors::Other(seek_faults))
+        Script::failing(bytes, shown, steps, SeekErrors::Other(failing_seeks))
     }
 
     /// Makes a source of `bytes` that shows the first `shown` of them, at most all.
@@ -103,7 +103,7 @@ impl Script {
             next_step: 0,
             seek_errors,
             seek_count: 0,
-            faults: 0,
+            errors: 0,
             pauses: 0,
         }
     }
@@ -136,6 +136,8 @@ impl Source for Script {
 
     ghost loan = { λ _. 0 };
 
+    ghost buffered = { λ _. [] };
+
     fn read_front(&mut self, buf: &mut [u8]) -> Result<usize> {
         if buf.is_empty() {
             return Ok(0);
@@ -143,7 +145,7 @@ impl Source for Script {
         let most = match self.next_read_limit() {
             Ok(most) => most.min(buf.len()),
             Err(kind) => {
-                self.faults = self.faults.saturating_add(1);
+                self.errors = self.errors.saturating_add(1);
                 return Err(Error::from(kind));
             }
         };
@@ -156,6 +158,10 @@ impl Source for Script {
         Ok(count)
     }
 
+    fn buffer(&self) -> &[u8] {
+        NOT_BUFFERED
+    }
+
     ghost steady_can_count = { λ _ steady. absurd (false≢true steady) };
 }
 
@@ -165,7 +171,7 @@ impl PlacedSource for Script {
         let number = self.seek_count;
         self.seek_count = self.seek_count.saturating_add(1);
         if let Some(kind) = self.seek_errors.kind_of(number) {
-            self.faults = self.faults.saturating_add(1);
+            self.errors = self.errors.saturating_add(1);
             return Err(Error::from(kind));
         }
         let mut shown = Cursor::new(&self.bytes[..self.shown]);

@@ -3,7 +3,6 @@ ghost use Rattle.std.specs.Prelude.{◌≡◌};
 ghost use Rattle.perfdata_base.specs.Source.{PausesOnlyOnError};
 ghost use Rattle.perfdata_sections.specs.EventDesc.{ReadsNameAndIds, ReadsPaddedFrame, ReadsEvent, ReadsEvents, ReadsEventDesc};
 
-use crate::bytes::into_file_error;
 use crate::error::Error;
 use crate::feature_sections::event_ids::read_ids;
 use crate::feature_sections::header_string::HeaderString;
@@ -31,18 +30,10 @@ fn read_name_and_ids<R: Source, T: FileOrder>(
     ensures same_loan { R.loan source.new ≡ R.loan source.old }
 {
     let mut count = [0u8; 4];
-    match read_exact(source, &mut count) {
-        Ok(()) => {}
-        Err(error) => return Err(AppendError::Source(error)),
-    }
-    let name = match HeaderString::read_from::<R, T>(alloc, source) {
-        Ok(name) => name,
-        Err(fault) => return Err(fault),
-    };
-    match read_ids::<R, T>(alloc, source, T::read_u32(&count) as u64) {
-        Ok(event_ids) => Ok(NameAndIds { name, event_ids }),
-        Err(fault) => Err(fault),
-    }
+    read_exact(source, &mut count)?;
+    let name = HeaderString::read_from::<R, T>(alloc, source)?;
+    let event_ids = read_ids::<R, T>(alloc, source, T::read_u32(&count) as u64)?;
+    Ok(NameAndIds { name, event_ids })
 }
 
 // Reads the attribute of a frame and seeks to the end of the frame. The padding after the attribute may be missing from
@@ -55,18 +46,13 @@ fn read_padded_frame<C: PlacedSource, T: FileOrder>(
     ensures pauses { PausesOnlyOnError (C.state source.old) result (C.state source.new) }
     ensures same_loan { C.loan source.new ≡ C.loan source.old }
 {
-    let attr = match read_attr_frame::<C, T>(source, attr_size as u64) {
-        Ok(attr) => attr,
-        Err(error) => return Err(error),
-    };
-    let left = attr_size - attr.size;
-    if left == 0 {
+    let attr = read_attr_frame::<C, T>(source, attr_size as u64)?;
+    let padding = attr_size - attr.size;
+    if padding == 0 {
         return Ok(attr);
     }
-    match source.seek_to(SeekFrom::Current(left as i64)) {
-        Ok(_) => Ok(attr),
-        Err(error) => Err(Error::IoError(error)),
-    }
+    source.seek_to(SeekFrom::Current(padding as i64))?;
+    Ok(attr)
 }
 
 // Reads an event at the source's position.
@@ -79,18 +65,13 @@ fn read_event<C: PlacedSource, T: FileOrder>(
     ensures pauses { PausesOnlyOnError (C.state source.old) result (C.state source.new) }
     ensures same_loan { C.loan source.new ≡ C.loan source.old }
 {
-    let attr = match read_padded_frame::<C, T>(source, attr_size) {
-        Ok(attr) => attr,
-        Err(error) => return Err(error),
-    };
-    match read_name_and_ids::<C, T>(alloc, source) {
-        Ok(tail) => Ok(AttributeDescription {
-            attr,
-            name: tail.name,
-            event_ids: tail.event_ids,
-        }),
-        Err(fault) => Err(into_file_error(fault)),
-    }
+    let attr = read_padded_frame::<C, T>(source, attr_size)?;
+    let name_and_ids = read_name_and_ids::<C, T>(alloc, source)?;
+    Ok(AttributeDescription {
+        attr,
+        name: name_and_ids.name,
+        event_ids: name_and_ids.event_ids,
+    })
 }
 
 // Reads `count` events at the source's position.
@@ -106,14 +87,8 @@ fn read_events<C: PlacedSource, T: FileOrder>(
 {
     let mut all = Vec::new(alloc);
     'events: for _index in 0..count {
-        let description = match read_event::<C, T>(alloc, source, attr_size) {
-            Ok(description) => description,
-            Err(error) => return Err(error),
-        };
-        match all.push(description) {
-            Ok(()) => {}
-            Err(_) => return Err(Error::Memory),
-        }
+        let description = read_event::<C, T>(alloc, source, attr_size)?;
+        all.push(description)?;
     }
     Ok(all)
 }
@@ -127,12 +102,9 @@ pub(crate) fn read_event_desc<C: PlacedSource, T: FileOrder>(
     ensures pauses { PausesOnlyOnError (C.state source.old) result (C.state source.new) }
     ensures same_loan { C.loan source.new ≡ C.loan source.old }
 {
-    let mut head = [0u8; 8];
-    match read_exact(source, &mut head) {
-        Ok(()) => {}
-        Err(error) => return Err(Error::IoError(error)),
-    }
-    let count = T::read_u32(&head);
-    let attr_size = T::read_u32(&head[4..]);
+    let mut header = [0u8; 8];
+    read_exact(source, &mut header)?;
+    let count = T::read_u32(&header);
+    let attr_size = T::read_u32(&header[4..]);
     read_events::<C, T>(alloc, source, attr_size, count)
 }

@@ -20,14 +20,8 @@ pub(crate) fn read_ids<R: Source, T: FileOrder>(
     let mut ids = Vec::new(alloc);
     'ids: for _index in 0..count {
         let mut bytes = [0u8; 8];
-        match read_exact(source, &mut bytes) {
-            Ok(()) => {}
-            Err(error) => return Err(AppendError::Source(error)),
-        }
-        match ids.push(T::read_u64(&bytes)) {
-            Ok(()) => {}
-            Err(_) => return Err(AppendError::Memory),
-        }
+        read_exact(source, &mut bytes)?;
+        ids.push(T::read_u64(&bytes))?;
     }
     Ok(ids)
 }

@@ -1,9 +1,9 @@
 //! The event types section: attributes, and the sections of their ids.
 ghost use Rattle.std.specs.Prelude.{◌≡◌, ◌+◌, ◌*◌, ◌^◌, ◌<◌, length, IfOk, OnOk};
 ghost use Rattle.perfdata_base.specs.Source.{PausesOnlyOnError, at_offset};
-ghost use Rattle.perfdata_sections.specs.EventTypes.{type_name_at, ids_end, CopiesName, ReadsSectionEntryAt, ReadsEventTypeEntryAt, ReadsEventTypeEntries, ReadsSectionIds, DescribesEntries, ReadsDescriptions};
+ghost use Rattle.perfdata_sections.specs.AttributeDescription.{CopiesName};
+ghost use Rattle.perfdata_sections.specs.EventTypes.{type_name_at, ids_end, ReadsSectionEntryAt, ReadsEventTypeEntryAt, ReadsEventTypeEntries, ReadsSectionIds, DescribesEntries, ReadsDescriptions};
 
-use crate::bytes::into_file_error;
 use crate::error::{Error, ReadError};
 use crate::event_type::SimplePerfEventType;
 use crate::feature_sections::event_ids::read_ids;
@@ -35,14 +35,8 @@ fn read_section_entry_at<C: PlacedSource, T: FileOrder>(
     ensures pauses { PausesOnlyOnError (C.state source.old) result (C.state source.new) }
     ensures same_loan { C.loan source.new ≡ C.loan source.old }
 {
-    match source.seek_to(SeekFrom::Start(at)) {
-        Ok(_) => {}
-        Err(error) => return Err(Error::IoError(error)),
-    }
-    match PerfFileSection::parse_from::<C, T>(source) {
-        Ok(section) => Ok(section),
-        Err(error) => Err(Error::IoError(error)),
-    }
+    source.seek_to(SeekFrom::Start(at))?;
+    Ok(PerfFileSection::parse_from::<C, T>(source)?)
 }
 
 // Reads the entry of an event at the offset `at`: a frame, and the section entry of its ids.
@@ -57,14 +51,9 @@ fn read_entry_at<C: PlacedSource, T: FileOrder>(
     ensures pauses { PausesOnlyOnError (C.state source.old) result (C.state source.new) }
     ensures same_loan { C.loan source.new ≡ C.loan source.old }
 {
-    let attr = match read_attr_frame_at::<C, T>(source, at, attr_size) {
-        Ok(attr) => attr,
-        Err(error) => return Err(error),
-    };
-    match read_section_entry_at::<C, T>(source, at + attr_size) {
-        Ok(ids) => Ok(EventTypeEntry { attr, ids }),
-        Err(error) => Err(error),
-    }
+    let attr = read_attr_frame_at::<C, T>(source, at, attr_size)?;
+    let ids = read_section_entry_at::<C, T>(source, at + attr_size)?;
+    Ok(EventTypeEntry { attr, ids })
 }
 
 // Reads all whole entries of a section.
@@ -86,14 +75,8 @@ fn read_entries<C: PlacedSource, T: FileOrder>(
     let mut all = Vec::new(alloc);
     let mut at = section.offset;
     'entries: while end - at >= step {
-        let entry = match read_entry_at::<C, T>(source, at, attr_size) {
-            Ok(entry) => entry,
-            Err(error) => return Err(error),
-        };
-        match all.push(entry) {
-            Ok(()) => {}
-            Err(_) => return Err(Error::Memory),
-        }
+        let entry = read_entry_at::<C, T>(source, at, attr_size)?;
+        all.push(entry)?;
         at += step;
     }
     Ok(all)
@@ -113,14 +96,8 @@ fn read_section_ids<C: PlacedSource, T: FileOrder>(
     if section.offset > u64::MAX - section.size {
         return Err(Error::Read(ReadError::PerfEventAttr));
     }
-    match source.seek_to(SeekFrom::Start(section.offset)) {
-        Ok(_) => {}
-        Err(error) => return Err(Error::IoError(error)),
-    }
-    match read_ids::<C, T>(alloc, source, section.size / 8) {
-        Ok(ids) => Ok(ids),
-        Err(fault) => Err(into_file_error(fault)),
-    }
+    source.seek_to(SeekFrom::Start(section.offset))?;
+    Ok(read_ids::<C, T>(alloc, source, section.size / 8)?)
 }
 
 // Clones the name of the event type at an index, if there is one.
@@ -128,10 +105,7 @@ fn clone_type_name(types: &[SimplePerfEventType], index: usize) -> Result<Option
     ensures { CopiesName (type_name_at types.now index) result }
 {
     match types.get(index) {
-        Some(event) => match event.name.clone() {
-            Ok(name) => Ok(Some(name)),
-            Err(_) => Err(Error::Memory),
-        },
+        Some(event) => Ok(Some(event.name.clone()?)),
         None => Ok(None),
     }
 }
@@ -149,23 +123,14 @@ fn describe_entries<C: PlacedSource, T: FileOrder>(
 {
     let mut all = Vec::new(alloc);
     'entries: for (index, entry) in entries.iter().enumerate() {
-        let event_ids = match read_section_ids::<C, T>(alloc, source, &entry.ids) {
-            Ok(ids) => ids,
-            Err(error) => return Err(error),
-        };
-        let name = match clone_type_name(types, index) {
-            Ok(name) => name,
-            Err(error) => return Err(error),
-        };
+        let event_ids = read_section_ids::<C, T>(alloc, source, &entry.ids)?;
+        let name = clone_type_name(types, index)?;
         let description = AttributeDescription {
             attr: entry.attr,
             name,
             event_ids,
         };
-        match all.push(description) {
-            Ok(()) => {}
-            Err(_) => return Err(Error::Memory),
-        }
+        all.push(description)?;
     }
     Ok(all)
 }
@@ -186,8 +151,6 @@ pub(crate) fn read_descriptions<C: PlacedSource, T: FileOrder>(
     if attr_size > u64::MAX - IDS_ENTRY_SIZE || section.offset > u64::MAX - section.size {
         return Err(Error::Read(ReadError::PerfEventAttr));
     }
-    match read_entries::<C, T>(alloc, source, section, attr_size) {
-        Ok(entries) => describe_entries::<C, T>(alloc, source, &entries, types),
-        Err(error) => Err(error),
-    }
+    let entries = read_entries::<C, T>(alloc, source, section, attr_size)?;
+    describe_entries::<C, T>(alloc, source, &entries, types)
 }

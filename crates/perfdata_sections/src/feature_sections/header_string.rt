@@ -4,7 +4,7 @@ ghost use Rattle.std.specs.Option.{option_map};
 ghost use Rattle.perfdata_base.specs.Source.{State, PausesOnlyOnError};
 ghost use Rattle.perfdata_sections.specs.HeaderString.{before_nul, utf8_text, ReadsHeaderString, ParsesHeaderString};
 
-use crate::bytes::{into_io_error, read_bytes};
+use crate::bytes::read_bytes;
 use memchr::memchr;
 use perfdata_base::raw::FileOrder;
 use perfdata_base::source::{AppendError, Source, read_exact};
@@ -16,7 +16,7 @@ pub fn before_nul(bytes: &[u8]) -> &[u8]
     ensures { result.now ≡ before_nul bytes.now }
 {
     match memchr(0, bytes) {
-        Some(place) => &bytes[..place],
+        Some(nul_index) => &bytes[..nul_index],
         None => bytes,
     }
 }
@@ -53,14 +53,9 @@ impl HeaderString {
         ensures same_loan { R.loan source.new ≡ R.loan source.old }
     {
         let mut length = [0u8; 4];
-        match read_exact(source, &mut length) {
-            Ok(()) => {}
-            Err(error) => return Err(AppendError::Source(error)),
-        }
-        match read_bytes(alloc, source, T::read_u32(&length) as usize) {
-            Ok(bytes) => Ok(decode_text(bytes)),
-            Err(fault) => Err(fault),
-        }
+        read_exact(source, &mut length)?;
+        let bytes = read_bytes(alloc, source, T::read_u32(&length) as usize)?;
+        Ok(decode_text(bytes))
     }
 
     /// Reads the text of the string at the position of an owned source. See `read_from`.
@@ -71,11 +66,8 @@ impl HeaderString {
         alloc: Global,
         mut reader: R,
     ) -> io::Result<Option<String>>
-        ensures { (left : State) × ParsesHeaderString T.number_of (R.state reader) result left }
+        ensures { (final : State) × ParsesHeaderString T.number_of (R.state reader) result final }
     {
-        match HeaderString::read_from::<R, T>(alloc, &mut reader) {
-            Ok(text) => Ok(text),
-            Err(fault) => Err(into_io_error(fault)),
-        }
+        Ok(HeaderString::read_from::<R, T>(alloc, &mut reader)?)
     }
 }

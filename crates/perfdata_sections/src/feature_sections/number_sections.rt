@@ -41,7 +41,7 @@ impl NrCpus {
 
     /// Reads the CPU counts at the position of an owned source. See `parse_from`.
     pub fn parse<R: Source + Drop, T: FileOrder>(mut reader: R) -> Result<NrCpus>
-        ensures { (left : State) × ParsesPart 8 (nr_cpus_of T.number_of) (R.state reader) result left }
+        ensures { (final : State) × ParsesPart 8 (nr_cpus_of T.number_of) (R.state reader) result final }
     {
         NrCpus::parse_from::<R, T>(&mut reader)
     }
@@ -78,7 +78,7 @@ impl SampleTimeRange {
 
     /// Reads the times at the position of an owned source. See `parse_from`.
     pub fn parse<R: Source + Drop, T: FileOrder>(mut reader: R) -> Result<SampleTimeRange>
-        ensures { (left : State) × ParsesPart 16 (sample_times_of T.number_of) (R.state reader) result left }
+        ensures { (final : State) × ParsesPart 16 (sample_times_of T.number_of) (R.state reader) result final }
     {
         SampleTimeRange::parse_from::<R, T>(&mut reader)
     }
@@ -129,7 +129,7 @@ impl CompressionInfo {
 
     /// Reads the compression info at the position of an owned source. See `parse_from`.
     pub fn parse<R: Source + Drop, T: FileOrder>(mut reader: R) -> Result<CompressionInfo>
-        ensures { (left : State) × ParsesPart 20 (compression_of T.number_of) (R.state reader) result left }
+        ensures { (final : State) × ParsesPart 20 (compression_of T.number_of) (R.state reader) result final }
     {
         CompressionInfo::parse_from::<R, T>(&mut reader)
     }
@@ -168,18 +168,12 @@ impl ClockData {
         ensures same_loan { R.loan source.new ≡ R.loan source.old }
     {
         let mut version = [0u8; 4];
-        match read_exact(source, &mut version) {
-            Ok(()) => {}
-            Err(error) => return Err(error),
-        }
+        read_exact(source, &mut version)?;
         if T::read_u32(&version) != 1 {
             return Err(unsupported_version());
         }
         let mut bytes = [0u8; 20];
-        match read_exact(source, &mut bytes) {
-            Ok(()) => {}
-            Err(error) => return Err(error),
-        }
+        read_exact(source, &mut bytes)?;
         Ok(ClockData {
             clockid: T::read_u32(&bytes),
             wall_clock_ns: T::read_u64(&bytes[4..]),
@@ -189,7 +183,7 @@ impl ClockData {
 
     /// Reads the clock data at the position of an owned source. See `parse_from`.
     pub fn parse<R: Source + Drop, T: FileOrder>(mut reader: R) -> Result<ClockData>
-        ensures { (left : State) × ParsesClock T.number_of (R.state reader) result left }
+        ensures { (final : State) × ParsesClock T.number_of (R.state reader) result final }
     {
         ClockData::parse_from::<R, T>(&mut reader)
     }

@@ -4,7 +4,6 @@ ghost use Rattle.std.specs.Option.{option_map};
 ghost use Rattle.perfdata_base.specs.Source.{State, PausesOnlyOnError};
 ghost use Rattle.perfdata_sections.specs.PmuMappings.{CollectsUnit, SortsUnits, ReadsPmuUnit, ReadsPmuUnits, ReadsPmus, ParsesPmus};
 
-use crate::bytes::into_io_error;
 use crate::feature_sections::header_string::HeaderString;
 use indexmap::IndexMap;
 use perfdata_base::raw::FileOrder;
@@ -28,14 +27,9 @@ fn read_pmu<R: Source, T: FileOrder>(
     ensures same_loan { R.loan source.new ≡ R.loan source.old }
 {
     let mut number = [0u8; 4];
-    match read_exact(source, &mut number) {
-        Ok(()) => {}
-        Err(error) => return Err(AppendError::Source(error)),
-    }
-    match HeaderString::read_from::<R, T>(alloc, source) {
-        Ok(name) => Ok((T::read_u32(&number), name)),
-        Err(fault) => Err(fault),
-    }
+    read_exact(source, &mut number)?;
+    let name = HeaderString::read_from::<R, T>(alloc, source)?;
+    Ok((T::read_u32(&number), name))
 }
 
 // Sets the name of a unit's number. A unit without a name changes nothing.
@@ -66,15 +60,9 @@ fn read_pmus<R: Source, T: FileOrder>(
     ensures same_loan { R.loan source.new ≡ R.loan source.old }
 {
     let mut names = BTreeMap::new(alloc);
-    'units: for _index in 0..count {
-        let (number, name) = match read_pmu::<R, T>(alloc, source) {
-            Ok(unit) => unit,
-            Err(fault) => return Err(fault),
-        };
-        match insert_name(&mut names, number, name) {
-            Ok(()) => {}
-            Err(fault) => return Err(fault),
-        }
+    'pmus: for _index in 0..count {
+        let (number, name) = read_pmu::<R, T>(alloc, source)?;
+        insert_name(&mut names, number, name)?;
     }
     Ok(names)
 }
@@ -110,18 +98,9 @@ impl PmuMappings {
         ensures same_loan { R.loan source.new ≡ R.loan source.old }
     {
         let mut count = [0u8; 4];
-        match read_exact(source, &mut count) {
-            Ok(()) => {}
-            Err(error) => return Err(AppendError::Source(error)),
-        }
-        let names = match read_pmus::<R, T>(alloc, source, T::read_u32(&count)) {
-            Ok(names) => names,
-            Err(fault) => return Err(fault),
-        };
-        match into_index_map(alloc, names) {
-            Ok(names) => Ok(PmuMappings(names)),
-            Err(_) => Err(AppendError::Memory),
-        }
+        read_exact(source, &mut count)?;
+        let names = read_pmus::<R, T>(alloc, source, T::read_u32(&count))?;
+        Ok(PmuMappings(into_index_map(alloc, names)?))
     }
 
     /// Reads the units at the position of an owned source. See `read_from`.
@@ -132,11 +111,8 @@ impl PmuMappings {
         alloc: Global,
         mut reader: R,
     ) -> io::Result<PmuMappings>
-        ensures { (left : State) × ParsesPmus T.number_of (R.state reader) result left }
+        ensures { (final : State) × ParsesPmus T.number_of (R.state reader) result final }
     {
-        match PmuMappings::read_from::<R, T>(alloc, &mut reader) {
-            Ok(names) => Ok(names),
-            Err(fault) => Err(into_io_error(fault)),
-        }
+        Ok(PmuMappings::read_from::<R, T>(alloc, &mut reader)?)
     }
 }

@@ -24,8 +24,8 @@ pub(crate) fn read_simpleperf_attrs<C: PlacedSource, T: FileOrder>(
     ensures pauses { PausesOnlyOnError (C.state source.old) result (C.state source.new) }
     ensures same_loan { C.loan source.new ≡ C.loan source.old }
 {
-    match attr_size.checked_sub(PerfFileSection::STRUCT_SIZE) {
-        Some(frame) => read_descriptions::<C, T>(alloc, source, section, frame, types),
-        None => Err(Error::Read(ReadError::PerfEventAttr)),
-    }
+    let Some(frame_size) = attr_size.checked_sub(PerfFileSection::STRUCT_SIZE) else {
+        return Err(Error::Read(ReadError::PerfEventAttr));
+    };
+    read_descriptions::<C, T>(alloc, source, section, frame_size, types)
 }

@@ -4,53 +4,53 @@ use Rattle.perfdata_sections.specs.declared.decode_error.DecodeError.{DecodeErro
 use Rattle.perfdata_sections.specs.declared.decode_error.DecodeError.TheVariants as errors
 use Rattle.perfdata_simpleperf.specs.declared.protobuf.wire.WireType.{WireType}
 use Rattle.perfdata_simpleperf.specs.declared.protobuf.wire.WireType.TheVariants as wires
-use Rattle.perfdata_simpleperf.specs.Protobuf.WireFormat.{KeyAt, KeyFault, Contents, ValueAt, ValueFault}
+use Rattle.perfdata_simpleperf.specs.Protobuf.WireFormat.{KeyAt, KeyError, Contents, ValueAt, ValueError}
 
--- `rest` follows a key of this wire type and number, and the value of the key if it has one. `around` contains the numbers of
--- the groups that are open at the key, the outermost first, and `inner` those of the groups that are open at `rest`.
-abbrev pub Passes : WireType → ℕ → List ℕ → List ℕ → List ℕ → List ℕ → Type 0
-Passes wires.StartGroup number around bytes inner rest = (length around < 100) × (inner ≡ around ++ number ∷ []) × (bytes ≡ rest)
-Passes wires.EndGroup number around bytes inner rest = (around ≡ inner ++ number ∷ []) × (bytes ≡ rest)
-Passes wire number around bytes inner rest = (around ≡ inner) × (x : Contents) × ValueAt wire bytes x rest
+-- `rest` follows a key of this wire type and number, and the value of the key if it has one. `open_groups` contains the numbers
+-- of the groups that are open at the key, the outermost first, and `inner` those of the groups that are open at `rest`.
+abbrev pub SkipsItem : WireType → ℕ → List ℕ → List ℕ → List ℕ → List ℕ → Type 0
+SkipsItem wires.StartGroup number open_groups bytes inner rest = (length open_groups < 100) × (inner ≡ open_groups ++ number ∷ []) × (bytes ≡ rest)
+SkipsItem wires.EndGroup number open_groups bytes inner rest = (open_groups ≡ inner ++ number ∷ []) × (bytes ≡ rest)
+SkipsItem wire number open_groups bytes inner rest = (open_groups ≡ inner) × (x : Contents) × ValueAt wire bytes x rest
 
--- a token of a group: a field, or the key that starts or ends a group
-pub record Token (around bytes inner rest : List ℕ) : Type 0 where
+-- an item of a group: a field, or the key that starts or ends a group
+pub record GroupItem (open_groups bytes inner rest : List ℕ) : Type 0 where
   pub field_number : ℕ
   pub wire_type : WireType
   pub mid : List ℕ
-  pub is_nonempty : 0 < length around
+  pub is_nonempty : 0 < length open_groups
   pub key : KeyAt bytes field_number wire_type mid
-  pub skips_item : Passes wire_type field_number around mid inner rest
+  pub skips_item : SkipsItem wire_type field_number open_groups mid inner rest
 
--- consecutive complete tokens
-pub data Tokens : List ℕ → List ℕ → List ℕ → List ℕ → Type 0 where
-  none : {around bytes : List ℕ} → Tokens around bytes around bytes
-  more : {around bytes inner mid last rest : List ℕ} → Token around bytes inner mid → Tokens inner mid last rest → Tokens around bytes last rest
+-- consecutive complete items
+pub data GroupItems : List ℕ → List ℕ → List ℕ → List ℕ → Type 0 where
+  no_items : {open_groups bytes : List ℕ} → GroupItems open_groups bytes open_groups bytes
+  item_then : {open_groups bytes inner mid last rest : List ℕ} → GroupItem open_groups bytes inner mid → GroupItems inner mid last rest → GroupItems open_groups bytes last rest
 
 -- the rest of a group after its start key, up to its end
 abbrev pub GroupAt : ℕ → List ℕ → List ℕ → Type 0
-GroupAt number bytes rest = Tokens (number ∷ []) bytes [] rest
+GroupAt number bytes rest = GroupItems (number ∷ []) bytes [] rest
 
 -- the error after a key
-abbrev pub PassFault : WireType → ℕ → List ℕ → List ℕ → DecodeError → Type 0
-PassFault wires.StartGroup number around bytes errors.Depth = 100 ≤ length around
-PassFault wires.EndGroup number around bytes errors.Group = (outer : List ℕ) → around ≡ outer ++ number ∷ [] → ⊥
-PassFault wire number around bytes e = ValueFault wire bytes e
+abbrev pub SkipItemError : WireType → ℕ → List ℕ → List ℕ → DecodeError → Type 0
+SkipItemError wires.StartGroup number open_groups bytes errors.Depth = 100 ≤ length open_groups
+SkipItemError wires.EndGroup number open_groups bytes errors.Group = (outer : List ℕ) → open_groups ≡ outer ++ number ∷ [] → ⊥
+SkipItemError wire number open_groups bytes e = ValueError wire bytes e
 
-pub record BehindKey (bytes : List ℕ) (Fault : ℕ → WireType → List ℕ → Type 0) : Type 0 where
+pub record AfterKey (bytes : List ℕ) (IsError : ℕ → WireType → List ℕ → Type 0) : Type 0 where
   pub field_number : ℕ
   pub wire_type : WireType
   pub mid : List ℕ
   pub key : KeyAt bytes field_number wire_type mid
-  pub error : Fault field_number wire_type mid
+  pub error : IsError field_number wire_type mid
 
-abbrev pub TokenFault : List ℕ → List ℕ → DecodeError → Type 0
-TokenFault around bytes e = KeyFault bytes e ⊎ BehindKey bytes (λ number wire mid. PassFault wire number around mid e)
+abbrev pub GroupItemError : List ℕ → List ℕ → DecodeError → Type 0
+GroupItemError open_groups bytes e = KeyError bytes e ⊎ AfterKey bytes (λ number wire mid. SkipItemError wire number open_groups mid e)
 
--- complete tokens, followed by an error before the group ends
-pub record GroupFault (number : ℕ) (bytes : List ℕ) (e : DecodeError) : Type 0 where
+-- complete items, followed by an error before the group ends
+pub record GroupError (number : ℕ) (bytes : List ℕ) (e : DecodeError) : Type 0 where
   pub open_groups : List ℕ
   pub mid : List ℕ
-  pub earlier : Tokens (number ∷ []) bytes open_groups mid
+  pub earlier : GroupItems (number ∷ []) bytes open_groups mid
   pub is_nonempty : 0 < length open_groups
-  pub error_here : TokenFault open_groups mid e
+  pub error_here : GroupItemError open_groups mid e

@@ -26,34 +26,34 @@ pub record VarintAt (most limit : ℕ) (bytes : List ℕ) (n : ℕ) (rest : List
   pub in_range : n < limit
   pub split : bytes ≡ encoding ++ rest
 
-abbrev pub Goes : ℕ → Type 0
-Goes b = 128 ≤ b
+abbrev pub Continues : ℕ → Type 0
+Continues b = 128 ≤ b
 
 -- the bytes end inside a number
-pub record VarintCut (most : ℕ) (bytes : List ℕ) : Type 0 where
-  pub all_continue : AllByRecursion Goes bytes
+pub record TruncatedVarint (most : ℕ) (bytes : List ℕ) : Type 0 where
+  pub all_continue : AllByRecursion Continues bytes
   pub too_few : length bytes < most
 
 -- the byte at index `most - 1` is above 1, and the number doesn't end before it
-pub record VarintLong (most : ℕ) (bytes : List ℕ) : Type 0 where
-  pub front : List ℕ
+pub record OverlongVarint (most : ℕ) (bytes : List ℕ) : Type 0 where
+  pub prefix : List ℕ
   pub last : ℕ
   pub rest : List ℕ
-  pub all_continue : AllByRecursion Goes front
-  pub at_limit : length front + 1 ≡ most
+  pub all_continue : AllByRecursion Continues prefix
+  pub at_limit : length prefix + 1 ≡ most
   pub exceeds_one : 1 < last
-  pub split : bytes ≡ front ++ last ∷ rest
+  pub split : bytes ≡ prefix ++ last ∷ rest
 
-abbrev pub VarintFault : ℕ → List ℕ → DecodeError → Type 0
-VarintFault most bytes errors.Truncated = VarintCut most bytes
-VarintFault most bytes errors.Varint = VarintLong most bytes
-VarintFault most bytes _ = ⊥
+abbrev pub VarintError : ℕ → List ℕ → DecodeError → Type 0
+VarintError most bytes errors.Truncated = TruncatedVarint most bytes
+VarintError most bytes errors.Varint = OverlongVarint most bytes
+VarintError most bytes _ = ⊥
 
 abbrev pub NumberAt : List ℕ → ℕ → List ℕ → Type 0
 NumberAt bytes n rest = VarintAt 10 (2 ^ 64) bytes n rest
 
-abbrev pub NumberFault : List ℕ → DecodeError → Type 0
-NumberFault bytes e = VarintFault 10 bytes e
+abbrev pub NumberError : List ℕ → DecodeError → Type 0
+NumberError bytes e = VarintError 10 bytes e
 
 -- ---- keys
 
@@ -72,11 +72,11 @@ pub record KeyAt (bytes : List ℕ) (number : ℕ) (wire : WireType) (rest : Lis
 
 -- a number with an error as a key. From left to right, the errors are: the number is too high, the wire type is 6 or 7, the
 -- field number is 0.
-pub record KeyNumberFault (bytes : List ℕ) (Wrong : ℕ → Type 0) : Type 0 where
+pub record KeyCodeError (bytes : List ℕ) (Invalid : ℕ → Type 0) : Type 0 where
   pub code : ℕ
   pub rest : List ℕ
   pub reads : NumberAt bytes code rest
-  pub error : Wrong code
+  pub error : Invalid code
 
 abbrev pub IsBadKey : ℕ → Type 0
 IsBadKey code = (2 ^ 32 ≤ code) ⊎ (code < 6)
@@ -84,12 +84,12 @@ IsBadKey code = (2 ^ 32 ≤ code) ⊎ (code < 6)
 abbrev pub IsBadWireType : ℕ → Type 0
 IsBadWireType code = (code < 2 ^ 32) × (6 ≤ code % 8)
 
-abbrev pub KeyFault : List ℕ → DecodeError → Type 0
-KeyFault bytes errors.Truncated = VarintCut 10 bytes
-KeyFault bytes errors.Varint = VarintLong 10 bytes
-KeyFault bytes errors.Key = KeyNumberFault bytes IsBadKey
-KeyFault bytes errors.WireType = KeyNumberFault bytes IsBadWireType
-KeyFault bytes _ = ⊥
+abbrev pub KeyError : List ℕ → DecodeError → Type 0
+KeyError bytes errors.Truncated = TruncatedVarint 10 bytes
+KeyError bytes errors.Varint = OverlongVarint 10 bytes
+KeyError bytes errors.Key = KeyCodeError bytes IsBadKey
+KeyError bytes errors.WireType = KeyCodeError bytes IsBadWireType
+KeyError bytes _ = ⊥
 
 -- ---- values
 
@@ -99,56 +99,56 @@ pub data Contents : Type 0 where
   bytes : List ℕ → Contents
   skipped : Contents
 
--- the bytes are `front`, which has this length, followed by `rest`
-pub record Splits (bytes : List ℕ) (len : ℕ) (front rest : List ℕ) : Type 0 where
-  pub exact_len : length front ≡ len
-  pub split : bytes ≡ front ++ rest
+-- the bytes are `prefix`, which has this length, followed by `rest`
+pub record Splits (bytes : List ℕ) (len : ℕ) (prefix rest : List ℕ) : Type 0 where
+  pub exact_len : length prefix ≡ len
+  pub split : bytes ≡ prefix ++ rest
 
-pub record LengthAt (bytes front rest : List ℕ) : Type 0 where
+pub record LengthAt (bytes prefix rest : List ℕ) : Type 0 where
   pub len : ℕ
   pub mid : List ℕ
   pub reads : NumberAt bytes len mid
-  pub splits : Splits mid len front rest
+  pub splits : Splits mid len prefix rest
 
 pub record FixedAt (bytes : List ℕ) (len : ℕ) (rest : List ℕ) : Type 0 where
-  pub front : List ℕ
-  pub splits : Splits bytes len front rest
+  pub prefix : List ℕ
+  pub splits : Splits bytes len prefix rest
 
 abbrev pub ValueAt : WireType → List ℕ → Contents → List ℕ → Type 0
 ValueAt wires.Varint bs (number n) rest = NumberAt bs n rest
 ValueAt wires.Fixed64 bs skipped rest = FixedAt bs 8 rest
 ValueAt wires.Fixed32 bs skipped rest = FixedAt bs 4 rest
-ValueAt wires.LengthDelimited bs (bytes front) rest = LengthAt bs front rest
+ValueAt wires.LengthDelimited bs (bytes prefix) rest = LengthAt bs prefix rest
 ValueAt _ _ _ _ = ⊥
 
 -- a complete length, followed by too few bytes
-pub record LengthCut (bytes : List ℕ) : Type 0 where
+pub record TruncatedLengthDelimited (bytes : List ℕ) : Type 0 where
   pub len : ℕ
   pub mid : List ℕ
   pub reads : NumberAt bytes len mid
   pub too_few : length mid < len
 
-abbrev pub FixedFault : ℕ → List ℕ → DecodeError → Type 0
-FixedFault len bs errors.Truncated = length bs < len
-FixedFault len bs _ = ⊥
+abbrev pub FixedError : ℕ → List ℕ → DecodeError → Type 0
+FixedError len bs errors.Truncated = length bs < len
+FixedError len bs _ = ⊥
 
-abbrev pub ValueFault : WireType → List ℕ → DecodeError → Type 0
-ValueFault wires.Varint bs e = NumberFault bs e
-ValueFault wires.Fixed64 bs e = FixedFault 8 bs e
-ValueFault wires.Fixed32 bs e = FixedFault 4 bs e
-ValueFault wires.LengthDelimited bs errors.Truncated = VarintCut 10 bs ⊎ LengthCut bs
-ValueFault wires.LengthDelimited bs errors.Varint = VarintLong 10 bs
-ValueFault _ _ _ = ⊥
+abbrev pub ValueError : WireType → List ℕ → DecodeError → Type 0
+ValueError wires.Varint bs e = NumberError bs e
+ValueError wires.Fixed64 bs e = FixedError 8 bs e
+ValueError wires.Fixed32 bs e = FixedError 4 bs e
+ValueError wires.LengthDelimited bs errors.Truncated = TruncatedVarint 10 bs ⊎ TruncatedLengthDelimited bs
+ValueError wires.LengthDelimited bs errors.Varint = OverlongVarint 10 bs
+ValueError _ _ _ = ⊥
 
-abbrev pub IsPlain : WireType → Type 0
-IsPlain wires.StartGroup = ⊥
-IsPlain wires.EndGroup = ⊥
-IsPlain _ = Unit {0}
+abbrev pub IsNotGroup : WireType → Type 0
+IsNotGroup wires.StartGroup = ⊥
+IsNotGroup wires.EndGroup = ⊥
+IsNotGroup _ = Unit {0}
 
-abbrev pub seen : Value → Contents
-seen (values.Number n) = number n
-seen (values.Bytes b) = bytes b.now
-seen values.Skipped = skipped
+abbrev pub value_contents : Value → Contents
+value_contents (values.Number n) = number n
+value_contents (values.Bytes b) = bytes b.now
+value_contents values.Skipped = skipped
 
-abbrev pub contents_bytes : List ℕ → Contents
-contents_bytes b = bytes b
+abbrev pub bytes_contents : List ℕ → Contents
+bytes_contents b = bytes b

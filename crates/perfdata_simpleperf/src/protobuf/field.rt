@@ -1,6 +1,6 @@
 //! Reads a field of a message, and checks its wire type against the field table of the message.
 ghost use Rattle.std.specs.Prelude.{◌≡◌, IfOk, IfErr};
-ghost use Rattle.perfdata_simpleperf.specs.Protobuf.Fields.{FieldAt, FieldFault, part, shape, is_permitted};
+ghost use Rattle.perfdata_simpleperf.specs.Protobuf.Fields.{FieldAt, FieldError, field_value, field_type, is_accepted};
 
 use crate::protobuf::groups::skip_group;
 use crate::protobuf::wire::{Value, WireType, read_key, read_value};
@@ -34,7 +34,7 @@ pub(crate) struct Field<'a> {
 }
 
 fn field_type_of(message: Message, number: u32) -> FieldType
-    ensures { result ≡ shape message number }
+    ensures { result ≡ field_type message number }
 {
     match message {
         Message::File => match number {
@@ -61,11 +61,11 @@ fn field_type_of(message: Message, number: u32) -> FieldType
     }
 }
 
-// Returns whether a field of type `shape` can have the wire type `wire`.
-fn accepts_wire_type(shape: FieldType, wire: WireType) -> bool
-    ensures { result ≡ is_permitted shape wire }
+// Returns whether a field of type `declared_type` can have the wire type `wire_type`.
+fn accepts_wire_type(declared_type: FieldType, wire_type: WireType) -> bool
+    ensures { result ≡ is_accepted declared_type wire_type }
 {
-    match (shape, wire) {
+    match (declared_type, wire_type) {
         (FieldType::Unknown, _) => true,
         (FieldType::Number | FieldType::Numbers, WireType::Varint) => true,
         (
@@ -78,8 +78,8 @@ fn accepts_wire_type(shape: FieldType, wire: WireType) -> bool
 
 /// Reads the first field of a message, and returns it with the rest of `bytes`.
 pub(crate) fn read_field(message: Message, bytes: &[u8]) -> Result<(Field<'_>, &[u8]), DecodeError>
-    ensures found { IfOk result (λ x. FieldAt message bytes.now (part x.0) x.1.now) }
-    ensures fault { IfErr result (λ e. FieldFault message bytes.now e) }
+    ensures on_ok { IfOk result (λ x. FieldAt message bytes.now (field_value x.0) x.1.now) }
+    ensures on_error { IfErr result (λ e. FieldError message bytes.now e) }
 {
     let (key, rest) = read_key(bytes)?;
     if !accepts_wire_type(field_type_of(message, key.field_number), key.wire_type) {

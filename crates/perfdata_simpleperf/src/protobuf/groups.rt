@@ -1,6 +1,6 @@
 //! Skips unknown groups.
 ghost use Rattle.std.specs.Prelude.{◌<◌, length, IfOk, IfErr};
-ghost use Rattle.perfdata_simpleperf.specs.Protobuf.Groups.{Token, TokenFault, GroupAt, GroupFault};
+ghost use Rattle.perfdata_simpleperf.specs.Protobuf.Groups.{GroupItem, GroupItemError, GroupAt, GroupError};
 
 use crate::protobuf::wire::{WireType, read_key, read_value};
 use arrayvec::ArrayVec;
@@ -9,27 +9,27 @@ use perfdata_sections::decode_error::DecodeError;
 /// The maximum number of unknown groups nested in one another.
 const MAX_GROUP_DEPTH: usize = 100;
 
-// Skips a field, or a key that starts or ends a group. `around` contains the field numbers of the groups that are open at
-// `bytes`, the outermost first.
+// Skips a field, or a key that starts or ends a group. `open_groups` contains the field numbers of the groups that are open
+// at `bytes`, the outermost first.
 fn skip_group_item<'a>(
-    around: &mut ArrayVec<u32, MAX_GROUP_DEPTH>,
+    open_groups: &mut ArrayVec<u32, MAX_GROUP_DEPTH>,
     bytes: &'a [u8],
 ) -> Result<&'a [u8], DecodeError>
-    requires { 0 < length around.old.items }
-    ensures found { IfOk result (λ rest. Token around.old.items bytes.now around.new.items rest.now) }
-    ensures fault { IfErr result (λ e. TokenFault around.old.items bytes.now e) }
+    requires { 0 < length open_groups.old.items }
+    ensures on_ok { IfOk result (λ rest. GroupItem open_groups.old.items bytes.now open_groups.new.items rest.now) }
+    ensures on_error { IfErr result (λ e. GroupItemError open_groups.old.items bytes.now e) }
 {
     let (key, rest) = read_key(bytes)?;
     match key.wire_type {
         WireType::StartGroup => {
-            if around.is_full() {
+            if open_groups.is_full() {
                 return Err(DecodeError::Depth);
             }
-            around.push(key.field_number);
+            open_groups.push(key.field_number);
             Ok(rest)
         }
         WireType::EndGroup => {
-            if around.pop() != Some(key.field_number) {
+            if open_groups.pop() != Some(key.field_number) {
                 return Err(DecodeError::Group);
             }
             Ok(rest)
@@ -43,14 +43,14 @@ fn skip_group_item<'a>(
 
 /// Skips the rest of a group whose start key precedes `bytes`, and returns the bytes after its end key.
 pub(crate) fn skip_group(number: u32, bytes: &[u8]) -> Result<&[u8], DecodeError>
-    ensures found { IfOk result (λ rest. GroupAt number bytes.now rest.now) }
-    ensures fault { IfErr result (λ e. GroupFault number bytes.now e) }
+    ensures on_ok { IfOk result (λ rest. GroupAt number bytes.now rest.now) }
+    ensures on_error { IfErr result (λ e. GroupError number bytes.now e) }
 {
-    let mut around: ArrayVec<u32, MAX_GROUP_DEPTH> = ArrayVec::new();
-    around.push(number);
+    let mut open_groups: ArrayVec<u32, MAX_GROUP_DEPTH> = ArrayVec::new();
+    open_groups.push(number);
     let mut rest = bytes;
-    'items: while !around.is_empty() {
-        rest = skip_group_item(&mut around, rest)?;
+    'items: while !open_groups.is_empty() {
+        rest = skip_group_item(&mut open_groups, rest)?;
     }
     Ok(rest)
 }

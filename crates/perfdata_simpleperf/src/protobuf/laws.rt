@@ -1,8 +1,8 @@
 //! Laws on the definitions of messages.
 ghost use Rattle.std.specs.Prelude.{◌≡◌, ◌⊎◌, ℕ, List, All};
-ghost use Rattle.perfdata_simpleperf.specs.Protobuf.WireFormat.{IsByte, NumberAt, NumberFault};
-ghost use Rattle.perfdata_simpleperf.specs.Protobuf.Fields.{Part};
-ghost use Rattle.perfdata_simpleperf.specs.Protobuf.Messages.{IsFile, FileFault};
+ghost use Rattle.perfdata_simpleperf.specs.Protobuf.WireFormat.{IsByte, NumberAt, NumberError};
+ghost use Rattle.perfdata_simpleperf.specs.Protobuf.Fields.{FieldValue};
+ghost use Rattle.perfdata_simpleperf.specs.Protobuf.Messages.{IsFileMessage, FileMessageError};
 ghost use Rattle.perfdata_simpleperf.specs.Protobuf.Groups.{GroupAt};
 ghost use Rattle.perfdata_simpleperf.specs.Protobuf.Nesting.{IsNestedGroup};
 ghost use Rattle.perfdata_simpleperf.specs.FileRecord.{FileValue};
@@ -12,23 +12,23 @@ ghost use Rattle.perfdata_sections.specs.declared.decode_error.DecodeError.{Deco
 /// Bytes either begin with exactly one varint or have exactly one varint error.
 pub fn varint_is_unique()
     ensures value { (bs : List ℕ) (n m : ℕ) (r s : List ℕ) → NumberAt bs n r → NumberAt bs m s → (n ≡ m) × (r ≡ s) }
-    ensures not_both { (bs : List ℕ) (n : ℕ) (r : List ℕ) (e : DecodeError) → NumberAt bs n r → NumberFault bs e → ⊥ }
-    ensures fault { (bs : List ℕ) (e f : DecodeError) → NumberFault bs e → NumberFault bs f → e ≡ f }
-    ensures decided { (bs : List ℕ) → All IsByte bs → ((n : ℕ) × (r : List ℕ) × NumberAt bs n r) ⊎ ((e : DecodeError) × NumberFault bs e) }
+    ensures not_both { (bs : List ℕ) (n : ℕ) (r : List ℕ) (e : DecodeError) → NumberAt bs n r → NumberError bs e → ⊥ }
+    ensures error { (bs : List ℕ) (e f : DecodeError) → NumberError bs e → NumberError bs f → e ≡ f }
+    ensures decided { (bs : List ℕ) → All IsByte bs → ((n : ℕ) × (r : List ℕ) × NumberAt bs n r) ⊎ ((e : DecodeError) × NumberError bs e) }
 {}
 
 /// Bytes are either a message with exactly one list of fields or have exactly one first error.
 pub fn message_is_unique()
-    ensures value { (bs : List ℕ) (ps qs : List Part) → IsFile bs ps → IsFile bs qs → ps ≡ qs }
-    ensures not_both { (bs : List ℕ) (ps : List Part) (e : DecodeError) → IsFile bs ps → FileFault bs e → ⊥ }
-    ensures fault { (bs : List ℕ) (e f : DecodeError) → FileFault bs e → FileFault bs f → e ≡ f }
-    ensures decided { (bs : List ℕ) → All IsByte bs → ((ps : List Part) × IsFile bs ps) ⊎ ((e : DecodeError) × FileFault bs e) }
+    ensures value { (bs : List ℕ) (ps qs : List FieldValue) → IsFileMessage bs ps → IsFileMessage bs qs → ps ≡ qs }
+    ensures not_both { (bs : List ℕ) (ps : List FieldValue) (e : DecodeError) → IsFileMessage bs ps → FileMessageError bs e → ⊥ }
+    ensures error { (bs : List ℕ) (e f : DecodeError) → FileMessageError bs e → FileMessageError bs f → e ≡ f }
+    ensures decided { (bs : List ℕ) → All IsByte bs → ((ps : List FieldValue) × IsFileMessage bs ps) ⊎ ((e : DecodeError) × FileMessageError bs e) }
 {}
 
 /// A message has exactly one value.
 pub fn value_is_unique()
     ensures value { (bs : List ℕ) (v w : FileValue) → IsFileRecord bs v → IsFileRecord bs w → v ≡ w }
-    ensures exists { (bs : List ℕ) (ps : List Part) → IsFile bs ps → (v : FileValue) × IsFileRecord bs v }
+    ensures exists { (bs : List ℕ) (ps : List FieldValue) → IsFileMessage bs ps → (v : FileValue) × IsFileRecord bs v }
 {}
 
 /// The bytes that are skipped as a group are complete fields, with further groups nested at most 99 deep, and the group's end

@@ -1,10 +1,10 @@
 //! Decodes messages by merging their fields.
 ghost use Rattle.std.specs.Prelude.{◌≡◌, ◌⊎◌, ◌∷◌, [], ◌++◌, List, ℕ, ◌%◌, IfOk, IfErr, OnOk, string_bytes, IsUtf8, IsTrue, map};
-ghost use Rattle.perfdata_simpleperf.specs.Protobuf.Fields.{part, shape};
-ghost use Rattle.perfdata_simpleperf.specs.Protobuf.WireFormat.{contents_bytes};
-ghost use Rattle.perfdata_simpleperf.specs.Protobuf.Messages.{NoInner, NoInnerFault, IsFine, IsWrong, LeafFault, ArePacked, PackedFault, SomeLeaf, FileFault};
+ghost use Rattle.perfdata_simpleperf.specs.Protobuf.Fields.{field_value, field_type};
+ghost use Rattle.perfdata_simpleperf.specs.Protobuf.WireFormat.{bytes_contents};
+ghost use Rattle.perfdata_simpleperf.specs.Protobuf.Messages.{NoNestedMessage, NoNestedMessageError, IsValidContents, IsInvalidContents, LeafError, ArePacked, PackedError, IsAnyLeaf, FileMessageError};
 ghost use Rattle.perfdata_simpleperf.specs.FileRecord.{symbol_value, SymbolValue, info_value, record_value};
-ghost use Rattle.perfdata_simpleperf.specs.Protobuf.Values.{symbol_from, IsSymbol, low, last_or, numbers, contents_of, AreOffsets, IsDex, IsAddressFrom, AreSymbols, texts, infos_of, is_info, IsPut, ArePut, IsFileRecord, kept_offsets, kept_elf, kept_module};
+ghost use Rattle.perfdata_simpleperf.specs.Protobuf.Values.{symbol_from, IsSymbol, low_u32, last_or, numbers_of, contents_of, AreOffsets, IsDex, IsAddressFrom, AreSymbols, texts_of, infos_of, is_info, MergesInfo, MergesInfos, IsFileRecord, previous_offsets, previous_elf_offset, previous_module_offset};
 ghost use Rattle.perfdata_sections.specs.declared.decode_error.DecodeError.TheVariants.{Memory, Utf8};
 ghost use Rattle.perfdata_sections.specs.declared.decode_error.DecodeError.{DecodeError};
 ghost use Rattle.perfdata_simpleperf.specs.declared.protobuf.field.Message.TheVariants as messages;
@@ -19,14 +19,14 @@ use perfdata_sections::decode_error::DecodeError;
 use std::alloc::Global;
 
 fn low_u32(n: u64) -> u32
-    ensures { result ≡ low n }
+    ensures { result ≡ low_u32 n }
 {
     (n % 0x1_0000_0000) as u32
 }
 
 fn decode_text(alloc: Global, bytes: &[u8]) -> Result<String, DecodeError>
-    ensures found { IfOk result (λ s. (string_bytes s ≡ bytes.now) × IsUtf8 bytes.now) }
-    ensures fault { IfErr result (λ e. (e ≡ Memory) ⊎ ((e ≡ Utf8) × (IsUtf8 bytes.now → ⊥))) }
+    ensures on_ok { IfOk result (λ s. (string_bytes s ≡ bytes.now) × IsUtf8 bytes.now) }
+    ensures on_error { IfErr result (λ e. (e ≡ Memory) ⊎ ((e ≡ Utf8) × (IsUtf8 bytes.now → ⊥))) }
 {
     match std::str::from_utf8(bytes) {
         Ok(text) => Ok(String::from_str(alloc, text)?),
@@ -39,9 +39,9 @@ fn merge_symbol_field(
     symbol: &mut SimpleperfSymbol,
     field: &Field<'_>,
 ) -> Result<(), DecodeError>
-    ensures value { OnOk result (symbol_value symbol.new ≡ symbol_from (symbol_value symbol.old) (part field.now ∷ [])) }
-    ensures valid_contents { OnOk result (IsFine NoInner (shape messages.Symbol (part field.now).field_number) (part field.now).contents) }
-    ensures fault { IfErr result (λ e. (e ≡ Memory) ⊎ IsWrong NoInnerFault (shape messages.Symbol (part field.now).field_number) (part field.now).contents e) }
+    ensures value { OnOk result (symbol_value symbol.new ≡ symbol_from (symbol_value symbol.old) (field_value field.now ∷ [])) }
+    ensures valid_contents { OnOk result (IsValidContents NoNestedMessage (field_type messages.Symbol (field_value field.now).field_number) (field_value field.now).contents) }
+    ensures on_error { IfErr result (λ e. (e ≡ Memory) ⊎ IsInvalidContents NoNestedMessageError (field_type messages.Symbol (field_value field.now).field_number) (field_value field.now).contents e) }
 {
     match (field.number, field.value) {
         (1, Value::Number(n)) => symbol.vaddr = n,
@@ -53,8 +53,8 @@ fn merge_symbol_field(
 }
 
 fn decode_symbol(alloc: Global, bytes: &[u8]) -> Result<SimpleperfSymbol, DecodeError>
-    ensures found { IfOk result (λ s. IsSymbol bytes.now (symbol_value s)) }
-    ensures fault { IfErr result (λ e. (e ≡ Memory) ⊎ LeafFault messages.Symbol bytes.now e) }
+    ensures on_ok { IfOk result (λ s. IsSymbol bytes.now (symbol_value s)) }
+    ensures on_error { IfErr result (λ e. (e ≡ Memory) ⊎ LeafError messages.Symbol bytes.now e) }
 {
     let mut symbol = SimpleperfSymbol {
         vaddr: 0,
@@ -71,8 +71,8 @@ fn decode_symbol(alloc: Global, bytes: &[u8]) -> Result<SimpleperfSymbol, Decode
 }
 
 fn push_packed(offsets: &mut Vec<u64>, bytes: &[u8]) -> Result<(), DecodeError>
-    ensures found { OnOk result ((ns : List ℕ) × ArePacked bytes.now ns × (offsets.new.items ≡ offsets.old.items ++ ns)) }
-    ensures fault { IfErr result (λ e. (e ≡ Memory) ⊎ PackedFault bytes.now e) }
+    ensures on_ok { OnOk result ((ns : List ℕ) × ArePacked bytes.now ns × (offsets.new.items ≡ offsets.old.items ++ ns)) }
+    ensures on_error { IfErr result (λ e. (e ≡ Memory) ⊎ PackedError bytes.now e) }
 {
     let mut rest = bytes;
     'numbers: while !rest.is_empty() {
@@ -84,9 +84,9 @@ fn push_packed(offsets: &mut Vec<u64>, bytes: &[u8]) -> Result<(), DecodeError>
 }
 
 fn merge_dex_field(offsets: &mut Vec<u64>, field: &Field<'_>) -> Result<(), DecodeError>
-    ensures value { OnOk result ((ns : List ℕ) × AreOffsets (contents_of 1 (part field.now ∷ [])) ns × (offsets.new.items ≡ offsets.old.items ++ ns)) }
-    ensures valid_contents { OnOk result (IsFine NoInner (shape messages.Dex (part field.now).field_number) (part field.now).contents) }
-    ensures fault { IfErr result (λ e. (e ≡ Memory) ⊎ IsWrong NoInnerFault (shape messages.Dex (part field.now).field_number) (part field.now).contents e) }
+    ensures value { OnOk result ((ns : List ℕ) × AreOffsets (contents_of 1 (field_value field.now ∷ [])) ns × (offsets.new.items ≡ offsets.old.items ++ ns)) }
+    ensures valid_contents { OnOk result (IsValidContents NoNestedMessage (field_type messages.Dex (field_value field.now).field_number) (field_value field.now).contents) }
+    ensures on_error { IfErr result (λ e. (e ≡ Memory) ⊎ IsInvalidContents NoNestedMessageError (field_type messages.Dex (field_value field.now).field_number) (field_value field.now).contents e) }
 {
     if field.number != 1 {
         return Ok(());
@@ -105,8 +105,8 @@ fn merge_dex_field(offsets: &mut Vec<u64>, field: &Field<'_>) -> Result<(), Deco
 }
 
 fn merge_dex(offsets: &mut Vec<u64>, bytes: &[u8]) -> Result<(), DecodeError>
-    ensures found { OnOk result ((ns : List ℕ) × IsDex bytes.now ns × (offsets.new.items ≡ offsets.old.items ++ ns)) }
-    ensures fault { IfErr result (λ e. (e ≡ Memory) ⊎ LeafFault messages.Dex bytes.now e) }
+    ensures on_ok { OnOk result ((ns : List ℕ) × IsDex bytes.now ns × (offsets.new.items ≡ offsets.old.items ++ ns)) }
+    ensures on_error { IfErr result (λ e. (e ≡ Memory) ⊎ LeafError messages.Dex bytes.now e) }
 {
     let mut rest = bytes;
     'fields: while !rest.is_empty() {
@@ -119,8 +119,8 @@ fn merge_dex(offsets: &mut Vec<u64>, bytes: &[u8]) -> Result<(), DecodeError>
 
 // Returns the last address in the message, or `start` if it has none.
 fn decode_address(start: u64, bytes: &[u8]) -> Result<u64, DecodeError>
-    ensures found { IfOk result (λ n. IsAddressFrom start bytes.now n) }
-    ensures fault { IfErr result (λ e. LeafFault messages.Address bytes.now e) }
+    ensures on_ok { IfOk result (λ n. IsAddressFrom start bytes.now n) }
+    ensures on_error { IfErr result (λ e. LeafError messages.Address bytes.now e) }
 {
     let mut address = start;
     let mut rest = bytes;
@@ -133,7 +133,7 @@ fn decode_address(start: u64, bytes: &[u8]) -> Result<u64, DecodeError>
 }
 
 fn merge_address_field(address: u64, field: &Field<'_>) -> u64
-    ensures { result ≡ last_or address (numbers 1 (part field.now ∷ [])) }
+    ensures { result ≡ last_or address (numbers_of 1 (field_value field.now ∷ [])) }
 {
     match (field.number, field.value) {
         (1, Value::Number(n)) => n,
@@ -142,7 +142,7 @@ fn merge_address_field(address: u64, field: &Field<'_>) -> u64
 }
 
 fn previous_offsets(alloc: Global, info: Option<SimpleperfTypeSpecificInfo>) -> Vec<u64>
-    ensures { result.items ≡ kept_offsets (info_value info) }
+    ensures { result.items ≡ previous_offsets (info_value info) }
 {
     match info {
         Some(SimpleperfTypeSpecificInfo::SimpleperfDexFileInfo(dex)) => dex.dex_file_offset,
@@ -151,7 +151,7 @@ fn previous_offsets(alloc: Global, info: Option<SimpleperfTypeSpecificInfo>) -> 
 }
 
 fn previous_elf_offset(info: &Option<SimpleperfTypeSpecificInfo>) -> u64
-    ensures { result ≡ kept_elf (info_value info.now) }
+    ensures { result ≡ previous_elf_offset (info_value info.now) }
 {
     match info {
         Some(SimpleperfTypeSpecificInfo::ElfFile(elf)) => elf.file_offset_of_min_vaddr,
@@ -160,7 +160,7 @@ fn previous_elf_offset(info: &Option<SimpleperfTypeSpecificInfo>) -> u64
 }
 
 fn previous_module_offset(info: &Option<SimpleperfTypeSpecificInfo>) -> u64
-    ensures { result ≡ kept_module (info_value info.now) }
+    ensures { result ≡ previous_module_offset (info_value info.now) }
 {
     match info {
         Some(SimpleperfTypeSpecificInfo::KernelModule(kernel)) => kernel.memory_offset_of_min_vaddr,
@@ -168,19 +168,19 @@ fn previous_module_offset(info: &Option<SimpleperfTypeSpecificInfo>) -> u64
     }
 }
 
-// Merges a field with the number `kind` (5, 6 or 7) and the contents `bytes` into `info`.
+// Merges a field with the number `field_number` (5, 6 or 7) and the contents `bytes` into `info`.
 fn merge_info(
     alloc: Global,
     info: Option<SimpleperfTypeSpecificInfo>,
-    kind: u32,
+    field_number: u32,
     bytes: &[u8],
 ) -> Result<SimpleperfTypeSpecificInfo, DecodeError>
-    requires { IsTrue (is_info kind) }
-    ensures found { IfOk result (λ new. IsPut kind bytes.now (info_value info) (info_value (Some new))) }
-    ensures valid_contents { OnOk result (IsFine SomeLeaf (shape messages.File kind) (contents_bytes bytes.now)) }
-    ensures fault { IfErr result (λ e. (e ≡ Memory) ⊎ IsWrong LeafFault (shape messages.File kind) (contents_bytes bytes.now) e) }
+    requires { IsTrue (is_info field_number) }
+    ensures on_ok { IfOk result (λ new. MergesInfo field_number bytes.now (info_value info) (info_value (Some new))) }
+    ensures valid_contents { OnOk result (IsValidContents IsAnyLeaf (field_type messages.File field_number) (bytes_contents bytes.now)) }
+    ensures on_error { IfErr result (λ e. (e ≡ Memory) ⊎ IsInvalidContents LeafError (field_type messages.File field_number) (bytes_contents bytes.now) e) }
 {
-    match kind {
+    match field_number {
         5 => {
             let mut dex_file_offset = previous_offsets(alloc, info);
             merge_dex(&mut dex_file_offset, bytes)?;
@@ -209,13 +209,13 @@ fn merge_record_field(
     file: &mut SimpleperfFileRecord,
     field: &Field<'_>,
 ) -> Result<(), DecodeError>
-    ensures path { OnOk result ((record_value file.new).path ≡ last_or (record_value file.old).path (texts 1 (part field.now ∷ []))) }
-    ensures type_ { OnOk result ((record_value file.new).type_ ≡ last_or (record_value file.old).type_ (map low (numbers 2 (part field.now ∷ [])))) }
-    ensures min_vaddr { OnOk result ((record_value file.new).min_vaddr ≡ last_or (record_value file.old).min_vaddr (numbers 3 (part field.now ∷ []))) }
-    ensures symbol { OnOk result ((ss : List SymbolValue) × AreSymbols (texts 4 (part field.now ∷ [])) ss × ((record_value file.new).symbol ≡ (record_value file.old).symbol ++ ss)) }
-    ensures info { OnOk result (ArePut (infos_of (part field.now ∷ [])) (record_value file.old).info (record_value file.new).info) }
-    ensures valid_contents { OnOk result (IsFine SomeLeaf (shape messages.File (part field.now).field_number) (part field.now).contents) }
-    ensures fault { IfErr result (λ e. (e ≡ Memory) ⊎ IsWrong LeafFault (shape messages.File (part field.now).field_number) (part field.now).contents e) }
+    ensures path { OnOk result ((record_value file.new).path ≡ last_or (record_value file.old).path (texts_of 1 (field_value field.now ∷ []))) }
+    ensures type_ { OnOk result ((record_value file.new).type_ ≡ last_or (record_value file.old).type_ (map low_u32 (numbers_of 2 (field_value field.now ∷ [])))) }
+    ensures min_vaddr { OnOk result ((record_value file.new).min_vaddr ≡ last_or (record_value file.old).min_vaddr (numbers_of 3 (field_value field.now ∷ []))) }
+    ensures symbol { OnOk result ((ss : List SymbolValue) × AreSymbols (texts_of 4 (field_value field.now ∷ [])) ss × ((record_value file.new).symbol ≡ (record_value file.old).symbol ++ ss)) }
+    ensures info { OnOk result (MergesInfos (infos_of (field_value field.now ∷ [])) (record_value file.old).info (record_value file.new).info) }
+    ensures valid_contents { OnOk result (IsValidContents IsAnyLeaf (field_type messages.File (field_value field.now).field_number) (field_value field.now).contents) }
+    ensures on_error { IfErr result (λ e. (e ≡ Memory) ⊎ IsInvalidContents LeafError (field_type messages.File (field_value field.now).field_number) (field_value field.now).contents e) }
 {
     match (field.number, field.value) {
         (1, Value::Bytes(bytes)) => {
@@ -250,8 +250,8 @@ pub(crate) fn decode_file_record(
     alloc: Global,
     bytes: &[u8],
 ) -> Result<SimpleperfFileRecord, DecodeError>
-    ensures found { IfOk result (λ r. IsFileRecord bytes.now (record_value r)) }
-    ensures fault { IfErr result (λ e. (e ≡ Memory) ⊎ FileFault bytes.now e) }
+    ensures on_ok { IfOk result (λ r. IsFileRecord bytes.now (record_value r)) }
+    ensures on_error { IfErr result (λ e. (e ≡ Memory) ⊎ FileMessageError bytes.now e) }
 {
     let mut file = SimpleperfFileRecord {
         path: String::new(alloc),

@@ -1,6 +1,6 @@
 //! Reads protobuf varints, keys and values.
 ghost use Rattle.std.specs.Prelude.{◌≤◌, ◌<◌, ◌*◌, ◌-◌, ◌^◌, IfOk, IfErr};
-ghost use Rattle.perfdata_simpleperf.specs.Protobuf.WireFormat.{VarintAt, VarintFault, NumberAt, NumberFault, KeyAt, KeyFault, FixedAt, FixedFault, seen, ValueAt, ValueFault, IsPlain};
+ghost use Rattle.perfdata_simpleperf.specs.Protobuf.WireFormat.{VarintAt, VarintError, NumberAt, NumberError, KeyAt, KeyError, FixedAt, FixedError, value_contents, ValueAt, ValueError, IsNotGroup};
 
 use perfdata_sections::decode_error::DecodeError;
 
@@ -31,17 +31,17 @@ pub(crate) enum Value<'a> {
     Skipped,
 }
 
-// Decodes a varint of at most `left` bytes. If it has exactly `left` bytes, the last is at most 1.
-fn decode_varint(bytes: &[u8], left: u32) -> Result<(u64, &[u8]), DecodeError>
-    requires low { 1 ≤ left }
-    requires high { left ≤ 10 }
-    ensures found { IfOk result (λ x. VarintAt left (2 * 128 ^ (left - 1)) bytes.now x.0 x.1.now) }
-    ensures fault { IfErr result (λ e. VarintFault left bytes.now e) }
+// Decodes a varint of at most `max_len` bytes. If it has exactly `max_len` bytes, the last is at most 1.
+fn decode_varint(bytes: &[u8], max_len: u32) -> Result<(u64, &[u8]), DecodeError>
+    requires low { 1 ≤ max_len }
+    requires high { max_len ≤ 10 }
+    ensures on_ok { IfOk result (λ x. VarintAt max_len (2 * 128 ^ (max_len - 1)) bytes.now x.0 x.1.now) }
+    ensures on_error { IfErr result (λ e. VarintError max_len bytes.now e) }
 {
     match bytes {
         [] => Err(DecodeError::Truncated),
         [byte, rest @ ..] => {
-            if left == 1 {
+            if max_len == 1 {
                 if *byte > 1 {
                     Err(DecodeError::Varint)
                 } else {
@@ -50,7 +50,7 @@ fn decode_varint(bytes: &[u8], left: u32) -> Result<(u64, &[u8]), DecodeError>
             } else if *byte < 128 {
                 Ok((*byte as u64, rest))
             } else {
-                let (high, after) = decode_varint(rest, left - 1)?;
+                let (high, after) = decode_varint(rest, max_len - 1)?;
                 Ok((high * 128 + (*byte as u64 - 128), after))
             }
         }
@@ -59,22 +59,22 @@ fn decode_varint(bytes: &[u8], left: u32) -> Result<(u64, &[u8]), DecodeError>
 
 /// Reads a varint from the start of `bytes`, and returns it with the rest.
 pub(crate) fn read_varint(bytes: &[u8]) -> Result<(u64, &[u8]), DecodeError>
-    ensures found { IfOk result (λ x. NumberAt bytes.now x.0 x.1.now) }
-    ensures fault { IfErr result (λ e. NumberFault bytes.now e) }
+    ensures on_ok { IfOk result (λ x. NumberAt bytes.now x.0 x.1.now) }
+    ensures on_error { IfErr result (λ e. NumberError bytes.now e) }
 {
     decode_varint(bytes, 10)
 }
 
 /// Reads a key from the start of `bytes`, and returns it with the rest.
 pub(crate) fn read_key(bytes: &[u8]) -> Result<(Key, &[u8]), DecodeError>
-    ensures found { IfOk result (λ x. KeyAt bytes.now x.0.field_number x.0.wire_type x.1.now) }
-    ensures fault { IfErr result (λ e. KeyFault bytes.now e) }
+    ensures on_ok { IfOk result (λ x. KeyAt bytes.now x.0.field_number x.0.wire_type x.1.now) }
+    ensures on_error { IfErr result (λ e. KeyError bytes.now e) }
 {
     let (code, rest) = read_varint(bytes)?;
     if code >= 0x1_0000_0000 {
         return Err(DecodeError::Key);
     }
-    let wire = match code % 8 {
+    let wire_type = match code % 8 {
         0 => WireType::Varint,
         1 => WireType::Fixed64,
         2 => WireType::LengthDelimited,
@@ -90,19 +90,22 @@ pub(crate) fn read_key(bytes: &[u8]) -> Result<(Key, &[u8]), DecodeError>
     Ok((
         Key {
             field_number: number,
-            wire_type: wire,
+            wire_type,
         },
         rest,
     ))
 }
 
 /// Reads a value from the start of `bytes`, and returns it with the rest. The field isn't a group.
-pub(crate) fn read_value(wire: WireType, bytes: &[u8]) -> Result<(Value<'_>, &[u8]), DecodeError>
-    requires { IsPlain wire }
-    ensures found { IfOk result (λ x. ValueAt wire bytes.now (seen x.0) x.1.now) }
-    ensures fault { IfErr result (λ e. ValueFault wire bytes.now e) }
+pub(crate) fn read_value(
+    wire_type: WireType,
+    bytes: &[u8],
+) -> Result<(Value<'_>, &[u8]), DecodeError>
+    requires { IsNotGroup wire_type }
+    ensures on_ok { IfOk result (λ x. ValueAt wire_type bytes.now (value_contents x.0) x.1.now) }
+    ensures on_error { IfErr result (λ e. ValueError wire_type bytes.now e) }
 {
-    match wire {
+    match wire_type {
         WireType::Varint => {
             let (number, rest) = read_varint(bytes)?;
             Ok((Value::Number(number), rest))
@@ -128,8 +131,8 @@ pub(crate) fn read_value(wire: WireType, bytes: &[u8]) -> Result<(Value<'_>, &[u
 }
 
 fn skip_bytes(bytes: &[u8], count: usize) -> Result<&[u8], DecodeError>
-    ensures found { IfOk result (λ rest. FixedAt bytes.now count rest.now) }
-    ensures fault { IfErr result (λ e. FixedFault count bytes.now e) }
+    ensures on_ok { IfOk result (λ rest. FixedAt bytes.now count rest.now) }
+    ensures on_error { IfErr result (λ e. FixedError count bytes.now e) }
 {
     if bytes.len() < count {
         return Err(DecodeError::Truncated);

@@ -9,7 +9,8 @@ ghost use Rattle.perfdata_sections.specs.declared.error.Error.TheVariants.{Memor
 use crate::simpleperf::SimpleperfFileRecord;
 use perfdata_base::endian::read_u32;
 use perfdata_base::raw::Endianness;
-use perfdata_sections::error::{Error, unexpected_eof};
+use perfdata_base::source::unexpected_eof;
+use perfdata_sections::error::Error;
 use std::alloc::Global;
 
 /// A format of the records in chunks.
@@ -30,10 +31,10 @@ pub(crate) trait ChunkFormat {
     fn parse_record(
         alloc: Global,
         endian: Endianness,
-        piece: &[u8],
+        chunk: &[u8],
     ) -> Result<SimpleperfFileRecord, Error>
-        ensures found { IfOk result (λ r. decodes_to endian piece.now (record_value r)) }
-        ensures fault { IfErr result (λ e. (e ≡ Memory) ⊎ ((f : Self.FormatError) × is_invalid_for endian piece.now f × is_reported_by f e)) };
+        ensures on_ok { IfOk result (λ r. decodes_to endian chunk.now (record_value r)) }
+        ensures on_error { IfErr result (λ e. (e ≡ Memory) ⊎ ((f : Self.FormatError) × is_invalid_for endian chunk.now f × is_reported_by f e)) };
 }
 
 /// Splits the first chunk off a section, and returns its bytes after the length, and the rest of the section.
@@ -41,11 +42,11 @@ pub(crate) trait ChunkFormat {
 /// A chunk is a length of 4 bytes in byte order `endian` and that many bytes. Fails with an unexpected end of file if the
 /// length is truncated, and with `FeatureSectionTooSmall` if the chunk exceeds the section.
 pub(crate) fn split_chunk(endian: Endianness, bytes: &[u8]) -> Result<(&[u8], &[u8]), Error>
-    ensures found { IfOk result (λ x. ChunkAt endian bytes.now x.0.now x.1.now) }
-    ensures fault { IfErr result (λ e. IsChunkReadError endian bytes.now e) }
+    ensures on_ok { IfOk result (λ x. ChunkAt endian bytes.now x.0.now x.1.now) }
+    ensures on_error { IfErr result (λ e. IsChunkReadError endian bytes.now e) }
 {
     if bytes.len() < 4 {
-        return Err(unexpected_eof());
+        return Err(Error::from(unexpected_eof()));
     }
     let size = read_u32(endian, bytes) as usize;
     let (_, rest) = bytes.split_at(4);
@@ -61,21 +62,15 @@ pub(crate) fn parse_chunks<S: ChunkFormat>(
     bytes: &[u8],
     endian: Endianness,
 ) -> Result<Vec<SimpleperfFileRecord>, Error>
-    ensures found { IfOk result (λ v. AreChunks endian (S.decodes_to endian) bytes.now (map record_value v.items)) }
-    ensures fault { IfErr result (λ e. (e ≡ Memory) ⊎ ((f : ChunkError S.FormatError) × FirstChunkError endian (S.decodes_to endian) (S.is_invalid_for endian) bytes.now f × ReportsChunkError S.is_reported_by f e)) }
+    ensures on_ok { IfOk result (λ v. AreChunks endian (S.decodes_to endian) bytes.now (map record_value v.items)) }
+    ensures on_error { IfErr result (λ e. (e ≡ Memory) ⊎ ((f : ChunkError S.FormatError) × FirstChunkError endian (S.decodes_to endian) (S.is_invalid_for endian) bytes.now f × ReportsChunkError S.is_reported_by f e)) }
 {
     let mut records = Vec::new(alloc);
     let mut rest = bytes;
     'chunks: while !rest.is_empty() {
-        let (piece, after) = split_chunk(endian, rest)?;
-        let record = match S::parse_record(alloc, endian, piece) {
-            Ok(record) => record,
-            Err(error) => return Err(error),
-        };
-        match records.push(record) {
-            Ok(()) => {}
-            Err(_) => return Err(Error::Memory),
-        }
+        let (chunk, after) = split_chunk(endian, rest)?;
+        let record = S::parse_record(alloc, endian, chunk)?;
+        records.push(record)?;
         rest = after;
     }
     Ok(records)

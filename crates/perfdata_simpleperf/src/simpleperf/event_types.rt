@@ -14,14 +14,14 @@ const EVENT_TYPE_INFO: &str = "event_type_info";
 fn first_three(line: &str) -> Option<(&str, &str, &str)>
     ensures { IsFirstThree (λ s. s.now) (line_fields line.now) result }
 {
-    let mut parts = line.split(',');
-    let Some(first) = parts.next() else {
+    let mut fields = line.split(',');
+    let Some(first) = fields.next() else {
         return None;
     };
-    let Some(second) = parts.next() else {
+    let Some(second) = fields.next() else {
         return None;
     };
-    match parts.next() {
+    match fields.next() {
         Some(third) => Some((first, second, third)),
         None => None,
     }
@@ -47,15 +47,10 @@ fn parse_events(alloc: Global, text: &str) -> Result<Option<Vec<SimplePerfEventT
 {
     let mut events = Vec::new(alloc);
     'lines: for line in text.split('\n') {
-        let event = match parse_event(alloc, line) {
-            Ok(Some(event)) => event,
-            Ok(None) => return Ok(None),
-            Err(error) => return Err(error),
+        let Some(event) = parse_event(alloc, line)? else {
+            return Ok(None);
         };
-        match events.push(event) {
-            Ok(()) => {}
-            Err(_) => return Err(AllocError),
-        }
+        events.push(event)?;
     }
     Ok(Some(events))
 }

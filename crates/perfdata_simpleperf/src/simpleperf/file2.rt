@@ -3,7 +3,7 @@ ghost use Rattle.std.specs.Prelude.{◌≡◌, ◌⊎◌, List, IfOk, IfErr, IsE
 ghost use Rattle.perfdata_simpleperf.specs.File2.{IsFile2Of, File2Error, ReportsFile2Error, ReportsMessageError};
 ghost use Rattle.perfdata_simpleperf.specs.FileRecord.{FileValue, record_value};
 ghost use Rattle.perfdata_simpleperf.specs.Chunks.{ChunkError};
-ghost use Rattle.perfdata_simpleperf.specs.Protobuf.Messages.{FileFault};
+ghost use Rattle.perfdata_simpleperf.specs.Protobuf.Messages.{FileMessageError};
 ghost use Rattle.perfdata_simpleperf.specs.Protobuf.Values.{IsFileRecord};
 ghost use Rattle.perfdata_sections.specs.declared.error.Error.TheVariants.{Memory};
 ghost use Rattle.perfdata_sections.specs.declared.decode_error.DecodeError.{DecodeError};
@@ -23,7 +23,7 @@ impl ChunkFormat for ProtobufRecords {
 
     ghost decodes_to = { λ _. IsFileRecord };
 
-    ghost is_invalid_for = { λ _. FileFault };
+    ghost is_invalid_for = { λ _. FileMessageError };
 
     ghost is_reported_by = { ReportsMessageError };
 
@@ -35,7 +35,7 @@ impl ChunkFormat for ProtobufRecords {
         match SimpleperfFileRecord::decode(alloc, message) {
             Ok(record) => Ok(record),
             Err(DecodeError::Memory) => Err(Error::Memory),
-            Err(fault) => Err(Error::ProtobufParsingSimpleperfFileSection(fault)),
+            Err(error) => Err(Error::ProtobufParsingSimpleperfFileSection(error)),
         }
     }
 }
@@ -54,11 +54,11 @@ pub fn parse_file2_section(
     endian: Endianness,
 ) -> Result<Vec<SimpleperfFileRecord>, Error>
     // The records have the values of the section's messages.
-    ensures found { IfOk result (λ v. IsFile2Of endian bytes.now (map record_value v.items)) }
+    ensures on_ok { IfOk result (λ v. IsFile2Of endian bytes.now (map record_value v.items)) }
     // A valid section is parsed, unless memory runs out, and has no other values.
     ensures no_other { (vs : List FileValue) → IsFile2Of endian bytes.now vs → MatchResult result (λ v. map record_value v.items ≡ vs) (λ e. e ≡ Memory) }
     // Unless memory runs out, an error reports an error of the section with only valid messages before it.
-    ensures fault { IfErr result (λ e. (e ≡ Memory) ⊎ ((f : ChunkError DecodeError) × File2Error endian bytes.now f × ReportsFile2Error f e)) }
+    ensures on_error { IfErr result (λ e. (e ≡ Memory) ⊎ ((f : ChunkError DecodeError) × File2Error endian bytes.now f × ReportsFile2Error f e)) }
     // Such an error of the section is reported, unless memory runs out before it.
     ensures first_error { (f : ChunkError DecodeError) → File2Error endian bytes.now f → IsErrAnd result (λ e. (e ≡ Memory) ⊎ ReportsFile2Error f e) }
 {

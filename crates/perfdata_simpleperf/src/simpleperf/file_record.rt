@@ -1,8 +1,8 @@
 //! The record of a file with its symbols.
 ghost use Rattle.std.specs.Prelude.{◌≡◌, ◌⊎◌, List, IfOk, IfErr, IsErrAnd, MatchResult};
 ghost use Rattle.perfdata_simpleperf.specs.FileRecord.{FileValue, record_value};
-ghost use Rattle.perfdata_simpleperf.specs.Protobuf.Fields.{Part};
-ghost use Rattle.perfdata_simpleperf.specs.Protobuf.Messages.{IsFile, FileFault};
+ghost use Rattle.perfdata_simpleperf.specs.Protobuf.Fields.{FieldValue};
+ghost use Rattle.perfdata_simpleperf.specs.Protobuf.Messages.{IsFileMessage, FileMessageError};
 ghost use Rattle.perfdata_simpleperf.specs.Protobuf.Values.{HasValue, IsFileRecord};
 ghost use Rattle.perfdata_sections.specs.declared.decode_error.DecodeError.{DecodeError};
 ghost use Rattle.perfdata_sections.specs.declared.decode_error.DecodeError.TheVariants.{Memory};
@@ -77,15 +77,15 @@ impl SimpleperfFileRecord {
     /// Returns the first error in the message, from left to right, or `Memory` if out of memory.
     pub fn decode(alloc: Global, bytes: &[u8]) -> Result<Self, DecodeError>
         // The bytes are a valid message, and the record is its value.
-        ensures found { IfOk result (λ r. IsFileRecord bytes.now (record_value r)) }
+        ensures on_ok { IfOk result (λ r. IsFileRecord bytes.now (record_value r)) }
         // A valid message is decoded, unless memory runs out.
-        ensures message { (ps : List Part) → IsFile bytes.now ps → MatchResult result (λ r. HasValue ps (record_value r)) (λ e. e ≡ Memory) }
+        ensures message { (ps : List FieldValue) → IsFileMessage bytes.now ps → MatchResult result (λ r. HasValue ps (record_value r)) (λ e. e ≡ Memory) }
         // The message has no other value.
         ensures no_other { (v : FileValue) → IsFileRecord bytes.now v → MatchResult result (λ r. record_value r ≡ v) (λ e. e ≡ Memory) }
         // Unless memory runs out, an error is an error of the message with only complete fields before it.
-        ensures fault { IfErr result (λ e. (e ≡ Memory) ⊎ FileFault bytes.now e) }
+        ensures on_error { IfErr result (λ e. (e ≡ Memory) ⊎ FileMessageError bytes.now e) }
         // Such an error of the message is returned, unless memory runs out before it.
-        ensures first_error { (e : DecodeError) → FileFault bytes.now e → IsErrAnd result (λ f. (f ≡ Memory) ⊎ (f ≡ e)) }
+        ensures first_error { (e : DecodeError) → FileMessageError bytes.now e → IsErrAnd result (λ f. (f ≡ Memory) ⊎ (f ≡ e)) }
     {
         decode_file_record(alloc, bytes)
     }

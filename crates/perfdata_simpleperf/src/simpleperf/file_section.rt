@@ -20,8 +20,8 @@ use std::io::{self, ErrorKind};
 
 // Decodes the record at the start of `bytes` in byte order `endian`.
 fn decode_v1_in(alloc: Global, endian: Endianness, bytes: &[u8]) -> io::Result<SimpleperfFileRecord>
-    ensures found { IfOk result (λ r. IsV1 (number_in endian) bytes.now (record_value r)) }
-    ensures fault { IfErr result (λ e. (error_kind e ≡ OutOfMemory) ⊎ V1Error (number_in endian) bytes.now (error_kind e)) }
+    ensures on_ok { IfOk result (λ r. IsV1 (number_in endian) bytes.now (record_value r)) }
+    ensures on_error { IfErr result (λ e. (error_kind e ≡ OutOfMemory) ⊎ V1Error (number_in endian) bytes.now (error_kind e)) }
 {
     match endian {
         Endianness::LittleEndian => SimpleperfFileRecord::decode_v1::<LittleEndian>(alloc, bytes),
@@ -44,9 +44,9 @@ impl ChunkFormat for V1Records {
     fn parse_record(
         alloc: Global,
         endian: Endianness,
-        piece: &[u8],
+        chunk: &[u8],
     ) -> Result<SimpleperfFileRecord, Error> {
-        match decode_v1_in(alloc, endian, piece) {
+        match decode_v1_in(alloc, endian, chunk) {
             Ok(record) => Ok(record),
             Err(error) => match error.kind() {
                 ErrorKind::OutOfMemory => Err(Error::Memory),
@@ -70,11 +70,11 @@ pub fn parse_file_section(
     endian: Endianness,
 ) -> Result<Vec<SimpleperfFileRecord>, Error>
     // The records have the values of the section's records.
-    ensures found { IfOk result (λ v. IsFileSectionOf endian bytes.now (map record_value v.items)) }
+    ensures on_ok { IfOk result (λ v. IsFileSectionOf endian bytes.now (map record_value v.items)) }
     // A valid section is parsed, unless memory runs out, and has no other values.
     ensures no_other { (vs : List FileValue) → IsFileSectionOf endian bytes.now vs → MatchResult result (λ v. map record_value v.items ≡ vs) (λ e. e ≡ Memory) }
     // Unless memory runs out, an error reports an error of the section with only valid records before it.
-    ensures fault { IfErr result (λ e. (e ≡ Memory) ⊎ ((f : ChunkError ErrorKind) × FileSectionError endian bytes.now f × ReportsFileSectionError f e)) }
+    ensures on_error { IfErr result (λ e. (e ≡ Memory) ⊎ ((f : ChunkError ErrorKind) × FileSectionError endian bytes.now f × ReportsFileSectionError f e)) }
     // Such an error of the section is reported, unless memory runs out before it.
     ensures first_error { (f : ChunkError ErrorKind) → FileSectionError endian bytes.now f → IsErrAnd result (λ e. (e ≡ Memory) ⊎ ReportsFileSectionError f e) }
 {

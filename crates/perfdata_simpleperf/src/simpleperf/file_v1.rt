@@ -15,16 +15,17 @@ use crate::simpleperf::{
     SimpleperfSymbol, SimpleperfTypeSpecificInfo,
 };
 use byteorder::ByteOrder;
+use perfdata_base::source::unexpected_eof;
 use std::alloc::Global;
 use std::io::{Error, ErrorKind, Result};
 
 // Splits a number of 4 bytes off the start of `bytes`. Returns it with the rest.
 fn split_u32<T: ByteOrder>(bytes: &[u8]) -> Result<(u32, &[u8])>
-    ensures found { IfOk result (λ x. IntegerAt T.number_of 4 bytes.now x.0 x.1.now) }
-    ensures fault { IfErr result (λ e. IntegerError T.number_of 4 bytes.now (error_kind e)) }
+    ensures on_ok { IfOk result (λ x. IntegerAt T.number_of 4 bytes.now x.0 x.1.now) }
+    ensures on_error { IfErr result (λ e. IntegerError T.number_of 4 bytes.now (error_kind e)) }
 {
     if bytes.len() < 4 {
-        return Err(Error::from(ErrorKind::UnexpectedEof));
+        return Err(unexpected_eof());
     }
     let (_, rest) = bytes.split_at(4);
     Ok((T::read_u32(bytes), rest))
@@ -32,11 +33,11 @@ fn split_u32<T: ByteOrder>(bytes: &[u8]) -> Result<(u32, &[u8])>
 
 // Splits a number of 8 bytes off the start of `bytes`. Returns it with the rest.
 fn split_u64<T: ByteOrder>(bytes: &[u8]) -> Result<(u64, &[u8])>
-    ensures found { IfOk result (λ x. IntegerAt T.number_of 8 bytes.now x.0 x.1.now) }
-    ensures fault { IfErr result (λ e. IntegerError T.number_of 8 bytes.now (error_kind e)) }
+    ensures on_ok { IfOk result (λ x. IntegerAt T.number_of 8 bytes.now x.0 x.1.now) }
+    ensures on_error { IfErr result (λ e. IntegerError T.number_of 8 bytes.now (error_kind e)) }
 {
     if bytes.len() < 8 {
-        return Err(Error::from(ErrorKind::UnexpectedEof));
+        return Err(unexpected_eof());
     }
     let (_, rest) = bytes.split_at(8);
     Ok((T::read_u64(bytes), rest))
@@ -44,8 +45,8 @@ fn split_u64<T: ByteOrder>(bytes: &[u8]) -> Result<(u64, &[u8])>
 
 // Splits a file type, which is at most `DSO_UNKNOWN_FILE`, off the start of `bytes`. Returns it with the rest.
 fn split_file_type<T: ByteOrder>(bytes: &[u8]) -> Result<(u32, &[u8])>
-    ensures found { IfOk result (λ x. BoundedAt T.number_of (λ _. 5) bytes.now x.0 x.1.now) }
-    ensures fault { IfErr result (λ e. BoundedError T.number_of (λ _. 5) bytes.now (error_kind e)) }
+    ensures on_ok { IfOk result (λ x. BoundedAt T.number_of (λ _. 5) bytes.now x.0 x.1.now) }
+    ensures on_error { IfErr result (λ e. BoundedError T.number_of (λ _. 5) bytes.now (error_kind e)) }
 {
     let (type_, rest) = split_u32::<T>(bytes)?;
     if type_ > DSO_UNKNOWN_FILE {
@@ -57,8 +58,8 @@ fn split_file_type<T: ByteOrder>(bytes: &[u8]) -> Result<(u32, &[u8])>
 // Splits a count of items off the start of `bytes`. Returns it with the rest. Each item has at least one byte: a count above
 // the number of bytes after it is invalid.
 fn split_count<T: ByteOrder>(bytes: &[u8]) -> Result<(u32, &[u8])>
-    ensures found { IfOk result (λ x. BoundedAt T.number_of length bytes.now x.0 x.1.now) }
-    ensures fault { IfErr result (λ e. BoundedError T.number_of length bytes.now (error_kind e)) }
+    ensures on_ok { IfOk result (λ x. BoundedAt T.number_of length bytes.now x.0 x.1.now) }
+    ensures on_error { IfErr result (λ e. BoundedError T.number_of length bytes.now (error_kind e)) }
 {
     let (count, rest) = split_u32::<T>(bytes)?;
     if count as usize > rest.len() {
@@ -69,19 +70,14 @@ fn split_count<T: ByteOrder>(bytes: &[u8]) -> Result<(u32, &[u8])>
 
 // Splits a symbol off the start of `bytes`. Returns it with the rest.
 fn split_symbol<T: ByteOrder>(alloc: Global, bytes: &[u8]) -> Result<(SimpleperfSymbol, &[u8])>
-    ensures found { IfOk result (λ x. SymbolAt T.number_of bytes.now (symbol_value x.0) x.1.now) }
-    ensures fault { IfErr result (λ e. (error_kind e ≡ OutOfMemory) ⊎ SymbolError T.number_of bytes.now (error_kind e)) }
+    ensures on_ok { IfOk result (λ x. SymbolAt T.number_of bytes.now (symbol_value x.0) x.1.now) }
+    ensures on_error { IfErr result (λ e. (error_kind e ≡ OutOfMemory) ⊎ SymbolError T.number_of bytes.now (error_kind e)) }
 {
     let (vaddr, rest) = split_u64::<T>(bytes)?;
     let (len, rest) = split_u32::<T>(rest)?;
-    let (name, rest) = match split_nul_text(rest) {
-        Ok(split) => split,
-        Err(error) => return Err(error),
-    };
-    match String::from_str(alloc, name) {
-        Ok(name) => Ok((SimpleperfSymbol { vaddr, len, name }, rest)),
-        Err(_) => Err(Error::from(ErrorKind::OutOfMemory)),
-    }
+    let (text, rest) = split_nul_text(rest)?;
+    let name = String::from_str(alloc, text)?;
+    Ok((SimpleperfSymbol { vaddr, len, name }, rest))
 }
 
 // Splits a count and that many symbols off the start of `bytes`. Returns the symbols with the rest.
@@ -89,52 +85,40 @@ fn split_symbols<T: ByteOrder>(
     alloc: Global,
     bytes: &[u8],
 ) -> Result<(Vec<SimpleperfSymbol>, &[u8])>
-    ensures found { IfOk result (λ x. CountedAt T.number_of (SymbolAt T.number_of) bytes.now (map symbol_value x.0.items) x.1.now) }
-    ensures fault { IfErr result (λ e. (error_kind e ≡ OutOfMemory) ⊎ CountedError T.number_of (SymbolAt T.number_of) (SymbolError T.number_of) bytes.now (error_kind e)) }
+    ensures on_ok { IfOk result (λ x. CountedAt T.number_of (SymbolAt T.number_of) bytes.now (map symbol_value x.0.items) x.1.now) }
+    ensures on_error { IfErr result (λ e. (error_kind e ≡ OutOfMemory) ⊎ CountedError T.number_of (SymbolAt T.number_of) (SymbolError T.number_of) bytes.now (error_kind e)) }
 {
     let (count, start) = split_count::<T>(bytes)?;
     let mut symbols = Vec::new(alloc);
     let mut rest = start;
     'symbols: for _index in 0..count {
-        let (symbol, behind) = match split_symbol::<T>(alloc, rest) {
-            Ok(found) => found,
-            Err(error) => return Err(error),
-        };
-        match symbols.push(symbol) {
-            Ok(()) => {}
-            Err(_) => return Err(Error::from(ErrorKind::OutOfMemory)),
-        }
-        rest = behind;
+        let (symbol, after) = split_symbol::<T>(alloc, rest)?;
+        symbols.push(symbol)?;
+        rest = after;
     }
     Ok((symbols, rest))
 }
 
 // Splits a count and that many offsets off the start of `bytes`. Returns the offsets with the rest.
 fn split_offsets<T: ByteOrder>(alloc: Global, bytes: &[u8]) -> Result<(Vec<u64>, &[u8])>
-    ensures found { IfOk result (λ x. CountedAt T.number_of (IntegerAt T.number_of 8) bytes.now x.0.items x.1.now) }
-    ensures fault { IfErr result (λ e. (error_kind e ≡ OutOfMemory) ⊎ CountedError T.number_of (IntegerAt T.number_of 8) (IntegerError T.number_of 8) bytes.now (error_kind e)) }
+    ensures on_ok { IfOk result (λ x. CountedAt T.number_of (IntegerAt T.number_of 8) bytes.now x.0.items x.1.now) }
+    ensures on_error { IfErr result (λ e. (error_kind e ≡ OutOfMemory) ⊎ CountedError T.number_of (IntegerAt T.number_of 8) (IntegerError T.number_of 8) bytes.now (error_kind e)) }
 {
     let (count, start) = split_count::<T>(bytes)?;
     let mut offsets = Vec::new(alloc);
     let mut rest = start;
     'offsets: for _index in 0..count {
-        let (offset, behind) = match split_u64::<T>(rest) {
-            Ok(found) => found,
-            Err(error) => return Err(error),
-        };
-        match offsets.push(offset) {
-            Ok(()) => {}
-            Err(_) => return Err(Error::from(ErrorKind::OutOfMemory)),
-        }
-        rest = behind;
+        let (offset, after) = split_u64::<T>(rest)?;
+        offsets.push(offset)?;
+        rest = after;
     }
     Ok((offsets, rest))
 }
 
 // Splits an offset off the start of `bytes`. Returns it with the rest. If `bytes` is empty, the offset is `u64::MAX`.
 fn split_offset<T: ByteOrder>(bytes: &[u8]) -> Result<(u64, &[u8])>
-    ensures found { IfOk result (λ x. OffsetAt T.number_of bytes.now x.0 x.1.now) }
-    ensures fault { IfErr result (λ e. OffsetError T.number_of bytes.now (error_kind e)) }
+    ensures on_ok { IfOk result (λ x. OffsetAt T.number_of bytes.now x.0 x.1.now) }
+    ensures on_error { IfErr result (λ e. OffsetError T.number_of bytes.now (error_kind e)) }
 {
     if bytes.is_empty() {
         return Ok((u64::MAX, bytes));
@@ -148,8 +132,8 @@ fn split_info<T: ByteOrder>(
     type_: u32,
     bytes: &[u8],
 ) -> Result<(Option<SimpleperfTypeSpecificInfo>, &[u8])>
-    ensures found { IfOk result (λ x. InfoAt T.number_of type_ bytes.now (info_value x.0) x.1.now) }
-    ensures fault { IfErr result (λ e. (error_kind e ≡ OutOfMemory) ⊎ InfoError T.number_of type_ bytes.now (error_kind e)) }
+    ensures on_ok { IfOk result (λ x. InfoAt T.number_of type_ bytes.now (info_value x.0) x.1.now) }
+    ensures on_error { IfErr result (λ e. (error_kind e ≡ OutOfMemory) ⊎ InfoError T.number_of type_ bytes.now (error_kind e)) }
 {
     match type_ {
         DSO_DEX_FILE => {
@@ -179,50 +163,23 @@ fn split_info<T: ByteOrder>(
 }
 
 // Decodes the record at the start of `bytes`.
-fn split_v1_record<T: ByteOrder>(alloc: Global, bytes: &[u8]) -> Result<SimpleperfFileRecord>
-    ensures found { IfOk result (λ r. IsV1 T.number_of bytes.now (record_value r)) }
-    ensures fault { IfErr result (λ e. (error_kind e ≡ OutOfMemory) ⊎ V1Error T.number_of bytes.now (error_kind e)) }
-{
-    let (path, rest) = match split_nul_text(bytes) {
-        Ok(split) => split,
-        Err(error) => return Err(error),
-    };
-    let (type_, rest) = match split_file_type::<T>(rest) {
-        Ok(found) => found,
-        Err(error) => return Err(error),
-    };
-    let (min_vaddr, rest) = match split_u64::<T>(rest) {
-        Ok(found) => found,
-        Err(error) => return Err(error),
-    };
-    let (symbol, rest) = match split_symbols::<T>(alloc, rest) {
-        Ok(found) => found,
-        Err(error) => return Err(error),
-    };
-    let type_specific_msg = match split_info::<T>(alloc, type_, rest) {
-        Ok((info, _)) => info,
-        Err(error) => return Err(error),
-    };
-    match String::from_str(alloc, path) {
-        Ok(path) => Ok(SimpleperfFileRecord {
-            path,
-            type_,
-            min_vaddr,
-            symbol,
-            type_specific_msg,
-        }),
-        Err(_) => Err(Error::from(ErrorKind::OutOfMemory)),
-    }
-}
-
-// Decodes the record at the start of `bytes`. Its contract adds that the value is unique, and that the first error is returned.
 fn decode_v1_record<T: ByteOrder>(alloc: Global, bytes: &[u8]) -> Result<SimpleperfFileRecord>
-    ensures found { IfOk result (λ r. IsV1 T.number_of bytes.now (record_value r)) }
-    ensures no_other { (v : FileValue) → IsV1 T.number_of bytes.now v → MatchResult result (λ r. record_value r ≡ v) (λ e. error_kind e ≡ OutOfMemory) }
-    ensures fault { IfErr result (λ e. (error_kind e ≡ OutOfMemory) ⊎ V1Error T.number_of bytes.now (error_kind e)) }
-    ensures first_error { (k : ErrorKind) → V1Error T.number_of bytes.now k → IsErrAnd result (λ e. (error_kind e ≡ OutOfMemory) ⊎ (error_kind e ≡ k)) }
+    ensures on_ok { IfOk result (λ r. IsV1 T.number_of bytes.now (record_value r)) }
+    ensures on_error { IfErr result (λ e. (error_kind e ≡ OutOfMemory) ⊎ V1Error T.number_of bytes.now (error_kind e)) }
 {
-    split_v1_record::<T>(alloc, bytes)
+    let (text, rest) = split_nul_text(bytes)?;
+    let (type_, rest) = split_file_type::<T>(rest)?;
+    let (min_vaddr, rest) = split_u64::<T>(rest)?;
+    let (symbol, rest) = split_symbols::<T>(alloc, rest)?;
+    let (type_specific_msg, _) = split_info::<T>(alloc, type_, rest)?;
+    let path = String::from_str(alloc, text)?;
+    Ok(SimpleperfFileRecord {
+        path,
+        type_,
+        min_vaddr,
+        symbol,
+        type_specific_msg,
+    })
 }
 
 impl SimpleperfFileRecord {
@@ -238,11 +195,11 @@ impl SimpleperfFileRecord {
     /// out of memory.
     pub fn decode_v1<T: ByteOrder>(alloc: Global, bytes: &[u8]) -> Result<Self>
         // The bytes begin with a record of this value.
-        ensures found { IfOk result (λ r. IsV1 T.number_of bytes.now (record_value r)) }
+        ensures on_ok { IfOk result (λ r. IsV1 T.number_of bytes.now (record_value r)) }
         // A valid record is decoded, unless memory runs out, and has no other value.
         ensures no_other { (v : FileValue) → IsV1 T.number_of bytes.now v → MatchResult result (λ r. record_value r ≡ v) (λ e. error_kind e ≡ OutOfMemory) }
         // Unless memory runs out, the error has the kind of the error in the first invalid part.
-        ensures fault { IfErr result (λ e. (error_kind e ≡ OutOfMemory) ⊎ V1Error T.number_of bytes.now (error_kind e)) }
+        ensures on_error { IfErr result (λ e. (error_kind e ≡ OutOfMemory) ⊎ V1Error T.number_of bytes.now (error_kind e)) }
         // Such an error is returned, by its kind, unless memory runs out.
         ensures first_error { (k : ErrorKind) → V1Error T.number_of bytes.now k → IsErrAnd result (λ e. (error_kind e ≡ OutOfMemory) ⊎ (error_kind e ≡ k)) }
     {

@@ -14,7 +14,7 @@ fn split_first_segment(bytes: &[u8]) -> (&[u8], Option<&[u8]>)
     ensures { nul_segments bytes.now ≡ result.0.now ∷ remaining_segments result.1 }
 {
     match split_at_nul(bytes) {
-        Some((piece, rest)) => (piece, Some(rest)),
+        Some((segment, rest)) => (segment, Some(rest)),
         None => (bytes, None),
     }
 }
@@ -33,8 +33,8 @@ impl<'a> Iterator for Pairs<'a> {
     ghost remaining = { item_count remaining_pairs };
 
     fn next(&mut self) -> Option<(&'a [u8], &'a [u8])> {
-        let (key, behind) = split_first_segment(self.rest?);
-        let (value, rest) = split_first_segment(behind?);
+        let (key, after_key) = split_first_segment(self.rest?);
+        let (value, rest) = split_first_segment(after_key?);
         self.rest = rest;
         Some((key, value))
     }
@@ -51,10 +51,8 @@ fn insert_pair<'a>(
     let (Ok(key), Ok(value)) = (std::str::from_utf8(key), std::str::from_utf8(value)) else {
         return Err(Error::StringUtf8);
     };
-    match map.insert(key, value) {
-        Ok(_) => Ok(()),
-        Err(_) => Err(Error::Memory),
-    }
+    map.insert(key, value)?;
+    Ok(())
 }
 
 /// Parses the pairs of simpleperf's meta info (section SIMPLEPERF_META_INFO).
@@ -69,10 +67,7 @@ pub fn parse_meta_info_map(alloc: Global, bytes: &[u8]) -> Result<HashMap<&str, 
     let mut map = HashMap::new(alloc);
     let pairs = Pairs { rest: Some(bytes) };
     'pairs: for (key, value) in pairs {
-        match insert_pair(&mut map, key, value) {
-            Ok(()) => {}
-            Err(error) => return Err(error),
-        }
+        insert_pair(&mut map, key, value)?;
     }
     Ok(map)
 }

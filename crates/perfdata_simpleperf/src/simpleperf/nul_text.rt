@@ -1,10 +1,11 @@
 //! Reads NUL-terminated strings.
 ghost use Rattle.std.specs.Prelude.{ℕ, List, IfOk, IfErr, MatchOption};
 ghost use Rattle.std.specs.IoError.{error_kind};
-ghost use Rattle.perfdata_base.specs.Raw.{HasNoNul};
-ghost use Rattle.perfdata_simpleperf.specs.NulText.{SplitsAtNul, TextAt, TextError, ReadsNulText};
+ghost use Rattle.perfdata_base.specs.Raw.{HasNoNul, SplitsAtNul};
+ghost use Rattle.perfdata_simpleperf.specs.NulText.{TextAt, TextError, ReadsNulText};
 
 use memchr::memchr;
+use perfdata_base::source::unexpected_eof;
 use std::io::{Error, ErrorKind, Result};
 
 // Returns the bytes before the first NUL and the bytes after it, or `None` if there is no NUL.
@@ -12,18 +13,18 @@ pub(crate) fn split_at_nul(bytes: &[u8]) -> Option<(&[u8], &[u8])>
     ensures { MatchOption result (HasNoNul bytes.now) (λ x. SplitsAtNul bytes.now x.0.now x.1.now) }
 {
     match memchr(0, bytes) {
-        Some(place) => Some((&bytes[..place], &bytes[place + 1..])),
+        Some(nul_index) => Some((&bytes[..nul_index], &bytes[nul_index + 1..])),
         None => None,
     }
 }
 
 // Splits a NUL-terminated string off the start of `bytes`. Returns it without its NUL, and the bytes after the NUL.
 pub(crate) fn split_nul_text(bytes: &[u8]) -> Result<(&str, &[u8])>
-    ensures found { IfOk result (λ x. TextAt bytes.now x.0.now x.1.now) }
-    ensures fault { IfErr result (λ e. TextError bytes.now (error_kind e)) }
+    ensures on_ok { IfOk result (λ x. TextAt bytes.now x.0.now x.1.now) }
+    ensures on_error { IfErr result (λ e. TextError bytes.now (error_kind e)) }
 {
     let Some((text, rest)) = split_at_nul(bytes) else {
-        return Err(Error::from(ErrorKind::UnexpectedEof));
+        return Err(unexpected_eof());
     };
     match std::str::from_utf8(text) {
         Ok(text) => Ok((text, rest)),

@@ -11,19 +11,10 @@ use linux_perf_data::{
     DsoKey, HeaderAttr, HeaderFeature, RawUserRecord, UserRecord, UserRecordType,
 };
 use std::alloc::Global;
+use test_support::recordings::{JIT_DEBUG_INFO, header_attr_body};
 
 /// The path of a kernel module.
 const MODULE: &[u8] = b"/lib/modules/5.13.0-35-generic/kernel/sound/core/snd-seq-device.ko";
-
-/// An attribute whose samples contain only the time, with the ids 5 and 6.
-fn attr_bytes() -> [u8; 80] {
-    let mut bytes = [0; 80];
-    bytes[4] = 64;
-    bytes[24] = 4;
-    bytes[64] = 5;
-    bytes[72] = 6;
-    bytes
-}
 
 /// The feature 3 (a host name) with three bytes.
 const FEATURE: [u8; 11] = [3, 0, 0, 0, 0, 0, 0, 0, b'a', b'b', b'c'];
@@ -33,12 +24,6 @@ const BUILD_ID: [u8; 48] = [
     67, 0, 0, 0, 2, 0, 48, 0, 0xff, 0xff, 0xff, 0xff, 1, 2, 3, 4, 5, 6, 7, 8, 9, 10, 11, 12, 13,
     14, 15, 16, 17, 18, 19, 20, 0, 0, 0, 0, b'/', b'b', b'i', b'n', b'/', b's', b'h', 0, 0, 0, 0,
     0,
-];
-
-/// The address 16, and one entry: address 32, line 3, column 4, `a.js`.
-const DEBUG_INFO: [u8; 37] = [
-    16, 0, 0, 0, 0, 0, 0, 0, 1, 0, 0, 0, 0, 0, 0, 0, 32, 0, 0, 0, 0, 0, 0, 0, 3, 0, 0, 0, 4, 0, 0,
-    0, b'a', b'.', b'j', b's', 0,
 ];
 
 /// Detects the key of a kernel module's path.
@@ -58,15 +43,15 @@ pub fn as_slice(alloc: Global) -> ParserResult {
     }
 }
 
-/// Whether the attribute is that of `attr_bytes`.
+/// Whether the attribute is that of `header_attr_body`.
 fn is_attr(header: &HeaderAttr) -> bool {
-    let told = (header.attr.size, header.attr.sample_format.0);
-    (told, header.ids.as_slice()) == ((64, 4), &[5, 6])
+    let numbers = (header.attr.size, header.attr.sample_format.0);
+    (numbers, header.ids.as_slice()) == ((64, 4), &[5, 6])
 }
 
 /// Parses a HEADER_ATTR body.
 pub fn header_attr(alloc: Global) -> ParserResult {
-    match HeaderAttr::parse::<LittleEndian>(alloc, RawData::Single(&attr_bytes())) {
+    match HeaderAttr::parse::<LittleEndian>(alloc, RawData::Single(&header_attr_body())) {
         Ok(header) => Ok(is_attr(&header)),
         Err(error) => Err(io_error_name(&error)),
     }
@@ -82,7 +67,7 @@ pub fn header_feature(alloc: Global) -> ParserResult {
 
 /// Parses a record with the type of an attribute.
 pub fn user_record(alloc: Global) -> ParserResult {
-    let bytes = attr_bytes();
+    let bytes = header_attr_body();
     let raw = RawUserRecord {
         record_type: UserRecordType::PERF_HEADER_ATTR,
         endian: Endianness::LittleEndian,
@@ -100,23 +85,23 @@ pub fn user_record(alloc: Global) -> ParserResult {
 pub fn build_id(alloc: Global) -> ParserResult {
     match BuildIdEvent::parse::<_, LittleEndian>(alloc, &BUILD_ID[..]) {
         Ok(entry) => {
-            let told = (
+            let fields = (
                 entry._pid,
                 entry.build_id.as_slice(),
                 entry.file_path.as_slice(),
             );
-            Ok(told == (-1, &BUILD_ID[12..32], b"/bin/sh"))
+            Ok(fields == (-1, &BUILD_ID[12..32], b"/bin/sh"))
         }
         Err(error) => Err(io_error_name(&error)),
     }
 }
 
-/// Whether the entries are the one entry of `DEBUG_INFO`.
+/// Whether the entries are the one entry of `JIT_DEBUG_INFO`.
 fn is_entry(entries: &[JitCodeDebugInfoEntry<'_>]) -> bool {
     match entries {
         [entry] => {
-            let told = (entry.code_addr, entry.line, entry.column);
-            (told, entry.file_path) == ((32, 3, 4), RawData::Single(b"a.js"))
+            let numbers = (entry.code_addr, entry.line, entry.column);
+            (numbers, entry.file_path) == ((32, 3, 4), RawData::Single(b"a.js"))
         }
         _ => false,
     }
@@ -124,7 +109,7 @@ fn is_entry(entries: &[JitCodeDebugInfoEntry<'_>]) -> bool {
 
 /// Parses the debug info of a jitdump function.
 pub fn debug_info(alloc: Global) -> ParserResult {
-    let body = RawData::Single(&DEBUG_INFO);
+    let body = RawData::Single(&JIT_DEBUG_INFO);
     match JitCodeDebugInfoRecord::parse(alloc, Endianness::LittleEndian, body) {
         Ok(info) => Ok(info.code_addr == 16 && is_entry(&info.entries)),
         Err(error) => Err(io_error_name(&error)),

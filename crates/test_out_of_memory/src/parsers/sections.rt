@@ -10,6 +10,7 @@ use linux_perf_data::{AttributeDescription, Error};
 use std::alloc::Global;
 use std::collections::HashMap;
 use std::io::Cursor;
+use test_support::recordings::event_desc_section;
 
 /// The PMU mappings 1, `software`, and 4, `cpu`.
 const PMU_SECTION: [u8; 31] = [
@@ -29,20 +30,6 @@ fn event_types_entry() -> [u8; 88] {
     bytes
 }
 
-/// EVENT_DESC with one event: its attribute has 64 bytes, its id is 5, and its name is `c`.
-fn event_desc_entry() -> [u8; 90] {
-    let mut bytes = [0; 90];
-    bytes[0] = 1;
-    bytes[4] = 64;
-    bytes[12] = 64;
-    bytes[32] = 4;
-    bytes[72] = 1;
-    bytes[76] = 2;
-    bytes[80] = b'c';
-    bytes[82] = 5;
-    bytes
-}
-
 /// The section of the entry.
 const SECTION: PerfFileSection = PerfFileSection {
     offset: 0,
@@ -51,16 +38,16 @@ const SECTION: PerfFileSection = PerfFileSection {
 
 /// Whether the result is one attribute of 64 bytes whose samples contain the time, with this name and these ids.
 fn is_single_attr(
-    answer: Result<Vec<AttributeDescription>, Error>,
+    parsed: Result<Vec<AttributeDescription>, Error>,
     name: Option<&str>,
     ids: &[u64],
 ) -> ParserResult {
-    match answer {
+    match parsed {
         Ok(all) => match all.as_slice() {
             [one] => {
                 let attr = one.attributes();
-                let told = (attr.size, attr.sample_format.0);
-                Ok((told, one.name(), one.ids()) == ((64, 4), name, ids))
+                let numbers = (attr.size, attr.sample_format.0);
+                Ok((numbers, one.name(), one.ids()) == ((64, 4), name, ids))
             }
             _ => Ok(false),
         },
@@ -76,7 +63,7 @@ pub fn string(alloc: Global) -> ParserResult {
     }
 }
 
-/// Whether the unit with this number has this name.
+/// Whether the mapping with this number has this name.
 fn has_mapping(units: &PmuMappings, number: u32, wanted: &str) -> bool {
     match units.0.get(&number) {
         Some(name) => name.as_str() == wanted,
@@ -104,7 +91,7 @@ pub fn attr_section(alloc: Global) -> ParserResult {
 
 /// Parses EVENT_DESC: attributes with ids and names.
 pub fn event_desc(alloc: Global) -> ParserResult {
-    let bytes = event_desc_entry();
+    let bytes = event_desc_section();
     let cursor = Cursor::new(&bytes[..]);
     let read = AttributeDescription::parse_event_desc_section::<_, LittleEndian>(alloc, cursor);
     is_single_attr(read, Some("c"), &[5])

@@ -7,12 +7,7 @@ use linux_perf_data::raw::Endianness;
 use linux_perf_data::simpleperf::{parse_file_section, parse_file2_section, parse_meta_info_map};
 use linux_perf_data::{Error, SimpleperfFileRecord, SimpleperfSymbol, SimpleperfTypeSpecificInfo};
 use std::alloc::Global;
-
-/// A length, and a message with the path `a`, type 2, address 128 and the DEX offsets 1, 2 and 3.
-const MESSAGE: [u8; 24] = [
-    20, 0, 0, 0, 0x0a, 1, b'a', 0x10, 2, 0x18, 0x80, 1, 0x40, 5, 0x2a, 4, 0x0a, 2, 1, 2, 0x2a, 2,
-    8, 3,
-];
+use test_support::recordings::SYMBOLS_FILE2;
 
 /// A length, and a version 1 record with the path `a`, type 3, address 16, the symbol `c` at 2 of length 3, and the DEX offset 4.
 const V1_RECORD: [u8; 48] = [
@@ -30,10 +25,10 @@ fn has_offsets(info: &Option<SimpleperfTypeSpecificInfo>, wanted: &[u64]) -> boo
     }
 }
 
-/// Whether the record is that of `MESSAGE`.
+/// Whether the record is that of `SYMBOLS_FILE2`.
 fn is_message(record: &SimpleperfFileRecord) -> bool {
-    let told = (record.path.as_str(), record.type_, record.min_vaddr);
-    told == ("a", 2, 128)
+    let fields = (record.path.as_str(), record.type_, record.min_vaddr);
+    fields == ("a", 2, 128)
         && record.symbol.is_empty()
         && has_offsets(&record.type_specific_msg, &[1, 2, 3])
 }
@@ -48,15 +43,15 @@ fn is_symbol(symbols: &[SimpleperfSymbol]) -> bool {
 
 /// Whether the record is that of `V1_RECORD`.
 fn is_v1_record(record: &SimpleperfFileRecord) -> bool {
-    let told = (record.path.as_str(), record.type_, record.min_vaddr);
-    told == ("a", 3, 16)
+    let fields = (record.path.as_str(), record.type_, record.min_vaddr);
+    fields == ("a", 3, 16)
         && is_symbol(&record.symbol)
         && has_offsets(&record.type_specific_msg, &[4])
 }
 
 /// Decodes a message.
 pub fn decode(alloc: Global) -> ParserResult {
-    match SimpleperfFileRecord::decode(alloc, &MESSAGE[4..]) {
+    match SimpleperfFileRecord::decode(alloc, &SYMBOLS_FILE2[4..]) {
         Ok(record) => Ok(is_message(&record)),
         Err(error) => Err(decode_error_name(&error)),
     }
@@ -83,7 +78,7 @@ pub fn file_section(alloc: Global) -> ParserResult {
 
 /// Parses a section of messages.
 pub fn file2_section(alloc: Global) -> ParserResult {
-    match parse_file2_section(alloc, &MESSAGE, Endianness::LittleEndian) {
+    match parse_file2_section(alloc, &SYMBOLS_FILE2, Endianness::LittleEndian) {
         Ok(records) => match records.as_slice() {
             [record] => Ok(is_message(record)),
             _ => Ok(false),

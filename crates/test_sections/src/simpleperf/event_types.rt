@@ -1,12 +1,12 @@
 //! The event types of meta info, line by line.
-use crate::compare::{check_at, same_at};
+use crate::expect::{expect_at, expect_eq_at};
 use perfdata_parts::simpleperf::{SimplePerfEventType, get_event_types};
 use std::alloc::{AllocError, Global};
 use std::collections::{HashMap, TryReserveError};
 use std::test::Fail;
 
 // The event types of meta info with this text at a key, and an empty text at another key.
-fn events_of(
+fn event_types_in(
     alloc: Global,
     key: &'static str,
     text: &'static str,
@@ -18,7 +18,7 @@ fn events_of(
 }
 
 // The number of events, and whether they equal the expected ones up to the shorter length.
-fn compare(
+fn matches_expected(
     events: &Option<Vec<SimplePerfEventType>>,
     expected: &[(&str, u64, u64)],
 ) -> Option<(usize, bool)> {
@@ -35,7 +35,7 @@ fn compare(
 }
 
 #[test]
-fn tells_the_events_of_the_lines(rt: HostRuntime) -> Result<(), Fail> {
+fn parses_event_lines(rt: HostRuntime) -> Result<(), Fail> {
     for (text, expected) in [
         (
             "cpu-clock,1,0\nsched:sched_switch,2,45",
@@ -44,15 +44,15 @@ fn tells_the_events_of_the_lines(rt: HostRuntime) -> Result<(), Fail> {
         ("a,0,+2", &[("a", 0, 2)]),
         (",+18446744073709551615,007,x,", &[("", u64::MAX, 7)]),
     ] {
-        let found = events_of(rt.alloc(), "event_type_info", text)?;
+        let found = event_types_in(rt.alloc(), "event_type_info", text)?;
         let wanted = Some((expected.len(), true));
-        same_at(&rt, &text, &compare(&found, expected), &wanted);
+        expect_eq_at(&rt, &text, &matches_expected(&found, expected), &wanted);
     }
     Ok(())
 }
 
 #[test]
-fn tells_none_where_a_line_lacks_a_part(rt: HostRuntime) -> Result<(), Fail> {
+fn malformed_line_is_none(rt: HostRuntime) -> Result<(), Fail> {
     for (key, text) in [
         (
             "event_type_info",
@@ -68,8 +68,8 @@ fn tells_none_where_a_line_lacks_a_part(rt: HostRuntime) -> Result<(), Fail> {
         ("event_type_info", ""),
         ("Event_type_info", "a,0,2"),
     ] {
-        let found = events_of(rt.alloc(), key, text)?;
-        check_at(&rt, &text, found.is_none());
+        let found = event_types_in(rt.alloc(), key, text)?;
+        expect_at(&rt, &text, found.is_none());
     }
     Ok(())
 }

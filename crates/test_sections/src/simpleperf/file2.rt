@@ -1,41 +1,41 @@
 //! Sections of protobuf messages, and their truncation.
-use super::sections::{answer_of, repeated};
-use crate::compare::{same, same_at};
+use super::section_result::{repeat_section, section_result};
+use crate::expect::{expect_eq, expect_eq_at};
 use perfdata_base::raw::Endianness;
 use perfdata_parts::decode_error::DecodeError;
 use perfdata_parts::simpleperf::parse_file2_section;
 use std::test::Fail;
-use test_support::error_key::{ErrorKey, SHORT};
+use test_support::error_key::{ErrorKey, UNEXPECTED_EOF};
 use test_support::recordings::SYMBOLS_FILE2;
 
 // A length and a message of 20 bytes.
-fn section(length: [u8; 4]) -> [u8; 24] {
+fn section_bytes(length: [u8; 4]) -> [u8; 24] {
     let mut bytes = SYMBOLS_FILE2;
     bytes[..4].copy_from_slice(&length);
     bytes
 }
 
 #[test]
-fn reads_each_message(rt: HostRuntime) -> Result<(), Fail> {
+fn parses_messages(rt: HostRuntime) -> Result<(), Fail> {
     for (length, endian) in [
         ([20, 0, 0, 0], Endianness::LittleEndian),
         ([0, 0, 0, 20], Endianness::BigEndian),
     ] {
         for count in 1..3usize {
-            let bytes = repeated(rt.alloc(), &section(length), count)?;
+            let bytes = repeat_section(rt.alloc(), &section_bytes(length), count)?;
             let read = parse_file2_section(rt.alloc(), &bytes, endian);
-            same(&rt, &answer_of(read, (2, 128)), &Ok((count, count)));
+            expect_eq(&rt, &section_result(read, (2, 128)), &Ok((count, count)));
         }
     }
     Ok(())
 }
 
 #[test]
-fn refuses_what_is_cut(rt: HostRuntime) {
+fn truncation_fails(rt: HostRuntime) {
     for (bytes, wanted) in [
-        (&[20, 0, 0][..], Err(SHORT)),
+        (&[20, 0, 0][..], Err(UNEXPECTED_EOF)),
         (
-            &section([21, 0, 0, 0]),
+            &section_bytes([21, 0, 0, 0]),
             Err(ErrorKey::FeatureSectionTooSmall),
         ),
         (
@@ -45,6 +45,6 @@ fn refuses_what_is_cut(rt: HostRuntime) {
         (&[], Ok((0, 0))),
     ] {
         let read = parse_file2_section(rt.alloc(), bytes, Endianness::LittleEndian);
-        same_at(&rt, &bytes, &answer_of(read, (2, 128)), &wanted);
+        expect_eq_at(&rt, &bytes, &section_result(read, (2, 128)), &wanted);
     }
 }

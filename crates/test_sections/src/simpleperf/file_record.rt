@@ -1,5 +1,5 @@
 //! Protobuf messages: their fields, the value of a field that counts, and each decode error.
-use crate::compare::{check, check_at, same, same_at};
+use crate::expect::{expect, expect_at, expect_eq, expect_eq_at};
 use perfdata_parts::decode_error::DecodeError;
 use perfdata_parts::simpleperf::{
     SimpleperfDexFileInfo, SimpleperfElfFileInfo, SimpleperfFileRecord, SimpleperfKernelModuleInfo,
@@ -7,12 +7,8 @@ use perfdata_parts::simpleperf::{
 };
 use std::alloc::{AllocError, Global};
 use std::test::Fail;
-use test_support::values::joined;
-
-// A path, a type, an address, an unknown field, and packed and single DEX offsets.
-const RECORD: [u8; 20] = [
-    0x0a, 1, b'a', 0x10, 2, 0x18, 0x80, 1, 0x40, 5, 0x2a, 4, 0x0a, 2, 1, 2, 0x2a, 2, 8, 3,
-];
+use test_support::recordings::SYMBOLS_FILE2;
+use test_support::values::concat;
 
 // The expected info.
 #[derive(Clone, Copy)]
@@ -24,7 +20,7 @@ enum Info<'a> {
 }
 
 // The record with this path, type, address and info, without symbols.
-fn record(
+fn expected_record(
     alloc: Global,
     numbers: (&str, u32, u64),
     info: Info<'_>,
@@ -59,7 +55,7 @@ fn record(
 }
 
 // Whether decoding the bytes returns this record.
-fn is_decoded(alloc: Global, bytes: &[u8], expected: &SimpleperfFileRecord) -> bool {
+fn decodes_to(alloc: Global, bytes: &[u8], expected: &SimpleperfFileRecord) -> bool {
     match SimpleperfFileRecord::decode(alloc, bytes) {
         Ok(record) => record == *expected,
         Err(_) => false,
@@ -67,27 +63,27 @@ fn is_decoded(alloc: Global, bytes: &[u8], expected: &SimpleperfFileRecord) -> b
 }
 
 // Whether decoding the bytes returns a record with these values and without symbols.
-fn decodes(
+fn decodes_without_symbols(
     alloc: Global,
     bytes: &[u8],
     numbers: (&str, u32, u64),
     info: Info<'_>,
 ) -> Result<bool, AllocError> {
-    let expected = record(alloc, numbers, info)?;
-    Ok(is_decoded(alloc, bytes, &expected))
+    let expected = expected_record(alloc, numbers, info)?;
+    Ok(decodes_to(alloc, bytes, &expected))
 }
 
 // The error of decoding the bytes.
-pub fn fault_of(alloc: Global, bytes: &[u8]) -> Option<DecodeError> {
+pub fn decode_error_of(alloc: Global, bytes: &[u8]) -> Option<DecodeError> {
     match SimpleperfFileRecord::decode(alloc, bytes) {
         Ok(_) => None,
-        Err(fault) => Some(fault),
+        Err(error) => Some(error),
     }
 }
 
 #[test]
 fn decodes_fields(rt: HostRuntime) -> Result<(), Fail> {
-    let longer = joined(rt.alloc(), &RECORD, &[0x32, 2, 8, 7])?;
+    let longer = concat(rt.alloc(), &SYMBOLS_FILE2[4..], &[0x32, 2, 8, 7])?;
     for (bytes, numbers, info) in [
         (&[][..], ("", 0, 0), Info::Nothing),
         (&[0x10, 1, 0x10, 2], ("", 2, 0), Info::Nothing),
@@ -96,18 +92,21 @@ fn decodes_fields(rt: HostRuntime) -> Result<(), Fail> {
             ("", 4294967295, 0),
             Info::Nothing,
         ),
-        (&RECORD, ("a", 2, 128), Info::Dex(&[1, 2, 3])),
+        (&SYMBOLS_FILE2[4..], ("a", 2, 128), Info::Dex(&[1, 2, 3])),
         (longer.as_slice(), ("a", 2, 128), Info::Elf(7)),
     ] {
-        let decoded = decodes(rt.alloc(), bytes, numbers, info)?;
-        check_at(&rt, &bytes, decoded);
+        let decoded = decodes_without_symbols(rt.alloc(), bytes, numbers, info)?;
+        expect_at(&rt, &bytes, decoded);
     }
     Ok(())
 }
 
 // A record that contains only these symbols.
-fn of_symbols(alloc: Global, symbols: &[(u64, u32, &str)]) -> Result<SimpleperfFileRecord, Fail> {
-    let mut record = record(alloc, ("", 0, 0), Info::Nothing)?;
+fn record_with_symbols(
+    alloc: Global,
+    symbols: &[(u64, u32, &str)],
+) -> Result<SimpleperfFileRecord, Fail> {
+    let mut record = expected_record(alloc, ("", 0, 0), Info::Nothing)?;
     for (vaddr, len, name) in symbols {
         let name = String::from_str(alloc, name)?;
         record.symbol.push(SimpleperfSymbol {
@@ -121,14 +120,14 @@ fn of_symbols(alloc: Global, symbols: &[(u64, u32, &str)]) -> Result<SimpleperfF
 
 #[test]
 fn decodes_symbols(rt: HostRuntime) -> Result<(), Fail> {
-    let expected = of_symbols(rt.alloc(), &[(16, 3, "b"), (0, 0, "")])?;
+    let expected = record_with_symbols(rt.alloc(), &[(16, 3, "b"), (0, 0, "")])?;
     let bytes = [0x22, 7, 8, 16, 0x10, 3, 0x1a, 1, b'b', 0x22, 0];
-    check(&rt, is_decoded(rt.alloc(), &bytes, &expected));
+    expect(&rt, decodes_to(rt.alloc(), &bytes, &expected));
     Ok(())
 }
 
 // The offsets in clones of the default infos.
-fn offsets_of_defaults() -> Result<(u64, u64), AllocError> {
+fn default_offsets() -> Result<(u64, u64), AllocError> {
     let module = SimpleperfKernelModuleInfo::default().clone()?;
     let elf = SimpleperfElfFileInfo::default().clone()?;
     Ok((
@@ -138,7 +137,7 @@ fn offsets_of_defaults() -> Result<(u64, u64), AllocError> {
 }
 
 #[test]
-fn merges_or_replaces_what_is_known_by_type(rt: HostRuntime) -> Result<(), Fail> {
+fn merges_or_replaces_info(rt: HostRuntime) -> Result<(), Fail> {
     for (bytes, info) in [
         (
             &[0x2a, 2, 8, 1, 0x32, 2, 8, 7, 0x2a, 2, 8, 3][..],
@@ -147,16 +146,16 @@ fn merges_or_replaces_what_is_known_by_type(rt: HostRuntime) -> Result<(), Fail>
         (&[0x2a, 2, 8, 1, 0x32, 2, 8, 7, 0x32, 0], Info::Elf(7)),
         (&[0x32, 2, 8, 7, 0x3a, 0], Info::Module),
     ] {
-        let decoded = decodes(rt.alloc(), bytes, ("", 0, 0), info)?;
-        check_at(&rt, &bytes, decoded);
+        let decoded = decodes_without_symbols(rt.alloc(), bytes, ("", 0, 0), info)?;
+        expect_at(&rt, &bytes, decoded);
     }
-    same(&rt, &offsets_of_defaults()?, &(0, 0));
+    expect_eq(&rt, &default_offsets()?, &(0, 0));
     Ok(())
 }
 
 #[test]
-fn answers_the_first_fault(rt: HostRuntime) {
-    for (bytes, fault) in [
+fn reports_the_first_error(rt: HostRuntime) {
+    for (bytes, error) in [
         (&[0x80][..], DecodeError::Truncated),
         (
             &[0xff, 0xff, 0xff, 0xff, 0xff, 0xff, 0xff, 0xff, 0xff, 2][..],
@@ -168,29 +167,43 @@ fn answers_the_first_fault(rt: HostRuntime) {
         (&[0x44][..], DecodeError::Group),
         (&[0x0a, 1, 0xff][..], DecodeError::Utf8),
     ] {
-        same_at(&rt, &bytes, &fault_of(rt.alloc(), bytes), &Some(fault));
+        expect_eq_at(
+            &rt,
+            &bytes,
+            &decode_error_of(rt.alloc(), bytes),
+            &Some(error),
+        );
     }
 }
 
 #[test]
-fn is_truncated_where_fields_are_cut(rt: HostRuntime) {
-    for held in 0..20usize {
-        let fault = match held {
+fn truncation_at_each_byte(rt: HostRuntime) {
+    let message = &SYMBOLS_FILE2[4..];
+    for len in 0..20usize {
+        let error = match len {
             0 | 3 | 5 | 8 | 10 | 16 => None,
             _ => Some(DecodeError::Truncated),
         };
-        same_at(&rt, &held, &fault_of(rt.alloc(), &RECORD[..held]), &fault);
+        expect_eq_at(
+            &rt,
+            &len,
+            &decode_error_of(rt.alloc(), &message[..len]),
+            &error,
+        );
     }
 }
 
 #[test]
-fn passes_over_a_hundred_groups(rt: HostRuntime) -> Result<(), Fail> {
-    let bytes = joined(rt.alloc(), &[0x43; 100], &[0x44; 100])?;
-    check(&rt, decodes(rt.alloc(), &bytes, ("", 0, 0), Info::Nothing)?);
-    let deeper = joined(rt.alloc(), &[0x43; 101], &[0x44; 101])?;
-    same(
+fn skips_100_nested_groups(rt: HostRuntime) -> Result<(), Fail> {
+    let bytes = concat(rt.alloc(), &[0x43; 100], &[0x44; 100])?;
+    expect(
         &rt,
-        &fault_of(rt.alloc(), &deeper),
+        decodes_without_symbols(rt.alloc(), &bytes, ("", 0, 0), Info::Nothing)?,
+    );
+    let deeper = concat(rt.alloc(), &[0x43; 101], &[0x44; 101])?;
+    expect_eq(
+        &rt,
+        &decode_error_of(rt.alloc(), &deeper),
         &Some(DecodeError::Depth),
     );
     Ok(())

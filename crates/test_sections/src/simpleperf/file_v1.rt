@@ -1,24 +1,27 @@
 //! Version 1 file records: each type, in both byte orders, and their errors.
-use crate::compare::{same, same_at};
+use crate::expect::{expect_eq, expect_eq_at};
 use byteorder::{BigEndian, LittleEndian};
 use perfdata_parts::simpleperf::{SimpleperfFileRecord, SimpleperfTypeSpecificInfo};
 use std::alloc::Global;
 use std::io::ErrorKind;
-use test_support::values::by_kind;
+use test_support::values::to_error_kind;
 
 // The path `a`, a type, address 16, and a count of symbols.
-fn head(type_: u8, count: u8) -> [u8; 18] {
+fn record_prefix(type_: u8, count: u8) -> [u8; 18] {
     [
         b'a', 0, type_, 0, 0, 0, 16, 0, 0, 0, 0, 0, 0, 0, count, 0, 0, 0,
     ]
 }
 
 // The type that the info belongs to and the info's number, if there is an info.
-type Offset = Option<(u32, u64)>;
+type InfoOffset = Option<(u32, u64)>;
 
 // The values of a record with the path `a`: its type, address, number of symbols, and the info's number.
-fn little(alloc: Global, bytes: &[u8]) -> Result<Option<(u32, u64, usize, Offset)>, ErrorKind> {
-    let record = by_kind(SimpleperfFileRecord::decode_v1::<LittleEndian>(alloc, bytes))?;
+fn parse_little_endian(
+    alloc: Global,
+    bytes: &[u8],
+) -> Result<Option<(u32, u64, usize, InfoOffset)>, ErrorKind> {
+    let record = to_error_kind(SimpleperfFileRecord::decode_v1::<LittleEndian>(alloc, bytes))?;
     if record.path.as_str() != "a" {
         return Ok(None);
     }
@@ -35,7 +38,7 @@ fn little(alloc: Global, bytes: &[u8]) -> Result<Option<(u32, u64, usize, Offset
 }
 
 #[test]
-fn takes_a_missing_offset_for_the_greatest(rt: HostRuntime) {
+fn missing_offset_is_max(rt: HostRuntime) {
     for (type_, wanted) in [
         (0u8, Ok(Some((0, 16, 0, None)))),
         (1, Ok(Some((1, 16, 0, Some((1, u64::MAX)))))),
@@ -44,7 +47,11 @@ fn takes_a_missing_offset_for_the_greatest(rt: HostRuntime) {
         (4, Ok(Some((4, 16, 0, None)))),
         (5, Ok(Some((5, 16, 0, None)))),
     ] {
-        same(&rt, &little(rt.alloc(), &head(type_, 0)), &wanted);
+        expect_eq(
+            &rt,
+            &parse_little_endian(rt.alloc(), &record_prefix(type_, 0)),
+            &wanted,
+        );
     }
 }
 
@@ -55,9 +62,9 @@ const DEX: [u8; 52] = [
 ];
 
 // Whether the parsed record is that of `DEX`.
-fn reads_dex(alloc: Global, bytes: &[u8]) -> Result<bool, ErrorKind> {
-    let record = by_kind(SimpleperfFileRecord::decode_v1::<BigEndian>(alloc, bytes))?;
-    let told = (record.path.as_str(), record.type_, record.min_vaddr);
+fn parses_dex(alloc: Global, bytes: &[u8]) -> Result<bool, ErrorKind> {
+    let record = to_error_kind(SimpleperfFileRecord::decode_v1::<BigEndian>(alloc, bytes))?;
+    let numbers = (record.path.as_str(), record.type_, record.min_vaddr);
     let is_symbol = match record.symbol.as_slice() {
         [symbol] => (symbol.vaddr, symbol.len, symbol.name.as_str()) == (2, 3, "c"),
         _ => false,
@@ -68,33 +75,38 @@ fn reads_dex(alloc: Global, bytes: &[u8]) -> Result<bool, ErrorKind> {
         }
         _ => false,
     };
-    Ok((told, is_symbol, are_offsets) == (("b", 3, 1), true, true))
+    Ok((numbers, is_symbol, are_offsets) == (("b", 3, 1), true, true))
 }
 
 #[test]
-fn reads_symbols_and_offsets(rt: HostRuntime) {
-    for held in 0..53usize {
+fn parses_symbols_and_offsets(rt: HostRuntime) {
+    for len in 0..53usize {
         // a count that exceeds the remaining bytes is an error before the truncation is
-        let wanted = match held {
+        let wanted = match len {
             52 => Ok(true),
             18 | 36 | 37 => Err(ErrorKind::InvalidData),
             _ => Err(ErrorKind::UnexpectedEof),
         };
-        same_at(&rt, &held, &reads_dex(rt.alloc(), &DEX[..held]), &wanted);
+        expect_eq_at(&rt, &len, &parses_dex(rt.alloc(), &DEX[..len]), &wanted);
     }
 }
 
 #[test]
-fn refuses_what_cannot_be(rt: HostRuntime) {
+fn invalid_records_fail(rt: HostRuntime) {
     let mut longer = [0; 19];
-    longer[..18].copy_from_slice(&head(2, 0));
+    longer[..18].copy_from_slice(&record_prefix(2, 0));
     for (bytes, kind) in [
         (&longer[..], ErrorKind::UnexpectedEof),
-        (&head(6, 0), ErrorKind::InvalidData),
-        (&head(2, 1), ErrorKind::InvalidData),
+        (&record_prefix(6, 0), ErrorKind::InvalidData),
+        (&record_prefix(2, 1), ErrorKind::InvalidData),
         (b"\xff\0\x02\0\0\0", ErrorKind::InvalidData),
         (b"a\0\x02\0\0\0", ErrorKind::UnexpectedEof),
     ] {
-        same_at(&rt, &bytes, &little(rt.alloc(), bytes).err(), &Some(kind));
+        expect_eq_at(
+            &rt,
+            &bytes,
+            &parse_little_endian(rt.alloc(), bytes).err(),
+            &Some(kind),
+        );
     }
 }

@@ -1,11 +1,15 @@
 //! Meta info: its key-value pairs, and strings that aren't UTF-8.
-use crate::compare::same_at;
+use crate::expect::expect_eq_at;
 use perfdata_parts::error::Error;
 use perfdata_parts::simpleperf::parse_meta_info_map;
 use std::alloc::Global;
 
 // The number of pairs and the value of a key, or whether the error is that a string isn't UTF-8.
-fn told<'a>(alloc: Global, bytes: &'a [u8], key: &str) -> Result<(usize, Option<&'a str>), bool> {
+fn map_summary<'a>(
+    alloc: Global,
+    bytes: &'a [u8],
+    key: &str,
+) -> Result<(usize, Option<&'a str>), bool> {
     match parse_meta_info_map(alloc, bytes) {
         Ok(map) => Ok((map.len(), map.get(key).copied())),
         Err(error) => Err(matches!(error, Error::StringUtf8)),
@@ -13,7 +17,7 @@ fn told<'a>(alloc: Global, bytes: &'a [u8], key: &str) -> Result<(usize, Option<
 }
 
 #[test]
-fn pairs_the_pieces_between_nuls(rt: HostRuntime) {
+fn pairs_nul_separated_strings(rt: HostRuntime) {
     for (bytes, key, wanted) in [
         (b"a\0b\0c".as_slice(), "a", (1usize, Some("b"))),
         (b"a\0b\0c\0", "c", (2, Some(""))),
@@ -24,13 +28,23 @@ fn pairs_the_pieces_between_nuls(rt: HostRuntime) {
         (b"", "a", (0, None)),
         (b"a", "a", (0, None)),
     ] {
-        same_at(&rt, &bytes, &told(rt.alloc(), bytes, key), &Ok(wanted));
+        expect_eq_at(
+            &rt,
+            &bytes,
+            &map_summary(rt.alloc(), bytes, key),
+            &Ok(wanted),
+        );
     }
 }
 
 #[test]
-fn refuses_other_texts(rt: HostRuntime) {
+fn invalid_utf8_fails(rt: HostRuntime) {
     for bytes in [b"\xff\0b\0c".as_slice(), b"a\0\xff\0c", b"a\0b\0c\0\xff"] {
-        same_at(&rt, &bytes, &told(rt.alloc(), bytes, "a"), &Err(true));
+        expect_eq_at(
+            &rt,
+            &bytes,
+            &map_summary(rt.alloc(), bytes, "a"),
+            &Err(true),
+        );
     }
 }

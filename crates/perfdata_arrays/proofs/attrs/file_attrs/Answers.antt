@@ -23,5 +23,5 @@ pub returns-in-Err : goal.returns-in-Err
 returns-in-Err c =
     let bytes = c.args.bytes.now in
     let same : state c.new.result ≡ memory_source_at bytes 0 = λ i. memory_source_at (c.new.ensures.inner i).now (c.new.ensures.position i) in
-    let refused = subst (λ s. FileParseError s c.in-Err.error) same c.in-Err.ensures.parses in
-    file_attrs_error bytes c.args.entries.now c.args.names.now c.args.ids.now c.no_attrs.result c.in-Err.error c.status_of_error.result c.no_attrs.ensures c.status_of_error.ensures (file_open_error bytes (memory_source_at bytes 0) refl refl refl c.in-Err.error refused)
+    let error = subst (λ s. FileParseError s c.in-Err.error) same c.in-Err.ensures.parses in
+    file_attrs_error bytes c.args.entries.now c.args.names.now c.args.ids.now c.no_attrs.result c.in-Err.error c.status_of_error.result c.no_attrs.ensures c.status_of_error.ensures (file_open_error bytes (memory_source_at bytes 0) refl refl refl c.in-Err.error error)

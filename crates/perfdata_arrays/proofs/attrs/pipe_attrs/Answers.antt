@@ -15,8 +15,8 @@ pub returns-in-Err : goal.returns-in-Err
 returns-in-Err c =
     let bytes = c.args.bytes.now in
     let same : state c.new.result ≡ memory_source_at bytes 0 = λ i. memory_source_at (c.new.ensures.inner i).now (c.new.ensures.position i) in
-    let refused = subst (λ s. PipeParseError state s c.in-Err.error) same c.in-Err.ensures.parses in
-    pipe_attrs_error bytes c.args.entries.now c.args.names.now c.args.ids.now c.no_attrs.result c.in-Err.error c.status_of_error.result c.no_attrs.ensures c.status_of_error.ensures (pipe_open_error bytes (memory_source_at bytes 0) refl refl state c.in-Err.error refused)
+    let error = subst (λ s. PipeParseError state s c.in-Err.error) same c.in-Err.ensures.parses in
+    pipe_attrs_error bytes c.args.entries.now c.args.names.now c.args.ids.now c.no_attrs.result c.in-Err.error c.status_of_error.result c.no_attrs.ensures c.status_of_error.ensures (pipe_open_error bytes (memory_source_at bytes 0) refl refl state c.in-Err.error error)
 
 pub walk-walked-requires-clause-not_failed : goal.walk-walked-requires-clause-not_failed
 walk-walked-requires-clause-not_failed c =
@@ -30,8 +30,8 @@ walk-walked-requires-clause-fits_if_running c =
     let bytes = c.args.bytes.now in
     let same : state c.new.result ≡ memory_source_at bytes 0 = λ i. memory_source_at (c.new.ensures.inner i).now (c.new.ensures.position i) in
     let o = subst (λ s. PipeParsed state s c.in-Ok.reader.perf_file c.in-Ok.reader.record_iter) same c.in-Ok.ensures.parses in
-    let near = c.byte_count-count.ensures.fits in
-    fits_at_zero bytes (memory_source_at bytes 0) refl refl state c.in-Ok.reader.perf_file c.in-Ok.reader.record_iter o (omega (arith, near))
+    let fits = c.byte_count-count.ensures.fits in
+    fits_at_zero bytes (memory_source_at bytes 0) refl refl state c.in-Ok.reader.perf_file c.in-Ok.reader.record_iter o (omega (arith, fits))
 
 pub returns : goal.returns
 returns c =

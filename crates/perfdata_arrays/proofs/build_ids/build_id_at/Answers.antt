@@ -11,20 +11,20 @@ pub returns : goal.returns
 returns c =
     let section = c.args.section.now in
     let at = c.args.offset in
-    let took = c.in-Ok.ensures in
-    let first : List ℕ = took.0 in
-    let behind = c.parse_entry.new.bytes.now in
-    let cut : drop at section ≡ first ++ behind = sym (take-drop-length at section) ∙ took.1 in
+    let parsed = c.in-Ok.ensures in
+    let entry_bytes : List ℕ = parsed.0 in
+    let rest = c.read_from_in.new.bytes.now in
+    let split : drop at section ≡ entry_bytes ++ rest = sym (take-drop-length at section) ∙ parsed.1 in
     let within = c.if-offset-byte_count.false in
     let all = c.byte_count.ensures.value in
-    let next : length section - length behind ≡ at + length first = omega (arith, ap length cut, length-append first behind, length-drop at section, within, all) in
+    let next : length section - length rest ≡ at + length entry_bytes = omega (arith, ap length split, length-append entry_bytes rest, length-drop at section, within, all) in
     let key = c.dso_kind.ensures ∙ ap dso_kind_number (c.in-Ok-detect.ensures ∙ (λ i. key_of (c.as_slice.ensures.value i) (c.from_misc-mode.ensures i))) in
     let process = to_z-of_z w32 c.in-Ok.entry._pid (search rules) in
     let id_held : vec_len c.in-Ok.entry.build_id ≡ length c.in-Ok.entry.build_id.items = search rules in
     let path_held : vec_len c.in-Ok.entry.file_path ≡ length c.in-Ok.entry.file_path.items = search rules in
     inl (
       refl,
-      has_build_id_at c.args.endian section at first behind (build_id_entry_of c.in-Ok.entry) _ cut took.2 (λ i. record {
+      has_build_id_at c.args.endian section at entry_bytes rest (build_id_entry_of c.in-Ok.entry) _ split parsed.2 (λ i. record {
         id_offset = at + 12;
         id_size = (c.len.ensures ∙ id_held) i;
         path_offset = at + 36;

@@ -21,5 +21,5 @@ pub returns-in-Err : goal.returns-in-Err
 returns-in-Err c =
     let bytes = c.args.bytes.now in
     let same : state c.new.result ≡ memory_source_at bytes 0 = λ i. memory_source_at (c.new.ensures.inner i).now (c.new.ensures.position i) in
-    let refused = subst (λ s. FileParseError s c.in-Err.error) same c.in-Err.ensures.parses in
-    file_feature_error bytes c.args.feature c.args.buf.now _ c.in-Err.error c.status_of_error-status.ensures refl refl (file_open_error bytes (memory_source_at bytes 0) refl refl refl c.in-Err.error refused)
+    let error = subst (λ s. FileParseError s c.in-Err.error) same c.in-Err.ensures.parses in
+    file_feature_error bytes c.args.feature c.args.buf.now _ c.in-Err.error c.status_of_error-status.ensures refl refl (file_open_error bytes (memory_source_at bytes 0) refl refl refl c.in-Err.error error)

@@ -6,14 +6,14 @@ use Rattle.perfdata_arrays.proofs.jit.jit_load.Goals as goal
 pub parse_load-requires-clause-in_bounds : goal.parse_load-requires-clause-in_bounds
 parse_load-requires-clause-in_bounds c =
     let found = subst (FindsRecord c.in-Ok.read.1 c.args.bytes.now c.args.offset) (c.in-Ok-Some.is ∙ ap Ok c.in-Ok-Some.field-0-is) c.record_at.ensures in
-    let within = found_in_bounds c.in-Ok.read.1 c.args.bytes.now c.args.offset c.in-Ok-Some.record found in
-    subst (λ n. n + c.in-Ok-Some.record.size ≤ length c.args.bytes.now) (sym within.0) within.2
+    let in_bounds = found_in_bounds c.in-Ok.read.1 c.args.bytes.now c.args.offset c.in-Ok-Some.record found in
+    subst (λ n. n + c.in-Ok-Some.record.size ≤ length c.args.bytes.now) (sym in_bounds.0) in_bounds.2
 
 pub returns-in-Err-parse_load : goal.returns-in-Err-parse_load
 returns-in-Err-parse_load c =
-    let order = c.in-Ok.read.1 in
+    let endian = c.in-Ok.read.1 in
     let bytes = c.args.bytes.now in
-    let found = subst (FindsRecord order bytes c.args.offset) (c.in-Ok-Some.is ∙ ap Ok c.in-Ok-Some.field-0-is) c.record_at.ensures in
-    let within = found_in_bounds order bytes c.args.offset c.in-Ok-Some.record found in
-    let why = subst (λ n. ParsesLoad order bytes n (Err c.in-Err-parse_load.status)) within.0 (subst (ParsesLoad order bytes c.in-Ok-Some.record.offset) c.in-Err-parse_load.is c.parse_load.ensures) in
-    inl (order, (c.in-Ok.read.0, c.in-Ok.ensures, inr (inr (inr (why, refl)))))
+    let found = subst (FindsRecord endian bytes c.args.offset) (c.in-Ok-Some.is ∙ ap Ok c.in-Ok-Some.field-0-is) c.record_at.ensures in
+    let in_bounds = found_in_bounds endian bytes c.args.offset c.in-Ok-Some.record found in
+    let error = subst (λ n. ParsesLoad endian bytes n (Err c.in-Err-parse_load.status)) in_bounds.0 (subst (ParsesLoad endian bytes c.in-Ok-Some.record.offset) c.in-Err-parse_load.is c.parse_load.ensures) in
+    inl (endian, (c.in-Ok.read.0, c.in-Ok.ensures, inr (inr (inr (error, refl)))))

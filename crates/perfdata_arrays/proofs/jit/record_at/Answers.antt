@@ -13,7 +13,7 @@ returns c =
     let there = c.if-size-rest.false in
     finds_whole c.args.endian bytes at c.read_u32-size.result c.read_u64.result c.read_u32.result
     (c.read_u32-size.ensures ∙ ap (number_in c.args.endian 4) (take-drop-length 4 part ∙ ap (drop 4) same))
-    c.if-size-lt-RECORD_HEADER_SIZE.false
+    c.if-size-lt-SIZE.false
     (omega (arith, there, ap length same, length-drop at bytes))
     (subst (λ n. at ≤ n) c.byte_count.ensures.value c.if-offset-byte_count.false)
     c.byte_count.ensures.fits

@@ -7,20 +7,20 @@ use Rattle.perfdata_arrays.proofs.OpeningSizes.{RemainingMetadata, remaining-sta
 use Rattle.perfdata_arrays.proofs.records.opening_size.Goals as goal
 
 pub records-init : goal.records-init
-records-init c = λ pieces rest b ends.
-    subst (RemainingMetadata c.args.order c.args.bytes.now rest) (sym c.max-at.ensures) (subst (λ n. RemainingMetadata c.args.order c.args.bytes.now rest (max n 16)) (sym (c.read_u64.ensures ∙ ap (number_in c.args.order 8) (take-drop-length 8 c.args.bytes.now))) (remaining-start c.args.order c.args.bytes.now pieces rest b))
+records-init c = λ metadata_records rest b ends.
+    subst (RemainingMetadata c.args.endian c.args.bytes.now rest) (sym c.max-offset.ensures) (subst (λ n. RemainingMetadata c.args.endian c.args.bytes.now rest (max n 16)) (sym (c.read_u64.ensures ∙ ap (number_in c.args.endian 8) (take-drop-length 8 c.args.bytes.now))) (remaining-start c.args.endian c.args.bytes.now metadata_records rest b))
 
 pub returns-then-size-eq0 : goal.returns-then-size-eq0
-returns-then-size-eq0 c = λ pieces rest b ends.
-    remaining-none c.args.order c.args.bytes.now rest c.records.at (c.records.invariant pieces rest b ends) (subst (IsMetadataSize c.args.order (drop c.records.at c.args.bytes.now)) c.if-size-eq0.true c.metadata_size-size.ensures.size)
+returns-then-size-eq0 c = λ metadata_records rest b ends.
+    remaining-none c.args.endian c.args.bytes.now rest c.records.offset (c.records.invariant metadata_records rest b ends) (subst (IsMetadataSize c.args.endian (drop c.records.offset c.args.bytes.now)) c.if-size-eq0.true c.metadata_size-size.ensures.size)
 
-pub overflow_add-at : goal.overflow_add-at
-overflow_add-at c =
-    let near = remaining-decreases c.args.order c.args.bytes.now c.records.at c.metadata_size-size.result c.metadata_size-size.ensures.size c.if-size-eq0.false in
-    let few = c.metadata_size-size.ensures.fits in
-    let most = c.metadata_size-size.ensures.below_u16_max in
-    omega (arith, near.1, few, most)
+pub overflow_add-offset : goal.overflow_add-offset
+overflow_add-offset c =
+    let decreases = remaining-decreases c.args.endian c.args.bytes.now c.records.offset c.metadata_size-size.result c.metadata_size-size.ensures.size c.if-size-eq0.false in
+    let fits = c.metadata_size-size.ensures.fits in
+    let below = c.metadata_size-size.ensures.below_u16_max in
+    omega (arith, decreases.1, fits, below)
 
 pub records-preserved : goal.records-preserved
-records-preserved c = λ pieces rest b ends.
-    remaining-next c.args.order c.args.bytes.now rest c.records.at c.metadata_size-size.result (c.records.invariant pieces rest b ends) ends c.metadata_size-size.ensures.size c.if-size-eq0.false
+records-preserved c = λ metadata_records rest b ends.
+    remaining-next c.args.endian c.args.bytes.now rest c.records.offset c.metadata_size-size.result (c.records.invariant metadata_records rest b ends) ends c.metadata_size-size.ensures.size c.if-size-eq0.false

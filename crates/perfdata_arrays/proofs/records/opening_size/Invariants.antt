@@ -5,7 +5,7 @@ use Rattle.perfdata_arrays.proofs.OpeningSizes.{RemainingMetadata}
 use Rattle.perfdata_arrays.proofs.records.opening_size.Given as goal
 
 abbrev pub invariant-records : goal.invariant-records
-invariant-records l = (pieces : List (List ℕ)) (rest : List ℕ) → BeginsPipe l.order pieces l.bytes rest → EndsMetadata l.order rest → RemainingMetadata l.order l.bytes rest l.at
+invariant-records l = (metadata_records : List (List ℕ)) (rest : List ℕ) → BeginsPipe l.endian metadata_records l.bytes rest → EndsMetadata l.endian rest → RemainingMetadata l.endian l.bytes rest l.offset
 
 abbrev pub decreases-records : goal.decreases-records
-decreases-records l = length l.bytes - l.at
+decreases-records l = length l.bytes - l.offset

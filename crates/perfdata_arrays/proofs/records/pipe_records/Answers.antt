@@ -12,29 +12,29 @@ state c = memory_source_at (cursor_inner c).now (cursor_position c)
 pub returns-in-Err : goal.returns-in-Err
 returns-in-Err c =
     let old = state c.new.result in
-    let told : old.bytes ≡ Some c.args.bytes.now = λ i. Some (drop (c.new.ensures.position i) (c.new.ensures.inner i).now) in
-    no_records_written c.args.bytes.now old told refl c.args.first c.args.entries.now c.in-Err.error _ refl c.status_of_error-status.ensures (pipe_open_error c.args.bytes.now old told refl state c.in-Err.error c.in-Err.ensures.parses)
+    let known : old.bytes ≡ Some c.args.bytes.now = λ i. Some (drop (c.new.ensures.position i) (c.new.ensures.inner i).now) in
+    no_records_written c.args.bytes.now old known refl c.args.start c.args.entries.now c.in-Err.error _ refl c.status_of_error-status.ensures (pipe_open_error c.args.bytes.now old known refl state c.in-Err.error c.in-Err.ensures.parses)
 
 pub walk-walked-requires-clause-not_failed : goal.walk-walked-requires-clause-not_failed
 walk-walked-requires-clause-not_failed c =
     let old = state c.new.result in
-    let told : old.bytes ≡ Some c.args.bytes.now = λ i. Some (drop (c.new.ensures.position i) (c.new.ensures.inner i).now) in
+    let known : old.bytes ≡ Some c.args.bytes.now = λ i. Some (drop (c.new.ensures.position i) (c.new.ensures.inner i).now) in
     let o = c.in-Ok.ensures.parses in
-    pipe_not_failed c.args.bytes.now old told refl state c.in-Ok.reader.perf_file c.in-Ok.reader.record_iter o
+    pipe_not_failed c.args.bytes.now old known refl state c.in-Ok.reader.perf_file c.in-Ok.reader.record_iter o
 
 pub walk-walked-requires-clause-fits_if_running : goal.walk-walked-requires-clause-fits_if_running
 walk-walked-requires-clause-fits_if_running c =
     let old = state c.new.result in
-    let told : old.bytes ≡ Some c.args.bytes.now = λ i. Some (drop (c.new.ensures.position i) (c.new.ensures.inner i).now) in
+    let known : old.bytes ≡ Some c.args.bytes.now = λ i. Some (drop (c.new.ensures.position i) (c.new.ensures.inner i).now) in
     let o = c.in-Ok.ensures.parses in
-    let opens = subst (λ e. IsOpeningSize e c.args.bytes.now c.opening_size-base.result) (c.endian.ensures ∙ sym o.same_endian) c.opening_size-base.ensures in
-    fits_in_pipe c.args.bytes.now old told refl state c.in-Ok.reader.perf_file c.in-Ok.reader.record_iter o c.opening_size-base.result opens (let n = c.byte_count-count.ensures.fits in omega (arith, n))
+    let opens = subst (λ e. IsOpeningSize e c.args.bytes.now c.opening_size-first_record_offset.result) (c.endian.ensures ∙ sym o.same_endian) c.opening_size-first_record_offset.ensures in
+    fits_in_pipe c.args.bytes.now old known refl state c.in-Ok.reader.perf_file c.in-Ok.reader.record_iter o c.opening_size-first_record_offset.result opens (let n = c.byte_count-count.ensures.fits in omega (arith, n))
 
 pub returns : goal.returns
 returns c =
     let old = state c.new.result in
-    let told : old.bytes ≡ Some c.args.bytes.now = λ i. Some (drop (c.new.ensures.position i) (c.new.ensures.inner i).now) in
+    let known : old.bytes ≡ Some c.args.bytes.now = λ i. Some (drop (c.new.ensures.position i) (c.new.ensures.inner i).now) in
     let o = c.in-Ok.ensures.parses in
-    let opens = subst (λ e. IsOpeningSize e c.args.bytes.now c.opening_size-base.result) (c.endian.ensures ∙ sym o.same_endian) c.opening_size-base.ensures in
-    reads_pipe_records c.args.bytes.now old told refl state c.in-Ok.reader.perf_file c.in-Ok.reader.record_iter o c.opening_size-base.result opens
-    c.args.first c.args.entries.now c.walk-walked.new.entries c.walk-walked.result c.walk-walked.new.iter c.walk-walked.new.file c.walk-walked.ensures _ refl c.walk_result_status.ensures
+    let opens = subst (λ e. IsOpeningSize e c.args.bytes.now c.opening_size-first_record_offset.result) (c.endian.ensures ∙ sym o.same_endian) c.opening_size-first_record_offset.ensures in
+    reads_pipe_records c.args.bytes.now old known refl state c.in-Ok.reader.perf_file c.in-Ok.reader.record_iter o c.opening_size-first_record_offset.result opens
+    c.args.start c.args.entries.now c.walk-walked.new.entries c.walk-walked.result c.walk-walked.new.iter c.walk-walked.new.file c.walk-walked.ensures _ refl c.walk_result_status.ensures

@@ -7,11 +7,11 @@ use Rattle.perfdata_arrays.proofs.records.walk.Given as goal
 
 abbrev pub invariant-records : goal.invariant-records
 invariant-records g l = record {
-  fits : l.iter.offset < 2 ^ 64;
-  few : l.records ≤ l.iter.offset;
-  told : (handed : List RecordView) × (l.records ≡ length handed)
-      × (l.entries ≡ with_prefix_from l.fn.first (record_entries_at l.fn.base handed) l.initial.entries)
-      × ReturnsRecords g.R.Source.state l.initial.iter l.initial.file handed l.iter l.file;
+  offset_in_range : l.iter.offset < 2 ^ 64;
+  count_below_offset : l.count ≤ l.iter.offset;
+  entries_written : (records : List RecordView) × (l.count ≡ length records)
+      × (l.entries ≡ with_prefix_from l.fn.start (record_entries_at l.fn.first_record_offset records) l.initial.entries)
+      × ReturnsRecords g.R.Source.state l.initial.iter l.initial.file records l.iter l.file;
 }
 
 abbrev pub decreases-records : goal.decreases-records

@@ -34,9 +34,9 @@ returns-then-repeats-eq-MAX_INTERRUPTED_RETRIES-clause-fills g c =
     let read = c.in-Err.ensures.reads asked in
     let same = c.read_front.auto.buf in
     let long = length-refilled c.loop-filled.filled c.loop-filled.buf c.read_front.new.buf within same in
-    let front = take c.loop-filled.filled c.loop-filled.buf in
+    let prefix = take c.loop-filled.filled c.loop-filled.buf in
     let short = length-take-le c.loop-filled.filled c.loop-filled.buf within in
-    (record { consumed_bytes = front; too_few = omega (arith, short, long); consumes = consumed_no_more _ _ _ _ before.gave read.0 }, failed_later _ _ _ _ before.gave read.1)
+    (record { consumed_bytes = prefix; too_few = omega (arith, short, long); consumes = consumed_no_more _ _ _ _ before.gave read.0 }, failed_later _ _ _ _ before.gave read.1)
 
 pub returns-in-Ok-eq0-clause-fills : goal.returns-in-Ok-eq0-clause-fills
 returns-in-Ok-eq0-clause-fills g c =
@@ -47,5 +47,5 @@ returns-in-Ok-eq0-clause-fills g c =
     let read = c.in-Ok-eq0.ensures.reads asked in
     let same = c.read_front.auto.buf in
     let long = length-refilled c.loop-filled.filled c.loop-filled.buf c.read_front.new.buf within same in
-    let front = take-put_mid_below c.loop-filled.filled (length c.loop-filled.buf - c.loop-filled.filled) c.loop-filled.buf c.read_front.new.buf c.loop-filled.filled (omega arith) within in
-    record { within = omega (arith, long); consumes = rw front (none_read _ _ _ _ _ _ c.in-Ok-eq0.field-0-test before.gave read.consumes); if_incomplete = λ _. consumed_none_later _ _ _ _ before.gave (read.if_empty c.in-Ok-eq0.field-0-test) }
+    let prefix = take-put_mid_below c.loop-filled.filled (length c.loop-filled.buf - c.loop-filled.filled) c.loop-filled.buf c.read_front.new.buf c.loop-filled.filled (omega arith) within in
+    record { within = omega (arith, long); consumes = rw prefix (none_read _ _ _ _ _ _ c.in-Ok-eq0.field-0-test before.gave read.consumes); if_incomplete = λ _. consumed_none_later _ _ _ _ before.gave (read.if_empty c.in-Ok-eq0.field-0-test) }

@@ -8,10 +8,10 @@ pub entries-preserved : goal.entries-preserved
 entries-preserved g c =
     let number = g.O.ByteOrder.number_of in
     let before = c.entries.invariant in
-    let pushed = c.in-Ok-push.ensures.items in
+    let pushed = c.in_ok-push.ensures.items in
     let rest = bytes_of c.read_entry.new.bytes in
     record {
-      exact_len = ap length pushed ∙ length-append c.entries.entries.items (c.in-Ok.entry ∷ []) ∙ ap (λ n. n + 1) before.exact_len;
+      exact_len = ap length pushed ∙ length-append c.entries.entries.items (c.in_ok-entry.entry ∷ []) ∙ ap (λ n. n + 1) before.exact_len;
       elements = subst (λ l. AreDebugEntries number (bytes_of c.args.bytes.now) l rest) (sym pushed)
-          (entries_more number (bytes_of c.args.bytes.now) (bytes_of c.entries.bytes) rest c.entries.entries.items c.in-Ok.entry before.elements c.in-Ok.ensures.value);
+          (entries_more number (bytes_of c.args.bytes.now) (bytes_of c.entries.bytes) rest c.entries.entries.items c.in_ok-entry.entry before.elements c.in_ok-entry.ensures.value);
     }

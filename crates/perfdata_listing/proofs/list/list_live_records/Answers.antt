@@ -1,6 +1,6 @@
 use Rattle.std.proofs.Common.{arith, Ok, subst, inl, inr}
 use Rattle.perfdata_listing.specs.Listing.{ListsNext}
-use Rattle.perfdata_listing.proofs.ListingLemmas.{listed_all, listed_held, so_far_kept, so_far_more, stops_listing}
+use Rattle.perfdata_listing.proofs.ListingLemmas.{listed_all, listed_until_flush_error, so_far_kept, so_far_more, records_listing_fails}
 use Rattle.perfdata_listing.proofs.list.list_live_records.Goals as goal
 
 pub records-preserved : goal.records-preserved
@@ -18,7 +18,7 @@ returns-in-Ok-false g c = listed_all g.R.Source.state _ _ _ c.requires.not_faile
 
 pub returns-in-Err-list_next_live : goal.returns-in-Err-list_next_live
 returns-in-Err-list_next_live g c =
-    inl (stops_listing g.R.Source.state _ _ _ c.list_next_live.new.iter c.list_next_live.new.file c.in-Err-list_next_live.cause c.requires.not_failed c.requires.matching_file (so_far_kept g.R.Source.state _ _ _ c.records.invariant.listed c.flush_before_blocking.ensures.keeps) c.in-Err-list_next_live.ensures)
+    inl (records_listing_fails g.R.Source.state _ _ _ c.list_next_live.new.iter c.list_next_live.new.file c.in-Err-list_next_live.cause c.requires.not_failed c.requires.matching_file (so_far_kept g.R.Source.state _ _ _ c.records.invariant.listed c.flush_before_blocking.ensures.keeps) c.in-Err-list_next_live.ensures)
 
 pub returns-in-Err : goal.returns-in-Err
-returns-in-Err g c = inr (tt, listed_held g.R.Source.state _ _ _ c.requires.not_failed c.records.invariant.listed c.in-Err.ensures.on_error c.in-Err.ensures.keeps)
+returns-in-Err g c = inr (tt, listed_until_flush_error g.R.Source.state _ _ _ c.requires.not_failed c.records.invariant.listed c.in-Err.ensures.on_error c.in-Err.ensures.keeps)

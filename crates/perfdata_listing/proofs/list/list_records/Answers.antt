@@ -1,6 +1,6 @@
 use Rattle.std.proofs.Common.{arith, Ok, subst}
 use Rattle.perfdata_listing.specs.Listing.{ListsNext}
-use Rattle.perfdata_listing.proofs.ListingLemmas.{listed_all, so_far_more, stops_listing}
+use Rattle.perfdata_listing.proofs.ListingLemmas.{listed_all, so_far_more, records_listing_fails}
 use Rattle.perfdata_listing.proofs.list.list_records.Goals as goal
 
 pub records-preserved : goal.records-preserved
@@ -17,4 +17,4 @@ pub returns-in-Ok-false : goal.returns-in-Ok-false
 returns-in-Ok-false g c = listed_all g.R.Source.state _ _ _ c.requires.not_failed c.records.invariant.listed (subst (λ b. ListsNext g.R.Source.state c.records.iter c.records.file (g.W.Write.contents c.records.out) (Ok b) (g.W.Write.contents c.list_next.new.out) c.list_next.new.iter c.list_next.new.file) c.in-Ok-false.field-0-test c.in-Ok-false.ensures)
 
 pub returns-in-Err : goal.returns-in-Err
-returns-in-Err g c = stops_listing g.R.Source.state _ _ _ c.list_next.new.iter c.list_next.new.file c.in-Err.cause c.requires.not_failed c.requires.matching_file c.records.invariant.listed c.in-Err.ensures
+returns-in-Err g c = records_listing_fails g.R.Source.state _ _ _ c.list_next.new.iter c.list_next.new.file c.in-Err.cause c.requires.not_failed c.requires.matching_file c.records.invariant.listed c.in-Err.ensures

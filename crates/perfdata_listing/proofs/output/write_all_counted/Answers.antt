@@ -5,12 +5,12 @@ use Rattle.std.specs.Io.KnownBytes.{Appends}
 use Rattle.std.proofs.KnownBytes.{Appends-trans}
 use Rattle.perfdata_listing.proofs.output.write_all_counted.Goals as goal
 
-pub pieces-preserved : goal.pieces-preserved
-pieces-preserved g c =
-    let done = c.pieces.total in
+pub writes-preserved : goal.writes-preserved
+writes-preserved g c =
+    let done = c.writes.total in
     let n = c.in-Ok.count in
     let xs = c.args.bytes.now in
-    let before = c.pieces.invariant in
+    let before = c.writes.invariant in
     let fits = c.in-Ok.ensures.bound in
     let most = length-take (length xs - done) (drop done xs) in
     let joined = ap (λ l. take done xs ++ l) (take-take n (length xs - done) (drop done xs) (omega arith)) ∙ sym (take-add done n xs) in

@@ -8,8 +8,8 @@ use Rattle.perfdata_records.proofs.dso_key.file_name.Goals as goal
 pub returns-in-Some : goal.returns-in-Some
 returns-in-Some c =
     let path = c.args.path.now in
-    let place = c.in-Some.place in
-    take_all (length path - (place + 1)) (drop (place + 1) path) (omega (arith, length-drop (place + 1) path))
+    let offset = c.in-Some.slash_offset in
+    take_all (length path - (offset + 1)) (drop (offset + 1) path) (omega (arith, length-drop (offset + 1) path))
     ∙ ap (after_offset path) (sym c.in-Some.is ∙ IsLastByte-value (is_byte 47) path c.memrchr.result c.memrchr.ensures)
 
 pub returns-in-None : goal.returns-in-None

@@ -9,16 +9,16 @@ pub returns-then-ne : goal.returns-then-ne
 returns-then-ne c = λ all.
     let P = λ (b : Attribute). id_parse_info_of b.attr ≡ id_parse_info_of (described_attribute c.args.first.now).attr in
     let own = c.new.ensures ∙ ap id_parse_info_of c.attributes-in-attributes.ensures in
-    let first = c.new-places.ensures ∙ ap id_parse_info_of c.attributes-2.ensures in
+    let first = c.new-id_parse_info.ensures ∙ ap id_parse_info_of c.attributes-2.ensures in
     let same = one_of_all P c.args.attributes.now c.attributes.attribute-index c.attribute-item.result c.attributes-test.true c.attribute-item.is all in
-    offsets_apart c.new.result c.new-places.result (sym c.ne.ensures ∙ c.if-ne.true) (own ∙ same ∙ sym first)
+    offsets_apart c.new.result c.new-id_parse_info.result (sym c.ne.ensures ∙ c.if-ne.true) (own ∙ same ∙ sym first)
 
 pub attributes-preserved : goal.attributes-preserved
 attributes-preserved c =
     let P = λ (b : Attribute). id_parse_info_of b.attr ≡ id_parse_info_of (described_attribute c.args.first.now).attr in
     let own = c.new.ensures ∙ ap id_parse_info_of c.attributes-in-attributes.ensures in
-    let first = c.new-places.ensures ∙ ap id_parse_info_of c.attributes-2.ensures in
-    let same = offsets_equal c.new.result c.new-places.result (sym c.ne.ensures ∙ c.if-ne.false) in
+    let first = c.new-id_parse_info.ensures ∙ ap id_parse_info_of c.attributes-2.ensures in
+    let same = offsets_equal c.new.result c.new-id_parse_info.result (sym c.ne.ensures ∙ c.if-ne.false) in
     all_more P c.args.attributes.now c.attributes.attribute-index c.attribute-item.result c.attributes-test.true c.attribute-item.is (sym own ∙ same ∙ first) c.attributes.invariant
 
 pub returns : goal.returns

@@ -7,5 +7,5 @@ abbrev pub invariant-sections : goal.invariant-sections
 invariant-sections g l = record {
   so : DataSoFar (feature_entries_of (take l.entry-index l.table)) (g.C.Source.state l.initial.source) l.sections (g.C.Source.state l.source);
   pauses : (g.C.Source.state l.source).pauses ≡ (g.C.Source.state l.initial.source).pauses;
-  lent : g.C.Source.loan l.source ≡ g.C.Source.loan l.initial.source;
+  same_loan : g.C.Source.loan l.source ≡ g.C.Source.loan l.initial.source;
 }

@@ -4,7 +4,7 @@ use Rattle.linux_perf_data.specs.FeatureData.{ReadsFeatureData, feature_entries_
 use Rattle.linux_perf_data.proofs.FeatureTables.{sections_read}
 use Rattle.linux_perf_data.proofs.file.feature_data.read_features.Goals as goal
 
-pub returns-in-Ok-read_section_table-clause-reads : goal.returns-in-Ok-read_section_table-clause-reads
-returns-in-Ok-read_section_table-clause-reads g c =
-    sections_read c.args.endian c.args.place (features_of c.args.features.now) _ _ _ _ (feature_entries_of c.in-Ok-read_section_table.table.items) c.read_feature_data.result c.in-Ok.ensures.seeks.1 c.in-Ok.ensures.seeks.0 c.in-Ok-read_section_table.ensures.reads
+pub returns-clause-reads : goal.returns-clause-reads
+returns-clause-reads g c =
+    sections_read c.args.endian c.args.offset (features_of c.args.features.now) _ _ _ _ (feature_entries_of c.in_ok-table.table.items) c.read_feature_data.result c.in_ok-seek_to_offset.ensures.seeks.1 c.in_ok-seek_to_offset.ensures.seeks.0 c.in_ok-table.ensures.reads
     (subst (λ t. ReadsFeatureData (feature_entries_of t) (g.C.Source.state c.read_section_table.new.source) c.read_feature_data.result (g.C.Source.state c.read_feature_data.new.source)) c.deref.ensures.value c.read_feature_data.ensures.reads)

@@ -10,5 +10,5 @@ invariant-entries g l = record {
   ends : (goal.iterator-entries g).is_finite l.feature-iterator;
   so : SoFar l.endian (features_of l.features) (g.C.Source.state l.initial.source) (feature_entries_of l.table.items) (remaining_features l.feature-iterator) (g.C.Source.state l.source);
   pauses : (g.C.Source.state l.source).pauses ≡ (g.C.Source.state l.initial.source).pauses;
-  lent : g.C.Source.loan l.source ≡ g.C.Source.loan l.initial.source;
+  same_loan : g.C.Source.loan l.source ≡ g.C.Source.loan l.initial.source;
 }

@@ -3,7 +3,8 @@ use Rattle.std.proofs.lemmas.List.{with_items_is}
 use Rattle.perfdata_sections.specs.AttributeDescription.{ids_in, name_in}
 use Rattle.linux_perf_data.specs.Descriptions.{described_attributes}
 use Rattle.linux_perf_data.specs.NameTable.{name_from_table}
-use Rattle.linux_perf_data.specs.Names.{NamedBy, event_desc}
+use Rattle.linux_perf_data.specs.FeatureNumbers.{event_desc}
+use Rattle.linux_perf_data.specs.Names.{NamedBy}
 use Rattle.linux_perf_data.specs.PerfFile.{feature_data_in_file, descriptions_of_file}
 use Rattle.linux_perf_data.proofs.NameTables.{pushed_named, table_events, table_names, table_none, table_some}
 use Rattle.linux_perf_data.proofs.Naming.{named_by}

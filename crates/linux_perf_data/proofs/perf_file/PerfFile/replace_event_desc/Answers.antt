@@ -2,7 +2,8 @@ use Rattle.std.proofs.Common.{◌≡◌, ◌∙◌, ap, sym, subst, Some}
 use Rattle.std.proofs.lemmas.List.{with_items_is}
 use Rattle.linux_perf_data.specs.Descriptions.{described_attributes}
 use Rattle.linux_perf_data.specs.NameTable.{IsTableOf, name_from_table, names_from_table}
-use Rattle.linux_perf_data.specs.Names.{NamedBy, event_desc}
+use Rattle.linux_perf_data.specs.FeatureNumbers.{event_desc}
+use Rattle.linux_perf_data.specs.Names.{NamedBy}
 use Rattle.linux_perf_data.specs.PerfFile.{feature_data_in_file, descriptions_of_file}
 use Rattle.linux_perf_data.proofs.NameTables.{named_by_table, no_events, no_names, no_none, no_some, table_events, table_names, table_none, table_some}
 use Rattle.linux_perf_data.proofs.Naming.{named_by}
@@ -17,46 +18,46 @@ invariant_of-self c =
 pub invariant_of-self-2-clause-names_match_table : goal.invariant_of-self-2-clause-names_match_table
 invariant_of-self-2-clause-names_match_table c =
     let put = c.replace_feature.new.self in
-    let told = c.in-Ok.told in
+    let table = c.in_ok-table.table in
     let ds = descriptions_of_file c.args.self.now in
     let new = c.set_names.new.attributes in
-    let before : c.deref_mut.result.now ≡ ds = c.deref_mut.ensures.value ∙ c.in-Ok-replace_feature.ensures.1 in
+    let before : c.deref_mut.result.now ≡ ds = c.deref_mut.ensures.value ∙ c.in_ok-replace_feature.ensures.1 in
     let same : described_attributes new ≡ described_attributes ds = c.set_names.ensures.same ∙ ap described_attributes before in
-    let names = c.set_names.ensures.names ∙ (c.in-Ok-clone_names.ensures ∙ ap (names_from_table told) c.deref.ensures.value) in
+    let names = c.set_names.ensures.names ∙ (c.in_ok-names.ensures ∙ ap (names_from_table table) c.deref.ensures.value) in
     let items = with_items_is put.attributes new (c.set_names.auto.attributes ∙ c.deref_mut.ensures.len) in
-    table_names told _ (subst (NamedBy told.events.items) (sym items) (named_by (name_from_table told) ds new names same))
+    table_names table _ (subst (NamedBy table.events.items) (sym items) (named_by (name_from_table table) ds new names same))
 
 pub invariant_of-self-2-clause-empty_without_event_desc : goal.invariant_of-self-2-clause-empty_without_event_desc
 invariant_of-self-2-clause-empty_without_event_desc c =
     let put = c.replace_feature.new.self in
-    let own = subst (λ xs. IsTableOf c.in-Ok.told (Some xs)) c.as_slice.ensures.value c.in-Ok.ensures.1 in
-    table_none c.in-Ok.told (feature_data_in_file put event_desc) (subst (IsTableOf c.in-Ok.told) (sym (c.in-Ok-replace_feature.ensures.0.feature_data event_desc)) own)
+    let own = subst (λ xs. IsTableOf c.in_ok-table.table (Some xs)) c.as_slice.ensures.value c.in_ok-table.ensures.1 in
+    table_none c.in_ok-table.table (feature_data_in_file put event_desc) (subst (IsTableOf c.in_ok-table.table) (sym (c.in_ok-replace_feature.ensures.0.feature_data event_desc)) own)
 
 pub invariant_of-self-2-clause-table_readable : goal.invariant_of-self-2-clause-table_readable
 invariant_of-self-2-clause-table_readable c =
     let put = c.replace_feature.new.self in
-    let own = subst (λ xs. IsTableOf c.in-Ok.told (Some xs)) c.as_slice.ensures.value c.in-Ok.ensures.1 in
-    table_some c.in-Ok.told (feature_data_in_file put event_desc) (subst (IsTableOf c.in-Ok.told) (sym (c.in-Ok-replace_feature.ensures.0.feature_data event_desc)) own)
+    let own = subst (λ xs. IsTableOf c.in_ok-table.table (Some xs)) c.as_slice.ensures.value c.in_ok-table.ensures.1 in
+    table_some c.in_ok-table.table (feature_data_in_file put event_desc) (subst (IsTableOf c.in_ok-table.table) (sym (c.in_ok-replace_feature.ensures.0.feature_data event_desc)) own)
 
 pub invariant_of-self-2-clause-table_events_match : goal.invariant_of-self-2-clause-table_events_match
 invariant_of-self-2-clause-table_events_match c =
     let put = c.replace_feature.new.self in
-    let own = subst (λ xs. IsTableOf c.in-Ok.told (Some xs)) c.as_slice.ensures.value c.in-Ok.ensures.1 in
-    table_events c.in-Ok.told (feature_data_in_file put event_desc) (subst (IsTableOf c.in-Ok.told) (sym (c.in-Ok-replace_feature.ensures.0.feature_data event_desc)) own)
+    let own = subst (λ xs. IsTableOf c.in_ok-table.table (Some xs)) c.as_slice.ensures.value c.in_ok-table.ensures.1 in
+    table_events c.in_ok-table.table (feature_data_in_file put event_desc) (subst (IsTableOf c.in_ok-table.table) (sym (c.in_ok-replace_feature.ensures.0.feature_data event_desc)) own)
 
 pub returns : goal.returns
 returns c =
     let put = c.replace_feature.new.self in
-    let told = c.in-Ok.told in
+    let table = c.in_ok-table.table in
     let ds = descriptions_of_file c.args.self.now in
     let new = c.set_names.new.attributes in
-    let before : c.deref_mut.result.now ≡ ds = c.deref_mut.ensures.value ∙ c.in-Ok-replace_feature.ensures.1 in
+    let before : c.deref_mut.result.now ≡ ds = c.deref_mut.ensures.value ∙ c.in_ok-replace_feature.ensures.1 in
     let same : described_attributes new ≡ described_attributes ds = c.set_names.ensures.same ∙ ap described_attributes before in
-    let names = c.set_names.ensures.names ∙ (c.in-Ok-clone_names.ensures ∙ ap (names_from_table told) c.deref.ensures.value) in
+    let names = c.set_names.ensures.names ∙ (c.in_ok-names.ensures ∙ ap (names_from_table table) c.deref.ensures.value) in
     let items = with_items_is put.attributes new (c.set_names.auto.attributes ∙ c.deref_mut.ensures.len) in
-    let p = c.in-Ok-replace_feature.ensures.0 in
-    let own = subst (λ xs. IsTableOf told (Some xs)) c.as_slice.ensures.value c.in-Ok.ensures.1 in (
+    let p = c.in_ok-replace_feature.ensures.0 in
+    let own = subst (λ xs. IsTableOf table (Some xs)) c.as_slice.ensures.value c.in_ok-table.ensures.1 in (
       record { same_endian = p.same_endian; feature_data = p.feature_data; features = p.features },
       ap described_attributes items ∙ same,
-      named_by_table c.args.endian told (Some c.args.bytes.items) _ c.in-Ok.ensures.0 own (subst (NamedBy told.events.items) (sym items) (named_by (name_from_table told) ds new names same)),
+      named_by_table c.args.endian table (Some c.args.bytes.items) _ c.in_ok-table.ensures.0 own (subst (NamedBy table.events.items) (sym items) (named_by (name_from_table table) ds new names same)),
     )

@@ -4,7 +4,7 @@ use Rattle.linux_perf_data.specs.BuildIds.{BeginsWithEntries, MapsLastEntries}
 use Rattle.linux_perf_data.proofs.perf_file.build_ids.parse_build_ids.Given as goal
 
 abbrev pub invariant-entries : goal.invariant-entries
-invariant-entries l = (es : List BuildIdEntry) × BeginsWithEntries l.fn.endian l.fn.bytes es l.behind × MapsLastEntries l.ids es
+invariant-entries l = (es : List BuildIdEntry) × BeginsWithEntries l.fn.endian l.fn.bytes es l.rest × MapsLastEntries l.ids es
 
 abbrev pub decreases-entries : goal.decreases-entries
-decreases-entries l = length l.behind
+decreases-entries l = length l.rest

@@ -11,6 +11,6 @@ returns-in-Ok c = elim c.match-endian.branch [
 
 pub returns-in-Err : goal.returns-in-Err
 returns-in-Err c = elim c.match-endian.branch [
-  | in-LittleEndian w ↦ units_err LittleEndian c.args.endian w.in-LittleEndian.is c.args.bytes.now _ w.read_from-read.result c.match-endian.read c.in-Err.fault c.into_file_error.result w.read-is c.in-Err.is c.into_file_error.ensures w.read_from-read.ensures.reads
-  | in-BigEndian w ↦ units_err BigEndian c.args.endian w.in-BigEndian.is c.args.bytes.now _ w.read_from-read-in-BigEndian.result c.match-endian.read c.in-Err.fault c.into_file_error.result w.read-is c.in-Err.is c.into_file_error.ensures w.read_from-read-in-BigEndian.ensures.reads
+  | in-LittleEndian w ↦ units_err LittleEndian c.args.endian w.in-LittleEndian.is c.args.bytes.now _ w.read_from-read.result c.match-endian.read c.in-Err.error c.from.result w.read-is c.in-Err.is c.from.ensures w.read_from-read.ensures.reads
+  | in-BigEndian w ↦ units_err BigEndian c.args.endian w.in-BigEndian.is c.args.bytes.now _ w.read_from-read-in-BigEndian.result c.match-endian.read c.in-Err.error c.from.result w.read-is c.in-Err.is c.from.ensures w.read_from-read-in-BigEndian.ensures.reads
 ]

@@ -7,5 +7,5 @@ abbrev pub invariant-texts : goal.invariant-texts
 invariant-texts l = record {
   count : length l.texts.items ≡ l._index;
   are : BeginsWithStrings l.fn.endian (drop 4 l.fn.bytes) (map (λ s. s.now) l.texts.items);
-  behind : l.behind ≡ after_strings l.fn.endian (drop 4 l.fn.bytes) (map (λ s. s.now) l.texts.items);
+  rest : l.rest ≡ after_strings l.fn.endian (drop 4 l.fn.bytes) (map (λ s. s.now) l.texts.items);
 }

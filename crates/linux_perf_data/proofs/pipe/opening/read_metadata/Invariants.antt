@@ -6,7 +6,7 @@ abbrev pub invariant-records : goal.invariant-records
 invariant-records g l = record {
   so : SoFar l.endian (g.R.Source.state l.initial.source) (g.R.Source.state l.source) l.metadata l.offset;
   pauses : (g.R.Source.state l.source).pauses ≡ (g.R.Source.state l.initial.source).pauses;
-  lent : g.R.Source.loan l.source ≡ g.R.Source.loan l.initial.source;
+  same_loan : g.R.Source.loan l.source ≡ g.R.Source.loan l.initial.source;
 }
 
 abbrev pub decreases-records : goal.decreases-records

@@ -6,10 +6,10 @@ use Rattle.linux_perf_data.proofs.records.buffered.contains_next_record.Given as
 
 abbrev pub invariant-records : goal.invariant-records
 invariant-records l = record {
-  within : l.at ≤ length l.bytes;
-  passed : ConsistsOfMarkers l.endian (section_size_in l.input) l.offset (take l.at l.bytes);
-  left : ContainsNextRecord l.endian (section_size_in l.input) l.offset l.bytes → ContainsNextRecord l.endian (section_size_in l.input) (l.offset + l.at) (drop l.at l.bytes);
+  within : l.position ≤ length l.bytes;
+  markers : ConsistsOfMarkers l.endian (section_size_in l.input) l.offset (take l.position l.bytes);
+  remaining : ContainsNextRecord l.endian (section_size_in l.input) l.offset l.bytes → ContainsNextRecord l.endian (section_size_in l.input) (l.offset + l.position) (drop l.position l.bytes);
 }
 
 abbrev pub decreases-records : goal.decreases-records
-decreases-records l = length l.bytes - l.at
+decreases-records l = length l.bytes - l.position

@@ -1,19 +1,21 @@
+use Rattle.std.proofs.lemmas.Result.{err_from_is_err_and}
 use Rattle.linux_perf_data.proofs.BodiesWithAux.{content_auxtrace, content_not_auxtrace}
 use Rattle.linux_perf_data.proofs.SourceViews.{read_true}
 use Rattle.linux_perf_data.proofs.records.framing.read_record_body.Goals as goal
 
-pub returns-in-Ok-clause-reads : goal.returns-in-Ok-clause-reads
-returns-in-Ok-clause-reads g c =
+pub returns-clause-reads : goal.returns-clause-reads
+returns-clause-reads g c =
     let a = g.R.Source.state c.args.source.now in
-    let b = g.R.Source.state c.append_exact.new.source in
-    let kept = read_true a b c.args.body.now.items _ c.append_exact.new.body.items _ c.in-Ok-true.field-0-test c.in-Ok-true.ensures.reads in
-    content_auxtrace c.args.endian a b (g.R.Source.state c.read_aux_data.new.source) c.args.head c.args.body.now.items c.append_exact.new.body.items c.read_aux_data.new.body.items c.args.end c.in-Ok.whole c.requires.empty c.requires.size
-    c.if-is_compressed.ensures c.if-head-ne-PERF_RECORD_AUXTRACE.false kept c.in-Ok.ensures.reads
+    let b = g.R.Source.state c.append_body.new.source in
+    let appended = read_true a b c.args.body.now.items _ c.append_body.new.body.items _ c.if-not-branch.false c.in_ok-append_body.ensures.appends in
+    content_auxtrace c.args.endian a b (g.R.Source.state c.read_aux_data.new.source) c.args.header c.args.body.now.items c.append_body.new.body.items c.read_aux_data.new.body.items c.args.end _ c.requires.empty c.requires.size
+    c.if-is_compressed.ensures c.if-header-ne-PERF_RECORD_AUXTRACE.false appended c.in_ok-read_aux_data.ensures.reads
 
-pub returns-in-Err-read_aux_data-clause-reads : goal.returns-in-Err-read_aux_data-clause-reads
-returns-in-Err-read_aux_data-clause-reads g c =
+pub returns-in_err-read_aux_data-clause-reads : goal.returns-in_err-read_aux_data-clause-reads
+returns-in_err-read_aux_data-clause-reads g c =
+    let p = err_from_is_err_and c.from_residual-in_err-read_aux_data.result c.from_residual-in_err-read_aux_data.ensures.1 in
     let a = g.R.Source.state c.args.source.now in
-    let b = g.R.Source.state c.append_exact.new.source in
-    let kept = read_true a b c.args.body.now.items _ c.append_exact.new.body.items _ c.in-Ok-true.field-0-test c.in-Ok-true.ensures.reads in
-    content_not_auxtrace c.args.endian a b (g.R.Source.state c.read_aux_data.new.source) c.args.head c.args.body.now.items c.append_exact.new.body.items c.read_aux_data.new.body.items c.args.end c.in-Err-read_aux_data.error c.requires.empty c.requires.size
-    c.if-head-ne-PERF_RECORD_AUXTRACE.false kept c.in-Err-read_aux_data.ensures.reads
+    let b = g.R.Source.state c.append_body.new.source in
+    let appended = read_true a b c.args.body.now.items _ c.append_body.new.body.items _ c.if-not-branch.false c.in_ok-append_body.ensures.appends in
+    rw (p.1, p.2) (content_not_auxtrace c.args.endian a b (g.R.Source.state c.read_aux_data.new.source) c.args.header c.args.body.now.items c.append_body.new.body.items c.read_aux_data.new.body.items c.args.end _ c.requires.empty c.requires.size
+    c.if-header-ne-PERF_RECORD_AUXTRACE.false appended c.in_err-read_aux_data.ensures.reads)

@@ -11,7 +11,7 @@ returns-then-count-gt0-clause-reads c = λ _.
     let within : n ≤ length c.copy_from_offset-count.new.buf = search rules in
     let same : take n c.copy_from_offset-count.new.buf ≡ take n (drop at all) = search rules in
     let fits : at + n ≤ length all = search rules in
-    let gave = read_from_cursor all c.copy_from_offset-count.new.buf at n c.if-count-gt0.true within same fits in
+    let consumed = read_from_cursor all c.copy_from_offset-count.new.buf at n c.if-count-gt0.true within same fits in
     let there : cursor_position c.set_position.new.self ≡ at + n = search rules in
     let inner = c.set_position.ensures.inner in
-    rw (inner, there) gave
+    rw (inner, there) consumed

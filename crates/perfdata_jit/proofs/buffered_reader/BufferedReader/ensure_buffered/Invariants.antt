@@ -9,8 +9,9 @@ abbrev pub invariant-reads : goal.invariant-reads
 invariant-reads g l = record {
   keeps : KeepsBytes g.R.Source.state l.fn.self l.self;
   counts : SameCounts (reader_source_state g.R.Source.state l.fn.self) (reader_source_state g.R.Source.state l.self);
-  passed : l.self.buffer.overflow_start ≡ 0;
+  overflow_compact : l.self.buffer.overflow_start ≡ 0;
   overflow : overflow_len_of l.self < l.count;
   fits : l.count ≤ ring_capacity_of l.fn.self → overflow_len_of l.self ≤ overflow_len_of l.fn.self;
-  spared : l.count ≤ ring_capacity_of l.fn.self → overflow_capacity_of l.self ≡ overflow_capacity_of l.fn.self;
+  same_capacity : l.count ≤ ring_capacity_of l.fn.self → overflow_capacity_of l.self ≡ overflow_capacity_of l.fn.self;
+  same_loan : g.R.Source.loan l.self.source ≡ g.R.Source.loan l.fn.self.source;
 }

@@ -1,33 +1,34 @@
 use Rattle.std.proofs.Common.{arith, drop, ◌∙◌, subst, inr}
+use Rattle.std.proofs.lemmas.Result.{err_from_is_err_and}
 use Rattle.perfdata_base.specs.Raw.{bytes_of}
-use Rattle.perfdata_jit.specs.JitRecords.{AreDebugEntries, IsDebugEntriesError}
+use Rattle.perfdata_jit.specs.JitRecords.{AreDebugEntries}
+use Rattle.perfdata_jit.proofs.Entries.{entries_error_at}
 use Rattle.perfdata_jit.proofs.Fields.{number_at, number_within}
 use Rattle.perfdata_jit.proofs.records.JitCodeDebugInfoRecord.parse_impl.Goals as goal
 
-pub returns-in-Ok-read_entries-clause-value : goal.returns-in-Ok-read_entries-clause-value
-returns-in-Ok-read_entries-clause-value g c =
+pub returns-clause-value : goal.returns-clause-value
+returns-clause-value g c =
     let number = g.O.ByteOrder.number_of in
     let first = g.met.O.ByteOrder.reads_first in
     let xs = bytes_of c.args.bytes in
-    let head = c.read_exact.new.place in
-    let is = c.in-Ok.ensures.read in
-    let taken = c.in-Ok.ensures.rest in
-    let took = c.in-Ok-read_entries.ensures.value in
-    let behind = bytes_of c.read_entries.new.bytes in
+    let fixed = c.read_exact.new.buf in
+    let is = c.in_ok-read_exact.ensures.read in
+    let taken = c.in_ok-read_exact.ensures.rest in
+    let read = c.in_ok-entries.ensures.value in
+    let after_body = bytes_of c.read_entries.new.bytes in
     record {
       min_len = taken.enough;
-      address = c.read_u64-in-Ok-read_entries.ensures ∙ number_at number first 8 0 16 xs head is taken.enough (omega arith);
-      count = took.exact_len ∙ c.read_u64.ensures ∙ number_within number first 8 8 8 16 xs head is taken.enough (omega arith) (omega arith);
-      after_body = behind;
-      elements = subst (λ l. AreDebugEntries number l c.in-Ok-read_entries.entries.items behind) taken.rest took.elements;
+      address = c.read_u64-2.ensures ∙ number_at number first 8 0 16 xs fixed is taken.enough (omega arith);
+      count = read.exact_len ∙ c.read_u64.ensures ∙ number_within number first 8 8 8 16 xs fixed is taken.enough (omega arith) (omega arith);
+      after_body = after_body;
+      elements = subst (λ l. AreDebugEntries number l c.in_ok-entries.entries.items after_body) taken.rest read.elements;
     }
 
-pub returns-in-Err-read_entries-clause-error : goal.returns-in-Err-read_entries-clause-error
-returns-in-Err-read_entries-clause-error g c =
+pub returns-in_err-entries-clause-error : goal.returns-in_err-entries-clause-error
+returns-in_err-entries-clause-error g c =
     let number = g.O.ByteOrder.number_of in
     let xs = bytes_of c.args.bytes in
-    let taken = c.in-Ok.ensures.rest in
-    let error = c.in-Err-read_entries.error in
-    let count = c.read_u64.ensures ∙ number_within number g.met.O.ByteOrder.reads_first 8 8 8 16 xs c.read_exact.new.place c.in-Ok.ensures.read taken.enough (omega arith) (omega arith) in
-    let refused = subst (λ n. IsDebugEntriesError number n (bytes_of c.read_exact.new.self) error) count c.in-Err-read_entries.ensures.error in
-    inr (taken.enough, subst (λ l. IsDebugEntriesError number (number 8 (drop 8 xs)) l error) taken.rest refused)
+    let taken = c.in_ok-read_exact.ensures.rest in
+    let p = err_from_is_err_and c.from_residual-in_err-entries.result c.from_residual-in_err-entries.ensures.1 in
+    let count = c.read_u64.ensures ∙ number_within number g.met.O.ByteOrder.reads_first 8 8 8 16 xs c.read_exact.new.buf c.in_ok-read_exact.ensures.read taken.enough (omega arith) (omega arith) in
+    rw (p.1, p.2) (inr (taken.enough, entries_error_at number _ _ _ _ c.in_err-entries.field-0.0 count taken.rest c.in_err-entries.ensures.error))

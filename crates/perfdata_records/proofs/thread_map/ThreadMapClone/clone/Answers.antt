@@ -7,9 +7,9 @@ use Rattle.perfdata_records.specs.declared.thread_map.ThreadMap.{ThreadMap}
 use Rattle.perfdata_records.proofs.thread_map.ThreadMapClone.clone.Goals as goal
 
 -- maps with the same byte order and entries are equal
-same_map : (order : Endianness) (entries : RawData) (w v : length (bytes_of entries) ≡ 24 * (length (bytes_of entries) / 24))
-    → (let m : ThreadMap = record { endian = order; entries = entries; whole_entries = w } in m) ≡ (let m : ThreadMap = record { endian = order; entries = entries; whole_entries = v } in m)
-same_map order entries w v i = record { endian = order; entries = entries; whole_entries = ℕ_set _ _ w v i }
+same_map : (endian : Endianness) (entries : RawData) (w v : length (bytes_of entries) ≡ 24 * (length (bytes_of entries) / 24))
+    → (let m : ThreadMap = record { endian = endian; entries = entries; whole_entries = w } in m) ≡ (let m : ThreadMap = record { endian = endian; entries = entries; whole_entries = v } in m)
+same_map endian entries w v i = record { endian = endian; entries = entries; whole_entries = ℕ_set _ _ w v i }
 
 pub returns : goal.returns
 returns c =

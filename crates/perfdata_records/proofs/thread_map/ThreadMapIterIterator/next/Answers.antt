@@ -8,8 +8,8 @@ use Rattle.perfdata_records.proofs.thread_map.ThreadMapIterIterator.next.Goals a
 
 step : (number : ℕ → List ℕ → ℕ) (bytes rest : List ℕ) (thread : Thread) → 24 ≤ length bytes → thread ≡ thread_at number bytes → rest ≡ drop 24 bytes
     → threads_in number (length bytes / 24) bytes ≡ thread ∷ threads_in number (length rest / 24) rest
-step number bytes rest thread room is behind =
-    threads_step number bytes room ∙ (λ i. sym is i ∷ ap (λ l. threads_in number (length l / 24) l) (sym behind) i)
+step number bytes rest thread enough is rest_is =
+    threads_step number bytes enough ∙ (λ i. sym is i ∷ ap (λ l. threads_in number (length l / 24) l) (sym rest_is) i)
 
 pub returns-clause-steps : goal.returns-clause-steps
 returns-clause-steps c =

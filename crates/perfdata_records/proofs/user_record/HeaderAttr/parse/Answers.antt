@@ -1,28 +1,33 @@
+use Rattle.std.proofs.Common.{sym, subst}
+use Rattle.std.proofs.lemmas.Result.{err_from_is_err_and}
 use Rattle.perfdata_base.specs.Raw.{bytes_of}
+use Rattle.perfdata_records.specs.HeaderAttr.{IsIdsError}
 use Rattle.perfdata_records.proofs.Ids.{attr_read, attr_error, attribute_is, ids_hold, ids_error}
 use Rattle.perfdata_records.proofs.user_record.HeaderAttr.parse.Goals as goal
 
-pub returns-in-Err-clause-error : goal.returns-in-Err-clause-error
-returns-in-Err-clause-error g c =
-    attr_error g.T.ByteOrder.number_of g.met.T.ByteOrder.reads_first (bytes_of c.args.body) c.in-Err.error _ c.in-Err.ensures.parses
+pub returns-in_err-attr-clause-error : goal.returns-in_err-attr-clause-error
+returns-in_err-attr-clause-error g c =
+    let p = err_from_is_err_and c.from_residual.result c.from_residual.ensures.1 in
+    rw (p.1, p.2) (attr_error g.T.ByteOrder.number_of g.met.T.ByteOrder.reads_first (bytes_of c.args.body) _ _ c.in_err-attr.ensures.parses)
 
-pub returns-in-Ok-parse_ids-clause-valid : goal.returns-in-Ok-parse_ids-clause-valid
-returns-in-Ok-parse_ids-clause-valid g c =
+pub returns-clause-valid : goal.returns-clause-valid
+returns-clause-valid g c =
     let number = g.T.ByteOrder.number_of in
     let rest = bytes_of c.parse_from.new.source in
-    let came = attr_read number g.met.T.ByteOrder.reads_first (bytes_of c.args.body) rest c.in-Ok.attr _ c.in-Ok.ensures.parses in
-    ids_hold number (bytes_of c.args.body) rest c.in-Ok.attr came.0 came.1 c.in-Ok-parse_ids.ensures.whole
+    let attr_is = attr_read number g.met.T.ByteOrder.reads_first (bytes_of c.args.body) rest c.in_ok-attr.attr _ c.in_ok-attr.ensures.parses in
+    ids_hold number (bytes_of c.args.body) rest c.in_ok-attr.attr attr_is.0 attr_is.1 c.in_ok-ids.ensures.whole
 
-pub returns-in-Ok-parse_ids-clause-value : goal.returns-in-Ok-parse_ids-clause-value
-returns-in-Ok-parse_ids-clause-value g c =
+pub returns-clause-value : goal.returns-clause-value
+returns-clause-value g c =
     let number = g.T.ByteOrder.number_of in
     let rest = bytes_of c.parse_from.new.source in
-    let came = attr_read number g.met.T.ByteOrder.reads_first (bytes_of c.args.body) rest c.in-Ok.attr _ c.in-Ok.ensures.parses in
-    attribute_is number (bytes_of c.args.body) rest c.in-Ok.attr came.0 came.1 c.in-Ok-parse_ids.ids.items c.in-Ok-parse_ids.ensures.ids
+    let attr_is = attr_read number g.met.T.ByteOrder.reads_first (bytes_of c.args.body) rest c.in_ok-attr.attr _ c.in_ok-attr.ensures.parses in
+    attribute_is number (bytes_of c.args.body) rest c.in_ok-attr.attr attr_is.0 attr_is.1 c.in_ok-ids.ids.items c.in_ok-ids.ensures.ids
 
-pub returns-in-Err-parse_ids-clause-error : goal.returns-in-Err-parse_ids-clause-error
-returns-in-Err-parse_ids-clause-error g c =
+pub returns-in_err-ids-clause-error : goal.returns-in_err-ids-clause-error
+returns-in_err-ids-clause-error g c =
+    let p = err_from_is_err_and c.from_residual-in_err-ids.result c.from_residual-in_err-ids.ensures.1 in
     let number = g.T.ByteOrder.number_of in
     let rest = bytes_of c.parse_from.new.source in
-    let came = attr_read number g.met.T.ByteOrder.reads_first (bytes_of c.args.body) rest c.in-Ok.attr _ c.in-Ok.ensures.parses in
-    ids_error number (bytes_of c.args.body) rest c.in-Ok.attr came.0 came.1 c.in-Err-parse_ids.error c.in-Err-parse_ids.ensures.error
+    let attr_is = attr_read number g.met.T.ByteOrder.reads_first (bytes_of c.args.body) rest c.in_ok-attr.attr _ c.in_ok-attr.ensures.parses in
+    rw p.1 (ids_error number (bytes_of c.args.body) rest c.in_ok-attr.attr attr_is.0 attr_is.1 p.0 (subst (IsIdsError rest) (sym p.2) c.in_err-ids.ensures.error))

@@ -5,8 +5,5 @@ use Rattle.perfdata_records.proofs.user_record.HeaderFeature.parse.Goals as goal
 pub returns-then-is_empty-clause-error : goal.returns-then-is_empty-clause-error
 returns-then-is_empty-clause-error g c = search rules
 
-pub returns-in-Ok-into_owned-clause-value : goal.returns-in-Ok-into_owned-clause-value
-returns-in-Ok-into_owned-clause-value g c = search rules
-
 pub returns-then-is_empty-clause-value : goal.returns-then-is_empty-clause-value
 returns-then-is_empty-clause-value g c = grind (arith, common_steps)

@@ -1,38 +1,39 @@
 use Rattle.std.proofs.Common.{rules, arith, ◌≡◌, ◌+◌, ◌-◌, ◌<◌, ◌≤◌, ◌^◌, refl, inr, ◌∙◌, None}
+use Rattle.std.proofs.lemmas.Result.{err_from_is_err_and}
 use Rattle.perfdata_sections.specs.Items.{ReadOrSeekErrorAt}
 use Rattle.perfdata_sections.specs.AttrFrames.{IsFrameReadError, ConsumesFrameError, IsPlainDescription}
 use Rattle.perfdata_sections.specs.declared.feature_sections.AttributeDescription.{AttributeDescription}
-use Rattle.perfdata_sections.proofs.ItemRuns.{run_whole, run_more, run_stops, error_later}
-use Rattle.perfdata_sections.proofs.Frames.{described, can_be, frame_carries}
+use Rattle.perfdata_sections.proofs.ItemRuns.{items_complete, items_more, items_error, error_later}
+use Rattle.perfdata_sections.proofs.Frames.{described, attr_section_valid, frame_carries}
 use Rattle.perfdata_sections.proofs.feature_sections.AttributeDescription.parse_attr_section_from.Goals as goal
 
-pub returns-in-Err-clause-reads : goal.returns-in-Err-clause-reads
-returns-in-Err-clause-reads g c =
+pub returns-in_err-attr-clause-reads : goal.returns-in_err-attr-clause-reads
+returns-in_err-attr-clause-reads g c =
     let some : 0 < c.args.attr_size = omega arith in
     let sum : c.in-Some.end ≡ c.args.section.now.offset + c.args.section.now.size = search rules in
     let low : c.args.section.now.offset + c.args.section.now.size < 2 ^ 64 = omega arith in
     let more : c.args.attr_size ≤ c.args.section.now.offset + c.args.section.now.size - c.frames.at = omega arith in
-    inr (
-      can_be g.T.ByteOrder.number_of c.args.attr_size c.args.section.now some low,
-      run_stops (IsPlainDescription g.T.ByteOrder.number_of c.args.attr_size) c.args.attr_size c.args.section.now.offset c.args.section.now.size _ _ c.frames.at _ some c.frames.invariant.far
+    let p = err_from_is_err_and c.from_residual.result c.from_residual.ensures.1 in
+    rw (p.1, p.2) (inr (
+      attr_section_valid g.T.ByteOrder.number_of c.args.attr_size c.args.section.now some low,
+      items_error (IsPlainDescription g.T.ByteOrder.number_of c.args.attr_size) c.args.attr_size c.args.section.now.offset c.args.section.now.size _ _ c.frames.at _ some c.frames.invariant.so_far
           (ReadOrSeekErrorAt (ConsumesFrameError g.T.ByteOrder.number_of c.args.attr_size) (IsFrameReadError g.T.ByteOrder.number_of c.args.attr_size)) (g.C.Source.state c.read_attr_frame_at.new.source) _
-          (λ k. error_later (ConsumesFrameError g.T.ByteOrder.number_of c.args.attr_size) (IsFrameReadError g.T.ByteOrder.number_of c.args.attr_size) (frame_carries g.T.ByteOrder.number_of g.met.T.ByteOrder.reads_first c.args.attr_size) _ _ _ k _ c.frames.invariant.far.stood)
-          more c.in-Err.ensures.reads,
-    )
+          (λ k. error_later (ConsumesFrameError g.T.ByteOrder.number_of c.args.attr_size) (IsFrameReadError g.T.ByteOrder.number_of c.args.attr_size) (frame_carries g.T.ByteOrder.number_of g.met.T.ByteOrder.reads_first c.args.attr_size) _ _ _ k _ c.frames.invariant.so_far.after_seek)
+          more c.in_err-attr.ensures.reads,
+    ))
 
 pub frames-preserved : goal.frames-preserved
 frames-preserved g c =
     let some : 0 < c.args.attr_size = omega arith in
     let sum : c.in-Some.end ≡ c.args.section.now.offset + c.args.section.now.size = search rules in
     let more : c.args.attr_size ≤ c.args.section.now.offset + c.args.section.now.size - c.frames.at = omega arith in
-    let d : AttributeDescription = record { attr = c.in-Ok.attr; name = None; event_ids = c.new.result } in
-    let lent = c.in-Ok.ensures.same_loan in
+    let d : AttributeDescription = record { attr = c.in_ok-attr.attr; name = None; event_ids = c.new.result } in
     record {
-      far = run_more (IsPlainDescription g.T.ByteOrder.number_of c.args.attr_size) c.args.attr_size c.args.section.now.offset c.args.section.now.size _ _ c.frames.at _ some c.frames.invariant.far
-          (g.C.Source.state c.read_attr_frame_at.new.source) d c.push.new.self.items more c.in-Ok-push.ensures.items
-          (described g.T.ByteOrder.number_of g.met.T.ByteOrder.reads_first c.args.attr_size _ _ c.frames.at c.in-Ok.attr d refl refl c.new.ensures.items c.in-Ok.ensures.reads);
-      pauses = c.in-Ok.ensures.pauses ∙ c.frames.invariant.pauses;
-      same_loan = lent ∙ c.frames.invariant.same_loan;
+      so_far = items_more (IsPlainDescription g.T.ByteOrder.number_of c.args.attr_size) c.args.attr_size c.args.section.now.offset c.args.section.now.size _ _ c.frames.at _ some c.frames.invariant.so_far
+          (g.C.Source.state c.read_attr_frame_at.new.source) d c.push.new.self.items more c.in_ok-push.ensures.items
+          (described g.T.ByteOrder.number_of g.met.T.ByteOrder.reads_first c.args.attr_size _ _ c.frames.at c.in_ok-attr.attr d refl refl c.new.ensures.items c.in_ok-attr.ensures.reads);
+      pauses = c.in_ok-attr.ensures.pauses ∙ c.frames.invariant.pauses;
+      same_loan = c.in_ok-attr.ensures.same_loan ∙ c.frames.invariant.same_loan;
     }
 
 pub returns-clause-reads : goal.returns-clause-reads
@@ -41,6 +42,6 @@ returns-clause-reads g c =
     let sum : c.in-Some.end ≡ c.args.section.now.offset + c.args.section.now.size = search rules in
     let low : c.args.section.now.offset + c.args.section.now.size < 2 ^ 64 = omega arith in
     let less : c.args.section.now.offset + c.args.section.now.size - c.frames.at < c.args.attr_size = omega arith in (
-      can_be g.T.ByteOrder.number_of c.args.attr_size c.args.section.now some low,
-      run_whole (IsPlainDescription g.T.ByteOrder.number_of c.args.attr_size) c.args.attr_size c.args.section.now.offset c.args.section.now.size _ _ c.frames.at _ some c.frames.invariant.far less,
+      attr_section_valid g.T.ByteOrder.number_of c.args.attr_size c.args.section.now some low,
+      items_complete (IsPlainDescription g.T.ByteOrder.number_of c.args.attr_size) c.args.attr_size c.args.section.now.offset c.args.section.now.size _ _ c.frames.at _ some c.frames.invariant.so_far less,
     )

@@ -5,7 +5,7 @@ use Rattle.perfdata_sections.proofs.feature_sections.AttributeDescription.parse_
 
 abbrev pub invariant-frames : goal.invariant-frames
 invariant-frames g l = record {
-  far : IsSoFar (IsPlainDescription g.T.ByteOrder.number_of l.attr_size) l.attr_size l.section.offset l.section.size (g.C.Source.state l.initial.c) (g.C.Source.state l.c) l.at l.all.items;
+  so_far : IsSoFar (IsPlainDescription g.T.ByteOrder.number_of l.attr_size) l.attr_size l.section.offset l.section.size (g.C.Source.state l.initial.c) (g.C.Source.state l.c) l.at l.all.items;
   pauses : (g.C.Source.state l.c).pauses ≡ (g.C.Source.state l.initial.c).pauses;
   same_loan : g.C.Source.loan l.c ≡ g.C.Source.loan l.initial.c;
 }

@@ -5,7 +5,7 @@ use Rattle.perfdata_sections.proofs.feature_sections.event_ids.read_ids.Given as
 
 abbrev pub invariant-ids : goal.invariant-ids
 invariant-ids g l = record {
-  took : PartRead (AreIds g.T.ByteOrder.number_of l._index) (g.R.Source.state l.initial.source) l.ids.items (g.R.Source.state l.source);
+  prefix_read : PartRead (AreIds g.T.ByteOrder.number_of l._index) (g.R.Source.state l.initial.source) l.ids.items (g.R.Source.state l.source);
   pauses : (g.R.Source.state l.source).pauses ≡ (g.R.Source.state l.initial.source).pauses;
   same_loan : g.R.Source.loan l.source ≡ g.R.Source.loan l.initial.source;
 }

@@ -6,7 +6,7 @@ use Rattle.perfdata_sections.proofs.feature_sections.event_types.read_entries.Gi
 
 abbrev pub invariant-entries : goal.invariant-entries
 invariant-entries g l = record {
-  far : IsSoFar (IsEventTypeEntry g.T.ByteOrder.number_of l.attr_size) (l.attr_size + 16) l.section.offset l.section.size (g.C.Source.state l.initial.source) (g.C.Source.state l.source) l.at l.all.items;
+  so_far : IsSoFar (IsEventTypeEntry g.T.ByteOrder.number_of l.attr_size) (l.attr_size + 16) l.section.offset l.section.size (g.C.Source.state l.initial.source) (g.C.Source.state l.source) l.at l.all.items;
   position : 0 < length l.all.items → (g.C.Source.state l.source).position ≡ at_offset l.at (g.C.Source.state l.initial.source).position;
   pauses : (g.C.Source.state l.source).pauses ≡ (g.C.Source.state l.initial.source).pauses;
   same_loan : g.C.Source.loan l.source ≡ g.C.Source.loan l.initial.source;

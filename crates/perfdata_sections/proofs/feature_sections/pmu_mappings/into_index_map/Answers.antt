@@ -1,22 +1,22 @@
 use Rattle.std.proofs.Common.{◌++◌, sym, ap, ◌∙◌}
 use Rattle.std.proofs.lemmas.List.{append-nil}
-use Rattle.perfdata_sections.proofs.Pmus.{names_ordered, orders_units}
+use Rattle.perfdata_sections.proofs.Pmus.{names_ordered, sorts_units}
 use Rattle.perfdata_sections.proofs.feature_sections.pmu_mappings.into_index_map.Goals as goal
 
 pub names-preserved-in_ok-insert : goal.names-preserved-in_ok-insert
 names-preserved-in_ok-insert c = record {
   names = names_ordered c.args.names.entries c.next.new.self c.names.ordered c.insert.new.self c.in-Some.number c.in-Some.name c.names.invariant.up
-      (ap (λ left. c.names.ordered.entries ++ left) (sym c.in-Some.ensures.steps) ∙ c.names.invariant.names) c.in_ok-insert.ensures.entries;
+      (ap (λ rest. c.names.ordered.entries ++ rest) (sym c.in-Some.ensures.steps) ∙ c.names.invariant.names) c.in_ok-insert.ensures.entries;
   up = c.names.invariant.up;
 }
 
 pub names-preserved : goal.names-preserved
 names-preserved c = record {
   names = names_ordered c.args.names.entries c.next.new.self c.names.ordered c.insert.new.self c.in-Some.number c.in-Some.name c.names.invariant.up
-      (ap (λ left. c.names.ordered.entries ++ left) (sym c.in-Some.ensures.steps) ∙ c.names.invariant.names) c.in_ok-insert.ensures.entries;
+      (ap (λ rest. c.names.ordered.entries ++ rest) (sym c.in-Some.ensures.steps) ∙ c.names.invariant.names) c.in_ok-insert.ensures.entries;
   up = c.names.invariant.up;
 }
 
 pub returns : goal.returns
-returns c = orders_units c.args.names c.names.ordered c.names.invariant.up
-    (sym (append-nil c.names.ordered.entries) ∙ ap (λ left. c.names.ordered.entries ++ left) (sym c.in-None.ensures.steps.0) ∙ c.names.invariant.names)
+returns c = sorts_units c.args.names c.names.ordered c.names.invariant.up
+    (sym (append-nil c.names.ordered.entries) ∙ ap (λ rest. c.names.ordered.entries ++ rest) (sym c.in-None.ensures.steps.0) ∙ c.names.invariant.names)

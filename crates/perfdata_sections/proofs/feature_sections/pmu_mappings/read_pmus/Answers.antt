@@ -1,25 +1,26 @@
-use Rattle.std.proofs.Common.{rules, arith, sym, subst, Err}
-use Rattle.perfdata_sections.specs.PmuMappings.{ReadsPmuUnits}
+use Rattle.std.proofs.Common.{rules, arith}
 use Rattle.std.specs.Prelude.{string_bytes}
 use Rattle.std.specs.Option.{option_map}
-use Rattle.perfdata_sections.proofs.Pmus.{units_none, units_more, units_error, units_unkept}
+use Rattle.std.proofs.lemmas.Result.{err_from_is_err_and}
+use Rattle.perfdata_sections.proofs.Pmus.{units_none, units_more, units_error, units_out_of_memory}
 use Rattle.perfdata_sections.proofs.feature_sections.pmu_mappings.read_pmus.Goals as goal
 
-pub units-init : goal.units-init
-units-init g c = record { took = units_none g.T.ByteOrder.number_of g.met.T.ByteOrder.reads_first _ c.new-names.result c.new-names.ensures.empty; pauses = search rules; same_loan = search rules }
+pub pmus-init : goal.pmus-init
+pmus-init g c = record { prefix_read = units_none g.T.ByteOrder.number_of g.met.T.ByteOrder.reads_first _ c.new-names.result c.new-names.ensures.empty; pauses = search rules; same_loan = search rules }
 
-pub returns-in-Err-clause-reads : goal.returns-in-Err-clause-reads
-returns-in-Err-clause-reads g c =
-    units_error g.T.ByteOrder.number_of g.met.T.ByteOrder.reads_first c.units._index c.args.count _ _ _ c.units.names c.in-Err.fault (omega arith) c.units.invariant.took c.in-Err.ensures.reads
+pub returns-in_err-number-clause-reads : goal.returns-in_err-number-clause-reads
+returns-in_err-number-clause-reads g c =
+    let p = err_from_is_err_and c.from_residual.result c.from_residual.ensures.1 in
+    rw (p.1, p.2) (units_error g.T.ByteOrder.number_of g.met.T.ByteOrder.reads_first c.pmus._index c.args.count _ _ _ c.pmus.names _ (omega arith) c.pmus.invariant.prefix_read c.in_err-number.ensures.reads)
 
-pub returns-in-Err-insert_name-clause-reads : goal.returns-in-Err-insert_name-clause-reads
-returns-in-Err-insert_name-clause-reads g c =
-    subst (λ fault. ReadsPmuUnits g.T.ByteOrder.number_of c.args.count (g.R.Source.state c.args.source.now) (Err fault) (g.R.Source.state c.read_pmu.new.source)) (sym c.in-Err-insert_name.ensures)
-    (units_unkept g.T.ByteOrder.number_of g.met.T.ByteOrder.reads_first c.units._index c.args.count _ (g.R.Source.state c.units.source) _ c.units.names (c.in-Ok.unit.0, option_map string_bytes c.in-Ok.unit.1) (omega arith) c.units.invariant.took c.in-Ok.ensures.reads)
+pub returns-in_err-insert_name-clause-reads : goal.returns-in_err-insert_name-clause-reads
+returns-in_err-insert_name-clause-reads g c =
+    let p = err_from_is_err_and c.from_residual-in_err-insert_name.result c.from_residual-in_err-insert_name.ensures.1 in
+    rw (p.1, p.2, c.in_err-insert_name.ensures) (units_out_of_memory g.T.ByteOrder.number_of g.met.T.ByteOrder.reads_first c.pmus._index c.args.count _ (g.R.Source.state c.pmus.source) _ c.pmus.names (c.in_ok-number.number, option_map string_bytes c.in_ok-number.name) (omega arith) c.pmus.invariant.prefix_read c.in_ok-number.ensures.reads)
 
-pub units-preserved : goal.units-preserved
-units-preserved g c = record {
-  took = units_more g.T.ByteOrder.number_of g.met.T.ByteOrder.reads_first c.units._index _ (g.R.Source.state c.units.source) _ c.units.names c.insert_name.new.names (c.in-Ok.unit.0, option_map string_bytes c.in-Ok.unit.1) c.units.invariant.took c.in-Ok.ensures.reads c.in-Ok-insert_name.ensures;
+pub pmus-preserved : goal.pmus-preserved
+pmus-preserved g c = record {
+  prefix_read = units_more g.T.ByteOrder.number_of g.met.T.ByteOrder.reads_first c.pmus._index _ (g.R.Source.state c.pmus.source) _ c.pmus.names c.insert_name.new.names (c.in_ok-number.number, option_map string_bytes c.in_ok-number.name) c.pmus.invariant.prefix_read c.in_ok-number.ensures.reads c.in_ok-insert_name.ensures;
   pauses = search rules;
   same_loan = search rules;
 }

@@ -1,4 +1,4 @@
-use Rattle.perfdata_simpleperf.proofs.Decoding.Nests.{group_from, group_nests}
+use Rattle.perfdata_simpleperf.proofs.Decoding.GroupNesting.{group_from, group_nests}
 use Rattle.perfdata_simpleperf.proofs.protobuf.laws.groups_nest.Goals as goal
 
 pub returns-clause-nests : goal.returns-clause-nests

@@ -1,5 +1,5 @@
-use Rattle.perfdata_simpleperf.proofs.Decoding.OneValue.{record_same}
-use Rattle.perfdata_simpleperf.proofs.Decoding.SomeValue.{record_some}
+use Rattle.perfdata_simpleperf.proofs.Decoding.ValueUniqueness.{record_same}
+use Rattle.perfdata_simpleperf.proofs.Decoding.ValueExistence.{record_some}
 use Rattle.perfdata_simpleperf.proofs.protobuf.laws.value_is_unique.Goals as goal
 
 pub returns-clause-value : goal.returns-clause-value

@@ -1,5 +1,5 @@
 use Rattle.std.proofs.Common.{rules}
 use Rattle.perfdata_simpleperf.proofs.protobuf.messages.decode_text.Goals as goal
 
-pub returns-in-Err-clause-found : goal.returns-in-Err-clause-found
-returns-in-Err-clause-found c = search rules
+pub returns-in-Err-clause-on_ok : goal.returns-in-Err-clause-on_ok
+returns-in-Err-clause-on_ok c = search rules

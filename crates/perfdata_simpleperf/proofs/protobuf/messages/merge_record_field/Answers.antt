@@ -7,4 +7,4 @@ pub returns-in_ok-push-in-4-Bytes-clause-symbol : goal.returns-in_ok-push-in-4-B
 returns-in_ok-push-in-4-Bytes-clause-symbol c =
     let s = c.in_ok-symbol-in-4-Bytes.symbol in
     rw (c.in-4-Bytes.is-0, c.in-4-Bytes.is-1)
-    (symbol_value s ∷ [], (symbol_value s, [], c.in_ok-symbol-in-4-Bytes.ensures.found, refl, refl), ap (λ xs. map symbol_value xs) c.in_ok-push-in-4-Bytes.ensures.items ∙ map-append symbol_value _ (s ∷ []))
+    (symbol_value s ∷ [], (symbol_value s, [], c.in_ok-symbol-in-4-Bytes.ensures.on_ok, refl, refl), ap (λ xs. map symbol_value xs) c.in_ok-push-in-4-Bytes.ensures.items ∙ map-append symbol_value _ (s ∷ []))

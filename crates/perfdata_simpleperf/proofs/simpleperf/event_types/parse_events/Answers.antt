@@ -2,7 +2,6 @@ use Rattle.std.proofs.Common.{lit<, subst, sym, ◌≡◌}
 use Rattle.std.specs.Str.Iter.{split_steps}
 use Rattle.std.specs.Str.Pattern.{FindsChar}
 use Rattle.std.proofs.lemmas.Iterator.Splits.{YieldsList-from_str_split}
-use Rattle.perfdata_simpleperf.specs.EventTypeInfo.{line_fields, ParsesEvent}
 use Rattle.perfdata_simpleperf.proofs.EventLines.{EventsSoFar, events_none, events_more, events_stop, events_whole}
 use Rattle.perfdata_simpleperf.proofs.simpleperf.event_types.parse_events.Goals as goal
 
@@ -17,17 +16,17 @@ lines-init c =
           (YieldsList-from_str_split {s = c.split-line-items.result} 10 c.args.text.now (lit< tt) split.text split.has_more split.pattern));
     }
 
-pub returns-in-Ok-None : goal.returns-in-Ok-None
-returns-in-Ok-None c =
+pub returns-in_default : goal.returns-in_default
+returns-in_default c =
     events_stop (split_steps FindsChar (λ a b. b ≡ a)) c.args.text.now c.lines.line-iterator c.next.new.self c.lines.events.items c.in-Some.line c.lines.invariant.so_far c.in-Some.ensures.steps
-    (subst (ParsesEvent (line_fields c.in-Some.line.now)) c.in-Ok-None.field-0-is c.in-Ok-None.ensures)
+    (rw c.in_default.is at c.in_ok-event.ensures)
 
 pub lines-preserved : goal.lines-preserved
 lines-preserved c = record {
   can = tt;
   finite = tt;
-  so_far = events_more (split_steps FindsChar (λ a b. b ≡ a)) c.args.text.now c.lines.line-iterator c.next.new.self c.lines.events.items c.push.new.self.items c.in-Some.line c.in-Ok-Some.event c.lines.invariant.so_far
-      c.in-Some.ensures.steps (subst (ParsesEvent (line_fields c.in-Some.line.now)) c.in-Ok-Some.field-0-is c.in-Ok-Some.ensures) c.in-Ok.ensures.items;
+  so_far = events_more (split_steps FindsChar (λ a b. b ≡ a)) c.args.text.now c.lines.line-iterator c.next.new.self c.lines.events.items c.push.new.self.items c.in-Some.line c.in-Some-2.event c.lines.invariant.so_far
+      c.in-Some.ensures.steps (rw c.in-Some-2.is at c.in_ok-event.ensures) c.in_ok-push.ensures.items;
 }
 
 pub returns : goal.returns

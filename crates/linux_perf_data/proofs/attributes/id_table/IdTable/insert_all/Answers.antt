@@ -8,5 +8,5 @@ pub ids-preserved : goal.ids-preserved
 ids-preserved c =
     let ids = c.args.ids.now in
     let i = c.ids.id-index in
-    let more = puts_more c.args.self.now c.ids.self c.insert.new.self (take i ids) (get_or ids i 0) c.args.index c.ids.invariant c.in-Ok.ensures in
+    let more = puts_more c.args.self.now c.ids.self c.insert.new.self (take i ids) (get_or ids i 0) c.args.index c.ids.invariant c.in_ok-insert.ensures in
     subst (λ l. MapsIds c.args.self.now l c.args.index c.insert.new.self) (sym (take_more ids i 0 c.ids-test.true)) more

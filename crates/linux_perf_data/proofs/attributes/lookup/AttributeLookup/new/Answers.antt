@@ -9,28 +9,28 @@ none_some n e = cc
 pub invariant_of-result : goal.invariant_of-result
 invariant_of-result c =
     let attrs = described_attributes c.args.attributes.now in
-    let held : length c.in-Ok.places.items ≡ vec_len c.in-Ok.places = search rules in
-    let count : length attrs ≡ vec_len c.in-Ok.places = omega (arith, held, ap length c.in-Ok.ensures, all_counted c.args.endian attrs) in
-    let given = c.requires.some in
-    let some : 0 < vec_len c.in-Ok.places = omega (arith, count, described_counted c.args.attributes.now, given) in
+    let counted : length c.in_ok-parse_infos.parse_infos.items ≡ vec_len c.in_ok-parse_infos.parse_infos = search rules in
+    let count : length attrs ≡ vec_len c.in_ok-parse_infos.parse_infos = omega (arith, counted, ap length c.in_ok-parse_infos.ensures, all_counted c.args.endian attrs) in
+    let given = c.requires.nonempty in
+    let some : 0 < vec_len c.in_ok-parse_infos.parse_infos = omega (arith, count, described_counted c.args.attributes.now, given) in
     record {
       nonempty = some;
-      table_indices_below = table_below c.in-Ok-new.table attrs (vec_len c.in-Ok.places) count c.in-Ok-new.ensures;
-      cache_indices_below = λ id i told. absurd (none_some i (sym (c.new-in-Ok-new-2.ensures id) ∙ told));
+      table_indices_below = table_below c.in_ok-table.table attrs (vec_len c.in_ok-parse_infos.parse_infos) count c.in_ok-table.ensures;
+      cache_indices_below = λ id i told. absurd (none_some i (sym (c.new-3.ensures id) ∙ told));
     }
 
-pub returns-in-Ok-new : goal.returns-in-Ok-new
-returns-in-Ok-new c =
+pub returns : goal.returns
+returns c =
     let ds = c.args.attributes.now in
     let attrs = described_attributes ds in
     record {
       first_attribute = described_attribute c.index-attributes-0.result;
       other_attributes = described_attributes (drop 1 ds);
-      elements = first_more ds c.index-attributes-0.result c.requires.some c.index-attributes-0.is;
-      consistent = c.requires.rule;
+      elements = first_more ds c.index-attributes-0.result c.requires.nonempty c.index-attributes-0.is;
+      consistent = c.requires.consistent;
       first_parse_info = search rules;
-      parse_infos = c.in-Ok.ensures;
+      parse_infos = c.in_ok-parse_infos.ensures;
       first_without_identifier = search rules;
-      table = table_answers c.in-Ok-new.table attrs c.in-Ok-new.ensures;
-      cache = λ id i told. absurd (none_some i (sym (c.new-in-Ok-new-2.ensures id) ∙ told));
+      table = table_answers c.in_ok-table.table attrs c.in_ok-table.ensures;
+      cache = λ id i told. absurd (none_some i (sym (c.new-3.ensures id) ∙ told));
     }

@@ -5,5 +5,6 @@ use Rattle.linux_perf_data.proofs.pipe.opening.PipeMetadata.add_feature.Goals as
 
 pub returns : goal.returns
 returns c =
-    feature_added c.args.endian c.args.body.now c.args.self.now _ c.in-Ok.header c.in-Ok.ensures refl
-    (data_put c.args.self.now.sections c.insert.new.self c.in-Ok.header.feature c.in-Ok.header.bytes c.in-Ok-insert.ensures.updates.0) c.insert-2.ensures
+    let header = c.in_ok-header.header in
+    feature_added c.args.endian c.args.body.now c.args.self.now _ header c.in_ok-header.ensures refl
+    (data_put c.args.self.now.sections c.insert.new.self header.feature header.bytes c.in_ok-insert.ensures.updates.0) c.insert-2.ensures

@@ -21,7 +21,7 @@ raw_records-init g c = record {
     before = λ rest attrs rs e come. come;
   };
   pauses = refl;
-  lent = refl;
+  same_loan = refl;
   file = refl;
 }
 
@@ -29,11 +29,11 @@ pub raw_records-preserved : goal.raw_records-preserved
 raw_records-preserved g c =
     let state = g.R.Source.state in
     let i = c.raw_records.invariant in
-    let t = some_record state c.raw_records.self c.next_raw_record.new.self _ c.in-Ok-Some.head c.in-Ok-Some.field-0-is c.in-Ok-Some.ensures.raw_record in
+    let t = some_record state c.raw_records.self c.next_raw_record.new.self _ c.in-Ok-Some.header c.in-Ok-Some.field-0-is c.in-Ok-Some.ensures.raw_record in
     record {
-      idles = idles_on state _ c.raw_records.self c.next_raw_record.new.self c.in-Ok-Some.head i.idles t c.if-head-ne-PERF_RECORD_FINISHED_ROUND.false c.raw_records-test.ensures;
+      idles = idles_on state _ c.raw_records.self c.next_raw_record.new.self c.in-Ok-Some.header i.idles t c.if-header-ne-PERF_RECORD_FINISHED_ROUND.false c.raw_records-test.ensures;
       pauses = (rw c.in-Ok-Some.field-0-is at c.in-Ok-Some.ensures.pauses) ∙ i.pauses;
-      lent = c.in-Ok-Some.ensures.lent ∙ i.lent;
+      same_loan = c.in-Ok-Some.ensures.same_loan ∙ i.same_loan;
       file = i.file;
     }
 
@@ -42,26 +42,26 @@ returns-in-Ok-clause-advances g c =
     let state = g.R.Source.state in
     let i = c.raw_records.invariant in
     let piece = c.next_raw_record.new.self in
-    let head = c.in-Ok-Some.head in
+    let head = c.in-Ok-Some.header in
     let t = some_record state c.raw_records.self piece _ head c.in-Ok-Some.field-0-is c.in-Ok-Some.ensures.raw_record in
-    let took = subst (λ f. RecordProcessed state piece f c.raw_records.self.offset c.raw_records.self.round head c.in-Ok.found c.process_record.new.self c.process_record.new.file) i.file c.in-Ok.ensures.takes in
-    returns_record state c.args.self.now c.raw_records.self piece c.process_record.new.self c.args.file.now c.process_record.new.file head c.in-Ok.found i.idles t c.if-head-ne-PERF_RECORD_FINISHED_ROUND.true c.raw_records-test.ensures took
+    let took = subst (λ f. RecordProcessed state piece f c.raw_records.self.offset c.raw_records.self.round head c.in-Ok.found c.process_record.new.self c.process_record.new.file) i.file c.in-Ok.ensures.processes in
+    returns_record state c.args.self.now c.raw_records.self piece c.process_record.new.self c.args.file.now c.process_record.new.file head c.in-Ok.found i.idles t c.if-header-ne-PERF_RECORD_FINISHED_ROUND.true c.raw_records-test.ensures took
 
 pub returns-in-Err-process_record-clause-advances : goal.returns-in-Err-process_record-clause-advances
 returns-in-Err-process_record-clause-advances g c =
     let state = g.R.Source.state in
     let i = c.raw_records.invariant in
     let piece = c.next_raw_record.new.self in
-    let head = c.in-Ok-Some.head in
+    let head = c.in-Ok-Some.header in
     let e = c.in-Err-process_record.error in
     let t = some_record state c.raw_records.self piece _ head c.in-Ok-Some.field-0-is c.in-Ok-Some.ensures.raw_record in
-    let d = subst (λ f. RecordRejected state piece f head e c.process_record.new.self c.process_record.new.file) i.file c.in-Err-process_record.ensures.takes in
+    let d = subst (λ f. RecordRejected state piece f head e c.process_record.new.self c.process_record.new.file) i.file c.in-Err-process_record.ensures.processes in
     record {
       stage_failed = refl;
       not_ended = λ ended. let ran = i.idles.ran in cc;
       if_failed = λ failed. let ran = i.idles.ran in absurd cc;
       only_if_failed = λ is. absurd (d.not_failed is);
-      if_running = λ _. late_stops state c.args.self.now c.raw_records.self piece c.process_record.new.self _ c.args.file.now c.process_record.new.file head e i.idles t c.if-head-ne-PERF_RECORD_FINISHED_ROUND.true c.raw_records-test.ensures d
+      if_running = λ _. late_stops state c.args.self.now c.raw_records.self piece c.process_record.new.self _ c.args.file.now c.process_record.new.file head e i.idles t c.if-header-ne-PERF_RECORD_FINISHED_ROUND.true c.raw_records-test.ensures d
           (record { source = refl; input = refl; body = refl }) refl;
       same_file = d.same_file;
     }

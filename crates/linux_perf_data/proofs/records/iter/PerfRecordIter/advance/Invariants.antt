@@ -6,7 +6,7 @@ abbrev pub invariant-raw_records : goal.invariant-raw_records
 invariant-raw_records g l = record {
   idles : Idles g.R.Source.state l.fn.self l.self;
   pauses : (g.R.Source.state l.self.source).pauses ≡ (g.R.Source.state l.fn.self.source).pauses;
-  lent : g.R.Source.loan l.self.source ≡ g.R.Source.loan l.fn.self.source;
+  same_loan : g.R.Source.loan l.self.source ≡ g.R.Source.loan l.fn.self.source;
   file : l.file ≡ l.fn.file;
 }
 

@@ -1,103 +1,123 @@
-use Rattle.std.proofs.Common.{◌++◌, length, rules, refl, ap, sym}
+use Rattle.std.proofs.Common.{◌++◌, length, rules, refl, ap, sym, subst}
+use Rattle.std.proofs.lemmas.Result.{err_from_is_err_and}
+use Rattle.perfdata_sections.specs.Error.{IsUnexpectedEof}
 use Rattle.linux_perf_data.specs.Input.{input_source_state}
 use Rattle.linux_perf_data.specs.Iter.{section_size_of, iter_source_state}
-use Rattle.linux_perf_data.proofs.RecordReads.{header_truncated, header_short, header_failed, size_error, pass_truncated, pass_short, pass_failed, content_truncated, content_short, content_error, marker_whole, content_whole, after_header}
+use Rattle.linux_perf_data.proofs.RecordReads.{EndChecked, header_truncated, header_short, size_error, end_error, pass_truncated, pass_short, pass_failed, content_truncated, content_short, content_error, marker_whole, content_whole, after_header}
 use Rattle.linux_perf_data.proofs.TruncatedRecords.{record_truncated}
-use Rattle.linux_perf_data.proofs.SourceViews.{header_some, header_none, pass_true, pass_false, content_some, content_none, read_in, ended_in, failed_part_in, content_in, ended_content_in, no_content_in}
+use Rattle.linux_perf_data.proofs.SourceViews.{header_some, header_none, pass_true, pass_false, content_some, content_none, skipped_in, ended_in, failed_part_in, content_in, ended_content_in, no_content_in}
 use Rattle.linux_perf_data.proofs.records.iter.PerfRecordIter.next_raw_record.Goals as goal
 
-pub returns-in-Err-clause-raw_record : goal.returns-in-Err-clause-raw_record
-returns-in-Err-clause-raw_record g c =
-    let it = c.args.self.now in
-    record {
-      error = header_failed it.endian (iter_source_state g.R.Source.state it) (input_source_state c.read_header.new.input (g.R.Source.state c.read_header.new.source)) (section_size_of g.R.Source.state it) it.offset _ c.in-Err.error (ap length c.requires.empty) c.in-Err.ensures.header;
-      offset = refl;
-      round = refl;
-      same_input = record { same_endian = refl; section_size = c.read_header.ensures.pending_header.section_size };
-      attribute_lookup = refl;
-      no_pending_header = c.read_header.ensures.pending_header.no_pending_header;
-    }
-
-pub returns-in-Ok-None-clause-raw_record : goal.returns-in-Ok-None-clause-raw_record
-returns-in-Ok-None-clause-raw_record g c =
+pub returns-in-None-clause-raw_record : goal.returns-in-None-clause-raw_record
+returns-in-None-clause-raw_record g c =
     let it = c.args.self.now in
     let state = g.R.Source.state in
+    let pending = c.read_header.ensures.pending_header in
+    let input = c.read_header.new.input in
     let a = iter_source_state state it in
-    let b = input_source_state c.read_header.new.input (state c.read_header.new.source) in
-    let ended = header_none it.endian a b _ c.in-Ok-None.field-0-is c.in-Ok-None.ensures.header in
+    let b = input_source_state input (state c.read_header.new.source) in
+    let ended = header_none it.endian a b _ c.in-None.is c.in_ok-header.ensures.header in
     let empty = ap length c.requires.empty in
-    record_truncated state it _ c.unexpected_eof.result c.at_truncation.result c.at_truncation.ensures (record { same_endian = refl; section_size = c.read_header.ensures.pending_header.section_size }) refl refl refl c.read_header.ensures.pending_header.no_pending_header
+    let short : IsUnexpectedEof c.from.result = subst IsUnexpectedEof (sym c.from.ensures) c.unexpected_eof.ensures in
+    record_truncated state it _ c.from.result c.at_truncation.result c.at_truncation.ensures (record { same_endian = refl; section_size = pending.section_size }) refl refl refl pending.no_pending_header
     (λ pipe. header_truncated it.endian a b it.offset _ empty ended)
-    (λ file. header_short it.endian a b (section_size_of state it) it.offset _ c.unexpected_eof.result file empty c.unexpected_eof.ensures ended)
+    (λ file. header_short it.endian a b (section_size_of state it) it.offset _ c.from.result file empty short ended)
 
-pub returns-in-Err-record_end-clause-raw_record : goal.returns-in-Err-record_end-clause-raw_record
-returns-in-Err-record_end-clause-raw_record g c =
+pub returns-in_err-body_size-clause-raw_record : goal.returns-in_err-body_size-clause-raw_record
+returns-in_err-body_size-clause-raw_record g c =
+    let p = err_from_is_err_and c.from_residual-in_err-body_size.result c.from_residual-in_err-body_size.ensures.1 in
     let it = c.args.self.now in
     let state = g.R.Source.state in
+    let pending = c.read_header.ensures.pending_header in
+    let input = c.read_header.new.input in
     let a = iter_source_state state it in
-    let b = input_source_state c.read_header.new.input (state c.read_header.new.source) in
-    let t = header_some it.endian a b _ c.in-Ok-Some.head c.in-Ok-Some.field-0-is c.in-Ok-Some.ensures.header in
-    record {
-      error = size_error it.endian a b (section_size_of state it) it.offset _ c.in-Ok-Some.head c.in-Err-record_end.error (ap length c.requires.empty) t c.in-Err-record_end.ensures;
+    let b = input_source_state input (state c.read_header.new.source) in
+    let t = header_some it.endian a b _ c.in-Some.header c.in-Some.is c.in_ok-header.ensures.header in
+    rw (p.1, p.2) (record {
+      error = size_error it.endian a b (section_size_of state it) it.offset _ c.in-Some.header _ (ap length c.requires.empty) t c.in_err-body_size.ensures;
       offset = refl;
       round = refl;
-      same_input = record { same_endian = refl; section_size = c.read_header.ensures.pending_header.section_size };
+      same_input = record { same_endian = refl; section_size = pending.section_size };
       attribute_lookup = refl;
-      no_pending_header = c.read_header.ensures.pending_header.no_pending_header;
-    }
+      no_pending_header = pending.no_pending_header;
+    })
 
-pub returns-in-Ok-false-clause-raw_record : goal.returns-in-Ok-false-clause-raw_record
-returns-in-Ok-false-clause-raw_record g c =
+pub returns-in_err-end-clause-raw_record : goal.returns-in_err-end-clause-raw_record
+returns-in_err-end-clause-raw_record g c =
+    let p = err_from_is_err_and c.from_residual-in_err-end.result c.from_residual-in_err-end.ensures.1 in
     let it = c.args.self.now in
     let state = g.R.Source.state in
-    let kept = c.read_header.ensures.pending_header in
+    let pending = c.read_header.ensures.pending_header in
+    let input = c.read_header.new.input in
+    let a = iter_source_state state it in
+    let b = input_source_state input (state c.read_header.new.source) in
+    let t = header_some it.endian a b _ c.in-Some.header c.in-Some.is c.in_ok-header.ensures.header in
+    rw (p.1, p.2) (record {
+      error = end_error it.endian a b (section_size_of state it) it.offset _ c.in-Some.header _ (ap length c.requires.empty) t c.in_ok-body_size.ensures.0 c.in_err-end.ensures;
+      offset = refl;
+      round = refl;
+      same_input = record { same_endian = refl; section_size = pending.section_size };
+      attribute_lookup = refl;
+      no_pending_header = pending.no_pending_header;
+    })
+
+pub returns-then-not-branch-clause-raw_record : goal.returns-then-not-branch-clause-raw_record
+returns-then-not-branch-clause-raw_record g c =
+    let it = c.args.self.now in
+    let state = g.R.Source.state in
+    let pending = c.read_header.ensures.pending_header in
     let input = c.read_header.new.input in
     let a = iter_source_state state it in
     let b = input_source_state input (state c.read_header.new.source) in
     let d = input_source_state input (state c.skip_body.new.source) in
-    let t = header_some it.endian a b _ c.in-Ok-Some.head c.in-Ok-Some.field-0-is c.in-Ok-Some.ensures.header in
-    let ended = ended_in input kept.no_pending_header (state c.read_header.new.source) (state c.skip_body.new.source) _ (pass_false (state c.read_header.new.source) (state c.skip_body.new.source) _ _ c.in-Ok-false.field-0-test c.in-Ok-false.ensures.skips) in
+    let t = header_some it.endian a b _ c.in-Some.header c.in-Some.is c.in_ok-header.ensures.header in
+    let checks : EndChecked it.offset c.in-Some.header.size _ = (c.in_ok-body_size.ensures.0, c.in_ok-end.ensures) in
+    let truncated = pass_false (state c.read_header.new.source) (state c.skip_body.new.source) _ _ c.if-not-branch.true c.in_ok-skip_body.ensures.skips in
+    let ended = ended_in input pending.no_pending_header (state c.read_header.new.source) (state c.skip_body.new.source) _ (rw c.in_ok-body_size.ensures.1 at truncated) in
     let empty = ap length c.requires.empty in
-    record_truncated state it _ _ c.at_truncation-in-Ok-false.result c.at_truncation-in-Ok-false.ensures (record { same_endian = refl; section_size = kept.section_size }) refl refl refl kept.no_pending_header
-    (λ pipe. pass_truncated it.endian a b d it.offset c.in-Ok.end _ c.in-Ok-Some.head empty t c.in-Ok.ensures ended)
-    (λ file. pass_short it.endian a b d (section_size_of state it) it.offset c.in-Ok.end _ c.in-Ok-Some.head _ file empty refl t c.in-Ok.ensures ended)
+    record_truncated state it _ _ c.at_truncation-then-not-branch.result c.at_truncation-then-not-branch.ensures (record { same_endian = refl; section_size = pending.section_size }) refl refl refl pending.no_pending_header
+    (λ pipe. pass_truncated it.endian a b d it.offset _ _ c.in-Some.header empty t checks ended)
+    (λ file. pass_short it.endian a b d (section_size_of state it) it.offset _ _ c.in-Some.header _ file empty refl t checks ended)
 
-pub returns-in-Err-skip_body-clause-raw_record : goal.returns-in-Err-skip_body-clause-raw_record
-returns-in-Err-skip_body-clause-raw_record g c =
+pub returns-in_err-skip_body-clause-raw_record : goal.returns-in_err-skip_body-clause-raw_record
+returns-in_err-skip_body-clause-raw_record g c =
+    let p = err_from_is_err_and c.from_residual-in_err-skip_body.result c.from_residual-in_err-skip_body.ensures.1 in
     let it = c.args.self.now in
     let state = g.R.Source.state in
-    let kept = c.read_header.ensures.pending_header in
+    let pending = c.read_header.ensures.pending_header in
     let input = c.read_header.new.input in
     let a = iter_source_state state it in
     let b = input_source_state input (state c.read_header.new.source) in
     let d = input_source_state input (state c.skip_body.new.source) in
-    let t = header_some it.endian a b _ c.in-Ok-Some.head c.in-Ok-Some.field-0-is c.in-Ok-Some.ensures.header in
-    let failed = c.in-Err-skip_body.ensures.skips in
-    record {
-      error = pass_failed it.endian a b d (section_size_of state it) it.offset _ c.in-Ok-Some.head c.in-Err-skip_body.error (ap length c.requires.empty) t
-          (failed.0, failed_part_in input kept.no_pending_header (state c.read_header.new.source) (state c.skip_body.new.source) _ failed.1);
+    let t = header_some it.endian a b _ c.in-Some.header c.in-Some.is c.in_ok-header.ensures.header in
+    let failed = rw c.in_ok-body_size.ensures.1 at c.in_err-skip_body.ensures.skips in
+    rw (p.1, p.2) (record {
+      error = pass_failed it.endian a b d (section_size_of state it) it.offset _ c.in-Some.header _ (ap length c.requires.empty) t
+          (failed.0, failed_part_in input pending.no_pending_header (state c.read_header.new.source) (state c.skip_body.new.source) _ failed.1);
       offset = refl;
       round = refl;
-      same_input = record { same_endian = refl; section_size = kept.section_size };
+      same_input = record { same_endian = refl; section_size = pending.section_size };
       attribute_lookup = refl;
-      no_pending_header = kept.no_pending_header;
-    }
+      no_pending_header = pending.no_pending_header;
+    })
 
-pub returns-then-head-eq-PERF_RECORD_FINISHED_ROUND-clause-raw_record : goal.returns-then-head-eq-PERF_RECORD_FINISHED_ROUND-clause-raw_record
-returns-then-head-eq-PERF_RECORD_FINISHED_ROUND-clause-raw_record g c =
+pub returns-then-header-eq-PERF_RECORD_FINISHED_ROUND-clause-raw_record : goal.returns-then-header-eq-PERF_RECORD_FINISHED_ROUND-clause-raw_record
+returns-then-header-eq-PERF_RECORD_FINISHED_ROUND-clause-raw_record g c =
     let it = c.args.self.now in
     let state = g.R.Source.state in
-    let kept = c.read_header.ensures.pending_header in
+    let pending = c.read_header.ensures.pending_header in
     let input = c.read_header.new.input in
     let a = iter_source_state state it in
     let b = input_source_state input (state c.read_header.new.source) in
     let d = input_source_state input (state c.skip_body.new.source) in
-    let t = header_some it.endian a b _ c.in-Ok-Some.head c.in-Ok-Some.field-0-is c.in-Ok-Some.ensures.header in
-    let passed = pass_true (state c.read_header.new.source) (state c.skip_body.new.source) _ _ c.in-Ok-true.field-0-test c.in-Ok-true.ensures.skips in
-    let marker = c.if-head-eq-PERF_RECORD_FINISHED_ROUND.true in
-    let w = marker_whole it.endian a b d it.offset c.in-Ok.end c.in-Ok-Some.head marker t c.in-Ok.ensures passed.0 (read_in input kept.no_pending_header (state c.read_header.new.source) (state c.skip_body.new.source) _ passed.0 passed.1) in
+    let t = header_some it.endian a b _ c.in-Some.header c.in-Some.is c.in_ok-header.ensures.header in
+    let checks : EndChecked it.offset c.in-Some.header.size _ = (c.in_ok-body_size.ensures.0, c.in_ok-end.ensures) in
+    let skipped = pass_true (state c.read_header.new.source) (state c.skip_body.new.source) _ _ c.if-not-branch.false c.in_ok-skip_body.ensures.skips in
+    let skipped' = skipped_in input pending.no_pending_header (state c.read_header.new.source) (state c.skip_body.new.source) _ (rw c.in_ok-body_size.ensures.1 at skipped) in
+    let marker = c.if-header-eq-PERF_RECORD_FINISHED_ROUND.true in
+    let w = marker_whole it.endian a b d it.offset _ c.in-Some.header marker t checks skipped' in
     record {
-      raw_record = t.bytes ++ passed.0;
+      raw_record = t.bytes ++ skipped'.bytes;
       consumes = w.gave;
       is_record = w.is_record;
       record_type = w.kind;
@@ -107,26 +127,27 @@ returns-then-head-eq-PERF_RECORD_FINISHED_ROUND-clause-raw_record g c =
       round = search rules;
       buffered_body = λ other. absurd (other marker);
       empty_if_marker = λ _. c.requires.empty;
-      same_input = record { same_endian = refl; section_size = kept.section_size };
+      same_input = record { same_endian = refl; section_size = pending.section_size };
       attribute_lookup = refl;
       stage = refl;
-      no_pending_header = kept.no_pending_header;
+      no_pending_header = pending.no_pending_header;
     }
 
-pub returns-in-Ok-Some-read_record_body-clause-raw_record : goal.returns-in-Ok-Some-read_record_body-clause-raw_record
-returns-in-Ok-Some-read_record_body-clause-raw_record g c =
+pub returns-in-Some-2-clause-raw_record : goal.returns-in-Some-2-clause-raw_record
+returns-in-Some-2-clause-raw_record g c =
     let it = c.args.self.now in
     let state = g.R.Source.state in
-    let kept = c.read_header.ensures.pending_header in
+    let pending = c.read_header.ensures.pending_header in
     let input = c.read_header.new.input in
     let a = iter_source_state state it in
     let b = input_source_state input (state c.read_header.new.source) in
     let d = input_source_state input (state c.read_record_body.new.source) in
-    let t = header_some it.endian a b _ c.in-Ok-Some.head c.in-Ok-Some.field-0-is c.in-Ok-Some.ensures.header in
+    let t = header_some it.endian a b _ c.in-Some.header c.in-Some.is c.in_ok-header.ensures.header in
+    let checks : EndChecked it.offset c.in-Some.header.size _ = (c.in_ok-body_size.ensures.0, c.in_ok-end.ensures) in
     let now = c.read_record_body.new.body.items in
-    let whole = c.in-Ok-Some-read_record_body.whole in
-    let content = content_some it.endian (state c.read_header.new.source) (state c.read_record_body.new.source) c.in-Ok-Some.head c.in-Ok.end whole now _ c.in-Ok-Some-read_record_body.field-0-is c.in-Ok-Some-read_record_body.ensures.reads in
-    let w = content_whole it.endian a b d it.offset c.in-Ok.end whole c.in-Ok-Some.head now t c.in-Ok.ensures (content_in input kept.no_pending_header (state c.read_header.new.source) (state c.read_record_body.new.source) it.endian c.in-Ok-Some.head c.in-Ok.end whole now content) in
+    let end = c.in-Some-2.end in
+    let content = content_some it.endian (state c.read_header.new.source) (state c.read_record_body.new.source) c.in-Some.header _ end now _ c.in-Some-2.is c.in_ok-end-2.ensures.reads in
+    let w = content_whole it.endian a b d it.offset _ end c.in-Some.header now t checks (content_in input pending.no_pending_header (state c.read_header.new.source) (state c.read_record_body.new.source) it.endian c.in-Some.header _ end now content) in
     record {
       raw_record = t.bytes ++ now;
       consumes = w.gave;
@@ -136,49 +157,51 @@ returns-in-Ok-Some-read_record_body-clause-raw_record g c =
       offset = w.ends;
       offset_fits = w.fits;
       round = search rules;
-      buffered_body = λ _. sym (after_header t.bytes now t.bytes_read.exact_len);
-      empty_if_marker = λ marker. absurd (c.if-head-eq-PERF_RECORD_FINISHED_ROUND.false marker);
-      same_input = record { same_endian = refl; section_size = kept.section_size };
+      buffered_body = λ _. sym (after_header t.bytes now t.exact_len);
+      empty_if_marker = λ marker. absurd (c.if-header-eq-PERF_RECORD_FINISHED_ROUND.false marker);
+      same_input = record { same_endian = refl; section_size = pending.section_size };
       attribute_lookup = refl;
       stage = refl;
-      no_pending_header = kept.no_pending_header;
+      no_pending_header = pending.no_pending_header;
     }
 
-pub returns-in-Ok-None-read_record_body-clause-raw_record : goal.returns-in-Ok-None-read_record_body-clause-raw_record
-returns-in-Ok-None-read_record_body-clause-raw_record g c =
+pub returns-in-None-2-clause-raw_record : goal.returns-in-None-2-clause-raw_record
+returns-in-None-2-clause-raw_record g c =
     let it = c.args.self.now in
     let state = g.R.Source.state in
-    let kept = c.read_header.ensures.pending_header in
+    let pending = c.read_header.ensures.pending_header in
     let input = c.read_header.new.input in
     let a = iter_source_state state it in
     let b = input_source_state input (state c.read_header.new.source) in
     let d = input_source_state input (state c.read_record_body.new.source) in
-    let t = header_some it.endian a b _ c.in-Ok-Some.head c.in-Ok-Some.field-0-is c.in-Ok-Some.ensures.header in
+    let t = header_some it.endian a b _ c.in-Some.header c.in-Some.is c.in_ok-header.ensures.header in
+    let checks : EndChecked it.offset c.in-Some.header.size _ = (c.in_ok-body_size.ensures.0, c.in_ok-end.ensures) in
     let now = c.read_record_body.new.body.items in
-    let ended = ended_content_in input kept.no_pending_header (state c.read_header.new.source) (state c.read_record_body.new.source) c.in-Ok-Some.head now
-    (content_none it.endian (state c.read_header.new.source) (state c.read_record_body.new.source) c.in-Ok-Some.head c.in-Ok.end now _ c.in-Ok-None-read_record_body.field-0-is c.in-Ok-None-read_record_body.ensures.reads) in
-    record_truncated state it _ _ c.at_truncation-in-Ok-None-read_record_body.result c.at_truncation-in-Ok-None-read_record_body.ensures (record { same_endian = refl; section_size = kept.section_size }) refl refl refl kept.no_pending_header
-    (λ pipe. content_truncated it.endian a b d it.offset c.in-Ok.end c.in-Ok-Some.head now t c.in-Ok.ensures ended)
-    (λ file. content_short it.endian a b d (section_size_of state it) it.offset c.in-Ok.end c.in-Ok-Some.head _ now file refl t c.in-Ok.ensures ended)
+    let ended = ended_content_in input pending.no_pending_header (state c.read_header.new.source) (state c.read_record_body.new.source) c.in-Some.header now
+    (content_none it.endian (state c.read_header.new.source) (state c.read_record_body.new.source) c.in-Some.header _ now _ c.in-None-2.is c.in_ok-end-2.ensures.reads) in
+    record_truncated state it _ _ c.at_truncation-in-None-2.result c.at_truncation-in-None-2.ensures (record { same_endian = refl; section_size = pending.section_size }) refl refl refl pending.no_pending_header
+    (λ pipe. content_truncated it.endian a b d it.offset _ c.in-Some.header now t checks ended)
+    (λ file. content_short it.endian a b d (section_size_of state it) it.offset _ c.in-Some.header _ now file refl t checks ended)
 
-pub returns-in-Err-read_record_body-clause-raw_record : goal.returns-in-Err-read_record_body-clause-raw_record
-returns-in-Err-read_record_body-clause-raw_record g c =
+pub returns-in_err-end-2-clause-raw_record : goal.returns-in_err-end-2-clause-raw_record
+returns-in_err-end-2-clause-raw_record g c =
+    let p = err_from_is_err_and c.from_residual-in_err-end-2.result c.from_residual-in_err-end-2.ensures.1 in
     let it = c.args.self.now in
     let state = g.R.Source.state in
-    let kept = c.read_header.ensures.pending_header in
+    let pending = c.read_header.ensures.pending_header in
     let input = c.read_header.new.input in
     let a = iter_source_state state it in
     let b = input_source_state input (state c.read_header.new.source) in
     let d = input_source_state input (state c.read_record_body.new.source) in
-    let t = header_some it.endian a b _ c.in-Ok-Some.head c.in-Ok-Some.field-0-is c.in-Ok-Some.ensures.header in
+    let t = header_some it.endian a b _ c.in-Some.header c.in-Some.is c.in_ok-header.ensures.header in
+    let checks : EndChecked it.offset c.in-Some.header.size _ = (c.in_ok-body_size.ensures.0, c.in_ok-end.ensures) in
     let now = c.read_record_body.new.body.items in
-    let e = c.in-Err-read_record_body.error in
-    record {
-      error = content_error it.endian a b d (section_size_of state it) it.offset c.in-Ok.end c.in-Ok-Some.head e now c.if-head-eq-PERF_RECORD_FINISHED_ROUND.false t c.in-Ok.ensures
-          (no_content_in input kept.no_pending_header (state c.read_header.new.source) (state c.read_record_body.new.source) it.endian c.in-Ok-Some.head c.in-Ok.end e now c.in-Err-read_record_body.ensures.reads);
+    rw (p.1, p.2) (record {
+      error = content_error it.endian a b d (section_size_of state it) it.offset _ c.in-Some.header _ now c.if-header-eq-PERF_RECORD_FINISHED_ROUND.false t checks
+          (no_content_in input pending.no_pending_header (state c.read_header.new.source) (state c.read_record_body.new.source) it.endian c.in-Some.header _ _ now c.in_err-end-2.ensures.reads);
       offset = refl;
       round = refl;
-      same_input = record { same_endian = refl; section_size = kept.section_size };
+      same_input = record { same_endian = refl; section_size = pending.section_size };
       attribute_lookup = refl;
-      no_pending_header = kept.no_pending_header;
-    }
+      no_pending_header = pending.no_pending_header;
+    })

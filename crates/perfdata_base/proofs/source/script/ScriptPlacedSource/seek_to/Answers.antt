@@ -4,9 +4,9 @@ use Rattle.perfdata_base.proofs.source.script.ScriptPlacedSource.seek_to.Goals a
 pub returns-in-Ok-clause-seeks : goal.returns-in-Ok-clause-seeks
 returns-in-Ok-clause-seeks c =
     let s = c.args.self.now in
-    seek_succeeded_visible s.bytes.items s.shown s.position c.in-Ok.at s.faults s.pauses c.args.to _ (rw (c.set_position.ensures.inner, c.set_position.ensures.position, c.new-shown.ensures.inner, c.deref.ensures.value) at c.in-Ok.ensures.seeks)
+    seek_succeeded_visible s.bytes.items s.shown s.position c.in-Ok.at s.errors s.pauses c.args.to _ (rw (c.set_position.ensures.inner, c.set_position.ensures.position, c.new-shown.ensures.inner, c.deref.ensures.value) at c.in-Ok.ensures.seeks)
 
 pub returns-in-Err-clause-seeks : goal.returns-in-Err-clause-seeks
 returns-in-Err-clause-seeks c =
     let s = c.args.self.now in
-    seek_error_visible s.bytes.items s.shown s.position s.faults s.pauses c.args.to _ (rw (c.set_position.ensures.inner, c.set_position.ensures.position, c.new-shown.ensures.inner, c.deref.ensures.value) at c.in-Err.ensures.seeks.1)
+    seek_error_visible s.bytes.items s.shown s.position s.errors s.pauses c.args.to _ (rw (c.set_position.ensures.inner, c.set_position.ensures.position, c.new-shown.ensures.inner, c.deref.ensures.value) at c.in-Err.ensures.seeks.1)

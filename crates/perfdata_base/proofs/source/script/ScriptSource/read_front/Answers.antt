@@ -12,4 +12,4 @@ returns-clause-reads c = λ _.
     let within : n ≤ length part = search rules in
     let copied : take n part ≡ take n (drop t.position (take t.shown t.bytes.items)) = search rules in
     let fits : t.position + n ≤ t.shown = search rules in
-    rw (sym c.in-Ok.ensures) (read_visible t.bytes.items (part ++ rest) t.shown t.position n t.faults t.pauses (omega arith) (omega (arith, length-append part rest)) (take-append-le n part rest within ∙ copied) fits)
+    rw (sym c.in-Ok.ensures) (read_visible t.bytes.items (part ++ rest) t.shown t.position n t.errors t.pauses (omega arith) (omega (arith, length-append part rest)) (take-append-le n part rest within ∙ copied) fits)

@@ -1,11 +1,13 @@
 use Rattle.std.proofs.Common.{rules, inr, length}
+use Rattle.std.proofs.lemmas.Result.{err_from_is_err_and}
 use Rattle.perfdata_sections.proofs.PartLemmas.{clock_rest_truncated, clock_read}
 use Rattle.perfdata_sections.proofs.feature_sections.number_sections.ClockData.parse_from.Goals as goal
 
-pub returns-in-Err-read_exact-clause-parses : goal.returns-in-Err-read_exact-clause-parses
-returns-in-Err-read_exact-clause-parses g c =
-    inr (clock_rest_truncated g.T.ByteOrder.number_of g.met.T.ByteOrder.reads_first _ _ _ c.read_exact.new.buf (length c.read_exact-2.new.buf) _ (search rules) (search rules) (search rules) c.in-Ok.ensures.reads c.in-Err-read_exact.ensures.reads)
+pub returns-in_err-read_exact-2-clause-parses : goal.returns-in_err-read_exact-2-clause-parses
+returns-in_err-read_exact-2-clause-parses g c =
+    let p = err_from_is_err_and c.from_residual-in_err-read_exact-2.result c.from_residual-in_err-read_exact-2.ensures.1 in
+    rw (p.1, p.2) (inr (clock_rest_truncated g.T.ByteOrder.number_of g.met.T.ByteOrder.reads_first _ _ _ c.read_exact.new.buf (length c.read_exact-2.new.buf) _ (search rules) (search rules) (search rules) c.in_ok-read_exact.ensures.reads c.in_err-read_exact-2.ensures.reads))
 
 pub returns-clause-parses : goal.returns-clause-parses
 returns-clause-parses g c =
-    clock_read g.T.ByteOrder.number_of g.met.T.ByteOrder.reads_first _ _ _ c.read_exact.new.buf c.read_exact-2.new.buf _ (search rules) (search rules) (search rules) c.in-Ok.ensures.reads c.in-Ok-read_exact.ensures.reads (search rules)
+    clock_read g.T.ByteOrder.number_of g.met.T.ByteOrder.reads_first _ _ _ c.read_exact.new.buf c.read_exact-2.new.buf _ (search rules) (search rules) (search rules) c.in_ok-read_exact.ensures.reads c.in_ok-read_exact-2.ensures.reads (search rules)
