@@ -9,6 +9,7 @@
 //   late-named   the same with an EVENT_DESC after the first attribute
 //   described    the same with an EVENT_DESC of a tenth as many descriptions, at most 779, that name them
 //   opening      those attributes and that EVENT_DESC before the first sample
+//   renamed      SIZE attributes before the first sample, and after it as many EVENT_DESC, by turns of no description and of one
 //   ids-up, ids-down            a pipe with SIZE late identifiers, ascending or descending, 8,000 in each record
 //   single-up, single-down      the same, one in each record
 //   attributes   a file with SIZE attributes in its attribute section, and one sample
@@ -293,6 +294,14 @@ static void write_opening(uint64_t count) {
     write_sample(count, 2000);
 }
 
+static void write_renamed(uint64_t count) {
+    write_pipe_header();
+    for (uint64_t id = 1; id <= count; id++) write_attribute(ATTRIBUTE, IDENTIFIER | TIME, 0, &id, 1);
+    write_sample(1, 1000);
+    for (uint64_t i = 0; i < count; i++) write_short_descriptions(i % 2);
+    write_sample(count, 2000);
+}
+
 // Late attributes with that many identifiers each, which increase or decrease from record to record and within each.
 static void write_ids(uint64_t count, uint64_t each, int is_falling) {
     static uint64_t ids[8000];
@@ -439,7 +448,7 @@ static void write_jit(uint64_t wanted) {
 int main(int argc, char **argv) {
     static const struct { const char *name; void (*write)(uint64_t); } kinds[] = {
         {"one", write_one}, {"small", write_small}, {"events", write_events}, {"pipe", write_pipe}, {"pipe-events", write_pipe_events},
-        {"late", write_late}, {"late-named", write_late_named}, {"described", write_described}, {"opening", write_opening},
+        {"late", write_late}, {"late-named", write_late_named}, {"described", write_described}, {"opening", write_opening}, {"renamed", write_renamed},
         {"ids-up", write_ids_up}, {"ids-down", write_ids_down}, {"single-up", write_single_up}, {"single-down", write_single_down},
         {"attributes", write_attribute_section}, {"types", write_types}, {"pmu", write_pmu},
         {"jit", write_jit}, {"jit-one", write_jit_one},

@@ -16,41 +16,41 @@ static uint64_t number_at(const uint8_t *bytes) {
     return number;
 }
 
-static uint64_t own(const uint8_t *bytes, struct dw_record *records) {
-    uint64_t start = number_at(bytes + 40), size = number_at(bytes + 48), at = 0, round = 0, count = 0;
-    while (at < size) {
-        const uint8_t *head = bytes + start + at;
-        uint64_t rest = number_at(head);
-        uint32_t type = (uint32_t)rest;
-        uint16_t length = (uint16_t)(rest >> 48);
-        if (length < 8) break;
-        if (type == 68) round++;
+static uint64_t own(const uint8_t *bytes, struct dewikura_record *records) {
+    uint64_t start = number_at(bytes + 40), size = number_at(bytes + 48), offset = 0, round = 0, count = 0;
+    while (offset < size) {
+        const uint8_t *header = bytes + start + offset;
+        uint64_t number = number_at(header);
+        uint32_t type = (uint32_t)number;
+        uint16_t record_size = (uint16_t)(number >> 48);
+        if (record_size < 8) break;
+        if (type == DEWIKURA_RECORD_FINISHED_ROUND) round++;
         else {
-            struct dw_record *record = &records[count++];
-            record->offset = at;
-            record->place = start + at + 8;
-            record->length = length - 8u;
+            struct dewikura_record *record = &records[count++];
+            record->offset = offset;
+            record->body_offset = start + offset + 8;
+            record->body_size = record_size - 8u;
             record->round = round;
             record->type = type;
-            record->misc = (uint16_t)(rest >> 32);
+            record->misc = (uint16_t)(number >> 32);
         }
-        at += length;
+        offset += record_size;
     }
     return count;
 }
 
-int main(int count, char **words) {
-    struct stat told;
-    int file = count == 3 ? open(words[2], O_RDONLY) : -1;
-    if (file < 0 || fstat(file, &told)) return 1;
-    size_t length = (size_t)told.st_size, room = length / 8;
-    const uint8_t *bytes = mmap(NULL, length, PROT_READ, MAP_PRIVATE, file, 0);
+int main(int argc, char **argv) {
+    struct stat file_stat;
+    int file = argc == 3 ? open(argv[2], O_RDONLY) : -1;
+    if (file < 0 || fstat(file, &file_stat)) return 1;
+    size_t size = (size_t)file_stat.st_size, capacity = size / 8;
+    const uint8_t *bytes = mmap(NULL, size, PROT_READ, MAP_PRIVATE, file, 0);
     // (the pages of the array that contain no record are never allocated)
-    struct dw_record *records = mmap(NULL, room * sizeof *records, PROT_READ | PROT_WRITE, MAP_PRIVATE | MAP_ANONYMOUS | MAP_NORESERVE, -1, 0);
+    struct dewikura_record *records = mmap(NULL, capacity * sizeof *records, PROT_READ | PROT_WRITE, MAP_PRIVATE | MAP_ANONYMOUS | MAP_NORESERVE, -1, 0);
     uint64_t total = 0;
     if (bytes == MAP_FAILED || records == MAP_FAILED) return 1;
-    if (!strcmp(words[1], "own")) total = own(bytes, records);
-    else if (dw_file_records(bytes, length, 0, records, room, &total)) return 2;
+    if (!strcmp(argv[1], "own")) total = own(bytes, records);
+    else if (dewikura_read_file_records(bytes, size, 0, records, capacity, &total)) return 2;
     printf("%" PRIu64 "\n", total);
     return 0;
 }

@@ -1,19 +1,23 @@
 /*
- * Dewikura: parses perf.data files and pipes of Linux perf and Android simpleperf, and jitdump files, from memory into plain arrays.
+ * Dewikura reads recordings of Linux perf and Android simpleperf (perf.data files and pipes), and jitdumps, from memory into arrays of
+ * plain structs. A call reads its input from the start, fills the caller's arrays and keeps nothing: there is nothing to open or free.
+ * A call that is given capacity 0 counts.
  *
- * Each call parses its bytes from the start, fills the caller's arrays and keeps no state. There is nothing to open and nothing to
- * free. Any number of threads may call at once. The header is for C99 and later, and for C++.
+ * The library is formally verified. No input makes a call read outside the input or write outside the arrays. The written elements are
+ * exactly what the format says, in order. The elements after them are unchanged. The status is the first error in the input.
  *
- * The library is formally verified: no input makes a call read outside its bytes or write outside its arrays, and the results of a call
- * are exactly what the format says of the bytes. The caller has these obligations:
- *   - Each pointer is valid for the number of elements that the argument beside it states, and aligned for its type. No two pointers
- *     overlap. A pointer to no element may be NULL.
- *   - Nobody changes the memory of any pointer while a call runs. This includes a mapped file.
- *   - Memory that a call may write is initialized before the call.
- *   - malloc, realloc and free are of one family. A block is aligned to each power of two up to 16 that divides its size.
- *   - No call is made from a signal handler, nor from the forked child of a process with threads.
+ * The caller has these obligations:
+ *   - A pointer is valid for the number of elements that the argument beside it gives, and aligned for its type (8 bytes for structs and
+ *     uint64_t). It may be NULL if that number is 0. A pointer to one result may be NULL only if its call says so.
+ *   - No two arguments overlap, and arrays are initialized memory (static, calloc).
+ *   - Nothing changes the arguments during a call. This includes a mapped file: map it with MAP_PRIVATE, or read it.
+ *   - malloc, realloc and free are of one family. They align a block to each power of two up to 16 that divides its size.
+ *   - No call is made from a signal handler, or from the forked child of a process with threads.
  *
- * Link a program with libdewikura.a and the kit's liblibc_c.a.
+ * Any number of threads may call at once, also on the same input, with different output arrays. The header is for 64-bit platforms, C99
+ * and later, and C++11 and later. Link with libdewikura.a and the kit's liblibc_c.a; an installed libdewikura.a contains both.
+ *
+ * Other languages bind the exports, whose names end in `_raw`. They take no NULL, also where the number of elements is 0.
  */
 #ifndef DEWIKURA_H
 #define DEWIKURA_H
@@ -21,336 +25,635 @@
 #include <stddef.h>
 #include <stdint.h>
 
+#if defined(__GNUC__) || defined(__clang__)
+#define DEWIKURA_NONNULL __attribute__((nonnull))
+#define DEWIKURA_NODISCARD __attribute__((warn_unused_result))
+#else
+#define DEWIKURA_NONNULL
+#define DEWIKURA_NODISCARD
+#endif
+
 #ifdef __cplusplus
 extern "C" {
 #endif
 
-/* The status of a call: one of the numbers below. */
-typedef uint32_t dw_status;
+// ---- version
 
-enum {
-    DW_WHOLE = 0,              /* no error */
-    DW_MEMORY = 1,             /* out of memory; what was written before is valid */
-    DW_CUT = 2,                /* the input is truncated */
-    DW_INVALID_DATA = 3,       /* a metadata record contains a value that has no meaning */
-    DW_INVALID_INPUT = 4,      /* the header contains a size that no input has */
-    DW_UNSUPPORTED = 5,        /* a compressed record */
-    DW_OTHER_IO = 6,
-    DW_READ_HEADER = 7,        /* 7 to 16: this part can't be read */
-    DW_READ_FEATURE_SECTION = 8,
-    DW_READ_BUILD_ID_SECTION = 9,
-    DW_READ_STRING_LENGTH = 10,
-    DW_READ_STRING = 11,
-    DW_READ_NR_CPUS = 12,
-    DW_READ_ATTRIBUTE_SECTION = 13,
-    DW_READ_ATTRIBUTE = 14,
-    DW_READ_RECORD_HEAD = 15,
-    DW_READ_RECORD = 16,
-    DW_MAGIC = 17,             /* the first bytes aren't those of a perf.data file or pipe */
-    DW_SECTION_TOO_BIG = 18,
-    DW_NO_ATTRIBUTES = 19,
-    DW_ATTRIBUTE_SIZES = 20,   /* an attribute is larger than its entry */
-    DW_NO_IDENTIFIER = 21,     /* one of several attributes lacks IDENTIFIER */
-    DW_SAMPLE_ID_ALL = 22,     /* one of several attributes differs from the first in SAMPLE_ID_ALL */
-    DW_STRING_LENGTH = 23,     /* a string's section is too small for its length */
-    DW_STRINGS_LENGTH = 24,
-    DW_SECTION_TOO_SMALL = 25,
-    DW_NO_EVENT_TYPES = 26,    /* simpleperf's meta info contains no event types */
-    DW_PROTOBUF = 27,
-    DW_SIMPLEPERF_FILE = 28,
-    DW_STRING_TOO_LONG = 29,
-    DW_STRINGS_TOO_MANY = 30,
-    DW_STRING_TOO_BIG = 31,
-    DW_UTF8 = 32,
-    DW_RECORD_SIZE = 33,       /* a record header contains a size below its own 8 bytes */
-    DW_FAILED = 34,
-    DW_JIT_CUT = 40,           /* the header of a jitdump is truncated, or has more than 4,096 bytes */
-    DW_JIT_HEADER_SIZE = 41,   /* it contains a size below its own 40 bytes */
-    DW_JIT_MAGIC = 42,         /* the first bytes aren't those of a jitdump */
-    DW_JIT_RECORD_SIZE = 43,   /* a record header contains a size below its own 16 bytes, or the record ends past 2^64 - 1 */
-    DW_JIT_VERSION = 44,
-    DW_JIT_NO_LOAD = 45,       /* the jitdump record at an offset has another type than 0 */
-    DW_JIT_BAD_LOAD = 46       /* the body of a load record is invalid */
+#define DEWIKURA_VERSION_MAJOR 0 // changes if a call or a struct changes incompatibly
+#define DEWIKURA_VERSION_MINOR 1 // changes if something is added
+#define DEWIKURA_VERSION_PATCH 0
+#define DEWIKURA_VERSION (DEWIKURA_VERSION_MAJOR * 10000 + DEWIKURA_VERSION_MINOR * 100 + DEWIKURA_VERSION_PATCH)
+
+// Returns DEWIKURA_VERSION of the linked library.
+uint32_t dewikura_version(void);
+
+// ---- statuses
+
+// The status of a call: one of the codes below.
+typedef uint32_t dewikura_status;
+
+enum dewikura_status_code {
+    DEWIKURA_OK = 0,                      // the whole input was read
+    DEWIKURA_OUT_OF_MEMORY = 1,           // an allocation failed; what was written is valid, and may be incomplete
+    DEWIKURA_TRUNCATED = 2,               // the input ends inside a header, a section or an entry
+    DEWIKURA_INVALID_DATA = 3,            // a metadata record of a pipe has an attribute size of 1 to 63
+    DEWIKURA_INVALID_HEADER_SIZE = 4,     // the header size can't be skipped (past 2^63)
+    DEWIKURA_COMPRESSED = 5,              // a compressed record; decompression is not supported
+    DEWIKURA_OTHER = 6,                   // any other error; none is known for input in memory
+    DEWIKURA_BAD_MAGIC = 7,               // not a perf.data file or pipe
+    DEWIKURA_NO_ATTRIBUTES = 8,           // the input declares no event attributes
+    DEWIKURA_BAD_DATA_SECTION = 9,        // the data section ends past 2^64 - 1
+    DEWIKURA_BAD_ATTRIBUTE = 10,          // an attribute or its id section is truncated or out of range
+    DEWIKURA_ATTRIBUTE_TOO_LARGE = 11,    // an attribute is larger than the entry that holds it
+    DEWIKURA_MISSING_IDENTIFIER = 12,     // several attributes, and one without PERF_SAMPLE_IDENTIFIER
+    DEWIKURA_SAMPLE_ID_ALL_MISMATCH = 13, // several attributes that disagree about sample_id_all
+    DEWIKURA_NO_EVENT_TYPES = 14,         // simpleperf's meta info lists no event types
+    DEWIKURA_INVALID_UTF8 = 15,           // simpleperf's meta info is not UTF-8
+    DEWIKURA_BAD_RECORD_SIZE = 16,        // a record header gives a size below 8
+    DEWIKURA_TRUNCATED_RECORD = 17,       // a record's body or aux data is truncated, or ends past 2^64 - 1
+    DEWIKURA_JIT_TRUNCATED_HEADER = 18,   // the jitdump header is incomplete, or larger than 4096 bytes
+    DEWIKURA_JIT_BAD_HEADER_SIZE = 19,    // the jitdump header gives a size below 40
+    DEWIKURA_JIT_BAD_MAGIC = 20,          // not a jitdump
+    DEWIKURA_JIT_BAD_RECORD_SIZE = 21,    // a jitdump record gives a size below 16, or ends past 2^64 - 1
+    DEWIKURA_JIT_WRONG_TYPE = 22,         // the jitdump record at this offset is of another type
+    DEWIKURA_JIT_BAD_BODY = 23            // the body of the jitdump record is malformed
 };
 
-/* A record of a file or a pipe. Numbers have the byte order of the machine, whatever the byte order of the input is. */
-struct dw_record {
-    uint64_t offset;           /* of its record header, in bytes from the first record */
-    uint64_t place;            /* the offset of its body, in bytes from the start of the input; the 8-byte record header is before it */
-    uint64_t length;           /* the size of its body in bytes, including aux data */
-    uint64_t round;            /* the number of FINISHED_ROUND markers before it */
-    uint64_t time;             /* in nanoseconds of the recording's clock; 0 if has_time is 0 */
-    uint64_t attribute;        /* the index of its attribute; 0 if has_attribute is 0 */
-    uint32_t type;
-    uint16_t misc;             /* the flags of its record header */
-    uint8_t has_time;          /* 1 or 0 */
-    uint8_t has_attribute;     /* 1 if the kernel wrote it, 0 if a tool did */
+// ---- structs: numbers are in the machine's byte order, whatever the byte order of the input is
+
+// A record of a file or pipe.
+struct dewikura_record {
+    uint64_t offset;       // of the record header, in bytes from the first record
+    uint64_t body_offset;  // of the body, in bytes from the start of the input
+    uint64_t body_size;    // in bytes, aux data included
+    uint64_t round;        // FINISHED_ROUND records before it
+    uint64_t timestamp;    // in nanoseconds of the recording's clock; 0 if has_timestamp is 0
+    uint64_t attr_index;   // index of its attribute; 0 if has_attr is 0
+    uint32_t type;         // DEWIKURA_RECORD_*
+    uint16_t misc;         // misc bits of the record header
+    uint8_t has_timestamp; // 0 or 1
+    uint8_t has_attr;      // 1 for kernel records, 0 for user (tool) records
 };
 
-/*
- * An attribute: the numbers of perf_event_attr in Linux's perf_event.h, under their names there, the offset of its name in all names,
- * and the index of its first id in all ids.
- */
-struct dw_attribute {
-    uint64_t config;
-    uint64_t period_or_freq;   /* in events per sample, or with the flag FREQ in samples per second */
-    uint64_t sample_format;    /* sample_type */
-    uint64_t read_format;
-    uint64_t flags;            /* the bits from `disabled` on */
-    uint64_t config1;          /* for a breakpoint its address */
-    uint64_t config2;          /* for a breakpoint its length in bytes */
-    uint64_t branch_sample_type;
-    uint64_t sample_regs_user;
-    uint64_t sample_regs_intr;
-    uint64_t sig_data;
-    uint64_t config3;
-    uint64_t name_place;       /* the offset of its name's first byte in the bytes of all names */
-    uint64_t name_length;      /* in bytes; names have no terminating NUL; 0 if has_name is 0 */
-    uint64_t ids_place;        /* the index of its first id in the ids of all attributes */
-    uint64_t ids_count;
-    uint32_t type;
-    uint32_t size;             /* of the attribute in bytes */
-    uint32_t wakeup;           /* in samples, or with the flag WATERMARK in bytes */
-    uint32_t bp_type;
-    uint32_t sample_stack_user;
-    int32_t clockid;
-    uint32_t aux_watermark;
-    uint32_t aux_sample_size;
-    uint32_t sample_max_stack;
-    uint32_t has_name;         /* 1 if the recording contains its name, otherwise 0 */
+// An event attribute: perf_event_attr, by the kernel's names.
+struct dewikura_attr {
+    uint64_t config;                // which event of its type
+    uint64_t sample_period_or_freq; // period, or samples per second with DEWIKURA_ATTR_FREQ
+    uint64_t sample_type;           // DEWIKURA_SAMPLE_* bits
+    uint64_t read_format;           // DEWIKURA_READ_* bits
+    uint64_t flags;                 // DEWIKURA_ATTR_* bits
+    uint64_t config1;               // bp_addr for breakpoints
+    uint64_t config2;               // bp_len for breakpoints
+    uint64_t branch_sample_type;    // branch stack selection
+    uint64_t sample_regs_user;      // user registers in a sample
+    uint64_t sample_regs_intr;      // registers at the interrupt in a sample
+    uint64_t sig_data;              // data delivered with sigtrap
+    uint64_t config3;               // fourth event-specific number
+    uint64_t name_offset;           // of its name in the names buffer
+    uint64_t name_size;             // in bytes, no NUL; 0 if has_name is 0
+    uint64_t ids_start;             // index of its first id in the ids array
+    uint64_t ids_count;             // how many ids
+    uint32_t type;                  // DEWIKURA_TYPE_* or a PMU number
+    uint32_t size;                  // own size of the attribute in bytes
+    uint32_t wakeup_events;         // events, or bytes with DEWIKURA_ATTR_WATERMARK, between wakeups
+    uint32_t bp_type;               // breakpoint type
+    uint32_t sample_stack_user;     // bytes of user stack in a sample
+    int32_t clockid;                // clock of timestamps with DEWIKURA_ATTR_USE_CLOCKID
+    uint32_t aux_watermark;         // bytes of aux data between wakeups
+    uint32_t aux_sample_size;       // bytes of aux data in a sample
+    uint32_t sample_max_stack;      // frames of a call chain at most
+    uint32_t has_name;              // 0 or 1
 };
 
-/* The number of all attributes, the size of their names in bytes, the number of their ids, and the status of the call. */
-struct dw_totals {
-    uint64_t attributes;
-    uint64_t names;
-    uint64_t ids;
-    dw_status status;
+// The totals over all attributes.
+struct dewikura_attr_totals {
+    uint64_t attr_count; // attributes
+    uint64_t names_size; // bytes of all names
+    uint64_t ids_count;  // ids of all attributes
 };
 
-/* The DSO kind of the path in a build id entry. */
-enum {
-    DW_KEY_NONE = 0,           /* no mapped file, such as //anon */
-    DW_KEY_KERNEL = 1,
-    DW_KEY_GUEST_KERNEL = 2,
-    DW_KEY_VDSO32 = 3,
-    DW_KEY_VDSOX32 = 4,
-    DW_KEY_VDSO64 = 5,
-    DW_KEY_VSYSCALL = 6,
-    DW_KEY_KERNEL_MODULE = 7,
-    DW_KEY_USER = 8            /* a file that a program maps */
+// A set of features: feature n is bit n % 64 of the number n / 64.
+struct dewikura_feature_set {
+    uint64_t bits0;
+    uint64_t bits1;
+    uint64_t bits2;
+    uint64_t bits3;
 };
 
-/* An entry of the feature BUILD_ID (2). Offsets (`id_place`, `path_place`, `next`) are in bytes from the start of the section. */
-struct dw_build_id {
-    uint64_t id_place;         /* the offset of the build id */
-    uint64_t id_length;        /* in bytes, at most 20 */
-    uint64_t path_place;
-    uint64_t path_length;      /* in bytes, up to the first NUL */
-    uint64_t next;             /* the offset of the next entry */
-    int32_t process;           /* the pid, usually -1 */
-    uint32_t key;              /* the DSO kind, DW_KEY_NONE to DW_KEY_USER */
+// An entry of the BUILD_ID section. Offsets are in bytes from the start of the section.
+struct dewikura_build_id {
+    uint64_t id_offset;   // of the build id
+    uint64_t id_size;     // in bytes, at most 20
+    uint64_t path_offset; // of the path
+    uint64_t path_size;   // in bytes, up to the first NUL
+    uint64_t next_offset; // of the next entry
+    int32_t pid;          // -1 mostly
+    uint32_t dso_kind;    // DEWIKURA_DSO_*
 };
 
-/* The header of a jitdump. */
-struct dw_jit_header {
-    uint64_t time;             /* the time at which the file was created */
-    uint64_t flags;            /* bit 0: times are those of the time stamp counter */
-    uint32_t version;
-    uint32_t size;             /* of the header in bytes, which is the offset of the first record */
-    uint32_t machine;          /* e_machine, as in an ELF file */
-    uint32_t process;
-    uint32_t big_endian;       /* 1 if the file's numbers are big-endian, otherwise 0 */
-    uint32_t unused;
+// A string of a feature section. Offsets are in bytes from the start of the section.
+struct dewikura_string {
+    uint64_t text_offset; // of the text
+    uint64_t text_size;   // in bytes, up to the first NUL
+    uint64_t next_offset; // of the bytes after the string
 };
 
-/* A record of a jitdump. */
-struct dw_jit_record {
-    uint64_t place;            /* the offset of its record header, in bytes from the start of the file; its body is 16 bytes after it */
-    uint64_t time;
-    uint32_t type;             /* 0 load, 1 move, 2 debug info, 3 close, 4 unwinding info */
-    uint32_t size;             /* in bytes, including its 16-byte record header */
+// The header of a jitdump.
+struct dewikura_jit_header {
+    uint64_t timestamp;     // when the file was created
+    uint64_t flags;         // bit 0: timestamps are TSC values
+    uint32_t version;       // of the format
+    uint32_t size;          // of the header in bytes; the first record follows it
+    uint32_t elf_machine;   // e_machine of the code
+    uint32_t pid;           // process that wrote it
+    uint32_t is_big_endian; // 0 or 1
+    uint32_t reserved;      // 0
 };
 
-/* A load record of a jitdump. Offsets (`name_place`, `code_place`) are in bytes from the start of the file. */
-struct dw_jit_load {
-    uint64_t mapping;          /* the address at which the code is mapped */
-    uint64_t address;          /* of the code */
-    uint64_t index;            /* identifies the code; a move record refers to the code by it */
-    uint64_t name_place;       /* the offset of the function's name */
-    uint64_t name_length;      /* in bytes, without its terminating NUL */
-    uint64_t code_place;
-    uint64_t code_length;      /* in bytes */
-    uint32_t process;
-    uint32_t thread;
+// A record of a jitdump.
+struct dewikura_jit_record {
+    uint64_t offset;    // of the record header, in bytes from the start of the file; the body follows 16 bytes later
+    uint64_t timestamp;
+    uint32_t type;      // DEWIKURA_JIT_*
+    uint32_t size;      // in bytes, header included
 };
 
-/* The sizes of these structures in the library. */
-typedef char dw_same_layout[(sizeof(struct dw_record) == 56 && sizeof(struct dw_attribute) == 168 && sizeof(struct dw_totals) == 32
-                             && sizeof(struct dw_build_id) == 48 && sizeof(struct dw_jit_header) == 40 && sizeof(struct dw_jit_record) == 24
-                             && sizeof(struct dw_jit_load) == 64 && sizeof(size_t) == 8) ? 1 : -1];
+// A code load record of a jitdump. Offsets are in bytes from the start of the file.
+struct dewikura_jit_load {
+    uint64_t vma;          // virtual address of the mapping
+    uint64_t code_address; // address of the code
+    uint64_t code_index;   // unique index of this code, named by move records
+    uint64_t name_offset;  // of the function's name
+    uint64_t name_size;    // in bytes, without the NUL
+    uint64_t code_offset;  // of the machine code
+    uint64_t code_size;    // in bytes
+    uint32_t pid;
+    uint32_t tid;
+};
 
-/* The exports of libdewikura.a. Here no pointer is NULL. A program makes the calls that are defined after them. */
-dw_status dewikura_file_records(const uint8_t *bytes, size_t length, uint64_t first, struct dw_record *records, size_t room, uint64_t *total);
-dw_status dewikura_pipe_records(const uint8_t *bytes, size_t length, uint64_t first, struct dw_record *records, size_t room, uint64_t *total);
-dw_status dewikura_file_feature(const uint8_t *bytes, size_t length, uint32_t feature, uint8_t *place, size_t room, uint8_t *has, uint64_t *size);
-dw_status dewikura_pipe_feature(const uint8_t *bytes, size_t length, uint32_t feature, uint8_t *place, size_t room, uint8_t *has, uint64_t *size);
-dw_status dewikura_file_attributes(const uint8_t *bytes, size_t length, struct dw_attribute *attributes, size_t room, uint8_t *names, size_t names_room, uint64_t *ids, size_t ids_room, struct dw_totals *totals);
-dw_status dewikura_pipe_attributes(const uint8_t *bytes, size_t length, struct dw_attribute *attributes, size_t room, uint8_t *names, size_t names_room, uint64_t *ids, size_t ids_room, struct dw_totals *totals);
-dw_status dewikura_build_id(const uint8_t *section, size_t length, uint32_t big_endian, uint64_t at, struct dw_build_id *entry);
-dw_status dewikura_jit_header(const uint8_t *bytes, size_t length, struct dw_jit_header *header);
-dw_status dewikura_jit_records(const uint8_t *bytes, size_t length, uint64_t from, struct dw_jit_record *records, size_t room, uint64_t *count, uint64_t *next);
-dw_status dewikura_jit_load(const uint8_t *bytes, size_t length, uint64_t at, struct dw_jit_load *load);
+// A code move record of a jitdump.
+struct dewikura_jit_move {
+    uint64_t vma;              // virtual address of the mapping after the move
+    uint64_t old_code_address; // address of the code before the move
+    uint64_t new_code_address; // address of the code after the move
+    uint64_t code_size;        // in bytes
+    uint64_t code_index;       // of the code, as in its load record
+    uint32_t pid;
+    uint32_t tid;
+};
 
-/* The bytes at a pointer. The pointer may be NULL if there are none. */
-static inline const uint8_t *dw_some(const void *bytes)
+// An unwinding info record of a jitdump. Offsets are in bytes from the start of the file.
+struct dewikura_jit_unwinding {
+    uint64_t mapped_size;         // how many bytes of the data are mapped
+    uint64_t eh_frame_hdr_offset; // of the index
+    uint64_t eh_frame_hdr_size;   // in bytes
+    uint64_t eh_frame_offset;     // of the data after the index
+    uint64_t eh_frame_size;       // in bytes
+};
+
+// The library has the same sizes.
+#if defined(__cplusplus)
+#define DEWIKURA_CHECK_SIZE(name, size) static_assert(sizeof(struct name) == size, "size of struct " #name)
+#elif defined(__STDC_VERSION__) && __STDC_VERSION__ >= 201112L
+#define DEWIKURA_CHECK_SIZE(name, size) _Static_assert(sizeof(struct name) == size, "size of struct " #name)
+#else
+#define DEWIKURA_CHECK_SIZE(name, size) typedef char name##_has_size[sizeof(struct name) == size ? 1 : -1]
+#endif
+DEWIKURA_CHECK_SIZE(dewikura_record, 56);
+DEWIKURA_CHECK_SIZE(dewikura_attr, 168);
+DEWIKURA_CHECK_SIZE(dewikura_attr_totals, 24);
+DEWIKURA_CHECK_SIZE(dewikura_feature_set, 32);
+DEWIKURA_CHECK_SIZE(dewikura_build_id, 48);
+DEWIKURA_CHECK_SIZE(dewikura_string, 24);
+DEWIKURA_CHECK_SIZE(dewikura_jit_header, 40);
+DEWIKURA_CHECK_SIZE(dewikura_jit_record, 24);
+DEWIKURA_CHECK_SIZE(dewikura_jit_load, 64);
+DEWIKURA_CHECK_SIZE(dewikura_jit_move, 48);
+DEWIKURA_CHECK_SIZE(dewikura_jit_unwinding, 40);
+#undef DEWIKURA_CHECK_SIZE
+typedef char dewikura_has_64_bits[sizeof(size_t) == 8 ? 1 : -1];
+
+// ---- record types (dewikura_record.type)
+
+enum dewikura_record_type {
+    DEWIKURA_RECORD_MMAP = 1,                            // a mapping
+    DEWIKURA_RECORD_LOST = 2,                            // lost records
+    DEWIKURA_RECORD_COMM = 3,                            // a process name
+    DEWIKURA_RECORD_EXIT = 4,                            // a task ended
+    DEWIKURA_RECORD_THROTTLE = 5,                        // sampling paused by the kernel
+    DEWIKURA_RECORD_UNTHROTTLE = 6,                      // and resumed
+    DEWIKURA_RECORD_FORK = 7,                            // a task started
+    DEWIKURA_RECORD_READ = 8,                            // a counter value
+    DEWIKURA_RECORD_SAMPLE = 9,                          // a sample
+    DEWIKURA_RECORD_MMAP2 = 10,                          // a mapping with inode or build id
+    DEWIKURA_RECORD_AUX = 11,                            // aux data available
+    DEWIKURA_RECORD_ITRACE_START = 12,                   // instruction trace started
+    DEWIKURA_RECORD_LOST_SAMPLES = 13,                   // lost samples
+    DEWIKURA_RECORD_SWITCH = 14,                         // context switch
+    DEWIKURA_RECORD_SWITCH_CPU_WIDE = 15,                // context switch, system-wide
+    DEWIKURA_RECORD_NAMESPACES = 16,                     // namespaces of a task
+    DEWIKURA_RECORD_KSYMBOL = 17,                        // kernel symbol registered
+    DEWIKURA_RECORD_BPF_EVENT = 18,                      // BPF program loaded
+    DEWIKURA_RECORD_CGROUP = 19,                         // a cgroup
+    DEWIKURA_RECORD_TEXT_POKE = 20,                      // kernel text modified
+    DEWIKURA_RECORD_AUX_OUTPUT_HW_ID = 21,               // hardware id of aux output
+    DEWIKURA_RECORD_HEADER_ATTR = 64,                    // from here on written by perf: an attribute (pipe)
+    DEWIKURA_RECORD_HEADER_EVENT_TYPE = 65,              // obsolete
+    DEWIKURA_RECORD_HEADER_TRACING_DATA = 66,            // tracing data follows
+    DEWIKURA_RECORD_HEADER_BUILD_ID = 67,                // a build id
+    DEWIKURA_RECORD_FINISHED_ROUND = 68,                 // end of a round; never returned, counted in `round`
+    DEWIKURA_RECORD_ID_INDEX = 69,                       // ids, CPUs and tasks
+    DEWIKURA_RECORD_AUXTRACE_INFO = 70,                  // how aux data was recorded
+    DEWIKURA_RECORD_AUXTRACE = 71,                       // aux data
+    DEWIKURA_RECORD_AUXTRACE_ERROR = 72,                 // an aux decoding error
+    DEWIKURA_RECORD_THREAD_MAP = 73,                     // threads
+    DEWIKURA_RECORD_CPU_MAP = 74,                        // CPUs
+    DEWIKURA_RECORD_STAT_CONFIG = 75,                    // perf stat settings
+    DEWIKURA_RECORD_STAT = 76,                           // a perf stat value
+    DEWIKURA_RECORD_STAT_ROUND = 77,                     // end of a perf stat interval
+    DEWIKURA_RECORD_EVENT_UPDATE = 78,                   // unit, scale or name of an event
+    DEWIKURA_RECORD_TIME_CONV = 79,                      // TSC conversion
+    DEWIKURA_RECORD_HEADER_FEATURE = 80,                 // a feature section (pipe)
+    DEWIKURA_RECORD_COMPRESSED = 81,                     // compressed records (DEWIKURA_COMPRESSED)
+    DEWIKURA_RECORD_FINISHED_INIT = 82,                  // end of the synthesized records
+    DEWIKURA_RECORD_COMPRESSED2 = 83,                    // as COMPRESSED
+    DEWIKURA_RECORD_SIMPLEPERF_KERNEL_SYMBOL = 32769,    // from here on written by simpleperf
+    DEWIKURA_RECORD_SIMPLEPERF_DSO = 32770,
+    DEWIKURA_RECORD_SIMPLEPERF_SYMBOL = 32771,
+    DEWIKURA_RECORD_SIMPLEPERF_SPLIT = 32772,
+    DEWIKURA_RECORD_SIMPLEPERF_SPLIT_END = 32773,
+    DEWIKURA_RECORD_SIMPLEPERF_EVENT_ID = 32774,
+    DEWIKURA_RECORD_SIMPLEPERF_CALLCHAIN = 32775,
+    DEWIKURA_RECORD_SIMPLEPERF_UNWINDING_RESULT = 32776,
+    DEWIKURA_RECORD_SIMPLEPERF_TRACING_DATA = 32777
+};
+
+// ---- features (the `feature` of dewikura_read_file_feature); the contents are as Linux's perf.data-file-format.txt says
+
+enum dewikura_feature {
+    DEWIKURA_FEATURE_TRACING_DATA = 1,                   // tracepoint formats
+    DEWIKURA_FEATURE_BUILD_ID = 2,                       // entries for dewikura_read_build_id
+    DEWIKURA_FEATURE_HOSTNAME = 3,                       // string (u32 size, bytes, NUL) for 3 to 6, 8, 9
+    DEWIKURA_FEATURE_OSRELEASE = 4,
+    DEWIKURA_FEATURE_VERSION = 5,
+    DEWIKURA_FEATURE_ARCH = 6,
+    DEWIKURA_FEATURE_NRCPUS = 7,                         // u32 available, u32 online
+    DEWIKURA_FEATURE_CPUDESC = 8,
+    DEWIKURA_FEATURE_CPUID = 9,
+    DEWIKURA_FEATURE_TOTAL_MEM = 10,                     // u64 kB
+    DEWIKURA_FEATURE_CMDLINE = 11,                       // u32 count, strings
+    DEWIKURA_FEATURE_EVENT_DESC = 12,                    // events with names and ids (dewikura_read_*_attrs)
+    DEWIKURA_FEATURE_CPU_TOPOLOGY = 13,
+    DEWIKURA_FEATURE_NUMA_TOPOLOGY = 14,
+    DEWIKURA_FEATURE_BRANCH_STACK = 15,                  // no contents
+    DEWIKURA_FEATURE_PMU_MAPPINGS = 16,                  // u32 count, (u32 type, string)
+    DEWIKURA_FEATURE_GROUP_DESC = 17,
+    DEWIKURA_FEATURE_AUXTRACE = 18,
+    DEWIKURA_FEATURE_STAT = 19,                          // no contents: written by perf stat
+    DEWIKURA_FEATURE_CACHE = 20,
+    DEWIKURA_FEATURE_SAMPLE_TIME = 21,                   // u64 first, u64 last
+    DEWIKURA_FEATURE_SAMPLE_TOPOLOGY = 22,
+    DEWIKURA_FEATURE_CLOCKID = 23,                       // u64 resolution
+    DEWIKURA_FEATURE_DIR_FORMAT = 24,
+    DEWIKURA_FEATURE_BPF_PROG_INFO = 25,
+    DEWIKURA_FEATURE_BPF_BTF = 26,
+    DEWIKURA_FEATURE_COMPRESSED = 27,                    // five u32
+    DEWIKURA_FEATURE_CPU_PMU_CAPS = 28,
+    DEWIKURA_FEATURE_CLOCK_DATA = 29,                    // version, clock id, wall clock, clock time
+    DEWIKURA_FEATURE_HYBRID_TOPOLOGY = 30,
+    DEWIKURA_FEATURE_HYBRID_CPU_PMU_CAPS = 31,
+    DEWIKURA_FEATURE_SIMPLEPERF_FILE = 128,
+    DEWIKURA_FEATURE_SIMPLEPERF_META_INFO = 129,
+    DEWIKURA_FEATURE_SIMPLEPERF_DEBUG_UNWIND = 130,
+    DEWIKURA_FEATURE_SIMPLEPERF_DEBUG_UNWIND_FILE = 131,
+    DEWIKURA_FEATURE_SIMPLEPERF_FILE2 = 132
+};
+
+// ---- event types (dewikura_attr.type)
+
+enum dewikura_event_type {
+    DEWIKURA_TYPE_HARDWARE = 0,   // CPU events
+    DEWIKURA_TYPE_SOFTWARE = 1,   // kernel events
+    DEWIKURA_TYPE_TRACEPOINT = 2, // config is the tracepoint id
+    DEWIKURA_TYPE_HW_CACHE = 3,   // cache events
+    DEWIKURA_TYPE_RAW = 4,        // raw PMU event
+    DEWIKURA_TYPE_BREAKPOINT = 5  // hardware breakpoint
+};
+
+// ---- flags of an attribute (dewikura_attr.flags)
+
+#define DEWIKURA_ATTR_DISABLED                 (UINT64_C(1) << 0)     // starts disabled
+#define DEWIKURA_ATTR_INHERIT                  (UINT64_C(1) << 1)     // children too
+#define DEWIKURA_ATTR_PINNED                   (UINT64_C(1) << 2)     // always on the PMU
+#define DEWIKURA_ATTR_EXCLUSIVE                (UINT64_C(1) << 3)     // alone on the PMU
+#define DEWIKURA_ATTR_EXCLUDE_USER             (UINT64_C(1) << 4)
+#define DEWIKURA_ATTR_EXCLUDE_KERNEL           (UINT64_C(1) << 5)
+#define DEWIKURA_ATTR_EXCLUDE_HV               (UINT64_C(1) << 6)
+#define DEWIKURA_ATTR_EXCLUDE_IDLE             (UINT64_C(1) << 7)
+#define DEWIKURA_ATTR_MMAP                     (UINT64_C(1) << 8)     // MMAP records
+#define DEWIKURA_ATTR_COMM                     (UINT64_C(1) << 9)     // COMM records
+#define DEWIKURA_ATTR_FREQ                     (UINT64_C(1) << 10)    // sample_period_or_freq is a frequency
+#define DEWIKURA_ATTR_INHERIT_STAT             (UINT64_C(1) << 11)
+#define DEWIKURA_ATTR_ENABLE_ON_EXEC           (UINT64_C(1) << 12)
+#define DEWIKURA_ATTR_TASK                     (UINT64_C(1) << 13)    // FORK and EXIT records
+#define DEWIKURA_ATTR_WATERMARK                (UINT64_C(1) << 14)    // wakeup_events is in bytes
+#define DEWIKURA_ATTR_PRECISE_IP_1             (UINT64_C(1) << 15)    // two bits, 0 to 3
+#define DEWIKURA_ATTR_PRECISE_IP_2             (UINT64_C(1) << 16)
+#define DEWIKURA_ATTR_MMAP_DATA                (UINT64_C(1) << 17)
+#define DEWIKURA_ATTR_SAMPLE_ID_ALL            (UINT64_C(1) << 18)    // every record ends with sample_id fields
+#define DEWIKURA_ATTR_EXCLUDE_HOST             (UINT64_C(1) << 19)
+#define DEWIKURA_ATTR_EXCLUDE_GUEST            (UINT64_C(1) << 20)
+#define DEWIKURA_ATTR_EXCLUDE_CALLCHAIN_KERNEL (UINT64_C(1) << 21)
+#define DEWIKURA_ATTR_EXCLUDE_CALLCHAIN_USER   (UINT64_C(1) << 22)
+#define DEWIKURA_ATTR_MMAP2                    (UINT64_C(1) << 23)    // MMAP2 records
+#define DEWIKURA_ATTR_COMM_EXEC                (UINT64_C(1) << 24)
+#define DEWIKURA_ATTR_USE_CLOCKID              (UINT64_C(1) << 25)    // timestamps of clockid
+#define DEWIKURA_ATTR_CONTEXT_SWITCH           (UINT64_C(1) << 26)    // SWITCH records
+#define DEWIKURA_ATTR_WRITE_BACKWARD           (UINT64_C(1) << 27)
+#define DEWIKURA_ATTR_NAMESPACES               (UINT64_C(1) << 28)
+#define DEWIKURA_ATTR_KSYMBOL                  (UINT64_C(1) << 29)
+#define DEWIKURA_ATTR_BPF_EVENT                (UINT64_C(1) << 30)
+#define DEWIKURA_ATTR_AUX_OUTPUT               (UINT64_C(1) << 31)
+#define DEWIKURA_ATTR_CGROUP                   (UINT64_C(1) << 32)
+#define DEWIKURA_ATTR_TEXT_POKE                (UINT64_C(1) << 33)
+#define DEWIKURA_ATTR_BUILD_ID                 (UINT64_C(1) << 34)    // MMAP2 records have build ids
+#define DEWIKURA_ATTR_INHERIT_THREAD           (UINT64_C(1) << 35)
+#define DEWIKURA_ATTR_REMOVE_ON_EXEC           (UINT64_C(1) << 36)
+#define DEWIKURA_ATTR_SIGTRAP                  (UINT64_C(1) << 37)
+
+// ---- the fields of a SAMPLE body (dewikura_attr.sample_type)
+
+#define DEWIKURA_SAMPLE_IP             (UINT64_C(1) << 0)     // instruction pointer
+#define DEWIKURA_SAMPLE_TID            (UINT64_C(1) << 1)     // pid and tid
+#define DEWIKURA_SAMPLE_TIME           (UINT64_C(1) << 2)     // timestamp
+#define DEWIKURA_SAMPLE_ADDR           (UINT64_C(1) << 3)     // address
+#define DEWIKURA_SAMPLE_READ           (UINT64_C(1) << 4)     // counter values
+#define DEWIKURA_SAMPLE_CALLCHAIN      (UINT64_C(1) << 5)     // call chain
+#define DEWIKURA_SAMPLE_ID             (UINT64_C(1) << 6)     // event id
+#define DEWIKURA_SAMPLE_CPU            (UINT64_C(1) << 7)     // CPU
+#define DEWIKURA_SAMPLE_PERIOD         (UINT64_C(1) << 8)     // period
+#define DEWIKURA_SAMPLE_STREAM_ID      (UINT64_C(1) << 9)     // stream id
+#define DEWIKURA_SAMPLE_RAW            (UINT64_C(1) << 10)    // raw data
+#define DEWIKURA_SAMPLE_BRANCH_STACK   (UINT64_C(1) << 11)    // branches
+#define DEWIKURA_SAMPLE_REGS_USER      (UINT64_C(1) << 12)    // user registers
+#define DEWIKURA_SAMPLE_STACK_USER     (UINT64_C(1) << 13)    // user stack
+#define DEWIKURA_SAMPLE_WEIGHT         (UINT64_C(1) << 14)    // weight
+#define DEWIKURA_SAMPLE_DATA_SRC       (UINT64_C(1) << 15)    // memory source
+#define DEWIKURA_SAMPLE_IDENTIFIER     (UINT64_C(1) << 16)    // id at a fixed position
+#define DEWIKURA_SAMPLE_TRANSACTION    (UINT64_C(1) << 17)    // transaction
+#define DEWIKURA_SAMPLE_REGS_INTR      (UINT64_C(1) << 18)    // interrupt registers
+#define DEWIKURA_SAMPLE_PHYS_ADDR      (UINT64_C(1) << 19)    // physical address
+#define DEWIKURA_SAMPLE_AUX            (UINT64_C(1) << 20)    // aux data
+#define DEWIKURA_SAMPLE_CGROUP         (UINT64_C(1) << 21)    // cgroup
+#define DEWIKURA_SAMPLE_DATA_PAGE_SIZE (UINT64_C(1) << 22)    // page sizes
+#define DEWIKURA_SAMPLE_CODE_PAGE_SIZE (UINT64_C(1) << 23)
+#define DEWIKURA_SAMPLE_WEIGHT_STRUCT  (UINT64_C(1) << 24)    // weight in three parts
+
+// ---- the fields of a counter value (dewikura_attr.read_format)
+
+#define DEWIKURA_READ_TOTAL_TIME_ENABLED (UINT64_C(1) << 0)     // time enabled
+#define DEWIKURA_READ_TOTAL_TIME_RUNNING (UINT64_C(1) << 1)     // time running
+#define DEWIKURA_READ_ID                 (UINT64_C(1) << 2)     // event id
+#define DEWIKURA_READ_GROUP              (UINT64_C(1) << 3)     // all events of the group
+#define DEWIKURA_READ_LOST               (UINT64_C(1) << 4)     // lost samples
+
+// ---- DSO kinds (dewikura_build_id.dso_kind)
+
+enum dewikura_dso_kind {
+    DEWIKURA_DSO_NONE = 0,          // no mapped object, as //anon
+    DEWIKURA_DSO_KERNEL = 1,
+    DEWIKURA_DSO_GUEST_KERNEL = 2,
+    DEWIKURA_DSO_VDSO32 = 3,
+    DEWIKURA_DSO_VDSOX32 = 4,
+    DEWIKURA_DSO_VDSO64 = 5,
+    DEWIKURA_DSO_VSYSCALL = 6,
+    DEWIKURA_DSO_KERNEL_MODULE = 7,
+    DEWIKURA_DSO_USER = 8           // a file mapped by a program
+};
+
+// ---- jitdump record types (dewikura_jit_record.type)
+
+enum dewikura_jit_record_type {
+    DEWIKURA_JIT_CODE_LOAD = 0,           // new code; dewikura_read_jit_load
+    DEWIKURA_JIT_CODE_MOVE = 1,           // moved code
+    DEWIKURA_JIT_CODE_DEBUG_INFO = 2,     // source lines
+    DEWIKURA_JIT_CODE_CLOSE = 3,          // end of the file
+    DEWIKURA_JIT_CODE_UNWINDING_INFO = 4  // eh_frame data
+};
+
+// ---- exports, which take no NULL
+
+DEWIKURA_NONNULL size_t dewikura_status_text_raw(dewikura_status status, char *buffer, size_t capacity);
+DEWIKURA_NONNULL uint32_t dewikura_is_big_endian_raw(const void *data, size_t size);
+DEWIKURA_NONNULL dewikura_status dewikura_read_file_records_raw(const void *data, size_t size, uint64_t start,
+    struct dewikura_record *records, size_t capacity, uint64_t *total);
+DEWIKURA_NONNULL dewikura_status dewikura_read_pipe_records_raw(const void *data, size_t size, uint64_t start,
+    struct dewikura_record *records, size_t capacity, uint64_t *total);
+DEWIKURA_NONNULL dewikura_status dewikura_read_file_attrs_raw(const void *data, size_t size, struct dewikura_attr *attrs,
+    size_t attrs_capacity, char *names, size_t names_capacity, uint64_t *ids, size_t ids_capacity, struct dewikura_attr_totals *totals);
+DEWIKURA_NONNULL dewikura_status dewikura_read_pipe_attrs_raw(const void *data, size_t size, struct dewikura_attr *attrs,
+    size_t attrs_capacity, char *names, size_t names_capacity, uint64_t *ids, size_t ids_capacity, struct dewikura_attr_totals *totals);
+DEWIKURA_NONNULL dewikura_status dewikura_read_file_feature_set_raw(const void *data, size_t size, struct dewikura_feature_set *set);
+DEWIKURA_NONNULL dewikura_status dewikura_read_pipe_feature_set_raw(const void *data, size_t size, struct dewikura_feature_set *set);
+DEWIKURA_NONNULL dewikura_status dewikura_read_file_feature_raw(const void *data, size_t size, uint32_t feature, void *buffer,
+    size_t capacity, uint8_t *is_present, uint64_t *feature_size);
+DEWIKURA_NONNULL dewikura_status dewikura_read_pipe_feature_raw(const void *data, size_t size, uint32_t feature, void *buffer,
+    size_t capacity, uint8_t *is_present, uint64_t *feature_size);
+DEWIKURA_NONNULL dewikura_status dewikura_read_build_id_raw(const void *section, size_t size, uint32_t is_big_endian, uint64_t offset,
+    struct dewikura_build_id *entry);
+DEWIKURA_NONNULL dewikura_status dewikura_read_string_raw(const void *section, size_t size, uint32_t is_big_endian, uint64_t offset,
+    struct dewikura_string *string);
+DEWIKURA_NONNULL dewikura_status dewikura_read_jit_header_raw(const void *data, size_t size, struct dewikura_jit_header *header);
+DEWIKURA_NONNULL dewikura_status dewikura_read_jit_records_raw(const void *data, size_t size, uint64_t start_offset,
+    struct dewikura_jit_record *records, size_t capacity, uint64_t *count, uint64_t *next_offset);
+DEWIKURA_NONNULL dewikura_status dewikura_read_jit_load_raw(const void *data, size_t size, uint64_t offset, struct dewikura_jit_load *load);
+DEWIKURA_NONNULL dewikura_status dewikura_read_jit_move_raw(const void *data, size_t size, uint64_t offset, struct dewikura_jit_move *move);
+DEWIKURA_NONNULL dewikura_status dewikura_read_jit_unwinding_raw(const void *data, size_t size, uint64_t offset,
+    struct dewikura_jit_unwinding *unwinding);
+
+// ---- calls
+
+// Writes the English text of a status and a NUL, truncated to `capacity`. Returns the size of the whole text without the NUL. With 128
+// bytes no text is truncated.
+static inline size_t dewikura_status_text(dewikura_status status, char *buffer, size_t capacity)
 {
-    static const uint8_t none[1] = {0};
-    return bytes ? (const uint8_t *)bytes : none;
+    char no_byte;
+    return dewikura_status_text_raw(status, buffer ? buffer : &no_byte, capacity);
 }
 
-/*
- * Writes the records of a perf.data file, starting with the record of index `first`, in the file's order. The bytes contain the whole
- * file. `room` is the capacity of the array in records. The elements after the last written record are unchanged.
- *
- * *total is the number of all records in the file. If the status isn't DW_WHOLE, *total is the number of records before the error. If
- * the file doesn't open, *total is 0. Markers (type 68) aren't records; they are counted as rounds.
- *
- * Each call parses the whole file. Pass an array large enough for all records to parse the file only once. With `first` 0 and capacity
- * 0, the call counts the records.
- */
-static inline dw_status dw_file_records(const void *bytes, size_t length, uint64_t first, struct dw_record *records, size_t room, uint64_t *total)
+// Returns 1 if the numbers of a perf.data file or pipe are big-endian, otherwise 0.
+static inline uint32_t dewikura_is_big_endian(const void *data, size_t size)
 {
-    static struct dw_record none;
-    return dewikura_file_records(dw_some(bytes), length, first, records ? records : &none, records ? room : 0, total);
+    const char no_data = 0;
+    return dewikura_is_big_endian_raw(data ? data : &no_data, size);
 }
 
-/*
- * Writes the records of a perf.data pipe that follow the metadata records of its opening. The bytes contain the whole pipe. Offsets count
- * from the first record after the opening. A truncated record ends the pipe without an error.
- */
-static inline dw_status dw_pipe_records(const void *bytes, size_t length, uint64_t first, struct dw_record *records, size_t room, uint64_t *total)
+// Writes the records of a perf.data file from index `start` on, in the order of the file, up to `capacity`. `data` is the whole file.
+//
+// *total counts all records of the file; after an error those before it, and 0 if the file doesn't open. `total` may be NULL.
+// FINISHED_ROUND records aren't returned; they are counted in `round`.
+//
+// Each call reads the whole file. With an array large enough for all records, one call reads them all.
+DEWIKURA_NODISCARD static inline dewikura_status dewikura_read_file_records(const void *data, size_t size, uint64_t start,
+    struct dewikura_record *records, size_t capacity, uint64_t *total)
 {
-    static struct dw_record none;
-    return dewikura_pipe_records(dw_some(bytes), length, first, records ? records : &none, records ? room : 0, total);
+    const char no_data = 0;
+    struct dewikura_record no_record;
+    uint64_t unused;
+    return dewikura_read_file_records_raw(data ? data : &no_data, size, start, records ? records : &no_record, capacity,
+        total ? total : &unused);
 }
 
-/*
- * Copies the bytes of a feature (HEADER_HOSTNAME is 3, and so on) of a file to `place`, up to the capacity `room` in bytes. *has is 1 if
- * the file has the feature. *size is the size of the whole feature in bytes. The status says whether the file opens, not whether its
- * records are complete.
- */
-static inline dw_status dw_file_feature(const void *bytes, size_t length, uint32_t feature, uint8_t *place, size_t room, uint8_t *has, uint64_t *size)
+// Does the same for a pipe. `data` is the whole pipe. The records are those after the metadata records that open the pipe, and offsets
+// count from the first of them. A truncated record ends a pipe without an error.
+DEWIKURA_NODISCARD static inline dewikura_status dewikura_read_pipe_records(const void *data, size_t size, uint64_t start,
+    struct dewikura_record *records, size_t capacity, uint64_t *total)
 {
-    static uint8_t none;
-    return dewikura_file_feature(dw_some(bytes), length, feature, place ? place : &none, place ? room : 0, has, size);
+    const char no_data = 0;
+    struct dewikura_record no_record;
+    uint64_t unused;
+    return dewikura_read_pipe_records_raw(data ? data : &no_data, size, start, records ? records : &no_record, capacity,
+        total ? total : &unused);
 }
 
-/* Does the same for a pipe. Reads the pipe to its end, and uses the last data of the feature. */
-static inline dw_status dw_pipe_feature(const void *bytes, size_t length, uint32_t feature, uint8_t *place, size_t room, uint8_t *has, uint64_t *size)
+// Writes the event attributes of a file, all names without a separator, and all ids, in the order of the file, each up to the capacity of
+// its array. *totals counts all of them; `totals` may be NULL.
+//
+// The status says whether the file opens, and not whether its records are complete. If it doesn't open, all totals are 0.
+DEWIKURA_NODISCARD static inline dewikura_status dewikura_read_file_attrs(const void *data, size_t size, struct dewikura_attr *attrs,
+    size_t attrs_capacity, char *names, size_t names_capacity, uint64_t *ids, size_t ids_capacity, struct dewikura_attr_totals *totals)
 {
-    static uint8_t none;
-    return dewikura_pipe_feature(dw_some(bytes), length, feature, place ? place : &none, place ? room : 0, has, size);
+    const char no_data = 0;
+    struct dewikura_attr no_attr;
+    char no_name;
+    uint64_t no_id;
+    struct dewikura_attr_totals unused;
+    return dewikura_read_file_attrs_raw(data ? data : &no_data, size, attrs ? attrs : &no_attr, attrs_capacity, names ? names : &no_name,
+        names_capacity, ids ? ids : &no_id, ids_capacity, totals ? totals : &unused);
 }
 
-/*
- * Writes the attributes of a file, their concatenated names and their ids, each up to the capacity of its array, in the file's order.
- * totals->attributes is the number of all attributes, totals->names the size of all names in bytes, and totals->ids the number of all
- * ids. The status says whether the file opens, not whether its records are complete. If it doesn't open, these totals are 0.
- */
-static inline dw_status dw_file_attributes(const void *bytes, size_t length, struct dw_attribute *attributes, size_t room, uint8_t *names, size_t names_room, uint64_t *ids, size_t ids_room, struct dw_totals *totals)
+// Does the same for a pipe. Reads the pipe to its end, and includes the attributes after its opening. After an error the attributes are
+// those before it.
+DEWIKURA_NODISCARD static inline dewikura_status dewikura_read_pipe_attrs(const void *data, size_t size, struct dewikura_attr *attrs,
+    size_t attrs_capacity, char *names, size_t names_capacity, uint64_t *ids, size_t ids_capacity, struct dewikura_attr_totals *totals)
 {
-    static struct dw_attribute none;
-    static uint8_t no_name;
-    static uint64_t no_id;
-    return dewikura_file_attributes(dw_some(bytes), length, attributes ? attributes : &none, attributes ? room : 0, names ? names : &no_name, names ? names_room : 0,
-                                    ids ? ids : &no_id, ids ? ids_room : 0, totals);
+    const char no_data = 0;
+    struct dewikura_attr no_attr;
+    char no_name;
+    uint64_t no_id;
+    struct dewikura_attr_totals unused;
+    return dewikura_read_pipe_attrs_raw(data ? data : &no_data, size, attrs ? attrs : &no_attr, attrs_capacity, names ? names : &no_name,
+        names_capacity, ids ? ids : &no_id, ids_capacity, totals ? totals : &unused);
 }
 
-/* Does the same for a pipe. Reads the pipe to its end, and includes the attributes after its opening. */
-static inline dw_status dw_pipe_attributes(const void *bytes, size_t length, struct dw_attribute *attributes, size_t room, uint8_t *names, size_t names_room, uint64_t *ids, size_t ids_room, struct dw_totals *totals)
+// Writes the set of features of a file. The status says whether the file opens. If it doesn't open, the set is empty.
+DEWIKURA_NODISCARD static inline dewikura_status dewikura_read_file_feature_set(const void *data, size_t size,
+    struct dewikura_feature_set *set)
 {
-    static struct dw_attribute none;
-    static uint8_t no_name;
-    static uint64_t no_id;
-    return dewikura_pipe_attributes(dw_some(bytes), length, attributes ? attributes : &none, attributes ? room : 0, names ? names : &no_name, names ? names_room : 0,
-                                    ids ? ids : &no_id, ids ? ids_room : 0, totals);
+    const char no_data = 0;
+    return dewikura_read_file_feature_set_raw(data ? data : &no_data, size, set);
 }
 
-/* Returns 1 if the numbers of a file or a pipe that opens are big-endian, otherwise 0. */
-static inline uint32_t dw_is_big_endian(const void *bytes, size_t length)
+// Does the same for a pipe. Reads the pipe to its end; after an error the features are those before it.
+DEWIKURA_NODISCARD static inline dewikura_status dewikura_read_pipe_feature_set(const void *data, size_t size,
+    struct dewikura_feature_set *set)
 {
-    return length > 0 && *(const uint8_t *)bytes == '2';
+    const char no_data = 0;
+    return dewikura_read_pipe_feature_set_raw(data ? data : &no_data, size, set);
 }
 
-/*
- * Parses the build id entry at byte `at` of the feature BUILD_ID (2). `section` contains the bytes of the feature. `big_endian` is the
- * byte order of the recording's numbers. If the status isn't DW_WHOLE, *entry is unchanged. DW_CUT means that the section contains no
- * complete entry at `at`, as at its end.
- */
-static inline dw_status dw_build_id(const void *section, size_t length, uint32_t big_endian, uint64_t at, struct dw_build_id *entry)
+// Writes the bytes of a feature section of a file, up to `capacity`. *is_present is 1 if the file has the feature, otherwise 0.
+// *feature_size is the size of the whole section in bytes. Both pointers may be NULL.
+//
+// The status says whether the file opens, and not whether its records are complete.
+DEWIKURA_NODISCARD static inline dewikura_status dewikura_read_file_feature(const void *data, size_t size, uint32_t feature, void *buffer,
+    size_t capacity, uint8_t *is_present, uint64_t *feature_size)
 {
-    return dewikura_build_id(dw_some(section), length, big_endian, at, entry);
+    const char no_data = 0;
+    char no_byte;
+    uint8_t unused_is_present;
+    uint64_t unused_size;
+    return dewikura_read_file_feature_raw(data ? data : &no_data, size, feature, buffer ? buffer : &no_byte, capacity,
+        is_present ? is_present : &unused_is_present, feature_size ? feature_size : &unused_size);
 }
 
-/* Parses the header of a jitdump. If the status isn't DW_WHOLE, *header is unchanged. */
-static inline dw_status dw_jit_header(const void *bytes, size_t length, struct dw_jit_header *header)
+// Does the same for a pipe. Reads the pipe to its end or its first error, and uses the last data of the feature.
+DEWIKURA_NODISCARD static inline dewikura_status dewikura_read_pipe_feature(const void *data, size_t size, uint32_t feature, void *buffer,
+    size_t capacity, uint8_t *is_present, uint64_t *feature_size)
 {
-    return dewikura_jit_header(dw_some(bytes), length, header);
+    const char no_data = 0;
+    char no_byte;
+    uint8_t unused_is_present;
+    uint64_t unused_size;
+    return dewikura_read_pipe_feature_raw(data ? data : &no_data, size, feature, buffer ? buffer : &no_byte, capacity,
+        is_present ? is_present : &unused_is_present, feature_size ? feature_size : &unused_size);
 }
 
-/*
- * Writes the complete records of a jitdump, starting at byte `from`, up to the capacity `room` in records. If `from` is in the header, for
- * example 0, the call starts at the first record. *count is the number of records written. *next is the offset at which a later call
- * continues, with more capacity or after the file has grown. If *count is less than the capacity and the status is DW_WHOLE, the bytes
- * contain no complete record at *next.
- */
-static inline dw_status dw_jit_records(const void *bytes, size_t length, uint64_t from, struct dw_jit_record *records, size_t room, uint64_t *count, uint64_t *next)
+// Writes the entry at an offset of the BUILD_ID section. `section` contains the bytes of the feature, and `is_big_endian` is that of the
+// recording. After an error *entry is unchanged. DEWIKURA_TRUNCATED means that the section has no complete entry at the offset, as at its
+// end.
+DEWIKURA_NODISCARD static inline dewikura_status dewikura_read_build_id(const void *section, size_t size, uint32_t is_big_endian,
+    uint64_t offset, struct dewikura_build_id *entry)
 {
-    static struct dw_jit_record none;
-    return dewikura_jit_records(dw_some(bytes), length, from, records ? records : &none, records ? room : 0, count, next);
+    const char no_data = 0;
+    return dewikura_read_build_id_raw(section ? section : &no_data, size, is_big_endian, offset, entry);
 }
 
-/*
- * Parses the load record at byte `at` of a jitdump. The offset is the `place` of a dw_jit_record of type 0. If the status isn't DW_WHOLE,
- * *load is unchanged. DW_CUT means that the bytes contain no complete record at `at`.
- */
-static inline dw_status dw_jit_load(const void *bytes, size_t length, uint64_t at, struct dw_jit_load *load)
+// Writes the positions of the string at an offset of a feature section. HOSTNAME, OSRELEASE, VERSION, ARCH, CPUDESC and CPUID have one
+// string, at offset 0. CMDLINE has a count in four bytes, and then that many strings. DEWIKURA_TRUNCATED means that the section has no
+// complete string at the offset; then *string is unchanged.
+DEWIKURA_NODISCARD static inline dewikura_status dewikura_read_string(const void *section, size_t size, uint32_t is_big_endian,
+    uint64_t offset, struct dewikura_string *string)
 {
-    return dewikura_jit_load(dw_some(bytes), length, at, load);
+    const char no_data = 0;
+    return dewikura_read_string_raw(section ? section : &no_data, size, is_big_endian, offset, string);
 }
 
-/* Returns the text of a status. */
-static inline const char *dw_status_text(dw_status status)
+// Writes the header of a jitdump. After an error *header is unchanged.
+DEWIKURA_NODISCARD static inline dewikura_status dewikura_read_jit_header(const void *data, size_t size, struct dewikura_jit_header *header)
 {
-    switch (status) {
-    case DW_WHOLE: return "whole";
-    case DW_MEMORY: return "memory ran out";
-    case DW_CUT: return "the input ends early";
-    case DW_INVALID_DATA: return "a record of metadata has no meaning";
-    case DW_INVALID_INPUT: return "the header tells an impossible size";
-    case DW_UNSUPPORTED: return "a compressed record";
-    case DW_READ_FEATURE_SECTION: return "the data section ends too far";
-    case DW_READ_ATTRIBUTE: return "an attribute is cut, or can't stand where the file says";
-    case DW_READ_RECORD: return "a record is cut, or ends too far";
-    case DW_MAGIC: return "no perf.data";
-    case DW_NO_ATTRIBUTES: return "no attributes";
-    case DW_ATTRIBUTE_SIZES: return "an attribute is larger than its entry";
-    case DW_NO_IDENTIFIER: return "several events, and one without IDENTIFIER";
-    case DW_SAMPLE_ID_ALL: return "several events, which disagree about SAMPLE_ID_ALL";
-    case DW_NO_EVENT_TYPES: return "simpleperf's meta info tells no event types";
-    case DW_STRING_TOO_LONG: return "a string is longer than its section";
-    case DW_UTF8: return "a text isn't UTF-8";
-    case DW_RECORD_SIZE: return "a record's size is below its head's";
-    case DW_JIT_CUT: return "the jitdump's header isn't there whole";
-    case DW_JIT_HEADER_SIZE: return "the jitdump's header is too short";
-    case DW_JIT_MAGIC: return "no jitdump";
-    case DW_JIT_RECORD_SIZE: return "no jitdump record has this size";
-    case DW_JIT_VERSION: return "no version of jitdump that is known";
-    case DW_JIT_NO_LOAD: return "no load record";
-    case DW_JIT_BAD_LOAD: return "a load record is cut in its body";
-    default: return "the input was refused";
-    }
+    const char no_data = 0;
+    return dewikura_read_jit_header_raw(data ? data : &no_data, size, header);
+}
+
+// Writes the complete records of a jitdump from an offset on, up to `capacity`. An offset within the header, such as 0, is that of the
+// first record. *count is the number of records written. *next_offset is where the next call continues, with new capacity or after the
+// file has grown. Both pointers may be NULL.
+//
+// If *count is less than `capacity` and the status is DEWIKURA_OK, there is no complete record at *next_offset.
+DEWIKURA_NODISCARD static inline dewikura_status dewikura_read_jit_records(const void *data, size_t size, uint64_t start_offset,
+    struct dewikura_jit_record *records, size_t capacity, uint64_t *count, uint64_t *next_offset)
+{
+    const char no_data = 0;
+    struct dewikura_jit_record no_record;
+    uint64_t unused_count, unused_offset;
+    return dewikura_read_jit_records_raw(data ? data : &no_data, size, start_offset, records ? records : &no_record, capacity,
+        count ? count : &unused_count, next_offset ? next_offset : &unused_offset);
+}
+
+// Writes the load record at an offset of a jitdump, which is the `offset` of a record of the type DEWIKURA_JIT_CODE_LOAD. After an error
+// *load is unchanged. DEWIKURA_TRUNCATED means that there is no complete record at the offset.
+DEWIKURA_NODISCARD static inline dewikura_status dewikura_read_jit_load(const void *data, size_t size, uint64_t offset,
+    struct dewikura_jit_load *load)
+{
+    const char no_data = 0;
+    return dewikura_read_jit_load_raw(data ? data : &no_data, size, offset, load);
+}
+
+// Writes the move record at an offset of a jitdump (DEWIKURA_JIT_CODE_MOVE). After an error *move is unchanged.
+DEWIKURA_NODISCARD static inline dewikura_status dewikura_read_jit_move(const void *data, size_t size, uint64_t offset,
+    struct dewikura_jit_move *move)
+{
+    const char no_data = 0;
+    return dewikura_read_jit_move_raw(data ? data : &no_data, size, offset, move);
+}
+
+// Writes the unwinding info record at an offset of a jitdump (DEWIKURA_JIT_CODE_UNWINDING_INFO). After an error *unwinding is unchanged.
+DEWIKURA_NODISCARD static inline dewikura_status dewikura_read_jit_unwinding(const void *data, size_t size, uint64_t offset,
+    struct dewikura_jit_unwinding *unwinding)
+{
+    const char no_data = 0;
+    return dewikura_read_jit_unwinding_raw(data ? data : &no_data, size, offset, unwinding);
 }
 
 #ifdef __cplusplus

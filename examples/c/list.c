@@ -11,132 +11,132 @@
 
 /* All bytes of an input. */
 struct input {
-    uint8_t *bytes;
-    size_t length;
+    uint8_t *data;
+    size_t size;
 };
 
-/* Reads a stream to its end; 0 where it fails or memory runs out. */
+/* Reads a stream to its end. Returns 0 if reading fails or memory runs out. */
 static int read_all(FILE *stream, struct input *input)
 {
-    size_t room = 0;
-    size_t came;
+    size_t capacity = 0;
+    size_t count;
     do {
-        if (input->length == room) {
-            size_t more = room ? 2 * room : 65536;
-            uint8_t *bytes = (uint8_t *)realloc(input->bytes, more);
-            if (!bytes)
+        if (input->size == capacity) {
+            size_t larger = capacity ? 2 * capacity : 65536;
+            uint8_t *data = (uint8_t *)realloc(input->data, larger);
+            if (!data)
                 return 0;
-            input->bytes = bytes;
-            room = more;
+            input->data = data;
+            capacity = larger;
         }
-        came = fread(input->bytes + input->length, 1, room - input->length, stream);
-        input->length += came;
-    } while (came > 0);
+        count = fread(input->data + input->size, 1, capacity - input->size, stream);
+        input->size += count;
+    } while (count > 0);
     return !ferror(stream);
 }
 
 static int read_file(const char *path, struct input *input)
 {
     FILE *stream = fopen(path, "rb");
-    int whole;
+    int is_complete;
     if (!stream)
         return 0;
-    whole = read_all(stream, input);
+    is_complete = read_all(stream, input);
     fclose(stream);
-    return whole;
+    return is_complete;
 }
 
-/* `number` where it is there, else `-`, and what is behind it. */
-static void put(uint64_t number, int is_there, char behind)
+/* Prints a number, or `-` if it is absent, and a separator. */
+static void print_number(uint64_t number, int is_present, char separator)
 {
     char text[21];
-    size_t at = sizeof text;
-    text[--at] = behind;
-    if (!is_there)
-        text[--at] = '-';
+    size_t start = sizeof text;
+    text[--start] = separator;
+    if (!is_present)
+        text[--start] = '-';
     else
         do
-            text[--at] = (char)('0' + number % 10);
+            text[--start] = (char)('0' + number % 10);
         while (number /= 10);
-    fwrite(text + at, 1, sizeof text - at, stdout);
+    fwrite(text + start, 1, sizeof text - start, stdout);
 }
 
-static void put_record(const struct dw_record *record)
+static void print_record(const struct dewikura_record *record)
 {
-    put(record->offset, 1, ' ');
-    put(record->round, 1, ' ');
-    put(record->time, record->has_time, ' ');
-    put(record->attribute, record->has_attribute, ' ');
-    put(record->type, 1, ' ');
-    put(record->misc, 1, ' ');
-    put(record->length, 1, '\n');
+    print_number(record->offset, 1, ' ');
+    print_number(record->round, 1, ' ');
+    print_number(record->timestamp, record->has_timestamp, ' ');
+    print_number(record->attr_index, record->has_attr, ' ');
+    print_number(record->type, 1, ' ');
+    print_number(record->misc, 1, ' ');
+    print_number(record->body_size, 1, '\n');
 }
 
-/* How a listing ended: the program's status. */
-static int end(int whole, uint64_t records)
+/* Prints the error line if the listing failed. Returns the exit status. */
+static int end_listing(int is_complete, uint64_t count)
 {
-    if (fflush(stdout) || ferror(stdout) || !whole) {
-        fprintf(stderr, "perflist: fault after %" PRIu64 " records\n", records);
+    if (fflush(stdout) || ferror(stdout) || !is_complete) {
+        fprintf(stderr, "perflist: fault after %" PRIu64 " records\n", count);
         return 2;
     }
     return 0;
 }
 
-typedef dw_status (*table)(const void *, size_t, uint64_t, struct dw_record *, size_t, uint64_t *);
+typedef dewikura_status (*read_records)(const void *, size_t, uint64_t, struct dewikura_record *, size_t, uint64_t *);
 
-/* Lists a file or a pipe. The array is as long as records of 32 bytes want it; where there are more, a second call fills all. */
-static int list_records(table records_of, const struct input *input)
+/* Lists a file or a pipe. The first array fits records of 32 bytes on average. If there are more, a second call fills a larger array. */
+static int list_records(read_records read, const struct input *input)
 {
-    size_t room = input->length / 32 + 1;
-    struct dw_record *records = (struct dw_record *)calloc(room, sizeof *records);
+    size_t capacity = input->size / 32 + 1;
+    struct dewikura_record *records = (struct dewikura_record *)calloc(capacity, sizeof *records);
     uint64_t total = 0;
-    dw_status status = records_of(input->bytes, input->length, 0, records, records ? room : 0, &total);
+    dewikura_status status = read(input->data, input->size, 0, records, records ? capacity : 0, &total);
     size_t i;
-    if (total > room || (!records && total > 0)) {
+    if (total > capacity || (!records && total > 0)) {
         free(records);
-        room = total;
-        records = (struct dw_record *)calloc(room, sizeof *records);
+        capacity = total;
+        records = (struct dewikura_record *)calloc(capacity, sizeof *records);
         if (!records)
-            return end(0, 0);
-        status = records_of(input->bytes, input->length, 0, records, room, &total);
+            return end_listing(0, 0);
+        status = read(input->data, input->size, 0, records, capacity, &total);
     }
     for (i = 0; i < total; i++)
-        put_record(&records[i]);
+        print_record(&records[i]);
     free(records);
-    return end(status == DW_WHOLE, total);
+    return end_listing(status == DEWIKURA_OK, total);
 }
 
-/* Lists a jitdump, some records at a time. */
+/* Lists a jitdump, up to 4,096 records a call. */
 static int list_jit(const struct input *input)
 {
-    static struct dw_jit_record records[4096];
-    uint64_t next = 0, count = 0, total = 0, i;
-    dw_status status;
+    static struct dewikura_jit_record records[4096];
+    uint64_t next_offset = 0, count = 0, total = 0, i;
+    dewikura_status status;
     do {
-        status = dw_jit_records(input->bytes, input->length, next, records, 4096, &count, &next);
+        status = dewikura_read_jit_records(input->data, input->size, next_offset, records, 4096, &count, &next_offset);
         for (i = 0; i < count; i++) {
-            put(records[i].place, 1, ' ');
-            put(records[i].time, 1, ' ');
-            put(records[i].type, 1, ' ');
-            put(records[i].size, 1, '\n');
+            print_number(records[i].offset, 1, ' ');
+            print_number(records[i].timestamp, 1, ' ');
+            print_number(records[i].type, 1, ' ');
+            print_number(records[i].size, 1, '\n');
         }
         total += count;
-    } while (status == DW_WHOLE && count == 4096);
-    return end(status == DW_WHOLE, total);
+    } while (status == DEWIKURA_OK && count == 4096);
+    return end_listing(status == DEWIKURA_OK, total);
 }
 
-int main(int count, char **words)
+int main(int argc, char **argv)
 {
     struct input input = {NULL, 0};
     int status = 1;
-    if (count == 3 && !strcmp(words[1], "file"))
-        status = read_file(words[2], &input) ? list_records(dw_file_records, &input) : end(0, 0);
-    else if (count == 2 && !strcmp(words[1], "pipe"))
-        status = read_all(stdin, &input) ? list_records(dw_pipe_records, &input) : end(0, 0);
-    else if (count == 3 && !strcmp(words[1], "jit"))
-        status = read_file(words[2], &input) ? list_jit(&input) : end(0, 0);
+    if (argc == 3 && !strcmp(argv[1], "file"))
+        status = read_file(argv[2], &input) ? list_records(dewikura_read_file_records, &input) : end_listing(0, 0);
+    else if (argc == 2 && !strcmp(argv[1], "pipe"))
+        status = read_all(stdin, &input) ? list_records(dewikura_read_pipe_records, &input) : end_listing(0, 0);
+    else if (argc == 3 && !strcmp(argv[1], "jit"))
+        status = read_file(argv[2], &input) ? list_jit(&input) : end_listing(0, 0);
     else
         fputs("usage: perflist file PATH | pipe | jit PATH\n", stderr);
-    free(input.bytes);
+    free(input.data);
     return status;
 }

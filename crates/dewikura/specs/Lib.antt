@@ -1,2 +1,2 @@
 -- The modules that contracts use.
-pub mod Endian
+pub mod Numbers

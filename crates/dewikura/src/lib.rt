@@ -1,21 +1,41 @@
 //! C exports of the calls of `perfdata_arrays`; `include/dewikura.h` declares them.
+//!
+//! The names end in `_raw` where a call takes pointers: no pointer may be NULL. The functions of the header that have the names
+//! without `_raw` accept NULL.
 #![tactic(auto)]
 
-ghost use Rattle.std.specs.Prelude.{◌≡◌};
+ghost use Rattle.std.specs.Prelude.{◌≡◌, ◌-◌, ◌++◌, ◌∷◌, [], length, take};
+ghost use Rattle.std.specs.Bool.{nat_eq};
+ghost use Rattle.std.specs.List.{starts_with};
+ghost use Rattle.perfdata_base.specs.declared.raw.Endianness.TheVariants.{BigEndian};
+ghost use Rattle.linux_perf_data.specs.FileOpening.{magic_of};
 ghost use Rattle.perfdata_arrays.specs.Attrs.{ReadsFileAttrs, ReadsPipeAttrs};
 ghost use Rattle.perfdata_arrays.specs.BuildIds.{ReadsBuildId};
+ghost use Rattle.perfdata_arrays.specs.FeatureSets.{ReadsFileFeatures, ReadsPipeFeatures};
 ghost use Rattle.perfdata_arrays.specs.Features.{ReadsFileFeature, ReadsPipeFeature};
 ghost use Rattle.perfdata_arrays.specs.Jit.{ReadsJitHeader, ReadsJitRecords, ReadsJitLoad};
+ghost use Rattle.perfdata_arrays.specs.JitBodies.{ReadsJitMove, ReadsJitUnwinding};
+ghost use Rattle.perfdata_arrays.specs.Overwrites.{with_prefix};
 ghost use Rattle.perfdata_arrays.specs.Records.{ReadsFileRecords, ReadsPipeRecords};
-ghost use Rattle.dewikura.specs.Endian.{endian_from};
+ghost use Rattle.perfdata_arrays.specs.Status.{IsCodeOf, code_text};
+ghost use Rattle.perfdata_arrays.specs.Strings.{ReadsString};
+ghost use Rattle.dewikura.specs.Numbers.{endian_from, number_of_bool};
 
 use linux_perf_data::Endianness;
 use perfdata_arrays::attrs::{Attr, AttrTotals};
 use perfdata_arrays::build_ids::BuildId;
+use perfdata_arrays::feature_set::FeatureBits;
 use perfdata_arrays::jit::{JitHeader, JitLoad, JitRecord};
+use perfdata_arrays::jit_bodies::{JitMove, JitUnwinding};
 use perfdata_arrays::record::Record;
-use perfdata_arrays::{attrs, build_ids, features, jit, records};
+use perfdata_arrays::strings::StringEntry;
+use perfdata_arrays::{
+    attrs, build_ids, byte_order, feature_set, features, jit, jit_bodies, records, status, strings,
+};
 use std::alloc::Global;
+
+/// The version of the library: 10,000 times the major number, 100 times the minor number, and the patch number.
+const VERSION: u32 = 100;
 
 // The byte order is little-endian for 0 and big-endian for all other values.
 fn endian_of(is_big_endian: u32) -> Endianness
@@ -28,41 +48,128 @@ fn endian_of(is_big_endian: u32) -> Endianness
     }
 }
 
+/// Returns the version of the library, as `DEWIKURA_VERSION` of the header.
+#[unsafe(no_mangle)]
+pub extern "C" fn dewikura_version() -> u32
+    ensures { result ≡ 100 }
+{
+    VERSION
+}
+
+/// Writes the text of a status code, as `status::status_text` does.
+#[unsafe(no_mangle)]
+pub extern "C" fn dewikura_status_text_raw(code: u32, buf: &mut [u8]) -> usize
+    ensures size { result ≡ length (code_text code) }
+    ensures written { buf.new ≡ with_prefix (take (length buf.old - 1) (code_text code) ++ 0 ∷ []) buf.old }
+{
+    status::status_text(code, buf)
+}
+
+/// Returns 1 if the numbers of a perf.data file or pipe are big-endian, otherwise 0, as `byte_order::is_big_endian` does.
+#[unsafe(no_mangle)]
+pub extern "C" fn dewikura_is_big_endian_raw(input: &[u8]) -> u32
+    ensures { result ≡ number_of_bool (starts_with nat_eq input.now (magic_of BigEndian)) }
+{
+    byte_order::is_big_endian(input) as u32
+}
+
 /// Reads the records of a perf.data file, as `records::file_records` does.
 #[unsafe(no_mangle)]
-pub extern "C" fn dewikura_file_records(
+pub extern "C" fn dewikura_read_file_records_raw(
     alloc: Global,
     input: &[u8],
     start: u64,
     entries: &mut [Record],
     count: &mut u64,
 ) -> u32
-    ensures { ReadsFileRecords input.now start entries.old (record { count = count.new; status = result }) entries.new }
+    ensures { IsCodeOf result (λ s. ReadsFileRecords input.now start entries.old (record { count = count.new; status = s }) entries.new) }
 {
     let outcome = records::file_records(alloc, input, start, entries);
     *count = outcome.count;
-    outcome.status
+    outcome.status.code()
 }
 
 /// Reads the records of a perf.data pipe, as `records::pipe_records` does.
 #[unsafe(no_mangle)]
-pub extern "C" fn dewikura_pipe_records(
+pub extern "C" fn dewikura_read_pipe_records_raw(
     alloc: Global,
     input: &[u8],
     start: u64,
     entries: &mut [Record],
     count: &mut u64,
 ) -> u32
-    ensures { ReadsPipeRecords input.now start entries.old (record { count = count.new; status = result }) entries.new }
+    ensures { IsCodeOf result (λ s. ReadsPipeRecords input.now start entries.old (record { count = count.new; status = s }) entries.new) }
 {
     let outcome = records::pipe_records(alloc, input, start, entries);
     *count = outcome.count;
-    outcome.status
+    outcome.status.code()
+}
+
+/// Reads the attributes of a perf.data file, as `attrs::file_attrs` does.
+#[unsafe(no_mangle)]
+pub extern "C" fn dewikura_read_file_attrs_raw(
+    alloc: Global,
+    input: &[u8],
+    entries: &mut [Attr],
+    names: &mut [u8],
+    ids: &mut [u64],
+    totals: &mut AttrTotals,
+) -> u32
+    ensures { IsCodeOf result (λ s. ReadsFileAttrs input.now entries.old names.old ids.old (record { totals = totals.new; status = s }) entries.new names.new ids.new) }
+{
+    let outcome = attrs::file_attrs(alloc, input, entries, names, ids);
+    *totals = outcome.totals;
+    outcome.status.code()
+}
+
+/// Reads the attributes of a perf.data pipe, as `attrs::pipe_attrs` does.
+#[unsafe(no_mangle)]
+pub extern "C" fn dewikura_read_pipe_attrs_raw(
+    alloc: Global,
+    input: &[u8],
+    entries: &mut [Attr],
+    names: &mut [u8],
+    ids: &mut [u64],
+    totals: &mut AttrTotals,
+) -> u32
+    ensures { IsCodeOf result (λ s. ReadsPipeAttrs input.now entries.old names.old ids.old (record { totals = totals.new; status = s }) entries.new names.new ids.new) }
+{
+    let outcome = attrs::pipe_attrs(alloc, input, entries, names, ids);
+    *totals = outcome.totals;
+    outcome.status.code()
+}
+
+/// Reads the set of features of a perf.data file, as `feature_set::file_features` does.
+#[unsafe(no_mangle)]
+pub extern "C" fn dewikura_read_file_feature_set_raw(
+    alloc: Global,
+    input: &[u8],
+    set: &mut FeatureBits,
+) -> u32
+    ensures { IsCodeOf result (λ s. ReadsFileFeatures input.now (record { features = set.new; status = s })) }
+{
+    let outcome = feature_set::file_features(alloc, input);
+    *set = outcome.features;
+    outcome.status.code()
+}
+
+/// Reads the set of features of a perf.data pipe, as `feature_set::pipe_features` does.
+#[unsafe(no_mangle)]
+pub extern "C" fn dewikura_read_pipe_feature_set_raw(
+    alloc: Global,
+    input: &[u8],
+    set: &mut FeatureBits,
+) -> u32
+    ensures { IsCodeOf result (λ s. ReadsPipeFeatures input.now (record { features = set.new; status = s })) }
+{
+    let outcome = feature_set::pipe_features(alloc, input);
+    *set = outcome.features;
+    outcome.status.code()
 }
 
 /// Reads the bytes of a feature of a perf.data file, as `features::file_feature` does.
 #[unsafe(no_mangle)]
-pub extern "C" fn dewikura_file_feature(
+pub extern "C" fn dewikura_read_file_feature_raw(
     alloc: Global,
     input: &[u8],
     feature: u32,
@@ -70,17 +177,17 @@ pub extern "C" fn dewikura_file_feature(
     is_present: &mut u8,
     feature_size: &mut u64,
 ) -> u32
-    ensures { ReadsFileFeature input.now feature buf.old (record { size = feature_size.new; is_present = is_present.new; status = result }) buf.new }
+    ensures { IsCodeOf result (λ s. ReadsFileFeature input.now feature buf.old (record { size = feature_size.new; is_present = is_present.new; status = s }) buf.new) }
 {
     let outcome = features::file_feature(alloc, input, feature, buf);
     *is_present = outcome.is_present;
     *feature_size = outcome.size;
-    outcome.status
+    outcome.status.code()
 }
 
 /// Reads the bytes of a feature of a perf.data pipe, as `features::pipe_feature` does.
 #[unsafe(no_mangle)]
-pub extern "C" fn dewikura_pipe_feature(
+pub extern "C" fn dewikura_read_pipe_feature_raw(
     alloc: Global,
     input: &[u8],
     feature: u32,
@@ -88,91 +195,90 @@ pub extern "C" fn dewikura_pipe_feature(
     is_present: &mut u8,
     feature_size: &mut u64,
 ) -> u32
-    ensures { ReadsPipeFeature input.now feature buf.old (record { size = feature_size.new; is_present = is_present.new; status = result }) buf.new }
+    ensures { IsCodeOf result (λ s. ReadsPipeFeature input.now feature buf.old (record { size = feature_size.new; is_present = is_present.new; status = s }) buf.new) }
 {
     let outcome = features::pipe_feature(alloc, input, feature, buf);
     *is_present = outcome.is_present;
     *feature_size = outcome.size;
-    outcome.status
+    outcome.status.code()
 }
 
-/// Reads the attributes of a perf.data file, as `file_attrs` does.
+/// Reads an entry of a BUILD_ID section, as `build_ids::build_id_at` does.
 #[unsafe(no_mangle)]
-pub extern "C" fn dewikura_file_attributes(
-    alloc: Global,
-    input: &[u8],
-    entries: &mut [Attr],
-    names: &mut [u8],
-    ids: &mut [u64],
-    totals: &mut AttrTotals,
-) -> u32
-    ensures writes { ReadsFileAttrs input.now entries.old names.old ids.old totals.new entries.new names.new ids.new }
-    ensures status { result ≡ totals.new.status }
-{
-    *totals = attrs::file_attrs(alloc, input, entries, names, ids);
-    totals.status
-}
-
-/// Reads the attributes of a perf.data pipe, as `pipe_attrs` does.
-#[unsafe(no_mangle)]
-pub extern "C" fn dewikura_pipe_attributes(
-    alloc: Global,
-    input: &[u8],
-    entries: &mut [Attr],
-    names: &mut [u8],
-    ids: &mut [u64],
-    totals: &mut AttrTotals,
-) -> u32
-    ensures writes { ReadsPipeAttrs input.now entries.old names.old ids.old totals.new entries.new names.new ids.new }
-    ensures status { result ≡ totals.new.status }
-{
-    *totals = attrs::pipe_attrs(alloc, input, entries, names, ids);
-    totals.status
-}
-
-/// Reads an entry of a BUILD_ID section, as `build_id_at` does.
-#[unsafe(no_mangle)]
-pub extern "C" fn dewikura_build_id(
+pub extern "C" fn dewikura_read_build_id_raw(
     alloc: Global,
     section: &[u8],
     is_big_endian: u32,
     offset: u64,
     entry: &mut BuildId,
 ) -> u32
-    ensures { ReadsBuildId (endian_from is_big_endian) section.now offset entry.old result entry.new }
+    ensures { IsCodeOf result (λ s. ReadsBuildId (endian_from is_big_endian) section.now offset entry.old s entry.new) }
 {
-    build_ids::build_id_at(alloc, endian_of(is_big_endian), section, offset, entry)
+    build_ids::build_id_at(alloc, endian_of(is_big_endian), section, offset, entry).code()
+}
+
+/// Reads a string of a feature section, as `strings::string_at` does.
+#[unsafe(no_mangle)]
+pub extern "C" fn dewikura_read_string_raw(
+    section: &[u8],
+    is_big_endian: u32,
+    offset: u64,
+    entry: &mut StringEntry,
+) -> u32
+    ensures { IsCodeOf result (λ s. ReadsString (endian_from is_big_endian) section.now offset entry.old s entry.new) }
+{
+    strings::string_at(endian_of(is_big_endian), section, offset, entry).code()
 }
 
 /// Reads the header of a jitdump, as `jit::jit_header` does.
 #[unsafe(no_mangle)]
-pub extern "C" fn dewikura_jit_header(input: &[u8], header: &mut JitHeader) -> u32
-    ensures { ReadsJitHeader input.now header.old result header.new }
+pub extern "C" fn dewikura_read_jit_header_raw(input: &[u8], header: &mut JitHeader) -> u32
+    ensures { IsCodeOf result (λ s. ReadsJitHeader input.now header.old s header.new) }
 {
-    jit::jit_header(input, header)
+    jit::jit_header(input, header).code()
 }
 
 /// Reads the records of a jitdump, as `jit::jit_records` does.
 #[unsafe(no_mangle)]
-pub extern "C" fn dewikura_jit_records(
+pub extern "C" fn dewikura_read_jit_records_raw(
     input: &[u8],
     start_offset: u64,
     entries: &mut [JitRecord],
     count: &mut u64,
     next_offset: &mut u64,
 ) -> u32
-    ensures { ReadsJitRecords input.now start_offset entries.old (record { count = count.new; next_offset = next_offset.new; status = result }) entries.new }
+    ensures { IsCodeOf result (λ s. ReadsJitRecords input.now start_offset entries.old (record { count = count.new; next_offset = next_offset.new; status = s }) entries.new) }
 {
     let outcome = jit::jit_records(input, start_offset, entries);
     *count = outcome.count;
     *next_offset = outcome.next_offset;
-    outcome.status
+    outcome.status.code()
 }
 
 /// Reads a load record of a jitdump, as `jit::jit_load` does.
 #[unsafe(no_mangle)]
-pub extern "C" fn dewikura_jit_load(input: &[u8], offset: u64, load: &mut JitLoad) -> u32
-    ensures { ReadsJitLoad input.now offset load.old result load.new }
+pub extern "C" fn dewikura_read_jit_load_raw(input: &[u8], offset: u64, load: &mut JitLoad) -> u32
+    ensures { IsCodeOf result (λ s. ReadsJitLoad input.now offset load.old s load.new) }
 {
-    jit::jit_load(input, offset, load)
+    jit::jit_load(input, offset, load).code()
+}
+
+/// Reads a move record of a jitdump, as `jit_bodies::jit_move` does.
+#[unsafe(no_mangle)]
+pub extern "C" fn dewikura_read_jit_move_raw(input: &[u8], offset: u64, moved: &mut JitMove) -> u32
+    ensures { IsCodeOf result (λ s. ReadsJitMove input.now offset moved.old s moved.new) }
+{
+    jit_bodies::jit_move(input, offset, moved).code()
+}
+
+/// Reads an unwinding info record of a jitdump, as `jit_bodies::jit_unwinding` does.
+#[unsafe(no_mangle)]
+pub extern "C" fn dewikura_read_jit_unwinding_raw(
+    input: &[u8],
+    offset: u64,
+    unwinding: &mut JitUnwinding,
+) -> u32
+    ensures { IsCodeOf result (λ s. ReadsJitUnwinding input.now offset unwinding.old s unwinding.new) }
+{
+    jit_bodies::jit_unwinding(input, offset, unwinding).code()
 }

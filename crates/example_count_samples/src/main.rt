@@ -1,6 +1,7 @@
 //! Counts the samples of the perf.data files in its arguments.
 #![tactic(auto)]
 
+use linux_perf_data::event::RecordType;
 use linux_perf_data::source::{Counted, Source};
 use linux_perf_data::{Error, PerfFileReader, PerfFileRecord};
 use std::env;
@@ -16,7 +17,7 @@ fn count_samples<R: Source + Drop>(reader: PerfFileReader<R>) -> Result<u64, Err
             break;
         };
         if let PerfFileRecord::EventRecord { event, .. } = record {
-            if event.record_type.0 == 9 {
+            if event.record_type == RecordType::SAMPLE {
                 count = count.saturating_add(1);
             }
         }

@@ -58,14 +58,17 @@ if_both None P Q S both p q = tt
 if_both (Some x) P Q S both p q = both x p q
 
 section_truncated : (s : PerfFileSection) (a b c : State) (e : IoErrorValue) → AfterSeek a b → b.position ≡ at_offset s.offset a.position → ReadExactError b s.size e c
-    → IfSome (all_bytes_of a.position) (λ all. IsUnexpectedEof (IoError e) × SectionTruncated all s) ⊎ SourceErrorInBytes a (IoError e) c
+    → (IsUnexpectedEof (IoError e) × IfSome (all_bytes_of a.position) (λ all. SectionTruncated all s)) ⊎ SourceErrorInBytes a (IoError e) c
 section_truncated s a b c e seek at truncated = elim truncated.cause [
   | inl (eof, none) ↦ elim (none_or_paused b c none) [
-    | inl all ↦ inl (remaining_there a.position b.position b.bytes s.offset (λ all'. IsUnexpectedEof (IoError e) × SectionTruncated all' s) at seek.from_position (λ all' is.
-        let same : Some (drop s.offset all') ≡ Some truncated.consumed_bytes = sym is ∙ all_read b c truncated.consumed_bytes truncated.consumes all in
-        let few : length (drop s.offset all') ≡ length truncated.consumed_bytes = cc in
-        let less = truncated.too_few in
-        (eof, omega (arith, few, less))))
+    | inl all ↦ inl (
+      eof,
+      remaining_there a.position b.position b.bytes s.offset (λ all'. SectionTruncated all' s) at seek.from_position (λ all' is.
+          let same : Some (drop s.offset all') ≡ Some truncated.consumed_bytes = sym is ∙ all_read b c truncated.consumed_bytes truncated.consumes all in
+          let few : length (drop s.offset all') ≡ length truncated.consumed_bytes = cc in
+          let less = truncated.too_few in
+          omega (arith, few, less)),
+    )
     | inr paused ↦ inr (inr (eof, paused_after_seek a b c seek paused))
   ]
   | inr failed ↦ inr (inl (tt, failed_after_seek a b c seek failed))
@@ -79,7 +82,7 @@ section_error s a b c Memory e seek at remaining is = (
 )
 section_error s a b c (Source own) e seek at truncated is = (
   after_seek_more a b c seek (consumed-after_seek b c truncated.consumed_bytes seek.from_position truncated.consumes),
-  λ _. subst (λ t. IfSome (all_bytes_of a.position) (λ all. IsUnexpectedEof t × SectionTruncated all s) ⊎ SourceErrorInBytes a t c) (sym is) (section_truncated s a b c own seek at truncated),
+  λ _. subst (λ t. (IsUnexpectedEof t × IfSome (all_bytes_of a.position) (λ all. SectionTruncated all s)) ⊎ SourceErrorInBytes a t c) (sym is) (section_truncated s a b c own seek at truncated),
 )
 
 -- ---- the table
@@ -193,19 +196,19 @@ module _ {S : Type 0} (a b c : State) (m new : IndexMap Feature (Vec ℕ Global)
   data_error e remaining_from so split one = (
     after_seek_more a b c so.seek one.0,
     λ other. elim (one.1 other) [
-      | inl lacks ↦ inl (if_both (all_bytes_of a.position) (λ all. All (λ e'. HoldsSection all e'.1) (feature_entries_of (take i table)) × ((n : ℕ) → feature_data_of m n ≡ feature_data_by all (feature_entries_of (take i table)) n)) (λ all. IsUnexpectedEof e × SectionTruncated all s) (λ all. IsUnexpectedEof e × FirstTruncatedSection all (feature_entries_of table))
-          (λ all complete here. (
-            here.0,
-            record {
+      | inl lacks ↦ inl (
+        lacks.0,
+        if_both (all_bytes_of a.position) (λ all. All (λ e'. HoldsSection all e'.1) (feature_entries_of (take i table)) × ((n : ℕ) → feature_data_of m n ≡ feature_data_by all (feature_entries_of (take i table)) n)) (λ all. SectionTruncated all s) (λ all. FirstTruncatedSection all (feature_entries_of table))
+            (λ all complete here. record {
               before = feature_entries_of (take i table);
               entry = (f.0, s);
               later = feature_entries_of remaining_from;
               matches = ap feature_entries_of split ∙ map-append (λ e'. (e'.0.0, e'.1)) (take i table) ((f, s) ∷ remaining_from);
               complete_before = complete.0;
-              is_truncated_here = here.1;
-            },
-          ))
-          so.shown (shown_before a b (λ all. IsUnexpectedEof e × SectionTruncated all s) so.seek lacks))
+              is_truncated_here = here;
+            })
+            so.shown (shown_before a b (λ all. SectionTruncated all s) so.seek lacks.1),
+      )
       | inr source_error ↦ inr (earlier_source_error a b c e so.seek source_error)
     ],
   )
@@ -247,10 +250,13 @@ table_error S order at features a b c e sought seek stopped = (
   after_seek_more a b c seek (consumed-after_seek b c stopped.bytes seek.from_position stopped.consumes),
   λ other. let reason = stopped.cause other in elim reason.1 [
     | inl (eof, none) ↦ elim (none_or_paused b c none) [
-      | inl all ↦ inl (remaining_there a.position b.position b.bytes at (λ all'. IsUnexpectedEof e × SectionsTruncated order all' at features) sought seek.from_position (λ all' is.
-          let same : Some (drop at all') ≡ Some stopped.bytes = sym is ∙ all_read b c stopped.bytes stopped.consumes all in
-          let few : length (drop at all') ≡ length stopped.bytes = cc in
-          (eof, inl (omega (arith, few, reason.0)))))
+      | inl all ↦ inl (
+        eof,
+        remaining_there a.position b.position b.bytes at (λ all'. SectionsTruncated order all' at features) sought seek.from_position (λ all' is.
+            let same : Some (drop at all') ≡ Some stopped.bytes = sym is ∙ all_read b c stopped.bytes stopped.consumes all in
+            let few : length (drop at all') ≡ length stopped.bytes = cc in
+            inl (omega (arith, few, reason.0))),
+      )
       | inr paused ↦ inr (inr (eof, paused_after_seek a b c seek paused))
     ]
     | inr (is, failed) ↦ inr (inl (is, failed_after_seek a b c seek failed))
@@ -275,9 +281,12 @@ sections_read order at features a b c d es (Err e) sought seek table_read reads 
     let seek_c = after_seek_more a b c seek (consumed-after_seek b c table_read.bytes seek.from_position table_read.consumes) in (
       after_seek_more a c d seek_c reads.0,
       λ other. elim (reads.1 other) [
-        | inl lacks ↦ inl (if_both (all_bytes_of a.position) (λ all. HoldsFeatureTable order all at features × (es ≡ feature_table_of order all at features)) (λ all. IsUnexpectedEof e × FirstTruncatedSection all es) (λ all. IsUnexpectedEof e × SectionsTruncated order all at features)
-            (λ all there one. (one.0, inr (there.0, subst (FirstTruncatedSection all) there.1 one.1)))
-            (table_there order at features a b c es sought seek table_read) (shown_before a c (λ all. IsUnexpectedEof e × FirstTruncatedSection all es) seek_c lacks))
+        | inl lacks ↦ inl (
+          lacks.0,
+          if_both (all_bytes_of a.position) (λ all. HoldsFeatureTable order all at features × (es ≡ feature_table_of order all at features)) (λ all. FirstTruncatedSection all es) (λ all. SectionsTruncated order all at features)
+              (λ all there one. inr (there.0, subst (FirstTruncatedSection all) there.1 one))
+              (table_there order at features a b c es sought seek table_read) (shown_before a c (λ all. FirstTruncatedSection all es) seek_c lacks.1),
+        )
         | inr source_error ↦ inr (earlier_source_error a c d e seek_c source_error)
       ],
     )

@@ -26,6 +26,8 @@ use Rattle.linux_perf_data.specs.FeatureData.{ReadsFeatures, SectionsTruncated, 
 use Rattle.linux_perf_data.specs.declared.file.opening.FileOpening.{FileOpening}
 use Rattle.linux_perf_data.specs.FileOpening.{table_offset, HoldsSections, section_data, attribute_sources_of, DescribesAttributes, IsAttributesError, OpenAfterHeaderError, IsErrorAfterHeader, SourceErrorInOpening, HasHeader, IsFileError, FileOpenError, FileOpened, OpenedFileAt, OpenedAfterHeader, OpensAfterHeader, OpensPerfFile, magic_of}
 use Rattle.linux_perf_data.specs.FeatureNumbers.{event_desc, simpleperf_meta_info}
+use Rattle.linux_perf_data.specs.NamedErrors.{IsFileOpeningError}
+use Rattle.linux_perf_data.proofs.NamedErrors.{file_bytes, file_inconsistency, file_io}
 
 -- a property of all bytes holds before a seek if it holds after
 shown_before : (a b : State) (P : List ℕ → Type 0) → AfterSeek a b → IfSome (all_bytes_of b.position) P → IfSome (all_bytes_of a.position) P
@@ -46,8 +48,9 @@ pub sections_error : (order : Endianness) (h : PerfHeader) (a b : State) (S : Ty
     → ReadsFeatures {S = S} order (table_offset h) (features_of h.features) a (Err e) b → OpenAfterHeaderError order h a e b
 sections_error order h a b S e near error = record {
   after_seek = error.0;
+  named_error = file_bytes a b e (λ m. elim (error.1 m) [ inl lacks ↦ inl lacks.0 | inr source_error ↦ inr source_error ]);
   cause = λ m. elim (error.1 m) [
-    | inl lacks ↦ inl (if_more (all_bytes_of a.position) (λ all. IsUnexpectedEof e × SectionsTruncated order all (table_offset h) (features_of h.features)) (λ all. IsErrorAfterHeader order h all e) (λ all here. inr (inl (here.0, near, here.1))) lacks)
+    | inl lacks ↦ inl (if_more (all_bytes_of a.position) (λ all. SectionsTruncated order all (table_offset h) (features_of h.features)) (λ all. IsErrorAfterHeader order h all e) (λ all here. inr (inl (lacks.0, near, here))) lacks.1)
     | inr source_error ↦ inr (bytes_source_error a b e source_error)
   ];
 }
@@ -75,9 +78,10 @@ at_attributes order h a b sources e P near read stops shown =
     (λ all has here. inr (inr (near, has.0, stops all (subst (λ d. P d all) has.1 here)))) read.holds (shown_before a b (P sources) read.seek shown)
 
 -- reading the attributes fails
-pub attributes_error : (order : Endianness) (h : PerfHeader) (a b c : State) (sources : KnownSections) (e : Error) → EndFitsU64 h.data_section → HasRead order h a b sources → ReadsAttributes order h sources b (Err e) c → OpenAfterHeaderError order h a e c
-attributes_error order h a b c sources e near read (seek, reason) = record {
+pub attributes_error : (order : Endianness) (h : PerfHeader) (a b c : State) (sources : KnownSections) (e : Error) → EndFitsU64 h.data_section → HasRead order h a b sources → ReadsAttributes order h sources b (Err e) c → IsFileOpeningError e → OpenAfterHeaderError order h a e c
+attributes_error order h a b c sources e near read (seek, reason) named = record {
   after_seek = after_seek_more a b c read.seek seek;
+  named_error = named;
   cause = λ m. elim (reason m) [
     | inl shown ↦ inl (at_attributes order h a b sources e (λ d all. IsSourcesError order h d all e) near read (λ all stops. inl stops) shown)
     | inr source_error ↦ inr (earlier_source_error a b c e read.seek source_error)
@@ -93,6 +97,7 @@ pub attributes_none : (order : Endianness) (h : PerfHeader) (a b c : State) (sou
     → OpenAfterHeaderError order h a NoAttributes c
 attributes_none order h a b c sources v near read (seek, is) none = record {
   after_seek = after_seek_more a b c read.seek seek;
+  named_error = tt;
   cause = λ _. inl (at_attributes order h a b sources NoAttributes (λ d all. DescribesFrom order h d all v.items) near read
       (λ all described. inr (inl (refl, subst (DescribesFrom order h (attribute_sources_of order h all) all) (items_none v.items none) described))) is);
 }
@@ -102,6 +107,7 @@ pub attributes_inconsistent : (order : Endianness) (h : PerfHeader) (a b c : Sta
     → (breach : Inconsistency) × AreInconsistent (described_attributes v.items) breach × (e ≡ error_of_inconsistency breach) → OpenAfterHeaderError order h a e c
 attributes_inconsistent order h a b c sources v e near read (seek, is) (breach, breaks, error_is) = record {
   after_seek = after_seek_more a b c read.seek seek;
+  named_error = file_inconsistency e breach error_is;
   cause = λ _. inl (at_attributes order h a b sources e (λ d all. DescribesFrom order h d all v.items) near read
       (λ all described. inr (inr (record { descriptions = v.items; attributes_match = described; inconsistency = breach; is_inconsistent = breaks; matches = error_is }))) is);
 }
@@ -123,6 +129,7 @@ pub records_error : (order : Endianness) (h : PerfHeader) (a b c d : State) (sou
 records_error order h a b c d sources v e read (seek_b, described) (seek, io, failed) =
     let seek_c = after_seek_more a b c read.seek seek_b in record {
       after_seek = after_seek_more a c d seek_c seek;
+      named_error = file_io e io;
       cause = λ _. inr (inl (io, failed_after_seek a c d seek_c failed));
     }
 
@@ -190,6 +197,7 @@ header_not_skipped a b e placed not_skipped = elim not_skipped.cause [
 pub header_error : (a b : State) (e : IoErrorValue) → RemainsFromPosition a → FileHeaderParseError a e b → FileOpenError a (IoError e) b
 header_error a b e placed error = record {
   after_seek = error.after_seek;
+  named_error = tt;
   cause = λ _. elim error.cause [ inl truncated ↦ header_truncated a b e placed truncated | inr not_skipped ↦ header_not_skipped a b e placed not_skipped ];
 }
 
@@ -197,6 +205,7 @@ header_error a b e placed error = record {
 pub magic_error : (a b : State) (h : PerfHeader) (e : Error) → RemainsFromPosition a → FileHeaderParsed a h b → (e ≡ UnrecognizedMagicValue h.magic) × ((order : Endianness) → h.magic ≢ magic_of order) → FileOpenError a e b
 magic_error a b h e placed parsed reason = record {
   after_seek = parsed.after_seek;
+  named_error = subst IsFileOpeningError (sym reason.0) tt;
   cause = λ _. inl (position_shows a (λ p. IsFileError p e) (λ p is. inr (inr (inl (h, (has_header a p h placed is parsed.file_header, parsed.extra_fits, reason.1, reason.0))))));
 }
 
@@ -234,6 +243,7 @@ after_header a b c order h opening placed parsed magic read = record {
 pub after_error : (a b c : State) (order : Endianness) (h : PerfHeader) (e : Error) → RemainsFromPosition a → FileHeaderParsed a h b → h.magic ≡ magic_of order → OpenAfterHeaderError order h b e c → FileOpenError a e c
 after_error a b c order h e placed parsed magic error = record {
   after_seek = after_seek_more a b c parsed.after_seek error.after_seek;
+  named_error = error.named_error;
   cause = λ m. elim (error.cause m) [
     | inl shown ↦ inl (position_shows a (λ p. IsFileError p e) (λ p is.
         let stops : IfSome (Some p.all_bytes) (λ all. IsErrorAfterHeader order h all e) = subst (λ o. IfSome o (λ all. IsErrorAfterHeader order h all e)) (all_there a b p parsed.after_seek is) shown in

@@ -7,7 +7,7 @@ use Rattle.perfdata_base.specs.Endian.{number_in}
 use Rattle.perfdata_base.specs.Source.{State, Position, Consumed, SourceFailed, SourcePaused, prepend}
 use Rattle.perfdata_base.specs.declared.raw.Endianness.{Endianness}
 use Rattle.perfdata_base.proofs.ReadErrors.{failed_after_seek, paused_after_seek}
-use Rattle.perfdata_base.proofs.ConsumedLemmas.{consumed_none, consumed_more}
+use Rattle.perfdata_base.proofs.ConsumedLemmas.{consumed_none, consumed_more, failed_later, paused_later}
 use Rattle.perfdata_base.proofs.Numbers.{in_reads_first}
 use Rattle.perfdata_sections.specs.declared.error.Error.{Error}
 use Rattle.perfdata_sections.specs.declared.error.Error.TheVariants.{Memory}
@@ -29,7 +29,7 @@ use Rattle.linux_perf_data.specs.RecordFraming.{IsErrorFor}
 use Rattle.linux_perf_data.specs.Iter.{iter_source_state, section_size_of, HasRemainingRecords, ReadSoFar, ReturnsRecord, ReturnsEnd, ReturnsError, IsMismatchedPerfFile}
 use Rattle.linux_perf_data.specs.OpenedFile.{FileParsed, FileOpensAt, FileRecords}
 use Rattle.linux_perf_data.specs.PerfFile.{endian_of_file, attributes_of_file, feature_data_in_file, descriptions_of_file}
-use Rattle.linux_perf_data.specs.FileReading.{AreFirstRemaining, AreFirstRecords, EndsWithError, EndsComplete, ReadingFilePartly, ReadingFileToError, ReadingFileToEnd, ReturnsRecords, HasMatchingFile, HoldsForFile, SourceErrorInFile, SourceErrorInSomeRecord, end_after}
+use Rattle.linux_perf_data.specs.FileReading.{AreFirstRemaining, AreFirstRecords, EndsWithError, EndsComplete, ReadingFilePartly, ReadingFileToError, ReadingFileToEnd, ReturnsRecords, HasMatchingFile, HoldsForFile, SourceErrorInCall, SourceErrorInFile, SourceErrorInSomeRecord, end_after}
 use Rattle.linux_perf_data.proofs.IterCalls.{read_so_far_none, read_so_far_more, read_so_far_end, read_so_far_reason}
 use Rattle.linux_perf_data.proofs.LayoutUniqueness.{layout_exists}
 use Rattle.linux_perf_data.proofs.MetadataAccumulation.{holds_none, holds_more, event_desc_stays_valid}
@@ -197,14 +197,40 @@ module _ {R : Type 0} (state : R → State) where
         event_desc_or_error (number_in it.endian) (in_reads_first it.endian) e names.3.0 can.0 names.3.2 can.1
   ]
 
-  -- after an error they are all records before a layout error, or the source has an error
-  pub stops_of : (it now new : PerfRecordIter R) (file now_file file' : PerfFile) (records : List RecordView) (e : Error) → it.stage ≡ Running → HasMatchingFile state it file → ReturnsRecords state it file records now now_file
-      → ReturnsError state now now_file e new file' → e ≢ Memory → EndsWithError state it records e ⊎ SourceErrorInSomeRecord it.endian (section_size_of state it) (iter_source_state state it) e (iter_source_state state new)
-  stops_of it now new file now_file file' records e runs own all error other =
+  -- a source error of a call
+  abbrev ErrorInCall : PerfRecordIter R → Error → PerfRecordIter R → Type 0
+  ErrorInCall it e new = SourceErrorInSomeRecord it.endian (section_size_of state it) (iter_source_state state it) e (iter_source_state state new)
+
+  -- it is also one since the first of several calls
+  error_since_start : (it now new : PerfRecordIter R) (records : List RecordView) (e : Error) → ReadSoFar state it records now → ErrorInCall now e new → ErrorInCall it e new
+  error_since_start it now new records e h source_error =
+      subst (λ o. SourceErrorInSomeRecord o (section_size_of state it) (iter_source_state state it) e (iter_source_state state new)) h.same_input.same_endian
+      (subst (λ b. SourceErrorInSomeRecord now.endian b (iter_source_state state it) e (iter_source_state state new)) h.same_input.section_size
+      (source_error_since now.endian (section_size_of state now) (iter_source_state state it) (iter_source_state state now) (iter_source_state state new) e (failed_later (iter_source_state state it) (iter_source_state state now) (iter_source_state state new) h.consumed_bytes h.consumes) (paused_later (iter_source_state state it) (iter_source_state state now) (iter_source_state state new) h.consumed_bytes h.consumes) source_error))
+
+  -- after an error they are all records before a layout error, or the source has an error in that call
+  pub stops_in_call : (it now new : PerfRecordIter R) (file now_file file' : PerfFile) (records : List RecordView) (e : Error) → it.stage ≡ Running → HasMatchingFile state it file → ReturnsRecords state it file records now now_file
+      → ReturnsError state now now_file e new file' → e ≢ Memory → EndsWithError state it records e ⊎ ErrorInCall now e new
+  stops_in_call it now new file now_file file' records e runs own all error other =
       elim (read_so_far_reason state it now new now_file file' records e (read_so_far_of it now file now_file records all) (runs_of it now file now_file records runs all) error other) [
         | inl layout_error ↦ inl layout_error
         | inr reason ↦ elim reason [ inl source_error ↦ inr source_error | inr foreign ↦ absurd (not_foreign now now_file foreign.0 e (own_of it now file now_file records own all) foreign.1) ]
       ]
+
+  -- the same, with a source error since the first call
+  pub stops_of : (it now new : PerfRecordIter R) (file now_file file' : PerfFile) (records : List RecordView) (e : Error) → it.stage ≡ Running → HasMatchingFile state it file → ReturnsRecords state it file records now now_file
+      → ReturnsError state now now_file e new file' → e ≢ Memory → EndsWithError state it records e ⊎ SourceErrorInSomeRecord it.endian (section_size_of state it) (iter_source_state state it) e (iter_source_state state new)
+  stops_of it now new file now_file file' records e runs own all error other = elim (stops_in_call it now new file now_file file' records e runs own all error other) [
+    | inl ends ↦ inl ends
+    | inr source_error ↦ inr (error_since_start it now new records e (read_so_far_of it now file now_file records all) source_error)
+  ]
+
+  -- a source error of a call shows that the source isn't infallible
+  pub source_error_in_call : (old : State) (it now new : PerfRecordIter R) (file now_file : PerfFile) (records : List RecordView) (e : Error) → (IsTrue old.steady → IsTrue (iter_source_state state it).steady) → ReturnsRecords state it file records now now_file → ErrorInCall now e new → SourceErrorInCall state old now e new
+  source_error_in_call old it now new file now_file records e steady all source_error = record {
+    not_steady = λ is. source_error_none now.endian (section_size_of state now) (iter_source_state state now) (iter_source_state state new) e ((read_so_far_of it now file now_file records all).consumes.steady (steady is)).steady source_error;
+    source_error = source_error;
+  }
 
   -- ---- of a file
 
@@ -333,12 +359,14 @@ module _ {R : Type 0} (state : R → State) where
       )
 
   pub file_to_error : ReadingFileToError state
-  file_to_error p old file now_file file' it now new records e is steady opened all error other =
+  file_to_error p old file now_file file' it now new records e is opened all error other =
       let o = opened_at p old file it is opened in
-      let first = opened.at_first_record in
-      elim (stops_of it now new file now_file file' records e first.stage_running (own_file old file it opened) all error other) [
-        | inl ends ↦
-            let f = error_there p file it o first.represents records e ends in
-            (record { header = o.header; describes = o.describes; layout_error = f.0; all_records = f.1; error_matches = f.2 }, subst (λ g. SamePerfFile g file') (untouched_of it now file now_file records (is_section old file it opened) all) error.same_file)
-        | inr source_error ↦ absurd (source_error_none it.endian (section_size_of state it) (iter_source_state state it) (iter_source_state state new) e (opened.after_seek.steady steady).steady source_error)
-      ]
+      let first = opened.at_first_record in (
+        elim (stops_in_call it now new file now_file file' records e first.stage_running (own_file old file it opened) all error other) [
+          | inl ends ↦
+              let f = error_there p file it o first.represents records e ends in
+              inl (record { header = o.header; describes = o.describes; layout_error = f.0; all_records = f.1; error_matches = f.2 })
+          | inr source_error ↦ inr (source_error_in_call old it now new file now_file records e (λ steady. (opened.after_seek.steady steady).steady) all source_error)
+        ],
+        subst (λ g. SamePerfFile g file') (untouched_of it now file now_file records (is_section old file it opened) all) error.same_file,
+      )

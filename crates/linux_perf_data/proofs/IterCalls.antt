@@ -25,7 +25,7 @@ use Rattle.linux_perf_data.specs.Input.{HasNoPendingHeader, section_size_in, inp
 use Rattle.linux_perf_data.specs.LateMetadata.{IsMetadataType, UpdatesPerfFile, HasValidMetadata, PassesEarlierChecks, SameAttributeCount, SamePerfFile, RejectsMetadata}
 use Rattle.linux_perf_data.specs.PerfFile.{endian_of_file, descriptions_of_file, features_of_file, feature_data_in_file}
 use Rattle.linux_perf_data.specs.Layout.{SectionSize, MayStartAt, IsEnd, IsTruncated, IsRecord, AreMarkerRecords, ConsistsOfMarkers, IsValidRecord, record_type_of, misc_of, RecordView, LayoutEnd, ends_complete, ends_with_error, LayoutError, ConcernsMetadata, ErrorAt, RemainingRecords, record_view, record_view_in, attributes_in_record, attributes_in_views}
-use Rattle.linux_perf_data.specs.RecordFraming.{IsErrorFor, StaysWithinRecord, IsTruncatedAfterHeader, SourceErrorInRecord, MayNeedMemory}
+use Rattle.linux_perf_data.specs.RecordFraming.{IsErrorFor, ShownBy, StaysWithinRecord, IsTruncatedAfterHeader, SourceErrorInRecord, MayNeedMemory}
 use Rattle.linux_perf_data.specs.Iter.{iter_source_state, section_size_of, TestsMayStart, SameInput, RawRecordRead, RawRecordTruncated, RawRecordError, IdentifiesRecord, record_view_with, HasRemainingRecords, SameButLookup, RecordProcessed, RecordRejected, ReturnsRecord, ReachesEnd, ReturnsEnd, IsMismatchedPerfFile, IsErrorCause, StopsAtError, ReturnsError, ReadSoFar}
 use Rattle.linux_perf_data.proofs.AddedAttributes.{adds_none, added_one}
 use Rattle.linux_perf_data.proofs.RecordHeaders.{record_least, total_size_plain}
@@ -41,12 +41,17 @@ lift (Some x) (Some y) front P Q is more h = more x y refl refl h
 lift_on : (a b : Option (List ℕ)) (front : List ℕ) (P Q : List ℕ → Type 0) → a ≡ prepend front b → ((rest : List ℕ) → Q rest → P (front ++ rest)) → IfSome b Q → IfSome a P
 lift_on a b front P Q is more h = lift a b front P Q is (λ x y e f q. let same : x ≡ front ++ y = cc (is, e, ap (prepend front) f) in subst P (sym same) (more y q)) h
 
-all_told : (a b : Option (List ℕ)) (front : List ℕ) (P : List ℕ → Type 0) → a ≡ prepend front b → ((rest : List ℕ) → P (front ++ rest)) → IfSome a P
-all_told a None front P is more = subst (λ o. IfSome o P) (sym is) _
-all_told a (Some rest) front P is more = subst (λ o. IfSome o P) (sym is) (more rest)
+holds_in_all : (a b : Option (List ℕ)) (front : List ℕ) (P : List ℕ → Type 0) → a ≡ prepend front b → ((rest : List ℕ) → P (front ++ rest)) → IfSome a P
+holds_in_all a None front P is more = subst (λ o. IfSome o P) (sym is) _
+holds_in_all a (Some rest) front P is more = subst (λ o. IfSome o P) (sym is) (more rest)
 
-knows_rule : (order : Endianness) (k : AttributeLookup) (attrs : List Attribute) → Represents order k attrs → AreConsistent attrs
-knows_rule order k attrs knows = knows.consistent
+-- what consumed bytes show holds for all bytes, if these are known
+shown_in_all : (a b : State) (consumed : List ℕ) (P : List ℕ → Type 0) → Consumed a consumed b → ShownBy P consumed b → IfSome a.bytes P
+shown_in_all a b consumed P gave (inl each) = holds_in_all a.bytes b.bytes consumed P gave.bytes each
+shown_in_all a b consumed P gave (inr (none, here)) = subst (λ o. IfSome o P) (sym (all_read a b consumed gave none)) here
+
+represented_consistent : (order : Endianness) (k : AttributeLookup) (attrs : List Attribute) → Represents order k attrs → AreConsistent attrs
+represented_consistent order k attrs knows = knows.consistent
 
 -- exactly one complete record is read
 record_within : (order : Endianness) (p : List ℕ) → IsRecord order p → StaysWithinRecord order p
@@ -75,7 +80,7 @@ markers_more order bound offset bytes p m begins is kind = record {
 }
 
 -- the remaining bytes are empty, or not
-none_left : (bytes : Option (List ℕ)) → (bytes ≡ Some []) ⊎ (bytes ≢ Some [])
+pub none_left : (bytes : Option (List ℕ)) → (bytes ≡ Some []) ⊎ (bytes ≢ Some [])
 none_left None = inr (λ e. absurd cc)
 none_left (Some []) = inl refl
 none_left (Some (x ∷ xs)) = inr (λ e. absurd cc)
@@ -91,8 +96,8 @@ same_later now old is = record { same_endian = ap endian_of_file is; description
 
 module _ {R : Type 0} (state : R → State) where
   -- the remaining records of an iterator with these remaining bytes
-  abbrev ToComeOf : PerfRecordIter R → List ℕ → List Attribute → List RecordView → LayoutEnd → Type 0
-  ToComeOf it bytes attrs rs e = RemainingRecords it.endian bytes (section_size_of state it) it.offset it.round attrs rs e
+  abbrev RemainingIn : PerfRecordIter R → List ℕ → List Attribute → List RecordView → LayoutEnd → Type 0
+  RemainingIn it bytes attrs rs e = RemainingRecords it.endian bytes (section_size_of state it) it.offset it.round attrs rs e
 
   same_none : (it : PerfRecordIter R) → SameInput state it it
   same_none it = record { same_endian = refl; section_size = refl }
@@ -101,34 +106,34 @@ module _ {R : Type 0} (state : R → State) where
   same_more a b c x y = record { same_endian = y.same_endian ∙ x.same_endian; section_size = y.section_size ∙ x.section_size }
 
   -- an iterator of the same input with the same lookup represents the same attributes
-  still_knows : (old new : PerfRecordIter R) (attrs : List Attribute) → SameInput state old new → new.attribute_lookup ≡ old.attribute_lookup → Represents old.endian old.attribute_lookup attrs → Represents new.endian new.attribute_lookup attrs
-  still_knows old new attrs same known k = subst (λ o. Represents o new.attribute_lookup attrs) (sym same.same_endian) (subst (λ n. Represents old.endian n attrs) (sym known) k)
+  still_represents : (old new : PerfRecordIter R) (attrs : List Attribute) → SameInput state old new → new.attribute_lookup ≡ old.attribute_lookup → Represents old.endian old.attribute_lookup attrs → Represents new.endian new.attribute_lookup attrs
+  still_represents old new attrs same known k = subst (λ o. Represents o new.attribute_lookup attrs) (sym same.same_endian) (subst (λ n. Represents old.endian n attrs) (sym known) k)
 
   -- the attributes that a raw record adds
-  abbrev brought_by : (old new : PerfRecordIter R) (head : PerfEventHeader) → RawRecordRead state old head new → List Attribute
-  brought_by old new head t = attributes_in_record old.endian (section_size_of state old) (record_type_of old.endian t.raw_record) (drop 8 t.raw_record)
+  abbrev added_by : (old new : PerfRecordIter R) (head : PerfEventHeader) → RawRecordRead state old head new → List Attribute
+  added_by old new head t = attributes_in_record old.endian (section_size_of state old) (record_type_of old.endian t.raw_record) (drop 8 t.raw_record)
 
   piece_next : (old new : PerfRecordIter R) (head : PerfEventHeader) (t : RawRecordRead state old head new) → IsValidRecord old.endian (section_size_of state old) t.raw_record → MayStartAt (section_size_of state old) old.offset → (rest : List ℕ) (attrs : List Attribute) (rs : List RecordView) (e : LayoutEnd)
-      → ToComeOf new rest (attrs ++ brought_by old new head t) rs e → ToComeOf old (t.raw_record ++ rest) attrs (if head.type_ == 68 then rs else record_view_in old.endian old.offset old.round attrs t.raw_record ∷ rs) e
+      → RemainingIn new rest (attrs ++ added_by old new head t) rs e → RemainingIn old (t.raw_record ++ rest) attrs (if head.type_ == 68 then rs else record_view_in old.endian old.offset old.round attrs t.raw_record ∷ rs) e
   piece_next old new head t is more rest attrs rs e come =
       let p = t.raw_record in
       let b = section_size_of state old in
-      let all = attrs ++ brought_by old new head t in
+      let all = attrs ++ added_by old new head t in
       let c1 : RemainingRecords new.endian rest (section_size_of state new) (old.offset + length p) new.round all rs e = subst (λ o. RemainingRecords new.endian rest (section_size_of state new) o new.round all rs e) t.offset come in
       let c2 : RemainingRecords new.endian rest b (old.offset + length p) new.round all rs e = subst (λ s. RemainingRecords new.endian rest s (old.offset + length p) new.round all rs e) t.same_input.section_size c1 in
       let c3 : RemainingRecords old.endian rest b (old.offset + length p) new.round all rs e = subst (λ o. RemainingRecords o rest b (old.offset + length p) new.round all rs e) t.same_input.same_endian c2 in
       let turn = t.round ∙ ap (λ k. if k == 68 then old.round + 1 else old.round) (sym t.record_type) in
-      subst (λ k. ToComeOf old (p ++ rest) attrs (if k == 68 then rs else record_view_in old.endian old.offset old.round attrs p ∷ rs) e) t.record_type
+      subst (λ k. RemainingIn old (p ++ rest) attrs (if k == 68 then rs else record_view_in old.endian old.offset old.round attrs p ∷ rs) e) t.record_type
       (remaining_more old.endian (p ++ rest) rest p b old.offset old.round new.round attrs rs e is refl more turn c3)
 
   marker_next : (old new : PerfRecordIter R) (head : PerfEventHeader) (t : RawRecordRead state old head new) → head.type_ ≡ 68 → MayStartAt (section_size_of state old) old.offset → (rest : List ℕ) (attrs : List Attribute) (rs : List RecordView) (e : LayoutEnd)
-      → ToComeOf new rest attrs rs e → ToComeOf old (t.raw_record ++ rest) attrs rs e
+      → RemainingIn new rest attrs rs e → RemainingIn old (t.raw_record ++ rest) attrs rs e
   marker_next old new head t is more rest attrs rs e come =
       let kind = t.record_type ∙ is in
-      let none : brought_by old new head t ≡ [] = adds_none old.endian (section_size_of state old) (record_type_of old.endian t.raw_record) (drop 8 t.raw_record) (λ k. omega (arith, k, kind)) in
-      let same : attrs ≡ attrs ++ brought_by old new head t = sym (append-nil attrs) ∙ ap (λ l. attrs ++ l) (sym none) in
-      subst (λ b. ToComeOf old (t.raw_record ++ rest) attrs (if b then rs else record_view_in old.endian old.offset old.round attrs t.raw_record ∷ rs) e) (eq-eqb head.type_ 68 is)
-      (piece_next old new head t (marker_record old.endian (section_size_of state old) t.raw_record t.is_record kind) more rest attrs rs e (subst (λ a. ToComeOf new rest a rs e) same come))
+      let none : added_by old new head t ≡ [] = adds_none old.endian (section_size_of state old) (record_type_of old.endian t.raw_record) (drop 8 t.raw_record) (λ k. omega (arith, k, kind)) in
+      let same : attrs ≡ attrs ++ added_by old new head t = sym (append-nil attrs) ∙ ap (λ l. attrs ++ l) (sym none) in
+      subst (λ b. RemainingIn old (t.raw_record ++ rest) attrs (if b then rs else record_view_in old.endian old.offset old.round attrs t.raw_record ∷ rs) e) (eq-eqb head.type_ 68 is)
+      (piece_next old new head t (marker_record old.endian (section_size_of state old) t.raw_record t.is_record kind) more rest attrs rs e (subst (λ a. RemainingIn new rest a rs e) same come))
 
   -- the record in the layout is the record in the code
   same_record : (old new : PerfRecordIter R) (head : PerfEventHeader) (found : RecordInfo) (known : AttributeLookup) (t : RawRecordRead state old head new) → head.type_ ≢ 68 → IdentifiesRecord new.attribute_lookup old.offset old.round head new.body.items found known → (attrs : List Attribute)
@@ -140,13 +145,13 @@ module _ {R : Type 0} (state : R → State) where
       ∙ ap (λ o. with' o head.type_ head.misc new.body.items) (sym t.same_input.same_endian) ∙ sym (finds.matches new.endian attrs k)
 
   record_next : (old new : PerfRecordIter R) (head : PerfEventHeader) (found : RecordInfo) (known : AttributeLookup) (t : RawRecordRead state old head new) → IsValidRecord old.endian (section_size_of state old) t.raw_record → head.type_ ≢ 68 → IdentifiesRecord new.attribute_lookup old.offset old.round head new.body.items found known
-      → MayStartAt (section_size_of state old) old.offset → (rest : List ℕ) (attrs : List Attribute) → Represents new.endian new.attribute_lookup attrs → (rs : List RecordView) (e : LayoutEnd) → ToComeOf new rest (attrs ++ brought_by old new head t) rs e
-      → ToComeOf old (t.raw_record ++ rest) attrs (record_view_with known found new.endian new.body.items ∷ rs) e
+      → MayStartAt (section_size_of state old) old.offset → (rest : List ℕ) (attrs : List Attribute) → Represents new.endian new.attribute_lookup attrs → (rs : List RecordView) (e : LayoutEnd) → RemainingIn new rest (attrs ++ added_by old new head t) rs e
+      → RemainingIn old (t.raw_record ++ rest) attrs (record_view_with known found new.endian new.body.items ∷ rs) e
   record_next old new head found known t is other finds more rest attrs k rs e come =
-      subst (λ h. ToComeOf old (t.raw_record ++ rest) attrs (h ∷ rs) e) (same_record old new head found known t other finds attrs k)
-      (subst (λ b. ToComeOf old (t.raw_record ++ rest) attrs (if b then rs else record_view_in old.endian old.offset old.round attrs t.raw_record ∷ rs) e) (ne_eqb head.type_ 68 other) (piece_next old new head t is more rest attrs rs e come))
+      subst (λ h. RemainingIn old (t.raw_record ++ rest) attrs (h ∷ rs) e) (same_record old new head found known t other finds attrs k)
+      (subst (λ b. RemainingIn old (t.raw_record ++ rest) attrs (if b then rs else record_view_in old.endian old.offset old.round attrs t.raw_record ∷ rs) e) (ne_eqb head.type_ 68 other) (piece_next old new head t is more rest attrs rs e come))
 
-  come_after : (piece new : PerfRecordIter R) → SameButLookup state piece new → (bytes : List ℕ) (attrs : List Attribute) (rs : List RecordView) (e : LayoutEnd) → ToComeOf new bytes attrs rs e → ToComeOf piece bytes attrs rs e
+  come_after : (piece new : PerfRecordIter R) → SameButLookup state piece new → (bytes : List ℕ) (attrs : List Attribute) (rs : List RecordView) (e : LayoutEnd) → RemainingIn new bytes attrs rs e → RemainingIn piece bytes attrs rs e
   come_after piece new after bytes attrs rs e come =
       let b = section_size_of state piece in
       subst (λ o. RemainingRecords o bytes b piece.offset piece.round attrs rs e) after.same_endian
@@ -169,7 +174,7 @@ module _ {R : Type 0} (state : R → State) where
     pub offset : now.offset ≡ old.offset + length markers
     pub passed : ConsistsOfMarkers old.endian (section_size_of state old) old.offset markers
     pub gave : Consumed (iter_source_state state old) markers (iter_source_state state now)
-    pub before : (rest : List ℕ) (attrs : List Attribute) (rs : List RecordView) (e : LayoutEnd) → ToComeOf now rest attrs rs e → ToComeOf old (markers ++ rest) attrs rs e
+    pub before : (rest : List ℕ) (attrs : List Attribute) (rs : List RecordView) (e : LayoutEnd) → RemainingIn now rest attrs rs e → RemainingIn old (markers ++ rest) attrs rs e
 
   -- a record may start after the markers
   begun : (old now : PerfRecordIter R) → Idles old now → MayStartAt (section_size_of state now) now.offset → MayStartAt (section_size_of state old) now.offset
@@ -188,14 +193,14 @@ module _ {R : Type 0} (state : R → State) where
     passed = markers_more old.endian (section_size_of state old) old.offset i.markers t.raw_record i.passed (subst (MayStartAt (section_size_of state old)) i.offset (begun old now i more)) (subst (λ o. IsRecord o t.raw_record) i.same.same_endian t.is_record)
         (sym (ap (λ o. record_type_of o t.raw_record) i.same.same_endian) ∙ t.record_type ∙ is);
     gave = consumed_more _ _ _ i.markers t.raw_record i.gave t.consumes;
-    before = λ rest attrs rs e come. subst (λ l. ToComeOf old l attrs rs e) (sym (append_assoc i.markers t.raw_record rest))
+    before = λ rest attrs rs e come. subst (λ l. RemainingIn old l attrs rs e) (sym (append_assoc i.markers t.raw_record rest))
         (i.before (t.raw_record ++ rest) attrs rs e (marker_next now new head t is more rest attrs rs e come));
   }
 
   -- the attributes that a record adds are the same for the bytes read, the raw record and the returned record
-  same_brought : (old now piece : PerfRecordIter R) (head : PerfEventHeader) → Idles old now → (t : RawRecordRead state now head piece) → head.type_ ≢ 68 → (kind : ℕ) (body : List ℕ) → kind ≡ head.type_ → body ≡ piece.body.items
-      → attributes_in_record old.endian (section_size_of state old) kind body ≡ brought_by now piece head t
-  same_brought old now piece head i t other kind body is held =
+  same_added : (old now piece : PerfRecordIter R) (head : PerfEventHeader) → Idles old now → (t : RawRecordRead state now head piece) → head.type_ ≢ 68 → (kind : ℕ) (body : List ℕ) → kind ≡ head.type_ → body ≡ piece.body.items
+      → attributes_in_record old.endian (section_size_of state old) kind body ≡ added_by now piece head t
+  same_added old now piece head i t other kind body is held =
       ap (λ o. attributes_in_record o (section_size_of state old) kind body) (sym i.same.same_endian) ∙ ap (λ b. attributes_in_record now.endian b kind body) (sym i.same.section_size)
       ∙ ap (λ k. attributes_in_record now.endian (section_size_of state now) k body) (is ∙ sym t.record_type) ∙ ap (λ l. attributes_in_record now.endian (section_size_of state now) (record_type_of now.endian t.raw_record) l) (held ∙ t.buffered_body other)
 
@@ -231,8 +236,8 @@ module _ {R : Type 0} (state : R → State) where
       let least = record_least now.endian t.raw_record t.is_record in
       let split : take 8 t.raw_record ++ new.body.items ≡ t.raw_record = ap (λ b. take 8 t.raw_record ++ b) held ∙ take-append-drop 8 t.raw_record in
       let h = record_view_with new.attribute_lookup found new.endian new.body.items in
-      let brings : attributes_in_record old.endian (section_size_of state old) h.record_type h.body ≡ brought_by now piece head t = same_brought old now piece head i t other h.record_type h.body finds.record_type after.body in
-      let knows_piece = λ (attrs : List Attribute) (k : Represents old.endian old.attribute_lookup attrs). still_knows old piece attrs same_piece (t.attribute_lookup ∙ i.known) k in
+      let brings : attributes_in_record old.endian (section_size_of state old) h.record_type h.body ≡ added_by now piece head t = same_added old now piece head i t other h.record_type h.body finds.record_type after.body in
+      let knows_piece = λ (attrs : List Attribute) (k : Represents old.endian old.attribute_lookup attrs). still_represents old piece attrs same_piece (t.attribute_lookup ∙ i.known) k in
       let all : Consumed (iter_source_state state old) (i.markers ++ t.raw_record) (iter_source_state state new) = subst (λ s. Consumed (iter_source_state state old) (i.markers ++ t.raw_record) s) (sym (view_after piece new after)) (consumed_more _ _ _ i.markers t.raw_record i.gave t.consumes) in
       let same_found : record_view_with new.attribute_lookup found piece.endian piece.body.items ≡ h = ap (λ o. record_view_with new.attribute_lookup found o piece.body.items) (sym after.same_endian) ∙ ap (record_view_with new.attribute_lookup found new.endian) (sym after.body) in
       record {
@@ -242,13 +247,13 @@ module _ {R : Type 0} (state : R → State) where
         represents = λ attrs k. subst (λ o. Represents o new.attribute_lookup (attrs ++ attributes_in_record old.endian (section_size_of state old) h.record_type h.body)) (sym after.same_endian)
             (subst (λ l. Represents piece.endian new.attribute_lookup (attrs ++ l)) (sym (same_taken old piece same_piece head.type_ h.record_type piece.body.items h.body finds.record_type after.body)) (took.represents attrs (knows_piece attrs k)));
         extends_remaining = λ attrs k rs e come.
-            lift_on (iter_source_state state old).bytes (iter_source_state state new).bytes (i.markers ++ t.raw_record) (λ l. ToComeOf old l attrs (h ∷ rs) e) (λ l. ToComeOf new l (attrs ++ attributes_in_record old.endian (section_size_of state old) h.record_type h.body) rs e)
+            lift_on (iter_source_state state old).bytes (iter_source_state state new).bytes (i.markers ++ t.raw_record) (λ l. RemainingIn old l attrs (h ∷ rs) e) (λ l. RemainingIn new l (attrs ++ attributes_in_record old.endian (section_size_of state old) h.record_type h.body) rs e)
             all.bytes
-            (λ rest c. subst (λ l. ToComeOf old l attrs (h ∷ rs) e) (sym (append_assoc i.markers t.raw_record rest))
+            (λ rest c. subst (λ l. RemainingIn old l attrs (h ∷ rs) e) (sym (append_assoc i.markers t.raw_record rest))
             (i.before (t.raw_record ++ rest) attrs (h ∷ rs) e
-            (subst (λ x. ToComeOf now (t.raw_record ++ rest) attrs (x ∷ rs) e) same_found
+            (subst (λ x. RemainingIn now (t.raw_record ++ rest) attrs (x ∷ rs) e) same_found
             (record_next now piece head found new.attribute_lookup t (record_piece now piece new file file' now.offset now.round head found t other took) other finds more rest attrs (knows_piece attrs k) rs e
-            (come_after piece new after rest (attrs ++ brought_by now piece head t) rs e (subst (λ l. ToComeOf new rest (attrs ++ l) rs e) brings c))))))
+            (come_after piece new after rest (attrs ++ added_by now piece head t) rs e (subst (λ l. RemainingIn new rest (attrs ++ l) rs e) brings c))))))
             come;
         same_attribute_count = λ pipe metadata attrs k.
             took.same_attribute_count (same_piece.section_size ∙ pipe) (subst IsMetadataType finds.record_type metadata) attrs
@@ -268,34 +273,40 @@ module _ {R : Type 0} (state : R → State) where
         offset_fits = (let f = t.offset_fits in let a = after.offset in omega (arith, f, a));
       }
 
-  owes_later : (order : Endianness) (bound : SectionSize) (a b c : State) (front came : List ℕ) (e : Error) → Consumed a front b → SourceErrorInRecord order bound b came e c → SourceErrorInRecord order bound a came e c
-  owes_later order bound a b c front came e before (inl (short, inl (is, failed))) = inl (short, inl (is, failed_later a b c front before failed))
-  owes_later order bound a b c front came e before (inl (short, inr (is, file, paused))) = inl (short, inr (is, file, paused_later a b c front before paused))
-  owes_later order bound a b c front came e before (inr (long, is, inl failed)) = inr (long, is, inl (failed_later a b c front before failed))
-  owes_later order bound a b c front came e before (inr (long, is, inr (within, paused))) = inr (long, is, inr (within, paused_later a b c front before paused))
+  source_error_later : (order : Endianness) (bound : SectionSize) (a b c : State) (front consumed_bytes : List ℕ) (e : Error) → Consumed a front b → SourceErrorInRecord order bound b consumed_bytes e c → SourceErrorInRecord order bound a consumed_bytes e c
+  source_error_later order bound a b c front consumed_bytes e before (inl (short, inl (is, failed))) = inl (short, inl (is, failed_later a b c front before failed))
+  source_error_later order bound a b c front consumed_bytes e before (inl (short, inr (is, file, paused))) = inl (short, inr (is, file, paused_later a b c front before paused))
+  source_error_later order bound a b c front consumed_bytes e before (inr (long, is, inl failed)) = inr (long, is, inl (failed_later a b c front before failed))
+  source_error_later order bound a b c front consumed_bytes e before (inr (long, is, inr (within, paused))) = inr (long, is, inr (within, paused_later a b c front before paused))
 
-  owes_same : (o o' : Endianness) (b b' : SectionSize) (a c : State) (came : List ℕ) (e : Error) → o ≡ o' → b ≡ b' → SourceErrorInRecord o b a came e c → SourceErrorInRecord o' b' a came e c
-  owes_same o o' b b' a c came e po pb owes = subst (λ x. SourceErrorInRecord x b' a came e c) po (subst (λ x. SourceErrorInRecord o x a came e c) pb owes)
+  source_error_same : (o o' : Endianness) (b b' : SectionSize) (a c : State) (consumed_bytes : List ℕ) (e : Error) → o ≡ o' → b ≡ b' → SourceErrorInRecord o b a consumed_bytes e c → SourceErrorInRecord o' b' a consumed_bytes e c
+  source_error_same o o' b b' a c consumed_bytes e po pb source_error = subst (λ x. SourceErrorInRecord x b' a consumed_bytes e c) po (subst (λ x. SourceErrorInRecord o x a consumed_bytes e c) pb source_error)
 
-  reason : (old now new : PerfRecordIter R) (file : PerfFile) (came : List ℕ) (e : Error) → Idles old now → MayStartAt (section_size_of state now) now.offset
-      → IfSome (iter_source_state state now).bytes (λ bytes. (f : LayoutError) × ((attrs : List Attribute) → ErrorAt now.endian (section_size_of state now) now.offset attrs bytes f) × (¬ ConcernsMetadata f) × IsErrorFor f e) ⊎ SourceErrorInRecord now.endian (section_size_of state now) (iter_source_state state now) came e (iter_source_state state new)
-      → IsErrorCause state old file came e new
-  reason old now new file came e i more (inl fault) = inl (
-      lift_on (iter_source_state state old).bytes (iter_source_state state now).bytes i.markers
-      (λ bytes. (f : LayoutError) × ((attrs : List Attribute) → Represents old.endian old.attribute_lookup attrs → ToComeOf old bytes attrs [] (ends_with_error f)) × PassesEarlierChecks old.endian old.attribute_lookup file f × IsErrorFor f e)
-      (λ bytes. (f : LayoutError) × ((attrs : List Attribute) → ErrorAt now.endian (section_size_of state now) now.offset attrs bytes f) × (¬ ConcernsMetadata f) × IsErrorFor f e)
-      i.gave.bytes
-      (λ rest f. (
-        f.0,
-        (λ attrs k. i.before rest attrs [] (ends_with_error f.0)
-            (error_next now.endian rest (section_size_of state now) now.offset now.round attrs f.0 i.fits (knows_rule old.endian old.attribute_lookup attrs k) more (f.1 attrs))),
-        (λ late. absurd (f.2 late)),
-        f.3,
-      ))
-      fault)
-  reason old now new file came e i more (inr source) =
-      inr (inl (owes_same now.endian old.endian (section_size_of state now) (section_size_of state old) (iter_source_state state old) (iter_source_state state new) came e i.same.same_endian i.same.section_size
-      (owes_later now.endian (section_size_of state now) (iter_source_state state old) (iter_source_state state now) (iter_source_state state new) i.markers came e i.gave source)))
+  -- the bytes of an iterator have a layout error that `e` reports, and the `PerfFile` passes the checks before it
+  abbrev FailsAt : PerfRecordIter R → PerfFile → Error → List ℕ → Type 0
+  FailsAt it file e bytes = (f : LayoutError) × ((attrs : List Attribute) → Represents it.endian it.attribute_lookup attrs → RemainingIn it bytes attrs [] (ends_with_error f)) × PassesEarlierChecks it.endian it.attribute_lookup file f × IsErrorFor f e
+
+  -- the bytes at the next record have a layout error that doesn't concern metadata
+  abbrev HasErrorAt : PerfRecordIter R → Error → List ℕ → Type 0
+  HasErrorAt it e bytes = (f : LayoutError) × ((attrs : List Attribute) → ErrorAt it.endian (section_size_of state it) it.offset attrs bytes f) × (¬ ConcernsMetadata f) × IsErrorFor f e
+
+  fails_after : (old now : PerfRecordIter R) (file : PerfFile) (e : Error) (i : Idles old now) → MayStartAt (section_size_of state now) now.offset → (rest : List ℕ) → HasErrorAt now e rest → FailsAt old file e (i.markers ++ rest)
+  fails_after old now file e i more rest f = (
+    f.0,
+    (λ attrs k. i.before rest attrs [] (ends_with_error f.0)
+        (error_next now.endian rest (section_size_of state now) now.offset now.round attrs f.0 i.fits (represented_consistent old.endian old.attribute_lookup attrs k) more (f.1 attrs))),
+    (λ late. absurd (f.2 late)),
+    f.3,
+  )
+
+  error_cause : (old now new : PerfRecordIter R) (file : PerfFile) (consumed_bytes : List ℕ) (e : Error) (i : Idles old now) → MayStartAt (section_size_of state now) now.offset
+      → ShownBy (HasErrorAt now e) consumed_bytes (iter_source_state state new) ⊎ SourceErrorInRecord now.endian (section_size_of state now) (iter_source_state state now) consumed_bytes e (iter_source_state state new)
+      → IsErrorCause state old file i.markers consumed_bytes e new
+  error_cause old now new file consumed_bytes e i more (inl (inl each)) = inl (inl (λ rest. subst (FailsAt old file e) (sym (append_assoc i.markers consumed_bytes rest)) (fails_after old now file e i more (consumed_bytes ++ rest) (each rest))))
+  error_cause old now new file consumed_bytes e i more (inl (inr (none, here))) = inl (inr (none, fails_after old now file e i more consumed_bytes here))
+  error_cause old now new file consumed_bytes e i more (inr source) =
+      inr (inl (source_error_same now.endian old.endian (section_size_of state now) (section_size_of state old) (iter_source_state state old) (iter_source_state state new) consumed_bytes e i.same.same_endian i.same.section_size
+      (source_error_later now.endian (section_size_of state now) (iter_source_state state old) (iter_source_state state now) (iter_source_state state new) i.markers consumed_bytes e i.gave source)))
 
   -- the same iterator except for its stage
   pub record IsStopped (new new' : PerfRecordIter R) : Type 0 where
@@ -311,51 +322,47 @@ module _ {R : Type 0} (state : R → State) where
 
   pub stops : (old now new new' : PerfRecordIter R) (file : PerfFile) (e : Error) → Idles old now → MayStartAt (section_size_of state now) now.offset → RawRecordError state now e new → IsStopped new new' → new'.offset ≡ new.offset → StopsAtError state old file e new'
   stops old now new new' file e i more r stopped offset =
-      let refused = r.error in
+      let error_there = r.error in
       let same = view_stopped new new' stopped in
       record {
         markers = i.markers;
-        consumed_bytes = refused.consumed_bytes;
+        consumed_bytes = error_there.consumed_bytes;
         valid_markers = i.passed;
         offset = offset ∙ r.offset ∙ i.offset;
         may_start = subst (MayStartAt (section_size_of state old)) (sym (offset ∙ r.offset)) (begun old now i more);
-        consumes = subst (λ s. Consumed (iter_source_state state old) (i.markers ++ refused.consumed_bytes) s) (sym same) (consumed_more _ _ _ i.markers refused.consumed_bytes i.gave refused.consumes);
+        consumes = subst (λ s. Consumed (iter_source_state state old) (i.markers ++ error_there.consumed_bytes) s) (sym same) (consumed_more _ _ _ i.markers error_there.consumed_bytes i.gave error_there.consumes);
         no_pending_header = subst HasNoPendingHeader (sym stopped.input) r.no_pending_header;
-        within_record = subst (λ o. StaysWithinRecord o refused.consumed_bytes) i.same.same_endian refused.within_record;
-        buffer_bound = (let few = refused.buffer_bound in let b = ap (λ v. length v.items) stopped.body in omega (arith, few, b));
-        if_out_of_memory = λ m. let wants = refused.if_out_of_memory m in (subst (λ o. MayNeedMemory o refused.consumed_bytes) i.same.same_endian wants.0, inl (subst (λ o. IsTruncatedAfterHeader o refused.consumed_bytes) i.same.same_endian wants.1));
-        cause = λ m. reason old now new' file refused.consumed_bytes e i more (elim (refused.cause m) [
-          | inl fault ↦ inl fault
-          | inr owes ↦ inr (subst (λ s. SourceErrorInRecord now.endian (section_size_of state now) (iter_source_state state now) refused.consumed_bytes e s) (sym same) owes)
+        within_record = subst (λ o. StaysWithinRecord o error_there.consumed_bytes) i.same.same_endian error_there.within_record;
+        buffer_bound = (let few = error_there.buffer_bound in let b = ap (λ v. length v.items) stopped.body in omega (arith, few, b));
+        if_out_of_memory = λ m. let wants = error_there.if_out_of_memory m in (subst (λ o. MayNeedMemory o error_there.consumed_bytes) i.same.same_endian wants.0, inl (subst (λ o. IsTruncatedAfterHeader o error_there.consumed_bytes) i.same.same_endian wants.1));
+        cause = λ m. error_cause old now new' file error_there.consumed_bytes e i more (elim (error_there.cause m) [
+          | inl shown ↦ inl (subst (ShownBy (HasErrorAt now e) error_there.consumed_bytes) (sym same) shown)
+          | inr source_error ↦ inr (subst (λ s. SourceErrorInRecord now.endian (section_size_of state now) (iter_source_state state now) error_there.consumed_bytes e s) (sym same) source_error)
         ]);
       }
 
   -- a layout error in a metadata record
-  late_fault : (old now piece new : PerfRecordIter R) (file : PerfFile) (head : PerfEventHeader) (e : Error) → Idles old now → (t : RawRecordRead state now head piece) → MayStartAt (section_size_of state now) now.offset → section_size_of state now ≡ None → iter_source_state state new ≡ iter_source_state state piece
-      → LateFault now.endian old.attribute_lookup file now.offset t.raw_record e → IsErrorCause state old file t.raw_record e new
-  late_fault old now piece new file head e i t more pipe same (f, at, passed, answers) = inl (
-      all_told (iter_source_state state old).bytes (iter_source_state state piece).bytes (i.markers ++ t.raw_record)
-      (λ bytes. (f : LayoutError) × ((attrs : List Attribute) → Represents old.endian old.attribute_lookup attrs → ToComeOf old bytes attrs [] (ends_with_error f)) × PassesEarlierChecks old.endian old.attribute_lookup file f × IsErrorFor f e)
-      (consumed_more _ _ _ i.markers t.raw_record i.gave t.consumes).bytes
-      (λ rest. (
-        f,
-        (λ attrs k. subst (λ l. ToComeOf old l attrs [] (ends_with_error f)) (sym (append_assoc i.markers t.raw_record rest))
-            (i.before (t.raw_record ++ rest) attrs [] (ends_with_error f)
-            (error_next now.endian (t.raw_record ++ rest) (section_size_of state now) now.offset now.round attrs f i.fits (knows_rule old.endian old.attribute_lookup attrs k) more
-            (subst (λ b. ErrorAt now.endian b now.offset attrs (t.raw_record ++ rest) f) (sym pipe) (at rest attrs (subst (λ o. Represents o old.attribute_lookup attrs) (sym i.same.same_endian) k)))))),
-        subst (λ o. PassesEarlierChecks o old.attribute_lookup file f) i.same.same_endian passed,
-        answers,
-      )))
+  metadata_layout_error : (old now piece new : PerfRecordIter R) (file : PerfFile) (head : PerfEventHeader) (e : Error) (i : Idles old now) (t : RawRecordRead state now head piece) → MayStartAt (section_size_of state now) now.offset → section_size_of state now ≡ None → iter_source_state state new ≡ iter_source_state state piece
+      → LateFault now.endian old.attribute_lookup file now.offset t.raw_record e → IsErrorCause state old file i.markers t.raw_record e new
+  metadata_layout_error old now piece new file head e i t more pipe same (f, at, passed, answers) = inl (inl (λ rest. (
+    f,
+    (λ attrs k. subst (λ l. RemainingIn old l attrs [] (ends_with_error f)) (sym (append_assoc i.markers t.raw_record rest))
+        (i.before (t.raw_record ++ rest) attrs [] (ends_with_error f)
+        (error_next now.endian (t.raw_record ++ rest) (section_size_of state now) now.offset now.round attrs f i.fits (represented_consistent old.endian old.attribute_lookup attrs k) more
+        (subst (λ b. ErrorAt now.endian b now.offset attrs (t.raw_record ++ rest) f) (sym pipe) (at rest attrs (subst (λ o. Represents o old.attribute_lookup attrs) (sym i.same.same_endian) k)))))),
+    subst (λ o. PassesEarlierChecks o old.attribute_lookup file f) i.same.same_endian passed,
+    answers,
+  )))
 
-  late_reason : (old now piece new : PerfRecordIter R) (file : PerfFile) (head : PerfEventHeader) (e : Error) → Idles old now → (t : RawRecordRead state now head piece) → MayStartAt (section_size_of state now) now.offset → section_size_of state now ≡ None
-      → new.offset ≡ now.offset → IsMetadataType head.type_ → iter_source_state state new ≡ iter_source_state state piece → LateFault now.endian old.attribute_lookup file now.offset t.raw_record e ⊎ Foreign now.endian old.attribute_lookup file t.raw_record e → IsErrorCause state old file t.raw_record e new
-  late_reason old now piece new file head e i t more pipe stays metadata same (inl fault) = late_fault old now piece new file head e i t more pipe same fault
-  late_reason old now piece new file head e i t more pipe stays metadata same (inr foreign) = inr (inr (
+  metadata_error_cause : (old now piece new : PerfRecordIter R) (file : PerfFile) (head : PerfEventHeader) (e : Error) (i : Idles old now) (t : RawRecordRead state now head piece) → MayStartAt (section_size_of state now) now.offset → section_size_of state now ≡ None
+      → new.offset ≡ now.offset → IsMetadataType head.type_ → iter_source_state state new ≡ iter_source_state state piece → LateFault now.endian old.attribute_lookup file now.offset t.raw_record e ⊎ Foreign now.endian old.attribute_lookup file t.raw_record e → IsErrorCause state old file i.markers t.raw_record e new
+  metadata_error_cause old now piece new file head e i t more pipe stays metadata same (inl shown) = metadata_layout_error old now piece new file head e i t more pipe same shown
+  metadata_error_cause old now piece new file head e i t more pipe stays metadata same (inr mismatch) = inr (inr (
     record {
       in_pipe = sym i.same.section_size ∙ pipe;
       is_record = subst (λ o. IsRecord o t.raw_record) i.same.same_endian t.is_record;
       metadata_type = subst IsMetadataType (sym t.record_type ∙ ap (λ o. record_type_of o t.raw_record) i.same.same_endian) metadata;
-      cause = subst (λ o. Foreign o old.attribute_lookup file t.raw_record e) i.same.same_endian foreign;
+      cause = subst (λ o. Foreign o old.attribute_lookup file t.raw_record e) i.same.same_endian mismatch;
     },
     (let o = t.offset in let f = t.offset_fits in omega (arith, o, f, stays)),
   ))
@@ -391,7 +398,7 @@ module _ {R : Type 0} (state : R → State) where
                 subst (λ o. HasValidMetadata o (record_type_of o t.raw_record) (drop 8 t.raw_record)) i.same.same_endian (subst (λ k. HasValidMetadata now.endian k (drop 8 t.raw_record)) (sym t.record_type) held),
               ),
             );
-        cause = λ m. late_reason old now piece new' file head e i t more pipe offset d.metadata_type same
+        cause = λ m. metadata_error_cause old now piece new' file head e i t more pipe offset d.metadata_type same
             (late_why now.endian old.attribute_lookup file now.offset t.raw_record e t.is_record fits
             (subst (λ k. RejectsMetadata now.endian old.attribute_lookup file k (drop 8 t.raw_record) e) (sym t.record_type)
             (subst (λ b. RejectsMetadata now.endian old.attribute_lookup file head.type_ b e) (t.buffered_body other)
@@ -402,8 +409,8 @@ module _ {R : Type 0} (state : R → State) where
   -- the section has ended
   pub at_end : (old now : PerfRecordIter R) → Idles old now → TestsMayStart (section_size_of state now) now.offset false → (attrs : List Attribute) → Represents old.endian old.attribute_lookup attrs → HasRemainingRecords state old attrs [] ends_complete
   at_end old now i done attrs k =
-      all_told (iter_source_state state old).bytes (iter_source_state state now).bytes i.markers (λ l. ToComeOf old l attrs [] ends_complete) i.gave.bytes
-      (λ rest. i.before rest attrs [] ends_complete (nothing_more now.endian rest (section_size_of state now) now.offset now.round attrs i.fits (knows_rule old.endian old.attribute_lookup attrs k) (done.1 now.endian rest)))
+      holds_in_all (iter_source_state state old).bytes (iter_source_state state now).bytes i.markers (λ l. RemainingIn old l attrs [] ends_complete) i.gave.bytes
+      (λ rest. i.before rest attrs [] ends_complete (nothing_more now.endian rest (section_size_of state now) now.offset now.round attrs i.fits (represented_consistent old.endian old.attribute_lookup attrs k) (done.1 now.endian rest)))
 
   pub section_ends : (old now new : PerfRecordIter R) → Idles old now → TestsMayStart (section_size_of state now) now.offset false → IsStopped now new → new.offset ≡ now.offset → ReachesEnd state old new
   section_ends old now new i done stopped offset =
@@ -426,26 +433,26 @@ module _ {R : Type 0} (state : R → State) where
       }
 
   -- all remaining bytes are known: markers and a truncated record
-  all_truncated : (old now : PerfRecordIter R) (came : List ℕ) (i : Idles old now) → section_size_of state now ≡ None → IsTruncated now.endian now.offset came → (iter_source_state state old).bytes ≡ Some (i.markers ++ came)
+  all_truncated : (old now : PerfRecordIter R) (consumed_bytes : List ℕ) (i : Idles old now) → section_size_of state now ≡ None → IsTruncated now.endian now.offset consumed_bytes → (iter_source_state state old).bytes ≡ Some (i.markers ++ consumed_bytes)
       → (attrs : List Attribute) → Represents old.endian old.attribute_lookup attrs → HasRemainingRecords state old attrs [] ends_complete
-  all_truncated old now came i pipe truncated is attrs k =
-      subst (λ o. IfSome o (λ l. ToComeOf old l attrs [] ends_complete)) (sym is)
-      (i.before came attrs [] ends_complete (nothing_more now.endian came (section_size_of state now) now.offset now.round attrs i.fits (knows_rule old.endian old.attribute_lookup attrs k)
-      (subst (λ b. IsEnd now.endian b now.offset came) (sym pipe) truncated)))
+  all_truncated old now consumed_bytes i pipe truncated is attrs k =
+      subst (λ o. IfSome o (λ l. RemainingIn old l attrs [] ends_complete)) (sym is)
+      (i.before consumed_bytes attrs [] ends_complete (nothing_more now.endian consumed_bytes (section_size_of state now) now.offset now.round attrs i.fits (represented_consistent old.endian old.attribute_lookup attrs k)
+      (subst (λ b. IsEnd now.endian b now.offset consumed_bytes) (sym pipe) truncated)))
 
   -- the pipe has ended or paused
   pub pipe_ends : (old now new new' : PerfRecordIter R) → Idles old now → RawRecordTruncated state now new → IsStopped new new' → new'.offset ≡ new.offset → ReachesEnd state old new'
   pipe_ends old now new new' i c stopped offset =
-      let cut = c.is_truncated in
+      let truncation = c.is_truncated in
       let same = view_stopped new new' stopped in
-      let all : Consumed (iter_source_state state old) (i.markers ++ cut.consumed_bytes) (iter_source_state state new) = consumed_more _ _ _ i.markers cut.consumed_bytes i.gave cut.consumes in
+      let all : Consumed (iter_source_state state old) (i.markers ++ truncation.consumed_bytes) (iter_source_state state new) = consumed_more _ _ _ i.markers truncation.consumed_bytes i.gave truncation.consumes in
       let pipe : section_size_of state old ≡ None = sym i.same.section_size ∙ c.in_pipe in
-      let few = cut.buffer_bound in
+      let few = truncation.buffer_bound in
       let body = ap (λ v. length v.items) stopped.body in
       record {
         no_records_left = elim (none_left (iter_source_state state new).bytes) [
-          | inl end ↦ inl (λ attrs k. all_truncated old now cut.consumed_bytes i c.in_pipe cut.is_truncated (all_read (iter_source_state state old) (iter_source_state state new) (i.markers ++ cut.consumed_bytes) all end) attrs k)
-          | inr some ↦ elim (none_or_paused (iter_source_state state now) (iter_source_state state new) cut.ended_or_paused) [
+          | inl end ↦ inl (λ attrs k. all_truncated old now truncation.consumed_bytes i c.in_pipe truncation.is_truncated (all_read (iter_source_state state old) (iter_source_state state new) (i.markers ++ truncation.consumed_bytes) all end) attrs k)
+          | inr some ↦ elim (none_or_paused (iter_source_state state now) (iter_source_state state new) truncation.ended_or_paused) [
             | inl end ↦ absurd (some end)
             | inr paused ↦ inr (
               pipe,
@@ -456,17 +463,17 @@ module _ {R : Type 0} (state : R → State) where
         ];
         markers = i.markers;
         valid_markers = i.passed;
-        consumed_bytes = cut.consumed_bytes;
+        consumed_bytes = truncation.consumed_bytes;
         offset = offset ∙ c.offset ∙ i.offset;
-        consumes = subst (λ s. Consumed (iter_source_state state old) (i.markers ++ cut.consumed_bytes) s) (sym same) all;
+        consumes = subst (λ s. Consumed (iter_source_state state old) (i.markers ++ truncation.consumed_bytes) s) (sym same) all;
         section_end = λ file. absurd (file pipe);
-        pipe_exhausted = λ _. elim (none_or_paused (iter_source_state state now) (iter_source_state state new) cut.ended_or_paused) [
+        pipe_exhausted = λ _. elim (none_or_paused (iter_source_state state now) (iter_source_state state new) truncation.ended_or_paused) [
           | inl end ↦ inl (ap (λ s. s.bytes) same ∙ end)
           | inr paused ↦ inr (subst (SourcePaused (iter_source_state state old)) (sym same) (paused_later (iter_source_state state old) (iter_source_state state now) (iter_source_state state new) i.markers i.gave paused))
         ];
         buffer_bound = omega (arith, few, body);
-        at_end = subst (λ b. IsEnd old.endian b new'.offset cut.consumed_bytes) (sym pipe)
-            (subst (λ o. IsTruncated o new'.offset cut.consumed_bytes) i.same.same_endian (subst (λ n. IsTruncated now.endian n cut.consumed_bytes) (sym (offset ∙ c.offset)) cut.is_truncated));
+        at_end = subst (λ b. IsEnd old.endian b new'.offset truncation.consumed_bytes) (sym pipe)
+            (subst (λ o. IsTruncated o new'.offset truncation.consumed_bytes) i.same.same_endian (subst (λ n. IsTruncated now.endian n truncation.consumed_bytes) (sym (offset ∙ c.offset)) truncation.is_truncated));
         section_size = ap section_size_in stopped.input ∙ c.same_input.section_size ∙ i.same.section_size;
         no_pending_header = subst HasNoPendingHeader (sym stopped.input) c.no_pending_header;
       }
@@ -499,46 +506,47 @@ module _ {R : Type 0} (state : R → State) where
         consumes = consumed_more _ _ _ before.consumed_bytes _ before.consumes step.consumes;
       }
 
+  -- if no records remain, these records were all that remained
+  pub read_so_far_whole : (old now : PerfRecordIter R) (records : List RecordView) → ReadSoFar state old records now → ((attrs : List Attribute) → Represents now.endian now.attribute_lookup attrs → HasRemainingRecords state now attrs [] ends_complete)
+      → (attrs : List Attribute) → Represents old.endian old.attribute_lookup attrs → HasRemainingRecords state old attrs records ends_complete
+  read_so_far_whole old now records before none attrs k =
+      subst (λ l. HasRemainingRecords state old attrs l ends_complete) (append-nil records)
+      (before.extends_remaining attrs k [] ends_complete (none (attrs ++ attributes_in_views old.endian (section_size_of state old) records) (before.represents attrs k)))
+
   -- if the iterator then reports the end, these records were all that remained, or, in a pipe, the source paused
   pub read_so_far_end : (old now new : PerfRecordIter R) (file file' : PerfFile) (records : List RecordView) → ReadSoFar state old records now → now.stage ≡ Running → ReturnsEnd state now file new file'
       → ((attrs : List Attribute) → Represents old.endian old.attribute_lookup attrs → HasRemainingRecords state old attrs records ends_complete) ⊎ ((section_size_of state old ≡ None) × SourcePaused (iter_source_state state old) (iter_source_state state new))
   read_so_far_end old now new file file' records before runs ended = elim (ended.if_running runs).no_records_left [
-    | inl is ↦ inl (λ attrs k.
-        subst (λ l. HasRemainingRecords state old attrs l ends_complete) (append-nil records)
-        (before.extends_remaining attrs k [] ends_complete (is (attrs ++ attributes_in_views old.endian (section_size_of state old) records) (before.represents attrs k))))
+    | inl is ↦ inl (read_so_far_whole old now records before is)
     | inr paused ↦ inr (sym before.same_input.section_size ∙ paused.0, paused_later (iter_source_state state old) (iter_source_state state now) (iter_source_state state new) before.consumed_bytes before.consumes paused.1)
   ]
 
-  -- If the iterator then reports an error, these records were all before a layout error, or the source failed or paused, or the
-  -- `PerfFile` was that of another input.
+  -- If the iterator then reports an error, these records were all before a layout error, or the source failed or paused in that
+  -- call, or the `PerfFile` was that of another input.
   pub read_so_far_reason : (old now new : PerfRecordIter R) (file file' : PerfFile) (records : List RecordView) (e : Error) → ReadSoFar state old records now → now.stage ≡ Running → ReturnsError state now file e new file' → e ≢ error.Memory
       → IfSome (iter_source_state state old).bytes (λ bytes. (f : LayoutError) × ((attrs : List Attribute) → Represents old.endian old.attribute_lookup attrs → RemainingRecords old.endian bytes (section_size_of state old) old.offset old.round attrs records (ends_with_error f)) × IsErrorFor f e)
-      ⊎ (((came : List ℕ) × SourceErrorInRecord old.endian (section_size_of state old) (iter_source_state state old) came e (iter_source_state state new))
-      ⊎ ((came : List ℕ) × IsMismatchedPerfFile state now file came e))
-  read_so_far_reason old now new file file' records e before runs refused other =
-      let s = refused.if_running runs in
+      ⊎ (((consumed_bytes : List ℕ) × SourceErrorInRecord now.endian (section_size_of state now) (iter_source_state state now) consumed_bytes e (iter_source_state state new))
+      ⊎ ((consumed_bytes : List ℕ) × IsMismatchedPerfFile state now file consumed_bytes e))
+  read_so_far_reason old now new file file' records e before runs error_there other =
+      let s = error_there.if_running runs in
       elim (s.cause other) [
-        | inl fault ↦ inl (
+        | inl shown ↦ inl (
             lift (iter_source_state state old).bytes (iter_source_state state now).bytes before.consumed_bytes
             (λ bytes. (f : LayoutError) × ((attrs : List Attribute) → Represents old.endian old.attribute_lookup attrs → RemainingRecords old.endian bytes (section_size_of state old) old.offset old.round attrs records (ends_with_error f)) × IsErrorFor f e)
-            (λ bytes. (f : LayoutError) × ((attrs : List Attribute) → Represents now.endian now.attribute_lookup attrs → RemainingRecords now.endian bytes (section_size_of state now) now.offset now.round attrs [] (ends_with_error f)) × PassesEarlierChecks now.endian now.attribute_lookup file f × IsErrorFor f e)
+            (FailsAt now file e)
             before.consumes.bytes
             (λ x y is is' f. (
               f.0,
               (λ attrs k.
                   let b = attributes_in_views old.endian (section_size_of state old) records in
-                  let now' : HasRemainingRecords state now (attrs ++ b) [] (ends_with_error f.0) = subst (λ o. IfSome o (λ l. ToComeOf now l (attrs ++ b) [] (ends_with_error f.0))) (sym is') (f.1 (attrs ++ b) (before.represents attrs k)) in
+                  let now' : HasRemainingRecords state now (attrs ++ b) [] (ends_with_error f.0) = subst (λ o. IfSome o (λ l. RemainingIn now l (attrs ++ b) [] (ends_with_error f.0))) (sym is') (f.1 (attrs ++ b) (before.represents attrs k)) in
                   let old' : HasRemainingRecords state old attrs records (ends_with_error f.0) = subst (λ l. HasRemainingRecords state old attrs l (ends_with_error f.0)) (append-nil records) (before.extends_remaining attrs k [] (ends_with_error f.0) now') in
-                  subst (λ o. IfSome o (λ l. ToComeOf old l attrs records (ends_with_error f.0))) is old'),
+                  subst (λ o. IfSome o (λ l. RemainingIn old l attrs records (ends_with_error f.0))) is old'),
               f.3,
             ))
-            fault)
+            (shown_in_all (iter_source_state state now) (iter_source_state state new) (s.markers ++ s.consumed_bytes) (FailsAt now file e) s.consumes shown))
         | inr why ↦ elim why [
-          | inl source ↦ inr (inl (
-            s.consumed_bytes,
-            owes_same now.endian old.endian (section_size_of state now) (section_size_of state old) (iter_source_state state old) (iter_source_state state new) s.consumed_bytes e before.same_input.same_endian before.same_input.section_size
-                (owes_later now.endian (section_size_of state now) (iter_source_state state old) (iter_source_state state now) (iter_source_state state new) before.consumed_bytes s.consumed_bytes e before.consumes source),
-          ))
-          | inr foreign ↦ inr (inr (s.consumed_bytes, foreign.0))
+          | inl source ↦ inr (inl (s.consumed_bytes, source))
+          | inr mismatch ↦ inr (inr (s.consumed_bytes, mismatch.0))
         ]
       ]

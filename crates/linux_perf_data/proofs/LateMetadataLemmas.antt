@@ -1,11 +1,11 @@
 -- The effect of a late metadata record on a `PerfFile`.
 use Rattle.std.proofs.Common.{◌≡◌, ◌≢◌, ℕ, List, [], ◌∷◌, ◌++◌, length, drop, refl, sym, ap, ◌∙◌, subst, arith, inl, inr, append-nil, false, ◌==◌, None, Some}
-use Rattle.std.specs.Prelude.{◌⊎◌, cond, nat_eq, Result, Ok, Err, vec_len}
+use Rattle.std.specs.Prelude.{◌⊎◌, cond, nat_eq, Result, Ok, Err, Vec, vec_len}
 use Rattle.std.specs.Map.{update_all}
 use Rattle.std.proofs.lemmas.Bool.{ne_eqb}
 use Rattle.std.proofs.lemmas.List.{length-map}
 use Rattle.perfdata_base.specs.ParseInfo.{parse_info_of}
-use Rattle.perfdata_base.specs.Features.{HasFeature}
+use Rattle.perfdata_base.specs.Features.{HasFeature, InsertsFeature}
 use Rattle.perfdata_base.specs.declared.attr.PerfEventAttr.{PerfEventAttr}
 use Rattle.perfdata_base.specs.declared.features.FeatureSet.{FeatureSet}
 use Rattle.perfdata_sections.specs.Error.{IsInvalidInput}
@@ -22,15 +22,19 @@ use Rattle.linux_perf_data.specs.Attribute.{Attribute, HoldsAttribute, attribute
 use Rattle.linux_perf_data.specs.Descriptions.{described_attribute, described_attributes}
 use Rattle.linux_perf_data.specs.AttributeLookup.{Represents}
 use Rattle.linux_perf_data.specs.LateMetadata.{SamePerfFile, IsMetadataType, SameAttributeCount, IsMetadataError, AppliesMetadata, features_in_record}
-use Rattle.linux_perf_data.specs.LateSteps.{FindsLateNames, AreLateNamesFor, IsAttributeError, PushesAttribute, AttributeApplied, AppliesAttribute, AppliesFeature, name_table_after}
+use Rattle.linux_perf_data.specs.LateSteps.{FeatureReplaced, FindsFileRenames, FindsLateNames, AreLateNamesFor, IsAttributeError, PushesAttribute, AttributeApplied, AppliesAttribute, AppliesFeature, name_table_after}
 use Rattle.linux_perf_data.specs.NameTable.{HasTableWithEndian, IsTableOf, name_from_table, names_from_table}
 use Rattle.linux_perf_data.specs.FeatureNumbers.{event_desc}
-use Rattle.linux_perf_data.specs.Names.{IsReadableOrAbsent, NamedByEventDesc}
+use Rattle.linux_perf_data.specs.Names.{IsReadableOrAbsent, NamedBy, NamedByEventDesc}
+use Rattle.linux_perf_data.specs.Renames.{AreRenamesFor, FindsRenames, KeepsName, Rename}
+use Rattle.linux_perf_data.specs.declared.attributes.name_table.NameTable.{NameTable}
+use Rattle.std.specs.declared.alloc.Global.{Global}
 use Rattle.linux_perf_data.specs.PerfFile.{descriptions_of_file, features_of_file, feature_data_in_file, attributes_of_file}
 use Rattle.linux_perf_data.specs.Consistency.{error_of_inconsistency}
 use Rattle.linux_perf_data.specs.declared.pipe.late_metadata.LateNames.{LateNames}
 use Rattle.linux_perf_data.specs.declared.pipe.late_metadata.LateNames.TheVariants.{Single, All}
 use Rattle.linux_perf_data.proofs.NameTables.{named_by_kept, named_can, table_can}
+use Rattle.linux_perf_data.proofs.RenameLemmas.{renames_for, renames_for_all}
 
 -- ---- an attribute
 
@@ -255,3 +259,32 @@ other_record_applied order lookup file record_type body r other =
         if_not_renamed = λ _. refl;
       };
     }
+
+-- ---- an EVENT_DESC
+
+-- the renames of all attributes
+pub found_all : (file : PerfFile) (t : NameTable) (ds : List AttributeDescription) (r : Result (Vec Rename Global) Error) → ds ≡ descriptions_of_file file → FindsRenames ds t (λ k. ⊥) r → FindsFileRenames file t r
+found_all file t ds (Ok renames) same (valid, others) = subst (λ l. AreRenamesFor l t renames.items) same (renames_for_all ds t renames.items valid others)
+found_all file t ds (Err e) same memory = memory
+
+-- the renames of those whose names differ in the current table
+pub found_changed : (file : PerfFile) (before t : NameTable) (ds : List AttributeDescription) (r : Result (Vec Rename Global) Error) → ds ≡ descriptions_of_file file → file.name_table ≡ Some before → FindsRenames ds t (KeepsName ds before t) r → FindsFileRenames file t r
+found_changed file before t ds (Ok renames) same is (valid, others) =
+    let named : NamedBy before.events.items ds = subst (NamedBy before.events.items) (sym same) (file.names_match_table before is) in
+    subst (λ l. AreRenamesFor l t renames.items) same (renames_for ds before t renames.items named valid others)
+found_changed file before t ds (Err e) same is memory = memory
+
+pub same_after : (old now new : PerfFile) → SamePerfFile old now → SamePerfFile now new → SamePerfFile old new
+same_after old now new first second = record {
+  same_endian = second.same_endian ∙ first.same_endian;
+  descriptions = second.descriptions ∙ first.descriptions;
+  features = second.features ∙ first.features;
+  feature_data = λ n. second.feature_data n ∙ first.feature_data n;
+}
+
+pub replaced_after : (old now new : PerfFile) (bytes : List ℕ) → SamePerfFile old now → FeatureReplaced now event_desc bytes new → FeatureReplaced old event_desc bytes new
+replaced_after old now new bytes same put = record {
+  same_endian = put.same_endian ∙ same.same_endian;
+  feature_data = λ n. put.feature_data n ∙ ap (cond (nat_eq event_desc n) (Some bytes)) (same.feature_data n);
+  features = subst (λ set. InsertsFeature set event_desc (features_of_file new)) same.features put.features;
+}

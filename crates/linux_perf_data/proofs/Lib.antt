@@ -37,6 +37,8 @@ pub mod PipeFinish
 pub mod PipeRecords
 pub mod EventDescNames
 pub mod NameTables
+pub mod FirstIdIndexes
+pub mod RenameLemmas
 pub mod LateMetadataLemmas
 pub mod PipeOpeningUniqueness
 pub mod DescribedFiles
@@ -45,3 +47,8 @@ pub mod PipeErrorUniqueness
 pub mod FileReadings
 pub mod PipeReadings
 pub mod BufferedRecords
+pub mod NamedErrors
+pub mod InMemoryFraming
+pub mod InMemoryCalls
+pub mod InMemoryPlaces
+pub mod InMemoryReadings

@@ -10,13 +10,13 @@ use Rattle.perfdata_base.specs.declared.place.RecordParseInfo.{RecordParseInfo}
 use Rattle.perfdata_base.specs.declared.raw.Endianness.{Endianness}
 use Rattle.linux_perf_data.specs.declared.attributes.lookup.AttributeLookup.{AttributeLookup}
 use Rattle.linux_perf_data.specs.declared.attributes.id_table.IdTable.{IdTable}
-use Rattle.linux_perf_data.specs.Attribute.{Attribute, EventRef, last_index_listing, attr_index_of_id, attr_index_of, event_of, event_time}
+use Rattle.linux_perf_data.specs.Attribute.{Attribute, EventRef, last_index_listing, lists_id, attr_index_of_id, attr_index_of, event_of, event_time}
 use Rattle.linux_perf_data.specs.Layout.{RecordView, record_view}
 use Rattle.perfdata_sections.specs.declared.feature_sections.AttributeDescription.{AttributeDescription}
 use Rattle.linux_perf_data.specs.Descriptions.{described_attribute, described_attributes, parse_infos_of}
 use Rattle.linux_perf_data.specs.IdTable.{id_lookup}
 use Rattle.linux_perf_data.specs.IdPairs.{last_index_of_id}
-use Rattle.linux_perf_data.specs.IdBounds.{TableIndicesBelow}
+use Rattle.linux_perf_data.specs.IdBounds.{ResolvesIds, TableIndicesBelow}
 use Rattle.linux_perf_data.specs.AttributeLookup.{Represents, event_at}
 use Rattle.linux_perf_data.proofs.IdPairLemmas.{greatest_listed, listed_within}
 
@@ -122,6 +122,29 @@ table_below t attrs n count resolves id i is = (let inside = listed_within id 0 
 
 pub table_answers : (t : IdTable) (attrs : List Attribute) → ((id : ℕ) → id_lookup t id ≡ last_index_of_id id 0 attrs) → (id : ℕ) → unwrap_or (id_lookup t id) 0 ≡ last_index_listing id 0 0 attrs
 table_answers t attrs resolves id = ap (λ o. unwrap_or o 0) (resolves id) ∙ sym (greatest_listed id 0 0 attrs)
+
+pub table_of_several : (t : IdTable) (attrs : List Attribute) → ((id : ℕ) → id_lookup t id ≡ last_index_of_id id 0 attrs) → ResolvesIds t attrs
+table_of_several t attrs resolves = record { in_bounds = table_below t attrs (length attrs) refl resolves; resolves = table_answers t attrs resolves }
+
+-- a table without identifiers resolves those of a single attribute
+
+none_is_some : (n : ℕ) → ◌≡◌ {A = Option ℕ} None (Some n) → ⊥
+none_is_some n e = cc
+
+zero_either : (b : Bool) → ◌≡◌ {A = ℕ} (if b then 0 else 0) 0
+zero_either true = refl
+zero_either false = refl
+
+first_of_one : (id : ℕ) (ds : List AttributeDescription) → length ds ≡ 1 → last_index_listing id 0 0 (described_attributes ds) ≡ 0
+first_of_one id [] one = absurd (omega (arith, one))
+first_of_one id (d ∷ []) one = zero_either (lists_id id (described_attribute d).ids)
+first_of_one id (d ∷ e ∷ ds) one = absurd (omega (arith, one))
+
+pub table_of_one : (t : IdTable) (ds : List AttributeDescription) → length ds ≡ 1 → ((id : ℕ) → id_lookup t id ≡ None) → ResolvesIds t (described_attributes ds)
+table_of_one t ds one none = record {
+  in_bounds = λ id i is. absurd (none_is_some i (sym (none id) ∙ is));
+  resolves = λ id. ap (λ o. unwrap_or o 0) (none id) ∙ sym (first_of_one id ds one);
+}
 
 -- A record that is returned.
 

@@ -6,7 +6,7 @@ use Rattle.std.specs.Cmp.{nat_cmp_is}
 use Rattle.std.specs.Map.{lookup}
 use Rattle.std.specs.Ordering.{is_eq, nat_cmp}
 use Rattle.std.specs.declared.cmp.Ordering.TheVariants.{Less, Equal, Greater}
-use Rattle.std.proofs.lemmas.Bool.{cases_Bool, cases_eq, cases_order, ne_eqb}
+use Rattle.std.proofs.lemmas.Bool.{cases_Bool, cases_eq, cases_order, eqb-true, false≢true, ne_eqb}
 use Rattle.std.proofs.lemmas.List.Elements.{All-push}
 use Rattle.std.proofs.lemmas.List.{at_drop_all, at_drop_more, nil_from_length}
 use Rattle.std.specs.declared.alloc.Global.{Global}
@@ -122,6 +122,21 @@ not_found id i rest (d ∷ ds) is = elim (cases_Bool (same_first_id (ids_in d) (
       ap (λ b. if b then name_in d else name_by_first_id ds (id ∷ rest)) (first_only (ids_in d) id rest ∙ other) ∙ not_found id (i + 1) rest ds later
 ]
 
+-- only the first ID counts
+name_rest : (ds : List AttributeDescription) (id : ℕ) (rest : List ℕ) → name_by_first_id ds (id ∷ rest) ≡ name_by_first_id ds (id ∷ [])
+name_rest [] id rest = refl
+name_rest (d ∷ ds) id rest =
+    ap (λ b. if b then name_in d else name_by_first_id ds (id ∷ rest)) (first_only (ids_in d) id rest)
+    ∙ ap (λ n. if same_first_id (ids_in d) (id ∷ []) then name_in d else n) (name_rest ds id rest)
+
+pub name_of_first : (ds : List AttributeDescription) (id : ℕ) (ids : List ℕ) → same_first_id ids (id ∷ []) ≡ true → name_by_first_id ds ids ≡ name_by_first_id ds (id ∷ [])
+name_of_first ds id [] has = absurd (false≢true has)
+name_of_first ds id (x ∷ rest) has = name_rest ds x rest ∙ ap (λ n. name_by_first_id ds (n ∷ [])) (eqb-true x id has)
+
+-- an ID that isn't in the map of a table has no name
+pub unlisted_name : (t : NameTable) (id : ℕ) (rest : List ℕ) → get nat_cmp t.index_by_first_id id ≡ None → name_by_first_id t.events.items (id ∷ rest) ≡ None
+unlisted_name t id rest none = not_found id 0 rest t.events.items (sym (t.indexes_first_ids id) ∙ none)
+
 first_of : (l : List ℕ) → 0 < length l → get_or l 0 0 ∷ drop 1 l ≡ l
 first_of [] some = absurd (omega (arith, some))
 first_of (x ∷ xs) some = refl
@@ -210,6 +225,10 @@ put_stays name_table m new k v other puts t same = elim (cases_eq k.0 event_desc
 pub pushed_named : (descriptions : List AttributeDescription) (b : Bool) (before items ds : List AttributeDescription) (d : AttributeDescription) → items ≡ (if b then before ++ d ∷ [] else before) → before ≡ ds → NamedBy descriptions ds → name_in d ≡ name_by_first_id descriptions (ids_in d) → NamedBy descriptions items
 pushed_named descriptions true before items ds d is same named own = subst (NamedBy descriptions) (sym (is ∙ ap (λ l. l ++ d ∷ []) same)) (All-push (λ x. name_in x ≡ name_by_first_id descriptions (ids_in x)) ds d named own)
 pushed_named descriptions false before items ds d is same named own = subst (NamedBy descriptions) (sym (is ∙ same)) named
+
+-- it has its name in the table that is kept
+pub kept_names_pushed : (t : NameTable) (name_table : Option NameTable) (b : Bool) (ds items : List AttributeDescription) (d : AttributeDescription) → name_table ≡ Some t → name_in d ≡ name_by_first_id t.events.items (ids_in d) → items ≡ (if b then ds ++ d ∷ [] else ds) → TableNamesAll name_table ds → TableNamesAll name_table items
+kept_names_pushed t name_table b ds items d there own is names = subst (λ table. TableNamesAll table items) (sym there) (table_names t items (pushed_named t.events.items b ds items ds d is refl (names t there) own))
 
 -- ---- the facts of a table determine the names of the attributes
 

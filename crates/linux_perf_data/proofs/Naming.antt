@@ -13,7 +13,7 @@ use Rattle.linux_perf_data.specs.Names.{names_in, name_bytes_of}
 
 -- ---- one more renamed attribute
 
-set_same : {A B : Type 0} (f : A → B) (xs : List A) (i : ℕ) (y : A) → f y ≡ f (get_or xs i y) → map f (set xs i y) ≡ map f xs
+pub set_same : {A B : Type 0} (f : A → B) (xs : List A) (i : ℕ) (y : A) → f y ≡ f (get_or xs i y) → map f (set xs i y) ≡ map f xs
 set_same f [] i y is = refl
 set_same f (x ∷ xs) zero y is = ap (λ b. b ∷ map f xs) is
 set_same f (x ∷ xs) (suc i) y is = ap (λ l. f x ∷ l) (set_same f xs i y is)

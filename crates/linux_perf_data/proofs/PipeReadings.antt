@@ -1,6 +1,6 @@
 -- Lemmas on reading pipes.
 use Rattle.std.proofs.Common.{◌≡◌, ◌≢◌, ℕ, ◌≤◌, ◌++◌, List, [], ◌∷◌, length, drop, refl, sym, ap, ◌∙◌, subst, Option, None, Some, inl, inr, arith, append_assoc, append-nil, nat_eq}
-use Rattle.std.specs.Prelude.{IfSome, IsTrue}
+use Rattle.std.specs.Prelude.{IfSome}
 use Rattle.std.specs.List.{concat}
 use Rattle.std.specs.Map.{update_all}
 use Rattle.std.proofs.Math.Seq.{drop-append_seam}
@@ -29,10 +29,11 @@ use Rattle.linux_perf_data.specs.PipeOpening.{AreMetadata, CanOpenPipe, EndsMeta
 use Rattle.linux_perf_data.specs.PipeReading.{HoldsForPipeRest, BeginsPipe, HoldsAllMetadata, IsCompletePipe, HoldsForPipe, OpensWith, ReadingPipeToEnd, ReadingPipeToError, ReadingPipePartly}
 use Rattle.linux_perf_data.specs.FileReading.{AreFirstRemaining, AreFirstRecords, EndsWithError, ReturnsRecords, HasMatchingFile, HasNotFailed, SourceErrorInSomeRecord, end_after}
 use Rattle.linux_perf_data.proofs.RecordHeaders.{record_type_front, size_front}
+use Rattle.linux_perf_data.proofs.IterCalls.{none_left, read_so_far_whole}
 use Rattle.linux_perf_data.proofs.LayoutSteps.{nothing_more}
 use Rattle.linux_perf_data.proofs.LayoutUniqueness.{layout_exists}
 use Rattle.linux_perf_data.proofs.PipeOpeningUniqueness.{pipe_opening_is_unique, described_pipe_opens}
-use Rattle.linux_perf_data.proofs.FileReadings.{after_prefix_is, consumed_of, first_of, read_so_far_of, holds_of, if_some_each, none_of, source_error_none, source_error_since, offset_of, runs_of, stops_of, whole_of}
+use Rattle.linux_perf_data.proofs.FileReadings.{after_prefix_is, consumed_of, first_of, read_so_far_of, holds_of, if_some_each, none_of, source_error_in_call, source_error_since, offset_of, runs_of, stops_in_call}
 use Rattle.linux_perf_data.proofs.MetadataAccumulation.{can_name}
 
 -- a property of the bytes after a prefix gives one of all bytes
@@ -307,51 +308,84 @@ module _ {R : Type 0} (state : R → State) where
       }
 
   pub pipe_up_to_end : ReadingPipeToEnd state
-  pipe_up_to_end old bytes file now_file file' it now new records bytes_are steady o all ended = elim o.end_of_opening [
+  pipe_up_to_end old bytes file now_file file' it now new records bytes_are o all ended = elim o.end_of_opening [
     | inl k ↦
         let runs = k.stage_running in
         let now_runs = runs_of state it now file now_file records runs all in
         let h = read_so_far_of state it now file now_file records all in
         let out = ended.if_running now_runs in
         let pipe : section_size_of state now ≡ None = h.same_input.section_size ∙ o.section_size in
-        let steady_it : IsTrue (iter_source_state state it).steady = (k.consumes.steady steady).steady in
-        let steady_now : IsTrue (iter_source_state state now).steady = (h.consumes.steady steady_it).steady in
-        let whole_is : HasRemainingRecords state it (attributes_of_file file) records ends_complete =
-        elim (whole_of state it now new file now_file file' records runs all ended) [
-          | inl is ↦ is (attributes_of_file file) o.represents
-          | inr paused ↦ absurd (paused.1.not_steady steady_it)
-        ] in
-        let none : (iter_source_state state new).bytes ≡ Some [] = elim (out.pipe_exhausted pipe) [ inl none ↦ none | inr paused ↦ absurd (paused.not_steady steady_now) ] in
-        record {
-          raw_records = o.raw_records;
-          all_records = subst (λ b. IfSome b (IsCompletePipe it.endian o.raw_records records)) bytes_are (whole_there state old file it o k records whole_is);
-          all_metadata = holds_all state old file it o records file' (subst (AccumulatesMetadata it.endian (section_size_of state it) records file) (sym ended.file_unchanged) (holds_of state it now file now_file records all));
-          remaining = pipe_bytes new.input (state new.source) (out.section_size ∙ pipe) out.no_pending_header ∙ none;
-        }
+        let unread_is = pipe_bytes new.input (state new.source) (out.section_size ∙ pipe) out.no_pending_header in
+        elim (none_left (state new.source).bytes) [
+          | inl none ↦
+              let whole_is : HasRemainingRecords state it (attributes_of_file file) records ends_complete =
+              elim out.no_records_left [
+                | inl is ↦ read_so_far_whole state it now records h is (attributes_of_file file) o.represents
+                | inr paused ↦ absurd (paused.2 (sym unread_is ∙ none))
+              ] in
+              inl (record {
+                raw_records = o.raw_records;
+                all_records = subst (λ b. IfSome b (IsCompletePipe it.endian o.raw_records records)) bytes_are (whole_there state old file it o k records whole_is);
+                all_metadata = holds_all state old file it o records file' (subst (AccumulatesMetadata it.endian (section_size_of state it) records file) (sym ended.file_unchanged) (holds_of state it now file now_file records all));
+                remaining = none;
+              })
+          | inr some ↦
+              let paused : SourcePaused (iter_source_state state now) (iter_source_state state new) = elim (out.pipe_exhausted pipe) [ inl none ↦ absurd (some (unread_is ∙ none)) | inr paused ↦ paused ] in
+              let partly = pipe_up_to_record old bytes file now_file it now records bytes_are o runs all in
+              inr (
+                record {
+                  raw_records = partly.raw_records;
+                  first_records = (partly.rest, partly.pipe_prefix, partly.first_records);
+                  all_metadata = subst (HoldsAllMetadata it.endian partly.raw_records records) (sym ended.file_unchanged) partly.all_metadata;
+                },
+                record {
+                  not_steady = λ steady. paused.not_steady (h.consumes.steady (k.consumes.steady steady).steady).steady;
+                  bytes_remain = some;
+                  paused = inr (runs, paused);
+                },
+              )
+        ]
     | inr e ↦
         let none = none_of state it now file now_file records e.stage_ended all in
-        let gave_all : (state it.source).bytes ≡ Some [] = elim (none_or_paused old (state it.source) e.ended_or_paused) [ inl is ↦ is | inr paused ↦ absurd (paused.not_steady steady) ] in
         let idle = ended.if_ended (ap (λ i. i.stage) none.1 ∙ e.stage_ended) in
-        record {
-          raw_records = o.raw_records;
-          all_records = subst (λ b. IfSome b (IsCompletePipe it.endian o.raw_records records)) bytes_are (subst (λ rs. IfSome old.bytes (IsCompletePipe it.endian o.raw_records rs)) (sym none.0) (whole_none state old file it o e gave_all));
-          all_metadata = holds_all state old file it o records file' (subst (AccumulatesMetadata it.endian (section_size_of state it) records file) (sym ended.file_unchanged) (holds_of state it now file now_file records all));
-          remaining = ap (λ s. (state s).bytes) (idle.source ∙ ap (λ i. i.source) none.1) ∙ gave_all;
-        }
+        let unread_is : (state new.source).bytes ≡ (state it.source).bytes = ap (λ s. (state s).bytes) (idle.source ∙ ap (λ i. i.source) none.1) in
+        let metadata = holds_all state old file it o records file' (subst (AccumulatesMetadata it.endian (section_size_of state it) records file) (sym ended.file_unchanged) (holds_of state it now file now_file records all)) in
+        elim (none_left (state it.source).bytes) [
+          | inl gave_all ↦ inl (record {
+            raw_records = o.raw_records;
+            all_records = subst (λ b. IfSome b (IsCompletePipe it.endian o.raw_records records)) bytes_are (subst (λ rs. IfSome old.bytes (IsCompletePipe it.endian o.raw_records rs)) (sym none.0) (whole_none state old file it o e gave_all));
+            all_metadata = metadata;
+            remaining = unread_is ∙ gave_all;
+          })
+          | inr some ↦
+              let paused : SourcePaused old (state it.source) = elim (none_or_paused old (state it.source) e.ended_or_paused) [ inl gave_all ↦ absurd (some gave_all) | inr paused ↦ paused ] in
+              inr (
+                record {
+                  raw_records = o.raw_records;
+                  first_records = subst (λ b. IfSome b (λ l. HoldsForPipeRest it.endian o.raw_records l (λ C. AreFirstRecords C records))) bytes_are
+                      (subst (λ rs. IfSome old.bytes (λ l. HoldsForPipeRest it.endian o.raw_records l (λ C. AreFirstRecords C rs))) (sym none.0) (first_none state old file it o e));
+                  all_metadata = metadata;
+                },
+                record { not_steady = paused.not_steady; bytes_remain = λ is. some (sym unread_is ∙ is); paused = inl (e.stage_ended, paused) },
+              )
+        ]
   ]
 
   pub pipe_up_to_error : ReadingPipeToError state
-  pipe_up_to_error old bytes file now_file file' it now new records e bytes_are steady o all error other = elim o.end_of_opening [
-    | inl k ↦ elim (stops_of state it now new file now_file file' records e k.stage_running (own_pipe state old file it o) all error other) [
-      | inl ends ↦ (
-        record {
+  pipe_up_to_error old bytes file now_file file' it now new records e bytes_are o all error other = elim o.end_of_opening [
+    | inl k ↦ (
+      elim (stops_in_call state it now new file now_file file' records e k.stage_running (own_pipe state old file it o) all error other) [
+        | inl ends ↦ inl (record {
           raw_records = o.raw_records;
           all_records = subst (λ b. IfSome b (λ l. HoldsForPipe it.endian o.raw_records l (λ C. (f : LayoutError) × C records (ends_with_error f) × IsErrorFor f e))) bytes_are (error_there state old file it o k records e ends);
           all_metadata = holds_all state old file it o records now_file (holds_of state it now file now_file records all);
-        },
-        error.same_file,
-      )
-      | inr source_error ↦ absurd (source_error_none it.endian (section_size_of state it) (iter_source_state state it) (iter_source_state state new) e (k.consumes.steady steady).steady source_error)
-    ]
+        })
+        | inr source_error ↦ inr (
+          pipe_up_to_record old bytes file now_file it now records bytes_are o k.stage_running all,
+          source_error_in_call state old it now new file now_file records e (λ steady. (k.consumes.steady steady).steady) all source_error,
+        )
+      ],
+      error.same_file,
+    )
     | inr ends ↦ (let none = none_of state it now file now_file records ends.stage_ended all in absurd (error.not_ended (ap (λ i. i.stage) none.1 ∙ ends.stage_ended)))
   ]

@@ -1,11 +1,11 @@
 -- A record header and the bytes after it are a record, or determine the error.
 use Rattle.std.proofs.Common.{◌≡◌, ◌≢◌, ℕ, ◌+◌, ◌-◌, ◌^◌, ◌<◌, ◌≤◌, ◌++◌, List, length, drop, sym, ap, ◌∙◌, subst, arith, inl, inr, length-append, append_assoc}
 use Rattle.std.proofs.lemmas.Bool.{cases_eq, cases_lt}
-use Rattle.std.specs.Prelude.{◌⊎◌, Option, None, Some, Ok, Err, IfSome}
+use Rattle.std.specs.Prelude.{◌⊎◌, None, Ok, Err}
 use Rattle.std.proofs.Math.Seq.{drop-append_seam}
-use Rattle.perfdata_base.specs.Source.{State, prepend, Consumed, EndedOrPaused, SkippedExactly}
+use Rattle.perfdata_base.specs.Source.{State, Consumed, EndedOrPaused, SkippedExactly}
 use Rattle.perfdata_base.proofs.ConsumedLemmas.{consumed_more, consumed_none_later, failed_later, paused_later}
-use Rattle.perfdata_base.proofs.ReadErrors.{none_or_paused, all_read}
+use Rattle.perfdata_base.proofs.ReadErrors.{none_or_paused}
 use Rattle.perfdata_base.specs.Endian.{number_in}
 use Rattle.perfdata_base.specs.Event.{RecordHeaderParsed}
 use Rattle.perfdata_base.proofs.Numbers.{number_front}
@@ -17,7 +17,7 @@ use Rattle.perfdata_sections.specs.declared.error.ReadError.TheVariants.{PerfEve
 use Rattle.perfdata_sections.specs.Error.{IsUnexpectedEof, IsUnsupported, IsIoError}
 use Rattle.linux_perf_data.specs.Attribute.{Attribute}
 use Rattle.linux_perf_data.specs.Layout.{SectionSize, LayoutError, truncated_header, size_below_header, end_overflows, truncated_body, compressed_record, aux_body_too_short, aux_end_overflows, truncated_aux_data, ConcernsMetadata, ErrorAt, IsCompressed, IsTruncated, IsRecord, HasRecordHeader, HasCompleteBody, HasAuxSize, record_type_of, misc_of, record_size_of, aux_size_of, total_size_of}
-use Rattle.linux_perf_data.specs.RecordFraming.{IsErrorFor, EndedWithin, FailedWithin, ChecksBodySize, ChecksRecordEnd, BodyRead, BodyEnded, BodyPartlyRead, IsTruncatedBody, BodyErrorCause, IsTruncatedAfterHeader, StaysWithinRecord, SourceErrorInRecord, RecordErrorAt, RecordTruncatedAt}
+use Rattle.linux_perf_data.specs.RecordFraming.{ShownBy, IsErrorFor, EndedWithin, FailedWithin, ChecksBodySize, ChecksRecordEnd, BodyRead, BodyEnded, BodyPartlyRead, IsTruncatedBody, BodyErrorCause, IsTruncatedAfterHeader, StaysWithinRecord, SourceErrorInRecord, RecordErrorAt, RecordTruncatedAt}
 use Rattle.linux_perf_data.proofs.RecordHeaders.{record_type_front, misc_front, size_front, total_size_auxtrace, total_size_plain}
 
 -- the size in a record header is valid, and its record ends below 2^64
@@ -49,14 +49,6 @@ trace_is order h x long = ap (number_in order 8) (ap (λ n. drop n (h ++ x)) (sy
 
 pub after_header : (h x : List ℕ) → length h ≡ 8 → drop 8 (h ++ x) ≡ x
 after_header h x long = ap (λ n. drop n (h ++ x)) (sym long) ∙ drop-append_seam h x
-
--- a property of the remaining bytes that holds whatever follows the consumed bytes
-shown : (a b : Option (List ℕ)) (front : List ℕ) (P : List ℕ → Type 0) → a ≡ prepend front b → ((rest : List ℕ) → P (front ++ rest)) → IfSome a P
-shown a None front P is more = subst (λ o. IfSome o P) (sym is) _
-shown a (Some rest) front P is more = subst (λ o. IfSome o P) (sym is) (more rest)
-
-shown_whole : (a : Option (List ℕ)) (all : List ℕ) (P : List ℕ → Type 0) → a ≡ Some all → P all → IfSome a P
-shown_whole a all P is p = subst (λ o. IfSome o P) (sym is) p
 
 -- a layout error of these bytes that doesn't concern metadata, and its `Error`
 abbrev Owes : Endianness → SectionSize → ℕ → Error → List ℕ → Type 0
@@ -97,7 +89,7 @@ header_short order a b bound offset held e file empty short ended =
       not_failed = not_short_failed e short;
       if_out_of_memory = λ is. absurd (not_short_memory e short is);
       cause = λ _. elim (none_or_paused a b ended.1) [
-        | inl none ↦ inl (shown_whole a.bytes ended.0.consumed_bytes (Owes order bound offset e) (all_read a b ended.0.consumed_bytes ended.0.consumes none) (truncated_header, (λ _. (file, less)), (λ l. l), short))
+        | inl none ↦ inl (inr (none, (truncated_header, (λ _. (file, less)), (λ l. l), short)))
         | inr paused ↦ inr (inl (less, inr (short, file, paused)))
       ];
     }
@@ -124,7 +116,7 @@ size_error order a b bound offset held head e empty t (is, small) = record {
   within_record = inl (let long = t.exact_len in omega (arith, long));
   not_failed = λ f. cc;
   if_out_of_memory = λ m. absurd cc;
-  cause = λ _. inl (shown a.bytes b.bytes t.bytes (Owes order bound offset e) t.consumes.bytes
+  cause = λ _. inl (inl
       (λ rest. let h = headed order a b head t rest in let size = h.size in let long = h.long in (size_below_header, (λ _. (omega (arith, long), omega (arith, size, small))), (λ l. l), is)));
 }
 
@@ -137,7 +129,7 @@ end_error order a b bound offset held head e empty t least (is, overflows) = rec
   within_record = inl (let long = t.exact_len in omega (arith, long));
   not_failed = λ f. cc;
   if_out_of_memory = λ m. absurd cc;
-  cause = λ _. inl (shown a.bytes b.bytes t.bytes (Owes order bound offset e) t.consumes.bytes
+  cause = λ _. inl (inl
       (λ rest. let h = headed order a b head t rest in let size = h.size in let long = h.long in (end_overflows, (λ _. (omega (arith, long), omega (arith, size, least), omega (arith, size, overflows))), (λ l. l), is)));
 }
 
@@ -197,8 +189,7 @@ body_short order a b c bound offset end held head e t x file is checks less gave
       not_failed = λ f. cc;
       if_out_of_memory = λ m. absurd cc;
       cause = λ _. elim (none_or_paused b c none) [
-        | inl end' ↦ inl (shown_whole a.bytes (t.bytes ++ x) (Owes order bound offset e) (all_read a c (t.bytes ++ x) all end')
-            (truncated_body, (λ _. (file, has_head order head offset end (t.bytes ++ x) x h checks, omega (arith, size, long, less, least))), (λ l. l), is))
+        | inl none ↦ inl (inr (none, (truncated_body, (λ _. (file, has_head order head offset end (t.bytes ++ x) x h checks, omega (arith, size, long, less, least))), (λ l. l), is)))
         | inr paused ↦ inr (inr ((omega (arith, long), inl (omega (arith, size, long, less))), is, inr ((λ pipe. absurd (file pipe)), paused_later a b c t.bytes t.consumes paused)))
       ];
     }
@@ -295,35 +286,33 @@ all_within order a b head t x all =
 
 -- The causes for which the body isn't read.
 content_why : (order : Endianness) (a b c : State) (bound : SectionSize) (offset end : ℕ) (head : PerfEventHeader) (e : Error) (t : RecordHeaderParsed (number_in order) a head b) (came : List ℕ) → EndChecked offset head.size end
-    → Consumed b came c → e ≢ Memory → BodyErrorCause order b head end e c came → IfSome a.bytes (Owes order bound offset e) ⊎ SourceErrorInRecord order bound a (t.bytes ++ came) e c
+    → Consumed b came c → e ≢ Memory → BodyErrorCause order b head end e c came → ShownBy (Owes order bound offset e) (t.bytes ++ came) c ⊎ SourceErrorInRecord order bound a (t.bytes ++ came) e c
 content_why order a b c bound offset end head e t came checks gave other (inl (is, some, cut)) = absurd (other is)
 content_why order a b c bound offset end head e t came checks gave other (inr (inl (is, less, failed))) =
     inr (inr (cut_behind order a b head t came (inl less), is, inl (failed_later a b c t.bytes t.consumes failed)))
 content_why order a b c bound offset end head e t came checks gave other (inr (inr (inl (is, long', kind)))) =
-    inl (shown a.bytes c.bytes (t.bytes ++ came) (Owes order bound offset e) (consumed_more a b c t.bytes came t.consumes gave).bytes
+    inl (inl
     (λ rest. let h = behind order a b head t came rest in let least = checks.0 in
     (compressed_record, (λ _. (has_body order head offset end ((t.bytes ++ came) ++ rest) (came ++ rest) h checks (omega (arith, length-append came rest, long', least)), subst IsCompressed (sym h.kind) kind)), (λ l. l), is)))
 content_why order a b c bound offset end head e t came checks gave other (inr (inr (inr (inl (is, long', kind, short))))) =
-    inl (shown a.bytes c.bytes (t.bytes ++ came) (Owes order bound offset e) (consumed_more a b c t.bytes came t.consumes gave).bytes
+    inl (inl
     (λ rest. let h = behind order a b head t came rest in let least = checks.0 in let size = h.size in
     (aux_body_too_short, (λ _. (has_body order head offset end ((t.bytes ++ came) ++ rest) (came ++ rest) h checks (omega (arith, length-append came rest, long', least)), h.kind ∙ kind, omega (arith, size, short))), (λ l. l), is)))
 content_why order a b c bound offset end head e t came checks gave other (inr (inr (inr (inr (inl (is, long', kind, enough, far)))))) =
-    inl (shown a.bytes c.bytes (t.bytes ++ came) (Owes order bound offset e) (consumed_more a b c t.bytes came t.consumes gave).bytes
+    inl (inl
     (λ rest. let h = behind order a b head t came rest in let least = checks.0 in let ends = checks.1.0 in
     let extent = extent_is order a b head t came rest kind (omega (arith, long', enough)) in
     (aux_end_overflows, (λ _. (has_trace order head offset end ((t.bytes ++ came) ++ rest) (came ++ rest) h checks (omega (arith, length-append came rest, long', least)) kind enough, omega (arith, extent, ends, far))), (λ l. l), is)))
 content_why order a b c bound offset end head e t came checks gave other (inr (inr (inr (inr (inr (is, there, kind, enough, fits, less, inl none)))))) =
-    let all = consumed_more a b c t.bytes came t.consumes gave in
     let h = headed order a b head t came in
     let size = h.size in
     let long = h.long in
     let least = checks.0 in
     let ends = checks.1.0 in
     elim (none_or_paused b c none) [
-      | inl end' ↦ inl (
+      | inl none' ↦
           let extent = extent_alone order a b head t came kind (omega (arith, there, enough)) in
-          shown_whole a.bytes (t.bytes ++ came) (Owes order bound offset e) (all_read a c (t.bytes ++ came) all end')
-          (truncated_aux_data, (λ _. (has_trace order head offset end (t.bytes ++ came) came h checks (omega (arith, there, least)) kind enough, omega (arith, extent, ends, fits), omega (arith, extent, long, less, least))), (λ l. l), is))
+          inl (inr (none', (truncated_aux_data, (λ _. (has_trace order head offset end (t.bytes ++ came) came h checks (omega (arith, there, least)) kind enough, omega (arith, extent, ends, fits), omega (arith, extent, long, less, least))), (λ l. l), is)))
       | inr paused ↦ inr (inr (cut_behind order a b head t came (inr (kind, enough, there, less)), is, inr ((λ _. omega (arith, size, long, there, least)), paused_later a b c t.bytes t.consumes paused)))
     ]
 content_why order a b c bound offset end head e t came checks gave other (inr (inr (inr (inr (inr (is, there, kind, enough, fits, less, inr failed)))))) =

@@ -43,7 +43,7 @@ module _ (o endian : Endianness) (same : endian ≡ o) (xs : List ℕ) (left : S
   in_order : (P : Endianness → Type 0) → P o → P endian
   in_order P = subst P (sym same)
 
-  clock_value : (d : ClockData) → PartRead (IsClockSection (number_in o)) (memory_source xs) d left → ParsesClockData o xs (Ok d)
+  pub clock_value : (d : ClockData) → PartRead (IsClockSection (number_in o)) (memory_source xs) d left → ParsesClockData o xs (Ok d)
   clock_value d took =
       let cut = slice_front xs took.bytes left took.consumes in
       let long : length took.bytes ≡ 24 = took.matches.0 in
@@ -53,7 +53,7 @@ module _ (o endian : Endianness) (same : endian ≡ o) (xs : List ℕ) (left : S
         took.matches.2 ∙ sym (ap (clock_of (number_in o)) all ∙ rw (number_drop_front o 4 4 took.bytes cut.0 (omega arith), number_drop_front o 8 8 took.bytes cut.0 (omega arith), number_drop_front o 8 16 took.bytes cut.0 (omega arith)) refl),
       )
 
-  clock_fault : (e : IoErrorValue) → ParsesClock (number_in o) (memory_source xs) (Err e) left → ParsesClockData o xs (Err (IoError e))
+  pub clock_fault : (e : IoErrorValue) → ParsesClock (number_in o) (memory_source xs) (Err e) left → ParsesClockData o xs (Err (IoError e))
   clock_fault e why = elim why [
     | inl other ↦
         let cut = slice_front xs other.bytes left other.consumes in
@@ -65,14 +65,6 @@ module _ (o endian : Endianness) (same : endian ≡ o) (xs : List ℕ) (left : S
         )
     | inr stopped ↦ inr (slice_stopped (IsTruncatedClock (number_in o)) xs left e stopped)
   ]
-
-  pub clock_ok : (r parsed : Result ClockData IoErrorValue) (d : ClockData) → parsed ≡ r → parsed ≡ Ok d → ParsesClock (number_in o) (memory_source xs) r left → ParsesClockData endian xs (Ok d)
-  clock_ok r parsed d is ok parses =
-      in_order (λ e. ParsesClockData e xs (Ok d)) (clock_value d (subst (λ t. ParsesClock (number_in o) (memory_source xs) t left) (sym is ∙ ok) parses))
-
-  pub clock_err : (r parsed : Result ClockData IoErrorValue) (e : IoErrorValue) → parsed ≡ r → parsed ≡ Err e → ParsesClock (number_in o) (memory_source xs) r left → ParsesClockData endian xs (Err (IoError e))
-  clock_err r parsed e is err parses =
-      in_order (λ o'. ParsesClockData o' xs (Err (IoError e))) (clock_fault e (subst (λ t. ParsesClock (number_in o) (memory_source xs) t left) (sym is ∙ err) parses))
 
   pub units_ok : (r read : Result PmuMappings AppendError) (m : PmuMappings) → read ≡ r → read ≡ Ok m → ReadsPmus (number_in o) (memory_source xs) r left → BeginsWithPmuSection endian xs m
   units_ok r read m is ok reads =

@@ -98,7 +98,7 @@ ReadsFeatureTable order features old (Err e) new = TableReadError (16 * length f
 -- for a `Memory` error.
 abbrev pub ReadsSectionBytes : PerfFileSection → State → Result (Vec ℕ Global) Error → State → Type 0
 ReadsSectionBytes s old (Ok v) new = AfterSeek old new × IfSome (all_bytes_of old.position) (λ all. HoldsSection all s × (v.items ≡ section_bytes all s))
-ReadsSectionBytes s old (Err e) new = AfterSeek old new × (e ≢ Memory → IfSome (all_bytes_of old.position) (λ all. IsUnexpectedEof e × SectionTruncated all s) ⊎ SourceErrorInBytes old e new)
+ReadsSectionBytes s old (Err e) new = AfterSeek old new × (e ≢ Memory → (IsUnexpectedEof e × IfSome (all_bytes_of old.position) (λ all. SectionTruncated all s)) ⊎ SourceErrorInBytes old e new)
 
 -- The data of feature `n` in the map.
 abbrev pub feature_data_of : {S : Type 0} → IndexMap Feature (Vec ℕ Global) S → ℕ → Option (List ℕ)
@@ -108,7 +108,7 @@ feature_data_of m n = option_map (λ v. v.items) (lookup (λ f. nat_eq n f.0) m.
 -- `Memory` error.
 abbrev pub ReadsFeatureData : {S : Type 0} → List FeatureEntry → State → Result (IndexMap Feature (Vec ℕ Global) S) Error → State → Type 0
 ReadsFeatureData es old (Ok m) new = AfterSeek old new × IfSome (all_bytes_of old.position) (λ all. All (λ e. HoldsSection all e.1) es × ((n : ℕ) → feature_data_of m n ≡ feature_data_by all es n))
-ReadsFeatureData es old (Err e) new = AfterSeek old new × (e ≢ Memory → IfSome (all_bytes_of old.position) (λ all. IsUnexpectedEof e × FirstTruncatedSection all es) ⊎ SourceErrorInBytes old e new)
+ReadsFeatureData es old (Err e) new = AfterSeek old new × (e ≢ Memory → (IsUnexpectedEof e × IfSome (all_bytes_of old.position) (λ all. FirstTruncatedSection all es)) ⊎ SourceErrorInBytes old e new)
 
 -- Reads the table at offset `at` and the sections of these features. It fails if the table or a section is truncated, or with the
 -- source error. The contract states no cause for a `Memory` error.
@@ -116,7 +116,7 @@ abbrev pub ReadsFeatures : {S : Type 0} → Endianness → ℕ → List ℕ → 
 ReadsFeatures order at features old (Ok m) new =
     AfterSeek old new × IfSome (all_bytes_of old.position) (λ all. HoldsAllSections order all at features × ((n : ℕ) → feature_data_of m n ≡ feature_data_by all (feature_table_of order all at features) n))
 ReadsFeatures order at features old (Err e) new =
-    AfterSeek old new × (e ≢ Memory → IfSome (all_bytes_of old.position) (λ all. IsUnexpectedEof e × SectionsTruncated order all at features) ⊎ SourceErrorInBytes old e new)
+    AfterSeek old new × (e ≢ Memory → (IsUnexpectedEof e × IfSome (all_bytes_of old.position) (λ all. SectionsTruncated order all at features)) ⊎ SourceErrorInBytes old e new)
 
 -- Seeks to the offset `at` from the first byte, or fails with an I/O error.
 abbrev pub SeeksToOffset : {A : Type 0} → State → ℕ → Result A Error → State → Type 0

@@ -19,6 +19,7 @@ use Rattle.linux_perf_data.specs.Consistency.{error_of_inconsistency}
 use Rattle.linux_perf_data.specs.AttributeSources.{KnownSections, known_sections, DescribesFrom, IsSourcesError}
 use Rattle.linux_perf_data.specs.FeatureNumbers.{simpleperf_meta_info, event_desc}
 use Rattle.linux_perf_data.specs.FeatureData.{HoldsAllSections, SectionsTruncated, feature_table_of, feature_data_by, feature_data_of}
+use Rattle.linux_perf_data.specs.NamedErrors.{IsFileOpeningError}
 use Rattle.linux_perf_data.specs.declared.file.opening.FileOpening.{FileOpening}
 
 -- The magic value of a byte order.
@@ -91,6 +92,7 @@ pub record OpenedAfterHeader (order : Endianness) (h : PerfHeader) (old : State)
 
 pub record OpenAfterHeaderError (order : Endianness) (h : PerfHeader) (old : State) (e : Error) (new : State) : Type 0 where
   pub after_seek : AfterSeek old new
+  pub named_error : IsFileOpeningError e
   pub cause : e ≢ Memory → IfSome (all_bytes_of old.position) (λ all. IsErrorAfterHeader order h all e) ⊎ SourceErrorInOpening old e new
 
 abbrev pub OpensAfterHeader : Endianness → PerfHeader → State → Result FileOpening Error → State → Type 0
@@ -149,6 +151,7 @@ pub record FileOpened (old : State) (opening : FileOpening) (new : State) : Type
 
 pub record FileOpenError (old : State) (e : Error) (new : State) : Type 0 where
   pub after_seek : AfterSeek old new
+  pub named_error : IsFileOpeningError e
   pub cause : e ≢ Memory → IfSome old.position (λ p. IsFileError p e) ⊎ SourceErrorInOpening old e new
 
 abbrev pub OpensPerfFile : State → Result FileOpening Error → State → Type 0

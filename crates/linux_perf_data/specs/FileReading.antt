@@ -118,7 +118,13 @@ module _ {R : Type 0} (state : R → State) where
   ReadingFileToEnd = (p : Position) (old : State) (file now_file file' : PerfFile) (it now new : PerfRecordIter R) (records : List RecordView) →
       old.position ≡ Some p → FileParsed state old file it → ReturnsRecords state it file records now now_file → ReturnsEnd state now now_file new file' → FileRead p file records (state new.source).bytes × (file' ≡ file)
 
-  -- Reading a file from an infallible source up to an error other than `Memory`.
+  -- The last call failed because the source failed or paused in it, and `e` is the source error. An infallible source has none.
+  pub record SourceErrorInCall (old : State) (now : PerfRecordIter R) (e : Error) (new : PerfRecordIter R) : Type 0 where
+    pub not_steady : ¬ IsTrue old.steady
+    pub source_error : SourceErrorInSomeRecord now.endian (section_size_of state now) (iter_source_state state now) e (iter_source_state state new)
+
+  -- Reading a file up to an error other than `Memory`.
   abbrev pub ReadingFileToError : Type 0
   ReadingFileToError = (p : Position) (old : State) (file now_file file' : PerfFile) (it now new : PerfRecordIter R) (records : List RecordView) (e : Error) →
-      old.position ≡ Some p → IsTrue old.steady → FileParsed state old file it → ReturnsRecords state it file records now now_file → ReturnsError state now now_file e new file' → e ≢ Memory → FileReadToError p file records e × SamePerfFile file file'
+      old.position ≡ Some p → FileParsed state old file it → ReturnsRecords state it file records now now_file → ReturnsError state now now_file e new file' → e ≢ Memory
+      → (FileReadToError p file records e ⊎ SourceErrorInCall old now e new) × SamePerfFile file file'

@@ -30,7 +30,7 @@ use Rattle.linux_perf_data.specs.PerfFile.{descriptions_of_file, feature_data_in
 use Rattle.linux_perf_data.specs.AttributeLookup.{Represents, parse_info_at}
 use Rattle.linux_perf_data.specs.Layout.{SectionSize, MayStartAt, IsEnd, IsRecord, ConsistsOfMarkers, record_type_of, misc_of, RecordView, LayoutEnd, ends_complete, ends_with_error, LayoutError, RemainingRecords, record_view, attributes_in_record, attributes_in_views}
 use Rattle.linux_perf_data.specs.Pauses.{PausesOnlyAtEndOrError}
-use Rattle.linux_perf_data.specs.RecordFraming.{RecordErrorAt, StaysWithinRecord, RecordTruncatedAt, IsTruncatedAfterHeader, IsErrorFor, SourceErrorInRecord, MayNeedMemory}
+use Rattle.linux_perf_data.specs.RecordFraming.{RecordErrorAt, StaysWithinRecord, RecordTruncatedAt, IsTruncatedAfterHeader, IsErrorFor, ShownBy, SourceErrorInRecord, MayNeedMemory}
 
 -- The view of a returned record: its fields as the layout gives them.
 abbrev pub record_view_of : RecordPlace → PerfFileRecord → RecordView
@@ -273,12 +273,12 @@ module _ {R : Type 0} (state : R → State) where
     pub cause : (IsInvalidInput e × ((attrs : List Attribute) → Represents old.endian old.attribute_lookup attrs → length (descriptions_of_file file) ≢ length attrs))
         ⊎ (SameAttributeCount old.endian old.attribute_lookup file × (record_type_of old.endian consumed ≡ header_attr) × HoldsAttribute old.endian (drop 8 consumed) × ((bytes : List ℕ) × (feature_data_in_file file event_desc ≡ Some bytes) × IsEventDescError (number_in old.endian) e bytes))
 
-  -- The cause of an error. It is a layout error whose earlier checks the `PerfFile` passes, or a source error. Or the `PerfFile`
-  -- belongs to another input, and the record is complete and ends below 2^64.
-  abbrev pub IsErrorCause : PerfRecordIter R → PerfFile → List ℕ → Error → PerfRecordIter R → Type 0
-  IsErrorCause old file consumed e new =
-      IfSome (iter_source_state old).bytes (λ bytes. (f : LayoutError) × ((attrs : List Attribute) → Represents old.endian old.attribute_lookup attrs
-      → RemainingRecords old.endian bytes (section_size_of old) old.offset old.round attrs [] (ends_with_error f)) × PassesEarlierChecks old.endian old.attribute_lookup file f × IsErrorFor f e)
+  -- The cause of an error. The consumed bytes show a layout error whose earlier checks the `PerfFile` passes, or the source has an
+  -- error. Or the `PerfFile` belongs to another input, and the record is complete and ends below 2^64.
+  abbrev pub IsErrorCause : PerfRecordIter R → PerfFile → List ℕ → List ℕ → Error → PerfRecordIter R → Type 0
+  IsErrorCause old file markers consumed e new =
+      ShownBy (λ bytes. (f : LayoutError) × ((attrs : List Attribute) → Represents old.endian old.attribute_lookup attrs
+      → RemainingRecords old.endian bytes (section_size_of old) old.offset old.round attrs [] (ends_with_error f)) × PassesEarlierChecks old.endian old.attribute_lookup file f × IsErrorFor f e) (markers ++ consumed) (iter_source_state new)
       ⊎ (SourceErrorInRecord old.endian (section_size_of old) (iter_source_state old) consumed e (iter_source_state new)
       ⊎ (IsMismatchedPerfFile old file consumed e × (new.offset + length consumed < 2 ^ 64)))
 
@@ -301,7 +301,7 @@ module _ {R : Type 0} (state : R → State) where
     pub within_record : StaysWithinRecord old.endian consumed_bytes
     pub buffer_bound : length new.body.items ≤ length (drop 8 consumed_bytes) + 4096
     pub if_out_of_memory : e ≡ error.Memory → NeedsMemoryFor old file consumed_bytes
-    pub cause : e ≢ error.Memory → IsErrorCause old file consumed_bytes e new
+    pub cause : e ≢ error.Memory → IsErrorCause old file markers consumed_bytes e new
 
   -- The call returned an error, and the contents of the `PerfFile` are unchanged.
   pub record ReturnsError (old : PerfRecordIter R) (file : PerfFile) (e : Error) (new : PerfRecordIter R) (file' : PerfFile) : Type 0 where

@@ -15,6 +15,8 @@ use Rattle.linux_perf_data.specs.AttributeLookup.{Represents}
 use Rattle.linux_perf_data.specs.LateMetadata.{SamePerfFile, IsMetadataError}
 use Rattle.linux_perf_data.specs.NameTable.{HasTableWithEndian, IsTableOf, name_from_table, names_from_table}
 use Rattle.linux_perf_data.specs.FeatureNumbers.{event_desc}
+use Rattle.linux_perf_data.specs.FirstIdIndex.{IndexesAll}
+use Rattle.linux_perf_data.specs.Renames.{AreRenamesFor, Rename}
 use Rattle.linux_perf_data.specs.Names.{IsReadableOrAbsent, NamedByEventDesc, feature_in_body, name_bytes_of}
 use Rattle.linux_perf_data.specs.Consistency.{error_of_inconsistency}
 use Rattle.linux_perf_data.specs.PerfFile.{descriptions_of_file, features_of_file, endian_of_file, feature_data_in_file, attributes_of_file}
@@ -86,6 +88,16 @@ pub record FeatureReplaced (old : PerfFile) (feature : ℕ) (bytes : List ℕ) (
 abbrev pub ReplacesFeature : {A : Type 0} → PerfFile → ℕ → List ℕ → Result A Error → PerfFile → Type 0
 ReplacesFeature old feature bytes (Ok _) new = FeatureReplaced old feature bytes new × (descriptions_of_file new ≡ descriptions_of_file old)
 ReplacesFeature old feature bytes (Err e) new = UnchangedOutOfMemory old e new
+
+-- All attributes are indexed by their first ids. On error, the contents of the `PerfFile` are unchanged.
+abbrev pub IndexesFile : {A : Type 0} → PerfFile → Result A Error → PerfFile → Type 0
+IndexesFile old (Ok _) new = SamePerfFile old new × IndexesAll new.first_id_index (descriptions_of_file new)
+IndexesFile old (Err e) new = UnchangedOutOfMemory old e new
+
+-- Finds the renames of the attributes by a table. The error is `Memory`.
+abbrev pub FindsFileRenames : PerfFile → NameTable → Result (Vec Rename Global) Error → Type 0
+FindsFileRenames file t (Ok renames) = AreRenamesFor (descriptions_of_file file) t renames.items
+FindsFileRenames file t (Err e) = e ≡ Memory
 
 -- The EVENT_DESC is replaced, and it names all attributes. On error, the contents of the `PerfFile` are unchanged.
 abbrev pub ReplacesEventDesc : {A : Type 0} → Endianness → PerfFile → List ℕ → Result A Error → PerfFile → Type 0

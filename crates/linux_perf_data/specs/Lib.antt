@@ -3,6 +3,7 @@ pub mod Layout
 pub mod Laws
 pub mod AttributeLookup
 pub mod RecordFraming
+pub mod NamedErrors
 pub mod Input
 pub mod Descriptions
 pub mod IdTable
@@ -23,6 +24,8 @@ pub mod BuildIds
 pub mod Simpleperf
 pub mod Names
 pub mod FirstIds
+pub mod FirstIdIndex
+pub mod Renames
 pub mod NameTable
 pub mod LateMetadata
 pub mod OpenedPipe
@@ -31,3 +34,5 @@ pub mod PipeOpening
 pub mod PipeSteps
 pub mod FileReading
 pub mod PipeReading
+pub mod InMemory
+pub mod InMemoryReading

@@ -2,15 +2,15 @@
 use Rattle.std.specs.Prelude.{◌≡◌, ◌≢◌, ◌⊎◌, ◌↔◌, ℕ, ◌<◌, List, [], ◌++◌, drop, nat_eq, IsSome, IsTrue, Option, None, Some, IfSome}
 use Rattle.std.specs.List.{concat}
 use Rattle.std.specs.Map.{update_all}
-use Rattle.perfdata_base.specs.Source.{State}
+use Rattle.perfdata_base.specs.Source.{State, SourcePaused}
 use Rattle.perfdata_base.specs.Features.{HasFeature}
 use Rattle.perfdata_base.specs.declared.raw.Endianness.{Endianness}
 use Rattle.perfdata_sections.specs.declared.error.Error.{Error}
 use Rattle.perfdata_sections.specs.declared.error.Error.TheVariants.{Memory}
 use Rattle.linux_perf_data.specs.declared.records.iter.PerfRecordIter.{PerfRecordIter}
-use Rattle.linux_perf_data.specs.declared.records.iter.Stage.TheVariants.{Running}
+use Rattle.linux_perf_data.specs.declared.records.iter.Stage.TheVariants.{Running, Ended}
 use Rattle.linux_perf_data.specs.declared.perf_file.PerfFile.{PerfFile}
-use Rattle.linux_perf_data.specs.Iter.{ReturnsEnd, ReturnsError}
+use Rattle.linux_perf_data.specs.Iter.{iter_source_state, ReturnsEnd, ReturnsError}
 use Rattle.linux_perf_data.specs.LateMetadata.{features_in_views, SomeProvideFeature, SamePerfFile}
 use Rattle.linux_perf_data.specs.Layout.{RecordView, LayoutEnd, ends_complete, ends_with_error, LayoutError, RemainingRecords, attributes_in_records, attributes_in_views}
 use Rattle.linux_perf_data.specs.FeatureNumbers.{event_desc}
@@ -19,7 +19,7 @@ use Rattle.linux_perf_data.specs.OpenedPipe.{PipeParsed}
 use Rattle.linux_perf_data.specs.PerfFile.{descriptions_of_file, features_of_file, endian_of_file, feature_data_in_file, attributes_of_file}
 use Rattle.linux_perf_data.specs.RecordFraming.{IsErrorFor}
 use Rattle.linux_perf_data.specs.PipeOpening.{IsPipeHeader, AreMetadata, CanOpenPipe, EndsMetadata, IsPipeError, OpeningRead, feature_data_in}
-use Rattle.linux_perf_data.specs.FileReading.{AreFirstRecords, ReturnsRecords, end_after}
+use Rattle.linux_perf_data.specs.FileReading.{AreFirstRecords, ReturnsRecords, SourceErrorInCall, end_after}
 
 module _ (order : Endianness) (raw_records : List (List ℕ)) where
   -- The bytes start with a pipe header and these metadata records, and `rest` follows them.
@@ -87,6 +87,12 @@ pub record PipeRead (order : Endianness) (bytes : List ℕ) (records : List Reco
   pub all_metadata : HoldsAllMetadata order raw_records records file
   pub remaining : unread ≡ Some []
 
+-- These are the first records of the pipe, and its `PerfFile` contains exactly the metadata read so far.
+pub record PipeReadToPause (order : Endianness) (bytes : List ℕ) (records : List RecordView) (file : PerfFile) : Type 0 where
+  pub raw_records : List (List ℕ)
+  pub first_records : HoldsForPipeRest order raw_records bytes (λ AreRemaining. AreFirstRecords AreRemaining records)
+  pub all_metadata : HoldsAllMetadata order raw_records records file
+
 -- These are all records of the pipe before its layout error, and `e` reports that error. Its `PerfFile` contains exactly the
 -- metadata that was read.
 pub record PipeReadToError (order : Endianness) (bytes : List ℕ) (records : List RecordView) (file : PerfFile) (e : Error) : Type 0 where
@@ -100,14 +106,21 @@ module _ {R : Type 0} (state : R → State) where
   ReadingPipePartly = (old : State) (bytes : List ℕ) (file file' : PerfFile) (it now : PerfRecordIter R) (records : List RecordView) →
       old.bytes ≡ Some bytes → PipeParsed state old file it → it.stage ≡ Running → ReturnsRecords state it file records now file' → PipePartlyRead it.endian bytes records file' (state now.source).bytes
 
-  -- Reading a pipe from an infallible source up to its end.
+  -- The source paused before its end: in the opening, which then read no pending header, or in the last call. An infallible source
+  -- doesn't pause.
+  pub record PausesBeforeEnd (old : State) (it now new : PerfRecordIter R) : Type 0 where
+    pub not_steady : ¬ IsTrue old.steady
+    pub bytes_remain : (state new.source).bytes ≢ Some []
+    pub paused : ((it.stage ≡ Ended) × SourcePaused old (state it.source)) ⊎ ((it.stage ≡ Running) × SourcePaused (iter_source_state state now) (iter_source_state state new))
+
+  -- Reading a pipe up to its end, or up to a pause of the source.
   abbrev pub ReadingPipeToEnd : Type 0
   ReadingPipeToEnd = (old : State) (bytes : List ℕ) (file now_file file' : PerfFile) (it now new : PerfRecordIter R) (records : List RecordView) →
-      old.bytes ≡ Some bytes → IsTrue old.steady → PipeParsed state old file it → ReturnsRecords state it file records now now_file → ReturnsEnd state now now_file new file'
-      → PipeRead it.endian bytes records file' (state new.source).bytes
+      old.bytes ≡ Some bytes → PipeParsed state old file it → ReturnsRecords state it file records now now_file → ReturnsEnd state now now_file new file'
+      → PipeRead it.endian bytes records file' (state new.source).bytes ⊎ (PipeReadToPause it.endian bytes records file' × PausesBeforeEnd old it now new)
 
-  -- Reading a pipe from an infallible source up to an error other than `Memory`.
+  -- Reading a pipe up to an error other than `Memory`.
   abbrev pub ReadingPipeToError : Type 0
   ReadingPipeToError = (old : State) (bytes : List ℕ) (file now_file file' : PerfFile) (it now new : PerfRecordIter R) (records : List RecordView) (e : Error) →
-      old.bytes ≡ Some bytes → IsTrue old.steady → PipeParsed state old file it → ReturnsRecords state it file records now now_file → ReturnsError state now now_file e new file' → e ≢ Memory
-      → PipeReadToError it.endian bytes records now_file e × SamePerfFile now_file file'
+      old.bytes ≡ Some bytes → PipeParsed state old file it → ReturnsRecords state it file records now now_file → ReturnsError state now now_file e new file' → e ≢ Memory
+      → (PipeReadToError it.endian bytes records now_file e ⊎ (PipePartlyRead it.endian bytes records now_file (state now.source).bytes × SourceErrorInCall state old now e new)) × SamePerfFile now_file file'

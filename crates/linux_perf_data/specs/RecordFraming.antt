@@ -1,5 +1,5 @@
 -- Reading the parts of a record from a source, and the causes of its errors.
-use Rattle.std.specs.Prelude.{◌≡◌, ◌≢◌, ℕ, ◌+◌, ◌-◌, ◌^◌, ◌<◌, ◌≤◌, ◌⊎◌, Bool, true, false, List, ◌++◌, length, drop, Option, None, Some, Result, Ok, Err, IfSome}
+use Rattle.std.specs.Prelude.{◌≡◌, ◌≢◌, ℕ, ◌+◌, ◌-◌, ◌^◌, ◌<◌, ◌≤◌, ◌⊎◌, Bool, true, false, List, [], ◌++◌, length, drop, Option, None, Some, Result, Ok, Err}
 use Rattle.perfdata_base.specs.Source.{State, Consumed, EndedOrPaused, SourceFailed, SourcePaused, PartlyRead, PartlyAppended, SkippedExactly, AppendedExactly}
 use Rattle.perfdata_base.specs.Endian.{number_in}
 use Rattle.perfdata_base.specs.Event.{RecordHeaderParsed}
@@ -177,7 +177,11 @@ pub record MayNeedMemory (order : Endianness) (consumed : List ℕ) : Type 0 whe
   pub record_type : record_type_of order consumed ≢ finished_round
   pub has_body : 8 < record_size_of order consumed
 
--- Reading the record at `offset` failed after `consumed_bytes`. The buffer is at most 4,096 bytes longer than the part of the
+-- The bytes `consumed` show that `Holds`, whatever follows them or because nothing does.
+abbrev pub ShownBy : (List ℕ → Type 0) → List ℕ → State → Type 0
+ShownBy Holds consumed new = ((rest : List ℕ) → Holds (consumed ++ rest)) ⊎ ((new.bytes ≡ Some []) × Holds consumed)
+
+-- Reading the record at `offset` failed after `consumed_bytes`. They show the error, or it is the source's. The buffer is at most 4,096 bytes longer than the part of the
 -- body that was read.
 pub record RecordErrorAt (order : Endianness) (old : State) (bound : SectionSize) (offset : ℕ) (e : Error) (buffer_len : ℕ) (new : State) : Type 0 where
   pub consumed_bytes : List ℕ
@@ -187,7 +191,7 @@ pub record RecordErrorAt (order : Endianness) (old : State) (bound : SectionSize
   pub not_failed : e ≢ Failed
   pub if_out_of_memory : e ≡ Memory → MayNeedMemory order consumed_bytes × IsTruncatedAfterHeader order consumed_bytes
   pub cause : e ≢ Memory
-      → IfSome old.bytes (λ bytes. (f : LayoutError) × ((attrs : List Attribute) → ErrorAt order bound offset attrs bytes f) × (¬ ConcernsMetadata f) × IsErrorFor f e) ⊎ SourceErrorInRecord order bound old consumed_bytes e new
+      → ShownBy (λ bytes. (f : LayoutError) × ((attrs : List Attribute) → ErrorAt order bound offset attrs bytes f) × (¬ ConcernsMetadata f) × IsErrorFor f e) consumed_bytes new ⊎ SourceErrorInRecord order bound old consumed_bytes e new
 
 -- The record at `offset` is truncated in a pipe. The source ended or paused after `consumed_bytes`. The buffer is at most 4,096
 -- bytes longer than the part of the body that was read.

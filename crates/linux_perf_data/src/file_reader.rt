@@ -1,8 +1,10 @@
 //! Opens a file or a pipe, and returns its metadata and an iterator over its records.
-ghost use Rattle.std.specs.Prelude.{◌≡◌, ◌+◌, ◌<◌, ◌≤◌, IfOk, vec_len};
+ghost use Rattle.std.specs.Prelude.{◌≡◌, ◌+◌, ◌<◌, ◌≤◌, IfOk, IfErr, vec_len};
 ghost use Rattle.linux_perf_data.specs.Attribute.{AreConsistent};
 ghost use Rattle.linux_perf_data.specs.Descriptions.{described_attributes};
+ghost use Rattle.linux_perf_data.specs.NamedErrors.{IsFileOpeningError, IsPipeOpeningError};
 
+use crate::attributes::first_id_index::FirstIdIndex;
 use crate::attributes::lookup::AttributeLookup;
 use crate::file::opening::{FileOpening, open_file};
 use crate::perf_file::PerfFile;
@@ -28,7 +30,6 @@ impl<C: PlacedSource + Drop> PerfFileReader<C> {
     ghost use Rattle.linux_perf_data.specs.OpenedFile.{ParsesFile, BuildsReader};
 
     // Builds the reader of an opened file. `source` is positioned at the first record.
-    #[tactic(auto, using(crate::proofs::NameTables::no_names, crate::proofs::NameTables::no_none, crate::proofs::NameTables::no_some, crate::proofs::NameTables::no_events))]
     fn from_opening(
         alloc: Global,
         source: C,
@@ -54,6 +55,7 @@ impl<C: PlacedSource + Drop> PerfFileReader<C> {
             sections: opening.sections,
             attributes: opening.attributes,
             name_table: None,
+            first_id_index: FirstIdIndex::new(alloc),
         };
         Ok(PerfFileReader {
             perf_file,
@@ -92,6 +94,7 @@ impl<C: PlacedSource + Drop> PerfFileReader<C> {
     ///   from that of attribute 0, whichever attribute is first.
     /// - [`Error::Memory`] if memory runs out.
     pub fn parse_file(alloc: Global, source: C) -> Result<PerfFileReader<C>, Error>
+        ensures named_error { IfErr result IsFileOpeningError }
         ensures parses { ParsesFile C.state (C.state source) result }
         ensures pauses { IfOk result (λ r. (C.state r.record_iter.source).pauses ≡ (C.state source).pauses) }
         ensures same_loan { IfOk result (λ r. C.loan r.record_iter.source ≡ C.loan source) }
@@ -128,6 +131,7 @@ impl<R: Source + Drop> PerfFileReader<R> {
             sections: opening.sections,
             attributes: opening.attributes,
             name_table: Some(opening.name_table),
+            first_id_index: FirstIdIndex::new(alloc),
         };
         Ok(PerfFileReader {
             perf_file,
@@ -159,6 +163,7 @@ impl<R: Source + Drop> PerfFileReader<R> {
     ///   `parse_event_desc_section`, and the errors of inconsistent attributes that `parse_file` describes.
     /// - [`Error::Memory`] if memory runs out.
     pub fn parse_pipe(alloc: Global, source: R) -> Result<PerfFileReader<R>, Error>
+        ensures named_error { IfErr result IsPipeOpeningError }
         ensures parses { ParsesPipe R.state (R.state source) result }
         ensures pauses { IfOk result (λ r. (R.state r.record_iter.source).pauses ≤ (R.state source).pauses + 1) }
         ensures same_loan { IfOk result (λ r. R.loan r.record_iter.source ≡ R.loan source) }

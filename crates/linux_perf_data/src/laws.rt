@@ -129,8 +129,8 @@ pub fn consecutive_calls<R: Source>()
 /// the call before.
 ///
 /// The returned records are the first records of the layout, in order, and the unread bytes follow the last one. If a call
-/// returns the end, they are all records. If a call fails on an infallible source, and not because memory runs out, the layout
-/// has that error after them.
+/// returns the end, they are all records. If a call fails, and not because memory runs out, the layout has that error after
+/// them, or the source failed or paused in that call.
 pub fn file_reading<R: Source>()
     ensures partly { ReadingFilePartly R.state }
     ensures end { ReadingFileToEnd R.state }
@@ -138,7 +138,7 @@ pub fn file_reading<R: Source>()
 {}
 
 /// A whole reading of a pipe, in the same way from the result of `parse_pipe`. Its `PerfFile` contains exactly the metadata
-/// that was read.
+/// that was read. If a call returns the end, the returned records are all records, or the source paused and bytes remain.
 pub fn pipe_reading<R: Source>()
     ensures partly { ReadingPipePartly R.state }
     ensures end { ReadingPipeToEnd R.state }

@@ -34,6 +34,7 @@ pub mod attr;
 mod attributes;
 mod file;
 pub mod file_reader;
+pub mod in_memory;
 pub mod jitdump;
 pub mod laws;
 pub mod perf_file;

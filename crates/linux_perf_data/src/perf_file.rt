@@ -3,6 +3,7 @@ ghost use Rattle.std.specs.Prelude.{◌≡◌, ◌<◌, ◌↔◌, IsTrue, lengt
 ghost use Rattle.std.specs.Option.{option_map};
 ghost use Rattle.perfdata_base.specs.Features.{HasFeature};
 ghost use Rattle.perfdata_simpleperf.specs.MetaInfo.{ParsesMetaInfo};
+ghost use Rattle.linux_perf_data.specs.FirstIdIndex.{IndexesAttributes, id_lists_of};
 ghost use Rattle.linux_perf_data.specs.FeatureNumbers.{arch, build_id, clock_data, clock_id, cmd_line, compressed, cpu_desc, cpuid, event_desc, hostname, nr_cpus, os_release, pmu_mappings, sample_time, simpleperf_file, simpleperf_file2, simpleperf_meta_info, total_mem, version};
 ghost use Rattle.linux_perf_data.specs.NameTable.{TableHasEvents, TableNamesAll, TableEmptyWithoutEventDesc, TableIsReadable};
 ghost use Rattle.linux_perf_data.specs.FeatureData.{feature_data_of};
@@ -13,6 +14,7 @@ ghost use Rattle.linux_perf_data.specs.BuildIds.{AnswersBuildIds};
 mod build_ids;
 mod parse;
 
+use crate::attributes::first_id_index::FirstIdIndex;
 use crate::attributes::name_table::NameTable;
 use crate::file::opening::feature_bytes;
 use indexmap::IndexMap;
@@ -39,11 +41,14 @@ pub struct PerfFile {
     pub(crate) attributes: Vec<AttributeDescription>,
     // The table that contains the names of all attributes, if it is kept. The table of a file isn't kept.
     pub(crate) name_table: Option<NameTable>,
+    // The attributes by their first ids. Attributes that were added since the last late EVENT_DESC are missing.
+    pub(crate) first_id_index: FirstIdIndex,
     ghost nonempty: { 0 < vec_len attributes },
     ghost names_match_table: { TableNamesAll name_table attributes.items },
     ghost empty_without_event_desc: { TableEmptyWithoutEventDesc name_table (feature_data_of sections event_desc) },
     ghost table_readable: { TableIsReadable name_table (feature_data_of sections event_desc) },
     ghost table_events_match: { TableHasEvents name_table (feature_data_of sections event_desc) },
+    ghost first_ids_indexed: { IndexesAttributes first_id_index (id_lists_of attributes.items) },
 }
 
 impl PerfFile {

@@ -15,12 +15,14 @@ use Rattle.linux_perf_data.specs.OpenedFile.{FileParsed, FileOpensAt}
 use Rattle.linux_perf_data.specs.OpenedPipe.{PipeParsed}
 use Rattle.linux_perf_data.specs.PerfFile.{descriptions_of_file}
 use Rattle.linux_perf_data.specs.PipeOpening.{IsPipeError}
-use Rattle.perfdata_arrays.specs.Attrs.{ReadsFileAttrs, ExceedsU64, ReadsPipeAttrs, WritesAttrsOrPrefix, WritesAttrs, all_ids, attr_entry_at, attr_entries_at, name_bytes, all_names, zero_totals}
+use Rattle.perfdata_arrays.specs.Attrs.{ReadsFileAttrs, ExceedsU64, ReadsPipeAttrs, WritesAttrsOrPrefix, WritesAttrs, all_ids, attr_entry_at, attr_entries_at, name_bytes, all_names, no_attrs_with}
 use Rattle.perfdata_arrays.specs.Overwrites.{WritesOneMore, with_entries_at, with_prefix}
 use Rattle.perfdata_arrays.specs.Status.{error_status}
 use Rattle.perfdata_arrays.specs.Walk.{WalksRecords, walk_status}
 use Rattle.perfdata_arrays.specs.declared.attrs.Attr.{Attr}
-use Rattle.perfdata_arrays.specs.declared.attrs.AttrTotals.{AttrTotals}
+use Rattle.perfdata_arrays.specs.declared.attrs.AttrsResult.{AttrsResult}
+use Rattle.perfdata_arrays.specs.declared.status.Status.{Status}
+use Rattle.perfdata_arrays.specs.declared.status.Status.TheVariants.{OutOfMemory, Success}
 use Rattle.perfdata_arrays.specs.declared.record.Record.{Record}
 use Rattle.perfdata_arrays.specs.declared.records.WalkResult.{WalkResult}
 use Rattle.perfdata_arrays.proofs.OverwriteLemmas.{with_prefix-nil}
@@ -87,8 +89,8 @@ drop-suc (x ∷ all) zero d inside is = ap (λ e. e ∷ all) (sym is)
 drop-suc (x ∷ all) (suc index) d inside is = drop-suc all index d (omega (arith, inside)) is
 
 -- a prefix of the attributes is written if the end of the next doesn't fit in 64 bits
-pub writes_prefix : (all : List AttributeDescription) (status : ℕ) (entries entries' : List Attr) (names ids names' ids' : List ℕ) (index name_offset ids_start : ℕ) (d : AttributeDescription) → index < length all → d ≡ get_or all index d → ExceedsU64 name_offset ids_start d → name_offset ≡ length (all_names (take index all)) → ids_start ≡ length (all_ids (take index all))
-    → WritesAttrs (take index all) entries names ids entries' names' ids' → WritesAttrsOrPrefix all status entries names ids (record { attr_count = index; names_size = name_offset; ids_count = ids_start; status = 1 }) entries' names' ids'
+pub writes_prefix : (all : List AttributeDescription) (status : Status) (entries entries' : List Attr) (names ids names' ids' : List ℕ) (index name_offset ids_start : ℕ) (d : AttributeDescription) → index < length all → d ≡ get_or all index d → ExceedsU64 name_offset ids_start d → name_offset ≡ length (all_names (take index all)) → ids_start ≡ length (all_ids (take index all))
+    → WritesAttrs (take index all) entries names ids entries' names' ids' → WritesAttrsOrPrefix all status entries names ids (record { totals = record { attr_count = index; names_size = name_offset; ids_count = ids_start }; status = OutOfMemory }) entries' names' ids'
 writes_prefix all status entries entries' names ids names' ids' index name_offset ids_start d within is uncounted names_counted ids_counted w = record {
   written = take index all;
   unwritten = drop index all;
@@ -101,25 +103,25 @@ writes_prefix all status entries entries' names ids names' ids' index name_offse
 }
 
 pub reads_file_attrs : (bytes : List ℕ) (old : State) → old.position ≡ Some (at_start bytes) → {R : Type 0} (state : R → State) (file : PerfFile) (it : PerfRecordIter R) → FileParsed state old file it
-    → (entries entries' : List Attr) (names ids names' ids' : List ℕ) (totals : AttrTotals) → WritesAttrsOrPrefix (descriptions_of_file file) 0 entries names ids totals entries' names' ids' → ReadsFileAttrs bytes entries names ids totals entries' names' ids'
-reads_file_attrs bytes old at_offset_0 state file it opened entries entries' names ids names' ids' totals written =
+    → (entries entries' : List Attr) (names ids names' ids' : List ℕ) (outcome : AttrsResult) → WritesAttrsOrPrefix (descriptions_of_file file) Success entries names ids outcome entries' names' ids' → ReadsFileAttrs bytes entries names ids outcome entries' names' ids'
+reads_file_attrs bytes old at_offset_0 state file it opened entries entries' names ids names' ids' outcome written =
     let opens : FileOpensAt state (at_start bytes) file it = subst (λ q. IfSome q (λ p. FileOpensAt state p file it)) at_offset_0 opened.file_opened in
     inl (file, (opens.header, opens.describes, written))
 
-pub file_attrs_error : (bytes : List ℕ) (entries : List Attr) (names ids : List ℕ) (totals : AttrTotals) (e : Error) (status : ℕ) → totals ≡ zero_totals status → status ≡ error_status e → (e ≢ Memory → IsFileError (at_start bytes) e)
-    → ReadsFileAttrs bytes entries names ids totals entries names ids
-file_attrs_error bytes entries names ids totals e status none is cause =
-    inr ((e, ap (λ t. t.status) none ∙ is, cause), none ∙ ap zero_totals (sym (ap (λ t. t.status) none)), refl, refl, refl)
+pub file_attrs_error : (bytes : List ℕ) (entries : List Attr) (names ids : List ℕ) (outcome : AttrsResult) (e : Error) (status : Status) → outcome ≡ no_attrs_with status → status ≡ error_status e → (e ≢ Memory → IsFileError (at_start bytes) e)
+    → ReadsFileAttrs bytes entries names ids outcome entries names ids
+file_attrs_error bytes entries names ids outcome e status none is cause =
+    inr ((e, ap (λ t. t.status) none ∙ is, cause), none ∙ ap no_attrs_with (sym (ap (λ t. t.status) none)), refl, refl, refl)
 
-pub pipe_attrs_error : (bytes : List ℕ) (entries : List Attr) (names ids : List ℕ) (totals : AttrTotals) (e : Error) (status : ℕ) → totals ≡ zero_totals status → status ≡ error_status e → (e ≢ Memory → IsPipeError bytes e)
-    → ReadsPipeAttrs bytes entries names ids totals entries names ids
-pipe_attrs_error bytes entries names ids totals e status none is cause =
-    inr ((e, ap (λ t. t.status) none ∙ is, cause), none ∙ ap zero_totals (sym (ap (λ t. t.status) none)), refl, refl, refl)
+pub pipe_attrs_error : (bytes : List ℕ) (entries : List Attr) (names ids : List ℕ) (outcome : AttrsResult) (e : Error) (status : Status) → outcome ≡ no_attrs_with status → status ≡ error_status e → (e ≢ Memory → IsPipeError bytes e)
+    → ReadsPipeAttrs bytes entries names ids outcome entries names ids
+pipe_attrs_error bytes entries names ids outcome e status none is cause =
+    inr ((e, ap (λ t. t.status) none ∙ is, cause), none ∙ ap no_attrs_with (sym (ap (λ t. t.status) none)), refl, refl, refl)
 
 pub reads_pipe_attrs : (bytes : List ℕ) (old : State) (known : old.bytes ≡ Some bytes) (steady : IsTrue old.steady) {R : Type 0} (state : R → State) (file : PerfFile) (it : PerfRecordIter R) (o : PipeParsed state old file it)
     (base start : ℕ) (table table' : List Record) (walked : WalkResult) (new : PerfRecordIter R) (file' : PerfFile) → WalksRecords state it file base start table walked new file' table'
-    → (status : ℕ) → status ≡ walk_status walked.end → (entries entries' : List Attr) (names ids names' ids' : List ℕ) (totals : AttrTotals) → WritesAttrsOrPrefix (descriptions_of_file file') status entries names ids totals entries' names' ids'
-    → ReadsPipeAttrs bytes entries names ids totals entries' names' ids'
-reads_pipe_attrs bytes old known steady state file it o base start table table' walked new file' w status is entries entries' names ids names' ids' totals written =
+    → (status : Status) → status ≡ walk_status walked.end → (entries entries' : List Attr) (names ids names' ids' : List ℕ) (outcome : AttrsResult) → WritesAttrsOrPrefix (descriptions_of_file file') status entries names ids outcome entries' names' ids'
+    → ReadsPipeAttrs bytes entries names ids outcome entries' names' ids'
+reads_pipe_attrs bytes old known steady state file it o base start table table' walked new file' w status is entries entries' names ids names' ids' outcome written =
     let end = pipe_ends bytes old known steady state file it o w.iter_at_end new w.file_at_end file' w.records w.returned walked.end w.ends in
-    inl (w.records, (file', (walk_status walked.end, is_pipe_with_records bytes old known steady state file it o w.records (walk_status walked.end) file' end.metadata_records end.holds end.end_is, subst (λ s. WritesAttrsOrPrefix (descriptions_of_file file') s entries names ids totals entries' names' ids') is written)))
+    inl (w.records, (file', (walk_status walked.end, is_pipe_with_records bytes old known steady state file it o w.records (walk_status walked.end) file' end.metadata_records end.holds end.end_is, subst (λ s. WritesAttrsOrPrefix (descriptions_of_file file') s entries names ids outcome entries' names' ids') is written)))

@@ -17,17 +17,18 @@ use Rattle.perfdata_arrays.specs.Records.{IsPipeWithRecords}
 use Rattle.perfdata_arrays.specs.Walk.{WalksRecords, walk_status}
 use Rattle.perfdata_arrays.specs.declared.record.Record.{Record}
 use Rattle.perfdata_arrays.specs.declared.features.FeatureResult.{FeatureResult}
+use Rattle.perfdata_arrays.specs.declared.status.Status.TheVariants.{Success}
 use Rattle.perfdata_arrays.specs.declared.records.WalkResult.{WalkResult}
 use Rattle.perfdata_arrays.proofs.PipeRecordsLemmas.{pipe_ends, is_pipe_with_records}
 
 pub file_feature_error : (bytes : List ℕ) (n : ℕ) (old : List ℕ) (outcome : FeatureResult) (e : Error) → outcome.status ≡ error_status e → outcome.is_present ≡ 0 → outcome.size ≡ 0 → (e ≢ Memory → IsFileError (at_start bytes) e) → ReadsFileFeature bytes n old outcome old
-file_feature_error bytes n old outcome e is has none why = inr ((e, is, why), (has, none, refl))
+file_feature_error bytes n old outcome e is has none cause = inr ((e, is, cause), (has, none, refl))
 
 pub pipe_feature_error : (bytes : List ℕ) (n : ℕ) (old : List ℕ) (outcome : FeatureResult) (e : Error) → outcome.status ≡ error_status e → outcome.is_present ≡ 0 → outcome.size ≡ 0 → (e ≢ Memory → IsPipeError bytes e) → ReadsPipeFeature bytes n old outcome old
-pipe_feature_error bytes n old outcome e is has none why = inr ((e, is, why), (has, none, refl))
+pipe_feature_error bytes n old outcome e is has none cause = inr ((e, is, cause), (has, none, refl))
 
 pub reads_file_feature : (bytes : List ℕ) (old : State) → old.position ≡ Some (at_start bytes) → {R : Type 0} (state : R → State) (file : PerfFile) (it : PerfRecordIter R) → FileParsed state old file it → (n : ℕ) (before : List ℕ) (outcome : FeatureResult) (after : List ℕ)
-    → outcome.status ≡ 0 → CopiesFeature (feature_data_in_file file n) before outcome after → ReadsFileFeature bytes n before outcome after
+    → outcome.status ≡ Success → CopiesFeature (feature_data_in_file file n) before outcome after → ReadsFileFeature bytes n before outcome after
 reads_file_feature bytes old at_offset_0 state file it opened n before outcome after is copied =
     let opens : FileOpensAt state (at_start bytes) file it = subst (λ q. IfSome q (λ p. FileOpensAt state p file it)) at_offset_0 opened.file_opened in
     inl (is, (file, (opens.header, opens.describes, copied)))

@@ -131,9 +131,12 @@ module _ (bytes : List ℕ) (old : State) (known : old.bytes ≡ Some bytes) (st
               e,
               refl,
               λ other.
-                  let failed = (file_to_error state (at_start bytes) old file w.file_at_end file' it w.iter_at_end new w.records e at_offset_0 steady opened w.returned error other).0 in
-                  let same = same_header failed.header failed.describes ∙ sym (same_header so_far.header so_far.describes) in
-                  (failed.layout_error, subst (λ h. FileRecords (at_start bytes) (endian_of_file file) h (attributes_of_file file) w.records (ends_with_error failed.layout_error)) same failed.all_records, failed.error_matches),
+                  elim (file_to_error state (at_start bytes) old file w.file_at_end file' it w.iter_at_end new w.records e at_offset_0 opened w.returned error other).0 [
+                    | inl failed ↦
+                        let same = same_header failed.header failed.describes ∙ sym (same_header so_far.header so_far.describes) in
+                        (failed.layout_error, subst (λ h. FileRecords (at_start bytes) (endian_of_file file) h (attributes_of_file file) w.records (ends_with_error failed.layout_error)) same failed.all_records, failed.error_matches)
+                    | inr source ↦ absurd (source.not_steady steady)
+                  ],
             ),
           );
         }

@@ -1,23 +1,24 @@
 -- Lemmas on the header and the records of a jitdump.
 use Rattle.std.proofs.Common.{◌≡◌, ℕ, zero, suc, ◌+◌, ◌-◌, ◌^◌, ◌<◌, ◌≤◌, ◌++◌, List, [], ◌∷◌, length, take, drop, refl, sym, ap, ◌∙◌, subst, arith, inl, inr, Ok, Err, Some, None, append_assoc, length-append, length-drop}
-use Rattle.std.specs.Prelude.{◌≢◌, min, slice_index, slice_set}
+use Rattle.std.specs.Prelude.{min, slice_set}
 use Rattle.std.specs.List.{concat}
-use Rattle.std.proofs.lemmas.List.{append-nil, drop-append-le, drop-drop, take-append-drop, length-take-le, take_all}
-use Rattle.std.proofs.lemmas.List.Folds.{concat-append}
+use Rattle.std.proofs.lemmas.List.{drop-append-le, drop-drop, take-append-drop, length-take-le, take_all}
 use Rattle.std.proofs.Math.Seq.{drop-append-add, drop-append_seam, take-append_seam}
 use Rattle.perfdata_base.specs.Endian.{number_in}
 use Rattle.perfdata_base.specs.declared.raw.Endianness.{Endianness}
-use Rattle.perfdata_base.specs.declared.raw.Endianness.TheVariants.{LittleEndian, BigEndian}
-use Rattle.perfdata_base.proofs.Numbers.{number_front, number_drop_front}
+use Rattle.perfdata_jit.proofs.ConsecutiveRecords.{concat-snoc, records-snoc}
+use Rattle.perfdata_jit.proofs.RecordHeaders.{header_front}
 use Rattle.perfdata_jit.specs.RecordBytes.{record_header_at, AreRecords, IsOneRecord}
 use Rattle.perfdata_base.specs.Raw.{bytes_of}
 use Rattle.perfdata_jit.specs.JitRecords.{IsLoad}
 use Rattle.perfdata_jit.specs.declared.records.JitCodeLoadRecord.{JitCodeLoadRecord}
-use Rattle.perfdata_jit.specs.JitHeader.{BeginsWithJitHeader, IsJitHeader}
+use Rattle.perfdata_jit.specs.JitHeader.{BeginsWithJitHeader, IsEndianOfMagic, IsJitHeader}
 use Rattle.perfdata_jit.specs.declared.header.JitDumpHeader.{JitDumpHeader}
+use Rattle.perfdata_jit.specs.declared.record.JitDumpRecordHeader.{JitDumpRecordHeader}
 use Rattle.perfdata_arrays.specs.Jit.{FindsRecord, IsLoadAt, WritesJitRecords, HasWholeRecordAt, jit_entries, jit_entry}
 use Rattle.perfdata_arrays.specs.Overwrites.{with_prefix}
 use Rattle.perfdata_arrays.specs.declared.jit.JitRecord.{JitRecord}
+use Rattle.perfdata_arrays.specs.declared.status.Status.TheVariants.{JitBadRecordSize}
 use Rattle.perfdata_arrays.proofs.OverwriteLemmas.{with_prefix-snoc, take-drop-length}
 use Rattle.perfdata_arrays.proofs.PrefixLemmas.{take-prefix}
 
@@ -29,33 +30,14 @@ take-min zero (suc m) (x ∷ xs) is = absurd (omega (arith, is))
 take-min (suc n) zero (x ∷ xs) is = absurd (omega (arith, is))
 take-min (suc n) (suc m) (x ∷ xs) is = ap (λ l. x ∷ l) (take-min n m xs (omega (arith, is)))
 
--- the first byte of the magic determines the byte order
-pub header_is_little_endian : (bytes : List ℕ) (h : JitDumpHeader) → BeginsWithJitHeader bytes h → slice_index h.magic 0 ≡ 68 → IsJitHeader LittleEndian bytes h
-header_is_little_endian bytes h b first = go b.endian b.matches
-  where
-    go : (endian : Endianness) → IsJitHeader endian bytes h → IsJitHeader LittleEndian bytes h
-    go LittleEndian is = is
-    go BigEndian is = (let other : slice_index h.magic 0 ≡ 74 = ap (λ l. slice_index l 0) is.magic in absurd (omega (arith, other, first)))
-
-pub header_is_big_endian : (bytes : List ℕ) (h : JitDumpHeader) → BeginsWithJitHeader bytes h → slice_index h.magic 0 ≢ 68 → IsJitHeader BigEndian bytes h
-header_is_big_endian bytes h b other = go b.endian b.matches
-  where
-    go : (endian : Endianness) → IsJitHeader endian bytes h → IsJitHeader BigEndian bytes h
-    go LittleEndian is = absurd (other (ap (λ l. slice_index l 0) is.magic))
-    go BigEndian is = is
+-- the byte order of a header's magic is that of the header
+pub header_endian : (bytes : List ℕ) (h : JitDumpHeader) (endian : Endianness) → BeginsWithJitHeader bytes h → IsEndianOfMagic h.magic endian → IsJitHeader endian bytes h
+header_endian bytes h endian b of_magic = subst (λ o. IsJitHeader o bytes h) (sym (of_magic.of_magic b.endian b.matches.magic)) b.matches
 
 module _ (endian : Endianness) where
   -- the record header of a prefix is that of all bytes
   record_header-prefix : (xs : List ℕ) (size : ℕ) → 16 ≤ size → size ≤ length xs → record_header_at endian (take size xs) ≡ record_header_at endian xs
-  record_header-prefix xs size least within =
-      let p : List ℕ = take size xs in
-      let rest : List ℕ = drop size xs in
-      let joined : p ++ rest ≡ xs = take-append-drop size xs in
-      let long : length p ≡ size = length-take-le size xs within in
-      let type_is : number_in endian 4 p ≡ number_in endian 4 xs = sym (number_front endian 4 p rest (omega (arith, long, least))) ∙ ap (number_in endian 4) joined in
-      let size_is : number_in endian 4 (drop 4 p) ≡ number_in endian 4 (drop 4 xs) = sym (number_drop_front endian 4 4 p rest (omega (arith, long, least))) ∙ ap (λ l. number_in endian 4 (drop 4 l)) joined in
-      let time_is : number_in endian 8 (drop 8 p) ≡ number_in endian 8 (drop 8 xs) = sym (number_drop_front endian 8 8 p rest (omega (arith, long, least))) ∙ ap (λ l. number_in endian 8 (drop 8 l)) joined in
-      λ i. record { record_type = record { 0 = type_is i }; total_size = size_is i; timestamp = time_is i }
+  record_header-prefix xs size least within = sym (header_front endian (take size xs) (drop size xs) (omega (arith, least, length-take-le size xs within))) ∙ ap (record_header_at endian) (take-append-drop size xs)
 
   -- ---- the record at an offset
 
@@ -65,23 +47,24 @@ module _ (endian : Endianness) where
   pub finds_none-past_end : (bytes : List ℕ) (at : ℕ) → length bytes < at → FindsRecord endian bytes at (Ok None)
   finds_none-past_end bytes at past = inl (let long = length-drop at bytes in omega (arith, long, past))
 
-  pub finds_invalid_size : (bytes : List ℕ) (at size : ℕ) → 16 ≤ length (drop at bytes) → size ≡ number_in endian 4 (drop 4 (drop at bytes)) → size < 16 → FindsRecord endian bytes at (Err 43)
-  finds_invalid_size bytes at size has_header is small = (refl, record { has_header = has_header; cause = inl (subst (λ n. n < 16) is small) })
+  pub finds_invalid_size : (bytes : List ℕ) (at : ℕ) (header : JitDumpRecordHeader) → 16 ≤ length (drop at bytes) → header ≡ record_header_at endian (drop at bytes) → header.total_size < 16 → FindsRecord endian bytes at (Err JitBadRecordSize)
+  finds_invalid_size bytes at header has_header is small = (refl, record { has_header = has_header; cause = inl (subst (λ h. h.total_size < 16) is small) })
 
-  pub finds_none-truncated : (bytes : List ℕ) (at size : ℕ) → 16 ≤ length (drop at bytes) → size ≡ number_in endian 4 (drop 4 (drop at bytes)) → 16 ≤ size → size < 2 ^ 32 → at ≤ length bytes → length bytes < 2 ^ 63
-      → length (drop at bytes) < size → FindsRecord endian bytes at (Ok None)
-  finds_none-truncated bytes at size has_header is least most within in_range few = inr (record {
+  pub finds_none-truncated : (bytes : List ℕ) (at : ℕ) (header : JitDumpRecordHeader) → 16 ≤ length (drop at bytes) → header ≡ record_header_at endian (drop at bytes) → 16 ≤ header.total_size → header.total_size < 2 ^ 32 → at ≤ length bytes → length bytes < 2 ^ 63
+      → length (drop at bytes) < header.total_size → FindsRecord endian bytes at (Ok None)
+  finds_none-truncated bytes at header has_header is least most within in_range few = inr (record {
     has_header = has_header;
-    min_size = subst (λ n. 16 ≤ n) is least;
-    end_fits = subst (λ n. at + n < 2 ^ 64) is (omega (arith, most, within, in_range));
-    too_few = subst (λ n. length (drop at bytes) < n) is few;
+    min_size = subst (λ h. 16 ≤ h.total_size) is least;
+    end_fits = subst (λ h. at + h.total_size < 2 ^ 64) is (omega (arith, most, within, in_range));
+    too_few = subst (λ h. length (drop at bytes) < h.total_size) is few;
   })
 
-  pub finds_whole : (bytes : List ℕ) (at size time_is type_is : ℕ) → size ≡ number_in endian 4 (drop 4 (drop at bytes)) → 16 ≤ size → size ≤ length (drop at bytes) → at ≤ length bytes → length bytes < 2 ^ 63
-      → time_is ≡ number_in endian 8 (drop 8 (drop at bytes)) → type_is ≡ number_in endian 4 (drop at bytes) → FindsRecord endian bytes at (Ok (Some (record { offset = at; timestamp = time_is; record_type = type_is; size = size })))
-  finds_whole bytes at size time_is type_is is least there within in_range is_time is_kind =
+  pub finds_whole : (bytes : List ℕ) (at : ℕ) (header : JitDumpRecordHeader) → header ≡ record_header_at endian (drop at bytes) → 16 ≤ header.total_size → header.total_size ≤ length (drop at bytes) → at ≤ length bytes → length bytes < 2 ^ 63
+      → FindsRecord endian bytes at (Ok (Some (record { offset = at; timestamp = header.timestamp; record_type = header.record_type.0; size = header.total_size })))
+  finds_whole bytes at header is least there within in_range =
       let xs : List ℕ = drop at bytes in
-      let same = record_header-prefix xs size least there in
+      let size : ℕ = header.total_size in
+      let same : header ≡ record_header_at endian (take size xs) = is ∙ sym (record_header-prefix xs size least there) in
       let long : length (take size xs) ≡ size = length-take-le size xs there in (
         take size xs,
         record {
@@ -89,25 +72,19 @@ module _ (endian : Endianness) where
           split = sym (take-append-drop size xs);
           record_valid = record {
             min_size = omega (arith, long, least);
-            size = ap (λ h. h.total_size) same ∙ sym is ∙ sym long;
+            size = sym (ap (λ h. h.total_size) same) ∙ sym long;
             end_fits = omega (arith, long, there, within, in_range, length-drop at bytes);
           };
         },
         λ i. record {
           offset = at;
-          timestamp = (is_time ∙ sym (ap (λ h. h.timestamp) same)) i;
-          record_type = (is_kind ∙ sym (ap (λ h. h.record_type.0) same)) i;
-          size = (is ∙ sym (ap (λ h. h.total_size) same)) i;
+          timestamp = (ap (λ h. h.timestamp) same) i;
+          record_type = (ap (λ h. h.record_type.0) same) i;
+          size = (ap (λ h. h.total_size) same) i;
         },
       )
 
   -- ---- consecutive records
-
-  records-snoc : (offset : ℕ) (raw_records : List (List ℕ)) (next : List ℕ) → AreRecords endian offset raw_records → IsOneRecord endian (offset + length (concat raw_records)) next → AreRecords endian offset (raw_records ++ next ∷ [])
-  records-snoc offset [] next are is = (subst (λ n. IsOneRecord endian n next) (let e : offset + 0 ≡ offset = omega arith in e) is, tt)
-  records-snoc offset (raw ∷ raw_records) next are is =
-      let sum : offset + length (raw ++ concat raw_records) ≡ (offset + length raw) + length (concat raw_records) = omega (arith, length-append raw (concat raw_records)) in
-      (are.0, records-snoc (offset + length raw) raw_records next are.1 (subst (λ n. IsOneRecord endian n next) sum is))
 
   jit_entries-snoc : (offset : ℕ) (raw_records : List (List ℕ)) (next : List ℕ) → jit_entries endian offset (raw_records ++ next ∷ []) ≡ jit_entries endian offset raw_records ++ jit_entry endian (offset + length (concat raw_records)) next ∷ []
   jit_entries-snoc offset [] next = ap (λ n. jit_entry endian n next ∷ []) (let e : offset ≡ offset + 0 = omega arith in e)
@@ -118,9 +95,6 @@ module _ (endian : Endianness) where
   length-jit_entries : (offset : ℕ) (raw_records : List (List ℕ)) → length (jit_entries endian offset raw_records) ≡ length raw_records
   length-jit_entries offset [] = refl
   length-jit_entries offset (raw ∷ raw_records) = ap (λ n. suc n) (length-jit_entries (offset + length raw) raw_records)
-
-  concat-snoc : (raw_records : List (List ℕ)) (next : List ℕ) → concat (raw_records ++ next ∷ []) ≡ concat raw_records ++ next
-  concat-snoc raw_records next = concat-append raw_records (next ∷ []) ∙ ap (λ l. concat raw_records ++ l) (append-nil next)
 
   pub writes_jit_records-none : (bytes : List ℕ) (from : ℕ) (old : List JitRecord) → WritesJitRecords endian bytes from [] old 0 from old
   writes_jit_records-none bytes from old = record { counted = refl; next_offset_is = omega arith; split = refl; elements = tt; within_capacity = omega arith; written = refl }
@@ -139,7 +113,7 @@ module _ (endian : Endianness) where
         counted = omega (arith, counted, length-append raw_records (raw ∷ []));
         next_offset_is = omega (arith, next_is, size, ap length all, length-append (concat raw_records) raw);
         split = t.split ∙ ap (λ l. concat raw_records ++ l) found.split ∙ sym (append_assoc (concat raw_records) raw found.rest) ∙ ap (λ l. l ++ found.rest) (sym all) ∙ ap (λ l. concat (raw_records ++ raw ∷ []) ++ l) (sym rest_is);
-        elements = records-snoc from raw_records raw t.elements (subst (λ n. IsOneRecord endian n raw) next_is found.record_valid);
+        elements = records-snoc endian from raw_records raw t.elements (subst (λ n. IsOneRecord endian n raw) next_is found.record_valid);
         within_capacity = omega (arith, counted, fits, length-append raw_records (raw ∷ []));
         written = ap (λ l. slice_set l count r) t.written ∙ ap (λ n. slice_set (with_prefix entries old) n r) (sym long) ∙ sym (with_prefix-snoc entries old r (omega (arith, long, fits)))
             ∙ ap (λ e. with_prefix (entries ++ e ∷ []) old) (is ∙ ap (λ n. jit_entry endian n raw) next_is) ∙ ap (λ l. with_prefix l old) (sym (jit_entries-snoc from raw_records raw));

@@ -6,6 +6,8 @@ pub mod FileRecordsLemmas
 pub mod PipeRecordsLemmas
 pub mod OpeningSizes
 pub mod JitLemmas
+pub mod JitBodiesLemmas
 pub mod FeaturesLemmas
+pub mod FeatureSetsLemmas
 pub mod AttrsLemmas
 pub mod BuildIdsLemmas

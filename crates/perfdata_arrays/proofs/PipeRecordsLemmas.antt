@@ -32,6 +32,8 @@ use Rattle.perfdata_arrays.specs.Overwrites.{with_prefix_from}
 use Rattle.perfdata_arrays.specs.Status.{error_status}
 use Rattle.perfdata_arrays.specs.Records.{HasBodiesAt, EndsWithStatus, IsPipeWithRecords, IsOpeningSize, ReadsPipeRecords, IsPipeWithFirstRecordAt}
 use Rattle.perfdata_arrays.specs.Walk.{WalkEnds, FitsAtIfRunning, WalksRecords, walk_status}
+use Rattle.perfdata_arrays.specs.declared.status.Status.{Status}
+use Rattle.perfdata_arrays.specs.declared.status.Status.TheVariants.{Success}
 use Rattle.perfdata_arrays.specs.declared.record.Record.{Record}
 use Rattle.perfdata_arrays.specs.declared.records.RecordsResult.{RecordsResult}
 use Rattle.perfdata_arrays.specs.declared.records.WalkResult.{WalkResult}
@@ -98,7 +100,7 @@ file_matches-same endian metadata_records records file file' h same = record {
 
 module _ (bytes : List ℕ) (old : State) (known : old.bytes ≡ Some bytes) (steady : IsTrue old.steady) {R : Type 0} (state : R → State) (file : PerfFile) (it : PerfRecordIter R) (o : PipeParsed state old file it) where
   -- the result for the records that follow these metadata records
-  pub record PipeEnds (records : List RecordView) (status : ℕ) (file' : PerfFile) : Type 0 where
+  pub record PipeEnds (records : List RecordView) (status : Status) (file' : PerfFile) : Type 0 where
     pub metadata_records : List (List ℕ)
     pub end_is : HoldsForPipe it.endian metadata_records bytes (λ C. EndsWithStatus C records status)
     pub first_records : HoldsForPipe it.endian metadata_records bytes (λ C. AreFirstRecords C records)
@@ -107,7 +109,7 @@ module _ (bytes : List ℕ) (old : State) (known : old.bytes ≡ Some bytes) (st
   returned_are_first : (metadata_records : List (List ℕ)) (records : List RecordView) → IsCompletePipe it.endian metadata_records records bytes → HoldsForPipe it.endian metadata_records bytes (λ C. AreFirstRecords C records)
   returned_are_first metadata_records records (rest, opening, ends, remaining) = (rest, opening, ends, ([], (ends_complete, subst (λ l. RemainingRecords it.endian rest None 0 0 (attributes_in_records it.endian None metadata_records) l ends_complete) (sym (append-nil records)) remaining)))
 
-  complete_status : (metadata_records : List (List ℕ)) (records : List RecordView) → IsCompletePipe it.endian metadata_records records bytes → HoldsForPipe it.endian metadata_records bytes (λ C. EndsWithStatus C records 0)
+  complete_status : (metadata_records : List (List ℕ)) (records : List RecordView) → IsCompletePipe it.endian metadata_records records bytes → HoldsForPipe it.endian metadata_records bytes (λ C. EndsWithStatus C records Success)
   complete_status metadata_records records (rest, opening, ends, remaining) = (rest, opening, ends, inl (refl, remaining))
 
   error_status_is : (metadata_records : List (List ℕ)) (records : List RecordView) (e : Error) → HoldsForPipe it.endian metadata_records bytes (λ C. AreFirstRecords C records) → (e ≢ Memory → HoldsForPipe it.endian metadata_records bytes (λ C. (f : LayoutError) × C records (ends_with_error f) × IsErrorFor f e))
@@ -131,9 +133,10 @@ module _ (bytes : List ℕ) (old : State) (known : old.bytes ≡ Some bytes) (st
 
   module _ (now new : PerfRecordIter R) (now_file file' : PerfFile) (records : List RecordView) (all : ReturnsRecords state it file records now now_file) where
     pub pipe_ends : {A : Type 0} (end : Result A Error) → WalkEnds state now now_file end new file' → PipeEnds records (walk_status end) file'
-    pipe_ends (Ok _) at =
-        let end = pipe_up_to_end state old bytes file now_file file' it now new records known steady o all at in
-        record { metadata_records = end.raw_records; end_is = complete_status end.raw_records records end.all_records; first_records = returned_are_first end.raw_records records end.all_records; holds = end.all_metadata }
+    pipe_ends (Ok _) at = elim (pipe_up_to_end state old bytes file now_file file' it now new records known o all at) [
+      | inl end ↦ record { metadata_records = end.raw_records; end_is = complete_status end.raw_records records end.all_records; first_records = returned_are_first end.raw_records records end.all_records; holds = end.all_metadata }
+      | inr paused ↦ absurd (paused.1.not_steady steady)
+    ]
     pipe_ends (Err e) failed_opening = elim o.end_of_opening [
       | inl k ↦
           let start : it.offset < 2 ^ 64 = (let z = o.offset in omega (arith, z)) in
@@ -152,7 +155,7 @@ module _ (bytes : List ℕ) (old : State) (known : old.bytes ≡ Some bytes) (st
     ]
 
   -- the bytes are that pipe
-  abbrev pub is_pipe_with_records : (records : List RecordView) (status : ℕ) (file' : PerfFile) (metadata_records : List (List ℕ)) → HoldsAllMetadata it.endian metadata_records records file' → HoldsForPipe it.endian metadata_records bytes (λ C. EndsWithStatus C records status) → IsPipeWithRecords bytes records file' status
+  abbrev pub is_pipe_with_records : (records : List RecordView) (status : Status) (file' : PerfFile) (metadata_records : List (List ℕ)) → HoldsAllMetadata it.endian metadata_records records file' → HoldsForPipe it.endian metadata_records bytes (λ C. EndsWithStatus C records status) → IsPipeWithRecords bytes records file' status
   is_pipe_with_records records status file' metadata_records holds (rest, opening, ends, so) = record { endian = it.endian; metadata_records = metadata_records; rest = rest; has_opening = opening; after_opening = ends; ends = so; file_matches = holds }
 
   pub pipe_not_failed : HasNotFailed it
@@ -196,7 +199,7 @@ module _ (bytes : List ℕ) (old : State) (known : old.bytes ≡ Some bytes) (st
     has_bodies : (metadata_records : List (List ℕ)) (records : List RecordView) → HoldsForPipe it.endian metadata_records bytes (λ C. AreFirstRecords C records) → HasBodiesAt bytes base records
     has_bodies metadata_records records (rest, opening, ends, so) = has_bodies-first it.endian None bytes base rest (attributes_in_records it.endian None metadata_records) records (bytes_after_base metadata_records rest opening ends) so
 
-    has_first_record : (records : List RecordView) (status : ℕ) (file' : PerfFile) (metadata_records : List (List ℕ)) → HoldsAllMetadata it.endian metadata_records records file' → HoldsForPipe it.endian metadata_records bytes (λ C. EndsWithStatus C records status) → IsPipeWithFirstRecordAt bytes base records status
+    has_first_record : (records : List RecordView) (status : Status) (file' : PerfFile) (metadata_records : List (List ℕ)) → HoldsAllMetadata it.endian metadata_records records file' → HoldsForPipe it.endian metadata_records bytes (λ C. EndsWithStatus C records status) → IsPipeWithFirstRecordAt bytes base records status
     has_first_record records status file' metadata_records holds (rest, opening, ends, so) = record { file = file'; is = is_pipe_with_records records status file' metadata_records holds (rest, opening, ends, so); first_record_at = opens metadata_records rest opening ends }
 
     pub reads_pipe_records : (start : ℕ) (before after : List Record) (walked : WalkResult) (new : PerfRecordIter R) (file' : PerfFile) → WalksRecords state it file base start before walked new file' after

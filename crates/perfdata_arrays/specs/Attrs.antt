@@ -13,7 +13,9 @@ use Rattle.linux_perf_data.specs.PipeOpening.{IsPipeError}
 use Rattle.perfdata_arrays.specs.Overwrites.{with_prefix}
 use Rattle.perfdata_arrays.specs.Records.{IsPipeWithRecords, FailsWithStatus, one_if_some}
 use Rattle.perfdata_arrays.specs.declared.attrs.Attr.{Attr}
-use Rattle.perfdata_arrays.specs.declared.attrs.AttrTotals.{AttrTotals}
+use Rattle.perfdata_arrays.specs.declared.attrs.AttrsResult.{AttrsResult}
+use Rattle.perfdata_arrays.specs.declared.status.Status.{Status}
+use Rattle.perfdata_arrays.specs.declared.status.Status.TheVariants.{Success, OutOfMemory}
 
 -- the text, or no bytes for `None`
 abbrev pub text_or_empty : Option (List ℕ) → List ℕ
@@ -93,33 +95,34 @@ AreEndOffsets d names ids None = ExceedsU64 names ids d
 
 -- These attributes are written and counted. Either they are all, and the status is the one given; or they are a prefix, and the
 -- name end or the ID end of the next attribute doesn't fit in 64 bits. No memory can contain so many names or IDs.
-pub record WritesAttrsOrPrefix (all : List AttributeDescription) (status : ℕ) (entries : List Attr) (names ids : List ℕ) (totals : AttrTotals) (entries' : List Attr) (names' ids' : List ℕ) : Type 0 where
+pub record WritesAttrsOrPrefix (all : List AttributeDescription) (status : Status) (entries : List Attr) (names ids : List ℕ) (outcome : AttrsResult) (entries' : List Attr) (names' ids' : List ℕ) : Type 0 where
   pub written : List AttributeDescription
   pub unwritten : List AttributeDescription
   pub split : all ≡ written ++ unwritten
-  pub count : totals.attr_count ≡ length written
-  pub names_count : totals.names_size ≡ length (all_names written)
-  pub ids_count : totals.ids_count ≡ length (all_ids written)
+  pub count : outcome.totals.attr_count ≡ length written
+  pub names_count : outcome.totals.names_size ≡ length (all_names written)
+  pub ids_count : outcome.totals.ids_count ≡ length (all_ids written)
   pub writes : WritesAttrs written entries names ids entries' names' ids'
-  pub ends : ((unwritten ≡ []) × (totals.status ≡ status))
-      ⊎ ((totals.status ≡ 1) × ((d : AttributeDescription) × ((rest : List AttributeDescription) × (unwritten ≡ d ∷ rest) × ExceedsU64 totals.names_size totals.ids_count d)))
+  pub ends : ((unwritten ≡ []) × (outcome.status ≡ status))
+      ⊎ ((outcome.status ≡ OutOfMemory) × ((d : AttributeDescription) × ((rest : List AttributeDescription) × (unwritten ≡ d ∷ rest) × ExceedsU64 outcome.totals.names_size outcome.totals.ids_count d)))
 
-abbrev pub zero_totals : ℕ → AttrTotals
-zero_totals status = record { attr_count = 0; names_size = 0; ids_count = 0; status = status }
+-- all totals are 0
+abbrev pub no_attrs_with : Status → AttrsResult
+no_attrs_with status = record { totals = record { attr_count = 0; names_size = 0; ids_count = 0 }; status = status }
 
 -- nothing is written, and all totals are 0
-abbrev pub WritesNothing : (AttrTotals → Type 0) → List Attr → List ℕ → List ℕ → AttrTotals → List Attr → List ℕ → List ℕ → Type 0
-WritesNothing Why entries names ids totals entries' names' ids' =
-    Why totals × (totals ≡ zero_totals totals.status) × (entries' ≡ entries) × (names' ≡ names) × (ids' ≡ ids)
+abbrev pub WritesNothing : (Status → Type 0) → List Attr → List ℕ → List ℕ → AttrsResult → List Attr → List ℕ → List ℕ → Type 0
+WritesNothing Cause entries names ids outcome entries' names' ids' =
+    Cause outcome.status × (outcome ≡ no_attrs_with outcome.status) × (entries' ≡ entries) × (names' ≡ names) × (ids' ≡ ids)
 
 -- The result for a file's attributes. If the file doesn't open, nothing is written.
-abbrev pub ReadsFileAttrs : List ℕ → List Attr → List ℕ → List ℕ → AttrTotals → List Attr → List ℕ → List ℕ → Type 0
-ReadsFileAttrs bytes entries names ids totals entries' names' ids' =
-    ((file : PerfFile) × ((header : PerfHeader) × DescribesFile (at_start bytes) header file × WritesAttrsOrPrefix (descriptions_of_file file) 0 entries names ids totals entries' names' ids'))
-    ⊎ WritesNothing (λ t. FailsWithStatus t.status (IsFileError (at_start bytes))) entries names ids totals entries' names' ids'
+abbrev pub ReadsFileAttrs : List ℕ → List Attr → List ℕ → List ℕ → AttrsResult → List Attr → List ℕ → List ℕ → Type 0
+ReadsFileAttrs bytes entries names ids outcome entries' names' ids' =
+    ((file : PerfFile) × ((header : PerfHeader) × DescribesFile (at_start bytes) header file × WritesAttrsOrPrefix (descriptions_of_file file) Success entries names ids outcome entries' names' ids'))
+    ⊎ WritesNothing (λ s. FailsWithStatus s (IsFileError (at_start bytes))) entries names ids outcome entries' names' ids'
 
 -- The result for a pipe's attributes, up to the pipe's end or first error. If the pipe doesn't open, nothing is written.
-abbrev pub ReadsPipeAttrs : List ℕ → List Attr → List ℕ → List ℕ → AttrTotals → List Attr → List ℕ → List ℕ → Type 0
-ReadsPipeAttrs bytes entries names ids totals entries' names' ids' =
-    ((records : List RecordView) × ((file : PerfFile) × ((status : ℕ) × IsPipeWithRecords bytes records file status × WritesAttrsOrPrefix (descriptions_of_file file) status entries names ids totals entries' names' ids')))
-    ⊎ WritesNothing (λ t. FailsWithStatus t.status (IsPipeError bytes)) entries names ids totals entries' names' ids'
+abbrev pub ReadsPipeAttrs : List ℕ → List Attr → List ℕ → List ℕ → AttrsResult → List Attr → List ℕ → List ℕ → Type 0
+ReadsPipeAttrs bytes entries names ids outcome entries' names' ids' =
+    ((records : List RecordView) × ((file : PerfFile) × ((status : Status) × IsPipeWithRecords bytes records file status × WritesAttrsOrPrefix (descriptions_of_file file) status entries names ids outcome entries' names' ids')))
+    ⊎ WritesNothing (λ s. FailsWithStatus s (IsPipeError bytes)) entries names ids outcome entries' names' ids'

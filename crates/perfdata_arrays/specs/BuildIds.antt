@@ -7,6 +7,8 @@ use Rattle.perfdata_records.specs.BuildIdEvent.{BuildIdEntry as Entry, IsTruncat
 use Rattle.perfdata_records.specs.DsoKey.{Key, kernel, guest_kernel, vdso_32, vdso_x32, vdso_64, vsyscall, kernel_module, user, key_of}
 use Rattle.perfdata_arrays.specs.Records.{HasBytesAt}
 use Rattle.perfdata_arrays.specs.declared.build_ids.BuildId.{BuildId}
+use Rattle.perfdata_arrays.specs.declared.status.Status.{Status}
+use Rattle.perfdata_arrays.specs.declared.status.Status.TheVariants.{Success, OutOfMemory, Truncated}
 
 -- the number of a key's DSO kind, and 0 for `None`
 abbrev pub dso_kind_number : Option Key → ℕ
@@ -49,8 +51,8 @@ module _ (endian : Endianness) where
     pub path_bytes : HasBytesAt section (offset + 36) entry.path
 
   -- The entry is written; or the section has no complete entry at the offset, or memory ran out, and the old value is unchanged.
-  abbrev pub ReadsBuildId : List ℕ → ℕ → BuildId → ℕ → BuildId → Type 0
+  abbrev pub ReadsBuildId : List ℕ → ℕ → BuildId → Status → BuildId → Type 0
   ReadsBuildId section offset old status new =
-      ((status ≡ 0) × HasBuildIdAt section offset new)
-      ⊎ (((status ≡ 2) × IsTruncatedBuildIdEntry (number_in endian) (drop offset section) × (new ≡ old))
-      ⊎ ((status ≡ 1) × (new ≡ old)))
+      ((status ≡ Success) × HasBuildIdAt section offset new)
+      ⊎ (((status ≡ Truncated) × IsTruncatedBuildIdEntry (number_in endian) (drop offset section) × (new ≡ old))
+      ⊎ ((status ≡ OutOfMemory) × (new ≡ old)))

@@ -11,6 +11,7 @@ use Rattle.linux_perf_data.specs.PipeOpening.{IsPipeError}
 use Rattle.perfdata_arrays.specs.Overwrites.{with_prefix}
 use Rattle.perfdata_arrays.specs.Records.{IsPipeWithRecords, FailsWithStatus}
 use Rattle.perfdata_arrays.specs.declared.features.FeatureResult.{FeatureResult}
+use Rattle.perfdata_arrays.specs.declared.status.Status.TheVariants.{Success}
 
 -- The bytes of a feature are written over the start of a buffer, up to its capacity, and their number is reported. If there is no
 -- feature, the buffer is unchanged.
@@ -21,7 +22,7 @@ CopiesFeature (Some bytes) old outcome new = (outcome.is_present ≡ 1) × (outc
 -- The result for a feature of a file: the bytes of its section. If the file doesn't open, nothing is written.
 abbrev pub ReadsFileFeature : List ℕ → ℕ → List ℕ → FeatureResult → List ℕ → Type 0
 ReadsFileFeature bytes n old outcome new =
-    ((outcome.status ≡ 0) × ((file : PerfFile) × ((header : PerfHeader) × DescribesFile (at_start bytes) header file × CopiesFeature (feature_data_in_file file n) old outcome new)))
+    ((outcome.status ≡ Success) × ((file : PerfFile) × ((header : PerfHeader) × DescribesFile (at_start bytes) header file × CopiesFeature (feature_data_in_file file n) old outcome new)))
     ⊎ (FailsWithStatus outcome.status (IsFileError (at_start bytes)) × CopiesFeature None old outcome new)
 
 -- The result for a feature of a pipe: its last bytes, up to the pipe's end or first error. If the pipe doesn't open, nothing is

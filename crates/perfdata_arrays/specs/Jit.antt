@@ -16,6 +16,8 @@ use Rattle.perfdata_jit.specs.declared.error.JitDumpError.{JitDumpError}
 use Rattle.perfdata_jit.specs.declared.header.JitDumpHeader.{JitDumpHeader}
 use Rattle.perfdata_arrays.specs.Overwrites.{with_prefix}
 use Rattle.perfdata_arrays.specs.Status.{jit_error_status}
+use Rattle.perfdata_arrays.specs.declared.status.Status.{Status}
+use Rattle.perfdata_arrays.specs.declared.status.Status.TheVariants.{Success, Truncated, JitBadRecordSize, JitWrongType, JitBadBody}
 use Rattle.perfdata_arrays.specs.declared.jit.JitHeader.{JitHeader}
 use Rattle.perfdata_arrays.specs.declared.jit.JitRecord.{JitRecord}
 use Rattle.perfdata_arrays.specs.declared.jit.JitRecordsResult.{JitRecordsResult}
@@ -27,11 +29,11 @@ abbrev pub header_window : List ℕ → List ℕ
 header_window bytes = take 4096 bytes
 
 -- the prefix isn't a header, and the status is that of the error
-abbrev pub HasHeaderError : List ℕ → ℕ → Type 0
+abbrev pub HasHeaderError : List ℕ → Status → Type 0
 HasHeaderError bytes status = (e : JitDumpError) × (status ≡ jit_error_status e) × IsJitHeaderError (header_window bytes) e
 
 -- the result of parsing the header
-abbrev pub ParsesJitHeader : List ℕ → Result (JitDumpHeader × Endianness) ℕ → Type 0
+abbrev pub ParsesJitHeader : List ℕ → Result (JitDumpHeader × Endianness) Status → Type 0
 ParsesJitHeader bytes (Ok h) = IsJitHeader h.1 (header_window bytes) h.0
 ParsesJitHeader bytes (Err status) = HasHeaderError bytes status
 
@@ -45,7 +47,7 @@ header_entry endian h = record {
   timestamp = h.timestamp;
   flags = h.flags;
   version = h.version;
-  header_size = h.total_size;
+  size = h.total_size;
   elf_machine = h.elf_machine_arch;
   pid = h.pid;
   is_big_endian = endian_number_of endian;
@@ -53,9 +55,9 @@ header_entry endian h = record {
 }
 
 -- The header is written; or it has an error, and the old value is unchanged.
-abbrev pub ReadsJitHeader : List ℕ → JitHeader → ℕ → JitHeader → Type 0
+abbrev pub ReadsJitHeader : List ℕ → JitHeader → Status → JitHeader → Type 0
 ReadsJitHeader bytes old status new =
-    ((status ≡ 0) × ((endian : Endianness) × ((h : JitDumpHeader) × IsJitHeader endian (header_window bytes) h × (new ≡ header_entry endian h))))
+    ((status ≡ Success) × ((endian : Endianness) × ((h : JitDumpHeader) × IsJitHeader endian (header_window bytes) h × (new ≡ header_entry endian h))))
     ⊎ (HasHeaderError bytes status × (new ≡ old))
 
 -- ---- records
@@ -77,10 +79,10 @@ module _ (endian : Endianness) where
     pub record_valid : IsOneRecord endian offset raw
 
   -- the record at an offset: a complete record, no complete record, or a record header with an invalid size
-  abbrev pub FindsRecord : List ℕ → ℕ → Result (Option JitRecord) ℕ → Type 0
+  abbrev pub FindsRecord : List ℕ → ℕ → Result (Option JitRecord) Status → Type 0
   FindsRecord bytes offset (Ok (Some r)) = (raw : List ℕ) × HasWholeRecordAt bytes offset raw × (r ≡ jit_entry offset raw)
   FindsRecord bytes offset (Ok None) = HasNoWholeRecord endian offset (drop offset bytes)
-  FindsRecord bytes offset (Err status) = (status ≡ 43) × HasInvalidSize endian offset (drop offset bytes)
+  FindsRecord bytes offset (Err status) = (status ≡ JitBadRecordSize) × HasInvalidSize endian offset (drop offset bytes)
 
   -- These records follow one another from an offset on. Their entries are written as a prefix of an array, which has capacity for
   -- all of them. `next` is the offset after them.
@@ -93,10 +95,10 @@ module _ (endian : Endianness) where
     pub written : new ≡ with_prefix (jit_entries from raw_records) old
 
 -- The array is full, or no complete record follows, or the record that follows has an invalid size.
-abbrev pub EndsJitRecords : Endianness → List ℕ → ℕ → ℕ → ℕ → ℕ → Type 0
+abbrev pub EndsJitRecords : Endianness → List ℕ → ℕ → ℕ → ℕ → Status → Type 0
 EndsJitRecords endian bytes count capacity next status =
-    ((status ≡ 0) × ((count ≡ capacity) ⊎ HasNoWholeRecord endian next (drop next bytes)))
-    ⊎ ((status ≡ 43) × HasInvalidSize endian next (drop next bytes))
+    ((status ≡ Success) × ((count ≡ capacity) ⊎ HasNoWholeRecord endian next (drop next bytes)))
+    ⊎ ((status ≡ JitBadRecordSize) × HasInvalidSize endian next (drop next bytes))
 
 -- The records of a jitdump are written from offset `from` on, or from the first record on if `from` is within the header.
 pub record JitRecordsRead (bytes : List ℕ) (from : ℕ) (old : List JitRecord) (total : JitRecordsResult) (new : List JitRecord) : Type 0 where
@@ -143,23 +145,23 @@ pub record IsLoadAt (endian : Endianness) (bytes : List ℕ) (at : ℕ) (load : 
   pub code_bytes_at : HasBytesAt bytes (at + 57 + length (bytes_of load.function_name)) (bytes_of load.code_bytes)
 
 -- The complete record at an offset is a load record, or a record of another type, or a load record with an invalid body.
-abbrev pub ParsesLoad : Endianness → List ℕ → ℕ → Result JitLoad ℕ → Type 0
+abbrev pub ParsesLoad : Endianness → List ℕ → ℕ → Result JitLoad Status → Type 0
 ParsesLoad endian bytes at (Ok out) = (load : JitCodeLoadRecord) × IsLoadAt endian bytes at load × (out ≡ load_entry at load)
 ParsesLoad endian bytes at (Err status) =
-    ((status ≡ 45) × ((raw : List ℕ) × HasWholeRecordAt endian bytes at raw × ((record_header_at endian raw).record_type.0 ≢ 0)))
-    ⊎ ((status ≡ 46) × ((raw : List ℕ) × HasWholeRecordAt endian bytes at raw × ((e : Error) × IsLoadError (number_in endian) (drop 16 raw) e)))
+    ((status ≡ JitWrongType) × ((raw : List ℕ) × HasWholeRecordAt endian bytes at raw × ((record_header_at endian raw).record_type.0 ≢ 0)))
+    ⊎ ((status ≡ JitBadBody) × ((raw : List ℕ) × HasWholeRecordAt endian bytes at raw × ((e : Error) × IsLoadError (number_in endian) (drop 16 raw) e)))
 
 -- A load record is written; or there is no complete record at the offset, its size is invalid, or it isn't a valid load record,
 -- and the old value is unchanged.
-abbrev pub ReadsLoadAt : Endianness → List ℕ → ℕ → JitLoad → ℕ → JitLoad → Type 0
+abbrev pub ReadsLoadAt : Endianness → List ℕ → ℕ → JitLoad → Status → JitLoad → Type 0
 ReadsLoadAt endian bytes at old status new =
-    ((status ≡ 0) × ParsesLoad endian bytes at (Ok new))
-    ⊎ (((status ≡ 2) × HasNoWholeRecord endian at (drop at bytes) × (new ≡ old))
-    ⊎ (((status ≡ 43) × HasInvalidSize endian at (drop at bytes) × (new ≡ old))
+    ((status ≡ Success) × ParsesLoad endian bytes at (Ok new))
+    ⊎ (((status ≡ Truncated) × HasNoWholeRecord endian at (drop at bytes) × (new ≡ old))
+    ⊎ (((status ≡ JitBadRecordSize) × HasInvalidSize endian at (drop at bytes) × (new ≡ old))
     ⊎ (ParsesLoad endian bytes at (Err status) × (new ≡ old))))
 
 -- The header has an error, and the old value is unchanged; or the result is that of the load record.
-abbrev pub ReadsJitLoad : List ℕ → ℕ → JitLoad → ℕ → JitLoad → Type 0
+abbrev pub ReadsJitLoad : List ℕ → ℕ → JitLoad → Status → JitLoad → Type 0
 ReadsJitLoad bytes at old status new =
     ((endian : Endianness) × ((h : JitDumpHeader) × IsJitHeader endian (header_window bytes) h × ReadsLoadAt endian bytes at old status new))
     ⊎ (HasHeaderError bytes status × (new ≡ old))

@@ -4,6 +4,9 @@ pub mod Status
 pub mod Records
 pub mod Walk
 pub mod Jit
+pub mod JitBodies
+pub mod Strings
 pub mod Features
+pub mod FeatureSets
 pub mod Attrs
 pub mod BuildIds

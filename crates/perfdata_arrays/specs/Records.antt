@@ -18,6 +18,8 @@ use Rattle.linux_perf_data.specs.PipeReading.{BeginsPipe, HoldsAllMetadata}
 use Rattle.linux_perf_data.specs.FileReading.{AreFirstRecords}
 use Rattle.perfdata_arrays.specs.Overwrites.{with_prefix_from}
 use Rattle.perfdata_arrays.specs.Status.{error_status}
+use Rattle.perfdata_arrays.specs.declared.status.Status.{Status}
+use Rattle.perfdata_arrays.specs.declared.status.Status.TheVariants.{Success}
 use Rattle.perfdata_arrays.specs.declared.record.Record.{Record}
 use Rattle.perfdata_arrays.specs.declared.records.RecordsResult.{RecordsResult}
 
@@ -69,20 +71,20 @@ HasBodiesAt bytes base (h ∷ hs) = HasBytesAt bytes (base + h.offset + 8) h.bod
 -- ---- the status of a call
 
 -- The status is that of an error. The error has this cause unless memory ran out.
-abbrev pub FailsWithStatus : ℕ → (Error → Type 0) → Type 0
+abbrev pub FailsWithStatus : Status → (Error → Type 0) → Type 0
 FailsWithStatus status Cause = (e : Error) × (status ≡ error_status e) × (e ≢ Memory → Cause e)
 
 -- The layout is complete with these records, or an error follows them. If memory ran out, they are a prefix of the layout's
 -- records. Otherwise the error is that of the layout.
-abbrev pub EndsWithStatus : (List RecordView → LayoutEnd → Type 0) → List RecordView → ℕ → Type 0
+abbrev pub EndsWithStatus : (List RecordView → LayoutEnd → Type 0) → List RecordView → Status → Type 0
 EndsWithStatus Come records status =
-    ((status ≡ 0) × Come records ends_complete)
+    ((status ≡ Success) × Come records ends_complete)
     ⊎ (AreFirstRecords Come records × FailsWithStatus status (λ e. (f : LayoutError) × Come records (ends_with_error f) × IsErrorFor f e))
 
 -- ---- a file
 
 -- The bytes are a file whose data section is at offset `base`.
-pub record IsFileWithRecords (bytes : List ℕ) (base : ℕ) (records : List RecordView) (status : ℕ) : Type 0 where
+pub record IsFileWithRecords (bytes : List ℕ) (base : ℕ) (records : List RecordView) (status : Status) : Type 0 where
   pub file : PerfFile
   pub header : PerfHeader
   pub describes : DescribesFile (at_start bytes) header file
@@ -108,7 +110,7 @@ pub record ReadsFileRecords (bytes : List ℕ) (start : ℕ) (old : List Record)
 
 -- The bytes are a pipe with these records after its opening. The `PerfFile` holds exactly the metadata of the opening and of the
 -- records.
-pub record IsPipeWithRecords (bytes : List ℕ) (records : List RecordView) (file : PerfFile) (status : ℕ) : Type 0 where
+pub record IsPipeWithRecords (bytes : List ℕ) (records : List RecordView) (file : PerfFile) (status : Status) : Type 0 where
   pub endian : Endianness
   pub metadata_records : List (List ℕ)
   pub rest : List ℕ
@@ -128,7 +130,7 @@ abbrev pub IsOpeningSize : Endianness → List ℕ → ℕ → Type 0
 IsOpeningSize endian bytes n = (metadata_records : List (List ℕ)) (rest : List ℕ) → BeginsPipe endian metadata_records bytes rest → EndsMetadata endian rest → n + length rest ≡ length bytes
 
 -- a pipe whose first record after the opening is at offset `base`
-pub record IsPipeWithFirstRecordAt (bytes : List ℕ) (base : ℕ) (records : List RecordView) (status : ℕ) : Type 0 where
+pub record IsPipeWithFirstRecordAt (bytes : List ℕ) (base : ℕ) (records : List RecordView) (status : Status) : Type 0 where
   pub file : PerfFile
   pub is : IsPipeWithRecords bytes records file status
   pub first_record_at : base + length is.rest ≡ length bytes

@@ -11,12 +11,14 @@ use Rattle.linux_perf_data.specs.FileReading.{ReturnsRecords}
 use Rattle.perfdata_arrays.specs.Overwrites.{with_prefix_from}
 use Rattle.perfdata_arrays.specs.Status.{error_status}
 use Rattle.perfdata_arrays.specs.Records.{record_entries_at}
+use Rattle.perfdata_arrays.specs.declared.status.Status.{Status}
+use Rattle.perfdata_arrays.specs.declared.status.Status.TheVariants.{Success}
 use Rattle.perfdata_arrays.specs.declared.record.Record.{Record}
 use Rattle.perfdata_arrays.specs.declared.records.WalkResult.{WalkResult}
 
 -- the status of a walk's end
-abbrev pub walk_status : {A : Type 0} → Result A Error → ℕ
-walk_status (Ok _) = 0
+abbrev pub walk_status : {A : Type 0} → Result A Error → Status
+walk_status (Ok _) = Success
 walk_status (Err e) = error_status e
 
 module _ {R : Type 0} (state : R → State) where

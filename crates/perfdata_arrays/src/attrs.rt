@@ -1,10 +1,10 @@
 //! The attributes of a perf.data file or pipe, with their names and IDs.
 ghost use Rattle.std.specs.Prelude.{◌≡◌};
-ghost use Rattle.perfdata_arrays.specs.Attrs.{AreEndOffsets, ReadsFileAttrs, ReadsPipeAttrs, IsCheckedSum, WritesAttrsOrPrefix, attr_entry_at, has_name_number, name_bytes, zero_totals};
+ghost use Rattle.perfdata_arrays.specs.Attrs.{AreEndOffsets, ReadsFileAttrs, ReadsPipeAttrs, IsCheckedSum, WritesAttrsOrPrefix, attr_entry_at, has_name_number, name_bytes, no_attrs_with};
 
 use crate::array::{byte_count, copy_at, write_entry};
 use crate::records::{walk, walk_result_status};
-use crate::status::{MEMORY, WHOLE, status_of_error};
+use crate::status::{Status, status_of_error};
 use linux_perf_data::{AttributeDescription, PerfFileReader};
 use std::alloc::Global;
 use std::io::Cursor;
@@ -67,7 +67,9 @@ pub struct Attr {
     pub has_name: u32,
 }
 
-/// The number of attributes, the size of their names, the number of their IDs, and the status of the call.
+const _: () = prove!(size_of::<Attr>() == 168);
+
+/// The number of attributes, the size of their names and the number of their IDs.
 #[repr(C)]
 #[derive(Clone, Copy, Debug, PartialEq, Eq)]
 pub struct AttrTotals {
@@ -77,8 +79,17 @@ pub struct AttrTotals {
     pub names_size: u64,
     /// The number of all IDs.
     pub ids_count: u64,
-    /// 0 if no error occurred, otherwise the status code of the first error (`crate::status`).
-    pub status: u32,
+}
+
+const _: () = prove!(size_of::<AttrTotals>() == 24);
+
+/// The totals of all attributes, and the status of the call.
+#[derive(Clone, Copy, Debug, PartialEq, Eq)]
+pub struct AttrsResult {
+    /// The totals of all attributes.
+    pub totals: AttrTotals,
+    /// Success if no error occurred, otherwise the status of the first error.
+    pub status: Status,
 }
 
 // The bytes of an attribute's name; empty if it has none.
@@ -150,15 +161,15 @@ fn end_offsets(
     Some((names_end, ids_end))
 }
 
-// Writes the entries of attributes, their names and their IDs, each up to the capacity of its array. Ends with `MEMORY` before
-// the first attribute whose name end or ID end doesn't fit in 64 bits.
+// Writes the entries of attributes, their names and their IDs, each up to the capacity of its array. Ends with `OutOfMemory`
+// before the first attribute whose name end or ID end doesn't fit in 64 bits.
 fn write_attrs(
     all: &[AttributeDescription],
     entries: &mut [Attr],
     names: &mut [u8],
     ids: &mut [u64],
-    status: u32,
-) -> AttrTotals
+    status: Status,
+) -> AttrsResult
     ensures { WritesAttrsOrPrefix all.now status entries.old names.old ids.old result entries.new names.new ids.new }
 {
     let mut index = 0;
@@ -167,11 +178,13 @@ fn write_attrs(
     'attributes: while index < all.len() {
         let description = &all[index];
         let Some((names_end, ids_end)) = end_offsets(description, name_offset, ids_start) else {
-            return AttrTotals {
-                attr_count: index as u64,
-                names_size: name_offset,
-                ids_count: ids_start,
-                status: MEMORY,
+            return AttrsResult {
+                totals: AttrTotals {
+                    attr_count: index as u64,
+                    names_size: name_offset,
+                    ids_count: ids_start,
+                },
+                status: Status::OutOfMemory,
             };
         };
         let entry = attr_entry(description, name_offset, ids_start);
@@ -182,39 +195,39 @@ fn write_attrs(
         ids_start = ids_end;
         index += 1;
     }
-    AttrTotals {
+    let totals = AttrTotals {
         attr_count: index as u64,
         names_size: name_offset,
         ids_count: ids_start,
-        status,
-    }
+    };
+    AttrsResult { totals, status }
 }
 
 // The result of a call that writes nothing.
-fn no_attrs(status: u32) -> AttrTotals
-    ensures { result ≡ zero_totals status }
+fn no_attrs(status: Status) -> AttrsResult
+    ensures { result ≡ no_attrs_with status }
 {
-    AttrTotals {
+    let totals = AttrTotals {
         attr_count: 0,
         names_size: 0,
         ids_count: 0,
-        status,
-    }
+    };
+    AttrsResult { totals, status }
 }
 
 /// Writes the attributes of a perf.data file, their concatenated names and their IDs.
 ///
 /// Each array receives as many elements as it has capacity for. The totals count all elements.
 ///
-/// The status is 0 if the file opens. If it doesn't open, the status is that of the error, the totals are 0 and the arrays are
-/// unchanged. The status is `MEMORY` if a total doesn't fit in 64 bits; then the totals count the attributes before.
+/// The status is `Success` if the file opens. If it doesn't open, the status is that of the error, the totals are 0 and the arrays are
+/// unchanged. The status is `OutOfMemory` if a total doesn't fit in 64 bits; then the totals count the attributes before.
 pub fn file_attrs(
     alloc: Global,
     bytes: &[u8],
     entries: &mut [Attr],
     names: &mut [u8],
     ids: &mut [u64],
-) -> AttrTotals
+) -> AttrsResult
     ensures { ReadsFileAttrs bytes.now entries.old names.old ids.old result entries.new names.new ids.new }
 {
     match PerfFileReader::parse_file(alloc, Cursor::new(bytes)) {
@@ -223,7 +236,7 @@ pub fn file_attrs(
             entries,
             names,
             ids,
-            WHOLE,
+            Status::Success,
         ),
         Err(error) => no_attrs(status_of_error(&error)),
     }
@@ -239,7 +252,7 @@ pub fn pipe_attrs(
     entries: &mut [Attr],
     names: &mut [u8],
     ids: &mut [u64],
-) -> AttrTotals
+) -> AttrsResult
     ensures { ReadsPipeAttrs bytes.now entries.old names.old ids.old result entries.new names.new ids.new }
 {
     let reader = match PerfFileReader::parse_pipe(alloc, Cursor::new(bytes)) {

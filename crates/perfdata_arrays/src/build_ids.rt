@@ -5,7 +5,7 @@ ghost use Rattle.perfdata_records.specs.DsoKey.{key_in};
 ghost use Rattle.perfdata_arrays.specs.BuildIds.{ReadsBuildId, dso_kind_number};
 
 use crate::array::byte_count;
-use crate::status::{CUT, MEMORY, WHOLE};
+use crate::status::Status;
 use linux_perf_data::build_id_event::BuildIdEvent;
 use linux_perf_data::event::CpuMode;
 use linux_perf_data::source::AppendError;
@@ -39,6 +39,8 @@ pub struct BuildId {
     pub dso_kind: u32,
 }
 
+const _: () = prove!(size_of::<BuildId>() == 48);
+
 // The number of a key's DSO kind; 0 for `None`.
 fn dso_kind(key: &Option<DsoKey>) -> u32
     ensures { result ≡ dso_kind_number (option_map key_in key.now) }
@@ -58,30 +60,30 @@ fn dso_kind(key: &Option<DsoKey>) -> u32
 
 /// Parses the entry at byte `offset` of a BUILD_ID section into `out`.
 ///
-/// Returns 0 on success, 2 if the section has no complete entry at `offset`, and 1 if memory runs out. On an error `out` is
-/// unchanged.
+/// Returns `Truncated` if the section has no complete entry at `offset`, and `OutOfMemory` if memory runs out. On an error `out`
+/// is unchanged.
 pub fn build_id_at(
     alloc: Global,
     endian: Endianness,
     section: &[u8],
     offset: u64,
     out: &mut BuildId,
-) -> u32
+) -> Status
     ensures { ReadsBuildId endian section.now offset out.old result out.new }
 {
     if offset > byte_count(section) {
-        return CUT;
+        return Status::Truncated;
     }
     let mut rest = &section[offset as usize..];
     let entry = match BuildIdEvent::read_from_in(alloc, endian, &mut rest) {
         Ok(entry) => entry,
-        Err(AppendError::Memory) => return MEMORY,
-        Err(AppendError::Source(_)) => return CUT,
+        Err(AppendError::Memory) => return Status::OutOfMemory,
+        Err(AppendError::Source(_)) => return Status::Truncated,
     };
     let mode = CpuMode::from_misc(entry.header.misc);
     let key = match DsoKey::detect(alloc, entry.file_path.as_slice(), mode) {
         Ok(key) => key,
-        Err(_) => return MEMORY,
+        Err(_) => return Status::OutOfMemory,
     };
     *out = BuildId {
         id_offset: offset + ID_OFFSET,
@@ -92,5 +94,5 @@ pub fn build_id_at(
         pid: entry._pid,
         dso_kind: dso_kind(&key),
     };
-    WHOLE
+    Status::Success
 }

@@ -5,7 +5,7 @@ ghost use Rattle.perfdata_arrays.specs.Features.{CopiesFeature, ReadsFileFeature
 
 use crate::array::{byte_count, copy_prefix};
 use crate::records::{walk, walk_result_status};
-use crate::status::{WHOLE, status_of_error};
+use crate::status::{Status, status_of_error};
 use linux_perf_data::{Feature, PerfFile, PerfFileReader};
 use std::alloc::Global;
 use std::io::Cursor;
@@ -17,12 +17,12 @@ pub struct FeatureResult {
     pub size: u64,
     /// 1 if the input has the feature, otherwise 0.
     pub is_present: u8,
-    /// 0 if the input is complete, otherwise the status code of the first error (`crate::status`).
-    pub status: u32,
+    /// Success if the input is complete, otherwise the status of the first error.
+    pub status: Status,
 }
 
 // Copies the bytes of a feature into `buf`, up to its capacity.
-fn copy_feature(file: &PerfFile, feature: u32, buf: &mut [u8], status: u32) -> FeatureResult
+fn copy_feature(file: &PerfFile, feature: u32, buf: &mut [u8], status: Status) -> FeatureResult
     ensures status { result.status ≡ status }
     ensures copied { CopiesFeature (feature_data_in_file file.now feature) buf.old result buf.new }
 {
@@ -45,12 +45,12 @@ fn copy_feature(file: &PerfFile, feature: u32, buf: &mut [u8], status: u32) -> F
 
 /// Copies the bytes of a feature of a perf.data file into `buf`, up to its capacity.
 ///
-/// The status is 0 if the file opens. If it doesn't open, the status is that of the error, `size` is 0 and `buf` is unchanged.
+/// The status is `Success` if the file opens. If it doesn't open, the status is that of the error, `size` is 0 and `buf` is unchanged.
 pub fn file_feature(alloc: Global, bytes: &[u8], feature: u32, buf: &mut [u8]) -> FeatureResult
     ensures { ReadsFileFeature bytes.now feature buf.old result buf.new }
 {
     match PerfFileReader::parse_file(alloc, Cursor::new(bytes)) {
-        Ok(reader) => copy_feature(&reader.perf_file, feature, buf, WHOLE),
+        Ok(reader) => copy_feature(&reader.perf_file, feature, buf, Status::Success),
         Err(error) => {
             let status = status_of_error(&error);
             FeatureResult {

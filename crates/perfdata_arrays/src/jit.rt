@@ -3,8 +3,7 @@ ghost use Rattle.std.specs.Prelude.{◌≡◌, ◌+◌, ◌^◌, ◌<◌, ◌≤
 ghost use Rattle.perfdata_arrays.specs.Jit.{FindsRecord, ReadsJitHeader, ReadsJitRecords, ReadsJitLoad, ParsesLoad, ParsesJitHeader, header_window, endian_number_of};
 
 use crate::array::byte_count;
-use crate::status::{BAD_JIT_SIZE, BAD_LOAD, CUT, NO_LOAD, WHOLE, status_of_jit_error};
-use perfdata_base::endian::{read_u32, read_u64};
+use crate::status::{Status, status_of_jit_error};
 use perfdata_base::raw::{Endianness, RawData};
 use perfdata_jit::{JitCodeLoadRecord, JitDumpHeader, JitDumpRecordHeader};
 
@@ -28,7 +27,7 @@ pub struct JitHeader {
     /// The version of the format.
     pub version: u32,
     /// The size of the header in bytes, which is the offset of the first record.
-    pub header_size: u32,
+    pub size: u32,
     /// The machine that the code is for, as `e_machine` of an ELF file.
     pub elf_machine: u32,
     /// The ID of the process that the code belongs to.
@@ -38,6 +37,8 @@ pub struct JitHeader {
     /// Always 0.
     pub reserved: u32,
 }
+
+const _: () = prove!(size_of::<JitHeader>() == 40);
 
 /// The offset and the header fields of a jitdump record.
 #[repr(C)]
@@ -53,6 +54,8 @@ pub struct JitRecord {
     pub size: u32,
 }
 
+const _: () = prove!(size_of::<JitRecord>() == 24);
+
 /// The number of records written into an array, the offset of the next record, and the status of the call.
 #[derive(Clone, Copy, Debug, PartialEq, Eq)]
 pub struct JitRecordsResult {
@@ -60,8 +63,8 @@ pub struct JitRecordsResult {
     pub count: u64,
     /// The offset of the record after them in bytes, counted from the start of the file.
     pub next_offset: u64,
-    /// 0 if no error occurred, otherwise the status code of the error (`crate::status`).
-    pub status: u32,
+    /// Success if no error occurred, otherwise the status of the error.
+    pub status: Status,
 }
 
 /// A load record, with the offsets of its name and its code.
@@ -88,6 +91,8 @@ pub struct JitLoad {
     pub tid: u32,
 }
 
+const _: () = prove!(size_of::<JitLoad>() == 64);
+
 // The prefix of the file that has to contain the whole header.
 fn header_prefix(bytes: &[u8]) -> &[u8]
     ensures { result.now ≡ header_window bytes.now }
@@ -95,17 +100,14 @@ fn header_prefix(bytes: &[u8]) -> &[u8]
     &bytes[..bytes.len().min(MAX_HEADER_SIZE)]
 }
 
-// Parses the header of a jitdump and its byte order. The error is a status code.
-fn parse_header(bytes: &[u8]) -> Result<(JitDumpHeader, Endianness), u32>
+// Parses the header of a jitdump and its byte order.
+pub(crate) fn parse_header(bytes: &[u8]) -> Result<(JitDumpHeader, Endianness), Status>
     ensures { ParsesJitHeader bytes.now result }
 {
     match JitDumpHeader::parse(RawData::Single(header_prefix(bytes))) {
         Ok(header) => {
-            if header.magic[0] == b'D' {
-                Ok((header, Endianness::LittleEndian))
-            } else {
-                Ok((header, Endianness::BigEndian))
-            }
+            let endian = header.endian();
+            Ok((header, endian))
         }
         Err(error) => Err(status_of_jit_error(&error)),
     }
@@ -123,9 +125,9 @@ fn endian_number(endian: Endianness) -> u32
 
 /// Parses the header of a jitdump into `out`.
 ///
-/// Returns 0 on success, otherwise the status code of the header's error. On an error `out` is unchanged. A header of more than
+/// Returns `Success`, or the status of the header's error. On an error `out` is unchanged. A header of more than
 /// 4,096 bytes is an error.
-pub fn jit_header(bytes: &[u8], out: &mut JitHeader) -> u32
+pub fn jit_header(bytes: &[u8], out: &mut JitHeader) -> Status
     ensures { ReadsJitHeader bytes.now out.old result out.new }
 {
     match parse_header(bytes) {
@@ -134,42 +136,46 @@ pub fn jit_header(bytes: &[u8], out: &mut JitHeader) -> u32
                 timestamp: header.timestamp,
                 flags: header.flags,
                 version: header.version,
-                header_size: header.total_size,
+                size: header.total_size,
                 elf_machine: header.elf_machine_arch,
                 pid: header.pid,
                 is_big_endian: endian_number(endian),
                 reserved: 0,
             };
-            WHOLE
+            Status::Success
         }
         Err(status) => status,
     }
 }
 
-// Returns the record at `offset`, `None` if the bytes contain no complete record there, and `BAD_JIT_SIZE` if no record can have
+// Returns the record at `offset`, `None` if the bytes contain no complete record there, and `JitBadRecordSize` if no record can have
 // its size.
-fn record_at(endian: Endianness, bytes: &[u8], offset: u64) -> Result<Option<JitRecord>, u32>
+pub(crate) fn record_at(
+    endian: Endianness,
+    bytes: &[u8],
+    offset: u64,
+) -> Result<Option<JitRecord>, Status>
     ensures { FindsRecord endian bytes.now offset result }
 {
     if offset > byte_count(bytes) {
         return Ok(None);
     }
     let rest = &bytes[offset as usize..];
-    if rest.len() < JitDumpRecordHeader::SIZE {
+    let Ok(header) = JitDumpRecordHeader::parse(endian, RawData::Single(rest)) else {
         return Ok(None);
+    };
+    let size = header.total_size as usize;
+    if size < JitDumpRecordHeader::SIZE {
+        return Err(Status::JitBadRecordSize);
     }
-    let size = read_u32(endian, &rest[4..]);
-    if (size as usize) < JitDumpRecordHeader::SIZE {
-        return Err(BAD_JIT_SIZE);
-    }
-    if size as usize > rest.len() {
+    if size > rest.len() {
         return Ok(None);
     }
     Ok(Some(JitRecord {
         offset,
-        timestamp: read_u64(endian, &rest[8..]),
-        record_type: read_u32(endian, rest),
-        size,
+        timestamp: header.timestamp,
+        record_type: header.record_type.0,
+        size: header.total_size,
     }))
 }
 
@@ -179,7 +185,7 @@ fn record_at(endian: Endianness, bytes: &[u8], offset: u64) -> Result<Option<Jit
 /// `count` is the number of entries written. A later call continues at `next_offset`, with new capacity or after the file has
 /// grown.
 ///
-/// The status is 0 if the next record is truncated or doesn't fit in `entries`, and `BAD_JIT_SIZE` if no record can start at
+/// The status is `Success` if the next record is truncated or doesn't fit in `entries`, and `JitBadRecordSize` if no record can start at
 /// `next_offset`. If the header has an error, the status is that of [`jit_header`], `count` is 0 and `next_offset` is
 /// `start_offset`.
 pub fn jit_records(bytes: &[u8], start_offset: u64, entries: &mut [JitRecord]) -> JitRecordsResult
@@ -208,7 +214,7 @@ pub fn jit_records(bytes: &[u8], start_offset: u64, entries: &mut [JitRecord]) -
                 return JitRecordsResult {
                     count: records as u64,
                     next_offset: next,
-                    status: WHOLE,
+                    status: Status::Success,
                 };
             }
             Err(status) => {
@@ -223,13 +229,13 @@ pub fn jit_records(bytes: &[u8], start_offset: u64, entries: &mut [JitRecord]) -
     JitRecordsResult {
         count: records as u64,
         next_offset: next,
-        status: WHOLE,
+        status: Status::Success,
     }
 }
 
-// Parses the load record of an entry. The error is `NO_LOAD` if the record has another type, and `BAD_LOAD` if its body is
+// Parses the load record of an entry. The error is `JitWrongType` if the record has another type, and `JitBadBody` if its body is
 // invalid.
-fn parse_load(endian: Endianness, bytes: &[u8], entry: &JitRecord) -> Result<JitLoad, u32>
+fn parse_load(endian: Endianness, bytes: &[u8], entry: &JitRecord) -> Result<JitLoad, Status>
     requires found_at { FindsRecord endian bytes.now entry.now.offset (Ok (Some entry.now)) }
     requires min_size { 16 ≤ entry.now.size }
     requires in_bounds { entry.now.offset + entry.now.size ≤ length bytes.now }
@@ -237,7 +243,7 @@ fn parse_load(endian: Endianness, bytes: &[u8], entry: &JitRecord) -> Result<Jit
     ensures { ParsesLoad endian bytes.now entry.now.offset result }
 {
     if entry.record_type != 0 {
-        return Err(NO_LOAD);
+        return Err(Status::JitWrongType);
     }
     let offset = entry.offset;
     let start = offset as usize + JitDumpRecordHeader::SIZE;
@@ -258,16 +264,16 @@ fn parse_load(endian: Endianness, bytes: &[u8], entry: &JitRecord) -> Result<Jit
                 tid: load.tid,
             })
         }
-        Err(_) => Err(BAD_LOAD),
+        Err(_) => Err(Status::JitBadBody),
     }
 }
 
 /// Parses the load record at byte `offset` of a jitdump into `out`.
 ///
-/// Returns 0 on success. Returns the status of [`jit_header`] if the header has an error, `CUT` if the bytes contain no complete
-/// record at `offset`, `BAD_JIT_SIZE` if no record can have its size, `NO_LOAD` if the record has another type, and `BAD_LOAD` if
-/// its body is invalid. On an error `out` is unchanged.
-pub fn jit_load(bytes: &[u8], offset: u64, out: &mut JitLoad) -> u32
+/// Returns the status of [`jit_header`] if the header has an error, `Truncated` if the bytes contain no complete record at `offset`,
+/// `JitBadRecordSize` if no record can have its size, `JitWrongType` if the record has another type, and `JitBadBody` if its body is
+/// invalid. On an error `out` is unchanged.
+pub fn jit_load(bytes: &[u8], offset: u64, out: &mut JitLoad) -> Status
     ensures { ReadsJitLoad bytes.now offset out.old result out.new }
 {
     let (_header, endian) = match parse_header(bytes) {
@@ -278,13 +284,13 @@ pub fn jit_load(bytes: &[u8], offset: u64, out: &mut JitLoad) -> u32
     let _count = byte_count(bytes);
     let record = match record_at(endian, bytes, offset) {
         Ok(Some(record)) => record,
-        Ok(None) => return CUT,
+        Ok(None) => return Status::Truncated,
         Err(status) => return status,
     };
     match parse_load(endian, bytes, &record) {
         Ok(load) => {
             *out = load;
-            WHOLE
+            Status::Success
         }
         Err(status) => status,
     }

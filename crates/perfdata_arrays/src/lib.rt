@@ -7,8 +7,12 @@
 mod array;
 pub mod attrs;
 pub mod build_ids;
+pub mod byte_order;
+pub mod feature_set;
 pub mod features;
 pub mod jit;
+pub mod jit_bodies;
 pub mod record;
 pub mod records;
 pub mod status;
+pub mod strings;

@@ -32,6 +32,8 @@ pub struct Record {
     pub has_attr: u8,
 }
 
+const _: () = prove!(size_of::<Record>() == 56);
+
 /// Returns the entry of a record.
 ///
 /// `first_record_offset` is the offset of the first record in the input, in bytes.

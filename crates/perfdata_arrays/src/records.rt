@@ -6,7 +6,7 @@ ghost use Rattle.perfdata_arrays.specs.Walk.{FitsAtIfRunning, WalksRecords, walk
 
 use crate::array::{byte_count, write_entry};
 use crate::record::{Record, record_entry};
-use crate::status::{WHOLE, status_of_error, status_of_io_error};
+use crate::status::{Status, status_of_error, status_of_io_error};
 use linux_perf_data::header::PerfHeader;
 use linux_perf_data::source::Source;
 use linux_perf_data::{Endianness, Error, PerfFile, PerfFileReader, PerfRecordIter};
@@ -21,8 +21,8 @@ use std::io::Cursor;
 pub struct RecordsResult {
     /// The number of records in the layout, or before its first error.
     pub count: u64,
-    /// 0 if the layout is complete, otherwise the status code of the first error (`crate::status`).
-    pub status: u32,
+    /// Success if the layout is complete, otherwise the status of the first error.
+    pub status: Status,
 }
 
 // The number of records that a walk reads, and how it ends.
@@ -67,12 +67,12 @@ pub(crate) fn walk<R: Source>(
     }
 }
 
-// The status code for the end of a walk.
-pub(crate) fn walk_result_status(end: &Result<(), Error>) -> u32
+// The status for the end of a walk.
+pub(crate) fn walk_result_status(end: &Result<(), Error>) -> Status
     ensures { result ≡ walk_status end.now }
 {
     match end {
-        Ok(()) => WHOLE,
+        Ok(()) => Status::Success,
         Err(error) => status_of_error(error),
     }
 }

@@ -49,15 +49,15 @@ module _ (number : ℕ → List ℕ → ℕ) where
 
 module _ (number : ℕ → List ℕ → ℕ) (first : (n : ℕ) (xs ys : List ℕ) → n ≤ length xs → number n (xs ++ ys) ≡ number n xs) where
   -- a number in the first m bytes depends on these alone
-  number_cut : (n at m : ℕ) (xs : List ℕ) → at + n ≤ m → m ≤ length xs → number n (drop at xs) ≡ number n (drop at (take m xs))
-  number_cut n at m xs within fits =
+  number_of_prefix : (n at m : ℕ) (xs : List ℕ) → at + n ≤ m → m ≤ length xs → number n (drop at xs) ≡ number n (drop at (take m xs))
+  number_of_prefix n at m xs within fits =
       let long = length-take-le m xs fits in
       ap (λ l. number n (drop at l)) (sym (take-append-drop m xs)) ∙ ap (number n) (drop-append-le at (take m xs) (drop m xs) (omega arith))
       ∙ first n (drop at (take m xs)) (drop m xs) (omega (arith, length-drop at (take m xs)))
 
   pub number_front : (n at m : ℕ) (xs ys : List ℕ) → at + n ≤ m → m ≤ length xs → m ≤ length ys → take m xs ≡ take m ys → number n (drop at xs) ≡ number n (drop at ys)
   number_front n at m xs ys within fits fits' same =
-      number_cut n at m xs within fits ∙ ap (λ l. number n (drop at l)) same ∙ sym (number_cut n at m ys within fits')
+      number_of_prefix n at m xs within fits ∙ ap (λ l. number n (drop at l)) same ∙ sym (number_of_prefix n at m ys within fits')
 
   -- the own size depends on the first eight bytes alone
   pub own_stays : (h r : List ℕ) → 8 ≤ length h → own_size number (h ++ r) ≡ own_size number h

@@ -137,8 +137,8 @@ pub tail_filled : (h n len : ℕ) (xs ys rest buffered more : List ℕ) → xs �
 tail_filled h n len xs ys rest buffered more is long same within whole =
     let all : length xs ≡ length buffered + length more = ap length is ∙ length-append buffered more in
     let fits : h ≤ length xs = omega arith in
-    let kept = length-refilled h xs ys fits same in
-    let room : h + n ≤ length xs = omega (arith, length-take (length xs - h) (drop h xs), length-drop h xs) in
+    let same_length = length-refilled h xs ys fits same in
+    let fits_in : h + n ≤ length xs = omega (arith, length-take (length xs - h) (drop h xs), length-drop h xs) in
     let prefix : take h xs ≡ buffered = ap (λ l. take h l) is ∙ ap (λ k. take k (buffered ++ more)) (sym long) ∙ take-append_seam buffered more in
     take-take (h + n) len (put_mid h (length xs - h) xs ys ++ rest) (omega arith) ∙ take-append-le (h + n) (put_mid h (length xs - h) xs ys) rest (omega arith)
     ∙ front_and_part h (length xs - h) n xs ys fits within ∙ ap (λ l. l ++ take n ys) prefix

@@ -24,16 +24,16 @@ extra_skipped a b size at low seek = record { extra_fits = omega arith; after_se
 abbrev begins : (a b : State) (bytes : List ℕ) (h : PerfHeader) → length bytes ≡ 104 → Consumed a bytes b → h ≡ file_header_of bytes → BeginsWithFileHeader a h
 begins a b bytes h long consumes_it is = record { bytes = bytes; rest = b.bytes; exact_len = long; prefix_of_remaining = consumes_it.bytes; matches = is }
 
-behind_header : (size : ℕ) → 104 + (size - 104) ≡ max 104 size
-behind_header size = omega arith
+after_header : (size : ℕ) → 104 + (size - 104) ≡ max 104 size
+after_header size = omega arith
 
 -- 104 bytes were read, and the extra bytes were skipped
 pub whole_header : (a b c : State) (bytes : List ℕ) (h : PerfHeader) → RemainsFromPosition a → length bytes ≡ 104 → Consumed a bytes b → h ≡ file_header_of bytes → ExtraSkipped b h.header_size c → FileHeaderParsed a h c
-whole_header a b c bytes h placed long consumes_it is skipped = record {
+whole_header a b c bytes h at_position long consumes_it is skipped = record {
   file_header = begins a b bytes h long consumes_it is;
   extra_fits = skipped.extra_fits;
-  after_seek = after_seek_more a b c (consumed-after_seek a b bytes placed consumes_it) skipped.after_seek;
-  position = skipped.position ∙ ap (advance_by (h.header_size - 104)) consumes_it.position ∙ moved_more (length bytes) (h.header_size - 104) a.position ∙ ap (λ n. advance_by (n + (h.header_size - 104)) a.position) long ∙ ap (λ n. advance_by n a.position) (behind_header h.header_size);
+  after_seek = after_seek_more a b c (consumed-after_seek a b bytes at_position consumes_it) skipped.after_seek;
+  position = skipped.position ∙ ap (advance_by (h.header_size - 104)) consumes_it.position ∙ moved_more (length bytes) (h.header_size - 104) a.position ∙ ap (λ n. advance_by (n + (h.header_size - 104)) a.position) long ∙ ap (λ n. advance_by n a.position) (after_header h.header_size);
 }
 
 within_all : (p : Option Position) (q : Position) (xs ys : List ℕ) → advance_by (length xs) p ≡ Some q → remaining_from p ≡ Some (xs ++ ys) → 0 < length xs → (q.offset ≤ length q.all_bytes)
@@ -48,20 +48,20 @@ within_all (Some p) q xs ys is there some =
 
 -- the target is in range, because all bytes of a source are fewer than 2^63
 never_nowhere : (a b : State) (bytes : List ℕ) (size : ℕ) → RemainsFromPosition a → length bytes ≡ 104 → Consumed a bytes b → 104 < size → size < 104 + 2 ^ 63 → SizeFitsI64 b → SeekOutOfRange b (Current (pos (size - 104))) → ⊥
-never_nowhere a b bytes size placed long consumes_it more near small none =
+never_nowhere a b bytes size at_position long consumes_it more end_fits small none =
     let far : 2 ^ 64 ≤ none.start.offset + (size - 104) = none.out_of_range in
     let fits : length none.start.all_bytes < 2 ^ 63 = subst (λ o. IfSome (all_bytes_of o) (λ all. length all < 2 ^ 63)) none.at_start small in
-    let unchanged = consumed-after_seek a b bytes placed consumes_it in
+    let unchanged = consumed-after_seek a b bytes at_position consumes_it in
     let known : b.bytes ≡ Some (drop none.start.offset none.start.all_bytes) = unchanged.from_position ∙ ap remaining_from none.at_start in
-    let within = within_all a.position none.start bytes (drop none.start.offset none.start.all_bytes) (sym consumes_it.position ∙ none.at_start) (sym placed ∙ consumes_it.bytes ∙ ap (prepend bytes) known) (omega arith) in
+    let within = within_all a.position none.start bytes (drop none.start.offset none.start.all_bytes) (sym consumes_it.position ∙ none.at_start) (sym at_position ∙ consumes_it.bytes ∙ ap (prepend bytes) known) (omega arith) in
     omega arith
 
 -- 104 bytes were read, and the extra bytes weren't skipped
 pub header_not_skipped : (a b c : State) (bytes : List ℕ) (h : PerfHeader) (e : Error) → RemainsFromPosition a → length bytes ≡ 104 → Consumed a bytes b → h ≡ file_header_of bytes → ExtraSeekError b h.header_size e c → FileHeaderParseError a e c
-header_not_skipped a b c bytes h e placed long consumes_it is error =
+header_not_skipped a b c bytes h e at_position long consumes_it is error =
     let more = error.has_extra in
     record {
-      after_seek = after_seek_more a b c (consumed-after_seek a b bytes placed consumes_it) error.after_seek;
+      after_seek = after_seek_more a b c (consumed-after_seek a b bytes at_position consumes_it) error.after_seek;
       cause = inr (record {
         header = h;
         file_header = begins a b bytes h long consumes_it is;
@@ -72,7 +72,7 @@ header_not_skipped a b c bytes h e placed long consumes_it is error =
             seek.0,
             elim seek.1 [
               | inl failed ↦ failed_later a b c bytes consumes_it failed
-              | inr none ↦ absurd (never_nowhere a b bytes h.header_size placed long consumes_it more seek.0 none.0 none.1)
+              | inr none ↦ absurd (never_nowhere a b bytes h.header_size at_position long consumes_it more seek.0 none.0 none.1)
             ],
           )
         ];

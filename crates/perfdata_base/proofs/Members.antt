@@ -51,12 +51,12 @@ features_end set n high =
     rw none refl
 
 -- a number in a range that satisfies p is in the filtered range
-kept : (p : ℕ → Bool) (a n x : ℕ) → a ≤ x → x < a + n → IsTrue (p x) → Contains (filter p (range_with_len a n)) x
-kept p a zero x low high is = absurd (omega arith)
-kept p a (suc n) x low high is = elim (cases_order a x) [
+filter_contains : (p : ℕ → Bool) (a n x : ℕ) → a ≤ x → x < a + n → IsTrue (p x) → Contains (filter p (range_with_len a n)) x
+filter_contains p a zero x low high is = absurd (omega arith)
+filter_contains p a (suc n) x low high is = elim (cases_order a x) [
   | inl e ↦ (let here : IsTrue (p a) = rw e is in rw here (0, omega arith, e))
   | inr away ↦
-      let later = kept p (a + 1) n x (omega arith) (omega arith) is in
+      let later = filter_contains p (a + 1) n x (omega arith) (omega arith) is in
       elim (p a) as (λ b. Contains (cond b (a ∷ filter p (range_with_len (a + 1) n)) (filter p (range_with_len (a + 1) n))) x) [
         | true ↦ Contains-append_right (a ∷ []) _ x later
         | false ↦ later
@@ -71,7 +71,7 @@ range_high a (suc n) high h = All-cons (λ x. x < high) a (range_with_len (a + 1
 -- the list contains each feature of the set
 pub has_member : (set : FeatureSet) (n : ℕ) → HasFeature set n → Contains (features_of set) n
 unfolding features_from
-has_member set n (low, is) = kept (has_bit set) 0 256 n (omega arith) (omega arith) is
+has_member set n (low, is) = filter_contains (has_bit set) 0 256 n (omega arith) (omega arith) is
 
 pub member_has : (set : FeatureSet) (n : ℕ) → Contains (features_of set) n → HasFeature set n
 unfolding features_from

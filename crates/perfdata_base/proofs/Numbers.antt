@@ -27,8 +27,8 @@ pub number_drop_front : (order : Endianness) (n k : ℕ) (xs ys : List ℕ) → 
     → number_in order n (drop k (xs ++ ys)) ≡ number_in order n (drop k xs)
 number_drop_front order n k xs ys h =
     let truncated = drop-append-le k xs ys (omega arith) in
-    let room : n ≤ length (drop k xs) = omega (arith, length-drop k xs) in
-    ap (number_in order n) truncated ∙ number_front order n (drop k xs) ys room
+    let long_enough : n ≤ length (drop k xs) = omega (arith, length-drop k xs) in
+    ap (number_in order n) truncated ∙ number_front order n (drop k xs) ys long_enough
 
 -- the number in n bytes is below 256 ^ n
 pub number_bound : (order : Endianness) (n : ℕ) (xs : List ℕ) → ((k : ℕ) → slice_index xs k < 256)
@@ -43,8 +43,8 @@ in_reads_first order = λ n xs ys h. number_front order n xs ys h
 -- `number_take` for each function that depends only on the first bytes
 pub first_take : (number : ℕ → List ℕ → ℕ) → ReadsFirst number → (n m : ℕ) (xs : List ℕ) → n ≤ m → m ≤ length xs
     → number n (take m xs) ≡ number n xs
-first_take number first n m xs h room =
-    let long = length-take-le m xs room in
+first_take number first n m xs h long_enough =
+    let long = length-take-le m xs long_enough in
     sym (first n (take m xs) (drop m xs) (omega arith)) ∙ ap (number n) (take-append-drop m xs)
 
 -- `number_drop_front` for each function that depends only on the first bytes
@@ -52,5 +52,5 @@ pub first_drop_front : (number : ℕ → List ℕ → ℕ) → ReadsFirst number
     → number n (drop k (xs ++ ys)) ≡ number n (drop k xs)
 first_drop_front number first n k xs ys h =
     let truncated = drop-append-le k xs ys (omega arith) in
-    let room : n ≤ length (drop k xs) = omega (arith, length-drop k xs) in
-    ap (number n) truncated ∙ first n (drop k xs) ys room
+    let long_enough : n ≤ length (drop k xs) = omega (arith, length-drop k xs) in
+    ap (number n) truncated ∙ first n (drop k xs) ys long_enough

@@ -7,8 +7,8 @@ use Rattle.perfdata_base.specs.PipeHeader.{pipe_header_of, PipeHeaderParsed, Pip
 use Rattle.perfdata_base.specs.declared.header.pipe.PerfPipeHeader.{PerfPipeHeader}
 
 -- all extra bytes were skipped, or fewer because the source ended or paused
-came_or_not : (a b c : State) (bytes extra : List ℕ) (count n : ℕ) → Consumed a bytes b → length extra ≡ n → n ≤ count → (n < count → EndedOrPaused b c) → IsExtraComplete count a extra (n == count) c
-came_or_not a b c bytes extra count n consumed long within less = elim (cases_eq n count) [
+complete_or_not : (a b c : State) (bytes extra : List ℕ) (count n : ℕ) → Consumed a bytes b → length extra ≡ n → n ≤ count → (n < count → EndedOrPaused b c) → IsExtraComplete count a extra (n == count) c
+complete_or_not a b c bytes extra count n consumed long within less = elim (cases_eq n count) [
   | inl is ↦ subst (λ w. IsExtraComplete count a extra w c) (sym (eq-eqb n count is)) (long ∙ is)
   | inr isnt ↦ subst (λ w. IsExtraComplete count a extra w c) (sym (ne_eqb n count isnt)) (omega (arith, long, within, isnt), consumed_none_later a b c bytes consumed (less (omega (arith, within, isnt))))
 ]
@@ -23,7 +23,7 @@ whole_front a b c bytes h count n whole long is consumed counts skipped shows = 
   extra = skipped.bytes;
   consumes = consumed_more a b c bytes skipped.bytes consumed skipped.consumes;
   extra_complete = subst (λ w. IsExtraComplete (h.size - 16) a skipped.bytes w c) (sym shows)
-      (subst (λ k. IsExtraComplete k a skipped.bytes (n == count) c) counts (came_or_not a b c bytes skipped.bytes count n consumed skipped.exact_len skipped.within skipped.if_incomplete));
+      (subst (λ k. IsExtraComplete k a skipped.bytes (n == count) c) counts (complete_or_not a b c bytes skipped.bytes count n consumed skipped.exact_len skipped.within skipped.if_incomplete));
 }
 
 -- a header parsed with its completeness is a parsed header

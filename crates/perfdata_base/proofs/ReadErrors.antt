@@ -70,11 +70,11 @@ explained_later a b c prefix P Q before reason_of more = elim reason_of [
 ]
 
 -- after a read the remaining bytes are those from the new position on
-placed_more : (b : Option (List ℕ)) (p : Option Position) (prefix : List ℕ) → prepend prefix b ≡ remaining_from p → b ≡ remaining_from (advance_by (length prefix) p)
-placed_more None None prefix is = refl
-placed_more None (Some p) prefix is = cc
-placed_more (Some rest) None prefix is = cc
-placed_more (Some rest) (Some p) prefix is =
+at_position_more : (b : Option (List ℕ)) (p : Option Position) (prefix : List ℕ) → prepend prefix b ≡ remaining_from p → b ≡ remaining_from (advance_by (length prefix) p)
+at_position_more None None prefix is = refl
+at_position_more None (Some p) prefix is = cc
+at_position_more (Some rest) None prefix is = cc
+at_position_more (Some rest) (Some p) prefix is =
     let whole : prefix ++ rest ≡ drop p.offset p.all_bytes = cc in
     ap (λ l. Some l) (sym (drop-append_seam prefix rest) ∙ ap (drop (length prefix)) whole ∙ drop-drop (length prefix) p.offset p.all_bytes)
 
@@ -88,8 +88,8 @@ consumed_all a b prefix consumes_it = ap all_bytes_of consumes_it.position ∙ a
 
 -- a read satisfies `AfterSeek`: it leaves all bytes unchanged, and the remaining bytes are those from the position on
 pub consumed-after_seek : (a b : State) (prefix : List ℕ) → RemainsFromPosition a → Consumed a prefix b → AfterSeek a b
-consumed-after_seek a b prefix placed consumes_it = record {
-  from_position = placed_more b.bytes a.position prefix (sym consumes_it.bytes ∙ placed) ∙ ap remaining_from (sym consumes_it.position);
+consumed-after_seek a b prefix at_position consumes_it = record {
+  from_position = at_position_more b.bytes a.position prefix (sym consumes_it.bytes ∙ at_position) ∙ ap remaining_from (sym consumes_it.position);
   all_bytes = consumed_all a b prefix consumes_it;
   errors = consumes_it.errors;
   pauses = consumes_it.pauses;
@@ -100,16 +100,16 @@ consumed-after_seek a b prefix placed consumes_it = record {
 pub small_same : (a b : State) → all_bytes_of b.position ≡ all_bytes_of a.position → SizeFitsI64 a → SizeFitsI64 b
 small_same a b same small = subst (λ o. IfSome o (λ all. length all < 2 ^ 63)) (sym same) small
 
-behind_small : (p : Option Position) → IfSome (all_bytes_of p) (λ all. length all < 2 ^ 63) → IfSome (remaining_from p) (λ xs. length xs < 2 ^ 63)
-behind_small None small = _
-behind_small (Some p) small = let all : length p.all_bytes < 2 ^ 63 = small in omega (arith, length-drop p.offset p.all_bytes)
+remaining_small : (p : Option Position) → IfSome (all_bytes_of p) (λ all. length all < 2 ^ 63) → IfSome (remaining_from p) (λ xs. length xs < 2 ^ 63)
+remaining_small None small = _
+remaining_small (Some p) small = let all : length p.all_bytes < 2 ^ 63 = small in omega (arith, length-drop p.offset p.all_bytes)
 
 -- the size of the remaining bytes fits too
 pub small_bytes : (s : State) → RemainsFromPosition s → SizeFitsI64 s → IfSome s.bytes (λ xs. length xs < 2 ^ 63)
-small_bytes s placed small = subst (λ o. IfSome o (λ xs. length xs < 2 ^ 63)) (sym placed) (behind_small s.position small)
+small_bytes s at_position small = subst (λ o. IfSome o (λ xs. length xs < 2 ^ 63)) (sym at_position) (remaining_small s.position small)
 
 pub after_seek_none : (a : State) → RemainsFromPosition a → AfterSeek a a
-after_seek_none a placed = consumed-after_seek a a [] placed (consumed_none a)
+after_seek_none a at_position = consumed-after_seek a a [] at_position (consumed_none a)
 
 pub after_seek_more : (a b c : State) → AfterSeek a b → AfterSeek b c → AfterSeek a c
 after_seek_more a b c x y = record {

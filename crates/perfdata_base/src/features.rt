@@ -288,6 +288,8 @@ impl fmt::Display for Feature {
 }
 
 impl fmt::Debug for Feature {
+    ghost debug_output = { λ f. Some (feature_text f.0) };
+
     fn fmt<W: fmt::Write>(&self, f: &mut fmt::Formatter<W>) -> fmt::Result {
         fmt::Display::fmt(self, f)
     }

@@ -6,6 +6,7 @@ pub mod endian;
 pub mod event;
 pub mod features;
 pub mod header;
+pub mod laws;
 pub mod place;
 pub mod raw;
 pub mod section;

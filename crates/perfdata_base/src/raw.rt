@@ -230,7 +230,7 @@ impl<'a> RawData<'a> {
         Ok(())
     }
 
-    /// Fills `place` with the first bytes, and removes them.
+    /// Fills `buf` with the first bytes, and removes them.
     ///
     /// If there are fewer, it fails with `UnexpectedEof`, and nothing changes.
     pub fn read_exact(&mut self, buf: &mut [u8]) -> io::Result<()>

@@ -19,7 +19,7 @@ pub enum Command {
     Jit(String),
 }
 
-/// The reason why there is no command.
+/// The cause of a missing command.
 #[derive(Clone, Copy, Debug, PartialEq, Eq)]
 pub enum ArgsError {
     /// The arguments are invalid.

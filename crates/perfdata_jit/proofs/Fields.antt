@@ -6,16 +6,16 @@ use Rattle.perfdata_base.proofs.Numbers.{ReadsFirst, first_take, first_drop_fron
 -- a number at offset k of the first m bytes, read from the j bytes at this offset
 pub number_within : (number : ℕ → List ℕ → ℕ) → ReadsFirst number → (n k j m : ℕ) (xs header : List ℕ) → header ≡ take m xs → m ≤ length xs → n ≤ j → k + j ≤ m
     → number n (take j (drop k header)) ≡ number n (drop k xs)
-number_within number first n k j m xs header is room small within =
-    let long = length-take-le m xs room in
+number_within number first n k j m xs header is long_enough small within =
+    let long = length-take-le m xs long_enough in
     ap (λ l. number n (take j (drop k l))) is
     ∙ first_take number first n j (drop k (take m xs)) small (omega (arith, length-drop k (take m xs)))
     ∙ sym (first_drop_front number first n k (take m xs) (drop m xs) (omega arith)) ∙ ap (λ l. number n (drop k l)) (take-append-drop m xs)
 
 -- the same number, read from all bytes at this offset
 pub number_at : (number : ℕ → List ℕ → ℕ) → ReadsFirst number → (n k m : ℕ) (xs header : List ℕ) → header ≡ take m xs → m ≤ length xs → k + n ≤ m → number n (drop k header) ≡ number n (drop k xs)
-number_at number first n k m xs header is room within =
-    let long = length-take-le m xs room in
+number_at number first n k m xs header is long_enough within =
+    let long = length-take-le m xs long_enough in
     ap (λ l. number n (drop k l)) is
     ∙ sym (first_drop_front number first n k (take m xs) (drop m xs) (omega (arith, long))) ∙ ap (λ l. number n (drop k l)) (take-append-drop m xs)
 
@@ -24,4 +24,4 @@ pub truncated_again : (n : ℕ) (xs prefix rest : List ℕ) → prefix ≡ take 
 truncated_again n xs prefix rest is dropped = sym (take-append-drop n xs) ∙ (λ i. (sym is i) ++ (sym dropped i))
 
 pub truncated_long : (n : ℕ) (xs prefix : List ℕ) → n ≤ length xs → prefix ≡ take n xs → length prefix ≡ n
-truncated_long n xs prefix room is = ap length is ∙ length-take-le n xs room
+truncated_long n xs prefix long_enough is = ap length is ∙ length-take-le n xs long_enough

@@ -59,7 +59,7 @@ module _ (endian : Endianness) (xs magic rest : List ℕ) (long : 4 ≤ length x
   }
 
   pub header_missing : (e : Error) → IsTruncatedAfterMagic (number_in endian) rest e → HasTruncatedFixedPart xs ⊎ HasTruncatedHeader xs
-  header_missing e cut = elim cut.cause [
+  header_missing e truncated = elim truncated.cause [
     | inl few ↦ inl (record { endian = endian; magic = sym is_magic ∙ one; too_few = omega (arith, rest_long, few) })
     | inr whole ↦
         let enough = whole.0 in
@@ -78,10 +78,10 @@ header_longer endian prefix rest header is =
     let number = number_in endian in
     let long = is.min_len in
     let there = is.complete in
-    let room : 36 ≤ length (drop 4 prefix) = omega (arith, length-drop 4 prefix) in
-    let cut = drop-append-le 4 prefix rest (omega arith) in
+    let long_enough : 36 ≤ length (drop 4 prefix) = omega (arith, length-drop 4 prefix) in
+    let split = drop-append-le 4 prefix rest (omega arith) in
     let same : (n k : ℕ) → k + n ≤ 36 → number n (drop k (drop 4 (prefix ++ rest))) ≡ number n (drop k (drop 4 prefix)) =
-    λ n k within. ap (λ l. number n (drop k l)) cut ∙ number_drop_front endian n k (drop 4 prefix) rest (omega (arith, room, within))
+    λ n k within. ap (λ l. number n (drop k l)) split ∙ number_drop_front endian n k (drop 4 prefix) rest (omega (arith, long_enough, within))
     in
     let magic = take-append-le 4 prefix rest (omega arith) in
     let version = same 4 0 (omega arith) in

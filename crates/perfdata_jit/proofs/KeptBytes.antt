@@ -16,20 +16,20 @@ unread_kept old new buffered now read_bytes consumes holds = ap (prepend buffere
 
 module _ {R : Type 0} (state : R → State) where
   pub keeps_by : (old new : BufferedReader R) (read_bytes : List ℕ) → Consumed (reader_source_state state old) read_bytes (reader_source_state state new) → buffered_in new ≡ buffered_in old ++ read_bytes → ring_capacity_of new ≡ ring_capacity_of old → has_seek_failed new ≡ has_seek_failed old → KeepsBytes state old new
-  keeps_by old new read_bytes consumed_by holds size lost = record {
+  keeps_by old new read_bytes consumed_by holds size seek_lost = record {
     consumed_bytes = read_bytes;
     consumes = consumed_by;
     buffer_content = holds;
     unread_bytes = unread_kept (reader_source_state state old) (reader_source_state state new) (buffered_in old) (buffered_in new) read_bytes consumed_by holds;
     ring_capacity = size;
-    seek_state_kept = lost;
+    seek_state_kept = seek_lost;
   }
 
   -- more bytes are read
   pub keeps_more : (old mid new : BufferedReader R) (read_bytes : List ℕ) → KeepsBytes state old mid → Consumed (reader_source_state state mid) read_bytes (reader_source_state state new) → buffered_in new ≡ buffered_in mid ++ read_bytes → ring_capacity_of new ≡ ring_capacity_of mid → has_seek_failed new ≡ has_seek_failed mid → KeepsBytes state old new
-  keeps_more old mid new read_bytes k consumes holds size lost =
+  keeps_more old mid new read_bytes k consumes holds size seek_lost =
       keeps_by old new (k.consumed_bytes ++ read_bytes) (consumed_more (reader_source_state state old) (reader_source_state state mid) (reader_source_state state new) k.consumed_bytes read_bytes k.consumes consumes)
-      (holds ∙ ap (λ l. l ++ read_bytes) k.buffer_content ∙ append_assoc (buffered_in old) k.consumed_bytes read_bytes) (size ∙ k.ring_capacity) (lost ∙ k.seek_state_kept)
+      (holds ∙ ap (λ l. l ++ read_bytes) k.buffer_content ∙ append_assoc (buffered_in old) k.consumed_bytes read_bytes) (size ∙ k.ring_capacity) (seek_lost ∙ k.seek_state_kept)
 
   -- the bytes are buffered if the result is true
   pub buffered_if : (n : ℕ) (old new : BufferedReader R) (whole : Bool) → whole ≡ true → EnsuresBuffered state n old (Ok whole) new → BufferedEnough state n old new
@@ -54,14 +54,14 @@ module _ {R : Type 0} (state : R → State) where
       let buffered = buffered_in mid in
       let k = asked.keeps_bytes in
       let still : reader_source_state state new ≡ reader_source_state state mid = ap state consumed_state.source in
-      let cut : buffered ≡ part ++ buffered_in new = sym (take-append-drop n buffered) ∙ ap₂ (λ a b. a ++ b) (sym value) (sym consumed_state.buffered_bytes) in
+      let split : buffered ≡ part ++ buffered_in new = sym (take-append-drop n buffered) ∙ ap₂ (λ a b. a ++ b) (sym value) (sym consumed_state.buffered_bytes) in
       record {
         exact_len = ap length value ∙ length-take-le n buffered asked.is_buffered;
         unread_bytes = k.unread_bytes ∙ part_taken buffered part (buffered_in new) (reader_source_state state mid).bytes n value consumed_state.buffered_bytes ∙ ap (λ (s : State). prepend part (prepend (buffered_in new) s.bytes)) (sym still);
         consumed_bytes = k.consumed_bytes;
         consumes = rw still k.consumes;
-        buffer_content = sym k.buffer_content ∙ cut;
-        if_buffered = λ le. sym (asked.buffer_unchanged le) ∙ cut;
+        buffer_content = sym k.buffer_content ∙ split;
+        if_buffered = λ le. sym (asked.buffer_unchanged le) ∙ split;
         reads_only_needed = record {
           overflow_bound = λ less. omega (arith, asked.reads_only_needed.overflow_bound less, consumed_state.overflow_size);
           no_growth_if_buffered = λ le. omega (arith, asked.reads_only_needed.no_growth_if_buffered le, consumed_state.overflow_size);
@@ -80,7 +80,7 @@ module _ {R : Type 0} (state : R → State) where
   -- a header is copied, and a consumed overflow buffer is emptied
   pub header_copied : (old mid new : BufferedReader R) (part header : List ℕ) → PartConsumed state 16 old part mid → header ≡ part → source_of new ≡ source_of mid → buffered_in new ≡ buffered_in mid → overflow_len_of new ≤ overflow_len_of mid → (IsOverflowConsumed mid.buffer → overflow_len_of new ≡ 0)
       → (IsOverflowConsumed mid.buffer → IsOverflowConsumed new.buffer) → overflow_capacity_of new ≡ overflow_capacity_of mid → ring_capacity_of new ≡ ring_capacity_of mid → has_seek_failed new ≡ has_seek_failed mid → ((m : ℕ) → IsContiguous m mid.buffer → IsContiguous m new.buffer) → HeaderConsumed state old header new
-  header_copied old mid new part header c is source buffered shorter emptied used_up room size lost contiguous =
+  header_copied old mid new part header c is source buffered shorter emptied used_up capacity size seek_lost contiguous =
       let still : reader_source_state state new ≡ reader_source_state state mid = ap state source in
       record {
         consumes = record {
@@ -94,7 +94,7 @@ module _ {R : Type 0} (state : R → State) where
             overflow_bound = λ less. omega (arith, c.reads_only_needed.overflow_bound less, shorter);
             no_growth_if_buffered = λ le. omega (arith, c.reads_only_needed.no_growth_if_buffered le, shorter);
             no_growth_if_fits = λ le. omega (arith, c.reads_only_needed.no_growth_if_fits le, shorter);
-            no_allocation_if_fits = λ le. room ∙ c.reads_only_needed.no_allocation_if_fits le;
+            no_allocation_if_fits = λ le. capacity ∙ c.reads_only_needed.no_allocation_if_fits le;
             source_unchanged = λ le. source ∙ c.reads_only_needed.source_unchanged le;
           };
           overflow_consumed = λ less. used_up (c.overflow_consumed less);
@@ -102,7 +102,7 @@ module _ {R : Type 0} (state : R → State) where
           same_counts = rw still c.same_counts;
           ring_capacity = size ∙ c.ring_capacity;
           seek_ok_before = c.seek_ok_before;
-          seek_ok_after = lost ∙ c.seek_ok_after;
+          seek_ok_after = seek_lost ∙ c.seek_ok_after;
         };
         overflow_empty = λ less. emptied (c.overflow_consumed less);
       }

@@ -6,6 +6,7 @@ pub mod JitHeaders
 pub mod KeptBytes
 pub mod Lookups
 pub mod CodeOffsets
+pub mod ConsecutiveRecords
 pub mod BufferRanges
 pub mod Contiguous
 pub mod Traces

@@ -112,20 +112,20 @@ module _ {R : Type 0} (state : R → State) where
       )
 
   -- bytes that are read while a header is pending are appended to the buffered bytes
-  held_more : (mid new : JitDumpReader R) → new.pending_header ≡ mid.pending_header → (k : KeepsBytes state mid.reader new.reader) → jit_buffered new ≡ jit_buffered mid ++ k.consumed_bytes
-  held_more mid new still k = ap (λ h. pending_header_bytes h ++ buffered_in new.reader) still ∙ ap (λ l. pending_header_bytes mid.pending_header ++ l) k.buffer_content ∙ sym (append_assoc (pending_header_bytes mid.pending_header) (buffered_in mid.reader) k.consumed_bytes)
+  buffered_more : (mid new : JitDumpReader R) → new.pending_header ≡ mid.pending_header → (k : KeepsBytes state mid.reader new.reader) → jit_buffered new ≡ jit_buffered mid ++ k.consumed_bytes
+  buffered_more mid new still k = ap (λ h. pending_header_bytes h ++ buffered_in new.reader) still ∙ ap (λ l. pending_header_bytes mid.pending_header ++ l) k.buffer_content ∙ sym (append_assoc (pending_header_bytes mid.pending_header) (buffered_in mid.reader) k.consumed_bytes)
 
   -- reading the body after the pending header
-  behind_head : (old mid new : JitDumpReader R) (header : JitDumpRecordHeader) (c : ValidHeaderPeeked state old header mid) → new.pending_header ≡ mid.pending_header → KeepsBytes state mid.reader new.reader → ReadsOnlyFor state (header.total_size - 16) mid.reader new.reader
+  for_header_and_body : (old mid new : JitDumpReader R) (header : JitDumpRecordHeader) (c : ValidHeaderPeeked state old header mid) → new.pending_header ≡ mid.pending_header → KeepsBytes state mid.reader new.reader → ReadsOnlyFor state (header.total_size - 16) mid.reader new.reader
       → ReadsForHeaderAndBody (jit_ring_capacity old) (header.total_size - 16) (length (jit_buffered old)) (length (jit_buffered new)) (jit_overflow old) (jit_overflow new)
-  behind_head old mid new header c kept k asks =
+  for_header_and_body old mid new header c kept k asks =
       let s = c.header_peeked.keeps_position in
       let all = ap length (buffered_some mid c.bytes c.header_peeked.pending_header) ∙ length-append c.bytes (buffered_in mid.reader) in
       let long = c.header_peeked.exact_len in
       record {
         buffered_after_header = length (jit_buffered mid);
         buffer_unchanged = λ le. ap length (c.header_peeked.reads_only_needed.buffer_unchanged le);
-        at_most_all = omega (arith, ap length (held_more mid new kept k), length-append (jit_buffered mid) k.consumed_bytes);
+        at_most_all = omega (arith, ap length (buffered_more mid new kept k), length-append (jit_buffered mid) k.consumed_bytes);
         not_fewer = omega (arith, ap length s.buffer_content, length-append (jit_buffered old) s.consumed_bytes);
         overflow_between = jit_overflow mid;
         header_read = c.header_peeked.reads_only_needed.reads_for;
@@ -138,11 +138,11 @@ module _ {R : Type 0} (state : R → State) where
       }
 
   -- the bytes of the body are buffered after the header
-  keeps_behind : (old mid new : JitDumpReader R) (bytes : List ℕ) → HeaderPeeked state old bytes mid → new.pending_header ≡ mid.pending_header → KeepsBytes state mid.reader new.reader → jit_offset new ≡ jit_offset mid → SameSetup mid new → KeepsPosition state old new
-  keeps_behind old mid new bytes peeked still k offset file =
+  keeps_after_header : (old mid new : JitDumpReader R) (bytes : List ℕ) → HeaderPeeked state old bytes mid → new.pending_header ≡ mid.pending_header → KeepsBytes state mid.reader new.reader → jit_offset new ≡ jit_offset mid → SameSetup mid new → KeepsPosition state old new
+  keeps_after_header old mid new bytes peeked still k offset file =
       let s = peeked.keeps_position in
       stays_by old new (s.consumed_bytes ++ k.consumed_bytes) (consumed_more (jit_source_state state old) (jit_source_state state mid) (jit_source_state state new) s.consumed_bytes k.consumed_bytes s.consumes k.consumes)
-      (held_more mid new still k ∙ ap (λ l. l ++ k.consumed_bytes) s.buffer_content ∙ append_assoc (jit_buffered old) s.consumed_bytes k.consumed_bytes) (offset ∙ s.offset) (file_on old mid new s.same_setup file) s.seek_ok_before (k.seek_state_kept ∙ s.seek_ok_after)
+      (buffered_more mid new still k ∙ ap (λ l. l ++ k.consumed_bytes) s.buffer_content ∙ append_assoc (jit_buffered old) s.consumed_bytes k.consumed_bytes) (offset ∙ s.offset) (file_on old mid new s.same_setup file) s.seek_ok_before (k.seek_state_kept ∙ s.seek_ok_after)
 
   pub holds_next : (old mid new : JitDumpReader R) (header : JitDumpRecordHeader) → ValidHeaderPeeked state old header mid → BufferedEnough state (header.total_size - 16) mid.reader new.reader → new.pending_header ≡ mid.pending_header → jit_offset new ≡ jit_offset mid → SameSetup mid new → RecordBuffered state old header new
   holds_next old mid new header c asked still offset file =
@@ -153,7 +153,7 @@ module _ {R : Type 0} (state : R → State) where
       let there = header_there old mid c.bytes peeked in
       let size : header.total_size ≡ record_size_at (jit_endian old) (jit_buffered old ++ s.consumed_bytes) = ap (λ (h : JitDumpRecordHeader). h.total_size) (c.matches ∙ there.1) ∙ ap (record_size_at (jit_endian old)) s.buffer_content in
       record {
-        keeps_position = keeps_behind old mid new c.bytes peeked still asked.keeps_bytes offset file;
+        keeps_position = keeps_after_header old mid new c.bytes peeked still asked.keeps_bytes offset file;
         bytes = c.bytes;
         exact_len = peeked.exact_len;
         pending_header = still ∙ peeked.pending_header;
@@ -165,11 +165,11 @@ module _ {R : Type 0} (state : R → State) where
             let there = peeked.keeps_contiguous header.total_size c.min_size at in
             subst (λ (r : BufferedReader R). IsContiguous (header.total_size - 16) r.buffer) (sym (asked.unchanged (contiguous_buffered (header.total_size - 16) mid.reader.buffer there))) there;
         source_unchanged = λ buffered.
-            let head_held : 16 ≤ length (jit_buffered old) = omega (arith, buffered.min_size, buffered.complete) in
-            let same = size ∙ size_front (jit_endian old) (jit_buffered old) s.consumed_bytes head_held in
-            asked.reads_only_needed.source_unchanged (omega (arith, buffered.complete, same, all, more, peeked.exact_len)) ∙ peeked.reads_only_needed.source_unchanged head_held;
+            let header_buffered : 16 ≤ length (jit_buffered old) = omega (arith, buffered.min_size, buffered.complete) in
+            let same = size ∙ size_front (jit_endian old) (jit_buffered old) s.consumed_bytes header_buffered in
+            asked.reads_only_needed.source_unchanged (omega (arith, buffered.complete, same, all, more, peeked.exact_len)) ∙ peeked.reads_only_needed.source_unchanged header_buffered;
         same_counts = counts_on (jit_source_state state old) (jit_source_state state mid) (jit_source_state state new) peeked.same_counts asked.same_counts;
-        reads_for = behind_head old mid new header c still asked.keeps_bytes asked.reads_only_needed;
+        reads_for = for_header_and_body old mid new header c still asked.keeps_bytes asked.reads_only_needed;
       }
 
   -- if fewer bytes than the body has follow the pending header, there is no complete record
@@ -188,36 +188,36 @@ module _ {R : Type 0} (state : R → State) where
         size,
       )
 
-  both_asked : (old mid new : JitDumpReader R) (header : JitDumpRecordHeader) (c : ValidHeaderPeeked state old header mid) → new.pending_header ≡ mid.pending_header → KeepsBytes state mid.reader new.reader → ReadsOnlyFor state (header.total_size - 16) mid.reader new.reader → IsTruncatedRecord (jit_endian old) (jit_offset old) (jit_buffered new) × (record_size_at (jit_endian old) (jit_buffered new) ≡ header.total_size) → ReadsForRecord (record_size_at (jit_endian old) (jit_buffered new)) old new
-  both_asked old mid new header c still k asks cut = record {
-    header_read = λ few. absurd (omega (arith, cut.0.has_header));
-    header_and_body_read = λ _. subst (λ n. ReadsForHeaderAndBody (jit_ring_capacity old) (n - 16) (length (jit_buffered old)) (length (jit_buffered new)) (jit_overflow old) (jit_overflow new)) (sym cut.1) (behind_head old mid new header c still k asks);
+  header_and_body_read_only : (old mid new : JitDumpReader R) (header : JitDumpRecordHeader) (c : ValidHeaderPeeked state old header mid) → new.pending_header ≡ mid.pending_header → KeepsBytes state mid.reader new.reader → ReadsOnlyFor state (header.total_size - 16) mid.reader new.reader → IsTruncatedRecord (jit_endian old) (jit_offset old) (jit_buffered new) × (record_size_at (jit_endian old) (jit_buffered new) ≡ header.total_size) → ReadsForRecord (record_size_at (jit_endian old) (jit_buffered new)) old new
+  header_and_body_read_only old mid new header c still k asks truncated = record {
+    header_read = λ few. absurd (omega (arith, truncated.0.has_header));
+    header_and_body_read = λ _. subst (λ n. ReadsForHeaderAndBody (jit_ring_capacity old) (n - 16) (length (jit_buffered old)) (length (jit_buffered new)) (jit_overflow old) (jit_overflow new)) (sym truncated.1) (for_header_and_body old mid new header c still k asks);
   }
 
   pub not_ready_for_body : (old mid new : JitDumpReader R) (header : JitDumpRecordHeader) → ValidHeaderPeeked state old header mid → BufferedTooFew state (header.total_size - 16) mid.reader new.reader → new.pending_header ≡ mid.pending_header → jit_offset new ≡ jit_offset mid → SameSetup mid new → RecordNotReady state old new
   not_ready_for_body old mid new header c asked still offset file =
-      let cut = truncated_body old mid new header c still asked.too_few in
+      let truncated = truncated_body old mid new header c still asked.too_few in
       record {
-        keeps_position = keeps_behind old mid new c.bytes c.header_peeked still asked.keeps_bytes offset file;
-        no_whole_record = inr cut.0;
+        keeps_position = keeps_after_header old mid new c.bytes c.header_peeked still asked.keeps_bytes offset file;
+        no_whole_record = inr truncated.0;
         ended_or_paused = consumed_none_later _ _ _ c.header_peeked.keeps_position.consumed_bytes c.header_peeked.keeps_position.consumes asked.ended_or_paused;
         at_most_one_pause = let once = asked.at_most_one_pause in let before = c.header_peeked.same_counts.pauses in omega (arith, once, before);
         errors = asked.errors ∙ c.header_peeked.same_counts.errors;
-        reads_only_needed = both_asked old mid new header c still asked.keeps_bytes asked.reads_only_needed cut;
+        reads_only_needed = header_and_body_read_only old mid new header c still asked.keeps_bytes asked.reads_only_needed truncated;
       }
 
   pub body_error : (old mid new : JitDumpReader R) (header : JitDumpRecordHeader) (e : Error) → ValidHeaderPeeked state old header mid → BufferingError state (header.total_size - 16) mid.reader e new.reader → new.pending_header ≡ mid.pending_header → jit_offset new ≡ jit_offset mid → SameSetup mid new → NextJitRecordError state old e new
   body_error old mid new header e c asked still offset file =
-      let cut = truncated_body old mid new header c still asked.too_few in
+      let truncated = truncated_body old mid new header c still asked.too_few in
       inr (inl (record {
-        keeps_position = keeps_behind old mid new c.bytes c.header_peeked still asked.keeps_bytes offset file;
-        no_whole_record = inr cut.0;
+        keeps_position = keeps_after_header old mid new c.bytes c.header_peeked still asked.keeps_bytes offset file;
+        no_whole_record = inr truncated.0;
         cause = elim asked.cause [
           | inl failed ↦ inl (failed_later _ _ _ c.header_peeked.keeps_position.consumed_bytes c.header_peeked.keeps_position.consumes failed)
-          | inr full ↦ inr (header.total_size - 16, inr (omega (arith, cut.1, c.min_size), cut.0.has_header), record { exceeds_ring = omega (arith, full.0.exceeds_ring, c.header_peeked.keeps_position.same_setup.ring_capacity); kind = full.0.kind }, counts_on _ _ _ c.header_peeked.same_counts full.1)
+          | inr full ↦ inr (header.total_size - 16, inr (omega (arith, truncated.1, c.min_size), truncated.0.has_header), record { exceeds_ring = omega (arith, full.0.exceeds_ring, c.header_peeked.keeps_position.same_setup.ring_capacity); kind = full.0.kind }, counts_on _ _ _ c.header_peeked.same_counts full.1)
         ];
         pauses = asked.pauses ∙ c.header_peeked.same_counts.pauses;
-        reads_only_needed = both_asked old mid new header c still asked.keeps_bytes asked.reads_only_needed cut;
+        reads_only_needed = header_and_body_read_only old mid new header c still asked.keeps_bytes asked.reads_only_needed truncated;
       }))
 
 -- a record of which fewer bytes remain than its size is truncated
@@ -235,13 +235,13 @@ module _ {R : Type 0} (state : R → State) where
       let s = c.header_peeked.keeps_position in
       let reads = c.header_peeked.reads_only_needed.reads_for in
       let few = kept.too_few in
-      let cut = truncated_body state old mid new header c pending (omega (arith, few, ap length kept.buffer_content)) in
+      let truncated = truncated_body state old mid new header c pending (omega (arith, few, ap length kept.buffer_content)) in
       let size : record_size_at (jit_endian old) c.bytes ≡ header.total_size = ap (λ (h : JitDumpRecordHeader). h.total_size) (sym c.matches) in
       record {
         unread_bytes = s.unread_bytes ∙ ap₂ (λ h u. prepend (pending_header_bytes h) u) (sym pending) kept.unread_bytes;
         offset = offset ∙ s.offset;
-        is_truncated = cut.0;
-        no_whole_record = inr cut.0;
+        is_truncated = truncated.0;
+        no_whole_record = inr truncated.0;
         none_if_steady = λ steady.
             let rest = kept.too_few_in_source (s.consumes.steady steady).steady in
             let unread : jit_unread_bytes state old ≡ prepend (c.bytes ++ buffered_in mid.reader) (jit_source_state state mid).bytes = s.unread_bytes ∙ unread_is state mid ∙ ap (λ l. prepend l (jit_source_state state mid).bytes) (buffered_some state mid c.bytes c.header_peeked.pending_header) in

@@ -20,9 +20,9 @@ three_stood : (s a b t : State) → AfterSeek s a → AfterSeek a b → AfterSee
 three_stood s a b t x y z = position_same s t (after_seek_more s b t (after_seek_more s a b x y) z)
 
 -- three seeks skip `count` bytes, by the source's positions, of which this is the one before them
-passed_from : (position : Option Position) (s a b t : State) (here end count to : ℕ) → s.position ≡ position → RemainsFromPosition s → SeekSucceeded s (Current (pos 0)) here a → SeekSucceeded a (End (pos 0)) end b → SeekSucceeded b (Start (here + count)) to t → here ≤ end → count ≤ end - here → SameCounts s t
+skipped_from : (position : Option Position) (s a b t : State) (here end count to : ℕ) → s.position ≡ position → RemainsFromPosition s → SeekSucceeded s (Current (pos 0)) here a → SeekSucceeded a (End (pos 0)) end b → SeekSucceeded b (Start (here + count)) to t → here ≤ end → count ≤ end - here → SameCounts s t
     → SkippedBySeek s count t
-passed_from None s a b t here end count to is placed x y z le fits counts = record {
+skipped_from None s a b t here end count to is at_position x y z le fits counts = record {
   bytes = replicate count 0;
   exact_len = length-replicate count 0;
   same_source = three_stood s a b t x.after_seek y.after_seek z.after_seek;
@@ -30,10 +30,10 @@ passed_from None s a b t here end count to is placed x y z le fits counts = reco
       let first : a.position ≡ None = x.position ∙ ap (at_offset here) is in
       let second : b.position ≡ None = y.position ∙ ap (at_offset end) first in
       let third : t.position ≡ None = z.position ∙ ap (at_offset to) second in
-      placed ∙ ap remaining_from is ∙ ap (prepend (replicate count 0)) (sym (z.after_seek.from_position ∙ ap remaining_from third));
+      at_position ∙ ap remaining_from is ∙ ap (prepend (replicate count 0)) (sym (z.after_seek.from_position ∙ ap remaining_from third));
   same_counts = counts;
 }
-passed_from (Some p) s a b t here end count to is placed x y z le fits counts =
+skipped_from (Some p) s a b t here end count to is at_position x y z le fits counts =
     let stands : here ≡ p.offset + 0 = x.target p is in
     let first : a.position ≡ Some (record { all_bytes = p.all_bytes; offset = here }) = x.position ∙ ap (at_offset here) is in
     let second : b.position ≡ Some (record { all_bytes = p.all_bytes; offset = end }) = y.position ∙ ap (at_offset end) first in
@@ -47,14 +47,14 @@ passed_from (Some p) s a b t here end count to is placed x y z le fits counts =
       exact_len = length-take-le count (drop p.offset p.all_bytes) (omega (arith, length-drop p.offset p.all_bytes));
       same_source = three_stood s a b t x.after_seek y.after_seek z.after_seek;
       matches =
-          placed ∙ ap remaining_from is
+          at_position ∙ ap remaining_from is
           ∙ ap Some (sym (take-append-drop count (drop p.offset p.all_bytes)) ∙ ap (λ r. take count (drop p.offset p.all_bytes) ++ r) (drop-drop count p.offset p.all_bytes ∙ ap (λ n. drop n p.all_bytes) target))
           ∙ ap (prepend (take count (drop p.offset p.all_bytes))) (sym (z.after_seek.from_position ∙ ap remaining_from third));
       same_counts = counts;
     }
 
 pub skipped_by_seek : (s a b t : State) (here end count to : ℕ) → RemainsFromPosition s → SeekSucceeded s (Current (pos 0)) here a → SeekSucceeded a (End (pos 0)) end b → SeekSucceeded b (Start (here + count)) to t → here ≤ end → count ≤ end - here → SameCounts s t → SkippedBySeek s count t
-skipped_by_seek s a b t here end count to = passed_from s.position s a b t here end count to refl
+skipped_by_seek s a b t here end count to = skipped_from s.position s a b t here end count to refl
 
 -- the bytes are skipped if the result is true
 pub skipped_if : (old new : State) (count : ℕ) (passed : Bool) → passed ≡ true → SkipsBySeek old count (Ok passed) new → SkippedBySeek old count new

@@ -45,22 +45,22 @@ module _ {R : Type 0} (state : R → State) where
       let all = ap length (buffered_some state mid c.bytes c.header_peeked.pending_header) ∙ length-append c.bytes (buffered_in mid.reader) in
       let more = ap length s.buffer_content ∙ length-append (jit_buffered old) s.consumed_bytes in
       let there = header_there state old mid c.bytes c.header_peeked in
-      let head_held : 16 ≤ length (jit_buffered old) = omega (arith, buffered.min_size, buffered.complete) in
-      let size : header.total_size ≡ record_size_at (jit_endian old) (jit_buffered old) = ap (λ (h : JitDumpRecordHeader). h.total_size) (c.matches ∙ there.1) ∙ ap (record_size_at (jit_endian old)) s.buffer_content ∙ size_front (jit_endian old) (jit_buffered old) s.consumed_bytes head_held in
-      (omega (arith, buffered.complete, size, all, more, c.header_peeked.exact_len), head_held)
+      let header_buffered : 16 ≤ length (jit_buffered old) = omega (arith, buffered.min_size, buffered.complete) in
+      let size : header.total_size ≡ record_size_at (jit_endian old) (jit_buffered old) = ap (λ (h : JitDumpRecordHeader). h.total_size) (c.matches ∙ there.1) ∙ ap (record_size_at (jit_endian old)) s.buffer_content ∙ size_front (jit_endian old) (jit_buffered old) s.consumed_bytes header_buffered in
+      (omega (arith, buffered.complete, size, all, more, c.header_peeked.exact_len), header_buffered)
 
   -- a call for a buffered record fails only if a seek has failed before
   pub buffered_checked : (old new : JitDumpReader R) (e : Error) → HasWholeRecord (jit_endian old) (jit_offset old) (jit_buffered old) → jit_seek_failed old ≡ false → PeeksValidHeader state old (Err e) new → ⊥
   buffered_checked old new e buffered found error =
-      let head_held : 16 ≤ length (jit_buffered old) = omega (arith, buffered.min_size, buffered.complete) in
+      let header_buffered : 16 ≤ length (jit_buffered old) = omega (arith, buffered.min_size, buffered.complete) in
       elim error [
         | inl size ↦
             let s = size.keeps_position in
-            let same : record_size_at (jit_endian old) (jit_buffered new) ≡ record_size_at (jit_endian old) (jit_buffered old) = ap (record_size_at (jit_endian old)) s.buffer_content ∙ size_front (jit_endian old) (jit_buffered old) s.consumed_bytes head_held in
+            let same : record_size_at (jit_endian old) (jit_buffered new) ≡ record_size_at (jit_endian old) (jit_buffered old) = ap (record_size_at (jit_endian old)) s.buffer_content ∙ size_front (jit_endian old) (jit_buffered old) s.consumed_bytes header_buffered in
             elim size.invalid_size.cause [ inl small ↦ omega (arith, small, same, buffered.min_size) | inr far ↦ omega (arith, far, same, buffered.end_fits) ]
         | inr other ↦ elim other [
-          | inl header ↦ omega (arith, header.too_few, ap length header.keeps_position.buffer_content, length-append (jit_buffered old) header.keeps_position.consumed_bytes, head_held)
-          | inr lost ↦ let gone = lost.seek_failed in cc
+          | inl header ↦ omega (arith, header.too_few, ap length header.keeps_position.buffer_content, length-append (jit_buffered old) header.keeps_position.consumed_bytes, header_buffered)
+          | inr seek_lost ↦ let gone = seek_lost.seek_failed in cc
         ]
       ]
 
@@ -78,10 +78,10 @@ module _ {R : Type 0} (state : R → State) where
       let still : jit_source_state state new ≡ jit_source_state state mid = ap state after.source in
       let rest : jit_buffered new ≡ buffered_in new.reader = ap (λ k. pending_header_bytes k ++ buffered_in new.reader) none in
       let bytes = h.bytes ++ part in
-      let cut : jit_buffered mid ≡ bytes ++ jit_buffered new =
+      let split : jit_buffered mid ≡ bytes ++ jit_buffered new =
       buffered_some state mid h.bytes h.pending_header ∙ ap (λ l. h.bytes ++ l) (sym (take-append-drop n buffered) ∙ ap₂ (λ a b. a ++ b) (sym body) (sym after.buffered_bytes))
       ∙ sym (append_assoc h.bytes part (buffered_in new.reader)) ∙ ap (λ l. bytes ++ l) (sym rest) in
-      let all : length (jit_buffered mid) ≡ length bytes + length (jit_buffered new) = ap length cut ∙ length-append bytes (jit_buffered new) in
+      let all : length (jit_buffered mid) ≡ length bytes + length (jit_buffered new) = ap length split ∙ length-append bytes (jit_buffered new) in
       record {
         bytes = bytes;
         matches = record {
@@ -103,7 +103,7 @@ module _ {R : Type 0} (state : R → State) where
         offset = omega (arith, offset, s.offset, one.0);
         consumed_bytes = s.consumed_bytes;
         consumes = rw still s.consumes;
-        buffer_content = sym s.buffer_content ∙ cut;
+        buffer_content = sym s.buffer_content ∙ split;
         source_unchanged = λ is. after.source ∙ h.source_unchanged is;
         same_counts = rw still h.same_counts;
         reads_for =

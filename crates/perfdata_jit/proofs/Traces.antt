@@ -26,20 +26,20 @@ module _ {R : Type 0} (state : R → State) where
   kept_lost : {A : Type 0} (old new : JitDumpReader R) → jit_seek_failed old ≡ true → new ≡ old → jit_seek_failed new ≡ false → A
   kept_lost old new gone same found = let back : jit_seek_failed new ≡ jit_seek_failed old = ap (λ j. jit_seek_failed j) same in absurd cc
 
-  kept_head : (old new : JitDumpReader R) (result : Result (Option JitDumpRecordHeader) Error) → ReturnsHeader state (λ header. header) old result new → jit_seek_failed new ≡ false → Kept old new
-  kept_head old new (Ok (Some record_header)) h found = kept_by old new h.keeps_position
-  kept_head old new (Ok None) h found = kept_by old new h.keeps_position
-  kept_head old new (Err e) h found = elim h [ inl error ↦ kept_by old new error.keeps_position | inr lost ↦ kept_lost old new lost.seek_failed lost.unchanged found ]
+  header_kept : (old new : JitDumpReader R) (result : Result (Option JitDumpRecordHeader) Error) → ReturnsHeader state (λ header. header) old result new → jit_seek_failed new ≡ false → Kept old new
+  header_kept old new (Ok (Some record_header)) h found = kept_by old new h.keeps_position
+  header_kept old new (Ok None) h found = kept_by old new h.keeps_position
+  header_kept old new (Err e) h found = elim h [ inl error ↦ kept_by old new error.keeps_position | inr seek_lost ↦ kept_lost old new seek_lost.seek_failed seek_lost.unchanged found ]
 
   kept : (old new : JitDumpReader R) → MakesNoProgress state old new → jit_seek_failed new ≡ false → Kept old new
   kept old new call found = elim call [
-    | inl header ↦ kept_head old new header.0 header.1 found
+    | inl header ↦ header_kept old new header.0 header.1 found
     | inr rest ↦ elim rest [
       | inl waits ↦ kept_by old new waits.keeps_position
       | inr rest2 ↦ elim rest2 [
-        | inl refuses ↦ elim refuses.1 [
+        | inl fails ↦ elim fails.1 [
           | inl size ↦ kept_by old new size.keeps_position
-          | inr other ↦ elim other [ inl part ↦ kept_by old new part.keeps_position | inr lost ↦ kept_lost old new lost.seek_failed lost.unchanged found ]
+          | inr other ↦ elim other [ inl part ↦ kept_by old new part.keeps_position | inr seek_lost ↦ kept_lost old new seek_lost.seek_failed seek_lost.unchanged found ]
         ]
         | inr rest3 ↦ elim rest3 [
           | inl skips ↦ elim skips [
@@ -48,7 +48,7 @@ module _ {R : Type 0} (state : R → State) where
           ]
           | inr fails ↦ elim fails.1 [
             | inl error ↦ elim error [ inl size ↦ kept_by old new size.keeps_position | inr header ↦ kept_by old new header.keeps_position ]
-            | inr other ↦ elim other [ inl loses ↦ (let gone = loses.seek_failed_after in absurd cc) | inr lost ↦ kept_lost old new lost.seek_failed lost.unchanged found ]
+            | inr other ↦ elim other [ inl loses ↦ (let gone = loses.seek_failed_after in absurd cc) | inr seek_lost ↦ kept_lost old new seek_lost.seek_failed seek_lost.unchanged found ]
           ]
         ]
       ]

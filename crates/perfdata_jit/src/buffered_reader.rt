@@ -83,7 +83,7 @@ impl<R: Source> BufferedReader<R> {
         }
         self.buffer.compact_overflow();
         'reads: while self.buffer.len() < count {
-            self.buffer.make_room()?;
+            self.buffer.make_free_space()?;
             let read_count = self.buffer.fill(&mut self.source)?;
             if read_count == 0 {
                 return Ok(false);

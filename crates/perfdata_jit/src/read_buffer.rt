@@ -79,7 +79,7 @@ impl ReadBuffer {
         ensures counts { CountsRead (R.state source.old) result (R.state source.new) }
         ensures same_loan { R.loan source.new ≡ R.loan source.old }
         ensures overflow { overflow_len self.new ≡ overflow_len self.old }
-        ensures room { overflow_capacity self.new ≡ overflow_capacity self.old }
+        ensures overflow_capacity { overflow_capacity self.new ≡ overflow_capacity self.old }
         ensures overflow_start { self.new.overflow_start ≡ self.old.overflow_start }
         ensures size { ring_capacity self.new ≡ ring_capacity self.old }
     {
@@ -91,7 +91,7 @@ impl ReadBuffer {
         ensures bytes { read_buffer_bytes self.new ≡ read_buffer_bytes self.old }
         ensures overflow { overflow_len self.new ≤ length (read_buffer_bytes self.old) }
         ensures shorter { overflow_len self.new ≤ overflow_len self.old }
-        ensures room { overflow_capacity self.new ≡ overflow_capacity self.old }
+        ensures overflow_capacity { overflow_capacity self.new ≡ overflow_capacity self.old }
         ensures overflow_start { self.new.overflow_start ≡ 0 }
         ensures size { ring_capacity self.new ≡ ring_capacity self.old }
     {
@@ -110,7 +110,7 @@ impl ReadBuffer {
         ensures overflow_empty { IsOverflowConsumed self.old → overflow_len self.new ≡ 0 }
         ensures overflow_consumed { IsOverflowConsumed self.old → IsOverflowConsumed self.new }
         ensures keeps_contiguous { (m : ℕ) → IsContiguous m self.old → IsContiguous m self.new }
-        ensures room { overflow_capacity self.new ≡ overflow_capacity self.old }
+        ensures overflow_capacity { overflow_capacity self.new ≡ overflow_capacity self.old }
         ensures size { ring_capacity self.new ≡ ring_capacity self.old }
     {
         if self.overflow_start == self.overflow.len() {
@@ -137,12 +137,12 @@ impl ReadBuffer {
     }
 
     // Moves the ring's bytes to the overflow buffer if the ring is full.
-    pub(crate) fn make_room(&mut self) -> std::result::Result<(), AllocError>
+    pub(crate) fn make_free_space(&mut self) -> std::result::Result<(), AllocError>
         requires { self.old.overflow_start ≡ 0 }
         ensures bytes { read_buffer_bytes self.new ≡ read_buffer_bytes self.old }
         ensures overflow { overflow_len self.new ≤ length (read_buffer_bytes self.old) }
         ensures fits { length (read_buffer_bytes self.old) < ring_capacity self.old → overflow_len self.new ≤ overflow_len self.old }
-        ensures room { OnOk result (ring_len self.new.ring < ring_capacity self.new) }
+        ensures free_space { OnOk result (ring_len self.new.ring < ring_capacity self.new) }
         ensures full { OnErr result (ring_capacity self.old ≤ length (read_buffer_bytes self.old)) }
         ensures unchanged { ring_len self.old.ring < ring_capacity self.old → self.new ≡ self.old }
         ensures no_allocation { length (read_buffer_bytes self.old) < ring_capacity self.old → overflow_capacity self.new ≡ overflow_capacity self.old }
@@ -190,13 +190,13 @@ impl ReadBuffer {
         }
         let to = self.overflow.len();
         self.overflow_start = to;
-        let (start, end, front) = self.ring.advance(n - remaining);
+        let (ring_start, ring_end, ring_front) = self.ring.advance(n - remaining);
         Span {
             overflow_from: from,
             overflow_to: to,
-            ring_start: start,
-            ring_end: end,
-            ring_front: front,
+            ring_start,
+            ring_end,
+            ring_front,
         }
     }
 

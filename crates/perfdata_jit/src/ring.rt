@@ -44,7 +44,7 @@ impl Ring {
         ensures value { result ≡ ring_len self.now }
         ensures bytes { length (ring_bytes self.now) ≡ result }
         ensures bound { result ≤ ring_size self.now }
-        ensures room { 0 < ring_size self.now }
+        ensures nonempty { 0 < ring_size self.now }
         ensures small { result < 2 ^ 63 }
     {
         self.end - self.start + self.front

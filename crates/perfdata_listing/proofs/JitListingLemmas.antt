@@ -4,7 +4,6 @@ use Rattle.std.specs.Prelude.{IfSome}
 use Rattle.std.specs.Option.{option_map}
 use Rattle.std.specs.List.{concat}
 use Rattle.std.proofs.lemmas.List.{append-nil, length-take-le}
-use Rattle.std.proofs.lemmas.List.Folds.{concat-append}
 use Rattle.std.proofs.Math.Seq.{drop-append_seam}
 use Rattle.std.specs.Io.KnownBytes.{Appends, Keeps}
 use Rattle.std.proofs.KnownBytes.{Appends-trans, Appends-nil, Appends-kept}
@@ -20,6 +19,7 @@ use Rattle.perfdata_jit.specs.declared.header.JitDumpHeader.{JitDumpHeader}
 use Rattle.perfdata_jit.specs.declared.jitdump_reader.JitDumpReader.{JitDumpReader}
 use Rattle.perfdata_jit.specs.declared.record.JitDumpRawRecord.{JitDumpRawRecord}
 use Rattle.perfdata_jit.specs.declared.record.JitDumpRecordHeader.{JitDumpRecordHeader}
+use Rattle.perfdata_jit.proofs.ConsecutiveRecords.{concat-snoc, records-snoc}
 use Rattle.perfdata_jit.proofs.JitHeaders.{header_longer}
 use Rattle.std.specs.declared.io.Error.{Error}
 use Rattle.std.specs.IoError.{error_kind}
@@ -43,13 +43,6 @@ module _ (endian : Endianness) where
       ∙ sym (append_assoc (jit_line endian offset raw) (jit_lines endian (offset + length raw) raw_records) (jit_line endian ((offset + length raw) + length (concat raw_records)) next))
       ∙ ap (λ n. (jit_line endian offset raw ++ jit_lines endian (offset + length raw) raw_records) ++ jit_line endian n next) sum
 
-  -- one more record
-  records-snoc : (offset : ℕ) (raw_records : List (List ℕ)) (next : List ℕ) → AreRecords endian offset raw_records → IsOneRecord endian (offset + length (concat raw_records)) next → AreRecords endian offset (raw_records ++ next ∷ [])
-  records-snoc offset [] next are is = (subst (λ n. IsOneRecord endian n next) (let e : offset + 0 ≡ offset = omega arith in e) is, tt)
-  records-snoc offset (raw ∷ raw_records) next are is =
-      let sum : offset + length (raw ++ concat raw_records) ≡ (offset + length raw) + length (concat raw_records) = omega (arith, length-append raw (concat raw_records)) in
-      (are.0, records-snoc (offset + length raw) raw_records next are.1 (subst (λ n. IsOneRecord endian n next) sum is))
-
   -- the line of a record is the line of its bytes
   pub raw_record_text-jit_line : (offset : ℕ) (raw : List ℕ) (r : JitDumpRawRecord) → IsRecordOf endian offset raw r → raw_record_text r ≡ jit_line endian offset raw
   raw_record_text-jit_line offset raw r is =
@@ -66,9 +59,6 @@ newline_count-jit_lines endian offset [] = refl
 newline_count-jit_lines endian offset (raw ∷ raw_records) =
     let one = newline_count-jit_record_text offset (record_header_at endian raw).timestamp (record_header_at endian raw).record_type.0 (record_header_at endian raw).total_size in
     newline_count-append (jit_line endian offset raw) (jit_lines endian (offset + length raw) raw_records) ∙ omega (arith, one, newline_count-jit_lines endian (offset + length raw) raw_records)
-
-concat-snoc : (raw_records : List (List ℕ)) (next : List ℕ) → concat (raw_records ++ next ∷ []) ≡ concat raw_records ++ next
-concat-snoc raw_records next = concat-append raw_records (next ∷ []) ∙ ap (λ l. concat raw_records ++ l) (append-nil next)
 
 prepend-nil : (b : Option (List ℕ)) → b ≡ prepend [] b
 prepend-nil None = refl
@@ -344,13 +334,13 @@ module _ {R : Type 0} (state : R → State) where
               (subst (λ n. HasNoWholeRecord (jit_endian j) n (jit_buffered new)) (next_offset new listed.raw_records had) (subst (λ q. HasNoWholeRecord q (jit_offset new) (jit_buffered new)) had.same_endian listed.no_whole_record))
               (none_or_paused (jit_source_state state j) (jit_source_state state new) listed.ended_or_paused);
         }
-    lists_jit new before after (Err fault) listed = jit_listing_fails new before after fault.lines fault.cause listed
+    lists_jit new before after (Err error) listed = jit_listing_fails new before after error.lines error.cause listed
 
     -- a file is opened, and its records are listed live
     pub live_jit : (new : JitDumpReader R) (before after : Option (List ℕ)) (r : Result ℕ ListFault) → ListsLiveJitRecords state j before r after new → ListsLiveJit state source size before r after
     live_jit new before after (Ok lines) listed = lists_jit new before after (Ok lines) listed
-    live_jit new before after (Err fault) (inl stops) = inl (jit_listing_fails new before after fault.lines fault.cause stops)
-    live_jit new before after (Err fault) (inr (failed, listed)) = inr (
+    live_jit new before after (Err error) (inl stops) = inl (jit_listing_fails new before after error.lines error.cause stops)
+    live_jit new before after (Err error) (inr (failed, listed)) = inr (
       failed,
       record {
         endian = jit_endian j;

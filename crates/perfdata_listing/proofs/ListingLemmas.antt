@@ -137,9 +137,9 @@ module _ {R : Type 0} (state : R → State) where
     appends = listed.appends;
     source_after = iter_source_state state new;
     cause = inr (
-      if_some_each old.position (λ p. FileOpensAt state p file it) (λ p. HoldsForFile p (λ Come. AreFirstRecords Come listed.records)) (λ p opened. first_in_file state p file it opened o.at_first_record.represents listed.records listed.prefix) o.file_opened,
+      if_some_each old.position (λ p. FileOpensAt state p file it) (λ p. HoldsForFile p (λ Remaining. AreFirstRecords Remaining listed.records)) (λ p opened. first_in_file state p file it opened o.at_first_record.represents listed.records listed.prefix) o.file_opened,
       λ other. elim (listed.cause other) [
-        | inl ends ↦ inl (if_some_each old.position (λ p. FileOpensAt state p file it) (λ p. HoldsForFile p (λ Come. (f : LayoutError) × Come listed.records (ends_with_error f) × IsErrorFor f e)) (λ p opened. error_in_file state p file it opened o.at_first_record.represents listed.records e ends) o.file_opened)
+        | inl ends ↦ inl (if_some_each old.position (λ p. FileOpensAt state p file it) (λ p. HoldsForFile p (λ Remaining. (f : LayoutError) × Remaining listed.records (ends_with_error f) × IsErrorFor f e)) (λ p opened. error_in_file state p file it opened o.at_first_record.represents listed.records e ends) o.file_opened)
         | inr owes ↦ inr (file_source_error state old file it new e o owes)
       ],
     );
@@ -149,7 +149,7 @@ module _ {R : Type 0} (state : R → State) where
     next = listed.next;
     count = listed.count;
     wrote = listed.wrote;
-    prefix = if_some_each old.position (λ p. FileOpensAt state p file it) (λ p. HoldsForFile p (λ Come. AreFirstRecords Come (listed.records ++ listed.next ∷ []))) (λ p opened. first_in_file state p file it opened o.at_first_record.represents (listed.records ++ listed.next ∷ []) listed.prefix) o.file_opened;
+    prefix = if_some_each old.position (λ p. FileOpensAt state p file it) (λ p. HoldsForFile p (λ Remaining. AreFirstRecords Remaining (listed.records ++ listed.next ∷ []))) (λ p opened. first_in_file state p file it opened o.at_first_record.represents (listed.records ++ listed.next ∷ []) listed.prefix) o.file_opened;
   }
   listing_fails old file it new before after lines (Jit e) o listed = elim listed [ ]
   listing_fails old file it new before after lines (Read e) o listed = elim listed [ ]
@@ -160,10 +160,10 @@ module _ {R : Type 0} (state : R → State) where
     records = listed.records;
     count = listed.count;
     appends = listed.appends;
-    complete = if_some_each old.position (λ p. FileOpensAt state p file it) (λ p. HoldsForFile p (λ Come. Come listed.records ends_complete))
+    complete = if_some_each old.position (λ p. FileOpensAt state p file it) (λ p. HoldsForFile p (λ Remaining. Remaining listed.records ends_complete))
         (λ p opened. (file, (opened.header, opened.describes, opened.iter_to_file listed.records ends_complete (whole_in_file state old file it new listed.records o (listed.complete o.at_first_record.stage_running) (attributes_of_file file) o.at_first_record.represents)))) o.file_opened;
   }
-  lists_file old file file' it new before after (Err fault) o listed = listing_fails old file it new before after fault.lines fault.cause o listed
+  lists_file old file file' it new before after (Err error) o listed = listing_fails old file it new before after error.lines error.cause o listed
 
 -- opening a file fails
 pub file_open_error : (old : State) (e : Error) (out : Option (List ℕ)) → FileParseError old e → ListedFileUntilError old out out 0 e

@@ -35,30 +35,30 @@ newline_count-space_separated : (field rest : List ℕ) → newline_count field 
 newline_count-space_separated field rest none = newline_count-append field (32 ∷ rest) ∙ omega (arith, none)
 
 -- a record's line contains one newline
-pub newline_count-record_text : (offset round : ℕ) (time attr : Option ℕ) (kind misc body_length : ℕ) → newline_count (record_text offset round time attr kind misc body_length) ≡ 1
-newline_count-record_text offset round time attr kind misc body_length =
+pub newline_count-record_text : (offset round : ℕ) (time attr : Option ℕ) (record_type misc body_length : ℕ) → newline_count (record_text offset round time attr record_type misc body_length) ≡ 1
+newline_count-record_text offset round time attr record_type misc body_length =
     let at_length = decimal body_length ++ (10 ∷ []) in
     let at_misc = space_separated (decimal misc) at_length in
-    let at_kind = space_separated (decimal kind) at_misc in
-    let at_attr = space_separated (decimal_or_dash attr) at_kind in
+    let at_record_type = space_separated (decimal record_type) at_misc in
+    let at_attr = space_separated (decimal_or_dash attr) at_record_type in
     let at_time = space_separated (decimal_or_dash time) at_attr in
     let at_round = space_separated (decimal round) at_time in
     newline_count-space_separated (decimal offset) at_round (newline_count-decimal offset) ∙ newline_count-space_separated (decimal round) at_time (newline_count-decimal round)
-    ∙ newline_count-space_separated (decimal_or_dash time) at_attr (newline_count-decimal_or_dash time) ∙ newline_count-space_separated (decimal_or_dash attr) at_kind (newline_count-decimal_or_dash attr)
-    ∙ newline_count-space_separated (decimal kind) at_misc (newline_count-decimal kind) ∙ newline_count-space_separated (decimal misc) at_length (newline_count-decimal misc)
+    ∙ newline_count-space_separated (decimal_or_dash time) at_attr (newline_count-decimal_or_dash time) ∙ newline_count-space_separated (decimal_or_dash attr) at_record_type (newline_count-decimal_or_dash attr)
+    ∙ newline_count-space_separated (decimal record_type) at_misc (newline_count-decimal record_type) ∙ newline_count-space_separated (decimal misc) at_length (newline_count-decimal misc)
     ∙ newline_count-append (decimal body_length) (10 ∷ []) ∙ ap (λ n. n + 1) (newline_count-decimal body_length)
 
 pub newline_count-record_line : (h : RecordView) → newline_count (record_line h) ≡ 1
 newline_count-record_line h = newline_count-record_text h.offset h.round h.timestamp (option_map (λ e. e.index) h.event) h.record_type h.misc (length h.body)
 
 -- the line of a jitdump record contains one newline
-pub newline_count-jit_record_text : (offset time kind size : ℕ) → newline_count (jit_record_text offset time kind size) ≡ 1
-newline_count-jit_record_text offset time kind size =
+pub newline_count-jit_record_text : (offset time record_type size : ℕ) → newline_count (jit_record_text offset time record_type size) ≡ 1
+newline_count-jit_record_text offset time record_type size =
     let at_size = decimal size ++ (10 ∷ []) in
-    let at_kind = space_separated (decimal kind) at_size in
-    let at_time = space_separated (decimal time) at_kind in
-    newline_count-space_separated (decimal offset) at_time (newline_count-decimal offset) ∙ newline_count-space_separated (decimal time) at_kind (newline_count-decimal time)
-    ∙ newline_count-space_separated (decimal kind) at_size (newline_count-decimal kind) ∙ newline_count-append (decimal size) (10 ∷ []) ∙ ap (λ n. n + 1) (newline_count-decimal size)
+    let at_record_type = space_separated (decimal record_type) at_size in
+    let at_time = space_separated (decimal time) at_record_type in
+    newline_count-space_separated (decimal offset) at_time (newline_count-decimal offset) ∙ newline_count-space_separated (decimal time) at_record_type (newline_count-decimal time)
+    ∙ newline_count-space_separated (decimal record_type) at_size (newline_count-decimal record_type) ∙ newline_count-append (decimal size) (10 ∷ []) ∙ ap (λ n. n + 1) (newline_count-decimal size)
 
 -- the lines of records contain one newline for each record
 pub newline_count-record_lines : (hs : List RecordView) → newline_count (flat_map record_line hs) ≡ length hs

@@ -122,11 +122,11 @@ module _ {R : Type 0} (state : R → State) (old : State) (file : PerfFile) (it 
 
   pub live_pipe : (new : PerfRecordIter R) (file' : PerfFile) (before after : Option (List ℕ)) (r : Result ℕ ListFault) → ListsLiveRecords state it file before r after new file' → ListsLivePipe old before r after
   live_pipe new file' before after (Ok lines) l = (file', lists_pipe new file' before after lines l)
-  live_pipe new file' before after (Err fault) (inl failed) = inl (lists_pipe_until_error new before after fault.lines fault.cause failed)
-  live_pipe new file' before after (Err fault) (inr listed) = inr (
+  live_pipe new file' before after (Err error) (inl failed) = inl (lists_pipe_until_error new before after error.lines error.cause failed)
+  live_pipe new file' before after (Err error) (inr listed) = inr (
     listed.0,
     elim o.end_of_opening [
-      | inl k ↦ pipe_until_flush_error before after fault.lines k listed.1
+      | inl k ↦ pipe_until_flush_error before after error.lines k listed.1
       | inr ended ↦ (let r = listed.1.was_running in let s = ended.stage_ended in absurd cc)
     ],
   )

@@ -132,12 +132,12 @@ module _ {R : Type 0} (state : R → State) where
   -- what a listing of a reader's records does
   abbrev pub ListsJitRecords : JitDumpReader R → Option (List ℕ) → Result ℕ ListFault → Option (List ℕ) → JitDumpReader R → Type 0
   ListsJitRecords old before (Ok lines) after new = ListedJitRecords old before after lines new
-  ListsJitRecords old before (Err fault) after new = JitRecordListingFails old before after fault.lines fault.cause new
+  ListsJitRecords old before (Err error) after new = JitRecordListingFails old before after error.lines error.cause new
 
   -- the same for a live input, except that the flush of its lines may also fail
   abbrev pub ListsLiveJitRecords : JitDumpReader R → Option (List ℕ) → Result ℕ ListFault → Option (List ℕ) → JitDumpReader R → Type 0
   ListsLiveJitRecords old before (Ok lines) after new = ListedJitRecords old before after lines new
-  ListsLiveJitRecords old before (Err fault) after new = JitRecordListingFails old before after fault.lines fault.cause new ⊎ (IsWrite fault.cause × ListedJitRecordsUntilFlushError old before after fault.lines new)
+  ListsLiveJitRecords old before (Err error) after new = JitRecordListingFails old before after error.lines error.cause new ⊎ (IsWrite error.cause × ListedJitRecordsUntilFlushError old before after error.lines new)
 
 -- the call for the next record may block only without pending bytes: either the record is buffered, or there are none
 abbrev pub MayBlock : {R : Type 0} → JitDumpReader R → List ℕ → Type 0
@@ -205,9 +205,9 @@ module _ {R : Type 0} (state : R → State) (source : R) (size : ℕ) where
   -- what a listing of a jitdump file does
   abbrev pub ListsJit : Option (List ℕ) → Result ℕ ListFault → Option (List ℕ) → Type 0
   ListsJit before (Ok lines) after = ListedJit before after lines
-  ListsJit before (Err fault) after = JitListingFails before after fault.lines fault.cause
+  ListsJit before (Err error) after = JitListingFails before after error.lines error.cause
 
   -- what a listing of a live jitdump does: the same, except that the flush of its lines may also fail
   abbrev pub ListsLiveJit : Option (List ℕ) → Result ℕ ListFault → Option (List ℕ) → Type 0
   ListsLiveJit before (Ok lines) after = ListedJit before after lines
-  ListsLiveJit before (Err fault) after = JitListingFails before after fault.lines fault.cause ⊎ (IsWrite fault.cause × ListedJitUntilFlushError before after fault.lines)
+  ListsLiveJit before (Err error) after = JitListingFails before after error.lines error.cause ⊎ (IsWrite error.cause × ListedJitUntilFlushError before after error.lines)

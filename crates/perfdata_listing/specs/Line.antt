@@ -15,9 +15,9 @@ space_separated field rest = field ++ (32 ∷ rest)
 
 -- the line of a record: OFFSET ROUND TIME ATTR TYPE MISC BODYLEN
 abbrev pub record_text : ℕ → ℕ → Option ℕ → Option ℕ → ℕ → ℕ → ℕ → List ℕ
-record_text offset round time attr kind misc body_length =
+record_text offset round time attr record_type misc body_length =
     space_separated (decimal offset) (space_separated (decimal round) (space_separated (decimal_or_dash time) (space_separated (decimal_or_dash attr)
-    (space_separated (decimal kind) (space_separated (decimal misc) (decimal body_length ++ (10 ∷ [])))))))
+    (space_separated (decimal record_type) (space_separated (decimal misc) (decimal body_length ++ (10 ∷ [])))))))
 
 -- the line of a record that a reader returned
 abbrev pub record_line : RecordView → List ℕ
@@ -25,7 +25,7 @@ record_line h = record_text h.offset h.round h.timestamp (option_map (λ e. e.in
 
 -- the line of a jitdump record: OFFSET TIME TYPE SIZE
 abbrev pub jit_record_text : ℕ → ℕ → ℕ → ℕ → List ℕ
-jit_record_text offset time kind size = space_separated (decimal offset) (space_separated (decimal time) (space_separated (decimal kind) (decimal size ++ (10 ∷ []))))
+jit_record_text offset time record_type size = space_separated (decimal offset) (space_separated (decimal time) (space_separated (decimal record_type) (decimal size ++ (10 ∷ []))))
 
 -- the line of an error after `records` records
 abbrev pub error_text : ℕ → List ℕ

@@ -98,7 +98,7 @@ module _ {R : Type 0} (state : R → State) where
   -- what a listing of an iterator's records does
   abbrev pub ListsRecords : PerfRecordIter R → PerfFile → Option (List ℕ) → Result ℕ ListFault → Option (List ℕ) → PerfRecordIter R → PerfFile → Type 0
   ListsRecords old file before (Ok lines) after new file' = ListedAll old file before after lines new file'
-  ListsRecords old file before (Err fault) after new file' = ListingFails old before after fault.lines fault.cause new
+  ListsRecords old file before (Err error) after new file' = ListingFails old before after error.lines error.cause new
 
   -- the same for a live input, except that the flush of its lines may also fail
   abbrev pub LiveListingFails : PerfRecordIter R → Option (List ℕ) → Option (List ℕ) → ℕ → ListCause → PerfRecordIter R → Type 0
@@ -106,14 +106,14 @@ module _ {R : Type 0} (state : R → State) where
 
   abbrev pub ListsLiveRecords : PerfRecordIter R → PerfFile → Option (List ℕ) → Result ℕ ListFault → Option (List ℕ) → PerfRecordIter R → PerfFile → Type 0
   ListsLiveRecords old file before (Ok lines) after new file' = ListedAll old file before after lines new file'
-  ListsLiveRecords old file before (Err fault) after new file' = LiveListingFails old before after fault.lines fault.cause new
+  ListsLiveRecords old file before (Err error) after new file' = LiveListingFails old before after error.lines error.cause new
 
 -- all records of a file are listed, and its layout is complete
 pub record ListedFile (old : State) (before after : Option (List ℕ)) (lines : ℕ) : Type 0 where
   pub records : List RecordView
   pub count : lines ≡ length records
   pub appends : Appends before after (record_lines records)
-  pub complete : IfSome old.position (λ p. HoldsForFile p (λ Come. Come records ends_complete))
+  pub complete : IfSome old.position (λ p. HoldsForFile p (λ Remaining. Remaining records ends_complete))
 
 -- The first records of a file are listed, and then its reading fails: it doesn't open, and no record is listed; or after
 -- these records the layout ends with an error that this one reports; or the source failed or paused.
@@ -123,8 +123,8 @@ pub record ListedFileUntilError (old : State) (before after : Option (List ℕ))
   pub appends : Appends before after (record_lines records)
   pub source_after : State
   pub cause : ((records ≡ []) × (e ≢ Memory → IfSome old.position (λ p. IsFileError p e) ⊎ SourceErrorInOpening old e source_after))
-      ⊎ (IfSome old.position (λ p. HoldsForFile p (λ Come. AreFirstRecords Come records))
-      × (e ≢ Memory → IfSome old.position (λ p. HoldsForFile p (λ Come. (f : LayoutError) × Come records (ends_with_error f) × IsErrorFor f e)) ⊎ SourceErrorInFile old e source_after))
+      ⊎ (IfSome old.position (λ p. HoldsForFile p (λ Remaining. AreFirstRecords Remaining records))
+      × (e ≢ Memory → IfSome old.position (λ p. HoldsForFile p (λ Remaining. (f : LayoutError) × Remaining records (ends_with_error f) × IsErrorFor f e)) ⊎ SourceErrorInFile old e source_after))
 
 -- the first records of a file are listed, and a proper prefix of the next record's line is written
 pub record ListedFilePartOfNext (old : State) (before after : Option (List ℕ)) (lines : ℕ) : Type 0 where
@@ -132,7 +132,7 @@ pub record ListedFilePartOfNext (old : State) (before after : Option (List ℕ))
   pub next : RecordView
   pub count : lines ≡ length records
   pub wrote : WrotePrefix before after records next
-  pub prefix : IfSome old.position (λ p. HoldsForFile p (λ Come. AreFirstRecords Come (records ++ next ∷ [])))
+  pub prefix : IfSome old.position (λ p. HoldsForFile p (λ Remaining. AreFirstRecords Remaining (records ++ next ∷ [])))
 
 abbrev pub FileListingFails : State → Option (List ℕ) → Option (List ℕ) → ℕ → ListCause → Type 0
 FileListingFails old before after lines (Perf e) = ListedFileUntilError old before after lines e
@@ -142,4 +142,4 @@ FileListingFails old before after lines _ = ⊥
 -- what a listing of a file does
 abbrev pub ListsFile : State → Option (List ℕ) → Result ℕ ListFault → Option (List ℕ) → Type 0
 ListsFile old before (Ok lines) after = ListedFile old before after lines
-ListsFile old before (Err fault) after = FileListingFails old before after fault.lines fault.cause
+ListsFile old before (Err error) after = FileListingFails old before after error.lines error.cause

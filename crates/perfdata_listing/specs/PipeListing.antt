@@ -29,7 +29,7 @@ pub record ListedPipe (old : State) (before after : Option (List ℕ)) (lines : 
   pub count : lines ≡ length records
   pub appends : Appends before after (record_lines records)
   pub file_updated : HoldsAllMetadata endian metadata_records records file
-  pub first : IfSome old.bytes (λ bytes. HoldsForPipeRest endian metadata_records bytes (λ Come. AreFirstRecords Come records))
+  pub first : IfSome old.bytes (λ bytes. HoldsForPipeRest endian metadata_records bytes (λ Remaining. AreFirstRecords Remaining records))
   pub source_after : State
   pub complete : IfSome old.bytes (IsCompletePipe endian metadata_records records) ⊎ SourcePaused old source_after
 
@@ -41,8 +41,8 @@ pub record FailsAfterOpening (old : State) (records : List RecordView) (e : Erro
   pub pending_header : List ℕ
   pub opening : OpensWith endian metadata_records old (Some pending_header)
   pub source_after : State
-  pub first : IfSome old.bytes (λ bytes. HoldsForPipe endian metadata_records bytes (λ Come. AreFirstRecords Come records))
-  pub cause : e ≢ Memory → IfSome old.bytes (λ bytes. HoldsForPipe endian metadata_records bytes (λ Come. (f : LayoutError) × Come records (ends_with_error f) × IsErrorFor f e))
+  pub first : IfSome old.bytes (λ bytes. HoldsForPipe endian metadata_records bytes (λ Remaining. AreFirstRecords Remaining records))
+  pub cause : e ≢ Memory → IfSome old.bytes (λ bytes. HoldsForPipe endian metadata_records bytes (λ Remaining. (f : LayoutError) × Remaining records (ends_with_error f) × IsErrorFor f e))
       ⊎ SourceErrorInSomeRecord endian None (without_position old) e source_after
 
 -- Some records are listed, and then the reading of the pipe fails: in its opening, with no record listed, or after it.
@@ -62,7 +62,7 @@ pub record ListedPipePartOfNext (old : State) (before after : Option (List ℕ))
   pub next : RecordView
   pub count : lines ≡ length records
   pub wrote : WrotePrefix before after records next
-  pub first : IfSome old.bytes (λ bytes. HoldsForPipe endian metadata_records bytes (λ Come. AreFirstRecords Come (records ++ next ∷ [])))
+  pub first : IfSome old.bytes (λ bytes. HoldsForPipe endian metadata_records bytes (λ Remaining. AreFirstRecords Remaining (records ++ next ∷ [])))
 
 -- the first records of a pipe are listed, and then the flush of their lines before a possible wait fails
 pub record ListedPipeUntilFlushError (old : State) (before after : Option (List ℕ)) (lines : ℕ) : Type 0 where
@@ -73,7 +73,7 @@ pub record ListedPipeUntilFlushError (old : State) (before after : Option (List 
   pub records : List RecordView
   pub count : lines ≡ length records
   pub appends : Appends before after (record_lines records)
-  pub first : IfSome old.bytes (λ bytes. HoldsForPipe endian metadata_records bytes (λ Come. AreFirstRecords Come records))
+  pub first : IfSome old.bytes (λ bytes. HoldsForPipe endian metadata_records bytes (λ Remaining. AreFirstRecords Remaining records))
 
 abbrev pub PipeListingFails : State → Option (List ℕ) → Option (List ℕ) → ℕ → ListCause → Type 0
 PipeListingFails old before after lines (Perf e) = ListedPipeUntilError old before after lines e
@@ -83,14 +83,14 @@ PipeListingFails old before after lines _ = ⊥
 -- what reading a whole pipe does
 abbrev pub ListsPipeWithFile : State → Option (List ℕ) → Result (ℕ × PerfFile) ListFault → Option (List ℕ) → Type 0
 ListsPipeWithFile old before (Ok r) after = ListedPipe old before after r.0 r.1
-ListsPipeWithFile old before (Err fault) after = PipeListingFails old before after fault.lines fault.cause
+ListsPipeWithFile old before (Err error) after = PipeListingFails old before after error.lines error.cause
 
 -- what a listing of a pipe does
 abbrev pub ListsPipe : State → Option (List ℕ) → Result ℕ ListFault → Option (List ℕ) → Type 0
 ListsPipe old before (Ok lines) after = (file : PerfFile) × ListedPipe old before after lines file
-ListsPipe old before (Err fault) after = PipeListingFails old before after fault.lines fault.cause
+ListsPipe old before (Err error) after = PipeListingFails old before after error.lines error.cause
 
 -- what a listing of a live pipe does: the same, except that the flush of its lines may also fail
 abbrev pub ListsLivePipe : State → Option (List ℕ) → Result ℕ ListFault → Option (List ℕ) → Type 0
 ListsLivePipe old before (Ok lines) after = (file : PerfFile) × ListedPipe old before after lines file
-ListsLivePipe old before (Err fault) after = PipeListingFails old before after fault.lines fault.cause ⊎ (IsWrite fault.cause × ListedPipeUntilFlushError old before after fault.lines)
+ListsLivePipe old before (Err error) after = PipeListingFails old before after error.lines error.cause ⊎ (IsWrite error.cause × ListedPipeUntilFlushError old before after error.lines)

@@ -83,7 +83,7 @@ fn list_jit_records<R: Source, W: Write>(
 }
 
 /// Whether the next record, which has this size, is valid and completely buffered.
-fn holds_record<R: Source>(reader: &JitDumpReader<R>, size: u32) -> bool
+fn is_record_buffered<R: Source>(reader: &JitDumpReader<R>, size: u32) -> bool
     ensures { IsTrue result → (16 ≤ size) × (jit_offset reader.now + size < 2 ^ 64) × (size ≤ length (jit_buffered reader.now)) }
 {
     let offset = reader.next_record_offset();
@@ -106,7 +106,7 @@ fn is_next_buffered<R: Source>(reader: &mut JitDumpReader<R>) -> bool
         return false;
     }
     match reader.next_record_header() {
-        Ok(Some(header)) => holds_record(reader, header.total_size),
+        Ok(Some(header)) => is_record_buffered(reader, header.total_size),
         Ok(None) => false,
         Err(_) => false,
     }
@@ -119,7 +119,7 @@ fn flush_before_blocking<R: Source, W: FlushPending>(
 ) -> io::Result<()>
     requires found { jit_seek_failed reader.old ≡ false }
     ensures unread { ReadsNothing R.state reader.old reader.new }
-    ensures keeps { Keeps (W.contents out.old) (W.contents out.new) }
+    ensures contents_kept { Keeps (W.contents out.old) (W.contents out.new) }
     ensures flushed { OnOk result (MayBlock reader.new (W.pending out.new)) }
 {
     if is_next_buffered(reader) {

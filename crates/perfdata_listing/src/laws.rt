@@ -17,7 +17,7 @@ pub fn one_line_per_record()
 
 /// Each record of a jitdump file has one line, at any offset.
 pub fn one_line_per_jit_record()
-    ensures { (order : Endianness) (offset : ℕ) (pieces : List (List ℕ)) → newline_count (jit_lines order offset pieces) ≡ length pieces }
+    ensures { (endian : Endianness) (offset : ℕ) (records : List (List ℕ)) → newline_count (jit_lines endian offset records) ≡ length records }
 {}
 
 /// Two consecutive calls on a `CountingBufWriter` have the effect of one call with the bytes of both. The count of the

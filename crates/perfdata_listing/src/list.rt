@@ -138,7 +138,7 @@ fn flush_before_blocking<R: Source, W: FlushPending>(
     iter: &PerfRecordIter<R>,
     out: &mut W,
 ) -> io::Result<()>
-    ensures keeps { Keeps (W.contents out.old) (W.contents out.new) }
+    ensures contents_kept { Keeps (W.contents out.old) (W.contents out.new) }
     ensures flushed { OnOk result (MayBlock R.state iter.now (W.pending out.new)) }
     ensures on_error { OnErr result (¬ IsFinished R.state iter.now) }
 {

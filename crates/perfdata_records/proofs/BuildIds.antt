@@ -56,7 +56,7 @@ module _ (number : ℕ → List ℕ → ℕ) (first : ReadsFirst number) where
 
   -- the build id can't be allocated
   pub entry_header_some : (a b : State) (fixed : List ℕ) → length fixed ≡ 36 → Consumed a fixed b → PartPartlyRead (IsPrefixOfBuildIdEntry number) a b
-  entry_header_some a b fixed long consumed = record { bytes = fixed; is_truncated = λ enough. omega (arith, long); consumes = consumed }
+  entry_header_some a b fixed long consumed = record { bytes = fixed; is_truncated = (omega (arith, long), omega (arith, long)); consumes = consumed }
 
   -- the size is in the first 36 bytes
   size_in : (fixed body : List ℕ) → length fixed ≡ 36 → number 2 (drop 6 (fixed ++ body)) ≡ number 2 (drop 6 fixed)
@@ -66,7 +66,10 @@ module _ (number : ℕ → List ℕ → ℕ) (first : ReadsFirst number) where
       → ReadsBuildIdEvent number a (Err error) c
   entry_path_error a b c fixed count Memory long says before partial = record {
     bytes = fixed ++ partial.consumed_bytes;
-    is_truncated = λ enough. let size = size_in fixed partial.consumed_bytes long in let less = partial.too_few in omega (arith, size, less, says, long, length-append fixed partial.consumed_bytes);
+    is_truncated = (
+      omega (arith, long, length-append fixed partial.consumed_bytes),
+      let size = size_in fixed partial.consumed_bytes long in let less = partial.too_few in omega (arith, size, less, says, long, length-append fixed partial.consumed_bytes),
+    );
     consumes = consumed_more a b c fixed partial.consumed_bytes before partial.consumes;
   }
   entry_path_error a b c fixed count (Source e) long says before read_error =

@@ -69,11 +69,11 @@ module _ (number : ℕ → List ℕ → ℕ) where
   abbrev pub IsTruncatedBuildIdEntry : List ℕ → Type 0
   IsTruncatedBuildIdEntry xs = 36 ≤ length xs → length xs < entry_size xs
 
-  -- `xs` is a prefix of an entry, or a whole entry.
+  -- `xs` is a prefix of an entry that contains the part before the path, or a whole entry.
   abbrev pub IsPrefixOfBuildIdEntry : List ℕ → Type 0
-  IsPrefixOfBuildIdEntry xs = 36 ≤ length xs → length xs ≤ entry_size xs
+  IsPrefixOfBuildIdEntry xs = (36 ≤ length xs) × (length xs ≤ entry_size xs)
 
-  -- What reading an entry does. `Memory` reports an allocation failure.
+  -- What reading an entry does. `Memory` reports an allocation failure, which follows the part before the path.
   abbrev pub ReadsBuildIdEvent : State → Result BuildIdEvent AppendError → State → Type 0
   ReadsBuildIdEvent old (Ok e) new = PartRead IsBuildIdEvent old e new
   ReadsBuildIdEvent old (Err Memory) new = PartPartlyRead IsPrefixOfBuildIdEntry old new

@@ -1,4 +1,5 @@
 pub mod UserRecordType
+pub mod UserTypeNames
 pub mod FileRecord
 pub mod Auxtrace
 pub mod Thread

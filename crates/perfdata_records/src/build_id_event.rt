@@ -3,6 +3,7 @@ ghost use Rattle.std.specs.Prelude.{◌≡◌, length};
 ghost use Rattle.perfdata_base.specs.Source.{State, PausesOnlyOnError};
 ghost use Rattle.perfdata_records.specs.BuildIdEvent.{IsWithoutZeroGroups, IsBuildIdIn, ReadsBuildIdEvent, ReadsFirstEntry, ParsesBuildIdEvent};
 ghost use Rattle.perfdata_sections.specs.HeaderString.{before_nul};
+ghost use Rattle.perfdata_sections.specs.ParsedPart.{NoPauseIfOutOfMemory};
 
 use byteorder::{BigEndian, LittleEndian};
 use perfdata_base::event::PerfEventHeader;
@@ -86,6 +87,7 @@ impl BuildIdEvent {
     ) -> Result<BuildIdEvent, AppendError>
         ensures reads { ReadsBuildIdEvent T.number_of (R.state source.old) result (R.state source.new) }
         ensures pauses { PausesOnlyOnError (R.state source.old) result (R.state source.new) }
+        ensures memory { NoPauseIfOutOfMemory (R.state source.old) result (R.state source.new) }
         ensures same_loan { R.loan source.new ≡ R.loan source.old }
     {
         let mut bytes = [0u8; FIXED_SIZE];

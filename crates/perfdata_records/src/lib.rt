@@ -5,6 +5,7 @@ pub mod auxtrace;
 pub mod build_id_event;
 pub mod dso_info;
 pub mod dso_key;
+pub mod laws;
 pub mod record;
 pub mod thread_map;
 pub mod user_record;

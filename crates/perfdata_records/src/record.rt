@@ -1,5 +1,7 @@
 //! Records as the reader returns them, and the types of the records that tools write.
-ghost use Rattle.std.specs.Prelude.{◌≡◌, ◌≤◌, IsSome, IfSome, ◌↔◌};
+ghost use Rattle.std.specs.Prelude.{◌≡◌, ◌≤◌, IsSome, IfSome, ◌↔◌, Some};
+ghost use Rattle.std.specs.Option.{option_map};
+ghost use Rattle.perfdata_records.specs.UserTypeNames.{user_type_name, user_type_text};
 
 pub use crate::user_record::{HeaderAttr, HeaderFeature, RawUserRecord, UserRecord};
 use perfdata_base::event::{RawEventRecord, RecordType};
@@ -192,7 +194,10 @@ impl From<UserRecordType> for RecordType {
 }
 
 // Returns the name of a type's constant, for the types that perf and simpleperf write.
-fn type_name_of(number: u32) -> Option<&'static str> {
+#[tactic(auto, unfolding(crate::specs::UserTypeNames::user_type_name))]
+fn type_name_of(number: u32) -> Option<&'static str>
+    ensures { option_map (λ s. s.now) result ≡ user_type_name number }
+{
     match number {
         PERF_RECORD_HEADER_ATTR => Some("PERF_HEADER_ATTR"),
         PERF_RECORD_HEADER_EVENT_TYPE => Some("PERF_HEADER_EVENT_TYPE"),
@@ -227,6 +232,10 @@ fn type_name_of(number: u32) -> Option<&'static str> {
 }
 
 impl fmt::Debug for UserRecordType {
+    ghost use Rattle.perfdata_records.specs.UserRecordType.{user_type_number};
+
+    ghost debug_output = { λ t. Some (user_type_text (user_type_number t)) };
+
     fn fmt<W: fmt::Write>(&self, f: &mut fmt::Formatter<W>) -> fmt::Result {
         let number = self.record_type().0;
         match type_name_of(number) {

@@ -104,14 +104,23 @@ module _ (number : ℕ → List ℕ → ℕ) (first : ReadsFirst number) where
   name_and_ids_header_truncated a b e truncated = stopped_at_once (IsTruncatedNameAndIds number) a b 4 e truncated (λ part too_few. inl too_few)
 
   pub name_and_ids_name_error : (a b c : State) (header : List ℕ) (error : AppendError) → length header ≡ 4 → Consumed a header b → ReadsHeaderString number b (Err error) c → ReadsNameAndIds number a (Err error) c
-  name_and_ids_name_error a b c header NoMemory long before some = (header ++ some.bytes, consumed_more a b c header some.bytes before some.consumes)
+  name_and_ids_name_error a b c header NoMemory long before some = record {
+    bytes = header ++ some.bytes;
+    is_truncated = let enough = some.is_truncated.0 in omega (arith, long, enough, length-append header some.bytes);
+    consumes = consumed_more a b c header some.bytes before some.consumes;
+  }
   name_and_ids_name_error a b c header (Source e) long before truncated = read_error_after (IsTruncatedNameAndIds number) (IsTruncatedString number) a b c header e before truncated (λ part short.
       inr (inl (omega (arith, length-append header part), subst (IsTruncatedString number) (sym (drop_front 4 header part long)) short)))
 
   pub name_and_ids_ids_error : (a b c d : State) (header : List ℕ) (name : Option (List ℕ)) (count : ℕ) (error : AppendError) → length header ≡ 4 → count ≡ number 4 header → Consumed a header b → PartRead (IsHeaderStringOf number) b name c
       → ReadsIds number count c (Err error) d → ReadsNameAndIds number a (Err error) d
   name_and_ids_ids_error a b c d header name count NoMemory long says before was_read some =
-      (header ++ (was_read.bytes ++ some.bytes), consumed_more a b d header (was_read.bytes ++ some.bytes) before (consumed_more b c d was_read.bytes some.bytes was_read.consumes some.consumes))
+      let name_long = was_read.matches.0.0 in
+      record {
+        bytes = header ++ (was_read.bytes ++ some.bytes);
+        is_truncated = omega (arith, long, name_long, length-append header (was_read.bytes ++ some.bytes), length-append was_read.bytes some.bytes);
+        consumes = consumed_more a b d header (was_read.bytes ++ some.bytes) before (consumed_more b c d was_read.bytes some.bytes was_read.consumes some.consumes);
+      }
   name_and_ids_ids_error a b c d header name count (Source e) long says before was_read truncated =
       let less = truncated.too_few in
       record {
@@ -239,7 +248,7 @@ module _ (number : ℕ → List ℕ → ℕ) (first : ReadsFirst number) where
 
     pub event_truncated : (a b c : State) (attr : PerfEventAttr) (error : AppendError) (e : Error) → PaddedFrameRead number attr_size a attr b → ReadsNameAndIds number b (Err error) c → e ≡ file_error_of error
         → AfterSeek a c × (e ≢ Memory → EventReadError number attr_size a e c)
-    event_truncated a b c attr NoMemory e passed some is = (after_seek_more a b c passed.after_seek (consumed-after_seek b c some.0 passed.after_seek.from_position some.1), λ ne. absurd (ne is))
+    event_truncated a b c attr NoMemory e passed some is = (after_seek_more a b c passed.after_seek (consumed-after_seek b c some.bytes passed.after_seek.from_position some.consumes), λ ne. absurd (ne is))
     event_truncated a b c attr (Source error) e passed truncated is =
         subst (λ e. AfterSeek a c × (e ≢ Memory → EventReadError number attr_size a e c)) (sym is) (
           after_seek_more a b c passed.after_seek (consumed-after_seek b c truncated.bytes passed.after_seek.from_position truncated.consumes),

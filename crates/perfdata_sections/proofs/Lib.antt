@@ -8,3 +8,4 @@ pub mod Entries
 pub mod Events
 pub mod EventPrefixes
 pub mod EventErrors
+pub mod FileOrders

@@ -1,5 +1,5 @@
 -- From the units that were read to the section, or to the error.
-use Rattle.std.proofs.Common.{◌≡◌, ℕ, ◌+◌, ◌<◌, ◌≤◌, List, [], ◌∷◌, ◌++◌, length, refl, sym, ap, ◌∙◌, subst, inl, inr, true, false, arith, length-append, append_assoc, append-nil, None, Some}
+use Rattle.std.proofs.Common.{◌≡◌, ℕ, zero, suc, ◌+◌, ◌<◌, ◌≤◌, List, [], ◌∷◌, ◌++◌, length, refl, sym, ap, ◌∙◌, subst, inl, inr, true, false, arith, length-append, append_assoc, append-nil, None, Some}
 use Rattle.std.specs.Prelude.{Err, Option, String, string_bytes, nat_eq, cond}
 use Rattle.std.specs.Option.{option_map}
 use Rattle.std.specs.BTreeMap.{BTreeMap, IsOrdered, get as get_kept}
@@ -16,7 +16,7 @@ use Rattle.std.specs.List.Sorted.{IsStrictlySortedBy}
 use Rattle.std.specs.Map.{keys_of}
 use Rattle.std.specs.Ordering.{MatchOrdering}
 use Rattle.std.specs.declared.cmp.Ordering.TheVariants.{Less}
-use Rattle.std.proofs.lemmas.Bool.{ne_eqb}
+use Rattle.std.proofs.lemmas.Bool.{eq-eqb, ne_eqb}
 use Rattle.std.proofs.lemmas.Map.Keys.{IsStrictlyIncreasing-from_sorted, sorted_head, sorted_tail}
 use Rattle.indexmap.specs.IndexMap.{IndexMap, keys, insert_entry}
 use Rattle.indexmap.proofs.CallerLemmas.{insert_entry-new}
@@ -27,8 +27,8 @@ use Rattle.perfdata_base.specs.declared.source.AppendError.TheVariants.{Memory, 
 use Rattle.perfdata_base.proofs.ConsumedLemmas.{consumed_more, consumed_none, consumed_none_later, failed_later}
 use Rattle.perfdata_base.proofs.Numbers.{ReadsFirst}
 use Rattle.perfdata_sections.specs.ParsedPart.{PartRead, PartPartlyRead, PartReadError}
-use Rattle.perfdata_sections.specs.HeaderString.{IsHeaderStringOf, IsTruncatedString, ReadsHeaderString}
-use Rattle.perfdata_sections.specs.PmuMappings.{PmuUnit, named_units, last_name, collected_name, SortsUnits, IsPmuUnit, IsTruncatedUnit, ArePmuUnits, TruncatedUnits, IsPmuSection, IsPmuSectionOf, IsTruncatedPmuSection, IsPrefixOfPmuSection, ReadsPmuUnit, PmuUnitsRead, ReadsPmuUnits, ReadsPmus}
+use Rattle.perfdata_sections.specs.HeaderString.{IsHeaderStringOf, IsTruncatedString, IsTruncatedText, ReadsHeaderString}
+use Rattle.perfdata_sections.specs.PmuMappings.{PmuUnit, named_units, last_name, collected_name, SortsUnits, IsPmuUnit, IsTruncatedUnit, IsTruncatedName, ArePmuUnits, TruncatedUnits, UnitsOutOfMemory, IsPmuSection, IsPmuSectionOf, IsTruncatedPmuSection, IsPrefixOfPmuSection, ReadsPmuUnit, PmuUnitsRead, ReadsPmuUnits, ReadsPmus}
 use Rattle.perfdata_sections.proofs.PartLemmas.{drop_front, stopped_at_once}
 
 -- ---- the names in ascending order of their numbers
@@ -36,6 +36,9 @@ use Rattle.perfdata_sections.proofs.PartLemmas.{drop_front, stopped_at_once}
 -- two numbers compare as equal if and only if they are the same
 same_number : (k q : ℕ) → is_eq (nat_cmp k q) ≡ nat_eq k q
 same_number k q = unsigned_tied k q
+
+same_self : (k : ℕ) → nat_eq k k ≡ true
+same_self k = eq-eqb k k refl
 
 -- a fact on all keys holds for the key after a prefix
 key_after_prefix : {X : Type 0} (P : ℕ → Type 0) (es rest : List (ℕ × X)) (k : ℕ) (x : X) → AllByRecursion P (keys_of (es ++ (k, x) ∷ rest)) → P k
@@ -70,6 +73,20 @@ sorts_units names_by_number m up is = record {
     same_lookup : (k : ℕ) (es : List (ℕ × String Global)) → lookup (nat_eq k) es ≡ lookup (λ q. is_eq (nat_cmp k q)) es
     same_lookup k [] = refl
     same_lookup k (e ∷ es) = ap (λ b. cond b (Some e.1) (lookup (nat_eq k) es)) (sym (same_number k e.0)) ∙ ap (cond (is_eq (nat_cmp k e.0)) (Some e.1)) (same_lookup k es)
+
+-- a map with an entry has a name
+nonempty_map : (es : List (ℕ × String Global)) → 0 < length es → ((k : ℕ) → option_map string_bytes (lookup (λ q. is_eq (nat_cmp k q)) es) ≡ None) → ⊥
+nonempty_map [] some none = absurd (omega (arith, some))
+nonempty_map (e ∷ es) some none =
+    let found : option_map string_bytes (cond (is_eq (nat_cmp e.0 e.0)) (Some e.1) (lookup (λ q. is_eq (nat_cmp e.0 q)) es)) ≡ Some (string_bytes e.1) =
+    ap (λ b. option_map string_bytes (cond b (Some e.1) (lookup (λ q. is_eq (nat_cmp e.0 q)) es))) (same_number e.0 e.0 ∙ same_self e.0)
+    in
+    let no : Some (string_bytes e.1) ≡ None = sym found ∙ none e.0 in
+    cc
+
+no_units : (us : List PmuUnit) → length us ≡ 0 → us ≡ []
+no_units [] none = refl
+no_units (u ∷ us) none = absurd (omega (arith, none))
 
 -- a truncation after a prefix is a truncation of the whole
 pub read_error_after : (IsTruncated IsTruncatedRest : List ℕ → Type 0) (a b c : State) (prefix : List ℕ) (e : Error) → Consumed a prefix b → PartReadError IsTruncatedRest b e c
@@ -121,7 +138,7 @@ module _ (number : ℕ → List ℕ → ℕ) (first : ReadsFirst number) where
   unit_truncated header part long truncated = λ _. subst (IsTruncatedString number) (sym (drop_front 4 header part long)) truncated
 
   pub unit_error : (a b c : State) (header : List ℕ) (error : AppendError) → length header ≡ 4 → Consumed a header b → ReadsHeaderString number b (Err error) c → ReadsPmuUnit number a (Err error) c
-  unit_error a b c header Memory long before some = partly_read_after (IsTruncatedUnit number) (IsTruncatedString number) a b c header before some (λ part. unit_truncated header part long)
+  unit_error a b c header Memory long before some = partly_read_after (IsTruncatedName number) (IsTruncatedText number) a b c header before some (λ part truncated. (omega (arith, long, length-append header part), subst (IsTruncatedText number) (sym (drop_front 4 header part long)) truncated))
   unit_error a b c header (Source e) long before truncated = read_error_after (IsTruncatedUnit number) (IsTruncatedString number) a b c header e before truncated (λ part. unit_truncated header part long)
 
   pub unit_read : (a b c : State) (header : List ℕ) (n : ℕ) (name : Option (List ℕ)) → length header ≡ 4 → n ≡ number 4 header → Consumed a header b → PartRead (IsHeaderStringOf number) b name c
@@ -162,24 +179,24 @@ module _ (number : ℕ → List ℕ → ℕ) (first : ReadsFirst number) where
   pub units_error : (i count : ℕ) (a b c : State) (m : BTreeMap ℕ (String Global)) (error : AppendError) → i < count → PmuUnitsRead number i a m b → ReadsPmuUnit number b (Err error) c
       → ReadsPmuUnits number count a (Err error) c
   units_error i count a b c m Memory low was_read some =
-      partly_read_after (TruncatedUnits number (count + 1)) (IsTruncatedUnit number) a b c was_read.bytes was_read.consumes some (λ part truncated.
-      let long = was_read.exact_len in record { units = was_read.units; unit_bytes = was_read.bytes; rest = part; too_few = omega arith; matches = refl; elements = was_read.elements; is_truncated = truncated })
+      partly_read_after (UnitsOutOfMemory number count) (IsTruncatedName number) a b c was_read.bytes was_read.consumes some (λ part truncated.
+      let long = was_read.exact_len in record { units = was_read.units; unit_bytes = was_read.bytes; rest = part; matches = refl; elements = was_read.elements; cause = inl (omega (arith, long, low), truncated) })
   units_error i count a b c m (Source e) low was_read stopped =
       read_error_after (TruncatedUnits number count) (IsTruncatedUnit number) a b c was_read.bytes e was_read.consumes stopped (λ part truncated.
       let long = was_read.exact_len in record { units = was_read.units; unit_bytes = was_read.bytes; rest = part; too_few = omega arith; matches = refl; elements = was_read.elements; is_truncated = truncated })
 
   -- the names of the units can't be allocated
-  pub units_partly_read : (i count : ℕ) (a b : State) (m : BTreeMap ℕ (String Global)) → i ≤ count → PmuUnitsRead number i a m b → PartPartlyRead (TruncatedUnits number (count + 1)) a b
-  units_partly_read i count a b m low was_read =
+  pub units_partly_read : (i count : ℕ) (a b : State) (m : BTreeMap ℕ (String Global)) → 0 < i → i ≤ count → PmuUnitsRead number i a m b → PartPartlyRead (UnitsOutOfMemory number count) a b
+  units_partly_read i count a b m some low was_read =
       let long = was_read.exact_len in record {
         bytes = was_read.bytes;
-        is_truncated = record { units = was_read.units; unit_bytes = was_read.bytes; rest = []; too_few = omega arith; matches = sym (append-nil was_read.bytes); elements = was_read.elements; is_truncated = λ enough. absurd (omega arith) };
+        is_truncated = record { units = was_read.units; unit_bytes = was_read.bytes; rest = []; matches = sym (append-nil was_read.bytes); elements = was_read.elements; cause = inr (omega (arith, long, some), omega (arith, long, low), refl) };
         consumes = was_read.consumes;
       }
 
   -- nor can the name of one more unit
   pub units_out_of_memory : (i count : ℕ) (a b c : State) (m : BTreeMap ℕ (String Global)) (u : PmuUnit) → i < count → PmuUnitsRead number i a m b → PartRead (IsPmuUnit number) b u c
-      → PartPartlyRead (TruncatedUnits number (count + 1)) a c
+      → PartPartlyRead (UnitsOutOfMemory number count) a c
   units_out_of_memory i count a b c m u low was_read one =
       let long = was_read.exact_len in record {
         bytes = was_read.bytes ++ one.bytes;
@@ -187,10 +204,9 @@ module _ (number : ℕ → List ℕ → ℕ) (first : ReadsFirst number) where
           units = was_read.units ++ u ∷ [];
           unit_bytes = was_read.bytes ++ one.bytes;
           rest = [];
-          too_few = omega (arith, length-append was_read.units (u ∷ []));
           matches = sym (append-nil (was_read.bytes ++ one.bytes));
           elements = units_push was_read.bytes one.bytes was_read.units u was_read.elements one.matches;
-          is_truncated = λ enough. absurd (omega arith);
+          cause = inr (omega (arith, length-append was_read.units (u ∷ [])), omega (arith, long, low, length-append was_read.units (u ∷ [])), refl);
         };
         consumes = consumed_more a b c was_read.bytes one.bytes was_read.consumes one.consumes;
       }
@@ -202,10 +218,12 @@ module _ (number : ℕ → List ℕ → ℕ) (first : ReadsFirst number) where
 
   pub section_error : (a b c : State) (header : List ℕ) (count : ℕ) (error : AppendError) → length header ≡ 4 → count ≡ number 4 header → Consumed a header b
       → ReadsPmuUnits number count b (Err error) c → ReadsPmus number a (Err error) c
-  section_error a b c header count Memory long says before some = partly_read_after (IsPrefixOfPmuSection number) (TruncatedUnits number (count + 1)) a b c header before some (λ part truncated _.
+  section_error a b c header count Memory long says before some = partly_read_after (IsPrefixOfPmuSection number) (UnitsOutOfMemory number count) a b c header before some (λ part partial.
       let same = first 4 header part (omega arith) in
-      let all : count + 1 ≡ number 4 (header ++ part) + 1 = omega arith in
-      subst (TruncatedUnits number (number 4 (header ++ part) + 1)) (sym (drop_front 4 header part long)) (subst (λ n. TruncatedUnits number n part) all truncated))
+      let all : count ≡ number 4 (header ++ part) = omega arith in (
+        omega (arith, long, length-append header part),
+        subst (UnitsOutOfMemory number (number 4 (header ++ part))) (sym (drop_front 4 header part long)) (subst (λ n. UnitsOutOfMemory number n part) all partial),
+      ))
   section_error a b c header count (Source e) long says before stopped = read_error_after (IsTruncatedPmuSection number) (TruncatedUnits number count) a b c header e before stopped (λ part truncated _.
       let same = first 4 header part (omega arith) in
       let all : count ≡ number 4 (header ++ part) = omega arith in
@@ -219,11 +237,16 @@ module _ (number : ℕ → List ℕ → ℕ) (first : ReadsFirst number) where
         elements = subst (λ l. ArePmuUnits number l us) (sym (drop_front 4 header bytes long)) are;
       }
 
+  -- if the map isn't empty, a unit was read
+  some_units : (count : ℕ) (b c : State) (m : BTreeMap ℕ (String Global)) → PmuUnitsRead number count b m c → 0 < length m.entries → 0 < count
+  some_units zero b c m was_read some = absurd (nonempty_map m.entries some (λ k. was_read.names k ∙ ap (λ us. last_name us k) (no_units was_read.units was_read.exact_len)))
+  some_units (suc n) b c m was_read some = omega arith
+
   -- the map in ascending order can't be allocated
   pub section_partly_read : (a b c : State) (header : List ℕ) (count : ℕ) (m : BTreeMap ℕ (String Global)) → length header ≡ 4 → count ≡ number 4 header → Consumed a header b → PmuUnitsRead number count b m c
-      → PartPartlyRead (IsPrefixOfPmuSection number) a c
-  section_partly_read a b c header count m long says before was_read =
-      section_error a b c header count Memory long says before (units_partly_read count count b c m (omega arith) was_read)
+      → 0 < length m.entries → PartPartlyRead (IsPrefixOfPmuSection number) a c
+  section_partly_read a b c header count m long says before was_read some =
+      section_error a b c header count Memory long says before (units_partly_read count count b c m (some_units count b c m was_read some) (omega arith) was_read)
 
   pub section_read : (a b c : State) (header : List ℕ) (count : ℕ) (m : BTreeMap ℕ (String Global)) (pmus : PmuMappings) → length header ≡ 4 → count ≡ number 4 header → Consumed a header b
       → PmuUnitsRead number count b m c → SortsUnits m pmus.0 → PartRead (IsPmuSectionOf number) a pmus c

@@ -15,7 +15,7 @@ use Rattle.perfdata_base.proofs.Numbers.{ReadsFirst}
 use Rattle.perfdata_base.specs.declared.source.AppendError.{AppendError}
 use Rattle.perfdata_base.specs.declared.source.AppendError.TheVariants.{Memory, Source}
 use Rattle.perfdata_sections.specs.ParsedPart.{PartRead, PartPartlyRead, PartReadError, ReadsBytes}
-use Rattle.perfdata_sections.specs.HeaderString.{before_nul, utf8_text, IsTruncatedString, IsHeaderStringOf, ReadsHeaderString}
+use Rattle.perfdata_sections.specs.HeaderString.{before_nul, utf8_text, IsTruncatedString, IsTruncatedText, IsHeaderStringOf, ReadsHeaderString}
 use Rattle.perfdata_sections.proofs.PartLemmas.{drop_front, stopped_after, stopped_at_once}
 
 -- the text ends at the first NUL
@@ -57,10 +57,10 @@ module _ (number : ℕ → List ℕ → ℕ) (first : ReadsFirst number) where
   string_body_truncated a b c header count e long says before read_error = stopped_after (IsTruncatedString number) a b c header count e before read_error (λ part too_few. string_too_short header part long (omega arith))
 
   pub string_body_partly_read : (a b c : State) (header : List ℕ) (count : ℕ) → length header ≡ 4 → count ≡ number 4 header → Consumed a header b → PartlyRead b count c
-      → PartPartlyRead (IsTruncatedString number) a c
+      → PartPartlyRead (IsTruncatedText number) a c
   string_body_partly_read a b c header count long says before partial =
       let less = partial.too_few in
-      record { bytes = header ++ partial.consumed_bytes; is_truncated = string_too_short header partial.consumed_bytes long (omega arith); consumes = consumed_more a b c header partial.consumed_bytes before partial.consumes }
+      record { bytes = header ++ partial.consumed_bytes; is_truncated = (omega (arith, long, length-append header partial.consumed_bytes), string_too_short header partial.consumed_bytes long (omega arith) (omega (arith, long, length-append header partial.consumed_bytes))); consumes = consumed_more a b c header partial.consumed_bytes before partial.consumes }
 
   pub string_read : (a b c : State) (header body : List ℕ) (count : ℕ) (text : Option (List ℕ)) → length header ≡ 4 → count ≡ number 4 header → length body ≡ count → Consumed a header b → Consumed b body c
       → text ≡ utf8_text (before_nul body) → PartRead (IsHeaderStringOf number) a text c

@@ -11,7 +11,7 @@ use Rattle.perfdata_sections.specs.AttributeDescription.{DescribedEvent, event_i
 use Rattle.perfdata_sections.specs.AttrFrames.{IsAttrInFrame, IsFrameError, ConsumesFrameError, IsFrameReadError, FrameRead}
 use Rattle.perfdata_sections.specs.Error.{IsUnexpectedEof, IsIoError}
 use Rattle.perfdata_sections.specs.EventIds.{AreIds}
-use Rattle.perfdata_sections.specs.ParsedPart.{PartRead, PartReadError}
+use Rattle.perfdata_sections.specs.ParsedPart.{PartRead, PartPartlyRead, PartReadError}
 use Rattle.perfdata_sections.specs.Items.{SomeBytes, NextReadError, IsTruncationOf, IsReadErrorOf, IsShorterThan}
 use Rattle.perfdata_sections.specs.HeaderString.{IsHeaderString, IsHeaderStringOf, IsTruncatedString}
 use Rattle.perfdata_sections.specs.declared.feature_sections.AttributeDescription.{AttributeDescription}
@@ -46,10 +46,11 @@ module _ (number : ℕ → List ℕ → ℕ) where
   abbrev pub IsTruncatedNameAndIds : List ℕ → Type 0
   IsTruncatedNameAndIds xs = (length xs < 4) ⊎ (((4 ≤ length xs) × IsTruncatedString number (drop 4 xs)) ⊎ IsTruncatedInIds xs)
 
-  -- What reading the part after the frame does. If memory runs out, some bytes of it may be consumed.
+  -- What reading the part after the frame does. Memory runs out only after the count and the length of the
+  -- name.
   abbrev pub ReadsNameAndIds : State → Result NameAndIds AppendError → State → Type 0
   ReadsNameAndIds old (Ok t) new = PartRead (λ xs t. IsNameAndIds xs (option_map string_bytes t.name) t.event_ids.items) old t new
-  ReadsNameAndIds old (Err NoMemory) new = (prefix : List ℕ) × Consumed old prefix new
+  ReadsNameAndIds old (Err NoMemory) new = PartPartlyRead (λ xs. 8 ≤ length xs) old new
   ReadsNameAndIds old (Err (Source e)) new = PartReadError IsTruncatedNameAndIds old e new
 
   -- ---- events

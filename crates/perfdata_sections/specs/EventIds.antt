@@ -1,5 +1,5 @@
 -- The ids of an event: consecutive numbers of eight bytes each.
-use Rattle.std.specs.Prelude.{◌≡◌, ℕ, zero, suc, ◌*◌, ◌≤◌, List, [], ◌∷◌, length, drop, Result, Ok, Err, Vec}
+use Rattle.std.specs.Prelude.{◌≡◌, ℕ, zero, suc, ◌*◌, ◌/◌, ◌≤◌, List, [], ◌∷◌, ◌++◌, length, drop, Result, Ok, Err, Vec}
 use Rattle.std.specs.declared.alloc.Global.{Global}
 use Rattle.perfdata_base.specs.Source.{State, ReadExactError}
 use Rattle.perfdata_base.specs.declared.source.AppendError.{AppendError}
@@ -20,8 +20,14 @@ module _ (number : ℕ → List ℕ → ℕ) (count : ℕ) where
   abbrev pub BeginsWithIds : List ℕ → List ℕ → Type 0
   BeginsWithIds xs ids = (8 * count ≤ length xs) × (ids ≡ u64s_of number count xs)
 
-  -- What reading `count` ids at the source's position does.
+  -- What reading `count` ids at the source's position does. Memory runs out only after the bytes of an id.
   abbrev pub ReadsIds : State → Result (Vec ℕ Global) AppendError → State → Type 0
   ReadsIds old (Ok v) new = PartRead AreIds old v.items new
-  ReadsIds old (Err Memory) new = PartPartlyRead (λ xs. length xs ≤ 8 * count) old new
+  ReadsIds old (Err Memory) new = PartPartlyRead (λ xs. (8 ≤ length xs) × (length xs ≤ 8 * count)) old new
   ReadsIds old (Err (Source e)) new = ReadExactError old (8 * count) e new
+
+-- What reading `size` bytes of ids does to a list: it appends the ids. Memory runs out only after the bytes of an id.
+abbrev pub AppendsIds : (ℕ → List ℕ → ℕ) → ℕ → State → List ℕ → Result (Unit {0}) AppendError → List ℕ → State → Type 0
+AppendsIds number size old before (Ok _) now new = PartRead (λ xs ids. (length xs ≡ size) × (ids ≡ before ++ u64s_of number (size / 8) xs)) old now new
+AppendsIds number size old before (Err Memory) now new = PartPartlyRead (λ xs. (8 ≤ length xs) × (length xs ≡ size)) old new
+AppendsIds number size old before (Err (Source e)) now new = ReadExactError old size e new

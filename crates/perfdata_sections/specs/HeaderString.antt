@@ -29,17 +29,21 @@ module _ (number : ℕ → List ℕ → ℕ) where
   abbrev pub IsTruncatedString : List ℕ → Type 0
   IsTruncatedString xs = 4 ≤ length xs → length xs < 4 + number 4 xs
 
+  -- `xs` is truncated after the length: it ends before the end of the string's bytes.
+  abbrev pub IsTruncatedText : List ℕ → Type 0
+  IsTruncatedText xs = (4 ≤ length xs) × (length xs < 4 + number 4 xs)
+
   -- `xs` is exactly one string with this text, which is `None` if it isn't UTF-8.
   abbrev pub IsHeaderStringOf : List ℕ → Option (List ℕ) → Type 0
   IsHeaderStringOf xs text = IsHeaderString xs × (text ≡ utf8_text (before_nul (drop 4 xs)))
 
-  -- What reading a string does. `Memory` reports an allocation failure.
+  -- What reading a string does. `Memory` reports an allocation failure, which follows the length.
   abbrev pub ReadsHeaderString : State → Result (Option (String Global)) AppendError → State → Type 0
   ReadsHeaderString old (Ok r) new = PartRead IsHeaderStringOf old (option_map string_bytes r) new
-  ReadsHeaderString old (Err Memory) new = PartPartlyRead IsTruncatedString old new
+  ReadsHeaderString old (Err Memory) new = PartPartlyRead IsTruncatedText old new
   ReadsHeaderString old (Err (Source e)) new = PartReadError IsTruncatedString old e new
 
   -- Like `ReadsHeaderString`, but an allocation failure is an I/O error of kind `OutOfMemory`.
   abbrev pub ParsesHeaderString : State → Result (Option (String Global)) Error → State → Type 0
   ParsesHeaderString old (Ok r) new = PartRead IsHeaderStringOf old (option_map string_bytes r) new
-  ParsesHeaderString old (Err e) new = ((error_kind e ≡ OutOfMemory) × PartPartlyRead IsTruncatedString old new) ⊎ PartReadError IsTruncatedString old e new
+  ParsesHeaderString old (Err e) new = ((error_kind e ≡ OutOfMemory) × PartPartlyRead IsTruncatedText old new) ⊎ PartReadError IsTruncatedString old e new

@@ -1,5 +1,5 @@
 -- Parts of a file at the source's position, and what reading them does.
-use Rattle.std.specs.Prelude.{◌≡◌, ℕ, List, length, Result, Ok, Err, Vec}
+use Rattle.std.specs.Prelude.{◌≡◌, ⊤, ℕ, List, length, Result, Ok, Err, Vec}
 use Rattle.std.specs.declared.alloc.Global.{Global}
 use Rattle.std.specs.declared.io.Error.{Error}
 use Rattle.perfdata_base.specs.Source.{State, Consumed, EndedOrFailed, PartlyRead, ReadExactError}
@@ -47,6 +47,11 @@ abbrev pub ReadsBytes : State → ℕ → Result (Vec ℕ Global) AppendError �
 ReadsBytes old count (Ok v) new = (length v.items ≡ count) × Consumed old v.items new
 ReadsBytes old count (Err Memory) new = PartlyRead old count new
 ReadsBytes old count (Err (Source e)) new = ReadExactError old count e new
+
+-- No empty read is counted if memory runs out.
+abbrev pub NoPauseIfOutOfMemory : {A : Type 0} → State → Result A AppendError → State → Type 0
+NoPauseIfOutOfMemory old (Ok _) new = ⊤
+NoPauseIfOutOfMemory old (Err e) new = e ≡ Memory → new.pauses ≡ old.pauses
 
 -- The file error for an `AppendError`.
 abbrev pub file_error_of : AppendError → FileError

@@ -14,7 +14,7 @@ use Rattle.perfdata_base.specs.Source.{State, Consumed}
 use Rattle.perfdata_base.specs.declared.source.AppendError.{AppendError}
 use Rattle.perfdata_base.specs.declared.source.AppendError.TheVariants.{Memory, Source}
 use Rattle.perfdata_sections.specs.ParsedPart.{PartRead, PartPartlyRead, PartReadError}
-use Rattle.perfdata_sections.specs.HeaderString.{IsHeaderStringOf, IsTruncatedString}
+use Rattle.perfdata_sections.specs.HeaderString.{IsHeaderStringOf, IsTruncatedString, IsTruncatedText}
 use Rattle.perfdata_sections.specs.declared.feature_sections.pmu_mappings.PmuMappings.{PmuMappings}
 
 -- A unit's number, and its name if it is UTF-8.
@@ -61,6 +61,10 @@ module _ (number : ℕ → List ℕ → ℕ) where
   abbrev pub IsTruncatedUnit : List ℕ → Type 0
   IsTruncatedUnit xs = 4 ≤ length xs → IsTruncatedString number (drop 4 xs)
 
+  -- `xs` is a unit that is truncated after the length of its name.
+  abbrev pub IsTruncatedName : List ℕ → Type 0
+  IsTruncatedName xs = (4 ≤ length xs) × IsTruncatedText number (drop 4 xs)
+
   -- `xs` consists of these units, one after another.
   abbrev pub ArePmuUnits : List ℕ → List PmuUnit → Type 0
   ArePmuUnits xs [] = xs ≡ []
@@ -76,6 +80,15 @@ module _ (number : ℕ → List ℕ → ℕ) where
     pub elements : ArePmuUnits unit_bytes units
     pub is_truncated : IsTruncatedUnit rest
 
+  -- `xs` consists of units, at most `count`, and maybe a unit that is truncated in its name. There is at least one of them.
+  pub record UnitsOutOfMemory (count : ℕ) (xs : List ℕ) : Type 0 where
+    pub units : List PmuUnit
+    pub unit_bytes : List ℕ
+    pub rest : List ℕ
+    pub matches : xs ≡ unit_bytes ++ rest
+    pub elements : ArePmuUnits unit_bytes units
+    pub cause : ((length units < count) × IsTruncatedName rest) ⊎ ((0 < length units) × (length units ≤ count) × (rest ≡ []))
+
   -- `xs` is a PMU section of these units.
   pub record IsPmuSection (xs : List ℕ) (us : List PmuUnit) : Type 0 where
     pub has_count : 4 ≤ length xs
@@ -90,14 +103,15 @@ module _ (number : ℕ → List ℕ → ℕ) where
   abbrev pub IsTruncatedPmuSection : List ℕ → Type 0
   IsTruncatedPmuSection xs = 4 ≤ length xs → TruncatedUnits (number 4 xs) (drop 4 xs)
 
-  -- `xs` is a prefix of a section, or a whole section.
+  -- `xs` is a prefix of a section, or a whole section, and asks for memory: it contains the count, and a unit or the length of
+  -- a name.
   abbrev pub IsPrefixOfPmuSection : List ℕ → Type 0
-  IsPrefixOfPmuSection xs = 4 ≤ length xs → TruncatedUnits (number 4 xs + 1) (drop 4 xs)
+  IsPrefixOfPmuSection xs = (4 ≤ length xs) × UnitsOutOfMemory (number 4 xs) (drop 4 xs)
 
-  -- What reading a unit does. `Memory` reports an allocation failure.
+  -- What reading a unit does. `Memory` reports an allocation failure, which follows the length of the name.
   abbrev pub ReadsPmuUnit : State → Result (ℕ × Option (String Global)) AppendError → State → Type 0
   ReadsPmuUnit old (Ok u) new = PartRead IsPmuUnit old (u.0, option_map string_bytes u.1) new
-  ReadsPmuUnit old (Err Memory) new = PartPartlyRead IsTruncatedUnit old new
+  ReadsPmuUnit old (Err Memory) new = PartPartlyRead IsTruncatedName old new
   ReadsPmuUnit old (Err (Source e)) new = PartReadError IsTruncatedUnit old e new
 
   -- `count` units are read, and the map has the last name of each number.
@@ -112,7 +126,7 @@ module _ (number : ℕ → List ℕ → ℕ) where
   -- What reading `count` units does.
   abbrev pub ReadsPmuUnits : ℕ → State → Result (BTreeMap ℕ (String Global)) AppendError → State → Type 0
   ReadsPmuUnits count old (Ok m) new = PmuUnitsRead count old m new
-  ReadsPmuUnits count old (Err Memory) new = PartPartlyRead (TruncatedUnits (count + 1)) old new
+  ReadsPmuUnits count old (Err Memory) new = PartPartlyRead (UnitsOutOfMemory count) old new
   ReadsPmuUnits count old (Err (Source e)) new = PartReadError (TruncatedUnits count) old e new
 
   -- What reading the section does. `Memory` reports an allocation failure.

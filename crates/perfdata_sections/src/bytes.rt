@@ -1,7 +1,7 @@
 //! Reading a given number of bytes.
 ghost use Rattle.std.specs.Prelude.{◌≡◌};
 ghost use Rattle.perfdata_base.specs.Source.{PausesOnlyOnError};
-ghost use Rattle.perfdata_sections.specs.ParsedPart.{ReadsBytes};
+ghost use Rattle.perfdata_sections.specs.ParsedPart.{NoPauseIfOutOfMemory, ReadsBytes};
 
 use perfdata_base::source::{AppendError, Source, append_exact};
 use std::alloc::Global;
@@ -17,6 +17,7 @@ pub fn read_bytes<R: Source>(
 ) -> Result<Vec<u8>, AppendError>
     ensures reads { ReadsBytes (R.state source.old) count result (R.state source.new) }
     ensures pauses { PausesOnlyOnError (R.state source.old) result (R.state source.new) }
+    ensures memory { NoPauseIfOutOfMemory (R.state source.old) result (R.state source.new) }
     ensures same_loan { R.loan source.new ≡ R.loan source.old }
 {
     let mut bytes = Vec::new(alloc);

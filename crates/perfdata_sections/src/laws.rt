@@ -1,4 +1,4 @@
-//! Laws about the definitions of the sections that describe a file.
+//! Laws about the definitions of the sections that describe a file, and about the constants.
 ghost use Rattle.std.specs.Prelude.{◌≡◌, ◌⊎◌, ℕ, List};
 ghost use Rattle.perfdata_base.specs.Endian.{number_in};
 ghost use Rattle.perfdata_base.specs.declared.raw.Endianness.{Endianness};
@@ -8,6 +8,9 @@ ghost use Rattle.perfdata_sections.specs.EventDesc.{BeginsWithEventDesc, IsEvent
 ghost use Rattle.perfdata_sections.specs.declared.error.Error.{Error};
 ghost use Rattle.perfdata_sections.specs.declared.error.Error.TheVariants.{Read, InconsistentAttributeSizes};
 ghost use Rattle.perfdata_sections.specs.declared.error.ReadError.TheVariants.{PerfEventAttr};
+
+use crate::constants::*;
+use crate::feature_sections::CompressionInfo;
 
 /// An EVENT_DESC determines its events, and its error.
 ///
@@ -29,4 +32,45 @@ pub fn event_desc_is_decidable()
         ⊎ (IsEventDescError (number_in endian) eof xs ⊎ (IsEventDescError (number_in endian) (Read PerfEventAttr) xs
         ⊎ ((own_size : ℕ) × (frame_size : ℕ) × IsEventDescError (number_in endian) (InconsistentAttributeSizes own_size frame_size) xs))) }
     ensures decided { (endian : Endianness) (xs : List ℕ) → ((ds : List DescribedEvent) × BeginsWithEventDesc (number_in endian) xs ds) ⊎ ¬ ((ds : List DescribedEvent) × BeginsWithEventDesc (number_in endian) xs ds) }
+{}
+
+/// The numbers of the record types that perf writes.
+pub fn perf_record_numbers()
+    ensures header_attr { PERF_RECORD_HEADER_ATTR ≡ 64 }
+    ensures header_event_type { PERF_RECORD_HEADER_EVENT_TYPE ≡ 65 }
+    ensures header_tracing_data { PERF_RECORD_HEADER_TRACING_DATA ≡ 66 }
+    ensures header_build_id { PERF_RECORD_HEADER_BUILD_ID ≡ 67 }
+    ensures finished_round { PERF_RECORD_FINISHED_ROUND ≡ 68 }
+    ensures id_index { PERF_RECORD_ID_INDEX ≡ 69 }
+    ensures auxtrace_info { PERF_RECORD_AUXTRACE_INFO ≡ 70 }
+    ensures auxtrace { PERF_RECORD_AUXTRACE ≡ 71 }
+    ensures auxtrace_error { PERF_RECORD_AUXTRACE_ERROR ≡ 72 }
+    ensures thread_map { PERF_RECORD_THREAD_MAP ≡ 73 }
+    ensures cpu_map { PERF_RECORD_CPU_MAP ≡ 74 }
+    ensures stat_config { PERF_RECORD_STAT_CONFIG ≡ 75 }
+    ensures stat { PERF_RECORD_STAT ≡ 76 }
+    ensures stat_round { PERF_RECORD_STAT_ROUND ≡ 77 }
+    ensures event_update { PERF_RECORD_EVENT_UPDATE ≡ 78 }
+    ensures time_conv { PERF_RECORD_TIME_CONV ≡ 79 }
+    ensures header_feature { PERF_RECORD_HEADER_FEATURE ≡ 80 }
+    ensures compressed { PERF_RECORD_COMPRESSED ≡ 81 }
+    ensures compressed2 { PERF_RECORD_COMPRESSED2 ≡ 83 }
+{}
+
+/// The numbers of the record types that simpleperf writes.
+pub fn simple_perf_record_numbers()
+    ensures kernel_symbol { SIMPLE_PERF_RECORD_KERNEL_SYMBOL ≡ 32769 }
+    ensures dso { SIMPLE_PERF_RECORD_DSO ≡ 32770 }
+    ensures symbol { SIMPLE_PERF_RECORD_SYMBOL ≡ 32771 }
+    ensures split { SIMPLE_PERF_RECORD_SPLIT ≡ 32772 }
+    ensures split_end { SIMPLE_PERF_RECORD_SPLIT_END ≡ 32773 }
+    ensures event_id { SIMPLE_PERF_RECORD_EVENT_ID ≡ 32774 }
+    ensures callchain { SIMPLE_PERF_RECORD_CALLCHAIN ≡ 32775 }
+    ensures unwinding_result { SIMPLE_PERF_RECORD_UNWINDING_RESULT ≡ 32776 }
+    ensures tracing_data { SIMPLE_PERF_RECORD_TRACING_DATA ≡ 32777 }
+{}
+
+/// The number of the compression algorithm Zstd.
+pub fn zstd_number()
+    ensures { CompressionInfo.ZSTD_TYPE ≡ 1 }
 {}

@@ -1,7 +1,8 @@
 -- The events in simpleperf's meta info: a line for each, with its name, type and config, separated by commas.
-use Rattle.std.specs.Prelude.{◌≡◌, ℕ, ◌^◌, ◌<◌, ◌==◌, List, [], ◌∷◌, map, Option, None, Some, Vec, string_bytes, ⊤}
+use Rattle.std.specs.Prelude.{◌≡◌, ◌≢◌, ℕ, ◌^◌, ◌<◌, ◌==◌, List, [], ◌∷◌, map, Option, None, Some, Result, Ok, Err, Vec, string_bytes, ⊤}
 use Rattle.std.specs.List.{slice_split}
 use Rattle.std.specs.Str.Parse.{IsNumeral, digits_value, without_leading_plus}
+use Rattle.std.specs.declared.alloc.AllocError.{AllocError}
 use Rattle.std.specs.declared.alloc.Global.{Global}
 use Rattle.perfdata_sections.specs.declared.event_type.SimplePerfEventType.{SimplePerfEventType}
 
@@ -52,6 +53,11 @@ DescribesEventTypes (Some text) es = DescribeEvents (text_lines text) es
 abbrev pub ParsesEventTypes : Option (List ℕ) → Option (Vec SimplePerfEventType Global) → Type 0
 ParsesEventTypes value (Some v) = DescribesEventTypes value (map event_type_of v.items)
 ParsesEventTypes value None = (es : List EventType) → ¬ DescribesEventTypes value es
+
+-- the result of parsing the value of the key, if there is one; memory runs out only if there is one
+abbrev pub ReturnsEventTypes : Option (List ℕ) → Result (Option (Vec SimplePerfEventType Global)) AllocError → Type 0
+ReturnsEventTypes value (Ok events) = ParsesEventTypes value events
+ReturnsEventTypes value (Err e) = value ≢ None
 
 -- the result of parsing one line
 abbrev pub ParsesEvent : List (List ℕ) → Option SimplePerfEventType → Type 0

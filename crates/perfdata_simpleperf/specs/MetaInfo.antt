@@ -1,5 +1,5 @@
 -- Simpleperf's meta info: segments between NULs, alternately a key and its value, each of UTF-8. The last value of a key counts.
-use Rattle.std.specs.Prelude.{◌≡◌, ℕ, ◌==◌, List, [], ◌∷◌, ◌++◌, Option, None, Result, Ok, Err, All, ⊤}
+use Rattle.std.specs.Prelude.{◌≡◌, ◌≢◌, ℕ, ◌==◌, List, [], ◌∷◌, ◌++◌, Option, None, Result, Ok, Err, All, ⊤}
 use Rattle.std.specs.Borrow.{Bor}
 use Rattle.std.specs.HashMap.{HashMap, get_by}
 use Rattle.std.specs.List.{slice_split}
@@ -53,9 +53,9 @@ InsertsPair old p (Err StringUtf8) new = ¬ IsUtf8Pair p
 InsertsPair old p (Err Memory) new = ⊤
 InsertsPair old p (Err _) new = ⊥
 
--- the result of parsing; memory can run out at any pair
+-- the result of parsing; memory can run out at any pair, and only if there is a pair
 abbrev pub ParsesMetaInfo : {S : Type 0} → List ℕ → Result (HashMap (Bor (List ℕ)) (Bor (List ℕ)) S) Error → Type 0
 ParsesMetaInfo bytes (Ok m) = IsMetaInfo bytes m
 ParsesMetaInfo bytes (Err StringUtf8) = ¬ All IsUtf8Pair (meta_pairs bytes)
-ParsesMetaInfo bytes (Err Memory) = ⊤
+ParsesMetaInfo bytes (Err Memory) = meta_pairs bytes ≢ []
 ParsesMetaInfo bytes (Err _) = ⊥

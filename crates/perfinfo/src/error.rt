@@ -16,11 +16,17 @@ pub enum InfoError {
     /// The input can't be parsed as a perf.data file or pipe.
     Parse(Error),
     /// A record can't be read. The records before it have `bytes_before` bytes.
-    Record { bytes_before: u64, cause: Error },
+    Record {
+        bytes_before: u64,
+        source_error: Error,
+    },
     /// The input can't be parsed as a jitdump file.
     JitParse(JitDumpError),
     /// A jitdump record can't be read. The file header and the records before it have `bytes_before` bytes.
-    JitRecord { bytes_before: u64, cause: io::Error },
+    JitRecord {
+        bytes_before: u64,
+        source_error: io::Error,
+    },
     /// Number of sections that can't be read. Each section's line states its error.
     UnreadableSections(u64),
     /// Writing to standard output fails.
@@ -42,32 +48,32 @@ impl fmt::Display for InfoError {
     fn fmt<W: fmt::Write>(&self, f: &mut fmt::Formatter<W>) -> fmt::Result {
         match self {
             InfoError::Usage => write!(f, "usage: perfinfo file PATH | pipe | jit PATH"),
-            InfoError::Open(cause) => write!(f, "perfinfo: can't open: {cause}"),
-            InfoError::Parse(cause) => write!(f, "perfinfo: can't open: {cause}"),
-            InfoError::JitParse(cause) => write!(f, "perfinfo: can't open: {cause}"),
+            InfoError::Open(error) => write!(f, "perfinfo: can't open: {error}"),
+            InfoError::Parse(error) => write!(f, "perfinfo: can't open: {error}"),
+            InfoError::JitParse(error) => write!(f, "perfinfo: can't open: {error}"),
             InfoError::Record {
                 bytes_before,
-                cause,
+                source_error,
             } => {
                 write!(
                     f,
-                    "perfinfo: fault behind {bytes_before} bytes of records: {cause}"
+                    "perfinfo: error after {bytes_before} bytes of records: {source_error}"
                 )
             }
             InfoError::JitRecord {
                 bytes_before,
-                cause,
+                source_error,
             } => {
                 write!(
                     f,
-                    "perfinfo: fault behind {bytes_before} bytes of the file: {cause}"
+                    "perfinfo: error after {bytes_before} bytes of the file: {source_error}"
                 )
             }
             InfoError::UnreadableSections(count) => write!(
                 f,
                 "perfinfo: sections that can't be read: {count}"
             ),
-            InfoError::Write(cause) => write!(f, "perfinfo: can't write: {cause}"),
+            InfoError::Write(error) => write!(f, "perfinfo: can't write: {error}"),
             InfoError::OutOfMemory => write!(f, "perfinfo: out of memory"),
         }
     }

@@ -123,9 +123,9 @@ impl<R: Source + Drop> JitSummary<R> {
     {
         let bytes_before = self.counts.end;
         match self.error {
-            Some(cause) => Err(InfoError::JitRecord {
+            Some(source_error) => Err(InfoError::JitRecord {
                 bytes_before,
-                cause,
+                source_error,
             }),
             None => Ok(()),
         }

@@ -194,9 +194,9 @@ impl Recording {
     {
         let bytes_before = self.counts.end;
         match self.error {
-            Some(cause) => Err(InfoError::Record {
+            Some(source_error) => Err(InfoError::Record {
                 bytes_before,
-                cause,
+                source_error,
             }),
             None => Ok(()),
         }
@@ -229,6 +229,6 @@ pub(crate) fn show<W: Write>(counts: &RecordCounts, report: &mut Report<W>) {
         );
     }
     report.line("rounds before the last record", counts.rounds);
-    report.line("bytes of auxiliary data", counts.aux_bytes);
+    report.line("bytes of aux data", counts.aux_bytes);
     report.line("bytes of records", counts.end);
 }

@@ -1,10 +1,10 @@
 //! Attributes of each size: their fields in both byte orders, and the sizes that are errors.
-use crate::expect::{expect_eq, expect_eq_at};
 use bitflags::Flags;
 use byteorder::{BigEndian, LittleEndian};
 use perfdata_base::attr::{AttrFlags, PerfEventAttr, SampleFormat};
 use std::io::ErrorKind;
 use std::test::Fail;
+use test_support::expect::{expect_eq, expect_eq_at};
 use test_support::values::to_error_kind;
 
 // Each byte is its own index, but the clock's bytes are 255, and the attribute's own size is little-endian.
@@ -53,15 +53,14 @@ fn attr_fields(attr: &PerfEventAttr) -> ([u32; 7], [u64; 12]) {
 }
 
 #[test]
-fn reads_each_field(rt: HostRuntime) -> Result<(), Fail> {
+fn reads_each_field() -> Result<(), Fail> {
     let bytes = attr_bytes(144);
     let mut rest = &bytes[..];
     let (attr, own) = PerfEventAttr::parse_from::<_, LittleEndian>(&mut rest)?;
-    expect_eq(&rt, &own, &144);
-    expect_eq(&rt, &rest, &[144, 145, 146, 147, 148, 149].as_slice());
+    expect_eq(&own, &144)?;
+    expect_eq(&rest, &[144, 145, 146, 147, 148, 149].as_slice())?;
     let (u32_fields, u64_fields) = attr_fields(&attr);
     expect_eq(
-        &rt,
         &u32_fields,
         &[
             0x0302_0100,
@@ -72,9 +71,8 @@ fn reads_each_field(rt: HostRuntime) -> Result<(), Fail> {
             0x6b6a_6968,
             0x7372_7170,
         ],
-    );
+    )?;
     expect_eq(
-        &rt,
         &u64_fields,
         &[
             0x0f0e_0d0c_0b0a_0908,
@@ -90,26 +88,25 @@ fn reads_each_field(rt: HostRuntime) -> Result<(), Fail> {
             0x7f7e_7d7c_7b7a_7978,
             0x8786_8584_8382_8180,
         ],
-    );
-    expect_eq(&rt, &(attr.clockid, attr.sample_max_stack), &(-1, 0x6d6c));
+    )?;
+    expect_eq(&(attr.clockid, attr.sample_max_stack), &(-1, 0x6d6c))?;
     Ok(())
 }
 
 #[test]
-fn reads_big_endian(rt: HostRuntime) -> Result<(), Fail> {
+fn reads_big_endian() -> Result<(), Fail> {
     let mut bytes = attr_bytes(0);
     bytes[7] = 64;
     let (attr, own) = PerfEventAttr::parse::<_, BigEndian>(&bytes[..])?;
     expect_eq(
-        &rt,
         &(own, attr.type_, attr.config, attr.bp_type),
         &(64, 0x0001_0203, 0x0809_0a0b_0c0d_0e0f, 0x3435_3637),
-    );
+    )?;
     Ok(())
 }
 
 #[test]
-fn fields_past_the_own_size_are_zero(rt: HostRuntime) -> Result<(), Fail> {
+fn fields_past_the_own_size_are_zero() -> Result<(), Fail> {
     const CONFIG1: u64 = 0x3f3e_3d3c_3b3a_3938;
     const CONFIG2: u64 = 0x4746_4544_4342_4140;
     // own size in the bytes, parsed own size, config2, branch_sample_type, remaining bytes
@@ -127,17 +124,16 @@ fn fields_past_the_own_size_are_zero(rt: HostRuntime) -> Result<(), Fail> {
         let sizes = (parsed_size, attr.size as u64, rest.len());
         let configs = (attr.config1, attr.config2);
         expect_eq_at(
-            &rt,
             &size,
             &(sizes, configs, attr.branch_sample_type, attr.clockid),
             &((own, own, remaining), (CONFIG1, config2), branch, 0),
-        );
+        )?;
     }
     Ok(())
 }
 
 #[test]
-fn small_sizes_and_truncation_fail(rt: HostRuntime) {
+fn small_sizes_and_truncation_fail() -> Result<(), Fail> {
     for (size, count, kind) in [
         (1u8, 150usize, ErrorKind::InvalidData),
         (63, 150, ErrorKind::InvalidData),
@@ -149,19 +145,15 @@ fn small_sizes_and_truncation_fail(rt: HostRuntime) {
     ] {
         let bytes = attr_bytes(size);
         let parsed = PerfEventAttr::parse::<_, LittleEndian>(&bytes[..count]);
-        expect_eq_at(
-            &rt,
-            &(size, count),
-            &to_error_kind(parsed).err(),
-            &Some(kind),
-        );
+        expect_eq_at(&(size, count), &to_error_kind(parsed).err(), &Some(kind))?;
     }
+    Ok(())
 }
 
 #[test]
-fn keeps_all_bits(rt: HostRuntime) {
+fn keeps_all_bits() -> Result<(), Fail> {
     let format = SampleFormat::from_bits_retain(0x8001_0204);
-    expect_eq(&rt, &format.bits(), &0x8001_0204);
+    expect_eq(&format.bits(), &0x8001_0204)?;
     for (flag, is_set) in [
         (SampleFormat::TIME, true),
         (SampleFormat::STREAM_ID, true),
@@ -172,12 +164,12 @@ fn keeps_all_bits(rt: HostRuntime) {
         (SampleFormat::ID, false),
         (SampleFormat::CPU, false),
     ] {
-        expect_eq_at(&rt, &flag, &format.contains(flag), &is_set);
+        expect_eq_at(&flag, &format.contains(flag), &is_set)?;
     }
     let flags = AttrFlags::from_bits_retain(0x8004_0000);
     expect_eq(
-        &rt,
         &(flags.bits(), flags.contains(AttrFlags::SAMPLE_ID_ALL)),
         &(0x8004_0000, true),
-    );
+    )?;
+    Ok(())
 }

@@ -1,5 +1,4 @@
 //! Parsers that own their source consume exactly their own bytes.
-use crate::expect::expect_eq_at;
 use byteorder::{BigEndian, LittleEndian};
 use perfdata_base::attr::PerfEventAttr;
 use perfdata_base::event::PerfEventHeader;
@@ -7,6 +6,8 @@ use perfdata_base::header::{PerfHeader, PerfPipeHeader};
 use perfdata_base::section::PerfFileSection;
 use perfdata_base::source::Source;
 use std::io::Cursor;
+use std::test::Fail;
+use test_support::expect::expect_eq_at;
 
 /// The part that is parsed.
 #[derive(Clone, Copy, Debug)]
@@ -55,7 +56,7 @@ fn header_bytes(size: u8, is_little: bool) -> [u8; 200] {
 }
 
 #[test]
-fn parts_consume_their_own_size(rt: HostRuntime) {
+fn parts_consume_their_own_size() -> Result<(), Fail> {
     for is_little in [true, false] {
         for (part, bytes, consumed) in [
             (Part::RecordHeader, attr_bytes(0, is_little), 8usize),
@@ -71,19 +72,19 @@ fn parts_consume_their_own_size(rt: HostRuntime) {
             let mut cursor = Cursor::new(&bytes[..]);
             cursor.set_position(3);
             let second = parses(part, is_little, &mut cursor);
-            expect_eq_at(&rt, &(part, is_little), &(first, second), &(true, true));
+            expect_eq_at(&(part, is_little), &(first, second), &(true, true))?;
             expect_eq_at(
-                &rt,
                 &(part, is_little),
                 &(rest.len(), cursor.position()),
                 &(197 - consumed, 3 + consumed as u64),
-            );
+            )?;
         }
     }
+    Ok(())
 }
 
 #[test]
-fn header_consumes_its_own_size(rt: HostRuntime) {
+fn header_consumes_its_own_size() -> Result<(), Fail> {
     for is_little in [true, false] {
         for (size, consumed) in [(0u8, 104u64), (104, 104), (112, 112)] {
             let bytes = header_bytes(size, is_little);
@@ -91,11 +92,11 @@ fn header_consumes_its_own_size(rt: HostRuntime) {
             cursor.set_position(3);
             let parsed = PerfHeader::parse(&mut cursor).is_ok();
             expect_eq_at(
-                &rt,
                 &(size, is_little),
                 &(parsed, cursor.position()),
                 &(true, 3 + consumed),
-            );
+            )?;
         }
     }
+    Ok(())
 }

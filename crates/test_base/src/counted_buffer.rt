@@ -1,9 +1,9 @@
-//! The reads and seeks of a reader under a buffer, and the bytes that come from the buffer.
-use crate::expect::{expect_eq, expect_eq_at};
+//! The reads and seeks of a reader under a buffer, and the bytes that the buffer contains.
 use perfdata_base::source::{CountedBuffer, PlacedSource, Source};
 use std::alloc::Global;
 use std::io::{BufReader, Cursor, Error, Read, Seek, SeekFrom};
 use std::test::Fail;
+use test_support::expect::{expect_eq, expect_eq_at};
 
 /// A reader that counts its reads and seeks.
 #[derive(Drop)]
@@ -89,7 +89,7 @@ fn seeks_only_outside_the_buffer(rt: HostRuntime) -> Result<(), Fail> {
         ),
     ] {
         let result = reads_and_seeks(rt.alloc(), &positions, &wanted)?;
-        expect_eq_at(&rt, &wanted, &result, &Some((reads, seeks)));
+        expect_eq_at(&wanted, &result, &Some((reads, seeks)))?;
     }
     Ok(())
 }
@@ -100,17 +100,17 @@ fn reads_buffered_bytes(rt: HostRuntime) -> Result<(), Fail> {
     let reader = BufReader::with_capacity(rt.alloc(), 8, Cursor::new(bytes.as_slice()))?;
     let mut source = CountedBuffer::new(reader);
     let mut buf = [0u8; 2];
-    expect_eq(&rt, &source.buffer(), &[].as_slice());
-    expect_eq(&rt, &source.read_buffered(&mut buf), &false);
-    expect_eq(&rt, &source.read_front(&mut buf)?, &2);
-    expect_eq(&rt, &source.buffer(), &[2, 3, 4, 5, 6, 7].as_slice());
-    expect_eq(&rt, &source.read_buffered(&mut buf), &true);
-    expect_eq(&rt, &buf, &[2, 3]);
+    expect_eq(&source.buffer(), &[].as_slice())?;
+    expect_eq(&source.read_buffered(&mut buf), &false)?;
+    expect_eq(&source.read_front(&mut buf)?, &2)?;
+    expect_eq(&source.buffer(), &[2, 3, 4, 5, 6, 7].as_slice())?;
+    expect_eq(&source.read_buffered(&mut buf), &true)?;
+    expect_eq(&buf, &[2, 3])?;
     let mut buffer = Vec::from_array(rt.alloc(), [9])?;
-    expect_eq(&rt, &source.append_buffered(&mut buffer, 5)?, &false);
-    expect_eq(&rt, &source.append_buffered(&mut buffer, 3)?, &true);
-    expect_eq(&rt, &buffer.as_slice(), &[9, 4, 5, 6].as_slice());
-    expect_eq(&rt, &source.buffer(), &[7].as_slice());
-    expect_eq(&rt, &source.seek_to(SeekFrom::Current(0))?, &7);
+    expect_eq(&source.append_buffered(&mut buffer, 5)?, &false)?;
+    expect_eq(&source.append_buffered(&mut buffer, 3)?, &true)?;
+    expect_eq(&buffer.as_slice(), &[9, 4, 5, 6].as_slice())?;
+    expect_eq(&source.buffer(), &[7].as_slice())?;
+    expect_eq(&source.seek_to(SeekFrom::Current(0))?, &7)?;
     Ok(())
 }

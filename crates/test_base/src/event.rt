@@ -1,10 +1,10 @@
 //! Record headers, user record types and CPU modes.
-use crate::expect::{expect_eq, expect_eq_at};
 use byteorder::{BigEndian, LittleEndian};
 use perfdata_base::event::{CpuMode, PerfEventHeader, RecordType};
 use perfdata_base::raw::Endianness;
 use std::io::ErrorKind;
 use std::test::Fail;
+use test_support::expect::{expect_eq, expect_eq_at};
 use test_support::values::to_error_kind;
 
 const HEADER: [u8; 10] = [9, 0, 0, 1, 2, 3, 0x10, 0x20, 0xaa, 0xbb];
@@ -21,19 +21,19 @@ const FIELDS: [(Endianness, (u32, u16, u16)); 2] = [
 ];
 
 #[test]
-fn parses_record_header(rt: HostRuntime) -> Result<(), Fail> {
+fn parses_record_header() -> Result<(), Fail> {
     let [(_, little_endian), (_, big_endian)] = FIELDS;
     let mut source = &HEADER[..];
     let header = PerfEventHeader::parse_from::<_, LittleEndian>(&mut source)?;
-    expect_eq(&rt, &header_fields(&header), &little_endian);
-    expect_eq(&rt, &source, &[0xaa, 0xbb].as_slice());
+    expect_eq(&header_fields(&header), &little_endian)?;
+    expect_eq(&source, &[0xaa, 0xbb].as_slice())?;
     let header = PerfEventHeader::parse::<_, BigEndian>(&HEADER[..])?;
-    expect_eq(&rt, &header_fields(&header), &big_endian);
+    expect_eq(&header_fields(&header), &big_endian)?;
     Ok(())
 }
 
 #[test]
-fn converts_eight_bytes(rt: HostRuntime) {
+fn converts_eight_bytes() -> Result<(), Fail> {
     let [
         first,
         second,
@@ -49,8 +49,9 @@ fn converts_eight_bytes(rt: HostRuntime) {
     let bytes = [first, second, third, fourth, fifth, sixth, seventh, eighth];
     for (endian, fields) in FIELDS {
         let header = PerfEventHeader::from_bytes(endian, &bytes);
-        expect_eq(&rt, &header_fields(&header), &fields);
+        expect_eq(&header_fields(&header), &fields)?;
     }
+    Ok(())
 }
 
 // The fields of the record header at the start of the bytes.
@@ -60,7 +61,7 @@ fn peeked_fields(endian: Endianness, bytes: &[u8]) -> Option<(u32, u16, u16)> {
 }
 
 #[test]
-fn peeks_at_eight_bytes(rt: HostRuntime) {
+fn peeks_at_eight_bytes() -> Result<(), Fail> {
     for (endian, fields) in FIELDS {
         for (len, wanted) in [
             (10usize, Some(fields)),
@@ -68,23 +69,24 @@ fn peeks_at_eight_bytes(rt: HostRuntime) {
             (7, None),
             (0, None),
         ] {
-            expect_eq_at(&rt, &len, &peeked_fields(endian, &HEADER[..len]), &wanted);
+            expect_eq_at(&len, &peeked_fields(endian, &HEADER[..len]), &wanted)?;
         }
     }
+    Ok(())
 }
 
 #[test]
-fn truncated_header_is_eof(rt: HostRuntime) {
+fn truncated_header_is_eof() -> Result<(), Fail> {
     let parsed = PerfEventHeader::parse::<_, LittleEndian>(&HEADER[..7]);
     expect_eq(
-        &rt,
         &to_error_kind(parsed).err(),
         &Some(ErrorKind::UnexpectedEof),
-    );
+    )?;
+    Ok(())
 }
 
 #[test]
-fn user_types_start_at_64(rt: HostRuntime) {
+fn user_types_start_at_64() -> Result<(), Fail> {
     for (number, is_user) in [
         (0, false),
         (9, false),
@@ -94,17 +96,17 @@ fn user_types_start_at_64(rt: HostRuntime) {
     ] {
         let record_type = RecordType(number);
         expect_eq_at(
-            &rt,
             &number,
             &(record_type.is_user_type(), record_type.is_builtin_type()),
             &(is_user, !is_user),
-        );
+        )?;
     }
-    expect_eq(&rt, &RecordType::SAMPLE, &RecordType(9));
+    expect_eq(&RecordType::SAMPLE, &RecordType(9))?;
+    Ok(())
 }
 
 #[test]
-fn cpu_mode_is_the_low_three_bits(rt: HostRuntime) {
+fn cpu_mode_is_the_low_three_bits() -> Result<(), Fail> {
     for (misc, mode) in [
         (0, CpuMode::Unknown),
         (1, CpuMode::Kernel),
@@ -117,6 +119,7 @@ fn cpu_mode_is_the_low_three_bits(rt: HostRuntime) {
         (8, CpuMode::Unknown),
         (0x8002, CpuMode::User),
     ] {
-        expect_eq_at(&rt, &misc, &CpuMode::from_misc(misc), &mode);
+        expect_eq_at(&misc, &CpuMode::from_misc(misc), &mode)?;
     }
+    Ok(())
 }

@@ -1,8 +1,8 @@
 //! Features: their names, and the members of a set.
-use crate::expect::{expect, expect_eq, expect_eq_at};
 use perfdata_base::features::{Feature, FeatureSet};
 use std::alloc::Global;
 use std::test::Fail;
+use test_support::expect::{expect, expect_eq, expect_eq_at};
 
 const NAMES: [(u32, &str); 38] = [
     (0, "Unknown Feature 0"),
@@ -51,7 +51,7 @@ fn displays_names(rt: HostRuntime) -> Result<(), Fail> {
         let feature = Feature(number);
         let text = format!(in rt.alloc(); "{feature}")?;
         let debug = format!(in rt.alloc(); "{feature:?}")?;
-        expect_eq(&rt, &(text.as_str(), debug.as_str()), &(name, name));
+        expect_eq(&(text.as_str(), debug.as_str()), &(name, name))?;
     }
     Ok(())
 }
@@ -73,7 +73,6 @@ fn iterates_members(rt: HostRuntime) -> Result<(), Fail> {
         members.next(),
     ];
     expect_eq(
-        &rt,
         &four,
         &[
             Some(Feature::HOSTNAME),
@@ -81,22 +80,21 @@ fn iterates_members(rt: HostRuntime) -> Result<(), Fail> {
             None,
             None,
         ],
-    );
+    )?;
     let (count, empty, debug) = summary(rt.alloc(), &set)?;
     expect_eq(
-        &rt,
         &(count, empty, debug.as_str()),
         &(2, false, "{HOSTNAME, SIMPLEPERF_FILE}"),
-    );
+    )?;
     let ends = FeatureSet([1, 0, 0, 1 << 63]);
-    expect(&rt, ends.iter().eq([Feature(0), Feature(255)]));
+    expect(ends.iter().eq([Feature(0), Feature(255)]))?;
     for (set, feature, is_member) in [
         (set, Feature::HOSTNAME, true),
         (set, Feature::OSRELEASE, false),
         (set, Feature(300), false),
         (ends, Feature(256), false),
     ] {
-        expect_eq_at(&rt, &feature, &set.has_feature(feature), &is_member);
+        expect_eq_at(&feature, &set.has_feature(feature), &is_member)?;
     }
     Ok(())
 }
@@ -105,8 +103,8 @@ fn iterates_members(rt: HostRuntime) -> Result<(), Fail> {
 fn empty_set(rt: HostRuntime) -> Result<(), Fail> {
     let none = FeatureSet([0; 4]);
     let (count, empty, debug) = summary(rt.alloc(), &none)?;
-    expect_eq(&rt, &(count, empty, debug.as_str()), &(0, true, "{}"));
-    expect_eq(&rt, &none.iter().next(), &None);
-    expect(&rt, !FeatureSet([0, 0, 0, 1]).is_empty());
+    expect_eq(&(count, empty, debug.as_str()), &(0, true, "{}"))?;
+    expect_eq(&none.iter().next(), &None)?;
+    expect(!FeatureSet([0, 0, 0, 1]).is_empty())?;
     Ok(())
 }

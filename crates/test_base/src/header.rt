@@ -1,8 +1,8 @@
 //! File headers: their fields in both byte orders, and their errors.
-use crate::expect::{expect_eq, expect_eq_at};
 use perfdata_base::header::PerfHeader;
 use std::io::{Cursor, ErrorKind};
 use std::test::Fail;
+use test_support::expect::{expect_eq, expect_eq_at};
 use test_support::values::to_error_kind;
 
 // Each byte is its own index, except the first byte and the bytes of the header's size.
@@ -34,15 +34,14 @@ fn header_fields(header: &PerfHeader) -> [u64; 12] {
 }
 
 #[test]
-fn reads_each_field(rt: HostRuntime) -> Result<(), Fail> {
+fn reads_each_field() -> Result<(), Fail> {
     let bytes = header_bytes(b'P', [112, 0, 0, 0, 0, 0, 0, 0]);
     let mut cursor = Cursor::new(&bytes[..]);
     let header = PerfHeader::parse_from(&mut cursor)?;
     let at = cursor.position();
-    expect_eq_at(&rt, &"bytes after the known ones are skipped", &at, &112);
-    expect_eq(&rt, &header.magic, &[b'P', 1, 2, 3, 4, 5, 6, 7]);
+    expect_eq_at(&"bytes after the known ones are skipped", &at, &112)?;
+    expect_eq(&header.magic, &[b'P', 1, 2, 3, 4, 5, 6, 7])?;
     expect_eq(
-        &rt,
         &header_fields(&header),
         &[
             112,
@@ -58,33 +57,32 @@ fn reads_each_field(rt: HostRuntime) -> Result<(), Fail> {
             0x5f5e_5d5c_5b5a_5958,
             0x6766_6564_6362_6160,
         ],
-    );
+    )?;
     Ok(())
 }
 
 #[test]
-fn reads_big_endian(rt: HostRuntime) -> Result<(), Fail> {
+fn reads_big_endian() -> Result<(), Fail> {
     let bytes = header_bytes(b'2', [0, 0, 0, 0, 0, 0, 0, 64]);
     let mut cursor = Cursor::new(&bytes[..]);
     let header = PerfHeader::parse_from(&mut cursor)?;
     let at = cursor.position();
-    expect_eq_at(&rt, &"a smaller size changes nothing", &at, &104);
+    expect_eq_at(&"a smaller size changes nothing", &at, &104)?;
     expect_eq(
-        &rt,
         &(
             header.header_size,
             header.attr_size,
             header.attr_section.offset,
         ),
         &(64, 0x1011_1213_1415_1617, 0x1819_1a1b_1c1d_1e1f),
-    );
+    )?;
     let header = PerfHeader::parse(Cursor::new(&bytes[..]))?;
-    expect_eq(&rt, &header.features.0[3], &0x6061_6263_6465_6667);
+    expect_eq(&header.features.0[3], &0x6061_6263_6465_6667)?;
     Ok(())
 }
 
 #[test]
-fn truncation_and_overflow_fail(rt: HostRuntime) {
+fn truncation_and_overflow_fail() -> Result<(), Fail> {
     let far = [255u8; 8];
     let first_far = [104, 0, 0, 0, 0, 0, 0, 128];
     let last_near = [103, 0, 0, 0, 0, 0, 0, 128];
@@ -96,6 +94,7 @@ fn truncation_and_overflow_fail(rt: HostRuntime) {
     ] {
         let bytes = header_bytes(b'P', size);
         let parsed = PerfHeader::parse(Cursor::new(&bytes[..count]));
-        expect_eq_at(&rt, &(size, count), &to_error_kind(parsed).err(), &kind);
+        expect_eq_at(&(size, count), &to_error_kind(parsed).err(), &kind)?;
     }
+    Ok(())
 }

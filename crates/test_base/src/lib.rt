@@ -10,8 +10,6 @@ mod counted_buffer;
 #[cfg(test)]
 mod event;
 #[cfg(test)]
-mod expect;
-#[cfg(test)]
 mod features;
 #[cfg(test)]
 mod header;

@@ -1,12 +1,12 @@
 //! Pipe headers: complete, followed by other bytes, and truncated.
-use crate::expect::expect_eq;
 use perfdata_base::header::PerfPipeHeader;
 use std::io::ErrorKind;
 use std::test::Fail;
+use test_support::expect::expect_eq;
 use test_support::values::to_error_kind;
 
 #[test]
-fn parses_pipe_headers(rt: HostRuntime) -> Result<(), Fail> {
+fn parses_pipe_headers() -> Result<(), Fail> {
     let little = *b"PERFILE2\x14\0\0\0\0\0\0\0abcdef";
     let big = *b"2ELIFREP\0\0\0\0\0\0\0\x10abcdef";
     let small = *b"PERFILE2\x08\0\0\0\0\0\0\0abcdef";
@@ -19,20 +19,18 @@ fn parses_pipe_headers(rt: HostRuntime) -> Result<(), Fail> {
     ] {
         let mut source = &bytes[..];
         let (_, whole) = PerfPipeHeader::parse_with_extra(&mut source)?;
-        expect_eq(&rt, &(whole, source.len()), &(remaining > 0, remaining));
+        expect_eq(&(whole, source.len()), &(remaining > 0, remaining))?;
         let mut source = &bytes[..];
         let header = PerfPipeHeader::parse_from(&mut source)?;
         expect_eq(
-            &rt,
             &(header.size, header.magic[0], source.len()),
             &(size, first, remaining),
-        );
+        )?;
     }
     let truncated = b"PERFILE2\x10\0\0\0\0\0\0".as_slice();
     expect_eq(
-        &rt,
         &to_error_kind(PerfPipeHeader::parse(truncated)).err(),
         &Some(ErrorKind::UnexpectedEof),
-    );
+    )?;
     Ok(())
 }

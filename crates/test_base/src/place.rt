@@ -1,6 +1,5 @@
 //! The parse info of a sample format, and the timestamps and ids that are read with it.
 use super::raw::split;
-use crate::expect::{expect_eq, expect_eq_at};
 use byteorder::{BigEndian, LittleEndian};
 use perfdata_base::attr::{AttrFlags, PerfEventAttr, SampleFormat};
 use perfdata_base::event::RecordType;
@@ -8,6 +7,8 @@ use perfdata_base::place::{
     RecordParseInfo, get_record_id, get_record_identifier, get_record_timestamp,
 };
 use perfdata_base::raw::{Endianness, RawData};
+use std::test::Fail;
+use test_support::expect::{expect_eq, expect_eq_at};
 
 // The parse info of an attribute with this format and these flags.
 fn parse_info(sample_format: u64, flags: u64) -> RecordParseInfo {
@@ -40,7 +41,7 @@ fn parse_info(sample_format: u64, flags: u64) -> RecordParseInfo {
 // Formats and flags, with the offsets of the id and of the time: in a sample from the start of the body, and in another record
 // from its end.
 #[test]
-fn offsets_follow_the_sample_format(rt: HostRuntime) {
+fn offsets_follow_the_sample_format() -> Result<(), Fail> {
     for (format, flags, id, time) in [
         (4, 0, (None, None), (Some(0), None)),
         (0x10006, 0x40000, (Some(0), Some(8)), (Some(16), Some(16))),
@@ -54,15 +55,15 @@ fn offsets_follow_the_sample_format(rt: HostRuntime) {
         let info = parse_info(format, flags);
         let found = info.id_parse_info;
         expect_eq_at(
-            &rt,
             &format,
             &[
                 (found.sample_id_from_start, found.other_id_from_end),
                 (info.sample_time_from_start, info.other_time_from_end),
             ],
             &[id, time],
-        );
+        )?;
     }
+    Ok(())
 }
 
 // The time of a record as each function returns it, and its id.
@@ -92,7 +93,7 @@ fn field_values(
 
 // Three u64 fields: TID, TIME and IDENTIFIER, or in a sample IDENTIFIER, TID and TIME.
 #[test]
-fn fields_are_at_their_offsets(rt: HostRuntime) {
+fn fields_are_at_their_offsets() -> Result<(), Fail> {
     let mut body = [0u8; 24];
     body[0] = 7;
     body[8] = 33;
@@ -107,22 +108,21 @@ fn fields_are_at_their_offsets(rt: HostRuntime) {
         (64, 24, None, None),
     ] {
         expect_eq_at(
-            &rt,
             &(record_type, len),
             &field_values(&info, RecordType(record_type), &body[..len]),
             &([time; 3], [id; 5]),
-        );
+        )?;
     }
+    Ok(())
 }
 
 #[test]
-fn endian_is_the_type_parameter(rt: HostRuntime) {
+fn endian_is_the_type_parameter() -> Result<(), Fail> {
     let body = [0, 0, 0, 0, 0, 0, 1, 2];
     let raw = RawData::Single(&body);
     let info = parse_info(4, 0x40000);
     let sample = RecordType::SAMPLE;
     expect_eq(
-        &rt,
         &[
             get_record_timestamp::<BigEndian>(sample, raw, &info),
             get_record_timestamp::<BigEndian>(RecordType(1), raw, &info),
@@ -137,5 +137,6 @@ fn endian_is_the_type_parameter(rt: HostRuntime) {
             None,
             Some(0x0201_0000_0000_0000),
         ],
-    );
+    )?;
+    Ok(())
 }

@@ -1,11 +1,11 @@
 //! Raw data of one slice and of two: each call returns the same, whatever the split.
-use crate::expect::{expect, expect_eq, expect_eq_at};
 use byteorder::{BigEndian, LittleEndian};
 use perfdata_base::endian::{read_u16, read_u32, read_u64};
 use perfdata_base::raw::{Endianness, RawData};
 use std::io;
 use std::io::ErrorKind;
 use std::test::Fail;
+use test_support::expect::{expect, expect_eq, expect_eq_at};
 
 const FIVE: [u8; 5] = [1, 2, 3, 4, 5];
 
@@ -39,11 +39,11 @@ fn comparisons(data: RawData<'_>) -> (bool, [bool; 2], usize, bool) {
 fn equal_at_every_split(rt: HostRuntime) -> Result<(), Fail> {
     for at in 0..6usize {
         let data = split(&FIVE, at);
-        expect_eq_at(&rt, &at, &comparisons(data), &(true, [false; 2], 5, false));
+        expect_eq_at(&at, &comparisons(data), &(true, [false; 2], 5, false))?;
         let slice = data.as_slice(rt.alloc())?;
-        expect_eq_at(&rt, &at, &slice.as_slice(), &FIVE.as_slice());
+        expect_eq_at(&at, &slice.as_slice(), &FIVE.as_slice())?;
     }
-    expect(&rt, RawData::Split(&[], &[]).is_empty());
+    expect(RawData::Split(&[], &[]).is_empty())?;
     Ok(())
 }
 
@@ -81,13 +81,13 @@ fn read_two(data: &mut RawData<'_>) -> (Option<[u8; 2]>, bool, bool) {
 }
 
 #[test]
-fn parts_at_every_split(rt: HostRuntime) -> Result<(), Fail> {
+fn parts_at_every_split() -> Result<(), Fail> {
     for at in 0..6usize {
         let mut data = split(&FIVE, at);
-        expect_eq_at(&rt, &at, &ranges(data), &([true; 2], [false; 2]));
-        expect_eq_at(&rt, &at, &split_off_two(&mut data), &(true, true));
-        expect_eq_at(&rt, &at, &skip_one(&mut data), &(true, true));
-        expect_eq_at(&rt, &at, &read_two(&mut data), &(Some([4, 5]), true, true));
+        expect_eq_at(&at, &ranges(data), &([true; 2], [false; 2]))?;
+        expect_eq_at(&at, &split_off_two(&mut data), &(true, true))?;
+        expect_eq_at(&at, &skip_one(&mut data), &(true, true))?;
+        expect_eq_at(&at, &read_two(&mut data), &(Some([4, 5]), true, true))?;
     }
     Ok(())
 }
@@ -105,11 +105,10 @@ fn read_numbers(data: RawData<'_>) -> (Option<(u8, u16)>, Option<i32>, Option<u6
 }
 
 #[test]
-fn numbers_at_every_split(rt: HostRuntime) -> Result<(), Fail> {
+fn numbers_at_every_split() -> Result<(), Fail> {
     let bytes = [7, 1, 2, 0xfe, 0xff, 0xff, 0xff, 1, 2, 3, 4, 5, 6, 7, 8];
     for at in 0..16usize {
         expect_eq_at(
-            &rt,
             &at,
             &read_numbers(split(&bytes, at)),
             &(
@@ -118,30 +117,31 @@ fn numbers_at_every_split(rt: HostRuntime) -> Result<(), Fail> {
                 Some(0x0102_0304_0506_0708),
                 true,
             ),
-        );
+        )?;
     }
     Ok(())
 }
 
 #[test]
-fn short_read_changes_nothing(rt: HostRuntime) -> Result<(), Fail> {
+fn short_read_changes_nothing() -> Result<(), Fail> {
     let mut data = RawData::Split(&[1, 2, 3], &[4, 5]);
-    expect_eq(&rt, &data.read_u32::<LittleEndian>()?, &0x0403_0201);
-    expect(&rt, is_eof(data.read_u32::<LittleEndian>()));
-    expect(&rt, is_eof(data.read_u16::<BigEndian>()));
-    expect(&rt, is_eof(data.read_i32::<BigEndian>()));
-    expect(&rt, is_eof(data.read_u64::<BigEndian>()));
-    expect(&rt, data == RawData::Single(&[5]));
+    expect_eq(&data.read_u32::<LittleEndian>()?, &0x0403_0201)?;
+    expect(is_eof(data.read_u32::<LittleEndian>()))?;
+    expect(is_eof(data.read_u16::<BigEndian>()))?;
+    expect(is_eof(data.read_i32::<BigEndian>()))?;
+    expect(is_eof(data.read_u64::<BigEndian>()))?;
+    expect(data == RawData::Single(&[5]))?;
     Ok(())
 }
 
 #[test]
-fn strings_end_at_nul(rt: HostRuntime) {
+fn strings_end_at_nul() -> Result<(), Fail> {
     let mut data = RawData::Split(&[97], &[0, 98]);
-    expect(&rt, data.read_string() == Some(RawData::Single(b"a")));
-    expect(&rt, data == RawData::Single(b"b"));
-    expect(&rt, data.read_string().is_none());
-    expect(&rt, data == RawData::Single(b"b"));
+    expect(data.read_string() == Some(RawData::Single(b"a")))?;
+    expect(data == RawData::Single(b"b"))?;
+    expect(data.read_string().is_none())?;
+    expect(data == RawData::Single(b"b"))?;
+    Ok(())
 }
 
 // The numbers of the first two, four and eight bytes.
@@ -155,15 +155,14 @@ fn numbers_in(endian: Endianness) -> (u16, u32, u64) {
 }
 
 #[test]
-fn numbers_in_both_endians(rt: HostRuntime) {
+fn numbers_in_both_endians() -> Result<(), Fail> {
     expect_eq(
-        &rt,
         &numbers_in(Endianness::LittleEndian),
         &(0x0201, 0x0403_0201, 0x0807_0605_0403_0201),
-    );
+    )?;
     expect_eq(
-        &rt,
         &numbers_in(Endianness::BigEndian),
         &(0x0102, 0x0102_0304, 0x0102_0304_0506_0708),
-    );
+    )?;
+    Ok(())
 }

@@ -1,9 +1,9 @@
 //! The scripted source.
-use crate::expect::{expect_eq, expect_eq_at};
 use crate::source::read_once;
 use perfdata_base::source::{PlacedSource, Script, Step};
 use std::io::{ErrorKind, SeekFrom};
 use std::test::Fail;
+use test_support::expect::{expect_eq, expect_eq_at};
 
 // Reads once into a buffer of five bytes, and returns the number of bytes and the buffer.
 fn read_five(source: &mut Script) -> (Option<usize>, [u8; 5]) {
@@ -32,15 +32,15 @@ fn follows_steps(rt: HostRuntime) -> Result<(), Fail> {
         (Some(5), *b"12345"),
         (Some(1), *b"6\0\0\0\0"),
     ] {
-        expect_eq(&rt, &read_five(&mut source), &read);
+        expect_eq(&read_five(&mut source), &read)?;
     }
     for (to, at) in [
         (SeekFrom::End(0), Some(7)),
         (SeekFrom::Start(0), None),
         (SeekFrom::Start(2), Some(2)),
     ] {
-        expect_eq_at(&rt, &to, &source.seek_to(to).ok(), &at);
+        expect_eq_at(&to, &source.seek_to(to).ok(), &at)?;
     }
-    expect_eq(&rt, &read_five(&mut source), &(Some(5), *b"23456"));
+    expect_eq(&read_five(&mut source), &(Some(5), *b"23456"))?;
     Ok(())
 }

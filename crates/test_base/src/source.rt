@@ -2,15 +2,14 @@
 ghost use Rattle.std.specs.Prelude.{◌≡◌, ◌<◌, ℕ, length, Some, IfNone, IfSome};
 ghost use Rattle.perfdata_base.specs.Source.{CountIncreases};
 
-use crate::expect::{expect_eq, expect_eq_at};
 use perfdata_base::raw::RawData;
 use perfdata_base::source::{
     AppendError, Counted, CountedBuffer, PlacedSource, Source, append_exact, append_up_to, fill,
     read_exact, skip_exact, skip_up_to,
 };
 use std::io::{BufReader, Cursor, Error, ErrorKind, Read, SeekFrom};
-use std::process::Abort;
 use std::test::Fail;
+use test_support::expect::{expect_eq, expect_eq_at};
 use test_support::values::to_error_kind;
 
 const BYTES: &[u8] = b"0123456789";
@@ -52,49 +51,45 @@ impl Read for ErrorThenByte {
 }
 
 // Reads the bytes 0 to 2 and skips one.
-fn fills_and_skips<S: Source>(rt: &impl Abort, source: &mut S) {
+fn fills_and_skips<S: Source>(source: &mut S) -> Result<(), Fail> {
     let mut buf = [0u8; 3];
-    expect_eq(rt, &to_error_kind(fill(source, &mut buf)), &Ok(3));
-    expect_eq(rt, &buf, b"012");
-    expect_eq(rt, &to_error_kind(skip_up_to(source, 1)), &Ok(1));
+    expect_eq(&to_error_kind(fill(source, &mut buf)), &Ok(3))?;
+    expect_eq(&buf, b"012")?;
+    expect_eq(&to_error_kind(skip_up_to(source, 1)), &Ok(1))?;
+    Ok(())
 }
 
 // Skips one byte and fills the buffer after its first byte.
-fn skips_and_reads_exactly<S: Source>(rt: &impl Abort, source: &mut S) {
+fn skips_and_reads_exactly<S: Source>(source: &mut S) -> Result<(), Fail> {
     let mut buf = *b"012";
-    expect_eq(rt, &to_error_kind(skip_exact(source, 1)), &Ok(()));
-    expect_eq(
-        rt,
-        &to_error_kind(read_exact(source, &mut buf[1..])),
-        &Ok(()),
-    );
-    expect_eq(rt, &buf, b"078");
+    expect_eq(&to_error_kind(skip_exact(source, 1)), &Ok(()))?;
+    expect_eq(&to_error_kind(read_exact(source, &mut buf[1..])), &Ok(()))?;
+    expect_eq(&buf, b"078")?;
+    Ok(())
 }
 
 // Reads and skips at the end of the source.
-fn reads_nothing_at_the_end<S: Source>(rt: &impl Abort, source: &mut S) {
+fn reads_nothing_at_the_end<S: Source>(source: &mut S) -> Result<(), Fail> {
     let mut buf = [0u8; 3];
-    expect_eq(rt, &to_error_kind(fill(source, &mut buf)), &Ok(0));
-    expect_eq(rt, &to_error_kind(skip_up_to(source, 600)), &Ok(0));
+    expect_eq(&to_error_kind(fill(source, &mut buf)), &Ok(0))?;
+    expect_eq(&to_error_kind(skip_up_to(source, 600)), &Ok(0))?;
     let eof = Err(ErrorKind::UnexpectedEof);
-    expect_eq(rt, &to_error_kind(read_exact(source, &mut buf)), &eof);
-    expect_eq(rt, &to_error_kind(skip_exact(source, 1)), &eof);
+    expect_eq(&to_error_kind(read_exact(source, &mut buf)), &eof)?;
+    expect_eq(&to_error_kind(skip_exact(source, 1)), &eof)?;
+    Ok(())
 }
 
 // Consumes all ten bytes with each helper in turn, and calls the helpers again at the end.
-fn reads_ten_bytes<S: Source + Drop>(
-    rt: &(impl Abort + AllocGlobal),
-    mut source: S,
-) -> Result<(), Fail> {
+fn reads_ten_bytes<S: Source + Drop>(rt: &impl AllocGlobal, mut source: S) -> Result<(), Fail> {
     let source = &mut source;
-    fills_and_skips(rt, source);
+    fills_and_skips(source)?;
     let mut buffer = Vec::new(rt.alloc());
-    expect_eq(rt, &append_up_to(source, &mut buffer, 2)?, &2);
-    expect_eq(rt, &buffer.as_slice(), &b"45".as_slice());
-    skips_and_reads_exactly(rt, source);
-    expect_eq(rt, &append_up_to(source, &mut buffer, 5000)?, &1);
-    expect_eq(rt, &buffer.as_slice(), &b"459".as_slice());
-    reads_nothing_at_the_end(rt, source);
+    expect_eq(&append_up_to(source, &mut buffer, 2)?, &2)?;
+    expect_eq(&buffer.as_slice(), &b"45".as_slice())?;
+    skips_and_reads_exactly(source)?;
+    expect_eq(&append_up_to(source, &mut buffer, 5000)?, &1)?;
+    expect_eq(&buffer.as_slice(), &b"459".as_slice())?;
+    reads_nothing_at_the_end(source)?;
     Ok(())
 }
 
@@ -126,20 +121,18 @@ fn appends_exactly(rt: HostRuntime) -> Result<(), Fail> {
     let mut buffer = Vec::from_array(rt.alloc(), [b'x'])?;
     append_exact(&mut source, &mut buffer, 4)?;
     expect_eq(
-        &rt,
         &(buffer.as_slice(), source.len()),
         &(b"x0123".as_slice(), 6),
-    );
+    )?;
     // the six remaining bytes are appended before the error
     let error = append_error(&mut source, &mut buffer, 7);
-    expect_eq(&rt, &error, &Some(ErrorKind::UnexpectedEof));
+    expect_eq(&error, &Some(ErrorKind::UnexpectedEof))?;
     expect_eq(
-        &rt,
         &(buffer.as_slice(), source.len()),
         &(b"x0123456789".as_slice(), 0),
-    );
+    )?;
     append_exact(&mut source, &mut buffer, 0)?;
-    expect_eq(&rt, &buffer.len(), &11);
+    expect_eq(&buffer.len(), &11)?;
     Ok(())
 }
 
@@ -150,39 +143,67 @@ fn seek_and_read<S: PlacedSource>(
 ) -> Result<(Option<u64>, Option<u8>), Error> {
     let mut buf = [0u8; 1];
     let at = source.seek_to(to).ok();
-    match source.read_front(&mut buf) {
-        Ok(1) => Ok((at, Some(buf[0]))),
-        Ok(_) => Ok((at, None)),
-        Err(error) => Err(error),
-    }
+    let count = source.read_front(&mut buf)?;
+    let byte = if count == 1 { Some(buf[0]) } else { None };
+    Ok((at, byte))
 }
 
 // Seeks to each position and reads the byte there.
-fn seeks_in<S: PlacedSource + Drop>(rt: &impl Abort, mut source: S) -> Result<(), Fail> {
+fn seeks_in<S: PlacedSource + Drop>(mut source: S) -> Result<(), Fail> {
     for (to, at, byte) in [
         (SeekFrom::Start(4), Some(4), Some(b'4')),
         (SeekFrom::Current(2), Some(7), Some(b'7')),
         (SeekFrom::Current(-8), Some(0), Some(b'0')),
         (SeekFrom::Current(-2), None, Some(b'1')),
         (SeekFrom::End(-1), Some(9), Some(b'9')),
+        (SeekFrom::End(0), Some(10), None),
         (SeekFrom::End(-11), None, None),
         (SeekFrom::End(5), Some(15), None),
         (SeekFrom::Start(u64::MAX), Some(u64::MAX), None),
         (SeekFrom::Current(1), None, None),
     ] {
-        expect_eq_at(rt, &to, &seek_and_read(&mut source, to)?, &(at, byte));
+        expect_eq_at(&to, &seek_and_read(&mut source, to)?, &(at, byte))?;
     }
     Ok(())
 }
 
 #[test]
 fn seeks_in_each_source(rt: HostRuntime) -> Result<(), Fail> {
-    seeks_in(&rt, Cursor::new(BYTES))?;
-    seeks_in(&rt, Cursor::new(BYTES.to_vec(rt.alloc())?))?;
-    seeks_in(&rt, &mut Cursor::new(BYTES))?;
-    seeks_in(&rt, Counted::new(Cursor::new(BYTES)))?;
+    seeks_in(Cursor::new(BYTES))?;
+    seeks_in(Cursor::new(BYTES.to_vec(rt.alloc())?))?;
+    seeks_in(&mut Cursor::new(BYTES))?;
+    seeks_in(Counted::new(Cursor::new(BYTES)))?;
     let buffer = BufReader::with_capacity(rt.alloc(), 4, Cursor::new(BYTES))?;
-    seeks_in(&rt, CountedBuffer::new(buffer))
+    seeks_in(CountedBuffer::new(buffer))
+}
+
+// Seeks to the end and returns the position, or `None` if the seek fails. The contract states the counts: no seek changes the
+// number of empty reads, and a successful one doesn't change the number of I/O errors.
+pub fn seek_to_end<S: PlacedSource>(source: &mut S) -> Option<u64>
+    ensures same_errors { IfSome result (λ _. (S.state source.new).errors ≡ (S.state source.old).errors) }
+    ensures same_pauses { (S.state source.new).pauses ≡ (S.state source.old).pauses }
+{
+    match source.seek_to(SeekFrom::End(0)) {
+        Ok(at) => Some(at),
+        Err(_) => None,
+    }
+}
+
+// Seeks to the end, reads there, seeks back by one byte and reads it. No seek and no read fails.
+fn reads_after_the_end<S: PlacedSource + Drop>(mut source: S) -> Result<(), Fail> {
+    let mut buf = [0u8; 1];
+    expect_eq(&seek_to_end(&mut source), &Some(10))?;
+    expect_eq(&read_once(&mut source, &mut buf), &Some(0))?;
+    let last = seek_and_read(&mut source, SeekFrom::Current(-1))?;
+    expect_eq(&last, &(Some(9), Some(b'9')))?;
+    Ok(())
+}
+
+#[test]
+fn seeks_to_the_end(rt: HostRuntime) -> Result<(), Fail> {
+    reads_after_the_end(Counted::new(Cursor::new(BYTES)))?;
+    let buffer = BufReader::with_capacity(rt.alloc(), 4, Cursor::new(BYTES))?;
+    reads_after_the_end(CountedBuffer::new(buffer))
 }
 
 // The result of filling a buffer of two bytes with `errors` errors of this kind before each byte, and the buffer.
@@ -193,14 +214,13 @@ fn fill_after_errors(kind: ErrorKind, errors: u32) -> (Result<usize, ErrorKind>,
 }
 
 #[test]
-fn retries_interrupted_reads(rt: HostRuntime) -> Result<(), Fail> {
+fn retries_interrupted_reads() -> Result<(), Fail> {
     expect_eq(
-        &rt,
         &fill_after_errors(ErrorKind::Interrupted, 16),
         &(Ok(2), *b"ab"),
-    );
+    )?;
     for (kind, errors) in [(ErrorKind::Interrupted, 17), (ErrorKind::TimedOut, 1)] {
-        expect_eq(&rt, &fill_after_errors(kind, errors).0, &Err(kind));
+        expect_eq(&fill_after_errors(kind, errors).0, &Err(kind))?;
     }
     Ok(())
 }
@@ -221,12 +241,12 @@ pub fn read_once<S: Source>(source: &mut S, buf: &mut [u8]) -> Option<usize>
 }
 
 #[test]
-fn counts_errors_and_empty_reads(rt: HostRuntime) -> Result<(), Fail> {
+fn counts_errors_and_empty_reads() -> Result<(), Fail> {
     let mut source = Counted::new(ErrorThenByte::new(ErrorKind::Other, 1));
     let mut buf = [0u8; 1];
     for count in [None, Some(1), None, Some(1), None, Some(0)] {
-        expect_eq(&rt, &read_once(&mut source, &mut buf), &count);
+        expect_eq(&read_once(&mut source, &mut buf), &count)?;
     }
-    expect_eq(&rt, &source.read_front(&mut [])?, &0);
+    expect_eq(&source.read_front(&mut [])?, &0)?;
     Ok(())
 }

@@ -1,5 +1,4 @@
 //! An empty read at each byte in turn, although bytes remain: the results are those of an input that ends there.
-use crate::expect::expect_eq;
 use crate::results::{
     Expected, expected_of_first_file, expected_of_truncated_pipe, file_results_are,
     pipe_results_are,
@@ -9,6 +8,7 @@ use linux_perf_data::source::Step;
 use std::io::ErrorKind;
 use std::test::Fail;
 use test_support::error_key::ErrorKey;
+use test_support::expect::expect_eq;
 use test_support::image::Image;
 use test_support::recordings::auxtrace_pipe;
 
@@ -25,7 +25,7 @@ fn empty_read_at_each_byte_of_a_file(rt: HostRuntime) -> Result<(), Fail> {
 #[test]
 fn empty_read_at_each_byte_of_a_pipe(rt: HostRuntime) -> Result<(), Fail> {
     let image = auxtrace_pipe(rt.alloc(), 0)?;
-    expect_eq(&rt, &image.bytes.len(), &153);
+    expect_eq(&image.bytes.len(), &153)?;
     for at in 0..154usize {
         pipe_results_are(
             &rt,

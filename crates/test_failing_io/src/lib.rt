@@ -4,8 +4,6 @@
 #[cfg(test)]
 mod empty_reads;
 #[cfg(test)]
-mod expect;
-#[cfg(test)]
 mod read_errors;
 #[cfg(test)]
 mod results;

@@ -1,5 +1,4 @@
 //! An I/O error at each read in turn.
-use crate::expect::expect_eq;
 use crate::results::{
     BodyKey, CallResult, Expected, FILE_RECORDS, PIPE_RECORDS, RecordValue, ends_after,
     expected_of_first_file, fails_with, file_results_are, pipe_results_are,
@@ -9,6 +8,7 @@ use linux_perf_data::{Endianness, RecordPlace};
 use std::io::ErrorKind;
 use std::test::Fail;
 use test_support::error_key::{ATTRIBUTE, DATA, ErrorKey};
+use test_support::expect::expect_eq;
 use test_support::image::{Image, Part, little_endian_file};
 use test_support::recordings::{
     EVENT_TYPES, META_INFO, auxtrace_pipe, simpleperf_file, two_features,
@@ -17,7 +17,7 @@ use test_support::recordings::{
 #[test]
 fn read_error_at_each_byte_of_a_file(rt: HostRuntime) -> Result<(), Fail> {
     let image = Image::first_file(rt.alloc(), Endianness::LittleEndian)?;
-    expect_eq(&rt, &image.bytes.len(), &208);
+    expect_eq(&image.bytes.len(), &208)?;
     for kind in [ErrorKind::Other, ErrorKind::TimedOut] {
         for at in 0..208usize {
             let stop = (at, Step::Fault(kind));
@@ -41,7 +41,7 @@ fn expected_around_marker(at: usize) -> Expected<'static> {
 fn read_error_at_each_byte_of_a_marker(rt: HostRuntime) -> Result<(), Fail> {
     let parts = [Part::Sample(20), Part::RoundMarker(16), Part::Sample(10)];
     let image = little_endian_file(rt.alloc(), (48, 4, 0), &parts)?;
-    expect_eq(&rt, &image.bytes.len(), &216);
+    expect_eq(&image.bytes.len(), &216)?;
     for at in 184..216usize {
         let stop = (at, Step::Fault(ErrorKind::Other));
         file_results_are(&rt, &image.bytes, stop, expected_around_marker(at))?;
@@ -164,7 +164,7 @@ fn read_error_at_each_byte_of_other_files(rt: HostRuntime) -> Result<(), Fail> {
             &FILE_RECORDS[..1],
         ),
     ] {
-        expect_eq(&rt, &image.bytes.len(), &length);
+        expect_eq(&image.bytes.len(), &length)?;
         for kind in [ErrorKind::Other, ErrorKind::TimedOut] {
             for at in 0..length {
                 let expected = expected_of_regions(regions, records, at, kind);
@@ -208,7 +208,7 @@ fn read_error_at_each_byte_of_a_pipe(rt: HostRuntime) -> Result<(), Fail> {
         }
     }
     let image = auxtrace_pipe(rt.alloc(), 4)?;
-    expect_eq(&rt, &image.bytes.len(), &157);
+    expect_eq(&image.bytes.len(), &157)?;
     for at in 16..20usize {
         let stop = (at, Step::Fault(ErrorKind::TimedOut));
         let failed = Expected::OpenError(ErrorKey::IoError(ErrorKind::TimedOut));

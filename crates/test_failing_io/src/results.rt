@@ -1,13 +1,12 @@
 //! The results of an opening and of the calls for records, over sources that fail, pause or end early.
-use crate::expect::expect_eq_at;
 use linux_perf_data::raw::RawData;
 use linux_perf_data::source::{PlacedSource, Script, Source, Step};
 use linux_perf_data::{Error, PerfFileReader, PerfFileRecord, RecordPlace};
 use std::alloc::{AllocError, Global};
 use std::io::ErrorKind;
-use std::process::Abort;
 use std::test::Fail;
 use test_support::error_key::{ATTRIBUTE, DATA, ErrorKey, UNEXPECTED_EOF};
+use test_support::expect::expect_eq_at;
 use test_support::recordings::AUXTRACE_BODY;
 use test_support::sources::{bytes_then, script_of};
 
@@ -276,7 +275,7 @@ pub fn expected_of_truncated_pipe(at: usize) -> Expected<'static> {
 
 /// Compares the results of the calls with the expected ones, and checks that no call reads after the stop.
 pub fn results_are(
-    rt: &(impl Abort + AllocGlobal),
+    rt: &impl AllocGlobal,
     name: &str,
     at: usize,
     actual: (Vec<CallResult>, bool),
@@ -285,11 +284,10 @@ pub fn results_are(
     let wanted = expected_results(rt.alloc(), expected)?;
     let (results, unread) = actual;
     expect_eq_at(
-        rt,
         &(name, at),
         &(results.as_slice(), unread),
         &(wanted.as_slice(), true),
-    );
+    )?;
     Ok(())
 }
 
@@ -303,7 +301,7 @@ pub fn call_count(expected: Expected<'_>) -> usize {
 
 /// Compares the results for a file that performs this step after this many bytes with the expected ones.
 pub fn file_results_are(
-    rt: &(impl Abort + AllocGlobal),
+    rt: &impl AllocGlobal,
     bytes: &[u8],
     stop: (usize, Step),
     expected: Expected<'_>,
@@ -314,7 +312,7 @@ pub fn file_results_are(
 
 /// Compares the results for a pipe that performs this step after this many bytes with the expected ones.
 pub fn pipe_results_are(
-    rt: &(impl Abort + AllocGlobal),
+    rt: &impl AllocGlobal,
     bytes: &[u8],
     stop: (usize, Step),
     expected: Expected<'_>,

@@ -1,5 +1,4 @@
 //! An I/O error at each seek of an opening in turn.
-use crate::expect::{expect_eq, expect_eq_at};
 use crate::results::{CallResult, file_results};
 use linux_perf_data::source::{PlacedSource, Script};
 use linux_perf_data::{Endianness, Feature};
@@ -7,6 +6,7 @@ use std::alloc::{AllocError, Global};
 use std::io::{ErrorKind, SeekFrom};
 use std::test::Fail;
 use test_support::error_key::ErrorKey;
+use test_support::expect::{expect_eq, expect_eq_at};
 use test_support::image::Image;
 use test_support::recordings::{
     EVENT_TYPES, HOST_NAME, META_INFO, file_with_section, simpleperf_file, two_features,
@@ -83,10 +83,10 @@ fn seek_error_at_each_seek_of_an_open(rt: HostRuntime) -> Result<(), Fail> {
         // the feature table, the meta info, one attribute with a section entry and ids, the data
         (simpleperf_file(rt.alloc(), 80, META_INFO)?, 254, 6),
     ] {
-        expect_eq(&rt, &image.bytes.len(), &length);
+        expect_eq(&image.bytes.len(), &length)?;
         for kind in [ErrorKind::Other, ErrorKind::TimedOut] {
             let result = count_failing_seeks(rt.alloc(), &image.bytes, kind)?;
-            expect_eq_at(&rt, &(length, kind), &result, &(wanted, true));
+            expect_eq_at(&(length, kind), &result, &(wanted, true))?;
         }
     }
     Ok(())

@@ -1,5 +1,4 @@
 //! Each prefix of a file and of a pipe.
-use crate::expect::expect_eq_at;
 use crate::results::{
     CallResult, Expected, call_count, expected_of_first_file, expected_of_truncated_pipe,
     expected_results, file_results, pipe_results,
@@ -8,6 +7,7 @@ use linux_perf_data::Endianness;
 use std::alloc::{AllocError, Global};
 use std::io::{Cursor, ErrorKind};
 use std::test::Fail;
+use test_support::expect::expect_eq_at;
 use test_support::image::Image;
 use test_support::recordings::auxtrace_pipe;
 
@@ -53,7 +53,7 @@ fn truncation_at_each_byte(rt: HostRuntime) -> Result<(), Fail> {
                 call_count(expected),
             )?;
             let wanted = expected_results(rt.alloc(), expected)?;
-            expect_eq_at(&rt, &(is_file, at), &results.as_slice(), &wanted.as_slice());
+            expect_eq_at(&(is_file, at), &results.as_slice(), &wanted.as_slice())?;
         }
     }
     Ok(())

@@ -1,12 +1,11 @@
 //! Build ids.
-use crate::expect::{expect_eq, expect_eq_at};
 use crate::features::{ENDIANS, open_file_state};
 use linux_perf_data::event::CpuMode;
 use linux_perf_data::{DsoInfo, DsoKey, Endianness, Feature};
 use std::alloc::{AllocError, Global};
 use std::collections::HashMap;
-use std::process::Abort;
 use std::test::Fail;
+use test_support::expect::{expect_eq, expect_eq_at};
 use test_support::recordings::file_with_section;
 
 /// Appends an entry with this misc and size, one byte of build id, and these bytes after the first 36.
@@ -49,21 +48,21 @@ fn build_ids_of(
 
 /// Asserts that the map contains exactly this path and build id, with the path's key.
 fn has_single_entry(
-    rt: &(impl Abort + AllocGlobal),
+    rt: &impl AllocGlobal,
     ids: &HashMap<DsoKey, DsoInfo>,
     mode: CpuMode,
     path: &[u8],
     build_id: &[u8],
 ) -> Result<(), Fail> {
-    expect_eq(rt, &ids.len(), &1);
+    expect_eq(&ids.len(), &1)?;
     let Some(key) = DsoKey::detect(rt.alloc(), path, mode)? else {
         return Err(Fail::from("no key"));
     };
     let Some(info) = ids.get(&key) else {
         return Err(Fail::from("no build id"));
     };
-    expect_eq(rt, &info.path.as_slice(), &path);
-    expect_eq(rt, &info.build_id.as_slice(), &build_id);
+    expect_eq(&info.path.as_slice(), &path)?;
+    expect_eq(&info.build_id.as_slice(), &build_id)?;
     Ok(())
 }
 
@@ -86,11 +85,11 @@ fn last_entry_per_key(rt: HostRuntime) -> Result<(), Fail> {
 fn skipped_and_truncated_entries(rt: HostRuntime) -> Result<(), Fail> {
     let endian = Endianness::LittleEndian;
     let none = build_ids_of(rt.alloc(), endian, &[])?;
-    expect_eq(&rt, &none.len(), &0);
+    expect_eq(&none.len(), &0)?;
     let mut content = Vec::new(rt.alloc());
     push_entry(&mut content, endian, (0, 41), 1, b"/a/x\0")?;
     let found = build_ids_of(rt.alloc(), endian, content.as_slice())?;
-    expect_eq_at(&rt, &"no mode", &found.len(), &0);
+    expect_eq_at(&"no mode", &found.len(), &0)?;
     let mut content = Vec::new(rt.alloc());
     push_entry(&mut content, endian, (1, 54), 1, b"[kernel.kallsyms]\0")?;
     let found = build_ids_of(rt.alloc(), endian, content.as_slice())?;
@@ -105,7 +104,7 @@ fn skipped_and_truncated_entries(rt: HostRuntime) -> Result<(), Fail> {
     push_entry(&mut content, endian, (2, u16::MAX), 1, b"")?;
     push_entry(&mut content, endian, (2, 41), 1, b"/a/x\0")?;
     let found = build_ids_of(rt.alloc(), endian, content.as_slice())?;
-    expect_eq_at(&rt, &"after a truncated entry", &found.len(), &1);
+    expect_eq_at(&"after a truncated entry", &found.len(), &1)?;
     let mut content = Vec::new(rt.alloc());
     push_entry(&mut content, endian, (2, 10), 0, b"")?;
     let found = build_ids_of(rt.alloc(), endian, content.as_slice())?;
@@ -125,6 +124,6 @@ fn no_build_id_section(rt: HostRuntime) -> Result<(), Fail> {
         &[0; 4],
     )?;
     let file = open_file_state(rt.alloc(), &image)?;
-    expect_eq(&rt, &file.build_ids(rt.alloc())?.len(), &0);
+    expect_eq(&file.build_ids(rt.alloc())?.len(), &0)?;
     Ok(())
 }

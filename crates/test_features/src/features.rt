@@ -1,12 +1,11 @@
 //! Features and the results of their accessors.
-use crate::expect::{expect, expect_eq, expect_eq_at};
 use linux_perf_data::feature_sections::PmuMappings;
 use linux_perf_data::{Endianness, Error, Feature, PerfFile, PerfFileReader};
 use std::alloc::{AllocError, Global};
 use std::io::{Cursor, ErrorKind};
-use std::process::Abort;
 use std::test::Fail;
 use test_support::error_key::{ErrorKey, UNEXPECTED_EOF};
+use test_support::expect::{expect, expect_eq, expect_eq_at};
 use test_support::image::Image;
 use test_support::recordings::{
     HOST_NAME, file_with_entries, file_with_features, file_with_section,
@@ -32,17 +31,16 @@ pub fn open_with_section(
 #[test]
 fn reads_hostname(rt: HostRuntime) -> Result<(), Fail> {
     let file = open_with_section(rt.alloc(), Feature::HOSTNAME, HOST_NAME)?;
-    expect_eq(&rt, &file.features().len(), &1);
-    expect(&rt, file.features().has_feature(Feature::HOSTNAME));
-    expect(&rt, matches!(file.hostname(), Ok(Some("ab"))));
-    expect(&rt, matches!(file.os_release(), Ok(None)));
-    expect(&rt, !file.is_stats());
+    expect_eq(&file.features().len(), &1)?;
+    expect(file.features().has_feature(Feature::HOSTNAME))?;
+    expect(matches!(file.hostname(), Ok(Some("ab"))))?;
+    expect(matches!(file.os_release(), Ok(None)))?;
+    expect(!file.is_stats())?;
     expect_eq(
-        &rt,
         &file.feature_section_data(Feature::HOSTNAME),
         &Some(HOST_NAME),
-    );
-    expect_eq(&rt, &file.feature_section_data(Feature::OSRELEASE), &None);
+    )?;
+    expect_eq(&file.feature_section_data(Feature::OSRELEASE), &None)?;
     Ok(())
 }
 
@@ -51,7 +49,7 @@ fn section_may_span_the_file(rt: HostRuntime) -> Result<(), Fail> {
     let image = file_with_entries(rt.alloc(), &[(0, 233)], HOST_NAME)?;
     let whole = open_file_state(rt.alloc(), &image)?;
     let data = whole.feature_section_data(Feature::HOSTNAME);
-    expect_eq(&rt, &data, &Some(image.bytes.as_slice()));
+    expect_eq(&data, &Some(image.bytes.as_slice()))?;
     Ok(())
 }
 
@@ -60,7 +58,7 @@ fn empty_section_out_of_range(rt: HostRuntime) -> Result<(), Fail> {
     let image = file_with_entries(rt.alloc(), &[(u64::MAX, 0)], HOST_NAME)?;
     let none = open_file_state(rt.alloc(), &image)?;
     let data = none.feature_section_data(Feature::HOSTNAME);
-    expect_eq(&rt, &data, &Some(&[] as &[u8]));
+    expect_eq(&data, &Some(&[] as &[u8]))?;
     Ok(())
 }
 
@@ -78,14 +76,13 @@ fn many_features(rt: HostRuntime) -> Result<(), Fail> {
             (200, &[2, 3]),
         ] {
             let found = file.feature_section_data(Feature(number));
-            expect_eq_at(&rt, &number, &found, &Some(wanted));
+            expect_eq_at(&number, &found, &Some(wanted))?;
         }
         expect(
-            &rt,
             file.features()
                 .iter()
                 .eq([Feature(3), Feature(127), Feature(200)]),
-        );
+        )?;
     }
     Ok(())
 }
@@ -127,7 +124,7 @@ impl StringFeature {
 
 /// Asserts that the accessor returns this string for a section of these bytes.
 fn string_is(
-    rt: &(impl Abort + AllocGlobal),
+    rt: &impl AllocGlobal,
     endian: Endianness,
     text: StringFeature,
     content: &[u8],
@@ -135,10 +132,7 @@ fn string_is(
 ) -> Result<(), Fail> {
     let image = file_with_section(rt.alloc(), endian, text.feature(), content)?;
     let file = open_file_state(rt.alloc(), &image)?;
-    expect(
-        rt,
-        matches!(text.of(&file), Ok(Some(found)) if found == wanted),
-    );
+    expect(matches!(text.of(&file), Ok(Some(found)) if found == wanted))?;
     Ok(())
 }
 
@@ -157,7 +151,7 @@ fn strings_in_both_endians(rt: HostRuntime) -> Result<(), Fail> {
             string_is(&rt, endian, text, &content.bytes, "x86_64")?;
         }
         let image = file_with_section(rt.alloc(), endian, Feature::STAT, &[])?;
-        expect(&rt, open_file_state(rt.alloc(), &image)?.is_stats());
+        expect(open_file_state(rt.alloc(), &image)?.is_stats())?;
     }
     Ok(())
 }
@@ -193,7 +187,7 @@ fn invalid_strings_fail(rt: HostRuntime) -> Result<(), Fail> {
         ),
     ] {
         let file = open_with_section(rt.alloc(), text.feature(), content)?;
-        expect_eq(&rt, &ErrorKey::of_result(text.of(&file)), &Some(wanted));
+        expect_eq(&ErrorKey::of_result(text.of(&file)), &Some(wanted))?;
     }
     Ok(())
 }
@@ -203,10 +197,7 @@ fn command_line_arguments(rt: HostRuntime) -> Result<(), Fail> {
     let section = [2, 0, 0, 0, 1, 0, 0, 0, b'a', 1, 0, 0, 0, b'b'];
     let file = open_with_section(rt.alloc(), Feature::CMDLINE, &section)?;
     let line = file.cmdline(rt.alloc())?;
-    expect(
-        &rt,
-        matches!(&line, Some(line) if line.as_slice() == ["a", "b"].as_slice()),
-    );
+    expect(matches!(&line, Some(line) if line.as_slice() == ["a", "b"].as_slice()))?;
     Ok(())
 }
 
@@ -219,10 +210,9 @@ fn invalid_command_line_fails(rt: HostRuntime) -> Result<(), Fail> {
     ] {
         let file = open_with_section(rt.alloc(), Feature::CMDLINE, content)?;
         expect_eq(
-            &rt,
             &ErrorKey::of_result(file.cmdline(rt.alloc())),
             &Some(wanted),
-        );
+        )?;
     }
     Ok(())
 }
@@ -291,7 +281,7 @@ fn truncated_sections_fail(rt: HostRuntime) -> Result<(), Fail> {
         (NumberFeature::PmuMappings, &[5, 0, 0, 0], UNEXPECTED_EOF),
     ] {
         let file = open_with_section(rt.alloc(), numbers.feature(), content)?;
-        expect_eq(&rt, &numbers.error_in(rt.alloc(), &file), &Some(wanted));
+        expect_eq(&numbers.error_in(rt.alloc(), &file), &Some(wanted))?;
     }
     Ok(())
 }
@@ -323,12 +313,9 @@ const U32_FIELDS: [(u64, u32); 5] = [(1, 4), (2, 4), (3, 4), (4, 4), (5, 4)];
 fn memory_and_frequency(rt: HostRuntime) -> Result<(), Fail> {
     for endian in ENDIANS {
         let file = file_with_integers(rt.alloc(), endian, Feature::TOTAL_MEM, &U64_FIELDS)?;
-        expect(&rt, matches!(file.total_mem(), Ok(Some(0x1_0000_0005))));
+        expect(matches!(file.total_mem(), Ok(Some(0x1_0000_0005))))?;
         let file = file_with_integers(rt.alloc(), endian, Feature::CLOCKID, &U64_FIELDS)?;
-        expect(
-            &rt,
-            matches!(file.clock_frequency(), Ok(Some(0x1_0000_0005))),
-        );
+        expect(matches!(file.clock_frequency(), Ok(Some(0x1_0000_0005))))?;
     }
     Ok(())
 }
@@ -338,14 +325,12 @@ fn times_and_cpus(rt: HostRuntime) -> Result<(), Fail> {
     for endian in ENDIANS {
         let file = file_with_integers(rt.alloc(), endian, Feature::SAMPLE_TIME, &U64_FIELDS)?;
         expect(
-            &rt,
             matches!(file.sample_time_range(), Ok(Some(times)) if times.first_sample_time == 0x1_0000_0005 && times.last_sample_time == 0x2_0000_0003),
-        );
+        )?;
         let file = file_with_integers(rt.alloc(), endian, Feature::NRCPUS, &U32_FIELDS)?;
         expect(
-            &rt,
             matches!(file.nr_cpus(), Ok(Some(cpus)) if cpus.nr_cpus_available == 1 && cpus.nr_cpus_online == 2),
-        );
+        )?;
     }
     Ok(())
 }
@@ -357,8 +342,8 @@ fn compression_in_both_endians(rt: HostRuntime) -> Result<(), Fail> {
         let Ok(Some(info)) = file.compression_info() else {
             return Err(Fail::from("no compression"));
         };
-        expect_eq(&rt, &(info.version, info.type_, info.level), &(1, 2, 3));
-        expect_eq(&rt, &(info.ratio, info.mmap_len), &(4, 5));
+        expect_eq(&(info.version, info.type_, info.level), &(1, 2, 3))?;
+        expect_eq(&(info.ratio, info.mmap_len), &(4, 5))?;
     }
     Ok(())
 }
@@ -371,9 +356,9 @@ fn clock_in_both_endians(rt: HostRuntime) -> Result<(), Fail> {
         let Ok(Some(clock)) = file.clock_data() else {
             return Err(Fail::from("no clock"));
         };
-        expect_eq(&rt, &clock.clockid, &4);
-        expect_eq(&rt, &clock.wall_clock_ns, &9);
-        expect_eq(&rt, &clock.clockid_time_ns, &0x3_0000_0001);
+        expect_eq(&clock.clockid, &4)?;
+        expect_eq(&clock.wall_clock_ns, &9)?;
+        expect_eq(&clock.clockid_time_ns, &0x3_0000_0001)?;
     }
     Ok(())
 }
@@ -390,15 +375,13 @@ fn pmu_section(alloc: Global, endian: Endianness, count: u32) -> Result<Image, A
 }
 
 /// Asserts that the PMU mappings are 2, named a, and 7, named c.
-fn has_two_mappings(rt: &impl Abort, units: &PmuMappings) {
+fn has_two_mappings(units: &PmuMappings) -> Result<(), Fail> {
     let mut names = units.0.iter();
     for wanted in [(2, "a"), (7, "c")] {
-        expect(
-            rt,
-            matches!(names.next(), Some((number, name)) if (*number, name.as_str()) == wanted),
-        );
+        expect(matches!(names.next(), Some((number, name)) if (*number, name.as_str()) == wanted))?;
     }
-    expect(rt, names.next().is_none());
+    expect(names.next().is_none())?;
+    Ok(())
 }
 
 #[test]
@@ -410,7 +393,7 @@ fn pmu_mappings_by_number(rt: HostRuntime) -> Result<(), Fail> {
         let Ok(Some(units)) = file.pmu_mappings(rt.alloc()) else {
             return Err(Fail::from("no units"));
         };
-        has_two_mappings(&rt, &units);
+        has_two_mappings(&units)?;
     }
     Ok(())
 }
@@ -420,7 +403,7 @@ fn fewer_pmu_mappings_than_counted(rt: HostRuntime) -> Result<(), Fail> {
     let content = pmu_section(rt.alloc(), Endianness::LittleEndian, 5)?;
     let file = open_with_section(rt.alloc(), Feature::PMU_MAPPINGS, &content.bytes)?;
     let error = NumberFeature::PmuMappings.error_in(rt.alloc(), &file);
-    expect_eq(&rt, &error, &Some(UNEXPECTED_EOF));
+    expect_eq(&error, &Some(UNEXPECTED_EOF))?;
     Ok(())
 }
 
@@ -443,15 +426,15 @@ fn no_section_no_value(rt: HostRuntime) -> Result<(), Fail> {
         StringFeature::CpuDesc,
         StringFeature::CpuId,
     ] {
-        expect(&rt, is_absent(text.of(&file)));
+        expect(is_absent(text.of(&file)))?;
     }
-    expect(&rt, is_absent(file.cmdline(rt.alloc())));
-    expect(&rt, is_absent(file.total_mem()));
-    expect(&rt, is_absent(file.clock_frequency()));
-    expect(&rt, is_absent(file.nr_cpus()));
-    expect(&rt, is_absent(file.sample_time_range()));
-    expect(&rt, is_absent(file.clock_data()));
-    expect(&rt, is_absent(file.compression_info()));
-    expect(&rt, is_absent(file.pmu_mappings(rt.alloc())));
+    expect(is_absent(file.cmdline(rt.alloc())))?;
+    expect(is_absent(file.total_mem()))?;
+    expect(is_absent(file.clock_frequency()))?;
+    expect(is_absent(file.nr_cpus()))?;
+    expect(is_absent(file.sample_time_range()))?;
+    expect(is_absent(file.clock_data()))?;
+    expect(is_absent(file.compression_info()))?;
+    expect(is_absent(file.pmu_mappings(rt.alloc())))?;
     Ok(())
 }

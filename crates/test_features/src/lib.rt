@@ -4,8 +4,8 @@
 #[cfg(test)]
 mod build_ids;
 #[cfg(test)]
-mod expect;
-#[cfg(test)]
 mod features;
+#[cfg(test)]
+mod large;
 #[cfg(test)]
 mod simpleperf;

@@ -1,9 +1,9 @@
 //! The buffered reader: parts that cross the end of the buffer, and skipped bytes.
-use crate::expect::{expect_at, expect_eq, expect_eq_at};
 use perfdata_base::raw::RawData;
 use perfdata_jit::{BufferedReader, ReadExactOrUntilEof};
 use std::io::Cursor;
 use std::test::Fail;
+use test_support::expect::{expect_at, expect_eq, expect_eq_at};
 
 const BYTES: &[u8] = b"123456789";
 
@@ -14,7 +14,7 @@ fn part_spans_the_buffer_end(rt: HostRuntime) -> Result<(), Fail> {
     let mut buffer = Vec::new(rt.alloc());
     buffer.resize(6, 0)?;
     let read_count = source.read_exact_or_until_eof(&mut buffer[..2])?;
-    expect_eq(&rt, &read_count, &2);
+    expect_eq(&read_count, &2)?;
     let mut reader = BufferedReader::new_with_partially_read_buffer(
         rt.alloc(),
         source,
@@ -33,7 +33,7 @@ fn part_spans_the_buffer_end(rt: HostRuntime) -> Result<(), Fail> {
             (None, None) => true,
             _ => false,
         };
-        expect_at(&rt, &count, is_part);
+        expect_at(&count, is_part)?;
     }
     Ok(())
 }
@@ -52,7 +52,7 @@ fn skips_bytes(rt: HostRuntime) -> Result<(), Fail> {
         0,
     );
     for (count, skipped) in [(7, true), (3, false), (2, true), (1, false)] {
-        expect_eq_at(&rt, &count, &reader.skip_bytes(count)?, &skipped);
+        expect_eq_at(&count, &reader.skip_bytes(count)?, &skipped)?;
     }
     Ok(())
 }

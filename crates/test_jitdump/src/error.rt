@@ -1,8 +1,8 @@
 //! The messages of errors.
-use crate::expect::expect_eq;
 use perfdata_jit::JitDumpError;
 use std::io::{Error, ErrorKind};
 use std::test::Fail;
+use test_support::expect::expect_eq;
 
 #[test]
 fn displays_messages(rt: HostRuntime) -> Result<(), Fail> {
@@ -34,7 +34,7 @@ fn displays_messages(rt: HostRuntime) -> Result<(), Fail> {
         ),
     ] {
         let shown = format!(in rt.alloc(); "{error}")?;
-        expect_eq(&rt, &shown.as_str(), &text);
+        expect_eq(&shown.as_str(), &text)?;
     }
     Ok(())
 }

@@ -1,10 +1,10 @@
 //! Jitdump headers: whatever the split, and which error has priority.
-use crate::expect::{expect_eq, expect_eq_at};
 use byteorder::LittleEndian;
 use perfdata_base::raw::{Endianness, RawData};
 use perfdata_jit::{JitDumpError, JitDumpHeader};
 use std::io::ErrorKind;
 use std::test::Fail;
+use test_support::expect::{expect_eq, expect_eq_at};
 use test_support::recordings::JITDUMP;
 
 // Version 1 and 40 bytes. All other numbers differ.
@@ -65,19 +65,20 @@ fn parse_rest(rest: &[u8]) -> Result<(u32, u64), ErrorKind> {
 }
 
 #[test]
-fn parses_fields_at_every_split(rt: HostRuntime) {
+fn parses_fields_at_every_split() -> Result<(), Fail> {
     let wanted = ([0x44, 0x54, 0x69, 0x4a], (1, 40), (62, 7), (5, 0));
     for at in 0..41usize {
         let (prefix, rest) = JITDUMP[..40].split_at(at);
         let got = parse(RawData::Split(prefix, rest));
-        expect_eq_at(&rt, &at, &got, &Ok(wanted));
+        expect_eq_at(&at, &got, &Ok(wanted))?;
     }
     let wanted = ([0x4a, 0x69, 0x54, 0x44], (1, 40), (2, 4), (5, 6));
-    expect_eq(&rt, &parse(RawData::Single(&BIG_ENDIAN)), &Ok(wanted));
+    expect_eq(&parse(RawData::Single(&BIG_ENDIAN)), &Ok(wanted))?;
+    Ok(())
 }
 
 #[test]
-fn first_error_wins(rt: HostRuntime) {
+fn first_error_wins() -> Result<(), Fail> {
     for (at, byte, count, error) in [
         (4usize, 1u8, 3usize, HeaderError::NotEnoughBytes),
         (4, 1, 4, HeaderError::NotEnoughBytes),
@@ -89,38 +90,32 @@ fn first_error_wins(rt: HostRuntime) {
         (8, 39, 40, HeaderError::Size(39)),
     ] {
         let got = parse_with_byte(at, byte, count);
-        expect_eq_at(&rt, &(byte, at, count), &got, &Err(error));
+        expect_eq_at(&(byte, at, count), &got, &Err(error))?;
     }
     let wanted = ([0x44, 0x54, 0x69, 0x4a], (9, 40), (62, 7), (5, 0));
-    expect_eq(&rt, &parse_with_byte(4, 9, 40), &Ok(wanted));
+    expect_eq(&parse_with_byte(4, 9, 40), &Ok(wanted))?;
     let elf = [0x7f, 0x45, 0x4c, 0x46];
-    expect_eq(
-        &rt,
-        &parse(RawData::Single(&elf)),
-        &Err(HeaderError::Magic(elf)),
-    );
+    expect_eq(&parse(RawData::Single(&elf)), &Err(HeaderError::Magic(elf)))?;
+    Ok(())
 }
 
 #[test]
-fn small_header_after_the_magic(rt: HostRuntime) {
+fn small_header_after_the_magic() -> Result<(), Fail> {
     let mut bytes = JITDUMP;
     bytes[8] = 39;
-    expect_eq(&rt, &parse_rest(&bytes[4..40]), &Ok((39, 5)));
-    expect_eq(
-        &rt,
-        &parse_rest(&bytes[4..39]),
-        &Err(ErrorKind::UnexpectedEof),
-    );
+    expect_eq(&parse_rest(&bytes[4..40]), &Ok((39, 5)))?;
+    expect_eq(&parse_rest(&bytes[4..39]), &Err(ErrorKind::UnexpectedEof))?;
+    Ok(())
 }
 
 #[test]
-fn endian_by_the_magic(rt: HostRuntime) -> Result<(), Fail> {
+fn endian_by_the_magic() -> Result<(), Fail> {
     for (bytes, endian) in [
         (&JITDUMP[..40], Endianness::LittleEndian),
         (&BIG_ENDIAN, Endianness::BigEndian),
     ] {
         let header = JitDumpHeader::parse(RawData::Single(bytes))?;
-        expect_eq(&rt, &header.endian(), &endian);
+        expect_eq(&header.endian(), &endian)?;
     }
     Ok(())
 }

@@ -1,5 +1,4 @@
 //! The jitdump reader, over sources that grow in small steps, pause and fail.
-use crate::expect::{expect, expect_eq, expect_eq_at};
 use example_jit_code_size::code_size;
 use perfdata_base::raw::RawData;
 use perfdata_base::source::{Script, Source, Step};
@@ -9,6 +8,7 @@ use perfdata_jit::{
 use std::alloc::Global;
 use std::io::{Cursor, ErrorKind, Result as IoResult};
 use std::test::Fail;
+use test_support::expect::{expect, expect_eq, expect_eq_at};
 use test_support::recordings::JITDUMP;
 use test_support::sources::bytes_then;
 use test_support::values::to_error_kind;
@@ -116,7 +116,7 @@ fn loses_nothing_when_the_file_grows_by_bytes(rt: HostRuntime) -> Result<(), Fai
             }
             wanted.push((LOAD, 102))?;
             let actual = results(rt.alloc(), source, 40, wanted.len())?;
-            expect_eq_at(&rt, &at, &actual.as_slice(), &wanted.as_slice());
+            expect_eq_at(&at, &actual.as_slice(), &wanted.as_slice())?;
         }
     }
     Ok(())
@@ -137,7 +137,7 @@ fn open_returns_an_error_at_once(rt: HostRuntime) -> Result<(), Fail> {
     for at in 0..40usize {
         for kind in [ErrorKind::Interrupted, ErrorKind::TimedOut] {
             let error = open_error(rt.alloc(), at, kind)?;
-            expect_eq_at(&rt, &at, &error, &Some(kind));
+            expect_eq_at(&at, &error, &Some(kind))?;
         }
     }
     Ok(())
@@ -153,20 +153,20 @@ fn first_result(alloc: Global, bytes: &[u8]) -> Result<(CallResult, u64), bool> 
 }
 
 #[test]
-fn truncated_file_is_not_ready(rt: HostRuntime) {
-    for cut in 0..102usize {
-        let wanted = if cut < 40 {
+fn truncated_file_is_not_ready(rt: HostRuntime) -> Result<(), Fail> {
+    for length in 0..102usize {
+        let wanted = if length < 40 {
             Err(true)
         } else {
             Ok((CallResult::NotReady, 40))
         };
         expect_eq_at(
-            &rt,
-            &cut,
-            &first_result(rt.alloc(), &JITDUMP[..cut]),
+            &length,
+            &first_result(rt.alloc(), &JITDUMP[..length]),
             &wanted,
-        );
+        )?;
     }
+    Ok(())
 }
 
 // The offset of the code in a load record with a name below 100 bytes, and whether the code is the file's two bytes.
@@ -200,18 +200,13 @@ fn next_code<R: Source>(
 #[test]
 fn peeks_the_next_record(rt: HostRuntime) -> Result<(), Fail> {
     let mut reader = JitDumpReader::new(rt.alloc(), &JITDUMP[..102])?;
-    expect_eq(&rt, &reader.header().pid, &7);
+    expect_eq(&reader.header().pid, &7)?;
+    expect_eq(&to_error_kind(reader.next_record_timestamp()), &Ok(Some(9)))?;
+    expect_eq(&type_and_size(&mut reader), &Some((0, 62)))?;
     expect_eq(
-        &rt,
-        &to_error_kind(reader.next_record_timestamp()),
-        &Ok(Some(9)),
-    );
-    expect_eq(&rt, &type_and_size(&mut reader), &Some((0, 62)));
-    expect_eq(
-        &rt,
         &next_code(rt.alloc(), &mut reader),
         &(LOAD, Some((60, true))),
-    );
+    )?;
     Ok(())
 }
 
@@ -221,11 +216,10 @@ fn record_read_byte_by_byte(rt: HostRuntime) -> Result<(), Fail> {
     let source = script_of_file(rt.alloc(), 102, steps)?;
     let mut reader = open_reader(rt.alloc(), source, 40)?;
     expect_eq(
-        &rt,
         &next_code(rt.alloc(), &mut reader),
         &(LOAD, Some((60, true))),
-    );
-    expect_eq(&rt, &reader.next_record_offset(), &102);
+    )?;
+    expect_eq(&reader.next_record_offset(), &102)?;
     Ok(())
 }
 
@@ -246,7 +240,7 @@ fn next_slices<R: Source>(reader: &mut JitDumpReader<R>) -> Option<(bool, usize,
 #[test]
 fn body_may_be_split(rt: HostRuntime) -> Result<(), Fail> {
     let mut reader = open_reader(rt.alloc(), &JITDUMP[..102], 64)?;
-    expect_eq(&rt, &next_slices(&mut reader), &Some((true, 8, 38)));
+    expect_eq(&next_slices(&mut reader), &Some((true, 8, 38)))?;
     Ok(())
 }
 
@@ -260,9 +254,9 @@ fn records_start_after_the_header(rt: HostRuntime) -> Result<(), Fail> {
     bytes.extend_from_slice(&[0xee; 8])?;
     bytes.extend_from_slice(&JITDUMP[40..102])?;
     let mut reader = open_reader(rt.alloc(), bytes.as_slice(), 64)?;
-    expect_eq(&rt, &reader.next_record_offset(), &48);
+    expect_eq(&reader.next_record_offset(), &48)?;
     let wanted = (CallResult::Record((48, 9, 0, 62), true), 110);
-    expect_eq(&rt, &next_result(&mut reader), &wanted);
+    expect_eq(&next_result(&mut reader), &wanted)?;
     Ok(())
 }
 
@@ -295,10 +289,10 @@ fn size_below_the_header_fails(rt: HostRuntime) -> Result<(), Fail> {
     for size in 0..16u32 {
         let invalid = (CallResult::Failure(ErrorKind::InvalidData), 40);
         let got = results_for_size(rt.alloc(), size)?;
-        expect_eq(&rt, &got, &([invalid, invalid], Some((0, size))));
+        expect_eq(&got, &([invalid, invalid], Some((0, size))))?;
     }
     let got = result_for_max_size(rt.alloc(), &[], 40)?;
-    expect_eq(&rt, &got, &(CallResult::NotReady, false, 40));
+    expect_eq(&got, &(CallResult::NotReady, false, 40))?;
     Ok(())
 }
 
@@ -306,7 +300,7 @@ fn size_below_the_header_fails(rt: HostRuntime) -> Result<(), Fail> {
 fn record_longer_than_the_file_is_not_ready(rt: HostRuntime) -> Result<(), Fail> {
     for size in [40usize, 4096] {
         let got = result_for_max_size(rt.alloc(), &JITDUMP[56..102], size)?;
-        expect_eq_at(&rt, &size, &got, &(CallResult::NotReady, false, 40));
+        expect_eq_at(&size, &got, &(CallResult::NotReady, false, 40))?;
     }
     Ok(())
 }
@@ -364,21 +358,16 @@ fn max_size_record_is_not_ready(rt: HostRuntime) -> Result<(), Fail> {
         let mut reader = max_size_reader(rt.alloc(), size, pauses)?;
         for call in 0..3u32 {
             expect_eq_at(
-                &rt,
                 &call,
                 &next_result(&mut reader),
                 &(CallResult::NotReady, 40),
-            );
-            expect_eq(
-                &rt,
-                &to_error_kind(reader.next_record_timestamp()),
-                &Ok(Some(9)),
-            );
+            )?;
+            expect_eq(&to_error_kind(reader.next_record_timestamp()), &Ok(Some(9)))?;
         }
     }
     for size in [40usize, 4096] {
         let got = buffered_parts_of_max_size(rt.alloc(), size)?;
-        expect_eq(&rt, &got, &([Some(40), Some(16), None, None, None], true));
+        expect_eq(&got, &([Some(40), Some(16), None, None, None], true))?;
     }
     Ok(())
 }
@@ -387,11 +376,11 @@ fn max_size_record_is_not_ready(rt: HostRuntime) -> Result<(), Fail> {
 fn skips_records(rt: HostRuntime) -> Result<(), Fail> {
     let bytes = JITDUMP.to_vec(rt.alloc())?;
     let mut reader = open_reader(rt.alloc(), Cursor::new(bytes), 4096)?;
-    expect(&rt, reader.skip_next_record()?);
+    expect(reader.skip_next_record()?)?;
     let wanted = (CallResult::Record((102, 11, 3, 16), false), 118);
-    expect_eq(&rt, &next_result(&mut reader), &wanted);
-    expect(&rt, !reader.skip_next_record()?);
-    expect_eq(&rt, &next_result(&mut reader), &(CallResult::NotReady, 118));
+    expect_eq(&next_result(&mut reader), &wanted)?;
+    expect(!reader.skip_next_record()?)?;
+    expect_eq(&next_result(&mut reader), &(CallResult::NotReady, 118))?;
     Ok(())
 }
 
@@ -426,10 +415,10 @@ fn skips_available_bytes_only(rt: HostRuntime) -> Result<(), Fail> {
     let steps = [Step::Give(40), Step::Give(20), Step::Grow(80)];
     let result = skip_result(rt.alloc(), 60, &steps, &[])?;
     let record = (CallResult::Record((40, 9, 0, 100), false), 140);
-    expect_eq(&rt, &result, &((Ok(false), 40), Ok(Some(9)), record));
+    expect_eq(&result, &((Ok(false), 40), Ok(Some(9)), record))?;
     let result = skip_result(rt.alloc(), 140, &[], &[])?;
     let whole = ((Ok(true), 140), Ok(None), (CallResult::NotReady, 140));
-    expect_eq(&rt, &result, &whole);
+    expect_eq(&result, &whole)?;
     Ok(())
 }
 
@@ -452,16 +441,12 @@ fn ten_records_wrap_the_ring(rt: HostRuntime) -> Result<(), Fail> {
     }
     wanted.push((CallResult::NotReady, 660))?;
     let actual = results(rt.alloc(), ten_records(rt.alloc())?, 64, 11)?;
-    expect_eq(&rt, &actual.as_slice(), &wanted.as_slice());
+    expect_eq(&actual.as_slice(), &wanted.as_slice())?;
     Ok(())
 }
 
 #[test]
 fn example_sums_code(rt: HostRuntime) -> Result<(), Fail> {
-    expect_eq(
-        &rt,
-        &code_size(rt.alloc(), Cursor::new(&JITDUMP[..102]))?,
-        &2,
-    );
+    expect_eq(&code_size(rt.alloc(), Cursor::new(&JITDUMP[..102]))?, &2)?;
     Ok(())
 }

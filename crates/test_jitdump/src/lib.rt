@@ -7,8 +7,6 @@ mod buffered_reader;
 #[cfg(test)]
 mod error;
 #[cfg(test)]
-mod expect;
-#[cfg(test)]
 mod header;
 #[cfg(test)]
 mod jitdump_reader;

@@ -1,5 +1,4 @@
 //! Record headers, the numbers of record types, and the parsed form of each type.
-use crate::expect::{expect_eq, expect_eq_at};
 use crate::records::{
     debug_info_bytes, debug_info_fields, load_without_code, load_without_nul, unwinding_bytes,
     unwinding_fields,
@@ -12,6 +11,7 @@ use perfdata_jit::{
 use std::alloc::Global;
 use std::io::ErrorKind;
 use std::test::Fail;
+use test_support::expect::{expect_eq, expect_eq_at};
 use test_support::recordings::JITDUMP;
 use test_support::values::to_error_kind;
 
@@ -76,7 +76,7 @@ fn parse_body(alloc: Global, record_type: u32, body: RawData<'_>) -> Result<Pars
 }
 
 #[test]
-fn parses_record_headers(rt: HostRuntime) -> Result<(), Fail> {
+fn parses_record_headers() -> Result<(), Fail> {
     for (endian, bytes) in [
         (Endianness::LittleEndian, &JITDUMP[40..56]),
         (Endianness::BigEndian, &BIG_ENDIAN_HEADER),
@@ -84,38 +84,36 @@ fn parses_record_headers(rt: HostRuntime) -> Result<(), Fail> {
         let wanted = (JitDumpRecordType::JIT_CODE_LOAD, 62, 9);
         let header = JitDumpRecordHeader::parse(endian, RawData::Single(bytes))?;
         expect_eq(
-            &rt,
             &(header.record_type, header.total_size, header.timestamp),
             &wanted,
-        );
+        )?;
     }
     let truncated = RawData::Single(&JITDUMP[40..55]);
     let parsed = JitDumpRecordHeader::parse_impl::<LittleEndian>(truncated);
     expect_eq(
-        &rt,
         &to_error_kind(parsed).err(),
         &Some(ErrorKind::UnexpectedEof),
-    );
+    )?;
     Ok(())
 }
 
 #[test]
-fn converts_sixteen_bytes(rt: HostRuntime) {
+fn converts_sixteen_bytes() -> Result<(), Fail> {
     for (endian, bytes) in [
         (Endianness::LittleEndian, LITTLE_ENDIAN_HEADER),
         (Endianness::BigEndian, BIG_ENDIAN_HEADER),
     ] {
         let header = JitDumpRecordHeader::from_bytes(endian, &bytes);
         expect_eq(
-            &rt,
             &(header.record_type, header.total_size, header.timestamp),
             &(JitDumpRecordType::JIT_CODE_LOAD, 62, 9),
-        );
+        )?;
     }
+    Ok(())
 }
 
 #[test]
-fn type_numbers(rt: HostRuntime) {
+fn type_numbers() -> Result<(), Fail> {
     for (number, record_type) in [
         (0, JitDumpRecordType::JIT_CODE_LOAD),
         (1, JitDumpRecordType::JIT_CODE_MOVE),
@@ -124,22 +122,22 @@ fn type_numbers(rt: HostRuntime) {
         (4, JitDumpRecordType::JIT_CODE_UNWINDING_INFO),
     ] {
         expect_eq(
-            &rt,
             &(
                 JitDumpRecordType(number),
                 record_type < JitDumpRecordType(5),
             ),
             &(record_type, true),
-        );
+        )?;
     }
+    Ok(())
 }
 
 #[test]
-fn parses_by_type(rt: HostRuntime) {
+fn parses_by_type(rt: HostRuntime) -> Result<(), Fail> {
     for at in 0..47usize {
         let (prefix, rest) = JITDUMP[56..102].split_at(at);
         let got = parse_body(rt.alloc(), 0, RawData::Split(prefix, rest));
-        expect_eq_at(&rt, &at, &got, &Ok(Parsed::Load(true)));
+        expect_eq_at(&at, &got, &Ok(Parsed::Load(true)))?;
     }
     for (record_type, wanted) in [
         (2, Err(ErrorKind::UnexpectedEof)),
@@ -149,12 +147,13 @@ fn parses_by_type(rt: HostRuntime) {
         (5, Ok(Parsed::Other(46))),
     ] {
         let got = parse_body(rt.alloc(), record_type, RawData::Single(&JITDUMP[56..102]));
-        expect_eq_at(&rt, &record_type, &got, &wanted);
+        expect_eq_at(&record_type, &got, &wanted)?;
     }
+    Ok(())
 }
 
 #[test]
-fn parses_bodies_by_type(rt: HostRuntime) {
+fn parses_bodies_by_type(rt: HostRuntime) -> Result<(), Fail> {
     let eof = Err(ErrorKind::UnexpectedEof);
     let info = Ok(Parsed::DebugInfo((0x10, 1, true)));
     let unwound = Ok(Parsed::Unwinding((2, true, true)));
@@ -167,6 +166,7 @@ fn parses_bodies_by_type(rt: HostRuntime) {
         (4, &unwinding_bytes(3), eof),
     ] {
         let got = parse_body(rt.alloc(), record_type, RawData::Single(body));
-        expect_eq_at(&rt, &(record_type, body), &got, &wanted);
+        expect_eq_at(&(record_type, body), &got, &wanted)?;
     }
+    Ok(())
 }

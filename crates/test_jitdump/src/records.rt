@@ -1,5 +1,4 @@
 //! The bodies of records: their fields and errors, and the lookup of an address.
-use crate::expect::{expect_eq, expect_eq_at};
 use byteorder::{ByteOrder, LittleEndian};
 use perfdata_base::raw::{Endianness, RawData};
 use perfdata_jit::{
@@ -9,6 +8,7 @@ use perfdata_jit::{
 use std::alloc::{AllocError, Global};
 use std::io::ErrorKind;
 use std::test::Fail;
+use test_support::expect::{expect_eq, expect_eq_at};
 use test_support::recordings::{JIT_DEBUG_INFO, JITDUMP};
 use test_support::values::to_error_kind;
 
@@ -27,20 +27,19 @@ pub fn load_without_nul() -> [u8; 118] {
 }
 
 #[test]
-fn truncated_load_is_eof(rt: HostRuntime) -> Result<(), Fail> {
+fn truncated_load_is_eof() -> Result<(), Fail> {
     let (codeless, nameless) = (load_without_code(), load_without_nul());
     for bytes in [&codeless[56..102], &nameless[56..102], &JITDUMP[56..95]] {
         let load = JitCodeLoadRecord::parse(Endianness::LittleEndian, RawData::Single(bytes));
         expect_eq_at(
-            &rt,
             &bytes,
             &to_error_kind(load).err(),
             &Some(ErrorKind::UnexpectedEof),
-        );
+        )?;
     }
     let load = JitCodeLoadRecord::parse_impl::<LittleEndian>(RawData::Single(&JITDUMP[56..102]))?;
-    expect_eq(&rt, &load.code_bytes.len(), &2);
-    expect_eq(&rt, &JitCodeLoadRecord::NAME_OFFSET_FROM_RECORD_START, &56);
+    expect_eq(&load.code_bytes.len(), &2)?;
+    expect_eq(&JitCodeLoadRecord::NAME_OFFSET_FROM_RECORD_START, &56)?;
     Ok(())
 }
 
@@ -65,17 +64,16 @@ const MOVE: [u8; 49] = [
 ];
 
 #[test]
-fn parses_moves(rt: HostRuntime) {
+fn parses_moves() -> Result<(), Fail> {
     expect_eq(
-        &rt,
         &parse_big_endian_move(&MOVE),
         &Ok(((1, 2, 3), (4, 5), (6, 7))),
-    );
+    )?;
     expect_eq(
-        &rt,
         &parse_big_endian_move(&MOVE[..47]),
         &Err(ErrorKind::UnexpectedEof),
-    );
+    )?;
+    Ok(())
 }
 
 // Debug info for the address 0x10 that declares `count` entries and contains one, for 0x20, line 3, column 4 and `a.js`.
@@ -103,18 +101,19 @@ fn parse_debug_info(alloc: Global, body: RawData<'_>) -> Result<(u64, usize, boo
 }
 
 #[test]
-fn parses_debug_info(rt: HostRuntime) {
+fn parses_debug_info(rt: HostRuntime) -> Result<(), Fail> {
     let body = debug_info_bytes(1);
     for at in 0..38usize {
         let (prefix, rest) = body.split_at(at);
         let got = parse_debug_info(rt.alloc(), RawData::Split(prefix, rest));
-        expect_eq_at(&rt, &at, &got, &Ok((0x10, 1, true)));
+        expect_eq_at(&at, &got, &Ok((0x10, 1, true)))?;
     }
     for (count, len) in [(u64::MAX, 37usize), (2, 37), (1, 36), (1, 31), (1, 15)] {
         let body = debug_info_bytes(count);
         let got = parse_debug_info(rt.alloc(), RawData::Single(&body[..len]));
-        expect_eq_at(&rt, &(count, len), &got, &Err(ErrorKind::UnexpectedEof));
+        expect_eq_at(&(count, len), &got, &Err(ErrorKind::UnexpectedEof))?;
     }
+    Ok(())
 }
 
 // Unwinding info for two bytes of data and a mapped size of two. The size of its index is `index`.
@@ -145,17 +144,17 @@ fn parse_unwinding(bytes: &[u8]) -> Result<(u64, bool, bool), ErrorKind> {
 }
 
 #[test]
-fn parses_unwinding_info(rt: HostRuntime) {
+fn parses_unwinding_info() -> Result<(), Fail> {
     let body = unwinding_bytes(1);
-    expect_eq(&rt, &parse_unwinding(&body), &Ok((2, true, true)));
+    expect_eq(&parse_unwinding(&body), &Ok((2, true, true)))?;
     for bytes in [&unwinding_bytes(3)[..], &body[..23], &body[..25]] {
         expect_eq_at(
-            &rt,
             &bytes,
             &parse_unwinding(bytes),
             &Err(ErrorKind::UnexpectedEof),
-        );
+        )?;
     }
+    Ok(())
 }
 
 // Debug info with entries for these addresses.
@@ -189,7 +188,7 @@ fn lookup_address(info: &JitCodeDebugInfoRecord<'_>, addr: u64) -> Option<u64> {
 #[test]
 fn looks_up_an_address(rt: HostRuntime) -> Result<(), Fail> {
     let none = info_with_entries(rt.alloc(), &[])?;
-    expect_eq(&rt, &lookup_address(&none, u64::MAX), &None);
+    expect_eq(&lookup_address(&none, u64::MAX), &None)?;
     let info = info_with_entries(rt.alloc(), &[0x10, 0x20])?;
     for (addr, found) in [
         (0x0f, None),
@@ -198,7 +197,7 @@ fn looks_up_an_address(rt: HostRuntime) -> Result<(), Fail> {
         (0x20, Some(0x20)),
         (u64::MAX, Some(0x20)),
     ] {
-        expect_eq(&rt, &lookup_address(&info, addr), &found);
+        expect_eq(&lookup_address(&info, addr), &found)?;
     }
     Ok(())
 }

@@ -1,11 +1,11 @@
 //! Jitdump files whose source fails, pauses or grows at each byte in turn.
-use crate::expect::{expect_eq, expect_eq_at};
 use crate::jitdump_reader::{CallResult, LOAD, header_of_size, next_result, skip_result};
 use perfdata_base::source::{Script, Step};
 use perfdata_jit::{JitDumpError, JitDumpReader};
 use std::alloc::{AllocError, Global};
 use std::io::{Cursor, ErrorKind};
 use std::test::Fail;
+use test_support::expect::{expect_eq, expect_eq_at};
 use test_support::recordings::JITDUMP;
 use test_support::sources::repeat_step;
 
@@ -91,7 +91,7 @@ fn stop_at_each_read_after_the_header(rt: HostRuntime) -> Result<(), Fail> {
             ] {
                 let source = stopping_source(rt.alloc(), at, stop)?;
                 let actual = first_two_results(rt.alloc(), source, size);
-                expect_eq_at(&rt, &(size, at, stop), &actual, &expected(size, at, stop));
+                expect_eq_at(&(size, at, stop), &actual, &expected(size, at, stop))?;
             }
         }
     }
@@ -120,10 +120,10 @@ fn seek_error_at_each_seek_of_a_skip(rt: HostRuntime) -> Result<(), Fail> {
             );
             for seek in 0..3u64 {
                 let actual = skip_result(rt.alloc(), available, &[], &[(seek, kind)])?;
-                expect_eq_at(&rt, &(available, seek), &actual, &failed);
+                expect_eq_at(&(available, seek), &actual, &failed)?;
             }
             let actual = skip_result(rt.alloc(), available, &[], &[(3, kind)])?;
-            expect_eq_at(&rt, &available, &actual, &whole);
+            expect_eq_at(&available, &actual, &whole)?;
         }
     }
     Ok(())
@@ -151,7 +151,7 @@ fn skip_rejects_small_sizes(rt: HostRuntime) -> Result<(), Fail> {
     for size in 0..16u32 {
         let invalid = Some(ErrorKind::InvalidData);
         let actual = skip_with_size(rt.alloc(), size)?;
-        expect_eq(&rt, &actual, &([invalid, invalid], 40, Some(size)));
+        expect_eq(&actual, &([invalid, invalid], 40, Some(size)))?;
     }
     Ok(())
 }

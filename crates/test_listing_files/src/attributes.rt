@@ -1,10 +1,10 @@
 //! Several attributes: in event types, in EVENT_DESC and in the attribute section.
-use crate::expect::expect_eq;
 use crate::listing::{FIRST_LINES, lists_and_matches_reference, lists_three_ways};
 use linux_perf_data::{Endianness, PerfFileReader};
 use std::alloc::{AllocError, Global};
 use std::io::Cursor;
 use std::test::Fail;
+use test_support::expect::expect_eq;
 use test_support::image::Image;
 use test_support::outcome::Outcome;
 use test_support::recordings::{EVENT_TYPES, event_desc};
@@ -14,7 +14,7 @@ const LINES_BY_ID: &str = "0 0 7 1 9 0 16\n24 0 8 0 9 0 16\n48 0 1 0 9 0 16\n";
 #[test]
 fn attribute_by_identifier(rt: HostRuntime) -> Result<(), Fail> {
     let image = EVENT_TYPES.image(rt.alloc())?;
-    expect_eq(&rt, &image.bytes.len(), &352);
+    expect_eq(&image.bytes.len(), &352)?;
     let mut shared = EVENT_TYPES;
     shared.id_sections = [(264, 8), (264, 8)];
     let mut zero = EVENT_TYPES;
@@ -51,8 +51,8 @@ fn attribute_by_identifier(rt: HostRuntime) -> Result<(), Fail> {
 
 #[test]
 fn invalid_event_types_fail(rt: HostRuntime) -> Result<(), Fail> {
-    let mut lacks = EVENT_TYPES;
-    lacks.second = (4, 0);
+    let mut no_identifier = EVENT_TYPES;
+    no_identifier.second = (4, 0);
     let mut differs = EVENT_TYPES;
     differs.second = (0x10004, 0x40000);
     let mut large = EVENT_TYPES;
@@ -60,7 +60,7 @@ fn invalid_event_types_fail(rt: HostRuntime) -> Result<(), Fail> {
     let mut far = EVENT_TYPES;
     far.id_sections = [(u64::MAX, 8), (272, 8)];
     for (name, events, end) in [
-        ("no IDENTIFIER", lacks, Outcome::NoIdentifier(1)),
+        ("no IDENTIFIER", no_identifier, Outcome::NoIdentifier(1)),
         ("another SAMPLE_ID_ALL", differs, Outcome::SampleIdAll(1)),
         ("attributes too large", large, Outcome::Attribute),
         ("ids out of range", far, Outcome::Attribute),
@@ -98,9 +98,9 @@ fn attributes_from_event_desc(rt: HostRuntime) -> Result<(), Fail> {
     lists_and_matches_reference(&rt, "EVENT_DESC", &image.bytes, line, Outcome::Complete)?;
     let reader = PerfFileReader::parse_file(rt.alloc(), Cursor::new(image.bytes.as_slice()))?;
     let attributes = reader.perf_file.event_attributes();
-    expect_eq(&rt, &attributes.len(), &1);
-    expect_eq(&rt, &attributes[0].name(), &Some("c"));
-    expect_eq(&rt, &attributes[0].ids(), &[5].as_slice());
+    expect_eq(&attributes.len(), &1)?;
+    expect_eq(&attributes[0].name(), &Some("c"))?;
+    expect_eq(&attributes[0].ids(), &[5].as_slice())?;
     Ok(())
 }
 

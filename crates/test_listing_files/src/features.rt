@@ -1,9 +1,8 @@
 //! Listings of files with features.
-use crate::expect::expect_eq;
 use crate::listing::{FIRST_LINES, lists_and_matches_reference, lists_three_ways};
 use linux_perf_data::{Endianness, Feature};
-use std::process::Abort;
 use std::test::Fail;
+use test_support::expect::expect_eq;
 use test_support::outcome::Outcome;
 use test_support::recordings::{
     HOST_NAME, file_with_entries, file_with_features, file_with_section,
@@ -17,7 +16,7 @@ fn lists_file_with_hostname(rt: HostRuntime) -> Result<(), Fail> {
         Feature::HOSTNAME,
         HOST_NAME,
     )?;
-    expect_eq(&rt, &image.bytes.len(), &233);
+    expect_eq(&image.bytes.len(), &233)?;
     lists_and_matches_reference(
         &rt,
         "a host name",
@@ -29,7 +28,7 @@ fn lists_file_with_hostname(rt: HostRuntime) -> Result<(), Fail> {
 
 /// Asserts that such a file doesn't open, because of an unexpected end of file.
 fn is_truncated(
-    rt: &(impl Abort + AllocGlobal),
+    rt: &impl AllocGlobal,
     name: &str,
     entries: &[(u64, u64)],
     content: &[u8],

@@ -1,5 +1,4 @@
 //! Listings of files: their lines and their end.
-use crate::expect::{expect, expect_eq};
 use crate::listing::{
     FIRST_LINES, lists_and_matches_reference, lists_image, lists_source, lists_three_ways,
     patched_file_fails,
@@ -8,8 +7,8 @@ use linux_perf_data::{Endianness, PerfFileReader};
 use perfdata_listing::list::{flush_listing, list_file};
 use perfdata_listing::output::{CountingBufWriter, finish};
 use std::io::Cursor;
-use std::process::Abort;
 use std::test::Fail;
+use test_support::expect::{expect, expect_eq};
 use test_support::image::{Image, Part, little_endian_file};
 use test_support::outcome::Outcome;
 use test_support::sources::{byte_by_byte, interrupted_source};
@@ -18,7 +17,7 @@ use test_support::sources::{byte_by_byte, interrupted_source};
 fn samples_around_a_round_marker(rt: HostRuntime) -> Result<(), Fail> {
     for endian in [Endianness::LittleEndian, Endianness::BigEndian] {
         let image = Image::first_file(rt.alloc(), endian)?;
-        expect_eq(&rt, &image.bytes.len(), &208);
+        expect_eq(&image.bytes.len(), &208)?;
         lists_and_matches_reference(&rt, "first", &image.bytes, FIRST_LINES, Outcome::Complete)?;
     }
     let zeros = [0u8; 104];
@@ -147,65 +146,80 @@ fn round_markers_at_the_section_end(rt: HostRuntime) -> Result<(), Fail> {
     )
 }
 
+/// A file of one attribute, and its listing.
+#[derive(Clone, Copy)]
+struct Listing {
+    name: &'static str,
+    /// The size of the data section, and the attribute's sample type and flags.
+    file: (u64, u64, u64),
+    parts: &'static [Part<'static>],
+    lines: &'static str,
+    end: Outcome,
+}
+
+/// Compares the listing of each file.
+fn lists_each(rt: &impl AllocGlobal, listings: &[Listing]) -> Result<(), Fail> {
+    for listing in listings {
+        lists_image(
+            rt,
+            listing.name,
+            listing.file,
+            listing.parts,
+            listing.lines,
+            listing.end,
+        )?;
+    }
+    Ok(())
+}
+
+const RECORD_TYPES: [Listing; 6] = [
+    Listing {
+        name: "a user record",
+        file: (24, 4, 0),
+        parts: &[Part::RecordHeader(73, 0, 8), Part::Sample(7)],
+        lines: "0 0 - - 73 0 0\n8 0 7 0 9 0 8\n",
+        end: Outcome::Complete,
+    },
+    Listing {
+        name: "no time",
+        file: (16, 0, 0),
+        parts: &[Part::Sample(7)],
+        lines: "0 0 - 0 9 0 8\n",
+        end: Outcome::Complete,
+    },
+    Listing {
+        name: "misc",
+        file: (16, 4, 0),
+        parts: &[Part::RecordHeader(9, 2, 16), Part::U64(20)],
+        lines: "0 0 20 0 9 2 8\n",
+        end: Outcome::Complete,
+    },
+    Listing {
+        name: "a size of 7",
+        file: (8, 4, 0),
+        parts: &[Part::RecordHeader(9, 0, 7)],
+        lines: "",
+        end: Outcome::RecordSize,
+    },
+    Listing {
+        name: "compressed, truncated",
+        file: (16, 4, 0),
+        parts: &[Part::RecordHeader(81, 0, 16), Part::Fill(0, 4)],
+        lines: "",
+        end: Outcome::RecordData,
+    },
+    Listing {
+        name: "compressed",
+        file: (16, 4, 0),
+        parts: &[Part::RecordHeader(81, 0, 16), Part::Fill(0, 8)],
+        lines: "",
+        end: Outcome::Unsupported,
+    },
+];
+
 #[test]
 fn record_types(rt: HostRuntime) -> Result<(), Fail> {
-    let parts = [Part::RecordHeader(73, 0, 8), Part::Sample(7)];
-    let wanted = "0 0 - - 73 0 0\n8 0 7 0 9 0 8\n";
-    lists_image(
-        &rt,
-        "a user record",
-        (24, 4, 0),
-        &parts,
-        wanted,
-        Outcome::Complete,
-    )?;
-    lists_image(
-        &rt,
-        "no time",
-        (16, 0, 0),
-        &[Part::Sample(7)],
-        "0 0 - 0 9 0 8\n",
-        Outcome::Complete,
-    )?;
-    let in_user_mode = [Part::RecordHeader(9, 2, 16), Part::U64(20)];
-    let wanted = "0 0 20 0 9 2 8\n";
-    lists_image(
-        &rt,
-        "misc",
-        (16, 4, 0),
-        &in_user_mode,
-        wanted,
-        Outcome::Complete,
-    )?;
-    lists_image(
-        &rt,
-        "a size of 7",
-        (8, 4, 0),
-        &[Part::RecordHeader(9, 0, 7)],
-        "",
-        Outcome::RecordSize,
-    )?;
-    let parts = [
-        Part::RecordHeader(81, 0, 16),
-        Part::Fill(0, 4),
-        Part::Fill(0, 4),
-    ];
-    lists_image(
-        &rt,
-        "compressed, truncated",
-        (16, 4, 0),
-        &parts[..2],
-        "",
-        Outcome::RecordData,
-    )?;
-    lists_image(
-        &rt,
-        "compressed",
-        (16, 4, 0),
-        &parts,
-        "",
-        Outcome::Unsupported,
-    )
+    lists_each(&rt, &RECORD_TYPES)
 }
 
 #[test]
@@ -229,7 +243,7 @@ fn trailing_sample_ids(rt: HostRuntime) -> Result<(), Fail> {
     let wanted = "0 0 - 0 3 0 15\n";
     lists_image(
         &rt,
-        "no room for ids",
+        "no bytes for ids",
         (23, 0x10006, 0x40000),
         &parts,
         wanted,
@@ -237,57 +251,56 @@ fn trailing_sample_ids(rt: HostRuntime) -> Result<(), Fail> {
     )
 }
 
+const ONE_BYTE: [Part<'_>; 2] = [Part::Auxtrace(1, &[0]), Part::Sample(20)];
+
+const AUX_DATA: [Listing; 6] = [
+    Listing {
+        name: "one byte",
+        file: (65, 4, 0),
+        parts: &ONE_BYTE,
+        lines: "0 0 - - 71 0 41\n49 0 20 0 9 0 8\n",
+        end: Outcome::Complete,
+    },
+    Listing {
+        name: "one byte after the section",
+        file: (48, 4, 0),
+        parts: &ONE_BYTE,
+        lines: "0 0 - - 71 0 41\n",
+        end: Outcome::Complete,
+    },
+    Listing {
+        name: "no bytes",
+        file: (64, 4, 0),
+        parts: &[Part::Auxtrace(0, &[]), Part::Sample(20)],
+        lines: "0 0 - - 71 0 40\n48 0 20 0 9 0 8\n",
+        end: Outcome::Complete,
+    },
+    Listing {
+        name: "too many bytes",
+        file: (64, 4, 0),
+        parts: &[Part::Auxtrace(u64::MAX, &[])],
+        lines: "",
+        end: Outcome::RecordData,
+    },
+    Listing {
+        name: "truncated",
+        file: (64, 4, 0),
+        parts: &[Part::Auxtrace(9, &[1, 2, 3, 4, 5, 6, 7, 8])],
+        lines: "",
+        end: Outcome::RecordData,
+    },
+    Listing {
+        name: "a small body",
+        file: (47, 4, 0),
+        parts: &[Part::RecordHeader(71, 0, 47), Part::Fill(0, 39)],
+        lines: "",
+        end: Outcome::UnexpectedEof,
+    },
+];
+
 #[test]
 fn aux_data(rt: HostRuntime) -> Result<(), Fail> {
-    let both = "0 0 - - 71 0 41\n49 0 20 0 9 0 8\n";
-    let parts = [Part::Auxtrace(1, &[0]), Part::Sample(20)];
-    for (size, wanted) in [(65, both), (48, "0 0 - - 71 0 41\n")] {
-        lists_image(
-            &rt,
-            "one byte",
-            (size, 4, 0),
-            &parts,
-            wanted,
-            Outcome::Complete,
-        )?;
-    }
-    let parts = [Part::Auxtrace(0, &[]), Part::Sample(20)];
-    let wanted = "0 0 - - 71 0 40\n48 0 20 0 9 0 8\n";
-    lists_image(
-        &rt,
-        "no bytes",
-        (64, 4, 0),
-        &parts,
-        wanted,
-        Outcome::Complete,
-    )?;
-    let parts = [Part::Auxtrace(u64::MAX, &[])];
-    lists_image(
-        &rt,
-        "too many bytes",
-        (64, 4, 0),
-        &parts,
-        "",
-        Outcome::RecordData,
-    )?;
-    let parts = [Part::Auxtrace(9, &[1, 2, 3, 4, 5, 6, 7, 8])];
-    lists_image(
-        &rt,
-        "truncated",
-        (64, 4, 0),
-        &parts,
-        "",
-        Outcome::RecordData,
-    )?;
-    let parts = [Part::RecordHeader(71, 0, 47), Part::Fill(0, 39)];
-    lists_image(
-        &rt,
-        "a small body",
-        (47, 4, 0),
-        &parts,
-        "",
-        Outcome::UnexpectedEof,
-    )
+    lists_each(&rt, &AUX_DATA)
 }
 
 #[test]
@@ -302,7 +315,7 @@ fn allocations_succeed(rt: HostRuntime) -> Result<(), Fail> {
 }
 
 /// Lists one sample of this size, whose body consists of zeros.
-fn lists_zero_body(rt: &(impl Abort + AllocGlobal), size: u16) -> Result<(), Fail> {
+fn lists_zero_body(rt: &impl AllocGlobal, size: u16) -> Result<(), Fail> {
     let body_size = (size as usize).saturating_sub(8);
     let parts = [Part::RecordHeader(9, 0, size), Part::Fill(0, body_size)];
     let wanted = format!(in rt.alloc(); "0 0 - 0 9 0 {body_size}\n")?;
@@ -318,7 +331,7 @@ fn lists_zero_body(rt: &(impl Abort + AllocGlobal), size: u16) -> Result<(), Fai
 
 /// Compares the results of the first calls of `next_record` with the expected ones, one end for each call.
 fn outcomes_are(
-    rt: &(impl Abort + AllocGlobal),
+    rt: &impl AllocGlobal,
     file: (u64, u64, u64),
     parts: &[Part<'_>],
     wanted: &[Outcome],
@@ -334,7 +347,7 @@ fn outcomes_are(
             Ok(None) => Outcome::Complete,
             Err(error) => Outcome::of(&error),
         };
-        expect_eq(rt, &result, end);
+        expect_eq(&result, end)?;
     }
     Ok(())
 }
@@ -353,20 +366,20 @@ fn attributes_and_endianness(rt: HostRuntime) -> Result<(), Fail> {
     for endian in [Endianness::LittleEndian, Endianness::BigEndian] {
         let image = Image::first_file(rt.alloc(), endian)?;
         let reader = PerfFileReader::parse_file(rt.alloc(), Cursor::new(image.bytes.as_slice()))?;
-        expect_eq(&rt, &reader.perf_file.endian(), &endian);
-        expect(&rt, reader.perf_file.features().is_empty());
+        expect_eq(&reader.perf_file.endian(), &endian)?;
+        expect(reader.perf_file.features().is_empty())?;
         let attributes = reader.perf_file.event_attributes();
-        expect_eq(&rt, &attributes.len(), &1);
-        expect_eq(&rt, &attributes[0].attributes().sample_format.0, &4);
-        expect(&rt, attributes[0].name().is_none());
-        expect(&rt, attributes[0].ids().is_empty());
+        expect_eq(&attributes.len(), &1)?;
+        expect_eq(&attributes[0].attributes().sample_format.0, &4)?;
+        expect(attributes[0].name().is_none())?;
+        expect(attributes[0].ids().is_empty())?;
     }
     Ok(())
 }
 
 /// Compares the exit status and the line on standard error after a file is listed.
 fn status_and_line_are(
-    rt: &(impl Abort + AllocGlobal),
+    rt: &impl AllocGlobal,
     file: &[u8],
     status: u8,
     line: &str,
@@ -375,8 +388,8 @@ fn status_and_line_are(
     let mut err: Vec<u8> = Vec::new(rt.alloc());
     let listed = list_file(rt.alloc(), Cursor::new(file), &mut out);
     let outcome = flush_listing(listed, &mut out);
-    expect_eq(rt, &finish(outcome, &mut err)?, &status);
-    expect_eq(rt, &err.as_slice(), &line.as_bytes());
+    expect_eq(&finish(outcome, &mut err)?, &status)?;
+    expect_eq(&err.as_slice(), &line.as_bytes())?;
     Ok(())
 }
 
@@ -401,14 +414,14 @@ fn interrupted_reads(rt: HostRuntime) -> Result<(), Fail> {
         source,
         FIRST_LINES,
         Outcome::Complete,
-    );
+    )?;
     for (times, lines, end) in [
         (16usize, FIRST_LINES, Outcome::Complete),
         (17, "", Outcome::Interrupted),
     ] {
         // the header and the attribute have 168 bytes
         let source = interrupted_source(rt.alloc(), &file.bytes, 168, times)?;
-        lists_source(&rt, "a file", "interrupted", source, lines, end);
+        lists_source(&rt, "a file", "interrupted", source, lines, end)?;
     }
     Ok(())
 }

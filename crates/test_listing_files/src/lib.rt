@@ -4,11 +4,11 @@
 #[cfg(test)]
 mod attributes;
 #[cfg(test)]
-mod expect;
-#[cfg(test)]
 mod features;
 #[cfg(test)]
 mod files;
+#[cfg(test)]
+mod large;
 #[cfg(test)]
 mod listing;
 #[cfg(test)]

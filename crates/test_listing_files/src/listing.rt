@@ -1,11 +1,10 @@
 //! Listings of files, compared with the expected lines and end.
-use crate::expect::expect_eq_at;
 use linux_perf_data::Endianness;
 use linux_perf_data::source::{Counted, PlacedSource};
 use perfdata_listing::list::{ListCause, ListFault, list_file};
 use std::io::{BufReader, Cursor};
-use std::process::Abort;
 use std::test::Fail;
+use test_support::expect::expect_eq_at;
 use test_support::image::{Image, Part, little_endian_file};
 use test_support::outcome::Outcome;
 use test_support::reference;
@@ -29,49 +28,44 @@ pub fn line_count(listed: &Result<u64, ListFault>) -> u64 {
 
 /// Lists a file from a source, and compares the lines, their number and the end with the expected ones.
 pub fn lists_source<C: PlacedSource + Drop>(
-    rt: &(impl Abort + AllocGlobal),
+    rt: &impl AllocGlobal,
     name: &str,
     source_name: &str,
     source: C,
     wanted: &str,
     end: Outcome,
-) {
+) -> Result<(), Fail> {
     let mut out: Vec<u8> = Vec::new(rt.alloc());
     let listed = list_file(rt.alloc(), source, &mut out);
-    expect_eq_at(rt, &(name, source_name), &outcome_of(&listed), &end);
+    expect_eq_at(&(name, source_name), &outcome_of(&listed), &end)?;
     expect_eq_at(
-        rt,
         &(name, source_name),
         &line_count(&listed),
         &(wanted.lines().count() as u64),
-    );
-    expect_eq_at(
-        rt,
-        &(name, source_name),
-        &out.as_slice(),
-        &wanted.as_bytes(),
-    );
+    )?;
+    expect_eq_at(&(name, source_name), &out.as_slice(), &wanted.as_bytes())?;
+    Ok(())
 }
 
 /// Lists a file from a borrowed, an owned and a counted source.
 pub fn lists_three_ways(
-    rt: &(impl Abort + AllocGlobal),
+    rt: &impl AllocGlobal,
     name: &str,
     file: &[u8],
     wanted: &str,
     end: Outcome,
 ) -> Result<(), Fail> {
-    lists_source(rt, name, "borrowed", Cursor::new(file), wanted, end);
+    lists_source(rt, name, "borrowed", Cursor::new(file), wanted, end)?;
     let copy = Vec::from_slice(rt.alloc(), file)?;
-    lists_source(rt, name, "owned", Cursor::new(copy), wanted, end);
+    lists_source(rt, name, "owned", Cursor::new(copy), wanted, end)?;
     let buffered = BufReader::new(rt.alloc(), Cursor::new(file))?;
-    lists_source(rt, name, "counted", Counted::new(buffered), wanted, end);
+    lists_source(rt, name, "counted", Counted::new(buffered), wanted, end)?;
     Ok(())
 }
 
 /// Lists a file that opens in the same ways, and compares the reference implementation's result too.
 pub fn lists_and_matches_reference(
-    rt: &(impl Abort + AllocGlobal),
+    rt: &impl AllocGlobal,
     name: &str,
     file: &[u8],
     wanted: &str,
@@ -79,13 +73,13 @@ pub fn lists_and_matches_reference(
 ) -> Result<(), Fail> {
     lists_three_ways(rt, name, file, wanted, end)?;
     let (text, outcome) = reference::file_lines(rt.alloc(), file)?;
-    expect_eq_at(rt, &name, &(text.as_str(), outcome), &(wanted, end));
+    expect_eq_at(&name, &(text.as_str(), outcome), &(wanted, end))?;
     Ok(())
 }
 
 /// Lists a file of these parts, which opens, and compares the lines and the end.
 pub fn lists_image(
-    rt: &(impl Abort + AllocGlobal),
+    rt: &impl AllocGlobal,
     name: &str,
     file: (u64, u64, u64),
     parts: &[Part<'_>],
@@ -100,7 +94,7 @@ pub const FIRST_LINES: &str = "0 0 20 0 9 0 8\n24 1 10 0 9 0 8\n";
 
 /// Lists `first_file` with these numbers written at these offsets, which doesn't open.
 pub fn patched_file_fails(
-    rt: &(impl Abort + AllocGlobal),
+    rt: &impl AllocGlobal,
     name: &str,
     endian: Endianness,
     patches: &[(usize, u64)],

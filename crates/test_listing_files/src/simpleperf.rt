@@ -1,7 +1,7 @@
 //! Listings of files whose attributes have the names of simpleperf's meta info.
-use crate::expect::expect_eq;
 use crate::listing::lists_three_ways;
 use std::test::Fail;
+use test_support::expect::expect_eq;
 use test_support::outcome::Outcome;
 use test_support::recordings::{META_INFO, simpleperf_file};
 
@@ -20,10 +20,10 @@ fn attribute_names_from_meta_info(rt: HostRuntime) -> Result<(), Fail> {
             Outcome::NoEventTypes,
         ),
         ("no UTF-8", 80, no_text.as_slice(), "", Outcome::Utf8),
-        ("no room for ids", 15, META_INFO, "", Outcome::Attribute),
+        ("no bytes for ids", 15, META_INFO, "", Outcome::Attribute),
     ] {
         let image = simpleperf_file(rt.alloc(), attr_size, meta_info)?;
-        expect_eq(&rt, &image.bytes.len(), &254);
+        expect_eq(&image.bytes.len(), &254)?;
         lists_three_ways(&rt, name, &image.bytes, wanted, end)?;
     }
     Ok(())

@@ -1,12 +1,11 @@
 //! Listings of jitdump files.
-use crate::expect::{expect, expect_eq};
 use linux_perf_data::source::{Counted, Source, Step};
 use perfdata_listing::jit::list_jit;
 use perfdata_listing::list::{ListCause, ListFault};
 use std::alloc::Global;
 use std::io::{Cursor, ErrorKind};
-use std::process::Abort;
 use std::test::Fail;
+use test_support::expect::{expect, expect_eq};
 use test_support::recordings::JITDUMP;
 use test_support::sources::script_of;
 
@@ -72,31 +71,28 @@ fn list_jit_into_vec<R: Source + Drop>(alloc: Global, source: R) -> (JitOutcome,
 
 /// Lists a jitdump file from a source, and compares the end, the number of lines and the lines with the expected ones.
 fn lists_jit_source<R: Source + Drop>(
-    rt: &(impl Abort + AllocGlobal),
+    rt: &impl AllocGlobal,
     source: R,
     end: JitOutcome,
     lines: u64,
     wanted: &[u8],
-) {
+) -> Result<(), Fail> {
     let (outcome, counted, out) = list_jit_into_vec(rt.alloc(), source);
-    expect_eq(
-        rt,
-        &(outcome, counted, out.as_slice()),
-        &(end, lines, wanted),
-    );
+    expect_eq(&(outcome, counted, out.as_slice()), &(end, lines, wanted))?;
+    Ok(())
 }
 
 #[test]
 fn lists_a_jitdump_file(rt: HostRuntime) -> Result<(), Fail> {
-    lists_jit_source(&rt, JITDUMP.as_slice(), JitOutcome::Complete, 2, LINES);
+    lists_jit_source(&rt, JITDUMP.as_slice(), JitOutcome::Complete, 2, LINES)?;
     let file = Counted::new(Cursor::new(JITDUMP.as_slice()));
-    lists_jit_source(&rt, file, JitOutcome::Complete, 2, LINES);
+    lists_jit_source(&rt, file, JitOutcome::Complete, 2, LINES)?;
     Ok(())
 }
 
 #[test]
 fn lists_a_jitdump_of_node(rt: HostRuntime) -> Result<(), Fail> {
-    lists_jit_source(&rt, NODE.as_slice(), JitOutcome::Complete, 3, NODE_LINES);
+    lists_jit_source(&rt, NODE.as_slice(), JitOutcome::Complete, 3, NODE_LINES)?;
     Ok(())
 }
 
@@ -114,8 +110,8 @@ fn lists_complete_records(rt: HostRuntime) -> Result<(), Fail> {
     ];
     for (len, end, lines, wanted) in cases {
         let prefix = JITDUMP.get(..len);
-        expect(&rt, prefix.is_some());
-        lists_jit_source(&rt, prefix.unwrap_or(&[]), end, lines, wanted);
+        expect(prefix.is_some())?;
+        lists_jit_source(&rt, prefix.unwrap_or(&[]), end, lines, wanted)?;
     }
     let mut bytes = JITDUMP;
     bytes[106] = 15;
@@ -126,7 +122,7 @@ fn lists_complete_records(rt: HostRuntime) -> Result<(), Fail> {
         JitOutcome::Read(ErrorKind::InvalidData),
         1,
         FIRST_LINE,
-    );
+    )?;
     Ok(())
 }
 
@@ -144,7 +140,7 @@ fn counts_lines_before_an_error(rt: HostRuntime) -> Result<(), Fail> {
         let lines = if wanted.is_empty() { 0 } else { 1 };
         let steps = Vec::from_slice(rt.alloc(), steps)?;
         let source = script_of(rt.alloc(), &JITDUMP, steps)?;
-        lists_jit_source(&rt, source, end, lines, wanted);
+        lists_jit_source(&rt, source, end, lines, wanted)?;
     }
     Ok(())
 }
@@ -156,6 +152,6 @@ fn listing_ends_at_an_empty_read(rt: HostRuntime) -> Result<(), Fail> {
     let source = script_of(rt.alloc(), &JITDUMP, Vec::from_array(rt.alloc(), steps)?)?;
     let mut out: Vec<u8> = Vec::new(rt.alloc());
     let lines = list_jit(rt.alloc(), source, &mut out).ok();
-    expect_eq(&rt, &lines, &Some(1));
+    expect_eq(&lines, &Some(1))?;
     Ok(())
 }

@@ -2,7 +2,7 @@
 #![tactic(auto)]
 
 #[cfg(test)]
-mod expect;
+mod flush_listing;
 #[cfg(test)]
 mod jitdump;
 #[cfg(test)]
@@ -13,7 +13,5 @@ mod line;
 mod live;
 #[cfg(test)]
 mod output;
-#[cfg(test)]
-mod settle;
 #[cfg(test)]
 mod writers;

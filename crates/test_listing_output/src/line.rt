@@ -1,7 +1,7 @@
 //! The text of lines.
-use crate::expect::expect;
 use perfdata_listing::line::{Line, RecordFields};
 use std::test::Fail;
+use test_support::expect::expect;
 
 const ZERO: RecordFields = RecordFields {
     offset: 0,
@@ -24,7 +24,7 @@ fn has_jit_text(line: &mut Line, numbers: (u64, u64, u32, u64), text: &[u8]) -> 
 }
 
 #[test]
-fn formats_record_lines(rt: HostRuntime) -> Result<(), Fail> {
+fn formats_record_lines() -> Result<(), Fail> {
     let sample = RecordFields {
         offset: 104,
         round: 3,
@@ -58,32 +58,29 @@ fn formats_record_lines(rt: HostRuntime) -> Result<(), Fail> {
         ),
     ];
     let mut line = Line::new();
-    expect(&rt, has_text(&line, b""));
+    expect(has_text(&line, b""))?;
     for (fields, text) in cases {
         line.set_record(fields);
-        expect(&rt, has_text(&line, text));
+        expect(has_text(&line, text))?;
     }
     Ok(())
 }
 
 #[test]
-fn formats_jit_lines(rt: HostRuntime) -> Result<(), Fail> {
+fn formats_jit_lines() -> Result<(), Fail> {
     let most = u64::MAX;
     let mut line = Line::new();
-    expect(
-        &rt,
-        has_jit_text(
-            &mut line,
-            (most, 1_000, u32::MAX, most),
-            b"18446744073709551615 1000 4294967295 18446744073709551615\n",
-        ),
-    );
-    expect(&rt, has_jit_text(&mut line, (40, 0, 3, 16), b"40 0 3 16\n"));
+    expect(has_jit_text(
+        &mut line,
+        (most, 1_000, u32::MAX, most),
+        b"18446744073709551615 1000 4294967295 18446744073709551615\n",
+    ))?;
+    expect(has_jit_text(&mut line, (40, 0, 3, 16), b"40 0 3 16\n"))?;
     Ok(())
 }
 
 #[test]
-fn formats_error_lines(rt: HostRuntime) -> Result<(), Fail> {
+fn formats_error_lines() -> Result<(), Fail> {
     let cases: [(u64, &[u8]); 4] = [
         (0, b"perflist: fault after 0 records\n"),
         (1, b"perflist: fault after 1 records\n"),
@@ -94,7 +91,7 @@ fn formats_error_lines(rt: HostRuntime) -> Result<(), Fail> {
         ),
     ];
     for (records, text) in cases {
-        expect(&rt, has_text(&Line::for_error(records), text));
+        expect(has_text(&Line::for_error(records), text))?;
     }
     Ok(())
 }

@@ -1,13 +1,13 @@
 //! Listings of live inputs: lines are flushed before each record that isn't buffered.
 ghost use Rattle.std.specs.Prelude.{[]};
 
-use crate::expect::expect_eq_at;
 use crate::jitdump::{JitOutcome, jit_outcome};
 use linux_perf_data::source::{Source, Step};
 use perfdata_listing::{FlushPending, list_live_jit, list_live_pipe};
 use std::alloc::Global;
 use std::io::{Error, ErrorKind, Write};
 use std::test::Fail;
+use test_support::expect::expect_eq_at;
 use test_support::recordings::{JITDUMP, auxtrace_pipe};
 use test_support::sources::script_of;
 
@@ -70,7 +70,6 @@ fn flushes_before_the_pipe_may_block(rt: HostRuntime) -> Result<(), Fail> {
     let ((end, lines), out) = list_with_flush_limit(rt.alloc(), bytes.as_slice(), true, 9);
     // flushes before the first record, whose header is read with the opening, and before the end
     expect_eq_at(
-        &rt,
         &"in memory",
         &(
             end,
@@ -79,12 +78,11 @@ fn flushes_before_the_pipe_may_block(rt: HostRuntime) -> Result<(), Fail> {
             out.flushed_at.as_slice(),
         ),
         &(JitOutcome::Complete, 2, PIPE_LINES, [0, 32].as_slice()),
-    );
+    )?;
     // flushes before each record and before the end, over an unbuffered source
     let source = script_of(rt.alloc(), &bytes, Vec::new(rt.alloc()))?;
     let ((end, lines), out) = list_with_flush_limit(rt.alloc(), source, true, 9);
     expect_eq_at(
-        &rt,
         &"unbuffered",
         &(
             end,
@@ -93,7 +91,7 @@ fn flushes_before_the_pipe_may_block(rt: HostRuntime) -> Result<(), Fail> {
             out.flushed_at.as_slice(),
         ),
         &(JitOutcome::Complete, 2, PIPE_LINES, [0, 16, 32].as_slice()),
-    );
+    )?;
     Ok(())
 }
 
@@ -143,7 +141,6 @@ fn flushes_before_the_jitdump_may_block(rt: HostRuntime) -> Result<(), Fail> {
         let source = script_of(rt.alloc(), &JITDUMP, copy)?;
         let ((end, lines), out) = list_with_flush_limit(rt.alloc(), source, false, 9);
         expect_eq_at(
-            &rt,
             &flushed,
             &(
                 end,
@@ -152,7 +149,7 @@ fn flushes_before_the_jitdump_may_block(rt: HostRuntime) -> Result<(), Fail> {
                 out.flushed_at.as_slice(),
             ),
             &(JitOutcome::Complete, 2, JIT_LINES, flushed),
-        );
+        )?;
     }
     Ok(())
 }
@@ -171,11 +168,10 @@ fn flush_error_ends_the_listing(rt: HostRuntime) -> Result<(), Fail> {
     ] {
         let (actual, out) = list_with_flush_limit(rt.alloc(), input, is_pipe, flush_limit);
         expect_eq_at(
-            &rt,
             &(is_pipe, flush_limit),
             &(actual, out.written.len()),
             &((end, lines), length),
-        );
+        )?;
     }
     let steps = [Step::Give(40), Step::Pause, Step::Give(62), Step::Give(16)];
     for (flush_limit, end, lines, length) in [
@@ -188,11 +184,10 @@ fn flush_error_ends_the_listing(rt: HostRuntime) -> Result<(), Fail> {
         let source = script_of(rt.alloc(), &JITDUMP, copy)?;
         let (actual, out) = list_with_flush_limit(rt.alloc(), source, false, flush_limit);
         expect_eq_at(
-            &rt,
             &flush_limit,
             &(actual, out.written.len()),
             &((end, lines), length),
-        );
+        )?;
     }
     Ok(())
 }

@@ -1,10 +1,10 @@
 //! Output to a writer that may fail.
-use crate::expect::{expect, expect_at};
 use crate::limited_writer::LimitedWriter;
 use perfdata_listing::output::{CountingBufWriter, finish, write_line};
 use std::io;
 use std::io::{ErrorKind, Write};
 use std::test::Fail;
+use test_support::expect::{expect, expect_at};
 
 fn error_kind_of<T: Drop>(outcome: io::Result<T>) -> Option<ErrorKind> {
     match outcome {
@@ -32,17 +32,12 @@ fn writes_line_or_prefix(rt: HostRuntime) -> Result<(), Fail> {
     for (max_per_call, capacity, error, len, calls, kind) in cases {
         let mut out = LimitedWriter::new(rt.alloc(), max_per_call, capacity, error);
         let result = write_line(&mut out, line);
+        expect_at(&(max_per_call, capacity), error_kind_of(result) == kind)?;
         expect_at(
-            &rt,
-            &(max_per_call, capacity),
-            error_kind_of(result) == kind,
-        );
-        expect_at(
-            &rt,
             &(max_per_call, capacity),
             out.written.as_slice() == &line[..len],
-        );
-        expect_at(&rt, &(max_per_call, capacity), out.writes == calls);
+        )?;
+        expect_at(&(max_per_call, capacity), out.writes == calls)?;
     }
     Ok(())
 }
@@ -51,23 +46,17 @@ fn writes_line_or_prefix(rt: HostRuntime) -> Result<(), Fail> {
 fn writes_error_line_and_status(rt: HostRuntime) -> Result<(), Fail> {
     let full = Some(ErrorKind::StorageFull);
     let mut out = LimitedWriter::new(rt.alloc(), 9, 100, None);
-    expect(&rt, finish(Ok(7), &mut out)? == 0);
-    expect(&rt, out.written.is_empty());
-    expect(&rt, finish(Err(7), &mut out)? == 2);
-    expect(
-        &rt,
-        out.written.as_slice() == b"perflist: fault after 7 records\n".as_slice(),
-    );
+    expect(finish(Ok(7), &mut out)? == 0)?;
+    expect(out.written.is_empty())?;
+    expect(finish(Err(7), &mut out)? == 2)?;
+    expect(out.written.as_slice() == b"perflist: fault after 7 records\n".as_slice())?;
 
     let mut short = LimitedWriter::new(rt.alloc(), 9, 12, full);
-    expect(&rt, error_kind_of(finish(Err(7), &mut short)) == full);
-    expect(&rt, short.written.as_slice() == b"perflist: fa".as_slice());
+    expect(error_kind_of(finish(Err(7), &mut short)) == full)?;
+    expect(short.written.as_slice() == b"perflist: fa".as_slice())?;
 
     let mut none = LimitedWriter::new(rt.alloc(), 9, 0, None);
-    expect(
-        &rt,
-        error_kind_of(finish(Err(7), &mut none)) == Some(ErrorKind::WriteZero),
-    );
+    expect(error_kind_of(finish(Err(7), &mut none)) == Some(ErrorKind::WriteZero))?;
     Ok(())
 }
 
@@ -82,12 +71,12 @@ fn counts_written_lines(rt: HostRuntime) -> Result<(), Fail> {
         for _ in 0..10 {
             write_line(&mut out, b"abc\n")?;
         }
-        expect_at(&rt, &capacity, out.lines_written() == 0);
+        expect_at(&capacity, out.lines_written() == 0)?;
         let flushed = out.flush();
-        expect_at(&rt, &capacity, flushed.is_ok() == (capacity >= 40));
-        expect_at(&rt, &capacity, out.lines_written() == lines);
+        expect_at(&capacity, flushed.is_ok() == (capacity >= 40))?;
+        expect_at(&capacity, out.lines_written() == lines)?;
         drop(out);
-        expect_at(&rt, &capacity, inner.written.len() == capacity.min(40));
+        expect_at(&capacity, inner.written.len() == capacity.min(40))?;
     }
     Ok(())
 }
@@ -99,10 +88,10 @@ fn writes_more_than_capacity(rt: HostRuntime) -> Result<(), Fail> {
     let mut inner = LimitedWriter::new(rt.alloc(), 1_000_000, 100_000, None);
     let mut out = CountingBufWriter::new(rt.alloc(), &mut inner)?;
     let result = write_line(&mut out, many.as_slice());
-    expect(&rt, error_kind_of(result) == Some(ErrorKind::WriteZero));
-    expect(&rt, out.lines_written() == 100_000 / 16);
+    expect(error_kind_of(result) == Some(ErrorKind::WriteZero))?;
+    expect(out.lines_written() == 100_000 / 16)?;
     drop(out);
-    expect(&rt, inner.written.len() == 100_000);
-    expect(&rt, many.as_slice().starts_with(inner.written.as_slice()));
+    expect(inner.written.len() == 100_000)?;
+    expect(many.as_slice().starts_with(inner.written.as_slice()))?;
     Ok(())
 }

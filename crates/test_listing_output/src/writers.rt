@@ -1,5 +1,4 @@
 //! Writers that accept a number of bytes and then fail, or accept no more.
-use crate::expect::{expect_eq, expect_eq_at};
 use crate::jitdump::{JitOutcome, jit_outcome};
 use crate::limited_writer::LimitedWriter;
 use linux_perf_data::Endianness;
@@ -9,6 +8,7 @@ use perfdata_listing::output::{CountingBufWriter, write_line};
 use std::alloc::{AllocError, Global};
 use std::io::{Cursor, ErrorKind, Write};
 use std::test::Fail;
+use test_support::expect::{expect_eq, expect_eq_at};
 use test_support::image::{Image, little_endian_pipe};
 use test_support::recordings::{JITDUMP, TWO_ATTRIBUTES, auxtrace_pipe};
 
@@ -78,11 +78,10 @@ fn write_error_at_each_byte(rt: HostRuntime) -> Result<(), Fail> {
                 };
                 let actual = list_into(rt.alloc(), input, &bytes, (capacity, error));
                 expect_eq_at(
-                    &rt,
                     &(input, capacity),
                     &(actual.0, actual.1.as_slice()),
                     &((end, newline_count(prefix)), prefix),
-                );
+                )?;
             }
         }
     }
@@ -97,11 +96,10 @@ fn write_error_after_twenty_bytes(rt: HostRuntime) -> Result<(), Fail> {
     for (input, bytes) in [(Input::File, &file.bytes), (Input::Pipe, &pipe.bytes)] {
         let (end, written) = list_into(rt.alloc(), input, bytes, (20, Some(full)));
         expect_eq_at(
-            &rt,
             &input,
             &(end, written.len()),
             &((JitOutcome::Write(full), 1), 20),
-        );
+        )?;
     }
     Ok(())
 }
@@ -120,7 +118,7 @@ fn flush_result(alloc: Global, capacity: usize) -> Result<(bool, u64, usize), Fa
 #[test]
 fn flush_reaches_the_inner_writer(rt: HostRuntime) -> Result<(), Fail> {
     for (capacity, wanted) in [(4usize, (true, 1u64, 4usize)), (3, (false, 0, 3))] {
-        expect_eq(&rt, &flush_result(rt.alloc(), capacity)?, &wanted);
+        expect_eq(&flush_result(rt.alloc(), capacity)?, &wanted)?;
     }
     Ok(())
 }

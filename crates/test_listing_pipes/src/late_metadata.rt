@@ -1,12 +1,11 @@
 //! Late attributes and features of a pipe.
-use crate::expect::{expect, expect_eq};
 use crate::pipes::{first_name, lists_four_ways, lists_parts, open_pipe};
 use linux_perf_data::source::Source;
 use linux_perf_data::{Endianness, Error, PerfFile, PerfFileReader, PerfRecordIter};
 use std::alloc::Global;
 use std::io::Cursor;
-use std::process::Abort;
 use std::test::Fail;
+use test_support::expect::{expect, expect_eq};
 use test_support::image::{Part, little_endian_file, little_endian_pipe, pipe_image};
 use test_support::outcome::Outcome;
 use test_support::recordings::{META_INFO, TWO_ATTRIBUTES, event_desc, simpleperf_file};
@@ -33,100 +32,105 @@ const ONE_LINE: &str = "0 0 1 0 9 0 8\n";
 /// A late host name.
 const LATE_HOSTNAME: Part<'_> = Part::HeaderFeature(3, &[1, 0, 0, 0, b'a']);
 
+/// Pipes with a late attribute, and their lines.
+const LATE_ATTRIBUTES: [(&str, &[Part<'_>], &str); 4] = [
+    ("a late attribute", &LATE_ATTRIBUTE, LATE_LINES),
+    (
+        "an identifier listed before",
+        &[
+            Part::HeaderAttr(0x10004, 0, &[5]),
+            Part::HeaderAttr(0x10004, 0, &[7]),
+            Part::SampleWithId(6, 1),
+            Part::HeaderAttr(0x10004, 0, &[6]),
+            Part::SampleWithId(6, 2),
+        ],
+        "0 0 1 0 9 0 16\n24 0 - - 64 0 72\n104 0 2 2 9 0 16\n",
+    ),
+    (
+        "identifiers listed again",
+        &[
+            Part::HeaderAttr(0x10004, 0, &[5]),
+            Part::HeaderAttr(0x10004, 0, &[6]),
+            Part::SampleWithId(6, 1),
+            Part::HeaderAttr(0x10004, 0, &[6, 5]),
+            Part::SampleWithId(5, 2),
+            Part::SampleWithId(6, 3),
+        ],
+        "0 0 1 1 9 0 16\n24 0 - - 64 0 80\n112 0 2 2 9 0 16\n136 0 3 2 9 0 16\n",
+    ),
+    (
+        "after a marker",
+        &[
+            Part::HeaderAttr(0x10004, 0, &[5]),
+            Part::RoundMarker(8),
+            Part::HeaderAttr(0x10004, 0, &[6]),
+            Part::RecordHeader(73, 1, 8),
+            Part::SampleWithId(6, 2),
+        ],
+        "8 1 - - 64 0 72\n88 1 - - 73 1 0\n96 1 2 1 9 0 16\n",
+    ),
+];
+
 #[test]
 fn late_attributes(rt: HostRuntime) -> Result<(), Fail> {
-    lists_parts(
-        &rt,
-        "a late attribute",
-        &LATE_ATTRIBUTE,
-        LATE_LINES,
-        Outcome::Complete,
-    )?;
-    let cached = [
-        Part::HeaderAttr(0x10004, 0, &[5]),
-        Part::HeaderAttr(0x10004, 0, &[7]),
-        Part::SampleWithId(6, 1),
-        Part::HeaderAttr(0x10004, 0, &[6]),
-        Part::SampleWithId(6, 2),
-    ];
-    let wanted = "0 0 1 0 9 0 16\n24 0 - - 64 0 72\n104 0 2 2 9 0 16\n";
-    lists_parts(
-        &rt,
-        "an identifier listed before",
-        &cached,
-        wanted,
-        Outcome::Complete,
-    )?;
-    let again = [
-        Part::HeaderAttr(0x10004, 0, &[5]),
-        Part::HeaderAttr(0x10004, 0, &[6]),
-        Part::SampleWithId(6, 1),
-        Part::HeaderAttr(0x10004, 0, &[6, 5]),
-        Part::SampleWithId(5, 2),
-        Part::SampleWithId(6, 3),
-    ];
-    let wanted = "0 0 1 1 9 0 16\n24 0 - - 64 0 80\n112 0 2 2 9 0 16\n136 0 3 2 9 0 16\n";
-    lists_parts(
-        &rt,
-        "identifiers listed again",
-        &again,
-        wanted,
-        Outcome::Complete,
-    )?;
-    let marked = [
-        Part::HeaderAttr(0x10004, 0, &[5]),
-        Part::RoundMarker(8),
-        Part::HeaderAttr(0x10004, 0, &[6]),
-        Part::RecordHeader(73, 1, 8),
-        Part::SampleWithId(6, 2),
-    ];
-    let wanted = "8 1 - - 64 0 72\n88 1 - - 73 1 0\n96 1 2 1 9 0 16\n";
-    lists_parts(&rt, "after a marker", &marked, wanted, Outcome::Complete)
+    for (name, parts, lines) in LATE_ATTRIBUTES {
+        lists_parts(&rt, name, parts, lines, Outcome::Complete)?;
+    }
+    Ok(())
 }
+
+/// Pipes with late metadata that has an error, their lines before it, and the error.
+const INVALID_LATE_METADATA: [(&str, &[Part<'_>], &str, Outcome); 4] = [
+    (
+        "no IDENTIFIER",
+        &[
+            Part::HeaderAttr(4, 0, &[]),
+            Part::Sample(1),
+            Part::HeaderAttr(0x10004, 0, &[6]),
+        ],
+        ONE_LINE,
+        Outcome::NoIdentifier(0),
+    ),
+    (
+        "a truncated number",
+        &[
+            Part::HeaderAttr(4, 0, &[]),
+            Part::Sample(1),
+            Part::RecordHeader(80, 0, 12),
+            Part::Fill(0, 4),
+        ],
+        ONE_LINE,
+        Outcome::UnexpectedEof,
+    ),
+    (
+        "a truncated id",
+        &[
+            Part::HeaderAttr(4, 0, &[]),
+            Part::Sample(1),
+            Part::RecordHeader(64, 0, 76),
+            Part::Fill(0, 68),
+        ],
+        ONE_LINE,
+        Outcome::UnexpectedEof,
+    ),
+    (
+        "SAMPLE_ID_ALL",
+        &[
+            Part::HeaderAttr(0x10004, 0, &[5]),
+            Part::Sample(1),
+            Part::HeaderAttr(0x10004, 0x40000, &[6]),
+        ],
+        "0 0 - 0 9 0 8\n",
+        Outcome::SampleIdAll(1),
+    ),
+];
 
 #[test]
 fn invalid_late_metadata_fails(rt: HostRuntime) -> Result<(), Fail> {
-    let no_identifier = after_one_sample(Part::HeaderAttr(0x10004, 0, &[6]));
-    let truncated_number = [
-        Part::HeaderAttr(4, 0, &[]),
-        Part::Sample(1),
-        Part::RecordHeader(80, 0, 12),
-        Part::Fill(0, 4),
-    ];
-    let truncated_id = [
-        Part::HeaderAttr(4, 0, &[]),
-        Part::Sample(1),
-        Part::RecordHeader(64, 0, 76),
-        Part::Fill(0, 68),
-    ];
-    for (name, parts, end) in [
-        (
-            "no IDENTIFIER",
-            no_identifier.as_slice(),
-            Outcome::NoIdentifier(0),
-        ),
-        (
-            "a truncated number",
-            &truncated_number,
-            Outcome::UnexpectedEof,
-        ),
-        ("a truncated id", &truncated_id, Outcome::UnexpectedEof),
-    ] {
-        lists_parts(&rt, name, parts, ONE_LINE, end)?;
+    for (name, parts, lines, end) in INVALID_LATE_METADATA {
+        lists_parts(&rt, name, parts, lines, end)?;
     }
-    let differs = [
-        Part::HeaderAttr(0x10004, 0, &[5]),
-        Part::Sample(1),
-        Part::HeaderAttr(0x10004, 0x40000, &[6]),
-    ];
-    let line = "0 0 - 0 9 0 8\n";
-    lists_parts(
-        &rt,
-        "SAMPLE_ID_ALL",
-        &differs,
-        line,
-        Outcome::SampleIdAll(1),
-    )
+    Ok(())
 }
 
 #[test]
@@ -168,10 +172,9 @@ fn truncated_late_record_ends_the_pipe(rt: HostRuntime) -> Result<(), Fail> {
             Outcome::Complete,
         )?;
         file_after(
-            &rt,
             open_pipe(rt.alloc(), truncated)?,
             &[(Ok(true), 1), (Ok(false), 1)],
-        );
+        )?;
     }
     Ok(())
 }
@@ -190,39 +193,38 @@ fn next_outcome<R: Source>(records: &mut PerfRecordIter<R>, file: &mut PerfFile)
 
 /// Calls for records, and compares the results.
 fn outcomes_are<R: Source>(
-    rt: &impl Abort,
     records: &mut PerfRecordIter<R>,
     file: &mut PerfFile,
     wanted: &[CallOutcome],
-) {
+) -> Result<(), Fail> {
     for outcome in wanted {
-        expect_eq(rt, &next_outcome(records, file), outcome);
+        expect_eq(&next_outcome(records, file), outcome)?;
     }
+    Ok(())
 }
 
 /// Compares the first results of a reader, and returns the metadata after them.
 fn file_after<R: Source + Drop>(
-    rt: &impl Abort,
     reader: PerfFileReader<R>,
     wanted: &[CallOutcome],
-) -> PerfFile {
+) -> Result<PerfFile, Fail> {
     let PerfFileReader {
         perf_file: mut file,
         record_iter: mut records,
     } = reader;
-    outcomes_are(rt, &mut records, &mut file, wanted);
-    file
+    outcomes_are(&mut records, &mut file, wanted)?;
+    Ok(file)
 }
 
 #[test]
 fn attribute_count_after_each_record(rt: HostRuntime) -> Result<(), Fail> {
     let image = little_endian_pipe(rt.alloc(), &LATE_ATTRIBUTE)?;
     let reader = open_pipe(rt.alloc(), image.bytes.as_slice())?;
-    expect_eq(&rt, &reader.perf_file.event_attributes().len(), &1);
+    expect_eq(&reader.perf_file.event_attributes().len(), &1)?;
     let wanted: [CallOutcome; 4] = [(Ok(true), 1), (Ok(true), 2), (Ok(true), 2), (Ok(false), 2)];
-    let file = file_after(&rt, reader, &wanted);
+    let file = file_after(reader, &wanted)?;
     let second = file.event_attributes().get(1);
-    expect_eq(&rt, &second.map(|one| one.ids()), &Some([6].as_slice()));
+    expect_eq(&second.map(|one| one.ids()), &Some([6].as_slice()))?;
     Ok(())
 }
 
@@ -270,7 +272,7 @@ fn file_of_another_pipe_fails(rt: HostRuntime) -> Result<(), Fail> {
 /// Compares the values of the first record, a sample of attribute 0, with the `PerfFile` of another pipe. Then compares the
 /// errors with that `PerfFile` and with the pipe's own.
 fn rejects_file_of_another_pipe(
-    rt: &(impl Abort + AllocGlobal),
+    rt: &impl AllocGlobal,
     reader: PerfFileReader<&[u8]>,
     other: &[u8],
     first: RecordSummary,
@@ -278,15 +280,11 @@ fn rejects_file_of_another_pipe(
     let mut records = reader.record_iter;
     let mut own = reader.perf_file;
     let mut other_file = open_pipe(rt.alloc(), other)?.perf_file;
-    expect_eq(
-        rt,
-        &next_summary(&mut records, &mut other_file)?,
-        &Some(first),
-    );
+    expect_eq(&next_summary(&mut records, &mut other_file)?, &Some(first))?;
     let mismatch: [CallOutcome; 1] = [(Err(Outcome::InvalidInput), 2)];
-    outcomes_are(rt, &mut records, &mut other_file, &mismatch);
+    outcomes_are(&mut records, &mut other_file, &mismatch)?;
     let failed: [CallOutcome; 1] = [(Err(Outcome::Failed), 1)];
-    outcomes_are(rt, &mut records, &mut own, &failed);
+    outcomes_are(&mut records, &mut own, &failed)?;
     Ok(())
 }
 
@@ -308,7 +306,7 @@ fn event_desc_of_the_other_endian_fails(rt: HostRuntime) -> Result<(), Fail> {
 
 /// Compares the results of reading a pipe's records with the `PerfFile` of the other byte order, and checks that the name is
 /// unchanged.
-fn keeps_name(rt: &(impl Abort + AllocGlobal), bytes: &[u8], other: &[u8]) -> Result<(), Fail> {
+fn keeps_name(rt: &impl AllocGlobal, bytes: &[u8], other: &[u8]) -> Result<(), Fail> {
     let reader = PerfFileReader {
         perf_file: open_pipe(rt.alloc(), other)?.perf_file,
         record_iter: open_pipe(rt.alloc(), bytes)?.record_iter,
@@ -318,8 +316,8 @@ fn keeps_name(rt: &(impl Abort + AllocGlobal), bytes: &[u8], other: &[u8]) -> Re
         (Err(Outcome::Attribute), 1),
         (Err(Outcome::Failed), 1),
     ];
-    let other_file = file_after(rt, reader, &wanted);
-    expect_eq(rt, &first_name(&other_file), &Some("c"));
+    let other_file = file_after(reader, &wanted)?;
+    expect_eq(&first_name(&other_file), &Some("c"))?;
     Ok(())
 }
 
@@ -330,22 +328,22 @@ fn has_name(file: &PerfFile) -> bool {
         .any(|one| one.name().is_some())
 }
 
-/// A late attribute makes the names come from EVENT_DESC. There is none here, so the name from simpleperf's meta info is removed.
+/// After a late attribute, the names are those of EVENT_DESC. There is none here, so the name from simpleperf's meta info is removed.
 #[test]
 fn names_are_recomputed(rt: HostRuntime) -> Result<(), Fail> {
     let recorded = simpleperf_file(rt.alloc(), 80, META_INFO)?;
     let mut file = open_file_reader(rt.alloc(), &recorded.bytes)?.perf_file;
     let image = little_endian_pipe(rt.alloc(), &LATE_ATTRIBUTE)?;
     let mut records = open_pipe(rt.alloc(), image.bytes.as_slice())?.record_iter;
-    outcomes_are(&rt, &mut records, &mut file, &[(Ok(true), 1)]);
-    expect_eq(&rt, &first_name(&file), &Some("cpu-clock"));
-    outcomes_are(&rt, &mut records, &mut file, &[(Ok(true), 2)]);
-    expect(&rt, !has_name(&file));
+    outcomes_are(&mut records, &mut file, &[(Ok(true), 1)])?;
+    expect_eq(&first_name(&file), &Some("cpu-clock"))?;
+    outcomes_are(&mut records, &mut file, &[(Ok(true), 2)])?;
+    expect(!has_name(&file))?;
     Ok(())
 }
 
 #[test]
-fn rule_violation_is_final(rt: HostRuntime) -> Result<(), Fail> {
+fn inconsistency_is_final(rt: HostRuntime) -> Result<(), Fail> {
     let image = little_endian_pipe(
         rt.alloc(),
         &after_one_sample(Part::HeaderAttr(0x10004, 0, &[6])),
@@ -356,7 +354,7 @@ fn rule_violation_is_final(rt: HostRuntime) -> Result<(), Fail> {
         (Err(Outcome::NoIdentifier(0)), 1),
         (Err(Outcome::Failed), 1),
     ];
-    file_after(&rt, reader, &wanted);
+    file_after(reader, &wanted)?;
     Ok(())
 }
 
@@ -380,28 +378,24 @@ fn late_features(rt: HostRuntime) -> Result<(), Fail> {
         perf_file: mut file,
         record_iter: mut records,
     } = open_pipe(rt.alloc(), image.bytes.as_slice())?;
-    outcomes_are(&rt, &mut records, &mut file, &[(Ok(true), 1)]);
-    expect_eq(&rt, &hostname_and_features(&file, None)?, &(true, 0, true));
-    outcomes_are(&rt, &mut records, &mut file, &[(Ok(true), 1)]);
-    expect_eq(
-        &rt,
-        &hostname_and_features(&file, Some("a"))?,
-        &(false, 1, true),
-    );
+    outcomes_are(&mut records, &mut file, &[(Ok(true), 1)])?;
+    expect_eq(&hostname_and_features(&file, None)?, &(true, 0, true))?;
+    outcomes_are(&mut records, &mut file, &[(Ok(true), 1)])?;
+    expect_eq(&hostname_and_features(&file, Some("a"))?, &(false, 1, true))?;
     Ok(())
 }
 
 /// Compares the names of the first two attributes after the whole pipe is read.
 fn final_names_are(
-    rt: &(impl Abort + AllocGlobal),
+    rt: &impl AllocGlobal,
     parts: &[Part<'_>],
     wanted: [Option<&str>; 2],
 ) -> Result<(), Fail> {
     let image = little_endian_pipe(rt.alloc(), parts)?;
     let file = file_at_end(open_pipe(rt.alloc(), image.bytes.as_slice())?, parts.len())?;
     match file.event_attributes() {
-        [first, second] => expect_eq(rt, &[first.name(), second.name()], &wanted),
-        others => expect_eq(rt, &others.len(), &2),
+        [first, second] => expect_eq(&[first.name(), second.name()], &wanted)?,
+        others => expect_eq(&others.len(), &2)?,
     }
     Ok(())
 }
@@ -446,7 +440,7 @@ fn file_ignores_late_metadata(rt: HostRuntime) -> Result<(), Fail> {
     let image = little_endian_file(rt.alloc(), (88, 4, 0), &parts)?;
     let reader = open_file_reader(rt.alloc(), &image.bytes)?;
     let wanted: [CallOutcome; 3] = [(Ok(true), 1), (Ok(true), 1), (Ok(false), 1)];
-    file_after(&rt, reader, &wanted);
+    file_after(reader, &wanted)?;
     Ok(())
 }
 

@@ -1,13 +1,12 @@
 //! Listings of pipes: their lines and their end, and how far their source is read.
-use crate::expect::{expect, expect_at, expect_eq, expect_eq_at};
 use crate::late_metadata::hostname_and_features;
 use linux_perf_data::source::{Counted, Script, Source, Step};
 use linux_perf_data::{Endianness, Feature, PerfFile, PerfFileReader, SimpleperfFileRecord};
 use perfdata_listing::list::{ListCause, ListFault, list_pipe};
 use std::alloc::{AllocError, Global};
 use std::io::{BufReader, Cursor, ErrorKind};
-use std::process::Abort;
 use std::test::Fail;
+use test_support::expect::{expect, expect_at, expect_eq, expect_eq_at};
 use test_support::image::{Image, Part, little_endian_pipe, pipe_image};
 use test_support::outcome::Outcome;
 use test_support::recordings::{
@@ -41,44 +40,44 @@ pub fn list_into_vec<R: Source + Drop>(alloc: Global, source: R) -> (Outcome, u6
 
 /// Lists a pipe from a source, and compares the end, the number of lines and the lines with the expected ones.
 fn lists_pipe_source<R: Source + Drop>(
-    rt: &(impl Abort + AllocGlobal),
+    rt: &impl AllocGlobal,
     name: &str,
     source_name: &str,
     source: R,
     wanted: &str,
     end: Outcome,
-) {
+) -> Result<(), Fail> {
     let (outcome, counted, out) = list_into_vec(rt.alloc(), source);
     let lines = wanted.lines().count() as u64;
     expect_eq_at(
-        rt,
         &(name, source_name),
         &(outcome, counted, out.as_slice()),
         &(end, lines, wanted.as_bytes()),
-    );
+    )?;
+    Ok(())
 }
 
 /// Lists a pipe from a borrowed, an owned and a counted source, and from a source that returns one byte a read.
 pub fn lists_four_ways(
-    rt: &(impl Abort + AllocGlobal),
+    rt: &impl AllocGlobal,
     name: &str,
     bytes: &[u8],
     wanted: &str,
     end: Outcome,
 ) -> Result<(), Fail> {
-    lists_pipe_source(rt, name, "borrowed", bytes, wanted, end);
+    lists_pipe_source(rt, name, "borrowed", bytes, wanted, end)?;
     let copy = Vec::from_slice(rt.alloc(), bytes)?;
-    lists_pipe_source(rt, name, "owned", Cursor::new(copy), wanted, end);
+    lists_pipe_source(rt, name, "owned", Cursor::new(copy), wanted, end)?;
     let buffered = BufReader::new(rt.alloc(), bytes)?;
-    lists_pipe_source(rt, name, "counted", Counted::new(buffered), wanted, end);
+    lists_pipe_source(rt, name, "counted", Counted::new(buffered), wanted, end)?;
     let source = byte_by_byte(rt.alloc(), bytes)?;
-    lists_pipe_source(rt, name, "one byte a read", source, wanted, end);
+    lists_pipe_source(rt, name, "one byte a read", source, wanted, end)?;
     Ok(())
 }
 
 /// Lists a little-endian pipe of these parts, and compares the lines and the end.
 pub fn lists_parts(
-    rt: &(impl Abort + AllocGlobal),
+    rt: &impl AllocGlobal,
     name: &str,
     parts: &[Part<'_>],
     wanted: &str,
@@ -105,7 +104,7 @@ const AUXTRACE_LINE: &str = "0 0 - - 71 0 41\n";
 
 /// Lists a pipe with this byte order and these parts, compares the lines, and returns its size in bytes.
 fn lists_with_endian(
-    rt: &(impl Abort + AllocGlobal),
+    rt: &impl AllocGlobal,
     name: &str,
     endian: Endianness,
     parts: &[Part<'_>],
@@ -133,7 +132,7 @@ fn lists_pipes(rt: HostRuntime) -> Result<(), Fail> {
             &AUXTRACE_AND_SAMPLE,
             AUXTRACE_AND_SAMPLE_LINES,
         )?;
-        expect_eq(&rt, &len, &153);
+        expect_eq(&len, &153)?;
     }
     lists_parts(
         &rt,
@@ -147,10 +146,14 @@ fn lists_pipes(rt: HostRuntime) -> Result<(), Fail> {
 #[test]
 fn invalid_attributes_fail(rt: HostRuntime) -> Result<(), Fail> {
     let first = Part::HeaderAttr(0x10004, 0, &[]);
-    let lacks = [first, Part::HeaderAttr(4, 0, &[])];
+    let no_identifier = [first, Part::HeaderAttr(4, 0, &[])];
     let differs = [first, Part::HeaderAttr(0x10004, 0x40000, &[])];
     for (name, parts, end) in [
-        ("no IDENTIFIER", lacks.as_slice(), Outcome::NoIdentifier(1)),
+        (
+            "no IDENTIFIER",
+            no_identifier.as_slice(),
+            Outcome::NoIdentifier(1),
+        ),
         ("another SAMPLE_ID_ALL", &differs, Outcome::SampleIdAll(1)),
         ("no attributes", &[], Outcome::NoAttributes),
         ("a record alone", &[Part::Sample(3)], Outcome::NoAttributes),
@@ -160,53 +163,68 @@ fn invalid_attributes_fail(rt: HostRuntime) -> Result<(), Fail> {
     Ok(())
 }
 
+/// The parts of pipes without a complete record that can be read, and how their listings end.
+const PIPE_ENDS: [(&str, &[Part<'_>], Outcome); 7] = [
+    (
+        "a truncated sample",
+        &[
+            ONE_ATTRIBUTE,
+            Part::RecordHeader(9, 0, 16),
+            Part::Fill(0, 4),
+        ],
+        Outcome::Complete,
+    ),
+    (
+        "a truncated compressed record",
+        &[
+            ONE_ATTRIBUTE,
+            Part::RecordHeader(81, 0, 16),
+            Part::Fill(0, 4),
+        ],
+        Outcome::Complete,
+    ),
+    (
+        "a truncated marker",
+        &[
+            ONE_ATTRIBUTE,
+            Part::RecordHeader(68, 0, 16),
+            Part::Fill(0, 4),
+        ],
+        Outcome::Complete,
+    ),
+    (
+        "a compressed record",
+        &[
+            ONE_ATTRIBUTE,
+            Part::RecordHeader(81, 0, 16),
+            Part::Fill(0, 8),
+        ],
+        Outcome::Unsupported,
+    ),
+    (
+        "a small auxtrace record",
+        &[
+            ONE_ATTRIBUTE,
+            Part::RecordHeader(71, 0, 47),
+            Part::Fill(0, 39),
+        ],
+        Outcome::UnexpectedEof,
+    ),
+    (
+        "a size of 7",
+        &[ONE_ATTRIBUTE, Part::RecordHeader(9, 0, 7)],
+        Outcome::RecordSize,
+    ),
+    (
+        "a size of 7 first",
+        &[Part::RecordHeader(64, 0, 7)],
+        Outcome::RecordSize,
+    ),
+];
+
 #[test]
 fn pipe_ends(rt: HostRuntime) -> Result<(), Fail> {
-    // the first 12 bytes of a sample with the time 20
-    let sample = [
-        ONE_ATTRIBUTE,
-        Part::RecordHeader(9, 0, 16),
-        Part::Bytes(&[20, 0, 0, 0]),
-    ];
-    let compressed = [
-        ONE_ATTRIBUTE,
-        Part::RecordHeader(81, 0, 16),
-        Part::Fill(0, 4),
-    ];
-    let marker = [
-        ONE_ATTRIBUTE,
-        Part::RecordHeader(68, 0, 16),
-        Part::Fill(0, 4),
-    ];
-    let small = [ONE_ATTRIBUTE, Part::RecordHeader(9, 0, 7)];
-    let small_first = [Part::RecordHeader(64, 0, 7)];
-    let whole = [
-        ONE_ATTRIBUTE,
-        Part::RecordHeader(81, 0, 16),
-        Part::Fill(0, 8),
-    ];
-    let small_auxtrace = [
-        ONE_ATTRIBUTE,
-        Part::RecordHeader(71, 0, 47),
-        Part::Fill(0, 39),
-    ];
-    for (name, parts, end) in [
-        ("a truncated sample", sample.as_slice(), Outcome::Complete),
-        (
-            "a truncated compressed record",
-            &compressed,
-            Outcome::Complete,
-        ),
-        ("a truncated marker", &marker, Outcome::Complete),
-        ("a compressed record", &whole, Outcome::Unsupported),
-        (
-            "a small auxtrace record",
-            &small_auxtrace,
-            Outcome::UnexpectedEof,
-        ),
-        ("a size of 7", &small, Outcome::RecordSize),
-        ("a size of 7 first", &small_first, Outcome::RecordSize),
-    ] {
+    for (name, parts, end) in PIPE_ENDS {
         lists_parts(&rt, name, parts, "", end)?;
     }
     Ok(())
@@ -253,7 +271,7 @@ fn truncation_at_each_byte(rt: HostRuntime) -> Result<(), Fail> {
 }
 
 /// Compares the results for the first `length` bytes of `AUXTRACE_AND_SAMPLE`: the end of the opening, the lines, and the end of the listing.
-fn truncation_is(rt: &(impl Abort + AllocGlobal), bytes: &[u8], length: usize) -> Result<(), Fail> {
+fn truncation_is(rt: &impl AllocGlobal, bytes: &[u8], length: usize) -> Result<(), Fail> {
     let prefix = bytes.get(..length).unwrap_or(&[]);
     let name = format!(in rt.alloc(); "truncated to {length}")?;
     let (opening, lines, end) = match length {
@@ -264,7 +282,7 @@ fn truncation_is(rt: &(impl Abort + AllocGlobal), bytes: &[u8], length: usize) -
         136 => (Outcome::Complete, "", Outcome::RecordData),
         _ => (Outcome::Complete, AUXTRACE_LINE, Outcome::Complete),
     };
-    expect_eq_at(rt, &name, &open_outcome(rt, prefix), &opening);
+    expect_eq_at(&name, &open_outcome(rt, prefix), &opening)?;
     lists_four_ways(rt, &name, prefix, lines, end)
 }
 
@@ -294,14 +312,10 @@ fn has_records<R: Source + Drop>(reader: PerfFileReader<R>, count: usize) -> Res
 }
 
 /// The number of remaining bytes of a pipe after it is opened and `calls` records are read.
-fn remaining_after(
-    rt: &(impl Abort + AllocGlobal),
-    bytes: &[u8],
-    calls: usize,
-) -> Result<usize, Fail> {
+fn remaining_after(rt: &impl AllocGlobal, bytes: &[u8], calls: usize) -> Result<usize, Fail> {
     let mut rest = bytes;
     let has_all = has_records(open_pipe(rt.alloc(), &mut rest)?, calls)?;
-    expect(rt, has_all);
+    expect(has_all)?;
     Ok(rest.len())
 }
 
@@ -310,11 +324,10 @@ fn no_read_ahead(rt: HostRuntime) -> Result<(), Fail> {
     let image = little_endian_pipe(rt.alloc(), &AUXTRACE_AND_SAMPLE)?;
     for (calls, remaining) in [(0usize, 57usize), (1, 16), (2, 0)] {
         expect_eq_at(
-            &rt,
             &calls,
             &remaining_after(&rt, &image.bytes, calls)?,
             &remaining,
-        );
+        )?;
     }
     Ok(())
 }
@@ -366,15 +379,11 @@ fn pipe_features(rt: HostRuntime) -> Result<(), Fail> {
         Outcome::Complete,
     )?;
     let file = open_file_state(rt.alloc(), &FEATURE_300)?;
-    expect_at(&rt, &"no set has it", file.features().is_empty());
+    expect_at(&"no set has it", file.features().is_empty())?;
     let data = file.feature_section_data(Feature(300));
-    expect_eq(&rt, &data, &Some(b"a".as_slice()));
+    expect_eq(&data, &Some(b"a".as_slice()))?;
     let file = open_file_state(rt.alloc(), &TWO_HOSTNAMES)?;
-    expect_eq(
-        &rt,
-        &hostname_and_features(&file, Some("b"))?,
-        &(false, 1, true),
-    );
+    expect_eq(&hostname_and_features(&file, Some("b"))?, &(false, 1, true))?;
     let truncated = [
         ONE_ATTRIBUTE,
         Part::RecordHeader(80, 0, 12),
@@ -403,7 +412,7 @@ fn first_description_names_the_attribute(rt: HostRuntime) -> Result<(), Fail> {
             Part::HeaderAttr(4, 0, &[5]),
         ];
         let file = open_file_state(rt.alloc(), &parts)?;
-        expect_eq_at(&rt, &letters, &first_name(&file), &name);
+        expect_eq_at(&letters, &first_name(&file), &name)?;
     }
     Ok(())
 }
@@ -415,7 +424,7 @@ pub fn first_name(file: &PerfFile) -> Option<&str> {
 
 /// Compares the name that EVENT_DESC contains for an attribute with these ids, and the pipe's line.
 fn event_desc_names(
-    rt: &(impl Abort + AllocGlobal),
+    rt: &impl AllocGlobal,
     events: &[u8],
     ids: &'static [u64],
     name: Option<&str>,
@@ -428,19 +437,15 @@ fn event_desc_names(
     lists_parts(rt, "EVENT_DESC", &parts, SAMPLE_LINE, Outcome::Complete)?;
     let file = open_file_state(rt.alloc(), &parts)?;
     let attributes = file.event_attributes();
-    expect_eq(rt, &attributes.len(), &1);
-    expect_eq(
-        rt,
-        &(attributes[0].ids(), attributes[0].name()),
-        &(ids, name),
-    );
+    expect_eq(&attributes.len(), &1)?;
+    expect_eq(&(attributes[0].ids(), attributes[0].name()), &(ids, name))?;
     Ok(())
 }
 
 #[test]
 fn attribute_names_from_event_desc(rt: HostRuntime) -> Result<(), Fail> {
     let events = event_desc(rt.alloc(), Endianness::LittleEndian, 64)?;
-    expect_eq(&rt, &events.bytes.len(), &90);
+    expect_eq(&events.bytes.len(), &90)?;
     event_desc_names(&rt, &events.bytes, &[5], Some("c"))?;
     event_desc_names(&rt, &events.bytes, &[6], None)?;
     let small = event_desc(rt.alloc(), Endianness::LittleEndian, 56)?;
@@ -465,7 +470,7 @@ fn symbol_tables_of_pipes(rt: HostRuntime) -> Result<(), Fail> {
             &[ONE_ATTRIBUTE, Part::HeaderFeature(feature, content)],
         )?;
         let tables = file.simpleperf_symbol_tables(rt.alloc())?;
-        expect_at(&rt, &feature, is_single_table(&tables, "a", address));
+        expect_at(&feature, is_single_table(&tables, "a", address))?;
     }
     Ok(())
 }
@@ -491,7 +496,7 @@ fn allocations_succeed(rt: HostRuntime) -> Result<(), Fail> {
 }
 
 /// Lists one sample of this size, whose body consists of zeros.
-fn lists_zero_body(rt: &(impl Abort + AllocGlobal), size: u16) -> Result<(), Fail> {
+fn lists_zero_body(rt: &impl AllocGlobal, size: u16) -> Result<(), Fail> {
     let body_size = (size as usize).saturating_sub(8);
     let parts = [
         Part::HeaderAttr(0, 0, &[]),
@@ -508,7 +513,7 @@ fn lists_zero_body(rt: &(impl Abort + AllocGlobal), size: u16) -> Result<(), Fai
         source,
         &wanted,
         Outcome::Complete,
-    );
+    )?;
     Ok(())
 }
 
@@ -521,7 +526,7 @@ fn interrupted_reads_of_pipes(rt: HostRuntime) -> Result<(), Fail> {
     ] {
         // the header and the attribute have 88 bytes
         let source = interrupted_source(rt.alloc(), &pipe.bytes, 88, times)?;
-        lists_pipe_source(&rt, "a pipe", "interrupted", source, lines, end);
+        lists_pipe_source(&rt, "a pipe", "interrupted", source, lines, end)?;
     }
     Ok(())
 }
@@ -539,7 +544,7 @@ fn read_error_is_not_the_end(rt: HostRuntime) -> Result<(), Fail> {
     for prefix_len in 0..image.bytes.len() {
         let source = failing_source(rt.alloc(), &image.bytes, prefix_len)?;
         let (lines, end) = expected_after_error(prefix_len);
-        lists_pipe_source(&rt, "a pipe", "failing", source, lines, end);
+        lists_pipe_source(&rt, "a pipe", "failing", source, lines, end)?;
     }
     Ok(())
 }

@@ -1,11 +1,10 @@
 //! Random small inputs, each read by the library and by the reference implementation.
-use crate::expect::{expect_at, expect_eq, expect_eq_at};
 use linux_perf_data::{AttributeDescription, Endianness, Feature, PerfFile, PerfFileReader};
 use perfdata_listing::list::{ListCause, ListFault, list_file, list_pipe};
 use std::alloc::{AllocError, Global};
 use std::io::Cursor;
-use std::process::Abort;
 use std::test::Fail;
+use test_support::expect::{expect_at, expect_eq, expect_eq_at};
 use test_support::image::Image;
 use test_support::outcome::Outcome;
 use test_support::reference;
@@ -189,42 +188,37 @@ fn random_pipe(alloc: Global, random: &mut Random) -> Result<Image, AllocError> 
 }
 
 /// Compares the metadata of a pipe with that of the reference implementation.
-fn file_matches(
-    rt: &(impl Abort + AllocGlobal),
-    file: &PerfFile,
-    pipe: &Pipe<'_>,
-) -> Result<(), Fail> {
+fn file_matches(rt: &impl AllocGlobal, file: &PerfFile, pipe: &Pipe<'_>) -> Result<(), Fail> {
     let events = pipe.events(rt.alloc())?;
-    events_match(rt, file.event_attributes(), &events);
+    events_match(file.event_attributes(), &events)?;
     for number in [3u32, 12, 255, 256] {
         let data = pipe.data(rt.alloc(), number as u64)?;
         let has = data.is_some() && number < 256;
         let feature = Feature(number);
         expect_eq(
-            rt,
             &(
                 file.feature_section_data(feature),
                 file.features().has_feature(feature),
             ),
             &(data, has),
-        );
+        )?;
     }
     Ok(())
 }
 
 /// Compares the attributes with those of the reference implementation.
-fn events_match(rt: &impl Abort, attributes: &[AttributeDescription], events: &[Event]) {
-    expect_eq(rt, &attributes.len(), &events.len());
+fn events_match(attributes: &[AttributeDescription], events: &[Event]) -> Result<(), Fail> {
+    expect_eq(&attributes.len(), &events.len())?;
     for (attribute, event) in attributes.iter().zip(events.iter()) {
         let found = attribute.attributes();
         let name = event.name.as_ref().map(|name| name.as_slice());
         expect_eq(
-            rt,
             &(found.sample_format.0, found.flags.0, attribute.ids()),
             &(event.sample_type, event.flags, event.ids.as_slice()),
-        );
-        expect_eq(rt, &attribute.name().map(|name| name.as_bytes()), &name);
+        )?;
+        expect_eq(&attribute.name().map(|name| name.as_bytes()), &name)?;
     }
+    Ok(())
 }
 
 /// The metadata of a pipe of at most this many records, at its end or before its first error.
@@ -241,33 +235,33 @@ fn file_at_end(reader: PerfFileReader<&[u8]>, records: usize) -> PerfFile {
 }
 
 /// Compares both implementations on a pipe, and returns whether it opens.
-fn pipe_matches_reference(rt: &(impl Abort + AllocGlobal), bytes: &[u8]) -> Result<bool, Fail> {
+fn pipe_matches_reference(rt: &impl AllocGlobal, bytes: &[u8]) -> Result<bool, Fail> {
     match pipe_of(rt.alloc(), bytes)? {
         Ok(pipe) => {
             let lines = pipe.lines(rt.alloc())?;
-            listing_is(rt, bytes, lines.as_str(), pipe.end);
+            listing_is(rt, bytes, lines.as_str(), pipe.end)?;
             // the metadata after all records are read
             let file = file_at_end(PerfFileReader::parse_pipe(rt.alloc(), bytes)?, bytes.len());
             file_matches(rt, &file, &pipe)?;
             Ok(true)
         }
         Err(end) => {
-            listing_is(rt, bytes, "", end);
+            listing_is(rt, bytes, "", end)?;
             Ok(false)
         }
     }
 }
 
 /// Compares the end and the lines of a pipe with those of the reference implementation.
-fn listing_is(rt: &(impl Abort + AllocGlobal), bytes: &[u8], lines: &str, end: Outcome) {
+fn listing_is(rt: &impl AllocGlobal, bytes: &[u8], lines: &str, end: Outcome) -> Result<(), Fail> {
     let mut out: Vec<u8> = Vec::new(rt.alloc());
     let listed = list_pipe(rt.alloc(), bytes, &mut out);
     expect_eq_at(
-        rt,
         &bytes,
         &(outcome_of(&listed), out.as_slice()),
         &(end, lines.as_bytes()),
-    );
+    )?;
+    Ok(())
 }
 
 #[test]
@@ -280,7 +274,7 @@ fn random_pipes_match_the_reference(rt: HostRuntime) -> Result<(), Fail> {
             opened = opened.saturating_add(1);
         }
     }
-    expect_at(&rt, &opened, opened > 400);
+    expect_at(&opened, opened > 400)?;
     Ok(())
 }
 
@@ -322,14 +316,13 @@ fn random_files_match_the_reference(rt: HostRuntime) -> Result<(), Fail> {
         let mut out: Vec<u8> = Vec::new(rt.alloc());
         let listed = list_file(rt.alloc(), Cursor::new(image.bytes.as_slice()), &mut out);
         expect_eq(
-            &rt,
             &(outcome_of(&listed), out.as_slice()),
             &(end, lines.as_bytes()),
-        );
+        )?;
         if end == Outcome::Complete {
             whole = whole.saturating_add(1);
         }
     }
-    expect_at(&rt, &whole, whole > 400);
+    expect_at(&whole, whole > 400)?;
     Ok(())
 }

@@ -1,9 +1,10 @@
 //! Auxtrace records: whatever the split, in both byte orders, and errors.
-use crate::expect::{expect_at, expect_eq, expect_eq_at};
 use byteorder::{BigEndian, LittleEndian};
 use perfdata_base::raw::{FileOrder, RawData};
 use perfdata_parts::auxtrace::Auxtrace;
 use std::io::ErrorKind;
+use std::test::Fail;
+use test_support::expect::{expect_at, expect_eq, expect_eq_at};
 use test_support::recordings::AUXTRACE_BODY;
 use test_support::values::to_error_kind;
 
@@ -29,18 +30,19 @@ fn is_equal_when_split(prefix: &[u8], rest: &[u8], whole: &[u8]) -> bool {
 }
 
 #[test]
-fn parses_at_every_split(rt: HostRuntime) {
+fn parses_at_every_split() -> Result<(), Fail> {
     let wanted = Some(((1, 0, 0x428_492a_cdf9), (8, 0x247a, 8)));
     let values = auxtrace_fields::<LittleEndian>(RawData::Single(&AUXTRACE_BODY), &[7]);
-    expect_eq(&rt, &values, &wanted);
+    expect_eq(&values, &wanted)?;
     for at in 0..42usize {
         let (prefix, rest) = AUXTRACE_BODY.split_at(at);
-        expect_at(&rt, &at, is_equal_when_split(prefix, rest, &AUXTRACE_BODY));
+        expect_at(&at, is_equal_when_split(prefix, rest, &AUXTRACE_BODY))?;
     }
+    Ok(())
 }
 
 #[test]
-fn parses_big_endian(rt: HostRuntime) {
+fn parses_big_endian() -> Result<(), Fail> {
     let mut body = [0; 42];
     for (at, value) in [
         (7usize, 2),
@@ -56,12 +58,13 @@ fn parses_big_endian(rt: HostRuntime) {
     body[41] = 9;
     let wanted = Some(((2, 3, 4), (5, 6, 7)));
     let values = auxtrace_fields::<BigEndian>(RawData::Single(&body), &[0, 9]);
-    expect_eq(&rt, &values, &wanted);
+    expect_eq(&values, &wanted)?;
+    Ok(())
 }
 
 #[test]
-fn wrong_sizes_fail(rt: HostRuntime) {
-    expect_eq(&rt, &Auxtrace::FIXED_SIZE, &40);
+fn wrong_sizes_fail() -> Result<(), Fail> {
+    expect_eq(&Auxtrace::FIXED_SIZE, &40)?;
     let mut longer = [0; 42];
     longer[..41].copy_from_slice(&AUXTRACE_BODY);
     for (count, kind) in [
@@ -73,7 +76,8 @@ fn wrong_sizes_fail(rt: HostRuntime) {
         for at in 0..count + 1 {
             let (prefix, rest) = longer[..count].split_at(at);
             let parsed = Auxtrace::parse::<LittleEndian>(RawData::Split(prefix, rest));
-            expect_eq_at(&rt, &(count, at), &to_error_kind(parsed).err(), &Some(kind));
+            expect_eq_at(&(count, at), &to_error_kind(parsed).err(), &Some(kind))?;
         }
     }
+    Ok(())
 }

@@ -1,5 +1,4 @@
 //! Build id entries: the length of an id, the size of an entry, and truncated entries.
-use crate::expect::{expect, expect_at, expect_eq, expect_eq_at};
 use byteorder::{BigEndian, LittleEndian};
 use perfdata_base::raw::Endianness;
 use perfdata_base::source::AppendError;
@@ -7,6 +6,7 @@ use perfdata_parts::build_id_event::BuildIdEvent;
 use std::alloc::Global;
 use std::io::ErrorKind;
 use std::test::Fail;
+use test_support::expect::{expect, expect_at, expect_eq, expect_eq_at};
 use test_support::values::concat;
 
 // The fields of an entry: its type, misc and size, its pid, its build id and its path.
@@ -78,7 +78,7 @@ fn id_bytes(index: usize, byte: u8) -> [u8; 24] {
 }
 
 #[test]
-fn build_id_size(rt: HostRuntime) {
+fn build_id_size(rt: HostRuntime) -> Result<(), Fail> {
     for (misc, index, byte, length) in [
         (2u16, 5usize, 0u8, 8usize),
         (2, 7, 1, 8),
@@ -95,26 +95,27 @@ fn build_id_size(rt: HostRuntime) {
         let values = parse_little_endian(rt.alloc(), &entry_prefix(misc, 36, id));
         let wanted = id.get(..length).unwrap_or(&[]);
         let is_wanted = has_fields(&values, ((67, misc, 36), -1), wanted, b"");
-        expect_at(&rt, &(misc, index, byte), is_wanted);
+        expect_at(&(misc, index, byte), is_wanted)?;
     }
     let values = parse_little_endian(rt.alloc(), &entry_prefix(2, 10, [0; 24]));
-    expect(&rt, has_fields(&values, ((67, 2, 10), -1), b"", b""));
+    expect(has_fields(&values, ((67, 2, 10), -1), b"", b""))?;
+    Ok(())
 }
 
 #[test]
-fn small_size_is_an_empty_entry(rt: HostRuntime) {
+fn small_size_is_an_empty_entry(rt: HostRuntime) -> Result<(), Fail> {
     // a header with type 67, misc 2 and size 10, and 28 zero bytes
     let mut bytes = [0u8; 36];
     bytes[..8].copy_from_slice(&[67, 0, 0, 0, 2, 0, 10, 0]);
     let numbers = ((67, 2, 10), 0);
     let (values, remaining) = parse_and_remaining(rt.alloc(), &bytes);
     expect_eq(
-        &rt,
         &(has_fields(&values, numbers, b"", b""), remaining),
         &(true, 0),
-    );
+    )?;
     let values = parse_little_endian(rt.alloc(), &bytes);
-    expect(&rt, has_fields(&values, numbers, b"", b""));
+    expect(has_fields(&values, numbers, b"", b""))?;
+    Ok(())
 }
 
 #[test]
@@ -131,11 +132,10 @@ fn consumes_the_declared_size(rt: HostRuntime) -> Result<(), Fail> {
         let (values, remaining) = parse_and_remaining(rt.alloc(), &bytes);
         let is_wanted = has_fields(&values, ((67, 2, size), -1), &id[..20], path);
         expect_eq_at(
-            &rt,
             &size,
             &(is_wanted, remaining.wrapping_add(consumed)),
             &(true, 42),
-        );
+        )?;
     }
     Ok(())
 }
@@ -149,11 +149,11 @@ fn truncation_is_eof(rt: HostRuntime) -> Result<(), Fail> {
     for len in [0usize, 7, 35, 36, 37] {
         let part = bytes.get(..len).unwrap_or(&[]);
         let got = parse_big_endian(rt.alloc(), part);
-        expect_at(&rt, &len, matches!(got, Err(ErrorKind::UnexpectedEof)));
+        expect_at(&len, matches!(got, Err(ErrorKind::UnexpectedEof)))?;
     }
     let whole = parse_big_endian(rt.alloc(), &bytes).ok();
     let numbers = ((0x4300_0000, 0x200, 38), -1);
-    expect(&rt, has_fields(&whole, numbers, &[1; 20], b"/a"));
+    expect(has_fields(&whole, numbers, &[1; 20], b"/a"))?;
     Ok(())
 }
 
@@ -182,15 +182,10 @@ fn reads_from_the_start_of_the_bytes(rt: HostRuntime) -> Result<(), Fail> {
         let mut remaining = bytes.as_slice();
         let values = read_in(rt.alloc(), endian, &mut remaining).ok();
         let is_wanted = has_fields(&values, (header, -1), &[1; 20], b"/a");
-        expect_eq_at(
-            &rt,
-            &size,
-            &(is_wanted, remaining),
-            &(true, b"rest".as_slice()),
-        );
+        expect_eq_at(&size, &(is_wanted, remaining), &(true, b"rest".as_slice()))?;
         let mut truncated = bytes.get(..37).unwrap_or(&[]);
         let error = read_in(rt.alloc(), endian, &mut truncated).err();
-        expect_eq_at(&rt, &size, &error, &Some(Some(ErrorKind::UnexpectedEof)));
+        expect_eq_at(&size, &error, &Some(Some(ErrorKind::UnexpectedEof)))?;
     }
     Ok(())
 }

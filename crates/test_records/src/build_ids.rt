@@ -1,9 +1,9 @@
 //! Build id entries that are parsed one by one from a borrowed reader.
-use crate::expect::expect_eq;
 use byteorder::LittleEndian;
 use linux_perf_data::build_id_event::BuildIdEvent;
 use std::alloc::Global;
 use std::test::Fail;
+use test_support::expect::expect_eq;
 use test_support::values::concat;
 
 // An entry of 41 bytes, with a path of five bytes.
@@ -30,10 +30,9 @@ fn parses_entries_from_a_borrowed_reader(rt: HostRuntime) -> Result<(), Fail> {
     let mut source = content.as_slice();
     for (path, remaining) in [(b"/a/x", 41usize), (b"/a/y", 0)] {
         expect_eq(
-            &rt,
             &parse_from_borrowed(rt.alloc(), &mut source, path),
             &(true, remaining),
-        );
+        )?;
     }
     Ok(())
 }

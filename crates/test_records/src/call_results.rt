@@ -1,4 +1,5 @@
 //! The results of the readers of files and pipes.
+use linux_perf_data::in_memory::InMemoryReader;
 use linux_perf_data::source::{PlacedSource, Source};
 use linux_perf_data::{
     Error, PerfFile, PerfFileReader, PerfFileRecord, PerfRecordIter, RecordPlace,
@@ -71,6 +72,40 @@ pub fn pipe_results<R: Source + Drop>(
         record_iter: mut records,
     } = PerfFileReader::parse_pipe(alloc, source)?;
     Ok(call_results(alloc, &mut file, &mut records, count)?)
+}
+
+/// The first `count` results of a file in memory.
+pub fn file_results_in_memory(
+    alloc: Global,
+    bytes: &[u8],
+    count: usize,
+) -> Result<Vec<CallResult>, Fail> {
+    let InMemoryReader {
+        perf_file: mut file,
+        mut records,
+    } = InMemoryReader::parse_file(alloc, bytes)?;
+    let mut results = Vec::new(alloc);
+    for _ in 0..count {
+        results.push(call_result(records.next_record(&mut file)))?;
+    }
+    Ok(results)
+}
+
+/// The first `count` results of a pipe in memory.
+pub fn pipe_results_in_memory(
+    alloc: Global,
+    bytes: &[u8],
+    count: usize,
+) -> Result<Vec<CallResult>, Fail> {
+    let InMemoryReader {
+        perf_file: mut file,
+        mut records,
+    } = InMemoryReader::parse_pipe(alloc, bytes)?;
+    let mut results = Vec::new(alloc);
+    for _ in 0..count {
+        results.push(call_result(records.next_record(&mut file)))?;
+    }
+    Ok(results)
 }
 
 /// The attribute indices of the event records.

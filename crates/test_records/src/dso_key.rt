@@ -1,10 +1,10 @@
 //! Keys of mapped objects: each type of path in each CPU mode, and which keys are equal.
-use crate::expect::{expect_at, expect_eq_at};
 use perfdata_base::event::CpuMode;
 use perfdata_parts::dso_key::DsoKey;
 use std::alloc::{AllocError, Global};
 use std::hash::{DefaultHasher, Hash, Hasher};
 use std::test::Fail;
+use test_support::expect::{expect_at, expect_eq_at};
 
 const MODES: [CpuMode; 6] = [
     CpuMode::Kernel,
@@ -113,8 +113,8 @@ fn is_detected(
     let (path, module, file) = row;
     let key = DsoKey::detect(alloc, path, mode)?;
     let shown = name_for_letter(wanted, module, file);
-    let kept: &[u8] = if wanted == b'U' { path } else { &[] };
-    Ok((key_letter(&key), name_or_empty(&key), full_path_of(&key)) == (wanted, shown, kept))
+    let wanted_path: &[u8] = if wanted == b'U' { path } else { &[] };
+    Ok((key_letter(&key), name_or_empty(&key), full_path_of(&key)) == (wanted, shown, wanted_path))
 }
 
 #[test]
@@ -122,7 +122,7 @@ fn detects_each_path_in_each_mode(rt: HostRuntime) -> Result<(), Fail> {
     for (path, letters, module, file) in ROWS {
         for (mode, wanted) in MODES.iter().zip(letters) {
             let detected = is_detected(rt.alloc(), *mode, wanted, (path, module, file))?;
-            expect_at(&rt, &(path, mode), detected);
+            expect_at(&(path, mode), detected)?;
         }
     }
     Ok(())
@@ -148,7 +148,7 @@ fn equal_keys_hash_equally(rt: HostRuntime) -> Result<(), Fail> {
             (Some(key), Some(other)) => Some((*key == *other, hash_of(key) == hash_of(other))),
             _ => None,
         };
-        expect_eq_at(&rt, &path, &compared, &Some((equal, equal)));
+        expect_eq_at(&path, &compared, &Some((equal, equal)))?;
     }
     Ok(())
 }

@@ -1,9 +1,9 @@
 //! The lookup of a sample's attribute by its id.
 use crate::call_results::{IDENTIFIER, SAMPLE_ID_ALL, attr_indices_in, pipe_results};
-use crate::expect::expect_eq;
 use linux_perf_data::Endianness;
 use std::alloc::{AllocError, Global};
 use std::test::Fail;
+use test_support::expect::expect_eq;
 use test_support::image::Image;
 
 // Appends an attribute for each of these lists of ids.
@@ -41,11 +41,7 @@ fn last_listing_wins(rt: HostRuntime) -> Result<(), Fail> {
     let lists: [&[u64]; 3] = [&[70, 5, u64::MAX, 0], &[6, 5], &[5, 0]];
     let samples = [0, 1, 5, 6, 70, 71, u64::MAX];
     let indices = attr_indices(rt.alloc(), &lists, &[], &samples)?;
-    expect_eq(
-        &rt,
-        &indices.as_slice(),
-        &[0, 3, 0, 3, 2, 1, 0, 1].as_slice(),
-    );
+    expect_eq(&indices.as_slice(), &[0, 3, 0, 3, 2, 1, 0, 1].as_slice())?;
     Ok(())
 }
 
@@ -55,10 +51,6 @@ fn late_listings_override(rt: HostRuntime) -> Result<(), Fail> {
     let lists: [&[u64]; 4] = [&[70, 5, u64::MAX, 0, 5], &[], &[6, 5], &[5, 0, 71]];
     let samples = [0, 1, 5, 6, 70, 71, 72, u64::MAX];
     let indices = attr_indices(rt.alloc(), &[], &lists, &samples)?;
-    expect_eq(
-        &rt,
-        &indices.as_slice(),
-        &[0, 4, 0, 4, 3, 1, 4, 0, 1].as_slice(),
-    );
+    expect_eq(&indices.as_slice(), &[0, 4, 0, 4, 3, 1, 4, 0, 1].as_slice())?;
     Ok(())
 }

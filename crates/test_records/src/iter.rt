@@ -1,13 +1,13 @@
 //! The records of a file and of a pipe, with their `RecordPlace`, and errors.
 use crate::call_results::{CallResult, file_results, pipe_results};
-use crate::expect::{expect, expect_eq, expect_eq_at};
-use example_proved_count::count_records;
+use example_proved_count::{count_pipe_records, count_records};
 use linux_perf_data::RecordPlace;
 use linux_perf_data::source::{Counted, Script, Step};
 use std::alloc::{AllocError, Global};
 use std::io::{Cursor, ErrorKind};
 use std::test::Fail;
 use test_support::error_key::{DATA, ErrorKey, UNEXPECTED_EOF};
+use test_support::expect::{expect, expect_eq, expect_eq_at};
 use test_support::image::{Part, little_endian_file, little_endian_pipe};
 use test_support::sources::bytes_then;
 
@@ -100,7 +100,7 @@ fn results_of_pipe<'a>(
 #[test]
 fn returns_records_with_their_places(rt: HostRuntime) -> Result<(), Fail> {
     let results = results_of_file(rt.alloc(), &RECORDS, 107, 5)?;
-    expect_eq(&rt, &results.as_slice(), &RESULTS.as_slice());
+    expect_eq(&results.as_slice(), &RESULTS.as_slice())?;
     Ok(())
 }
 
@@ -125,7 +125,7 @@ fn malformed_records_fail(rt: HostRuntime) -> Result<(), Fail> {
         let results = results_of_file(rt.alloc(), bytes, 200, 3)?;
         let failed = CallResult::Failure(ErrorKey::Failed);
         let wanted = [CallResult::Failure(error), failed, failed];
-        expect_eq(&rt, &results.as_slice(), &wanted.as_slice());
+        expect_eq(&results.as_slice(), &wanted.as_slice())?;
     }
     Ok(())
 }
@@ -134,7 +134,7 @@ fn malformed_records_fail(rt: HostRuntime) -> Result<(), Fail> {
 #[test]
 fn returns_records_of_a_pipe(rt: HostRuntime) -> Result<(), Fail> {
     let results = results_of_pipe(rt.alloc(), &RECORDS, &[], 5)?;
-    expect_eq(&rt, &results.as_slice(), &RESULTS.as_slice());
+    expect_eq(&results.as_slice(), &RESULTS.as_slice())?;
     Ok(())
 }
 
@@ -165,12 +165,7 @@ fn truncated_record_ends_the_pipe(rt: HostRuntime) -> Result<(), Fail> {
     ] {
         let got = results_of_pipe(rt.alloc(), &RECORDS[..24], bytes, 3)?;
         let [second, third] = results;
-        expect_eq_at(
-            &rt,
-            &bytes,
-            &got.as_slice(),
-            &[SAMPLE, second, third].as_slice(),
-        );
+        expect_eq_at(&bytes, &got.as_slice(), &[SAMPLE, second, third].as_slice())?;
     }
     Ok(())
 }
@@ -192,7 +187,7 @@ fn results_with_pause(alloc: Global, before: usize, count: usize) -> Result<Vec<
 fn pause_ends_the_pipe(rt: HostRuntime) -> Result<(), Fail> {
     let results = results_with_pause(rt.alloc(), 132, 3)?;
     let wanted = [SAMPLE, CallResult::End, CallResult::End];
-    expect_eq(&rt, &results.as_slice(), &wanted.as_slice());
+    expect_eq(&results.as_slice(), &wanted.as_slice())?;
     Ok(())
 }
 
@@ -207,10 +202,17 @@ fn proved_count_matches(rt: HostRuntime) -> Result<(), Fail> {
     ];
     for (records, size, count) in cases {
         let bytes = file_bytes(rt.alloc(), records, size)?;
-        expect(
-            &rt,
-            count_records(rt.alloc(), bytes.as_slice()).ok() == count,
-        );
+        expect(count_records(rt.alloc(), bytes.as_slice()).ok() == count)?;
+    }
+    Ok(())
+}
+
+// A truncated record ends a pipe.
+#[test]
+fn proved_pipe_count_matches(rt: HostRuntime) -> Result<(), Fail> {
+    for (records, count) in [(&RECORDS[..], 3), (&RECORDS[..106], 2)] {
+        let bytes = pipe_bytes(rt.alloc(), records, &[])?;
+        expect(count_pipe_records(rt.alloc(), bytes.as_slice()).ok() == Some(count))?;
     }
     Ok(())
 }

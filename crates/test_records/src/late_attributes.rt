@@ -1,10 +1,10 @@
 //! The attribute lookup of a pipe with late attributes.
 use crate::call_results::{CallResult, IDENTIFIER, SAMPLE_ID_ALL, attr_indices_in, pipe_results};
-use crate::expect::{expect_eq, expect_eq_at};
 use linux_perf_data::Endianness;
 use std::alloc::Global;
 use std::test::Fail;
 use test_support::error_key::ErrorKey;
+use test_support::expect::{expect_eq, expect_eq_at};
 use test_support::image::{Image, Part, little_endian_pipe};
 
 // If it is the only bit, the id is at the offset that IDENTIFIER would have.
@@ -31,13 +31,13 @@ fn late_attributes_take_effect(rt: HostRuntime) -> Result<(), Fail> {
     let lists: [&[u64]; 4] = [&[9, 7], &[71, 7], &[], &[9]];
     let indices = attr_indices(rt.alloc(), &lists)?;
     let wanted = [0, 1, 1, 0, 2, 1, 2, 2, 1, 2, 2, 4, 2];
-    expect_eq(&rt, &indices.as_slice(), &wanted.as_slice());
+    expect_eq(&indices.as_slice(), &wanted.as_slice())?;
     Ok(())
 }
 
 // For a pipe of an attribute, a record and two more attributes: the number of records that the first three calls return, and the
 // last other result.
-fn rule_violation(
+fn first_inconsistency(
     alloc: Global,
     first: u64,
     second: u64,
@@ -52,18 +52,18 @@ fn rule_violation(
     let image = little_endian_pipe(alloc, &parts)?;
     let results = pipe_results(alloc, image.bytes.as_slice(), 3)?;
     let mut records = 0usize;
-    let mut violation = None;
+    let mut inconsistency = None;
     for call in &results {
         match call {
             CallResult::Record(_, _, _) => records = records.saturating_add(1),
-            _ => violation = Some(*call),
+            _ => inconsistency = Some(*call),
         }
     }
-    Ok((records, violation))
+    Ok((records, inconsistency))
 }
 
 // The error of an attribute with this index that lacks IDENTIFIER.
-fn lacks_identifier(index: usize) -> Option<CallResult> {
+fn no_identifier(index: usize) -> Option<CallResult> {
     Some(CallResult::Failure(ErrorKey::NoIdentifierDespiteMultiEvent(index)))
 }
 
@@ -75,8 +75,8 @@ fn differs_in_sample_id_all(index: usize) -> Option<CallResult> {
 
 // Two attributes, and a third one that may be inconsistent with them.
 #[test]
-fn reports_the_first_violation(rt: HostRuntime) -> Result<(), Fail> {
-    for (first, second, third, violation) in [
+fn reports_the_first_inconsistency(rt: HostRuntime) -> Result<(), Fail> {
+    for (first, second, third, inconsistency) in [
         (
             IDENTIFIER,
             IDENTIFIER,
@@ -90,19 +90,19 @@ fn reports_the_first_violation(rt: HostRuntime) -> Result<(), Fail> {
             (IDENTIFIER, 0),
             (2, differs_in_sample_id_all(2)),
         ),
-        (IDENTIFIER, IDENTIFIER, (ID, 0), (2, lacks_identifier(2))),
+        (IDENTIFIER, IDENTIFIER, (ID, 0), (2, no_identifier(2))),
         (
             IDENTIFIER,
             IDENTIFIER,
             (0, SAMPLE_ID_ALL),
-            (2, lacks_identifier(2)),
+            (2, no_identifier(2)),
         ),
-        (IDENTIFIER, ID, (IDENTIFIER, 0), (2, lacks_identifier(1))),
-        (ID, IDENTIFIER, (IDENTIFIER, 0), (2, lacks_identifier(0))),
-        (ID, ID, (0, 0), (2, lacks_identifier(0))),
+        (IDENTIFIER, ID, (IDENTIFIER, 0), (2, no_identifier(1))),
+        (ID, IDENTIFIER, (IDENTIFIER, 0), (2, no_identifier(0))),
+        (ID, ID, (0, 0), (2, no_identifier(0))),
     ] {
-        let got = rule_violation(rt.alloc(), first, second, third)?;
-        expect_eq_at(&rt, &(first, second), &got, &violation);
+        let got = first_inconsistency(rt.alloc(), first, second, third)?;
+        expect_eq_at(&(first, second), &got, &inconsistency)?;
     }
     Ok(())
 }

@@ -12,9 +12,9 @@ mod call_results;
 #[cfg(test)]
 mod dso_key;
 #[cfg(test)]
-mod expect;
-#[cfg(test)]
 mod id_table;
+#[cfg(test)]
+mod in_memory;
 #[cfg(test)]
 mod iter;
 #[cfg(test)]

@@ -1,10 +1,10 @@
 //! User record types: their constants, numbers and texts.
-use crate::expect::{expect_eq, expect_eq_at};
 use perfdata_base::event::RecordType;
 use perfdata_parts::constants::*;
 use perfdata_parts::record::UserRecordType;
 use std::alloc::{AllocError, Global};
 use std::test::Fail;
+use test_support::expect::{expect_eq, expect_eq_at};
 
 // A type, the constant of its number, the number, and the text of the type.
 type Row = (UserRecordType, u32, u32, &'static str);
@@ -192,7 +192,7 @@ fn matches_constants(
 }
 
 #[test]
-fn user_type_numbers(rt: HostRuntime) {
+fn user_type_numbers() -> Result<(), Fail> {
     for (number, values) in [
         (0, None),
         (9, None),
@@ -205,8 +205,9 @@ fn user_type_numbers(rt: HostRuntime) {
             Some(user) => Some((user.record_type().0, RecordType::from(user).0)),
             None => None,
         };
-        expect_eq_at(&rt, &number, &numbers, &values);
+        expect_eq_at(&number, &numbers, &values)?;
     }
+    Ok(())
 }
 
 #[test]
@@ -214,7 +215,7 @@ fn debug_names(rt: HostRuntime) -> Result<(), Fail> {
     for row in &ROWS {
         let (user, constant, number, text) = *row;
         let is_match = matches_constants(rt.alloc(), user, number, text)?;
-        expect_eq_at(&rt, &text, &(constant, is_match), &(number, true));
+        expect_eq_at(&text, &(constant, is_match), &(number, true))?;
     }
     Ok(())
 }
@@ -232,7 +233,7 @@ fn debug_of_unknown_types(rt: HostRuntime) -> Result<(), Fail> {
             return Err(Fail::from("no user's type"));
         };
         let shown = format!(in rt.alloc(); "{user:?}")?;
-        expect_eq(&rt, &shown.as_str(), &text);
+        expect_eq(&shown.as_str(), &text)?;
     }
     Ok(())
 }

@@ -1,9 +1,10 @@
 //! Thread maps: whatever the split, in both byte orders, and errors.
-use crate::expect::{expect_eq, expect_eq_at};
 use byteorder::{BigEndian, ByteOrder, LittleEndian};
 use perfdata_base::raw::{FileOrder, RawData};
 use perfdata_parts::thread_map::ThreadMap;
 use std::io::ErrorKind;
+use std::test::Fail;
+use test_support::expect::{expect_eq, expect_eq_at};
 use test_support::values::to_error_kind;
 
 const TIDS: [u64; 12] = [
@@ -74,33 +75,33 @@ fn count_in_order(map: &Result<ThreadMap<'_>, ErrorKind>) -> usize {
 }
 
 #[test]
-fn iterates_at_every_split(rt: HostRuntime) {
+fn iterates_at_every_split() -> Result<(), Fail> {
     let body = twelve_threads(12);
     let whole = parse_map::<LittleEndian>(RawData::Single(&body));
-    expect_eq(&rt, &lengths(&whole), &Some((false, 12, 12)));
-    expect_eq(&rt, &nth_tid(&whole, 8, &[]), &Some(95167));
+    expect_eq(&lengths(&whole), &Some((false, 12, 12)))?;
+    expect_eq(&nth_tid(&whole, 8, &[]), &Some(95167))?;
     for at in 0..297usize {
         let (prefix, rest) = body.split_at(at);
         let map = parse_map::<LittleEndian>(RawData::Split(prefix, rest));
-        expect_eq_at(&rt, &at, &(count_in_order(&map), map == whole), &(12, true));
+        expect_eq_at(&at, &(count_in_order(&map), map == whole), &(12, true))?;
     }
+    Ok(())
 }
 
 #[test]
-fn ignores_trailing_bytes(rt: HostRuntime) {
+fn ignores_trailing_bytes() -> Result<(), Fail> {
     let body = twelve_threads(11);
     let map = parse_map::<LittleEndian>(RawData::Single(&body));
     expect_eq(
-        &rt,
         &(lengths(&map), last_tid(&map)),
         &(Some((false, 11, 11)), Some(95173)),
-    );
+    )?;
     let none = parse_map::<BigEndian>(RawData::Single(&[0; 30]));
     expect_eq(
-        &rt,
         &(lengths(&none), last_tid(&none)),
         &(Some((true, 0, 0)), None),
-    );
+    )?;
+    Ok(())
 }
 
 // A map of one thread with this name of 16 bytes, in little-endian and in big-endian.
@@ -117,7 +118,7 @@ fn one_named_thread(name: &[u8; 16]) -> ([u8; 32], [u8; 32]) {
 }
 
 #[test]
-fn truncates_names_at_nul(rt: HostRuntime) {
+fn truncates_names_at_nul() -> Result<(), Fail> {
     for (name, shown) in [
         (b"\0\0\0\0\0\0\0\0\0\0\0\0\0\0\0\0", &b""[..]),
         (b"worker\0rest\0\0\0\0\0", b"worker"),
@@ -126,14 +127,15 @@ fn truncates_names_at_nul(rt: HostRuntime) {
         let (first, second) = one_named_thread(name);
         let wanted = (Some((false, 1, 1)), Some(542_572));
         let map = parse_map::<LittleEndian>(RawData::Single(&first));
-        expect_eq(&rt, &(lengths(&map), nth_tid(&map, 0, shown)), &wanted);
+        expect_eq(&(lengths(&map), nth_tid(&map, 0, shown)), &wanted)?;
         let map = parse_map::<BigEndian>(RawData::Single(&second));
-        expect_eq(&rt, &(lengths(&map), nth_tid(&map, 0, shown)), &wanted);
+        expect_eq(&(lengths(&map), nth_tid(&map, 0, shown)), &wanted)?;
     }
+    Ok(())
 }
 
 #[test]
-fn bad_counts_fail(rt: HostRuntime) {
+fn bad_counts_fail() -> Result<(), Fail> {
     for (count, len, kind) in [
         (13, 296usize, ErrorKind::UnexpectedEof),
         (12, 295, ErrorKind::UnexpectedEof),
@@ -147,7 +149,8 @@ fn bad_counts_fail(rt: HostRuntime) {
         for at in 0..len + 1 {
             let (prefix, rest) = body[..len].split_at(at);
             let got = parse_map::<LittleEndian>(RawData::Split(prefix, rest)).err();
-            expect_eq_at(&rt, &(count, at), &got, &Some(kind));
+            expect_eq_at(&(count, at), &got, &Some(kind))?;
         }
     }
+    Ok(())
 }

@@ -1,5 +1,4 @@
 //! User records in the parsed form of their type: whatever the split, and errors.
-use crate::expect::{expect, expect_at, expect_eq, expect_eq_at};
 use byteorder::{BigEndian, ByteOrder, LittleEndian};
 use perfdata_base::features::Feature;
 use perfdata_base::raw::{Endianness, FileOrder, RawData};
@@ -8,6 +7,8 @@ use perfdata_parts::record::{
 };
 use std::alloc::Global;
 use std::io::ErrorKind;
+use std::test::Fail;
+use test_support::expect::{expect, expect_at, expect_eq, expect_eq_at};
 use test_support::recordings::{AUXTRACE_BODY, header_attr_body};
 use test_support::values::to_error_kind;
 
@@ -49,18 +50,19 @@ fn parse_feature<T: FileOrder>(
 }
 
 #[test]
-fn parses_attribute_at_every_split(rt: HostRuntime) {
+fn parses_attribute_at_every_split(rt: HostRuntime) -> Result<(), Fail> {
     let bytes = header_attr_body();
     for (len, ids) in [(64usize, &[][..]), (72, &[5]), (80, &[5, 6])] {
         for at in 0..len + 1 {
             let (prefix, rest) = bytes[..len].split_at(at);
-            expect_at(&rt, &at, has_ids(rt.alloc(), prefix, rest, ids));
+            expect_at(&at, has_ids(rt.alloc(), prefix, rest, ids))?;
         }
     }
+    Ok(())
 }
 
 #[test]
-fn invalid_attribute_fails(rt: HostRuntime) {
+fn invalid_attribute_fails(rt: HostRuntime) -> Result<(), Fail> {
     let mut bytes = header_attr_body();
     for (size, len, kind) in [
         (64, 0usize, ErrorKind::UnexpectedEof),
@@ -75,28 +77,29 @@ fn invalid_attribute_fails(rt: HostRuntime) {
         for at in 0..len + 1 {
             let (prefix, rest) = bytes[..len].split_at(at);
             let got = parse_attr(rt.alloc(), prefix, rest).err();
-            expect_eq_at(&rt, &(len, at), &got, &Some(kind));
+            expect_eq_at(&(len, at), &got, &Some(kind))?;
         }
     }
+    Ok(())
 }
 
 #[test]
-fn parses_feature_at_every_split(rt: HostRuntime) {
+fn parses_feature_at_every_split(rt: HostRuntime) -> Result<(), Fail> {
     for at in 0..10usize {
         let (prefix, rest) = FEATURE.split_at(at);
         let got = parse_feature::<LittleEndian>(rt.alloc(), RawData::Split(prefix, rest));
         expect_at(
-            &rt,
             &at,
             matches!(&got, Ok((3, bytes)) if bytes.as_slice() == [0x61].as_slice()),
-        );
+        )?;
     }
     let mut swapped = [0; 8];
     BigEndian::write_u64(&mut swapped, 0x1_0000_0003);
     let got = parse_feature::<BigEndian>(rt.alloc(), RawData::Single(&swapped));
-    expect(&rt, matches!(&got, Ok((3, bytes)) if bytes.is_empty()));
+    expect(matches!(&got, Ok((3, bytes)) if bytes.is_empty()))?;
     let truncated = parse_feature::<LittleEndian>(rt.alloc(), RawData::Single(&FEATURE[..7])).err();
-    expect_eq(&rt, &truncated, &Some(ErrorKind::UnexpectedEof));
+    expect_eq(&truncated, &Some(ErrorKind::UnexpectedEof))?;
+    Ok(())
 }
 
 fn parse_user_record<'a>(
@@ -147,7 +150,7 @@ fn parse_split(
 }
 
 #[test]
-fn parses_by_type_at_every_split(rt: HostRuntime) {
+fn parses_by_type_at_every_split(rt: HostRuntime) -> Result<(), Fail> {
     let attribute = header_attr_body();
     for (record_type, body, values) in [
         (
@@ -173,13 +176,13 @@ fn parses_by_type_at_every_split(rt: HostRuntime) {
     ] {
         for at in 0..82usize {
             expect_eq_at(
-                &rt,
                 &at,
                 &parse_split(rt.alloc(), record_type, body, at),
                 &Some(values),
-            );
+            )?;
         }
     }
+    Ok(())
 }
 
 // Whether a record of this type isn't parsed but returned unchanged.
@@ -194,18 +197,15 @@ fn is_unparsed(alloc: Global, record_type: UserRecordType, body: RawData<'_>) ->
 }
 
 #[test]
-fn other_types_stay_raw(rt: HostRuntime) {
+fn other_types_stay_raw(rt: HostRuntime) -> Result<(), Fail> {
     let body = RawData::Single(&AUXTRACE_BODY);
     for record_type in [
         UserRecordType::PERF_TIME_CONV,
         UserRecordType::SIMPLEPERF_DSO,
     ] {
-        expect_at(
-            &rt,
-            &record_type,
-            is_unparsed(rt.alloc(), record_type, body),
-        );
+        expect_at(&record_type, is_unparsed(rt.alloc(), record_type, body))?;
     }
+    Ok(())
 }
 
 // The tid of the first thread of a map with this byte order.
@@ -224,7 +224,7 @@ fn first_tid(
 }
 
 #[test]
-fn uses_the_endian_of_the_file(rt: HostRuntime) {
+fn uses_the_endian_of_the_file(rt: HostRuntime) -> Result<(), Fail> {
     let mut body = [0; 32];
     body[7] = 1;
     body[15] = 9;
@@ -233,6 +233,7 @@ fn uses_the_endian_of_the_file(rt: HostRuntime) {
         (Endianness::LittleEndian, Err(ErrorKind::UnexpectedEof)),
     ] {
         let got = first_tid(rt.alloc(), endian, RawData::Single(&body));
-        expect_eq(&rt, &got, &values);
+        expect_eq(&got, &values)?;
     }
+    Ok(())
 }

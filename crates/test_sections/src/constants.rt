@@ -1,14 +1,15 @@
 //! The values of constants that no section in the tests contains.
-use crate::expect::expect_eq;
 use perfdata_base::features::Feature;
 use perfdata_parts::feature_sections::{ClockData, CompressionInfo};
 use perfdata_parts::simpleperf::simpleperf_dso_type::{
     DSO_DEX_FILE, DSO_ELF_FILE, DSO_KERNEL, DSO_KERNEL_MODULE, DSO_SYMBOL_MAP_FILE,
     DSO_UNKNOWN_FILE,
 };
+use std::test::Fail;
+use test_support::expect::expect_eq;
 
 #[test]
-fn feature_numbers(rt: HostRuntime) {
+fn feature_numbers() -> Result<(), Fail> {
     for (feature, number) in [
         (Feature::TRACING_DATA, 1u32),
         (Feature::BUILD_ID, 2),
@@ -47,12 +48,13 @@ fn feature_numbers(rt: HostRuntime) {
         (Feature::SIMPLEPERF_DEBUG_UNWIND_FILE, 131),
         (Feature::SIMPLEPERF_FILE2, 132),
     ] {
-        expect_eq(&rt, &feature.0, &number);
+        expect_eq(&feature.0, &number)?;
     }
+    Ok(())
 }
 
 #[test]
-fn section_constants(rt: HostRuntime) {
+fn section_constants() -> Result<(), Fail> {
     let dso_types = [
         DSO_KERNEL,
         DSO_KERNEL_MODULE,
@@ -61,11 +63,11 @@ fn section_constants(rt: HostRuntime) {
         DSO_SYMBOL_MAP_FILE,
         DSO_UNKNOWN_FILE,
     ];
-    expect_eq(&rt, &dso_types, &[0, 1, 2, 3, 4, 5]);
-    expect_eq(&rt, &CompressionInfo::ZSTD_TYPE, &1);
+    expect_eq(&dso_types, &[0, 1, 2, 3, 4, 5])?;
+    expect_eq(&CompressionInfo::ZSTD_TYPE, &1)?;
     expect_eq(
-        &rt,
         &(CompressionInfo::STRUCT_SIZE, ClockData::STRUCT_SIZE),
         &(20, 24),
-    );
+    )?;
+    Ok(())
 }

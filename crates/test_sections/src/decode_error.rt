@@ -1,7 +1,7 @@
 //! The texts of protobuf decode errors.
-use crate::expect::expect_eq;
 use perfdata_parts::decode_error::DecodeError;
 use std::test::Fail;
+use test_support::expect::expect_eq;
 
 #[test]
 fn displays_the_variant(rt: HostRuntime) -> Result<(), Fail> {
@@ -16,7 +16,7 @@ fn displays_the_variant(rt: HostRuntime) -> Result<(), Fail> {
         (DecodeError::Memory, "Memory"),
     ] {
         let shown = format!(in rt.alloc(); "{error}")?;
-        expect_eq(&rt, &shown.as_str(), &name);
+        expect_eq(&shown.as_str(), &name)?;
     }
     Ok(())
 }

@@ -1,17 +1,16 @@
 //! The texts of errors, and their conversions.
-use crate::expect::{expect, expect_eq};
 use perfdata_base::source::unexpected_eof;
 use perfdata_parts::decode_error::DecodeError;
 use perfdata_parts::error::{Error, ReadError, unsupported};
 use std::alloc::{AllocError, AllocFailed};
 use std::io;
 use std::io::ErrorKind;
-use std::process::Abort;
 use std::test::Fail;
+use test_support::expect::{expect, expect_eq};
 
-fn displays(rt: &(impl Abort + AllocGlobal), error: Error, text: &str) -> Result<(), Fail> {
+fn displays(rt: &impl AllocGlobal, error: Error, text: &str) -> Result<(), Fail> {
     let shown = format!(in rt.alloc(); "{error}")?;
-    expect_eq(rt, &shown.as_str(), &text);
+    expect_eq(&shown.as_str(), &text)?;
     Ok(())
 }
 
@@ -179,14 +178,15 @@ fn is_utf8_error(bytes: &[u8]) -> bool {
 }
 
 #[test]
-fn converts_from_other_errors(rt: HostRuntime) {
+fn converts_from_other_errors() -> Result<(), Fail> {
     let part = Error::from(ReadError::NrCpus);
-    expect(&rt, matches!(part, Error::Read(ReadError::NrCpus)));
+    expect(matches!(part, Error::Read(ReadError::NrCpus)))?;
     let io_error = Error::from(io::Error::from(ErrorKind::OutOfMemory));
-    expect(&rt, is_io_error_of(io_error, ErrorKind::OutOfMemory));
-    expect(&rt, is_utf8_error(b"\xff"));
-    expect(&rt, matches!(Error::from(AllocError), Error::Memory));
+    expect(is_io_error_of(io_error, ErrorKind::OutOfMemory))?;
+    expect(is_utf8_error(b"\xff"))?;
+    expect(matches!(Error::from(AllocError), Error::Memory))?;
     let failed = Error::from(AllocFailed { value: 7u8 });
-    expect(&rt, matches!(failed, Error::Memory));
-    expect(&rt, is_io_error_of(unsupported(), ErrorKind::Unsupported));
+    expect(matches!(failed, Error::Memory))?;
+    expect(is_io_error_of(unsupported(), ErrorKind::Unsupported))?;
+    Ok(())
 }

@@ -1,11 +1,10 @@
 //! The section EVENT_DESC: its events in both byte orders, and its errors.
-use crate::expect::{expect_eq, expect_eq_at};
 use byteorder::{BigEndian, LittleEndian};
 use perfdata_parts::feature_sections::AttributeDescription;
 use std::io::Cursor;
-use std::process::Abort;
 use std::test::Fail;
 use test_support::error_key::{ATTRIBUTE, ErrorKey, UNEXPECTED_EOF};
+use test_support::expect::{expect_eq, expect_eq_at};
 use test_support::recordings::event_desc_section;
 
 // The values of the event at an index: its size, its format, whether its name is this one (or missing), and its first two ids.
@@ -33,15 +32,14 @@ fn parses_an_event(rt: HostRuntime) -> Result<(), Fail> {
         rt.alloc(),
         &mut cursor,
     )?;
-    expect_eq(&rt, &cursor.position(), &90);
+    expect_eq(&cursor.position(), &90)?;
     expect_eq(
-        &rt,
         &[
             event_summary(&all, 0, Some("c")),
             event_summary(&all, 1, None),
         ],
         &[Some((64, 4, true, [Some(5), None])), None],
-    );
+    )?;
     Ok(())
 }
 
@@ -59,14 +57,13 @@ fn continues_at_the_end_of_the_entry(rt: HostRuntime) -> Result<(), Fail> {
     cursor.set_position(1);
     let all = AttributeDescription::parse_event_desc_section::<_, BigEndian>(rt.alloc(), cursor)?;
     expect_eq(
-        &rt,
         &[event_summary(&all, 0, None), event_summary(&all, 1, None)],
         &[Some((64, 0, true, [None; 2])), None],
-    );
+    )?;
     Ok(())
 }
 
-fn parse_error(rt: &(impl Abort + AllocGlobal), bytes: &[u8]) -> Option<ErrorKey> {
+fn parse_error(rt: &impl AllocGlobal, bytes: &[u8]) -> Option<ErrorKey> {
     ErrorKey::of_result(AttributeDescription::parse_event_desc_section::<_, LittleEndian>(
         rt.alloc(),
         Cursor::new(bytes),
@@ -74,35 +71,35 @@ fn parse_error(rt: &(impl Abort + AllocGlobal), bytes: &[u8]) -> Option<ErrorKey
 }
 
 #[test]
-fn invalid_entries_fail(rt: HostRuntime) {
+fn invalid_entries_fail(rt: HostRuntime) -> Result<(), Fail> {
     let mut narrow = event_desc_section();
     narrow[4] = 56;
     expect_eq(
-        &rt,
         &parse_error(&rt, &narrow),
         &Some(ErrorKey::InconsistentAttributeSizes(64, 56)),
-    );
+    )?;
     let mut small = event_desc_section();
     small[12] = 63;
     let mut many = event_desc_section();
     many[..4].copy_from_slice(&[0xff; 4]);
     for bytes in [small, many] {
-        expect_eq(&rt, &parse_error(&rt, &bytes), &Some(ATTRIBUTE));
+        expect_eq(&parse_error(&rt, &bytes), &Some(ATTRIBUTE))?;
     }
+    Ok(())
 }
 
 #[test]
-fn truncation_is_eof(rt: HostRuntime) {
+fn truncation_is_eof(rt: HostRuntime) -> Result<(), Fail> {
     let bytes = event_desc_section();
     for len in [7, 75, 79, 81, 89] {
         expect_eq_at(
-            &rt,
             &len,
             &parse_error(&rt, &bytes[..len]),
             &Some(UNEXPECTED_EOF),
-        );
+        )?;
     }
     let mut wide = event_desc_section();
     wide[4] = 200;
-    expect_eq(&rt, &parse_error(&rt, &wide), &Some(UNEXPECTED_EOF));
+    expect_eq(&parse_error(&rt, &wide), &Some(UNEXPECTED_EOF))?;
+    Ok(())
 }

@@ -1,14 +1,13 @@
 //! The event types section: its entries with their ids, and its errors.
-use crate::expect::{expect_eq, expect_eq_at};
 use byteorder::LittleEndian;
 use perfdata_base::section::PerfFileSection;
 use perfdata_parts::error::Error;
 use perfdata_parts::feature_sections::AttributeDescription;
 use std::alloc::Global;
 use std::io::Cursor;
-use std::process::Abort;
 use std::test::Fail;
 use test_support::error_key::{ATTRIBUTE, ErrorKey, UNEXPECTED_EOF};
+use test_support::expect::{expect_eq, expect_eq_at};
 
 // Two entries of 80 bytes, whose attributes have 64 bytes and the configs 1 and 2. The ids of the first entry are the 8 bytes at
 // offset 160, and those of the second are the 23 bytes at offset 168.
@@ -68,7 +67,6 @@ fn parses_entries_and_ids(rt: HostRuntime) -> Result<(), Fail> {
     };
     let all = parse_section(rt.alloc(), &two_entry_bytes(), &section, 64)?;
     expect_eq(
-        &rt,
         &[
             event_summary(&all, 0),
             event_summary(&all, 1),
@@ -79,12 +77,12 @@ fn parses_entries_and_ids(rt: HostRuntime) -> Result<(), Fail> {
             Some((2, false, [Some(6), Some(7), None])),
             None,
         ],
-    );
+    )?;
     Ok(())
 }
 
 fn parse_error(
-    rt: &(impl Abort + AllocGlobal),
+    rt: &impl AllocGlobal,
     bytes: &[u8],
     offset: u64,
     size: u64,
@@ -103,50 +101,48 @@ fn ids_at_max_offset(own: u8) -> [u8; 192] {
 }
 
 #[test]
-fn section_overflow_fails(rt: HostRuntime) {
+fn section_overflow_fails(rt: HostRuntime) -> Result<(), Fail> {
     let bytes = two_entry_bytes();
     for (offset, attr_size) in [(0, u64::MAX - 15), (u64::MAX - 159, 64)] {
         expect_eq(
-            &rt,
             &parse_error(&rt, &bytes, offset, 160, attr_size),
             &Some(ATTRIBUTE),
-        );
+        )?;
     }
     expect_eq(
-        &rt,
         &parse_error(&rt, &ids_at_max_offset(64), 0, 160, 64),
         &Some(ATTRIBUTE),
-    );
+    )?;
     expect_eq_at(
-        &rt,
         &"all entries are read before any ids",
         &parse_error(&rt, &ids_at_max_offset(65), 0, 160, 64),
         &Some(ErrorKey::InconsistentAttributeSizes(65, 64)),
-    );
+    )?;
+    Ok(())
 }
 
 #[test]
-fn truncation_is_eof(rt: HostRuntime) {
+fn truncation_is_eof(rt: HostRuntime) -> Result<(), Fail> {
     let bytes = two_entry_bytes();
     for len in [159, 167, 183] {
         expect_eq_at(
-            &rt,
             &len,
             &parse_error(&rt, &bytes[..len], 0, 160, 64),
             &Some(UNEXPECTED_EOF),
-        );
+        )?;
     }
+    Ok(())
 }
 
 #[test]
-fn truncated_attribute_fails(rt: HostRuntime) {
+fn truncated_attribute_fails(rt: HostRuntime) -> Result<(), Fail> {
     let bytes = two_entry_bytes();
     for len in [63, 143] {
         expect_eq_at(
-            &rt,
             &len,
             &parse_error(&rt, &bytes[..len], 0, 160, 64),
             &Some(ATTRIBUTE),
-        );
+        )?;
     }
+    Ok(())
 }

@@ -1,5 +1,4 @@
 //! The attribute section: its attributes, and its errors.
-use crate::expect::{expect_eq, expect_eq_at};
 use byteorder::{BigEndian, LittleEndian};
 use perfdata_base::attr::PerfEventAttr;
 use perfdata_base::section::PerfFileSection;
@@ -8,9 +7,9 @@ use perfdata_parts::error::Error;
 use perfdata_parts::feature_sections::AttributeDescription;
 use std::alloc::Global;
 use std::io::{Cursor, ErrorKind, Read, Seek, SeekFrom};
-use std::process::Abort;
 use std::test::Fail;
 use test_support::error_key::{ATTRIBUTE, ErrorKey};
+use test_support::expect::{expect_eq, expect_eq_at};
 
 // Eight other bytes, then two attributes with the own sizes 64 and 0 in 72 bytes each. The end of the second one is missing.
 fn two_attr_bytes() -> [u8; 144] {
@@ -50,14 +49,13 @@ fn parses_attributes(rt: HostRuntime) -> Result<(), Fail> {
     let mut cursor = Cursor::new(&bytes[..]);
     let all = parse_section(rt.alloc(), &mut cursor, 8, 145, 72)?;
     expect_eq(
-        &rt,
         &[
             attr_summary(&all, 0),
             attr_summary(&all, 1),
             attr_summary(&all, 2),
         ],
         &[Some((64, 5, false, 0)), Some((64, 6, false, 0)), None],
-    );
+    )?;
     // an empty section at the greatest offset
     let section = PerfFileSection {
         offset: u64::MAX,
@@ -69,7 +67,7 @@ fn parses_attributes(rt: HostRuntime) -> Result<(), Fail> {
         &section,
         72,
     )?;
-    expect_eq(&rt, &none.len(), &0);
+    expect_eq(&none.len(), &0)?;
     Ok(())
 }
 
@@ -99,16 +97,15 @@ fn own_size_limits_fields(rt: HostRuntime) -> Result<(), Fail> {
         bytes[4..8].copy_from_slice(&[declared, 0, 0, 0]);
         let all = parse_section(rt.alloc(), Cursor::new(&bytes[..]), 0, 136, 136)?;
         expect_eq(
-            &rt,
             &first_attr_summary(&all),
             &Some((1, own, [SEVENS, config2, config3, config3])),
-        );
+        )?;
     }
     Ok(())
 }
 
 fn parse_error<C: PlacedSource + Drop>(
-    rt: &(impl Abort + AllocGlobal),
+    rt: &impl AllocGlobal,
     source: C,
     offset: u64,
     size: u64,
@@ -118,7 +115,7 @@ fn parse_error<C: PlacedSource + Drop>(
 }
 
 #[test]
-fn invalid_attributes_fail(rt: HostRuntime) {
+fn invalid_attributes_fail(rt: HostRuntime) -> Result<(), Fail> {
     let mut bytes = two_attr_bytes();
     for (len, offset, size, attr_size, error) in [
         (
@@ -136,15 +133,15 @@ fn invalid_attributes_fail(rt: HostRuntime) {
     ] {
         let truncated = Cursor::new(&bytes[..len]);
         expect_eq_at(
-            &rt,
             &(len, offset, attr_size),
             &parse_error(&rt, truncated, offset, size, attr_size),
             &error,
-        );
+        )?;
     }
     bytes[12] = 63;
     let small = Cursor::new(&bytes[..]);
-    expect_eq(&rt, &parse_error(&rt, small, 8, 64, 64), &Some(ATTRIBUTE));
+    expect_eq(&parse_error(&rt, small, 8, 64, 64), &Some(ATTRIBUTE))?;
+    Ok(())
 }
 
 // Fails at each read, and at each seek unless `seeks` is set.
@@ -154,7 +151,7 @@ struct FailingReader {
 }
 
 impl Read for FailingReader {
-    fn read(&mut self, _place: &mut [u8]) -> std::io::Result<usize> {
+    fn read(&mut self, _buf: &mut [u8]) -> std::io::Result<usize> {
         Err(std::io::Error::from(ErrorKind::Other))
     }
 }
@@ -170,14 +167,15 @@ impl Seek for FailingReader {
 }
 
 #[test]
-fn read_and_seek_errors_differ(rt: HostRuntime) {
+fn read_and_seek_errors_differ(rt: HostRuntime) -> Result<(), Fail> {
     for (seeks_succeed, error) in [
         (true, Some(ATTRIBUTE)),
         (false, Some(ErrorKey::IoError(ErrorKind::BrokenPipe))),
     ] {
         let source = Counted::new(FailingReader { seeks_succeed });
-        expect_eq(&rt, &parse_error(&rt, source, 0, 64, 64), &error);
+        expect_eq(&parse_error(&rt, source, 0, 64, 64), &error)?;
     }
+    Ok(())
 }
 
 #[test]
@@ -188,7 +186,7 @@ fn returns_name_and_ids(rt: HostRuntime) -> Result<(), Fail> {
         name: Some(String::from_str(rt.alloc(), "cycles")?),
         event_ids: Vec::from_array(rt.alloc(), [7, 8])?,
     };
-    expect_eq(&rt, &description.name(), &Some("cycles"));
-    expect_eq(&rt, &description.ids(), &[7, 8].as_slice());
+    expect_eq(&description.name(), &Some("cycles"))?;
+    expect_eq(&description.ids(), &[7, 8].as_slice())?;
     Ok(())
 }

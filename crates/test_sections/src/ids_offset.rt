@@ -1,6 +1,5 @@
 //! Ids at an offset that no file can have are an error, and nothing is read there.
 use crate::event_types::two_entry_bytes;
-use crate::expect::expect_eq_at;
 use byteorder::LittleEndian;
 use perfdata_base::section::PerfFileSection;
 use perfdata_base::source::Counted;
@@ -11,6 +10,7 @@ use std::alloc::Global;
 use std::io::{Cursor, Read, Seek, SeekFrom};
 use std::slice;
 use std::test::Fail;
+use test_support::expect::expect_eq_at;
 
 /// A reader that records the greatest position that it seeks to, the number of bytes that it returns, and the number of calls
 /// after 80 bytes are returned.
@@ -106,14 +106,15 @@ fn reader_log(
 }
 
 #[test]
-fn id_section_overflow_reads_nothing(rt: HostRuntime) {
+fn id_section_overflow_reads_nothing(rt: HostRuntime) -> Result<(), Fail> {
     for (offset, wanted) in [
         (88, (Ok((0usize, 1usize)), (88u64, 88usize, true))),
         (u64::MAX, (Err(true), (0, 80, false))),
         (u64::MAX - 7, (Err(true), (0, 80, false))),
     ] {
-        expect_eq_at(&rt, &offset, &reader_log(rt.alloc(), offset, None), &wanted);
+        expect_eq_at(&offset, &reader_log(rt.alloc(), offset, None), &wanted)?;
     }
+    Ok(())
 }
 
 #[test]
@@ -126,7 +127,7 @@ fn named_id_section_overflow_reads_nothing(rt: HostRuntime) -> Result<(), Fail> 
         (u64::MAX - 7, (Err(true), (0, 80, false))),
     ] {
         let result = reader_log(rt.alloc(), offset, Some(slice::from_ref(&event)));
-        expect_eq_at(&rt, &offset, &result, &wanted);
+        expect_eq_at(&offset, &result, &wanted)?;
     }
     Ok(())
 }

@@ -14,8 +14,6 @@ mod event_type;
 #[cfg(test)]
 mod event_types;
 #[cfg(test)]
-mod expect;
-#[cfg(test)]
 mod feature_sections;
 #[cfg(test)]
 mod ids_offset;

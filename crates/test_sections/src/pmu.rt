@@ -1,10 +1,10 @@
 //! PMU mappings: which names are kept, and truncation.
-use crate::expect::{expect_eq, expect_eq_at};
 use byteorder::LittleEndian;
 use perfdata_parts::feature_sections::PmuMappings;
 use std::alloc::Global;
 use std::io::{Error, ErrorKind};
 use std::test::Fail;
+use test_support::expect::{expect_eq, expect_eq_at};
 use test_support::values::to_error_kind;
 
 // A count and the PMU mappings 7 `b`, 1 with a name that isn't UTF-8, 2 `a`, 7 `c`.
@@ -29,25 +29,24 @@ fn mapping_at(all: &PmuMappings, index: usize, expected: &str) -> Option<(u32, b
 fn last_name_wins_in_order(rt: HostRuntime) -> Result<(), Fail> {
     let all = parse_mappings(rt.alloc(), &pmu_bytes(4))?;
     expect_eq(
-        &rt,
         &[
             mapping_at(&all, 0, "a"),
             mapping_at(&all, 1, "c"),
             mapping_at(&all, 2, ""),
         ],
         &[Some((2, true)), Some((7, true)), None],
-    );
+    )?;
     Ok(())
 }
 
 #[test]
-fn truncation_is_eof(rt: HostRuntime) {
+fn truncation_is_eof(rt: HostRuntime) -> Result<(), Fail> {
     for (count, len) in [(5, 40usize), (4, 39), (4, 35), (4, 3)] {
         expect_eq_at(
-            &rt,
             &(count, len),
             &to_error_kind(parse_mappings(rt.alloc(), &pmu_bytes(count)[..len])).err(),
             &Some(ErrorKind::UnexpectedEof),
-        );
+        )?;
     }
+    Ok(())
 }

@@ -1,6 +1,5 @@
 //! The attribute section of simpleperf, with the names of event types.
 use crate::event_types::two_entry_bytes;
-use crate::expect::expect_eq;
 use byteorder::LittleEndian;
 use perfdata_base::section::PerfFileSection;
 use perfdata_parts::error::Error;
@@ -11,6 +10,7 @@ use std::io::Cursor;
 use std::slice;
 use std::test::Fail;
 use test_support::error_key::{ATTRIBUTE, ErrorKey};
+use test_support::expect::expect_eq;
 
 // The attributes of the two entries, with one event type of this name.
 fn parse_named(
@@ -48,19 +48,17 @@ fn names_from_event_types(rt: HostRuntime) -> Result<(), Fail> {
     let name = String::from_str(rt.alloc(), "cpu-clock")?;
     let all = parse_named(rt.alloc(), name, 80)?;
     expect_eq(
-        &rt,
         &[
             event_summary(&all, 0, Some("cpu-clock")),
             event_summary(&all, 1, None),
             event_summary(&all, 2, None),
         ],
         &[Some((true, true)), Some((true, true)), None],
-    );
+    )?;
     let name = String::from_str(rt.alloc(), "cpu-clock")?;
     expect_eq(
-        &rt,
         &ErrorKey::of_result(parse_named(rt.alloc(), name, 15)),
         &Some(ATTRIBUTE),
-    );
+    )?;
     Ok(())
 }

@@ -3,6 +3,7 @@
 #![tactic(auto)]
 
 pub mod error_key;
+pub mod expect;
 pub mod image;
 pub mod outcome;
 pub mod recordings;

@@ -214,7 +214,7 @@ pub const SYMBOLS_FILE: [u8; 22] = [
     0x12, 0, 0, 0, b'a', 0, 2, 0, 0, 0, 16, 0, 0, 0, 0, 0, 0, 0, 0, 0, 0, 0,
 ];
 
-/// A file of 254 bytes: an attribute with the id 5, a sample with the time 20, and meta info of 30 bytes.
+/// A file of an attribute with the id 5, a sample with the time 20, and this meta info after 224 bytes.
 pub fn simpleperf_file(
     alloc: Global,
     attr_size: u64,
@@ -228,7 +228,7 @@ pub fn simpleperf_file(
     }
     image.push_sample(20)?;
     image.push_u64(224)?;
-    image.push_u64(30)?;
+    image.push_u64(meta_info.len() as u64)?;
     image.push_bytes(meta_info)?;
     Ok(image)
 }
@@ -251,3 +251,21 @@ pub const JITDUMP: [u8; 118] = [
     0, 0, 0, 0, 0, 0, 0, 0, b'f', b'o', b'o', 0, 0x90, 0xc3, 3, 0, 0, 0, 16, 0, 0, 0, 11, 0, 0, 0,
     0, 0, 0, 0,
 ];
+
+/// A file of 1,000 event types with 100 ids each, from 0 on, and a sample with the last id, 99,999, and the time 7.
+pub fn file_with_many_ids(alloc: Global) -> Result<Image, AllocError> {
+    let numbers = [104, 64, 0, 0, 880_104, 24, 104, 80_000, 0, 0, 0, 0];
+    let mut image = Image::header(alloc, numbers)?;
+    let mut offset = 80_104u64;
+    for _ in 0..1000 {
+        image.push_attr(0x10004, 0)?;
+        image.push_u64(offset)?;
+        image.push_u64(800)?;
+        offset = offset.saturating_add(800);
+    }
+    for id in 0..100_000u64 {
+        image.push_u64(id)?;
+    }
+    image.push_sample_with_id(99_999, 7)?;
+    Ok(image)
+}

@@ -3,7 +3,7 @@ pub mod events;
 pub mod pipe;
 
 use crate::outcome::Outcome;
-use events::{Event, attr_index, event_desc_events, event_from, field_value, rule_violation};
+use events::{Event, attr_index, event_desc_events, event_from, field_value, inconsistency};
 use std::alloc::{AllocError, Global};
 
 /// The number of `n` bytes at an offset, or `None` if the bytes end before it does.
@@ -210,7 +210,7 @@ fn file_records<'a>(
 pub fn file_lines(alloc: Global, file: &[u8]) -> Result<(String, Outcome), AllocError> {
     let layout = file_layout(alloc, file)?;
     let mut text = String::new(alloc);
-    if let Some(end) = rule_violation(&layout.events) {
+    if let Some(end) = inconsistency(&layout.events) {
         return Ok((text, end));
     }
     let (records, end) = file_records(alloc, file, &layout)?;

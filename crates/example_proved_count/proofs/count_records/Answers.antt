@@ -1,5 +1,7 @@
-use Rattle.std.proofs.Common.{arith, [], ◌∷◌, ◌++◌, length-append, refl, ap, ◌∙◌, subst, Some, Ok}
+use Rattle.std.proofs.Common.{arith, [], ◌∷◌, ◌++◌, length-append, refl, ap, ◌∙◌, subst, Some, Ok, inl, inr}
+use Rattle.std.proofs.lemmas.Result.{err_from_is_err_and}
 use Rattle.linux_perf_data.specs.Iter.{NextRecord, record_view_of}
+use Rattle.example_proved_count.proofs.OpeningErrors.{file_open_error}
 use Rattle.example_proved_count.proofs.count_records.Invariants.{state}
 use Rattle.example_proved_count.proofs.count_records.Goals as goal
 
@@ -10,7 +12,7 @@ records-init c =
     record {
       offset_in_range = omega (arith, start);
       count_below_offset = omega arith;
-      opened = (state c.new.result, (λ i. Some (record { all_bytes = (c.new.ensures.inner i).now; offset = c.new.ensures.position i })), opened);
+      opened = (state c.new.result, (λ i. Some (record { all_bytes = (c.new.ensures.inner i).now; offset = c.new.ensures.position i })), refl, opened);
       returned = ([], refl, c.consecutive_calls.ensures.none _ _);
     }
 
@@ -47,10 +49,25 @@ records-preserved c =
       );
     }
 
-pub returns-in-Ok-None : goal.returns-in-Ok-None
-returns-in-Ok-None c =
+pub returns-in-Ok-None-clause-count : goal.returns-in-Ok-None-clause-count
+returns-in-Ok-None-clause-count c =
     let before = c.records.invariant in
     let rested = c.next_record.follows.lender-at-none in
     let at_end = subst (λ r. NextRecord state (λ _. 0) c.records.iter c.records.file r rested c.next_record.new.perf_file) (c.in-Ok-None.is ∙ ap Ok c.in-Ok-None.field-0-is) c.next_record.follows.holds-at-none in
-    let whole = (c.file_reading.ensures.end _ before.opened.0 _ c.records.file c.next_record.new.perf_file _ c.records.iter rested before.returned.0 before.opened.1 before.opened.2 before.returned.2 at_end.0).0 in
+    let whole = (c.file_reading.ensures.end _ before.opened.0 _ c.records.file c.next_record.new.perf_file _ c.records.iter rested before.returned.0 before.opened.1 before.opened.3 before.returned.2 at_end.0).0 in
     (c.in_ok-reader.reader.perf_file, (whole.header, whole.describes, (before.returned.0, whole.all_records, before.returned.1)))
+
+pub returns-in-Err-clause-error : goal.returns-in-Err-clause-error
+returns-in-Err-clause-error c = λ other.
+    let before = c.records.invariant in
+    let rested = c.next_record.follows.lender-at-none in
+    let failed = subst (λ r. NextRecord state (λ _. 0) c.records.iter c.records.file r rested c.next_record.new.perf_file) c.in-Err.is c.next_record.follows.holds-at-none in
+    elim (c.file_reading.ensures.to_error _ before.opened.0 _ c.records.file c.next_record.new.perf_file _ c.records.iter rested before.returned.0 c.in-Err.error before.opened.1 before.opened.3 before.returned.2 failed.0 other).0 [
+      | inl ends ↦ inr (c.in_ok-reader.reader.perf_file, (before.returned.0, ends))
+      | inr source ↦ absurd (source.not_steady before.opened.2)
+    ]
+
+pub returns-in_err-reader-clause-error : goal.returns-in_err-reader-clause-error
+returns-in_err-reader-clause-error c =
+    let p = err_from_is_err_and c.from_residual.result c.from_residual.ensures.1 in
+    rw (p.1, p.2) (λ other. inl (file_open_error (state c.new.result) refl _ _ (λ i. Some (record { all_bytes = (c.new.ensures.inner i).now; offset = c.new.ensures.position i })) c.in_err-reader.ensures.parses other))

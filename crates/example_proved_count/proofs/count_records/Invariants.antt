@@ -1,4 +1,5 @@
 use Rattle.std.proofs.Common.{◌≡◌, ℕ, ◌-◌, ◌^◌, ◌<◌, ◌≤◌, List, length, Bor, Some}
+use Rattle.std.specs.Prelude.{IsTrue}
 use Rattle.std.specs.Io.Cursor.{cursor_inner, cursor_position}
 use Rattle.std.specs.declared.io.impls.Cursor.{Cursor}
 use Rattle.perfdata_base.specs.Source.{State, memory_source_at, at_start}
@@ -15,7 +16,7 @@ abbrev pub invariant-records : goal.invariant-records
 invariant-records l = record {
   offset_in_range : l.iter.offset < 2 ^ 64;
   count_below_offset : l.count ≤ l.iter.offset;
-  opened : (old : State) × (old.position ≡ Some (at_start l.fn.bytes)) × FileParsed state old l.initial.file l.initial.iter;
+  opened : (old : State) × (old.position ≡ Some (at_start l.fn.bytes)) × IsTrue old.steady × FileParsed state old l.initial.file l.initial.iter;
   returned : (records : List RecordView) × (l.count ≡ length records) × ReturnsRecords state l.initial.iter l.initial.file records l.iter l.file;
 }
 

@@ -1,5 +1,5 @@
 //! The lookup of the attribute that lists an identifier.
-ghost use Rattle.std.specs.Prelude.{◌≡◌, ◌++◌, ◌<◌, ℕ, length, map, IfOk, OnOk};
+ghost use Rattle.std.specs.Prelude.{◌≡◌, ◌++◌, ◌<◌, ℕ, length, map, IfOk, None, OnOk};
 ghost use Rattle.std.specs.List.Sorted.{IsPermutation};
 ghost use Rattle.linux_perf_data.specs.Descriptions.{described_attributes};
 ghost use Rattle.linux_perf_data.specs.IdPairs.{last_index_of_id, id_pairs_of, rank_of_id, AreOrdered, AreAscending, IsInsertionPoint, TestsLastOfId, TestsPairAt};
@@ -75,6 +75,16 @@ fn last_of_each(alloc: Global, ordered: &[(u64, usize)]) -> Result<Vec<(u64, usi
 
 impl IdTable {
     ghost use Rattle.linux_perf_data.specs.IdTable.{id_lookup, id_lookup_in_pairs, InsertsId, InsertsIds};
+
+    // Builds a table without identifiers.
+    pub(crate) fn empty(alloc: Global) -> IdTable
+        ensures { (id : ℕ) → id_lookup result id ≡ None }
+    {
+        IdTable {
+            late_ids: BTreeMap::new(alloc),
+            pairs: Vec::new(alloc),
+        }
+    }
 
     // Builds the table of the identifiers of these attributes. If several list an identifier, it maps to the last one.
     pub(crate) fn new(

@@ -1,8 +1,8 @@
 //! The attribute of each record, and the parse info of its records, for an iterator.
-ghost use Rattle.std.specs.Prelude.{◌≡◌, ◌<◌, length, vec_len};
+ghost use Rattle.std.specs.Prelude.{◌≡◌, ◌<◌, IfOk, length, vec_len};
 ghost use Rattle.linux_perf_data.specs.Attribute.{AreConsistent};
 ghost use Rattle.linux_perf_data.specs.Descriptions.{described_attributes, CollectsParseInfos};
-ghost use Rattle.linux_perf_data.specs.IdBounds.{TableIndicesBelow, CacheIndicesBelow};
+ghost use Rattle.linux_perf_data.specs.IdBounds.{CacheIndicesBelow, ResolvesIds, TableIndicesBelow};
 
 use crate::attributes::consistency::{
     first_without_identifier, first_without_identifier_with, has_identifier,
@@ -14,7 +14,7 @@ use perfdata_base::place::{IdCache, RecordIdParseInfo, RecordParseInfo};
 use perfdata_base::raw::Endianness;
 use perfdata_parts::error::Error;
 use perfdata_parts::feature_sections::AttributeDescription;
-use std::alloc::Global;
+use std::alloc::{AllocError, Global};
 
 // The data on attributes that an iterator needs: the parse infos of their records, the lookup of an attribute by an
 // identifier, and what the consistency check of a late attribute uses.
@@ -47,6 +47,16 @@ fn collect_parse_infos(
     Ok(parse_infos)
 }
 
+// Builds the table of identifiers. A single attribute is that of each record, and its table is empty.
+fn build_table(alloc: Global, attributes: &[AttributeDescription]) -> Result<IdTable, AllocError>
+    ensures { IfOk result (λ t. ResolvesIds t (described_attributes attributes.now)) }
+{
+    if attributes.len() == 1 {
+        return Ok(IdTable::empty(alloc));
+    }
+    IdTable::new(alloc, attributes)
+}
+
 impl AttributeLookup {
     ghost use Rattle.linux_perf_data.specs.AttributeLookup.{AddsAttribute, ChecksNextAttribute, BuildsLookup, KeepsAttributes, ResolvesEvent, ResolvesId, parse_info_at};
 
@@ -61,7 +71,7 @@ impl AttributeLookup {
         ensures { BuildsLookup endian (described_attributes attributes.now) result }
     {
         let parse_infos = collect_parse_infos(alloc, attributes, endian)?;
-        let table = IdTable::new(alloc, attributes)?;
+        let table = build_table(alloc, attributes)?;
         Ok(AttributeLookup {
             first_parse_info: RecordParseInfo::new(attributes[0].attributes(), endian),
             parse_infos,

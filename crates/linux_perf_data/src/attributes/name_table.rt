@@ -17,7 +17,7 @@ use std::collections::BTreeMap;
 pub(crate) struct NameTable {
     endian: Endianness,
     events: Vec<AttributeDescription>,
-    index_by_first_id: BTreeMap<u64, usize>,
+    pub(crate) index_by_first_id: BTreeMap<u64, usize>,
     ghost indexes_first_ids: { IndexesFirstIds index_by_first_id events.items },
 }
 
@@ -90,7 +90,7 @@ impl NameTable {
     }
 
     // The name of an attribute with these ids.
-    fn get(&self, ids: &[u64]) -> Option<&str>
+    pub(crate) fn get(&self, ids: &[u64]) -> Option<&str>
         ensures { option_map (λ s. s.now) result ≡ name_from_table self.now ids.now }
     {
         if ids.is_empty() {

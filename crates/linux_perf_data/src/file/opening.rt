@@ -1,10 +1,11 @@
 //! The opening of a file: header, sections, attributes, and a seek to the data section.
 ghost use Rattle.perfdata_base.specs.Source.{PausesOnlyOnError};
-ghost use Rattle.std.specs.Prelude.{◌≡◌};
+ghost use Rattle.std.specs.Prelude.{◌≡◌, IfErr};
 ghost use Rattle.std.specs.Option.{option_map};
 ghost use Rattle.linux_perf_data.specs.AttributeSources.{known_sections, ReadsAttributes, ReadsTypesSection, ParsesMetaEventTypes, ReadsSimpleperfSection, ReadsAttrsSection};
 ghost use Rattle.linux_perf_data.specs.FileOpening.{RecognizesMagic, OpensAfterHeader, OpensPerfFile};
 ghost use Rattle.linux_perf_data.specs.FeatureData.{feature_data_of};
+ghost use Rattle.linux_perf_data.specs.NamedErrors.{IsFileOpeningError};
 
 use crate::attributes::consistency::check_consistency;
 use crate::attributes::names::read_event_desc;
@@ -151,6 +152,7 @@ fn read_simpleperf_attrs<C: PlacedSource>(
 }
 
 // Reads the attributes of a file from the first section that the file has for them.
+#[tactic(auto, using(crate::proofs::NamedErrors::file_event_desc, crate::proofs::NamedErrors::file_types, crate::proofs::NamedErrors::file_simpleperf, crate::proofs::NamedErrors::file_attrs, crate::proofs::NamedErrors::file_meta_info))]
 fn read_attributes<C: PlacedSource>(
     alloc: Global,
     source: &mut C,
@@ -159,6 +161,7 @@ fn read_attributes<C: PlacedSource>(
     event_desc: Option<&[u8]>,
     meta_info: Option<&[u8]>,
 ) -> Result<Vec<AttributeDescription>, Error>
+    ensures named_error { IfErr result IsFileOpeningError }
     ensures reads { ReadsAttributes endian header.now (known_sections (option_map (λ s. s.now) event_desc.entry) (option_map (λ s. s.now) meta_info.entry)) (C.state source.old) result (C.state source.new) }
     ensures pauses { PausesOnlyOnError (C.state source.old) result (C.state source.new) }
     ensures same_loan { C.loan source.new ≡ C.loan source.old }

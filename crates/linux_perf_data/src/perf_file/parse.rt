@@ -71,44 +71,29 @@ pub(crate) fn parse_u64(endian: Endianness, bytes: &[u8]) -> Result<u64, Error>
 pub(crate) fn parse_nr_cpus(endian: Endianness, bytes: &[u8]) -> Result<NrCpus, Error>
     ensures { ParsesNrCpus endian bytes.now result }
 {
-    let parsed = match endian {
-        Endianness::LittleEndian => NrCpus::parse::<&[u8], LittleEndian>(bytes),
-        Endianness::BigEndian => NrCpus::parse::<&[u8], BigEndian>(bytes),
-    };
-    Ok(parsed?)
+    let mut source = bytes;
+    Ok(NrCpus::parse_in(endian, &mut source)?)
 }
 
 pub(crate) fn parse_sample_times(endian: Endianness, bytes: &[u8]) -> Result<SampleTimeRange, Error>
     ensures { ParsesSampleTimes endian bytes.now result }
 {
-    let parsed = match endian {
-        Endianness::LittleEndian => SampleTimeRange::parse::<&[u8], LittleEndian>(bytes),
-        Endianness::BigEndian => SampleTimeRange::parse::<&[u8], BigEndian>(bytes),
-    };
-    Ok(parsed?)
+    let mut source = bytes;
+    Ok(SampleTimeRange::parse_in(endian, &mut source)?)
 }
 
 pub(crate) fn parse_compression(endian: Endianness, bytes: &[u8]) -> Result<CompressionInfo, Error>
     ensures { ParsesCompression endian bytes.now result }
 {
-    let parsed = match endian {
-        Endianness::LittleEndian => CompressionInfo::parse::<&[u8], LittleEndian>(bytes),
-        Endianness::BigEndian => CompressionInfo::parse::<&[u8], BigEndian>(bytes),
-    };
-    Ok(parsed?)
+    let mut source = bytes;
+    Ok(CompressionInfo::parse_in(endian, &mut source)?)
 }
 
 pub(crate) fn parse_clock_data(endian: Endianness, bytes: &[u8]) -> Result<ClockData, Error>
     ensures { ParsesClockData endian bytes.now result }
 {
-    let parsed = match endian {
-        Endianness::LittleEndian => ClockData::parse::<&[u8], LittleEndian>(bytes),
-        Endianness::BigEndian => ClockData::parse::<&[u8], BigEndian>(bytes),
-    };
-    match parsed {
-        Ok(clock) => Ok(clock),
-        Err(error) => Err(Error::IoError(error)),
-    }
+    let mut source = bytes;
+    Ok(ClockData::parse_in(endian, &mut source)?)
 }
 
 pub(crate) fn parse_pmu_mappings(

@@ -10,6 +10,7 @@ ghost use Rattle.linux_perf_data.specs.LateSteps.{AppliesAttribute, AppliesFeatu
 use crate::attributes::lookup::AttributeLookup;
 use crate::attributes::name_table::NameTable;
 use crate::attributes::names::set_names;
+use crate::attributes::renames::{all_names, apply_renames, changed_names};
 use crate::perf_file::PerfFile;
 use crate::pipe::opening::{is_metadata, parse_attribute, parse_feature};
 use perfdata_base::features::Feature;
@@ -31,7 +32,8 @@ pub(crate) enum LateNames {
 }
 
 impl PerfFile {
-    ghost use Rattle.linux_perf_data.specs.LateSteps.{FindsLateNames, AreNamesForAll, AreLateNamesFor, IsNameFor, HasSpareCapacity, ReservesOne, PushesAttribute, ReplacesEventDesc, ReplacesFeature, PushesNamed};
+    ghost use Rattle.linux_perf_data.specs.LateSteps.{FindsFileRenames, FindsLateNames, AreNamesForAll, AreLateNamesFor, IndexesFile, IsNameFor, HasSpareCapacity, ReservesOne, PushesAttribute, ReplacesEventDesc, ReplacesFeature, PushesNamed};
+    ghost use Rattle.linux_perf_data.specs.FirstIdIndex.{IndexesAll};
     ghost use Rattle.linux_perf_data.specs.PerfFile.{descriptions_of_file, feature_data_in_file};
 
     // Reserves capacity for one more attribute.
@@ -135,7 +137,31 @@ impl PerfFile {
         Ok(())
     }
 
-    // Replaces EVENT_DESC, and sets the names of all attributes by the new one.
+    // Adds the attributes that `first_id_index` doesn't contain.
+    fn index_attributes(&mut self) -> Result<(), Error>
+        ensures { IndexesFile self.old result self.new }
+    {
+        self.first_id_index.extend(&self.attributes)?;
+        Ok(())
+    }
+
+    // The names of the attributes whose names change by `table`.
+    fn find_renames(
+        &self,
+        alloc: Global,
+        table: &NameTable,
+    ) -> Result<Vec<(usize, Option<String>)>, Error>
+        requires { IndexesAll self.now.first_id_index (descriptions_of_file self.now) }
+        ensures { FindsFileRenames self.now table.now result }
+    {
+        let old = match &self.name_table {
+            Some(old) => old,
+            None => return all_names(alloc, &self.attributes, table),
+        };
+        changed_names(alloc, &self.attributes, &self.first_id_index, old, table)
+    }
+
+    // Replaces EVENT_DESC, and sets the names of the attributes that it names otherwise.
     fn replace_event_desc(
         &mut self,
         alloc: Global,
@@ -145,10 +171,11 @@ impl PerfFile {
         ensures { ReplacesEventDesc endian self.old bytes.items result self.new }
     {
         let table = NameTable::read(alloc, endian, Some(bytes.as_slice()))?;
-        let names = table.clone_names(alloc, &self.attributes)?;
+        self.index_attributes()?;
+        let renames = self.find_renames(alloc, &table)?;
         self.name_table = None;
         self.replace_feature(Feature::EVENT_DESC, bytes)?;
-        set_names(&mut self.attributes, names);
+        apply_renames(&mut self.attributes, renames);
         self.name_table = Some(table);
         Ok(())
     }

@@ -1,6 +1,7 @@
 //! The iterator over records.
-ghost use Rattle.std.specs.Prelude.{◌≡◌, ◌↔◌, ◌≤◌, [], IsTrue, IfSome};
+ghost use Rattle.std.specs.Prelude.{◌≡◌, ◌↔◌, ◌≤◌, [], IsTrue, IfSome, IfErr};
 ghost use Rattle.perfdata_base.specs.Raw.{bytes_of};
+ghost use Rattle.linux_perf_data.specs.NamedErrors.{IsRecordError};
 ghost use Rattle.linux_perf_data.specs.Pauses.{PausesOnlyAtEndOrError};
 
 use crate::attributes::lookup::AttributeLookup;
@@ -54,11 +55,12 @@ pub(crate) struct RecordInfo {
 }
 
 impl RecordInfo {
+    ghost use Rattle.perfdata_records.specs.FileRecord.{file_record_body};
     ghost use Rattle.linux_perf_data.specs.Iter.{record_view_of, record_view_at, attr_index_by_writer, IdentifiesRecord};
     ghost use Rattle.linux_perf_data.specs.AttributeLookup.{KeepsAttributes};
 
     // Identifies the record with this record header and body, at this offset and in this round.
-    fn identify(
+    pub(crate) fn identify(
         known: &mut AttributeLookup,
         body: &[u8],
         offset: u64,
@@ -90,7 +92,7 @@ impl RecordInfo {
     }
 
     // The index of its attribute, or 0 if a tool wrote the record.
-    fn attr_index(self) -> usize
+    pub(crate) fn attr_index(self) -> usize
         ensures { result ≡ attr_index_by_writer self.writer }
     {
         match self.writer {
@@ -100,13 +102,14 @@ impl RecordInfo {
     }
 
     // The record with the parse info of its attribute, and its body.
-    fn into_record<'a>(
+    pub(crate) fn into_record<'a>(
         self,
         places: RecordParseInfo,
         endian: Endianness,
         body: RawData<'a>,
     ) -> PerfFileRecord<'a>
-        ensures { record_view_of self.place result ≡ record_view_at places self endian (bytes_of body.entry) }
+        ensures view { record_view_of self.place result ≡ record_view_at places self endian (bytes_of body.entry) }
+        ensures same_body { file_record_body result ≡ body.entry }
     {
         match self.writer {
             Writer::Kernel(index) => PerfFileRecord::EventRecord {
@@ -184,7 +187,7 @@ impl<R: Source> PerfRecordIter<R> {
     ghost use Rattle.linux_perf_data.specs.contracts.records.iter.PerfRecordIter.{the_row};
 
     // Whether a record may start at the current offset. In a file, the records end with the section.
-    fn may_start_record(&self) -> bool
+    pub(crate) fn may_start_record(&self) -> bool
         ensures { TestsMayStart (section_size_of R.state self.now) self.now.offset result }
     {
         match self.input {
@@ -360,6 +363,7 @@ impl<R: Source> PerfRecordIter<R> {
         &mut self,
         perf_file: &mut PerfFile,
     ) -> Result<Option<(RecordPlace, PerfFileRecord<'_>)>, Error>
+        ensures named_error { IfErr result IsRecordError }
         ensures* after_borrow { sem 𝓛 (Rests (the_row R.row) self.entry (λ new. NextRecord R.state R.loan self.old perf_file.old result new perf_file.new)) }
     {
         match self.advance(perf_file) {

@@ -69,7 +69,7 @@ fn relative_seek_to(known_position: Option<u64>, to: SeekFrom) -> Option<Relativ
     Some(relative_seek_between(position, target))
 }
 
-/// The position `count` bytes after `place`. `None` if it is unknown or exceeds `u64::MAX`.
+/// The position `count` bytes after `position`. `None` if it is unknown or exceeds `u64::MAX`.
 pub(super) fn position_after(position: Option<u64>, count: usize) -> Option<u64>
     ensures { IsPositionAfter position count result }
 {

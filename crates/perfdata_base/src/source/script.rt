@@ -167,7 +167,7 @@ impl Source for Script {
 
 impl PlacedSource for Script {
     fn seek_to(&mut self, to: SeekFrom) -> Result<u64> {
-        let at = self.position;
+        let position = self.position;
         let number = self.seek_count;
         self.seek_count = self.seek_count.saturating_add(1);
         if let Some(kind) = self.seek_errors.kind_of(number) {
@@ -175,14 +175,10 @@ impl PlacedSource for Script {
             return Err(Error::from(kind));
         }
         let mut shown = Cursor::new(&self.bytes[..self.shown]);
-        shown.set_position(at);
-        match shown.seek_to(to) {
-            Ok(at) => {
-                self.position = at;
-                Ok(at)
-            }
-            Err(error) => Err(error),
-        }
+        shown.set_position(position);
+        let at = shown.seek_to(to)?;
+        self.position = at;
+        Ok(at)
     }
 
     ghost remaining_from_position = { λ _. refl };

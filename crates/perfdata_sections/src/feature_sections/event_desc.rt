@@ -1,6 +1,7 @@
 //! The section EVENT_DESC: attributes with names and ids.
 ghost use Rattle.std.specs.Prelude.{◌≡◌};
 ghost use Rattle.perfdata_base.specs.Source.{PausesOnlyOnError};
+ghost use Rattle.perfdata_sections.specs.ParsedPart.{NoPauseIfOutOfMemory};
 ghost use Rattle.perfdata_sections.specs.EventDesc.{ReadsNameAndIds, ReadsPaddedFrame, ReadsEvent, ReadsEvents, ReadsEventDesc};
 
 use crate::error::Error;
@@ -27,6 +28,7 @@ fn read_name_and_ids<R: Source, T: FileOrder>(
 ) -> Result<NameAndIds, AppendError>
     ensures reads { ReadsNameAndIds T.number_of (R.state source.old) result (R.state source.new) }
     ensures pauses { PausesOnlyOnError (R.state source.old) result (R.state source.new) }
+    ensures memory { NoPauseIfOutOfMemory (R.state source.old) result (R.state source.new) }
     ensures same_loan { R.loan source.new ≡ R.loan source.old }
 {
     let mut count = [0u8; 4];

@@ -63,8 +63,8 @@ fn read_entries<C: PlacedSource, T: FileOrder>(
     section: &PerfFileSection,
     attr_size: u64,
 ) -> Result<Vec<EventTypeEntry>, Error>
-    requires near { section.now.offset + section.now.size < 2 ^ 64 }
-    requires step { attr_size + 16 < 2 ^ 64 }
+    requires end_fits { section.now.offset + section.now.size < 2 ^ 64 }
+    requires step_fits { attr_size + 16 < 2 ^ 64 }
     ensures reads { ReadsEventTypeEntries T.number_of attr_size (C.state source.old) section.now result (C.state source.new) }
     ensures position { IfOk result (λ all. 0 < length all.items → (C.state source.new).position ≡ at_offset (section.now.offset + length all.items * (attr_size + 16)) (C.state source.old).position) }
     ensures pauses { PausesOnlyOnError (C.state source.old) result (C.state source.new) }

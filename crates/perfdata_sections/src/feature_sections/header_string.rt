@@ -2,6 +2,7 @@
 ghost use Rattle.std.specs.Prelude.{◌≡◌, string_bytes};
 ghost use Rattle.std.specs.Option.{option_map};
 ghost use Rattle.perfdata_base.specs.Source.{State, PausesOnlyOnError};
+ghost use Rattle.perfdata_sections.specs.ParsedPart.{NoPauseIfOutOfMemory};
 ghost use Rattle.perfdata_sections.specs.HeaderString.{before_nul, utf8_text, ReadsHeaderString, ParsesHeaderString};
 
 use crate::bytes::read_bytes;
@@ -50,6 +51,7 @@ impl HeaderString {
     ) -> Result<Option<String>, AppendError>
         ensures reads { ReadsHeaderString T.number_of (R.state source.old) result (R.state source.new) }
         ensures pauses { PausesOnlyOnError (R.state source.old) result (R.state source.new) }
+        ensures memory { NoPauseIfOutOfMemory (R.state source.old) result (R.state source.new) }
         ensures same_loan { R.loan source.new ≡ R.loan source.old }
     {
         let mut length = [0u8; 4];

@@ -2,11 +2,13 @@
 ghost use Rattle.std.specs.Prelude.{◌≡◌};
 ghost use Rattle.std.specs.IoError.{error_kind};
 ghost use Rattle.std.specs.declared.io.ErrorKind.TheVariants.{InvalidData};
+ghost use Rattle.perfdata_base.specs.Endian.{number_in};
 ghost use Rattle.perfdata_base.specs.Source.{State, PausesOnlyOnError};
 ghost use Rattle.perfdata_sections.specs.ParsedPart.{ParsesPart};
 ghost use Rattle.perfdata_sections.specs.NumberSections.{nr_cpus_of, sample_times_of, compression_of, ParsesClock};
 
-use perfdata_base::raw::FileOrder;
+use perfdata_base::endian::{read_u32, read_u64};
+use perfdata_base::raw::{Endianness, FileOrder};
 use perfdata_base::source::{Source, read_exact};
 use std::io::{Error, ErrorKind, Result};
 
@@ -23,20 +25,30 @@ impl NrCpus {
     /// The size of the section in bytes.
     pub const STRUCT_SIZE: usize = 8;
 
-    /// Reads the CPU counts at the position of a borrowed source: available and online, of four bytes each.
+    /// Reads the CPU counts at the position of a borrowed source: available and online, of four bytes each in the byte
+    /// order `endian`.
     ///
     /// Fails with an `UnexpectedEof` error if the source returns fewer than 8 bytes.
-    pub fn parse_from<R: Source, T: FileOrder>(source: &mut R) -> Result<NrCpus>
-        ensures parses { ParsesPart 8 (nr_cpus_of T.number_of) (R.state source.old) result (R.state source.new) }
+    pub fn parse_in<R: Source>(endian: Endianness, source: &mut R) -> Result<NrCpus>
+        ensures parses { ParsesPart 8 (nr_cpus_of (number_in endian)) (R.state source.old) result (R.state source.new) }
         ensures pauses { PausesOnlyOnError (R.state source.old) result (R.state source.new) }
         ensures same_loan { R.loan source.new ≡ R.loan source.old }
     {
         let mut bytes = [0u8; NrCpus::STRUCT_SIZE];
         read_exact(source, &mut bytes)?;
         Ok(NrCpus {
-            nr_cpus_available: T::read_u32(&bytes),
-            nr_cpus_online: T::read_u32(&bytes[4..]),
+            nr_cpus_available: read_u32(endian, &bytes),
+            nr_cpus_online: read_u32(endian, &bytes[4..]),
         })
+    }
+
+    /// Reads the CPU counts at the position of a borrowed source. See `parse_in`.
+    pub fn parse_from<R: Source, T: FileOrder>(source: &mut R) -> Result<NrCpus>
+        ensures parses { ParsesPart 8 (nr_cpus_of T.number_of) (R.state source.old) result (R.state source.new) }
+        ensures pauses { PausesOnlyOnError (R.state source.old) result (R.state source.new) }
+        ensures same_loan { R.loan source.new ≡ R.loan source.old }
+    {
+        NrCpus::parse_in(T::ENDIAN, source)
     }
 
     /// Reads the CPU counts at the position of an owned source. See `parse_from`.
@@ -60,20 +72,30 @@ impl SampleTimeRange {
     /// The size of the section in bytes.
     pub const STRUCT_SIZE: usize = 16;
 
-    /// Reads the times at the position of a borrowed source: the first and the last, of eight bytes each.
+    /// Reads the times at the position of a borrowed source: the first and the last, of eight bytes each in the byte order
+    /// `endian`.
     ///
     /// Fails with an `UnexpectedEof` error if the source returns fewer than 16 bytes.
-    pub fn parse_from<R: Source, T: FileOrder>(source: &mut R) -> Result<SampleTimeRange>
-        ensures parses { ParsesPart 16 (sample_times_of T.number_of) (R.state source.old) result (R.state source.new) }
+    pub fn parse_in<R: Source>(endian: Endianness, source: &mut R) -> Result<SampleTimeRange>
+        ensures parses { ParsesPart 16 (sample_times_of (number_in endian)) (R.state source.old) result (R.state source.new) }
         ensures pauses { PausesOnlyOnError (R.state source.old) result (R.state source.new) }
         ensures same_loan { R.loan source.new ≡ R.loan source.old }
     {
         let mut bytes = [0u8; SampleTimeRange::STRUCT_SIZE];
         read_exact(source, &mut bytes)?;
         Ok(SampleTimeRange {
-            first_sample_time: T::read_u64(&bytes),
-            last_sample_time: T::read_u64(&bytes[8..]),
+            first_sample_time: read_u64(endian, &bytes),
+            last_sample_time: read_u64(endian, &bytes[8..]),
         })
+    }
+
+    /// Reads the times at the position of a borrowed source. See `parse_in`.
+    pub fn parse_from<R: Source, T: FileOrder>(source: &mut R) -> Result<SampleTimeRange>
+        ensures parses { ParsesPart 16 (sample_times_of T.number_of) (R.state source.old) result (R.state source.new) }
+        ensures pauses { PausesOnlyOnError (R.state source.old) result (R.state source.new) }
+        ensures same_loan { R.loan source.new ≡ R.loan source.old }
+    {
+        SampleTimeRange::parse_in(T::ENDIAN, source)
     }
 
     /// Reads the times at the position of an owned source. See `parse_from`.
@@ -108,23 +130,32 @@ impl CompressionInfo {
 
     /// Reads the compression info at the position of a borrowed source.
     ///
-    /// The fields are version, type, level, ratio and mapped size, of four bytes each.
+    /// The fields are version, type, level, ratio and mapped size, of four bytes each in the byte order `endian`.
     ///
     /// Fails with an `UnexpectedEof` error if the source returns fewer than 20 bytes.
-    pub fn parse_from<R: Source, T: FileOrder>(source: &mut R) -> Result<CompressionInfo>
-        ensures parses { ParsesPart 20 (compression_of T.number_of) (R.state source.old) result (R.state source.new) }
+    pub fn parse_in<R: Source>(endian: Endianness, source: &mut R) -> Result<CompressionInfo>
+        ensures parses { ParsesPart 20 (compression_of (number_in endian)) (R.state source.old) result (R.state source.new) }
         ensures pauses { PausesOnlyOnError (R.state source.old) result (R.state source.new) }
         ensures same_loan { R.loan source.new ≡ R.loan source.old }
     {
         let mut bytes = [0u8; CompressionInfo::STRUCT_SIZE];
         read_exact(source, &mut bytes)?;
         Ok(CompressionInfo {
-            version: T::read_u32(&bytes),
-            type_: T::read_u32(&bytes[4..]),
-            level: T::read_u32(&bytes[8..]),
-            ratio: T::read_u32(&bytes[12..]),
-            mmap_len: T::read_u32(&bytes[16..]),
+            version: read_u32(endian, &bytes),
+            type_: read_u32(endian, &bytes[4..]),
+            level: read_u32(endian, &bytes[8..]),
+            ratio: read_u32(endian, &bytes[12..]),
+            mmap_len: read_u32(endian, &bytes[16..]),
         })
+    }
+
+    /// Reads the compression info at the position of a borrowed source. See `parse_in`.
+    pub fn parse_from<R: Source, T: FileOrder>(source: &mut R) -> Result<CompressionInfo>
+        ensures parses { ParsesPart 20 (compression_of T.number_of) (R.state source.old) result (R.state source.new) }
+        ensures pauses { PausesOnlyOnError (R.state source.old) result (R.state source.new) }
+        ensures same_loan { R.loan source.new ≡ R.loan source.old }
+    {
+        CompressionInfo::parse_in(T::ENDIAN, source)
     }
 
     /// Reads the compression info at the position of an owned source. See `parse_from`.
@@ -158,27 +189,37 @@ impl ClockData {
 
     /// Reads the clock data at the position of a borrowed source.
     ///
-    /// The fields are the version (1) and the clock id, of four bytes each, and the two times, of eight bytes each.
+    /// The fields are the version (1) and the clock id, of four bytes each, and the two times, of eight bytes each, in the
+    /// byte order `endian`.
     ///
     /// Fails with an `InvalidData` error if the version isn't 1, before the rest is read, and with an `UnexpectedEof`
     /// error if the source returns fewer than 24 bytes.
-    pub fn parse_from<R: Source, T: FileOrder>(source: &mut R) -> Result<ClockData>
-        ensures parses { ParsesClock T.number_of (R.state source.old) result (R.state source.new) }
+    pub fn parse_in<R: Source>(endian: Endianness, source: &mut R) -> Result<ClockData>
+        ensures parses { ParsesClock (number_in endian) (R.state source.old) result (R.state source.new) }
         ensures pauses { PausesOnlyOnError (R.state source.old) result (R.state source.new) }
         ensures same_loan { R.loan source.new ≡ R.loan source.old }
     {
         let mut version = [0u8; 4];
         read_exact(source, &mut version)?;
-        if T::read_u32(&version) != 1 {
+        if read_u32(endian, &version) != 1 {
             return Err(unsupported_version());
         }
         let mut bytes = [0u8; 20];
         read_exact(source, &mut bytes)?;
         Ok(ClockData {
-            clockid: T::read_u32(&bytes),
-            wall_clock_ns: T::read_u64(&bytes[4..]),
-            clockid_time_ns: T::read_u64(&bytes[12..]),
+            clockid: read_u32(endian, &bytes),
+            wall_clock_ns: read_u64(endian, &bytes[4..]),
+            clockid_time_ns: read_u64(endian, &bytes[12..]),
         })
+    }
+
+    /// Reads the clock data at the position of a borrowed source. See `parse_in`.
+    pub fn parse_from<R: Source, T: FileOrder>(source: &mut R) -> Result<ClockData>
+        ensures parses { ParsesClock T.number_of (R.state source.old) result (R.state source.new) }
+        ensures pauses { PausesOnlyOnError (R.state source.old) result (R.state source.new) }
+        ensures same_loan { R.loan source.new ≡ R.loan source.old }
+    {
+        ClockData::parse_in(T::ENDIAN, source)
     }
 
     /// Reads the clock data at the position of an owned source. See `parse_from`.

@@ -1,7 +1,8 @@
 //! The section PMU_MAPPINGS.
-ghost use Rattle.std.specs.Prelude.{◌≡◌, IfOk, string_bytes};
+ghost use Rattle.std.specs.Prelude.{◌≡◌, ◌<◌, IfOk, OnErr, length, string_bytes};
 ghost use Rattle.std.specs.Option.{option_map};
 ghost use Rattle.perfdata_base.specs.Source.{State, PausesOnlyOnError};
+ghost use Rattle.perfdata_sections.specs.ParsedPart.{NoPauseIfOutOfMemory};
 ghost use Rattle.perfdata_sections.specs.PmuMappings.{CollectsUnit, SortsUnits, ReadsPmuUnit, ReadsPmuUnits, ReadsPmus, ParsesPmus};
 
 use crate::feature_sections::header_string::HeaderString;
@@ -24,6 +25,7 @@ fn read_pmu<R: Source, T: FileOrder>(
 ) -> Result<(u32, Option<String>), AppendError>
     ensures reads { ReadsPmuUnit T.number_of (R.state source.old) result (R.state source.new) }
     ensures pauses { PausesOnlyOnError (R.state source.old) result (R.state source.new) }
+    ensures memory { NoPauseIfOutOfMemory (R.state source.old) result (R.state source.new) }
     ensures same_loan { R.loan source.new ≡ R.loan source.old }
 {
     let mut number = [0u8; 4];
@@ -57,6 +59,7 @@ fn read_pmus<R: Source, T: FileOrder>(
 ) -> Result<BTreeMap<u32, String>, AppendError>
     ensures reads { ReadsPmuUnits T.number_of count (R.state source.old) result (R.state source.new) }
     ensures pauses { PausesOnlyOnError (R.state source.old) result (R.state source.new) }
+    ensures memory { NoPauseIfOutOfMemory (R.state source.old) result (R.state source.new) }
     ensures same_loan { R.loan source.new ≡ R.loan source.old }
 {
     let mut names = BTreeMap::new(alloc);
@@ -72,7 +75,8 @@ fn into_index_map(
     alloc: Global,
     names: BTreeMap<u32, String>,
 ) -> Result<IndexMap<u32, String>, AllocError>
-    ensures { IfOk result (λ m. SortsUnits names m) }
+    ensures sorts { IfOk result (λ m. SortsUnits names m) }
+    ensures nonempty { OnErr result (0 < length names.entries) }
 {
     let mut ordered = IndexMap::new(alloc);
     'names: for (number, name) in names {
@@ -95,6 +99,7 @@ impl PmuMappings {
     ) -> Result<PmuMappings, AppendError>
         ensures reads { ReadsPmus T.number_of (R.state source.old) result (R.state source.new) }
         ensures pauses { PausesOnlyOnError (R.state source.old) result (R.state source.new) }
+        ensures memory { NoPauseIfOutOfMemory (R.state source.old) result (R.state source.new) }
         ensures same_loan { R.loan source.new ≡ R.loan source.old }
     {
         let mut count = [0u8; 4];

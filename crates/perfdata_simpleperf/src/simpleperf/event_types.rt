@@ -1,7 +1,7 @@
 //! Parses the event types in simpleperf's meta info.
 ghost use Rattle.std.specs.Prelude.{IfOk, Some};
 ghost use Rattle.perfdata_simpleperf.specs.MetaInfo.{map_text_at};
-ghost use Rattle.perfdata_simpleperf.specs.EventTypeInfo.{line_fields, event_type_info, ParsesEvent, ParsesEventTypes, IsFirstThree};
+ghost use Rattle.perfdata_simpleperf.specs.EventTypeInfo.{line_fields, event_type_info, ParsesEvent, ParsesEventTypes, ReturnsEventTypes, IsFirstThree};
 
 use perfdata_sections::event_type::SimplePerfEventType;
 use std::alloc::{AllocError, Global};
@@ -61,12 +61,12 @@ fn parse_events(alloc: Global, text: &str) -> Result<Option<Vec<SimplePerfEventT
 /// fields of a line are ignored. A number has one decimal digit or more, optionally after a plus sign, and is below 2^64.
 ///
 /// Returns `None` if the key is missing, or if any line lacks one of the three fields or has an invalid number. An empty line
-/// after a final newline has none of them. Fails with `AllocError` if out of memory.
+/// after a final newline has none of them. Fails with `AllocError` if the key is there and memory runs out.
 pub fn get_event_types(
     alloc: Global,
     meta_info_map: &HashMap<&str, &str>,
 ) -> Result<Option<Vec<SimplePerfEventType>>, AllocError>
-    ensures { IfOk result (λ events. ParsesEventTypes (map_text_at meta_info_map.now event_type_info) events) }
+    ensures { ReturnsEventTypes (map_text_at meta_info_map.now event_type_info) result }
 {
     match meta_info_map.get(EVENT_TYPE_INFO) {
         Some(text) => parse_events(alloc, text),

@@ -1,9 +1,9 @@
 //! The event types of meta info, line by line.
-use crate::expect::{expect_at, expect_eq_at};
 use perfdata_parts::simpleperf::{SimplePerfEventType, get_event_types};
 use std::alloc::{AllocError, Global};
 use std::collections::{HashMap, TryReserveError};
 use std::test::Fail;
+use test_support::expect::{expect_at, expect_eq_at};
 
 // The event types of meta info with this text at a key, and an empty text at another key.
 fn event_types_in(
@@ -46,7 +46,7 @@ fn parses_event_lines(rt: HostRuntime) -> Result<(), Fail> {
     ] {
         let found = event_types_in(rt.alloc(), "event_type_info", text)?;
         let wanted = Some((expected.len(), true));
-        expect_eq_at(&rt, &text, &matches_expected(&found, expected), &wanted);
+        expect_eq_at(&text, &matches_expected(&found, expected), &wanted)?;
     }
     Ok(())
 }
@@ -69,7 +69,7 @@ fn malformed_line_is_none(rt: HostRuntime) -> Result<(), Fail> {
         ("Event_type_info", "a,0,2"),
     ] {
         let found = event_types_in(rt.alloc(), key, text)?;
-        expect_at(&rt, &text, found.is_none());
+        expect_at(&text, found.is_none())?;
     }
     Ok(())
 }

@@ -1,11 +1,11 @@
 //! Sections of protobuf messages, and their truncation.
 use super::section_result::{repeat_section, section_result};
-use crate::expect::{expect_eq, expect_eq_at};
 use perfdata_base::raw::Endianness;
 use perfdata_parts::decode_error::DecodeError;
 use perfdata_parts::simpleperf::parse_file2_section;
 use std::test::Fail;
 use test_support::error_key::{ErrorKey, UNEXPECTED_EOF};
+use test_support::expect::{expect_eq, expect_eq_at};
 use test_support::recordings::SYMBOLS_FILE2;
 
 // A length and a message of 20 bytes.
@@ -24,14 +24,14 @@ fn parses_messages(rt: HostRuntime) -> Result<(), Fail> {
         for count in 1..3usize {
             let bytes = repeat_section(rt.alloc(), &section_bytes(length), count)?;
             let read = parse_file2_section(rt.alloc(), &bytes, endian);
-            expect_eq(&rt, &section_result(read, (2, 128)), &Ok((count, count)));
+            expect_eq(&section_result(read, (2, 128)), &Ok((count, count)))?;
         }
     }
     Ok(())
 }
 
 #[test]
-fn truncation_fails(rt: HostRuntime) {
+fn truncation_fails(rt: HostRuntime) -> Result<(), Fail> {
     for (bytes, wanted) in [
         (&[20, 0, 0][..], Err(UNEXPECTED_EOF)),
         (
@@ -45,6 +45,7 @@ fn truncation_fails(rt: HostRuntime) {
         (&[], Ok((0, 0))),
     ] {
         let read = parse_file2_section(rt.alloc(), bytes, Endianness::LittleEndian);
-        expect_eq_at(&rt, &bytes, &section_result(read, (2, 128)), &wanted);
+        expect_eq_at(&bytes, &section_result(read, (2, 128)), &wanted)?;
     }
+    Ok(())
 }

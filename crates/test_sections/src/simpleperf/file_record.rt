@@ -1,5 +1,4 @@
 //! Protobuf messages: their fields, the value of a field that counts, and each decode error.
-use crate::expect::{expect, expect_at, expect_eq, expect_eq_at};
 use perfdata_parts::decode_error::DecodeError;
 use perfdata_parts::simpleperf::{
     SimpleperfDexFileInfo, SimpleperfElfFileInfo, SimpleperfFileRecord, SimpleperfKernelModuleInfo,
@@ -7,6 +6,7 @@ use perfdata_parts::simpleperf::{
 };
 use std::alloc::{AllocError, Global};
 use std::test::Fail;
+use test_support::expect::{expect, expect_at, expect_eq, expect_eq_at};
 use test_support::recordings::SYMBOLS_FILE2;
 use test_support::values::concat;
 
@@ -96,7 +96,7 @@ fn decodes_fields(rt: HostRuntime) -> Result<(), Fail> {
         (longer.as_slice(), ("a", 2, 128), Info::Elf(7)),
     ] {
         let decoded = decodes_without_symbols(rt.alloc(), bytes, numbers, info)?;
-        expect_at(&rt, &bytes, decoded);
+        expect_at(&bytes, decoded)?;
     }
     Ok(())
 }
@@ -122,7 +122,7 @@ fn record_with_symbols(
 fn decodes_symbols(rt: HostRuntime) -> Result<(), Fail> {
     let expected = record_with_symbols(rt.alloc(), &[(16, 3, "b"), (0, 0, "")])?;
     let bytes = [0x22, 7, 8, 16, 0x10, 3, 0x1a, 1, b'b', 0x22, 0];
-    expect(&rt, decodes_to(rt.alloc(), &bytes, &expected));
+    expect(decodes_to(rt.alloc(), &bytes, &expected))?;
     Ok(())
 }
 
@@ -147,14 +147,14 @@ fn merges_or_replaces_info(rt: HostRuntime) -> Result<(), Fail> {
         (&[0x32, 2, 8, 7, 0x3a, 0], Info::Module),
     ] {
         let decoded = decodes_without_symbols(rt.alloc(), bytes, ("", 0, 0), info)?;
-        expect_at(&rt, &bytes, decoded);
+        expect_at(&bytes, decoded)?;
     }
-    expect_eq(&rt, &default_offsets()?, &(0, 0));
+    expect_eq(&default_offsets()?, &(0, 0))?;
     Ok(())
 }
 
 #[test]
-fn reports_the_first_error(rt: HostRuntime) {
+fn reports_the_first_error(rt: HostRuntime) -> Result<(), Fail> {
     for (bytes, error) in [
         (&[0x80][..], DecodeError::Truncated),
         (
@@ -167,44 +167,32 @@ fn reports_the_first_error(rt: HostRuntime) {
         (&[0x44][..], DecodeError::Group),
         (&[0x0a, 1, 0xff][..], DecodeError::Utf8),
     ] {
-        expect_eq_at(
-            &rt,
-            &bytes,
-            &decode_error_of(rt.alloc(), bytes),
-            &Some(error),
-        );
+        expect_eq_at(&bytes, &decode_error_of(rt.alloc(), bytes), &Some(error))?;
     }
+    Ok(())
 }
 
 #[test]
-fn truncation_at_each_byte(rt: HostRuntime) {
+fn truncation_at_each_byte(rt: HostRuntime) -> Result<(), Fail> {
     let message = &SYMBOLS_FILE2[4..];
     for len in 0..20usize {
         let error = match len {
             0 | 3 | 5 | 8 | 10 | 16 => None,
             _ => Some(DecodeError::Truncated),
         };
-        expect_eq_at(
-            &rt,
-            &len,
-            &decode_error_of(rt.alloc(), &message[..len]),
-            &error,
-        );
+        expect_eq_at(&len, &decode_error_of(rt.alloc(), &message[..len]), &error)?;
     }
+    Ok(())
 }
 
 #[test]
 fn skips_100_nested_groups(rt: HostRuntime) -> Result<(), Fail> {
     let bytes = concat(rt.alloc(), &[0x43; 100], &[0x44; 100])?;
-    expect(
-        &rt,
-        decodes_without_symbols(rt.alloc(), &bytes, ("", 0, 0), Info::Nothing)?,
-    );
+    expect(decodes_without_symbols(rt.alloc(), &bytes, ("", 0, 0), Info::Nothing)?)?;
     let deeper = concat(rt.alloc(), &[0x43; 101], &[0x44; 101])?;
     expect_eq(
-        &rt,
         &decode_error_of(rt.alloc(), &deeper),
         &Some(DecodeError::Depth),
-    );
+    )?;
     Ok(())
 }

@@ -1,11 +1,11 @@
 //! Sections of version 1 file records, and their truncation.
 use super::section_result::{repeat_section, section_result};
-use crate::expect::{expect_eq, expect_eq_at};
 use perfdata_base::raw::Endianness;
 use perfdata_parts::simpleperf::parse_file_section;
 use std::io::ErrorKind;
 use std::test::Fail;
 use test_support::error_key::{ErrorKey, UNEXPECTED_EOF};
+use test_support::expect::{expect_eq, expect_eq_at};
 use test_support::recordings::SYMBOLS_FILE;
 
 // A length, and 18 bytes: the path `a`, type 2, address 16, no symbols.
@@ -25,15 +25,15 @@ fn parses_records(rt: HostRuntime) -> Result<(), Fail> {
     for count in 0..3usize {
         let bytes = repeat_section(rt.alloc(), &section_bytes(18), count)?;
         let read = parse_file_section(rt.alloc(), &bytes, Endianness::LittleEndian);
-        expect_eq(&rt, &section_result(read, (2, 16)), &Ok((count, count)));
+        expect_eq(&section_result(read, (2, 16)), &Ok((count, count)))?;
     }
     let read = parse_file_section(rt.alloc(), &BIG_ENDIAN, Endianness::BigEndian);
-    expect_eq(&rt, &section_result(read, (4, 16)), &Ok((1, 1)));
+    expect_eq(&section_result(read, (4, 16)), &Ok((1, 1)))?;
     Ok(())
 }
 
 #[test]
-fn truncation_fails(rt: HostRuntime) {
+fn truncation_fails(rt: HostRuntime) -> Result<(), Fail> {
     for (bytes, wanted) in [
         (&[18, 0, 0][..], Err(UNEXPECTED_EOF)),
         (&section_bytes(19), Err(ErrorKey::FeatureSectionTooSmall)),
@@ -47,6 +47,7 @@ fn truncation_fails(rt: HostRuntime) {
         ),
     ] {
         let read = parse_file_section(rt.alloc(), bytes, Endianness::LittleEndian);
-        expect_eq_at(&rt, &bytes, &section_result(read, (2, 16)), &wanted);
+        expect_eq_at(&bytes, &section_result(read, (2, 16)), &wanted)?;
     }
+    Ok(())
 }

@@ -1,9 +1,10 @@
 //! Version 1 file records: each type, in both byte orders, and their errors.
-use crate::expect::{expect_eq, expect_eq_at};
 use byteorder::{BigEndian, LittleEndian};
 use perfdata_parts::simpleperf::{SimpleperfFileRecord, SimpleperfTypeSpecificInfo};
 use std::alloc::Global;
 use std::io::ErrorKind;
+use std::test::Fail;
+use test_support::expect::{expect_eq, expect_eq_at};
 use test_support::values::to_error_kind;
 
 // The path `a`, a type, address 16, and a count of symbols.
@@ -38,7 +39,7 @@ fn parse_little_endian(
 }
 
 #[test]
-fn missing_offset_is_max(rt: HostRuntime) {
+fn missing_offset_is_max(rt: HostRuntime) -> Result<(), Fail> {
     for (type_, wanted) in [
         (0u8, Ok(Some((0, 16, 0, None)))),
         (1, Ok(Some((1, 16, 0, Some((1, u64::MAX)))))),
@@ -48,11 +49,11 @@ fn missing_offset_is_max(rt: HostRuntime) {
         (5, Ok(Some((5, 16, 0, None)))),
     ] {
         expect_eq(
-            &rt,
             &parse_little_endian(rt.alloc(), &record_prefix(type_, 0)),
             &wanted,
-        );
+        )?;
     }
+    Ok(())
 }
 
 // The path `b`, type 3, address 1, a symbol `c` at 2 of length 3, and the offsets 4 and 5, in big-endian.
@@ -79,7 +80,7 @@ fn parses_dex(alloc: Global, bytes: &[u8]) -> Result<bool, ErrorKind> {
 }
 
 #[test]
-fn parses_symbols_and_offsets(rt: HostRuntime) {
+fn parses_symbols_and_offsets(rt: HostRuntime) -> Result<(), Fail> {
     for len in 0..53usize {
         // a count that exceeds the remaining bytes is an error before the truncation is
         let wanted = match len {
@@ -87,12 +88,13 @@ fn parses_symbols_and_offsets(rt: HostRuntime) {
             18 | 36 | 37 => Err(ErrorKind::InvalidData),
             _ => Err(ErrorKind::UnexpectedEof),
         };
-        expect_eq_at(&rt, &len, &parses_dex(rt.alloc(), &DEX[..len]), &wanted);
+        expect_eq_at(&len, &parses_dex(rt.alloc(), &DEX[..len]), &wanted)?;
     }
+    Ok(())
 }
 
 #[test]
-fn invalid_records_fail(rt: HostRuntime) {
+fn invalid_records_fail(rt: HostRuntime) -> Result<(), Fail> {
     let mut longer = [0; 19];
     longer[..18].copy_from_slice(&record_prefix(2, 0));
     for (bytes, kind) in [
@@ -103,10 +105,10 @@ fn invalid_records_fail(rt: HostRuntime) {
         (b"a\0\x02\0\0\0", ErrorKind::UnexpectedEof),
     ] {
         expect_eq_at(
-            &rt,
             &bytes,
             &parse_little_endian(rt.alloc(), bytes).err(),
             &Some(kind),
-        );
+        )?;
     }
+    Ok(())
 }

@@ -1,8 +1,9 @@
 //! Meta info: its key-value pairs, and strings that aren't UTF-8.
-use crate::expect::expect_eq_at;
 use perfdata_parts::error::Error;
 use perfdata_parts::simpleperf::parse_meta_info_map;
 use std::alloc::Global;
+use std::test::Fail;
+use test_support::expect::expect_eq_at;
 
 // The number of pairs and the value of a key, or whether the error is that a string isn't UTF-8.
 fn map_summary<'a>(
@@ -17,7 +18,7 @@ fn map_summary<'a>(
 }
 
 #[test]
-fn pairs_nul_separated_strings(rt: HostRuntime) {
+fn pairs_nul_separated_strings(rt: HostRuntime) -> Result<(), Fail> {
     for (bytes, key, wanted) in [
         (b"a\0b\0c".as_slice(), "a", (1usize, Some("b"))),
         (b"a\0b\0c\0", "c", (2, Some(""))),
@@ -28,23 +29,15 @@ fn pairs_nul_separated_strings(rt: HostRuntime) {
         (b"", "a", (0, None)),
         (b"a", "a", (0, None)),
     ] {
-        expect_eq_at(
-            &rt,
-            &bytes,
-            &map_summary(rt.alloc(), bytes, key),
-            &Ok(wanted),
-        );
+        expect_eq_at(&bytes, &map_summary(rt.alloc(), bytes, key), &Ok(wanted))?;
     }
+    Ok(())
 }
 
 #[test]
-fn invalid_utf8_fails(rt: HostRuntime) {
+fn invalid_utf8_fails(rt: HostRuntime) -> Result<(), Fail> {
     for bytes in [b"\xff\0b\0c".as_slice(), b"a\0\xff\0c", b"a\0b\0c\0\xff"] {
-        expect_eq_at(
-            &rt,
-            &bytes,
-            &map_summary(rt.alloc(), bytes, "a"),
-            &Err(true),
-        );
+        expect_eq_at(&bytes, &map_summary(rt.alloc(), bytes, "a"), &Err(true))?;
     }
+    Ok(())
 }

@@ -1,5 +1,4 @@
 //! Decode errors in the messages of a simpleperf file, each by its name.
-use crate::expect::{expect_eq, expect_eq_at};
 use crate::simpleperf::file_record::decode_error_of;
 use crate::simpleperf::section_result::section_result;
 use byteorder::LittleEndian;
@@ -9,6 +8,7 @@ use perfdata_parts::simpleperf::{SimpleperfFileRecord, parse_file_section, parse
 use std::io::ErrorKind;
 use std::test::Fail;
 use test_support::error_key::ErrorKey;
+use test_support::expect::{expect_eq, expect_eq_at};
 use test_support::values::{concat, to_error_kind};
 
 #[test]
@@ -24,7 +24,6 @@ fn errors_in_nested_messages(rt: HostRuntime) -> Result<(), Fail> {
         let section = concat(rt.alloc(), &[length, 0, 0, 0], bytes)?;
         let read = parse_file2_section(rt.alloc(), &section, Endianness::LittleEndian);
         expect_eq_at(
-            &rt,
             &bytes,
             &(
                 decode_error_of(rt.alloc(), bytes),
@@ -34,7 +33,7 @@ fn errors_in_nested_messages(rt: HostRuntime) -> Result<(), Fail> {
                 Some(error),
                 Err(ErrorKey::ProtobufParsingSimpleperfFileSection(error)),
             ),
-        );
+        )?;
     }
     Ok(())
 }
@@ -47,14 +46,14 @@ const V1_INVALID_NAME: [u8; 36] = [
 ];
 
 #[test]
-fn v1_symbol_name_is_not_utf8(rt: HostRuntime) {
+fn v1_symbol_name_is_not_utf8(rt: HostRuntime) -> Result<(), Fail> {
     let invalid = ErrorKind::InvalidData;
     let alone = SimpleperfFileRecord::decode_v1::<LittleEndian>(rt.alloc(), &V1_INVALID_NAME[4..]);
-    expect_eq(&rt, &to_error_kind(alone).err(), &Some(invalid));
+    expect_eq(&to_error_kind(alone).err(), &Some(invalid))?;
     let read = parse_file_section(rt.alloc(), &V1_INVALID_NAME, Endianness::LittleEndian);
     expect_eq(
-        &rt,
         &section_result(read, (0, 0)),
         &Err(ErrorKey::ParsingSimpleperfFileV1Section(invalid)),
-    );
+    )?;
+    Ok(())
 }

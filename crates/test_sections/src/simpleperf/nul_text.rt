@@ -1,11 +1,12 @@
 //! NUL strings that are split off the start of the bytes.
-use crate::expect::expect_eq_at;
 use perfdata_parts::simpleperf::SliceReadStringExt;
 use std::io::ErrorKind;
+use std::test::Fail;
+use test_support::expect::expect_eq_at;
 use test_support::values::to_error_kind;
 
 #[test]
-fn reads_nul_terminated_strings(rt: HostRuntime) {
+fn reads_nul_terminated_strings() -> Result<(), Fail> {
     let all: &[u8] = b"ab\0\0c\xff\0d";
     for (bytes, wanted, remaining) in [
         (all, Ok("ab"), &all[3..]),
@@ -16,10 +17,10 @@ fn reads_nul_terminated_strings(rt: HostRuntime) {
         let mut rest = bytes;
         let got = to_error_kind(rest.read_nul_terminated_str());
         expect_eq_at(
-            &rt,
             &"an error consumes nothing",
             &(got, rest),
             &(wanted, remaining),
-        );
+        )?;
     }
+    Ok(())
 }

@@ -193,7 +193,7 @@ fn id_field_positions(event: &Event) -> (Option<usize>, Option<usize>) {
 }
 
 /// The error of attribute consistency, if the events are inconsistent.
-pub fn rule_violation(events: &[Event]) -> Option<Outcome> {
+pub fn inconsistency(events: &[Event]) -> Option<Outcome> {
     let first = events.first()?;
     if events.iter().all(|event| id_field_positions(event) == id_field_positions(first)) {
         return None;

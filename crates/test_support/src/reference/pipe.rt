@@ -1,5 +1,5 @@
 //! Reference implementation of pipes: their records and metadata, computed from the definitions in a simple and slow way.
-use super::events::{Event, event_desc_events, event_from, rule_violation};
+use super::events::{Event, event_desc_events, event_from, inconsistency};
 use super::{RawRecord, line_text, number_at, record_at, total_size};
 use crate::outcome::Outcome;
 use std::alloc::{AllocError, Global};
@@ -162,7 +162,7 @@ fn opening_error(
         return Ok(Some(Outcome::NoAttributes));
     }
     match events_from(alloc, opening, is_big_endian)? {
-        Ok(events) => Ok(rule_violation(&events)),
+        Ok(events) => Ok(inconsistency(&events)),
         Err(end) => Ok(Some(end)),
     }
 }
@@ -212,7 +212,7 @@ fn late_metadata_error(
         return Ok(None);
     }
     match events_from(alloc, records, is_big_endian)? {
-        Ok(events) => Ok(rule_violation(&events)),
+        Ok(events) => Ok(inconsistency(&events)),
         Err(end) => Ok(Some(end)),
     }
 }

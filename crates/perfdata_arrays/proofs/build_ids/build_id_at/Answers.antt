@@ -20,15 +20,15 @@ returns c =
     let next : length section - length rest ≡ at + length entry_bytes = omega (arith, ap length split, length-append entry_bytes rest, length-drop at section, within, all) in
     let key = c.dso_kind.ensures ∙ ap dso_kind_number (c.in-Ok-detect.ensures ∙ (λ i. key_of (c.as_slice.ensures.value i) (c.from_misc-mode.ensures i))) in
     let process = to_z-of_z w32 c.in-Ok.entry._pid (search rules) in
-    let id_held : vec_len c.in-Ok.entry.build_id ≡ length c.in-Ok.entry.build_id.items = search rules in
-    let path_held : vec_len c.in-Ok.entry.file_path ≡ length c.in-Ok.entry.file_path.items = search rules in
+    let id_len : vec_len c.in-Ok.entry.build_id ≡ length c.in-Ok.entry.build_id.items = search rules in
+    let path_len : vec_len c.in-Ok.entry.file_path ≡ length c.in-Ok.entry.file_path.items = search rules in
     inl (
       refl,
       has_build_id_at c.args.endian section at entry_bytes rest (build_id_entry_of c.in-Ok.entry) _ split parsed.2 (λ i. record {
         id_offset = at + 12;
-        id_size = (c.len.ensures ∙ id_held) i;
+        id_size = (c.len.ensures ∙ id_len) i;
         path_offset = at + 36;
-        path_size = (c.len-2.ensures ∙ path_held) i;
+        path_size = (c.len-2.ensures ∙ path_len) i;
         next_offset = next i;
         pid = process i;
         dso_kind = key i;

@@ -5,7 +5,7 @@ use Rattle.std.proofs.lemmas.Slice.{take-put_mid_below}
 use Rattle.perfdata_base.proofs.source.fill_by_reads.Goals as goal
 
 pub loop-filled-init : goal.loop-filled-init
-loop-filled-init g c = record { within = omega arith; tries = omega arith; gave = consumed_none _; pauses = refl; same_loan = refl }
+loop-filled-init g c = record { within = omega arith; tries = omega arith; filled_part = consumed_none _; pauses = refl; same_loan = refl }
 
 pub loop-filled-preserved-in-Ok : goal.loop-filled-preserved-in-Ok
 loop-filled-preserved-in-Ok g c =
@@ -20,7 +20,7 @@ loop-filled-preserved-in-Ok g c =
     record {
       within = omega (arith, read.within, long, same, length-take (length c.loop-filled.buf - c.loop-filled.filled) (drop c.loop-filled.filled c.loop-filled.buf), length-drop c.loop-filled.filled c.loop-filled.buf);
       tries = omega arith;
-      gave = rw shown (consumed_more _ _ _ _ _ before.gave read.consumes);
+      filled_part = rw shown (consumed_more _ _ _ _ _ before.filled_part read.consumes);
       pauses = c.in-Ok.ensures.counts.1 (omega arith) ∙ before.pauses;
       same_loan = c.in-Ok.ensures.same_loan ∙ before.same_loan;
     }
@@ -36,7 +36,7 @@ returns-then-repeats-eq-MAX_INTERRUPTED_RETRIES-clause-fills g c =
     let long = length-refilled c.loop-filled.filled c.loop-filled.buf c.read_front.new.buf within same in
     let prefix = take c.loop-filled.filled c.loop-filled.buf in
     let short = length-take-le c.loop-filled.filled c.loop-filled.buf within in
-    (record { consumed_bytes = prefix; too_few = omega (arith, short, long); consumes = consumed_no_more _ _ _ _ before.gave read.0 }, failed_later _ _ _ _ before.gave read.1)
+    (record { consumed_bytes = prefix; too_few = omega (arith, short, long); consumes = consumed_no_more _ _ _ _ before.filled_part read.0 }, failed_later _ _ _ _ before.filled_part read.1)
 
 pub returns-in-Ok-eq0-clause-fills : goal.returns-in-Ok-eq0-clause-fills
 returns-in-Ok-eq0-clause-fills g c =
@@ -48,4 +48,4 @@ returns-in-Ok-eq0-clause-fills g c =
     let same = c.read_front.auto.buf in
     let long = length-refilled c.loop-filled.filled c.loop-filled.buf c.read_front.new.buf within same in
     let prefix = take-put_mid_below c.loop-filled.filled (length c.loop-filled.buf - c.loop-filled.filled) c.loop-filled.buf c.read_front.new.buf c.loop-filled.filled (omega arith) within in
-    record { within = omega (arith, long); consumes = rw prefix (none_read _ _ _ _ _ _ c.in-Ok-eq0.field-0-test before.gave read.consumes); if_incomplete = λ _. consumed_none_later _ _ _ _ before.gave (read.if_empty c.in-Ok-eq0.field-0-test) }
+    record { within = omega (arith, long); consumes = rw prefix (none_read _ _ _ _ _ _ c.in-Ok-eq0.field-0-test before.filled_part read.consumes); if_incomplete = λ _. consumed_none_later _ _ _ _ before.filled_part (read.if_empty c.in-Ok-eq0.field-0-test) }

@@ -6,7 +6,7 @@ abbrev pub invariant-loop-filled : goal.invariant-loop-filled
 invariant-loop-filled g l = record {
   within : l.filled ≤ length l.buf;
   tries : l.repeats ≤ 16;
-  gave : Consumed (g.S.Source.state l.initial.source) (take l.filled l.buf) (g.S.Source.state l.source);
+  filled_part : Consumed (g.S.Source.state l.initial.source) (take l.filled l.buf) (g.S.Source.state l.source);
   pauses : (g.S.Source.state l.source).pauses ≡ (g.S.Source.state l.initial.source).pauses;
   same_loan : g.S.Source.loan l.source ≡ g.S.Source.loan l.initial.source;
 }

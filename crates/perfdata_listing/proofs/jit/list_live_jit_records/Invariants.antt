@@ -5,7 +5,7 @@ use Rattle.perfdata_listing.proofs.jit.list_live_jit_records.Given as goal
 
 abbrev pub invariant-records : goal.invariant-records
 invariant-records g l = record {
-  few : l.lines ≤ jit_offset l.reader;
+  count_below_offset : l.lines ≤ jit_offset l.reader;
   listed : SoFar g.R.Source.state l.initial.reader (g.W.Write.contents l.initial.out) l.lines (g.W.Write.contents l.out) l.reader;
 }
 

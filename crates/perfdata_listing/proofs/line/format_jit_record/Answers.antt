@@ -10,7 +10,7 @@ prepend_number-size_start-requires c =
 
 pub prepend_number-type_start-requires : goal.prepend_number-type_start-requires
 prepend_number-type_start-requires c =
-    let kind = length-decimal-le 20 c.args.record_type (omega arith) (omega arith) (omega arith) in
+    let type_length = length-decimal-le 20 c.args.record_type (omega arith) (omega arith) (omega arith) in
     (omega arith, omega arith)
 
 pub prepend_number-timestamp_start-requires : goal.prepend_number-timestamp_start-requires

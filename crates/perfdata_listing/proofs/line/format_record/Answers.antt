@@ -16,32 +16,32 @@ prepend_number-misc_start-requires c =
 pub prepend_number-type_start-requires : goal.prepend_number-type_start-requires
 prepend_number-type_start-requires c =
     let misc = length-decimal-le 5 c.args.fields.misc (omega arith) (omega arith) (omega arith) in
-    let kind = length-decimal-le 10 c.args.fields.record_type (omega arith) (omega arith) (omega arith) in
+    let type_length = length-decimal-le 10 c.args.fields.record_type (omega arith) (omega arith) (omega arith) in
     (omega arith, omega arith)
 
 pub prepend_optional-attr_start-requires : goal.prepend_optional-attr_start-requires
 prepend_optional-attr_start-requires c =
     let misc = length-decimal-le 5 c.args.fields.misc (omega arith) (omega arith) (omega arith) in
-    let kind = length-decimal-le 10 c.args.fields.record_type (omega arith) (omega arith) (omega arith) in
+    let type_length = length-decimal-le 10 c.args.fields.record_type (omega arith) (omega arith) (omega arith) in
     (omega arith, omega arith)
 
 pub prepend_optional-timestamp_start-requires : goal.prepend_optional-timestamp_start-requires
 prepend_optional-timestamp_start-requires c =
     let misc = length-decimal-le 5 c.args.fields.misc (omega arith) (omega arith) (omega arith) in
-    let kind = length-decimal-le 10 c.args.fields.record_type (omega arith) (omega arith) (omega arith) in
+    let type_length = length-decimal-le 10 c.args.fields.record_type (omega arith) (omega arith) (omega arith) in
     (omega arith, omega arith)
 
 pub prepend_number-round_start-requires : goal.prepend_number-round_start-requires
 prepend_number-round_start-requires c =
     let misc = length-decimal-le 5 c.args.fields.misc (omega arith) (omega arith) (omega arith) in
-    let kind = length-decimal-le 10 c.args.fields.record_type (omega arith) (omega arith) (omega arith) in
+    let type_length = length-decimal-le 10 c.args.fields.record_type (omega arith) (omega arith) (omega arith) in
     let round = length-decimal-le 20 c.args.fields.round (omega arith) (omega arith) (omega arith) in
     (omega arith, omega arith)
 
 pub prepend_number-requires : goal.prepend_number-requires
 prepend_number-requires c =
     let misc = length-decimal-le 5 c.args.fields.misc (omega arith) (omega arith) (omega arith) in
-    let kind = length-decimal-le 10 c.args.fields.record_type (omega arith) (omega arith) (omega arith) in
+    let type_length = length-decimal-le 10 c.args.fields.record_type (omega arith) (omega arith) (omega arith) in
     let offset = length-decimal-le 20 c.args.fields.offset (omega arith) (omega arith) (omega arith) in
     (omega arith, omega arith)
 

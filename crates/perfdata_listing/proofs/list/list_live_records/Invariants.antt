@@ -4,8 +4,8 @@ use Rattle.perfdata_listing.proofs.list.list_live_records.Given as goal
 
 abbrev pub invariant-records : goal.invariant-records
 invariant-records g l = record {
-  fits : l.iter.offset < 2 ^ 64;
-  few : l.lines ≤ l.iter.offset;
+  offset_in_range : l.iter.offset < 2 ^ 64;
+  count_below_offset : l.lines ≤ l.iter.offset;
   listed : SoFar g.R.Source.state l.initial.iter l.initial.file (g.W.Write.contents l.initial.out) l.lines (g.W.Write.contents l.out) l.iter l.file;
 }
 

@@ -8,8 +8,8 @@ records-preserved g c =
     let before = c.records.invariant in
     let step = subst (λ b. ListsNext g.R.Source.state c.records.iter c.records.file (g.W.Write.contents c.records.out) (Ok b) (g.W.Write.contents c.list_next.new.out) c.list_next.new.iter c.list_next.new.file) c.in-Ok-true.field-0-test c.in-Ok-true.ensures in
     record {
-      fits = step.1.offset_fits;
-      few = (let a = step.1.offset in let b = step.1.record_offset in let f = before.few in omega arith);
+      offset_in_range = step.1.offset_fits;
+      count_below_offset = (let a = step.1.offset in let b = step.1.record_offset in let f = before.count_below_offset in omega arith);
       listed = so_far_more g.R.Source.state _ _ _ before.listed step;
     }
 

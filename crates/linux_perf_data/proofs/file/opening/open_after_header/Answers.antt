@@ -17,7 +17,7 @@ returns-in_err-attributes-clause-reads g c =
     let at : c.in-Some.table ≡ table_offset h = search rules in
     let near : EndFitsU64 h.data_section = search rules in
     let sections = subst (λ t. ReadsFeatures c.args.endian t (features_of h.features) (g.C.Source.state c.args.source.now) (Ok c.in_ok-sections.sections) (g.C.Source.state c.read_features.new.source)) at c.in_ok-sections.ensures.reads in
-    rw (p.1, p.2) (attributes_error c.args.endian h _ _ _ _ _ near (has_read c.args.endian h _ _ c.in_ok-sections.sections _ (sources_both _ _ _ _ c.feature_bytes-event_desc.ensures c.feature_bytes-meta_info.ensures) sections) c.in_err-attributes.ensures.reads)
+    rw (p.1, p.2) (attributes_error c.args.endian h _ _ _ _ _ near (has_read c.args.endian h _ _ c.in_ok-sections.sections _ (sources_both _ _ _ _ c.feature_bytes-event_desc.ensures c.feature_bytes-meta_info.ensures) sections) c.in_err-attributes.ensures.reads c.in_err-attributes.ensures.named_error)
 
 pub returns-then-is_empty-clause-reads : goal.returns-then-is_empty-clause-reads
 returns-then-is_empty-clause-reads g c =

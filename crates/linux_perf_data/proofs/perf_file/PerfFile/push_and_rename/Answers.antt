@@ -1,11 +1,13 @@
-use Rattle.std.proofs.Common.{◌≡◌, ◌∙◌, ap, sym}
+use Rattle.std.proofs.Common.{◌≡◌, ◌∙◌, ap, subst, sym}
 use Rattle.std.proofs.lemmas.List.{with_items_is}
 use Rattle.perfdata_sections.specs.AttributeDescription.{ids_in, name_in}
 use Rattle.linux_perf_data.specs.Descriptions.{described_attributes}
 use Rattle.linux_perf_data.specs.NameTable.{name_from_table}
 use Rattle.linux_perf_data.specs.FeatureNumbers.{event_desc}
+use Rattle.linux_perf_data.specs.FirstIdIndex.{IndexesAttributes, id_lists_of}
 use Rattle.linux_perf_data.specs.Names.{NamedBy}
 use Rattle.linux_perf_data.specs.PerfFile.{feature_data_in_file, descriptions_of_file}
+use Rattle.linux_perf_data.proofs.FirstIdIndexes.{index_pushed, index_renamed}
 use Rattle.linux_perf_data.proofs.NameTables.{pushed_named, table_events, table_names, table_none, table_some}
 use Rattle.linux_perf_data.proofs.Naming.{named_by}
 use Rattle.linux_perf_data.proofs.perf_file.PerfFile.push_and_rename.Goals as goal
@@ -31,3 +33,13 @@ invariant_of-self-clause-table_readable c = table_some c.args.table (feature_dat
 
 pub invariant_of-self-clause-table_events_match : goal.invariant_of-self-clause-table_events_match
 invariant_of-self-clause-table_events_match c = table_events c.args.table (feature_data_in_file c.args.self.now event_desc) c.requires.fits.matches
+
+pub invariant_of-self-clause-first_ids_indexed : goal.invariant_of-self-clause-first_ids_indexed
+invariant_of-self-clause-first_ids_indexed c =
+    let file = c.args.self.now in
+    let ds = descriptions_of_file file in
+    let new = c.set_names.new.attributes in
+    let items = with_items_is file.attributes new (c.set_names.auto.attributes ∙ c.deref_mut.ensures.len) in
+    let same : described_attributes new ≡ described_attributes ds = c.set_names.ensures.same ∙ ap described_attributes c.deref_mut.ensures.value in
+    let before = subst (λ l. IndexesAttributes file.first_id_index (id_lists_of l)) (sym items) (index_renamed file.first_id_index ds new same file.first_ids_indexed) in
+    index_pushed file.first_id_index _ _ c.push.new.self.items c.set_name.new.self c.push.ensures.items before

@@ -15,6 +15,7 @@ invariant_of-self c =
       empty_without_event_desc = stays_none file.name_table (feature_data_of file.sections event_desc) (feature_data_of c.insert.new.self event_desc) stays file.empty_without_event_desc;
       table_readable = stays_some file.name_table (feature_data_of file.sections event_desc) (feature_data_of c.insert.new.self event_desc) stays file.table_readable;
       table_events_match = stays_events file.name_table (feature_data_of file.sections event_desc) (feature_data_of c.insert.new.self event_desc) stays file.table_events_match;
+      first_ids_indexed = file.first_ids_indexed;
     }
 
 pub invariant_of-self-2 : goal.invariant_of-self-2
@@ -26,6 +27,7 @@ invariant_of-self-2 c =
       empty_without_event_desc = stays_none file.name_table (feature_data_of file.sections event_desc) (feature_data_of c.insert.new.self event_desc) stays file.empty_without_event_desc;
       table_readable = stays_some file.name_table (feature_data_of file.sections event_desc) (feature_data_of c.insert.new.self event_desc) stays file.table_readable;
       table_events_match = stays_events file.name_table (feature_data_of file.sections event_desc) (feature_data_of c.insert.new.self event_desc) stays file.table_events_match;
+      first_ids_indexed = file.first_ids_indexed;
     }
 
 pub returns : goal.returns

@@ -13,4 +13,4 @@ returns-clause-consumes g c =
     let part = bytes_of c.in-Some.bytes in
     let consumed = subst (λ r. ConsumesData state 16 c.args.self.now r mid) (c.in_ok-bytes.was ∙ ap Ok c.in-Some.is) c.consume_data.follows.holds-at-none.0 in
     let cleared = c.clear_consumed_overflow.ensures in
-    header_copied state c.args.self.now mid _ part c.read_exact.new.buf consumed (c.in_ok-read_exact.ensures.read ∙ take_all 16 part (omega (arith, consumed.exact_len))) refl cleared.bytes cleared.shorter cleared.overflow_empty cleared.overflow_consumed cleared.room cleared.size refl cleared.keeps_contiguous
+    header_copied state c.args.self.now mid _ part c.read_exact.new.buf consumed (c.in_ok-read_exact.ensures.read ∙ take_all 16 part (omega (arith, consumed.exact_len))) refl cleared.bytes cleared.shorter cleared.overflow_empty cleared.overflow_consumed cleared.overflow_capacity cleared.size refl cleared.keeps_contiguous

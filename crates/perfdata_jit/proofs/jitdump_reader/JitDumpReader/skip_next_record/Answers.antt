@@ -63,4 +63,4 @@ returns-in_err-is_skipped-clause-buffered g c = λ whole found.
     let peeked = subst (λ o. PeeksValidHeader state c.args.self.now (Ok o) mid) c.in-Some.is c.in_ok-header.ensures.peeks_header in
     let there = buffered_after state c.args.self.now mid header peeked whole in
     let ok = peeked.header_peeked.keeps_position.seek_ok_after in
-    elim c.in_err-is_skipped.ensures.skips [ inl failed ↦ absurd (omega (arith, failed.too_few, there.0)) | inr gone ↦ let lost = gone.seek_failed in absurd cc ]
+    elim c.in_err-is_skipped.ensures.skips [ inl failed ↦ absurd (omega (arith, failed.too_few, there.0)) | inr gone ↦ let seek_lost = gone.seek_failed in absurd cc ]

@@ -22,19 +22,19 @@ returns-then-n-remaining-clause-consumes_prefix c =
 pub returns-clause-value : goal.returns-clause-value
 returns-clause-value c =
     let h = c.args.self.now in
-    over_taken h.overflow.items _ (ring_bytes h.ring) h.overflow_start c.len-to.result _ c.args.n (omega arith) (omega arith) c.advance-start.ensures.taken_bytes
+    over_taken h.overflow.items _ (ring_bytes h.ring) h.overflow_start c.len-to.result _ c.args.n (omega arith) (omega arith) c.advance-ring_start.ensures.taken_bytes
 
 pub returns-clause-single : goal.returns-clause-single
-returns-clause-single c = λ at. span_single c.args.n _ c.args.self.now _ (omega arith) (omega arith) refl c.len-to.ensures c.advance-start.ensures.single at
+returns-clause-single c = λ at. span_single c.args.n _ c.args.self.now _ (omega arith) (omega arith) refl c.len-to.ensures c.advance-ring_start.ensures.single at
 
 pub returns-clause-consumes_prefix : goal.returns-clause-consumes_prefix
 returns-clause-consumes_prefix c =
     let h = c.args.self.now in
     record {
-      bytes = over_dropped h.overflow.items _ (ring_bytes h.ring) h.overflow_start c.len-to.result _ c.args.n (omega arith) (omega arith) c.advance-start.ensures.bytes;
+      bytes = over_dropped h.overflow.items _ (ring_bytes h.ring) h.overflow_start c.len-to.result _ c.args.n (omega arith) (omega arith) c.advance-ring_start.ensures.bytes;
       overflow_size = refl;
       overflow_consumed = λ le. omega (arith, le, c.len-to.ensures);
       overflow_capacity = refl;
-      ring_capacity = c.advance-start.ensures.size;
-      keeps_contiguous = λ m le at. ring_left c.args.n m (c.args.n - (c.len.result - h.overflow_start)) c.len-to.result h c.advance-start.new.self (omega arith) c.len-to.ensures c.advance-start.ensures.keeps_contiguous le at;
+      ring_capacity = c.advance-ring_start.ensures.size;
+      keeps_contiguous = λ m le at. ring_left c.args.n m (c.args.n - (c.len.result - h.overflow_start)) c.len-to.result h c.advance-ring_start.new.self (omega arith) c.len-to.ensures c.advance-ring_start.ensures.keeps_contiguous le at;
     }

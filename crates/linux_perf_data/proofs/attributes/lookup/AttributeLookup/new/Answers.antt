@@ -1,6 +1,7 @@
-use Rattle.std.proofs.Common.{◌≡◌, ◌<◌, ◌∙◌, ap, sym, length, vec_len, rules, arith, None, Some, Option, ℕ, drop}
+use Rattle.std.proofs.Common.{◌≡◌, ◌<◌, ◌∙◌, ap, sym, subst, length, vec_len, rules, arith, None, Some, Option, ℕ, drop}
 use Rattle.linux_perf_data.specs.Descriptions.{described_attribute, described_attributes}
-use Rattle.linux_perf_data.proofs.LookupIds.{all_counted, described_counted, first_more, table_below, table_answers}
+use Rattle.linux_perf_data.specs.IdBounds.{TableIndicesBelow}
+use Rattle.linux_perf_data.proofs.LookupIds.{all_counted, described_counted, first_more}
 use Rattle.linux_perf_data.proofs.attributes.lookup.AttributeLookup.new.Goals as goal
 
 none_some : (n : ℕ) → ◌≡◌ {A = Option ℕ} None (Some n) → ⊥
@@ -15,8 +16,8 @@ invariant_of-result c =
     let some : 0 < vec_len c.in_ok-parse_infos.parse_infos = omega (arith, count, described_counted c.args.attributes.now, given) in
     record {
       nonempty = some;
-      table_indices_below = table_below c.in_ok-table.table attrs (vec_len c.in_ok-parse_infos.parse_infos) count c.in_ok-table.ensures;
-      cache_indices_below = λ id i told. absurd (none_some i (sym (c.new-3.ensures id) ∙ told));
+      table_indices_below = subst (TableIndicesBelow c.in_ok-table.table) count c.in_ok-table.ensures.in_bounds;
+      cache_indices_below = λ id i told. absurd (none_some i (sym (c.new-2.ensures id) ∙ told));
     }
 
 pub returns : goal.returns
@@ -31,6 +32,6 @@ returns c =
       first_parse_info = search rules;
       parse_infos = c.in_ok-parse_infos.ensures;
       first_without_identifier = search rules;
-      table = table_answers c.in_ok-table.table attrs c.in_ok-table.ensures;
-      cache = λ id i told. absurd (none_some i (sym (c.new-3.ensures id) ∙ told));
+      table = c.in_ok-table.ensures.resolves;
+      cache = λ id i told. absurd (none_some i (sym (c.new-2.ensures id) ∙ told));
     }

@@ -1,13 +1,8 @@
-use Rattle.std.proofs.Common.{rules, inr, length}
-use Rattle.std.proofs.lemmas.Result.{err_from_is_err_and}
-use Rattle.perfdata_sections.proofs.PartLemmas.{clock_rest_truncated, clock_read}
+use Rattle.std.proofs.Common.{subst}
+use Rattle.perfdata_sections.specs.NumberSections.{ParsesClock}
+use Rattle.perfdata_sections.proofs.FileOrders.{same_number}
 use Rattle.perfdata_sections.proofs.feature_sections.number_sections.ClockData.parse_from.Goals as goal
-
-pub returns-in_err-read_exact-2-clause-parses : goal.returns-in_err-read_exact-2-clause-parses
-returns-in_err-read_exact-2-clause-parses g c =
-    let p = err_from_is_err_and c.from_residual-in_err-read_exact-2.result c.from_residual-in_err-read_exact-2.ensures.1 in
-    rw (p.1, p.2) (inr (clock_rest_truncated g.T.ByteOrder.number_of g.met.T.ByteOrder.reads_first _ _ _ c.read_exact.new.buf (length c.read_exact-2.new.buf) _ (search rules) (search rules) (search rules) c.in_ok-read_exact.ensures.reads c.in_err-read_exact-2.ensures.reads))
 
 pub returns-clause-parses : goal.returns-clause-parses
 returns-clause-parses g c =
-    clock_read g.T.ByteOrder.number_of g.met.T.ByteOrder.reads_first _ _ _ c.read_exact.new.buf c.read_exact-2.new.buf _ (search rules) (search rules) (search rules) c.in_ok-read_exact.ensures.reads c.in_ok-read_exact-2.ensures.reads (search rules)
+    subst (λ number. ParsesClock number (g.R.Source.state c.args.source.now) c.parse_in.result (g.R.Source.state c.parse_in.new.source)) (same_number g.T.ByteOrder.number_of c.ENDIAN.result _ c.ENDIAN.ensures g.met.T.FileOrder.reads_by) c.parse_in.ensures.parses

@@ -1,5 +1,9 @@
-use Rattle.std.proofs.Common.{rules}
+use Rattle.std.proofs.Common.{subst}
+use Rattle.perfdata_sections.specs.NumberSections.{nr_cpus_of}
+use Rattle.perfdata_sections.specs.ParsedPart.{ParsesPart}
+use Rattle.perfdata_sections.proofs.FileOrders.{same_number}
 use Rattle.perfdata_sections.proofs.feature_sections.number_sections.NrCpus.parse_from.Goals as goal
 
 pub returns-clause-parses : goal.returns-clause-parses
-returns-clause-parses g c = record { bytes = c.read_exact.new.buf; consumes = c.in_ok-read_exact.ensures.reads; matches = (search rules, search rules) }
+returns-clause-parses g c =
+    subst (λ number. ParsesPart 8 (nr_cpus_of number) (g.R.Source.state c.args.source.now) c.parse_in.result (g.R.Source.state c.parse_in.new.source)) (same_number g.T.ByteOrder.number_of c.ENDIAN.result _ c.ENDIAN.ensures g.met.T.FileOrder.reads_by) c.parse_in.ensures.parses

@@ -10,9 +10,9 @@ returns-in_err-names-clause-reads g c =
 
 pub returns-clause-reads : goal.returns-clause-reads
 returns-clause-reads g c =
-    section_read g.T.ByteOrder.number_of g.met.T.ByteOrder.reads_first _ (g.R.Source.state c.read_exact.new.source) _ c.read_exact.new.buf c.read_u32.result c.in_ok-names.names _ (search rules) (search rules) c.in_ok-read_exact.ensures.reads c.in_ok-names.ensures.reads c.in_ok-into_index_map.ensures
+    section_read g.T.ByteOrder.number_of g.met.T.ByteOrder.reads_first _ (g.R.Source.state c.read_exact.new.source) _ c.read_exact.new.buf c.read_u32.result c.in_ok-names.names _ (search rules) (search rules) c.in_ok-read_exact.ensures.reads c.in_ok-names.ensures.reads c.in_ok-into_index_map.ensures.sorts
 
 pub returns-in_err-into_index_map-clause-reads : goal.returns-in_err-into_index_map-clause-reads
 returns-in_err-into_index_map-clause-reads g c =
     let p = err_from_is_err_and c.from_residual-in_err-into_index_map.result c.from_residual-in_err-into_index_map.ensures.1 in
-    rw (p.1, p.2) (section_partly_read g.T.ByteOrder.number_of g.met.T.ByteOrder.reads_first _ (g.R.Source.state c.read_exact.new.source) _ c.read_exact.new.buf c.read_u32.result c.in_ok-names.names (search rules) (search rules) c.in_ok-read_exact.ensures.reads c.in_ok-names.ensures.reads)
+    rw (p.1, p.2) (section_partly_read g.T.ByteOrder.number_of g.met.T.ByteOrder.reads_first _ (g.R.Source.state c.read_exact.new.source) _ c.read_exact.new.buf c.read_u32.result c.in_ok-names.names (search rules) (search rules) c.in_ok-read_exact.ensures.reads c.in_ok-names.ensures.reads c.in_err-into_index_map.ensures.nonempty)

@@ -1,0 +1,399 @@
+// Compares each field of each struct of include/dewikura.h, by its name, with an input in which the fields have different numbers. Also
+// makes each call with NULL for an empty input and empty arrays, and reads the version and the texts of the statuses.
+#include "dewikura.h"
+#include <inttypes.h>
+#include <stdio.h>
+#include <stdlib.h>
+#include <string.h>
+
+static uint8_t input[1 << 16];
+static size_t size;
+
+static void put(uint64_t number, unsigned bytes)
+{
+    while (bytes--) {
+        input[size++] = (uint8_t)number;
+        number >>= 8;
+    }
+}
+
+static void put_text(const char *text, size_t bytes)
+{
+    strncpy((char *)input + size, text, bytes);
+    size += bytes;
+}
+
+static void put_at(size_t offset, uint64_t number, unsigned bytes)
+{
+    size_t end = size;
+    size = offset;
+    put(number, bytes);
+    size = end;
+}
+
+#define CHECK(value, expected) check((uint64_t)(value), (uint64_t)(expected), #value, __LINE__)
+static void check(uint64_t value, uint64_t expected, const char *what, int line)
+{
+    if (value != expected) {
+        fprintf(stderr, "fields.c:%d: %s is %" PRIu64 " instead of %" PRIu64 "\n", line, what, value, expected);
+        exit(1);
+    }
+}
+
+#define SAMPLE_TYPE (DEWIKURA_SAMPLE_IDENTIFIER | DEWIKURA_SAMPLE_IP)
+
+// A perf_event_attr of 136 bytes.
+static void put_attr(uint64_t config, uint64_t sample_type)
+{
+    put(0x21, 4); // type
+    put(136, 4);
+    put(config, 8);
+    put(0x1102, 8); // sample_period
+    put(sample_type, 8);
+    put(DEWIKURA_READ_TOTAL_TIME_ENABLED | DEWIKURA_READ_LOST, 8);
+    put(DEWIKURA_ATTR_SAMPLE_ID_ALL | DEWIKURA_ATTR_MMAP, 8);
+    put(0x22, 4);   // wakeup_events
+    put(0x23, 4);   // bp_type
+    put(0x1103, 8); // config1
+    put(0x1104, 8); // config2
+    put(0x1105, 8); // branch_sample_type
+    put(0x1106, 8); // sample_regs_user
+    put(0x24, 4);   // sample_stack_user
+    put((uint32_t)-25, 4); // clockid
+    put(0x1107, 8); // sample_regs_intr
+    put(0x26, 4);   // aux_watermark
+    put(0x27, 2);   // sample_max_stack
+    put(0, 2);
+    put(0x28, 4);   // aux_sample_size
+    put(0, 4);
+    put(0x1108, 8); // sig_data
+    put(0x1109, 8); // config3
+}
+
+static void put_header(uint32_t type, uint16_t misc, uint16_t record_size)
+{
+    put(type, 4);
+    put(misc, 2);
+    put(record_size, 2);
+}
+
+// An event of the section EVENT_DESC.
+static void put_event(uint64_t config, uint64_t sample_type, const char *name, uint32_t name_size, uint32_t ids, uint64_t first_id)
+{
+    uint32_t i;
+    put_attr(config, sample_type);
+    put(ids, 4);
+    put(name_size, 4);
+    put_text(name, name_size);
+    for (i = 0; i < ids; i++) put(first_id + i, 8);
+}
+
+// A file with two attributes, the features 12, 65, 131 and 197, and these records: two markers, a sample without a time, and one with.
+static void put_file(void)
+{
+    static const char feature_1[] = "feature of 64..";
+    size_t data_start, table, section;
+    size = 0;
+    put_text("PERFILE2", 8);
+    put(104, 8);
+    put(152, 8);  // the size of an entry of the attribute section
+    put(104, 8);  // the attribute section, which the section EVENT_DESC replaces
+    put(152, 8);
+    put(256, 8);  // the data section
+    put(0, 8);
+    put(0, 8);
+    put(0, 8);
+    put(UINT64_C(1) << 12, 8);
+    put(UINT64_C(1) << 1, 8);
+    put(UINT64_C(1) << 3, 8);
+    put(UINT64_C(1) << 5, 8);
+    put_attr(0x1101, SAMPLE_TYPE);
+    put(0, 16);
+    data_start = size;
+    put_header(DEWIKURA_RECORD_FINISHED_ROUND, 0, 8);
+    put_header(DEWIKURA_RECORD_FINISHED_ROUND, 0, 8);
+    put_header(DEWIKURA_RECORD_SAMPLE, 0x4002, 24);
+    put(0x501, 8); // the identifier
+    put(0x502, 8);
+    put_header(DEWIKURA_RECORD_SAMPLE, 0x4001, 40);
+    put(0x605, 8);
+    put(0x603, 8);
+    put(0x604, 8); // the time
+    put(0x606, 8);
+    CHECK(data_start, 256);
+    put_at(48, size - data_start, 8);
+    table = size;
+    put(0, 64);
+    section = size;
+    put(2, 4);
+    put(136, 4);
+    put_event(0x1101, SAMPLE_TYPE, "first-event", 11, 2, 0x501);
+    put_event(0x1111, SAMPLE_TYPE | DEWIKURA_SAMPLE_TIME, "second", 6, 3, 0x603);
+    put_at(table, section, 8);
+    put_at(table + 8, size - section, 8);
+    put_at(table + 16, size, 8);
+    put_at(table + 24, sizeof feature_1, 8);
+    put_text(feature_1, sizeof feature_1);
+    put_at(table + 32, size, 8);
+    put_at(table + 48, size, 8);
+}
+
+static void check_file(void)
+{
+    struct dewikura_record records[3];
+    struct dewikura_attr attrs[2];
+    struct dewikura_attr_totals totals;
+    struct dewikura_feature_set set;
+    char names[32] = {0};
+    uint64_t ids[8] = {0}, total = 0, feature_size = 0;
+    uint8_t is_present = 0;
+    memset(records, 0xab, sizeof records);
+    put_file();
+    CHECK(dewikura_is_big_endian(input, size), 0);
+    CHECK(dewikura_read_file_records(input, size, 1, records, 3, &total), DEWIKURA_OK);
+    CHECK(total, 2);
+    CHECK(records[1].type, 0xabababab);
+    CHECK(records[0].offset, 40);
+    CHECK(records[0].body_offset, 256 + 40 + 8);
+    CHECK(records[0].body_size, 32);
+    CHECK(records[0].round, 2);
+    CHECK(records[0].timestamp, 0x604);
+    CHECK(records[0].attr_index, 1);
+    CHECK(records[0].type, DEWIKURA_RECORD_SAMPLE);
+    CHECK(records[0].misc, 0x4001);
+    CHECK(records[0].has_timestamp, 1);
+    CHECK(records[0].has_attr, 1);
+    CHECK(dewikura_read_file_records(input, size, 0, records, 1, NULL), DEWIKURA_OK);
+    CHECK(records[0].timestamp, 0);
+    CHECK(records[0].attr_index, 0);
+    CHECK(records[0].has_timestamp, 0);
+    CHECK(records[0].has_attr, 1);
+    CHECK(dewikura_read_file_attrs(input, size, attrs, 2, names, sizeof names, ids, 8, &totals), DEWIKURA_OK);
+    CHECK(totals.attr_count, 2);
+    CHECK(totals.names_size, 17);
+    CHECK(totals.ids_count, 5);
+    CHECK(strcmp(names, "first-eventsecond"), 0);
+    CHECK(ids[1], 0x502);
+    CHECK(ids[4], 0x605);
+    CHECK(attrs[0].config, 0x1101);
+    CHECK(attrs[1].config, 0x1111);
+    CHECK(attrs[1].sample_period_or_freq, 0x1102);
+    CHECK(attrs[1].sample_type, SAMPLE_TYPE | DEWIKURA_SAMPLE_TIME);
+    CHECK(attrs[1].read_format, DEWIKURA_READ_TOTAL_TIME_ENABLED | DEWIKURA_READ_LOST);
+    CHECK(attrs[1].flags, DEWIKURA_ATTR_SAMPLE_ID_ALL | DEWIKURA_ATTR_MMAP);
+    CHECK(attrs[1].config1, 0x1103);
+    CHECK(attrs[1].config2, 0x1104);
+    CHECK(attrs[1].branch_sample_type, 0x1105);
+    CHECK(attrs[1].sample_regs_user, 0x1106);
+    CHECK(attrs[1].sample_regs_intr, 0x1107);
+    CHECK(attrs[1].sig_data, 0x1108);
+    CHECK(attrs[1].config3, 0x1109);
+    CHECK(attrs[1].name_offset, 11);
+    CHECK(attrs[1].name_size, 6);
+    CHECK(attrs[1].ids_start, 2);
+    CHECK(attrs[1].ids_count, 3);
+    CHECK(attrs[1].type, 0x21);
+    CHECK(attrs[1].size, 136);
+    CHECK(attrs[1].wakeup_events, 0x22);
+    CHECK(attrs[1].bp_type, 0x23);
+    CHECK(attrs[1].sample_stack_user, 0x24);
+    CHECK(attrs[1].clockid, -25);
+    CHECK(attrs[1].aux_watermark, 0x26);
+    CHECK(attrs[1].sample_max_stack, 0x27);
+    CHECK(attrs[1].aux_sample_size, 0x28);
+    CHECK(attrs[1].has_name, 1);
+    CHECK(dewikura_read_file_feature_set(input, size, &set), DEWIKURA_OK);
+    CHECK(set.bits0, 1 << 12);
+    CHECK(set.bits1, 1 << 1);
+    CHECK(set.bits2, 1 << 3);
+    CHECK(set.bits3, 1 << 5);
+    CHECK(dewikura_read_file_feature(input, size, 65, names, sizeof names, &is_present, &feature_size), DEWIKURA_OK);
+    CHECK(is_present, 1);
+    CHECK(feature_size, 16);
+    CHECK(strcmp(names, "feature of 64.."), 0);
+    CHECK(dewikura_read_file_feature(input, size, 66, NULL, 0, &is_present, NULL), DEWIKURA_OK);
+    CHECK(is_present, 0);
+}
+
+static void check_build_id(void)
+{
+    struct dewikura_build_id entry;
+    size = 0;
+    put(0, 16);
+    put_header(0, 2, 36 + 24); // the mode: user
+    put(77, 4);
+    put_text("0123456789abcdefghij", 20);
+    put(0, 4);
+    put_text("/usr/bin/true", 24);
+    CHECK(dewikura_read_build_id(input, size, 0, 16, &entry), DEWIKURA_OK);
+    CHECK(entry.id_offset, 16 + 12);
+    CHECK(entry.id_size, 20);
+    CHECK(entry.path_offset, 16 + 36);
+    CHECK(entry.path_size, 13);
+    CHECK(entry.next_offset, 16 + 60);
+    CHECK(entry.pid, 77);
+    CHECK(entry.dso_kind, DEWIKURA_DSO_USER);
+    CHECK(dewikura_read_build_id(input, size, 0, entry.next_offset, &entry), DEWIKURA_TRUNCATED);
+}
+
+static void check_string(void)
+{
+    struct dewikura_string string;
+    size = 0;
+    put(1, 4);
+    put(8, 4);
+    put_text("record", 8);
+    CHECK(dewikura_read_string(input, size, 0, 4, &string), DEWIKURA_OK);
+    CHECK(string.text_offset, 8);
+    CHECK(string.text_size, 6);
+    CHECK(string.next_offset, 16);
+    CHECK(dewikura_read_string(input, size - 1, 0, 4, &string), DEWIKURA_TRUNCATED);
+    CHECK(dewikura_read_string(NULL, 0, 0, 0, &string), DEWIKURA_TRUNCATED);
+}
+
+static void check_jitdump(void)
+{
+    struct dewikura_jit_header header;
+    struct dewikura_jit_record record;
+    struct dewikura_jit_load load;
+    struct dewikura_jit_move move;
+    struct dewikura_jit_unwinding unwinding;
+    uint64_t count = 0, next_offset = 0;
+    size = 0;
+    put_text("DTiJ", 4);
+    put(1, 4);      // version
+    put(48, 4);     // size
+    put(62, 4);     // machine
+    put(0, 4);
+    put(0x701, 4);  // pid
+    put(0x702, 8);  // timestamp
+    put(0x703, 8);  // flags
+    put(0, 8);
+    put(DEWIKURA_JIT_CODE_CLOSE, 4);
+    put(16, 4);
+    put(0x801, 8);
+    put(DEWIKURA_JIT_CODE_LOAD, 4);
+    put(16 + 40 + 5 + 9, 4);
+    put(0x802, 8);
+    put(0x901, 4);  // pid
+    put(0x902, 4);  // tid
+    put(0x903, 8);  // vma
+    put(0x904, 8);  // address
+    put(9, 8);      // code size
+    put(0x905, 8);  // index
+    put_text("name", 5);
+    put_text("\1\2\3\4\5\6\7\10\11", 9);
+    put(DEWIKURA_JIT_CODE_MOVE, 4);
+    put(16 + 48, 4);
+    put(0x803, 8);
+    put(0xa01, 4);  // pid
+    put(0xa02, 4);  // tid
+    put(0xa03, 8);  // vma
+    put(0xa04, 8);  // old address
+    put(0xa05, 8);  // new address
+    put(0xa06, 8);  // code size
+    put(0xa07, 8);  // index
+    put(DEWIKURA_JIT_CODE_UNWINDING_INFO, 4);
+    put(16 + 24 + 11, 4);
+    put(0x804, 8);
+    put(11, 8);     // data size
+    put(4, 8);      // index size
+    put(0xb01, 8);  // mapped size
+    put_text("hdr.frames.", 11);
+    CHECK(dewikura_read_jit_header(input, size, &header), DEWIKURA_OK);
+    CHECK(header.timestamp, 0x702);
+    CHECK(header.flags, 0x703);
+    CHECK(header.version, 1);
+    CHECK(header.size, 48);
+    CHECK(header.elf_machine, 62);
+    CHECK(header.pid, 0x701);
+    CHECK(header.is_big_endian, 0);
+    CHECK(header.reserved, 0);
+    CHECK(dewikura_read_jit_records(input, size, 0, &record, 1, &count, &next_offset), DEWIKURA_OK);
+    CHECK(count, 1);
+    CHECK(next_offset, 64);
+    CHECK(record.offset, 48);
+    CHECK(record.timestamp, 0x801);
+    CHECK(record.type, DEWIKURA_JIT_CODE_CLOSE);
+    CHECK(record.size, 16);
+    CHECK(dewikura_read_jit_load(input, size, record.offset, &load), DEWIKURA_JIT_WRONG_TYPE);
+    CHECK(dewikura_read_jit_load(input, size, next_offset, &load), DEWIKURA_OK);
+    CHECK(load.vma, 0x903);
+    CHECK(load.code_address, 0x904);
+    CHECK(load.code_index, 0x905);
+    CHECK(load.name_offset, 64 + 56);
+    CHECK(load.name_size, 4);
+    CHECK(load.code_offset, 64 + 61);
+    CHECK(load.code_size, 9);
+    CHECK(load.pid, 0x901);
+    CHECK(load.tid, 0x902);
+    CHECK(dewikura_read_jit_move(input, size, next_offset, &move), DEWIKURA_JIT_WRONG_TYPE);
+    CHECK(dewikura_read_jit_move(input, size, 64 + 70, &move), DEWIKURA_OK);
+    CHECK(move.pid, 0xa01);
+    CHECK(move.tid, 0xa02);
+    CHECK(move.vma, 0xa03);
+    CHECK(move.old_code_address, 0xa04);
+    CHECK(move.new_code_address, 0xa05);
+    CHECK(move.code_size, 0xa06);
+    CHECK(move.code_index, 0xa07);
+    CHECK(dewikura_read_jit_unwinding(input, size, 64 + 70 + 64, &unwinding), DEWIKURA_OK);
+    CHECK(unwinding.mapped_size, 0xb01);
+    CHECK(unwinding.eh_frame_hdr_offset, 64 + 70 + 64 + 40);
+    CHECK(unwinding.eh_frame_hdr_size, 4);
+    CHECK(unwinding.eh_frame_offset, 64 + 70 + 64 + 44);
+    CHECK(unwinding.eh_frame_size, 7);
+    CHECK(dewikura_read_jit_unwinding(input, size, size, &unwinding), DEWIKURA_TRUNCATED);
+}
+
+static void check_empty(void)
+{
+    struct dewikura_feature_set set;
+    struct dewikura_build_id entry;
+    struct dewikura_jit_header header;
+    struct dewikura_jit_load load;
+    CHECK(dewikura_status_text(DEWIKURA_OK, NULL, 0), 8);
+    CHECK(dewikura_is_big_endian(NULL, 0), 0);
+    CHECK(dewikura_read_file_records(NULL, 0, 0, NULL, 0, NULL), DEWIKURA_TRUNCATED);
+    CHECK(dewikura_read_pipe_records(NULL, 0, 0, NULL, 0, NULL), DEWIKURA_TRUNCATED);
+    CHECK(dewikura_read_file_attrs(NULL, 0, NULL, 0, NULL, 0, NULL, 0, NULL), DEWIKURA_TRUNCATED);
+    CHECK(dewikura_read_pipe_attrs(NULL, 0, NULL, 0, NULL, 0, NULL, 0, NULL), DEWIKURA_TRUNCATED);
+    CHECK(dewikura_read_file_feature_set(NULL, 0, &set), DEWIKURA_TRUNCATED);
+    CHECK(set.bits0 | set.bits1 | set.bits2 | set.bits3, 0);
+    CHECK(dewikura_read_pipe_feature_set(NULL, 0, &set), DEWIKURA_TRUNCATED);
+    CHECK(dewikura_read_file_feature(NULL, 0, 1, NULL, 0, NULL, NULL), DEWIKURA_TRUNCATED);
+    CHECK(dewikura_read_pipe_feature(NULL, 0, 1, NULL, 0, NULL, NULL), DEWIKURA_TRUNCATED);
+    CHECK(dewikura_read_build_id(NULL, 0, 0, 0, &entry), DEWIKURA_TRUNCATED);
+    CHECK(dewikura_read_jit_header(NULL, 0, &header), DEWIKURA_JIT_TRUNCATED_HEADER);
+    CHECK(dewikura_read_jit_records(NULL, 0, 0, NULL, 0, NULL, NULL), DEWIKURA_JIT_TRUNCATED_HEADER);
+    CHECK(dewikura_read_jit_load(NULL, 0, 0, &load), DEWIKURA_JIT_TRUNCATED_HEADER);
+}
+
+static void check_texts(void)
+{
+    char text[128], part[8], unknown[128];
+    dewikura_status status;
+    size_t length;
+    CHECK(dewikura_version(), DEWIKURA_VERSION);
+    CHECK(dewikura_status_text(DEWIKURA_JIT_BAD_BODY + 1, unknown, sizeof unknown), 14);
+    for (status = DEWIKURA_OK; status <= DEWIKURA_JIT_BAD_BODY; status++) {
+        length = dewikura_status_text(status, text, sizeof text);
+        CHECK(length, strlen(text));
+        CHECK(!strcmp(text, unknown), 0);
+        memset(part, 'x', sizeof part);
+        CHECK(dewikura_status_text(status, part, sizeof part - 1), length);
+        CHECK(strlen(part), length < 6 ? length : 6);
+        CHECK(memcmp(part, text, strlen(part)), 0);
+        CHECK(part[7], 'x');
+    }
+}
+
+int main(void)
+{
+    check_file();
+    check_build_id();
+    check_string();
+    check_jitdump();
+    check_empty();
+    check_texts();
+    return 0;
+}

@@ -1,0 +1,31 @@
+# The commands of this repository. Each calls rt or a script; `make` lists them.
+PREFIX ?= /usr/local
+DESTDIR ?=
+FILE ?= data/several.data
+export DESTDIR PREFIX
+
+.PHONY: help try check programs lib install dist clean
+
+help: ## lists the targets
+	@sed -n 's/^\([a-z]*\):.*## /\1\t/p' Makefile
+
+try: ## lists FILE before any proof: make try FILE=perf.data
+	packaging/try "$(FILE)"
+
+check: ## the gate: every proof, must-fail edit and test, the programs and the C library
+	.ci/run
+
+programs: ## proves and builds perflist and perfinfo
+	packaging/build_programs
+
+lib: ## proves and builds libdewikura.a and libdewikura.so in crates/dewikura/out
+	packaging/build_library
+
+install: ## installs the library, header, dewikura.pc, programs and man pages below PREFIX (and DESTDIR)
+	packaging/install
+
+dist: ## a tarball of what install installs, for machines without the kit
+	packaging/dist
+
+clean: ## removes what rt built
+	rm -rf crates/*/out

@@ -1,0 +1,28 @@
+use Rattle.std.proofs.Common.{rules, ◌≡◌, sym, ap, subst, length, take, drop, ◌+◌}
+use Rattle.perfdata_base.specs.Raw.{bytes_of, IsSingle}
+use Rattle.linux_perf_data.specs.Iter.{record_view_of, record_view_with, ReturnsRecord}
+use Rattle.linux_perf_data.specs.InMemory.{memory_state, with_buffer}
+use Rattle.linux_perf_data.proofs.InMemoryPlaces.{taken_in_place, body_in_place}
+use Rattle.linux_perf_data.proofs.in_memory.InMemoryRecords.next_record.Goals as goal
+
+pub invariant_of-self : goal.invariant_of-self
+invariant_of-self c = record { in_place = taken_in_place c.args.self.now.iter c.take_record.new.iter c.args.perf_file.now c.take_record.new.file c.take_record.result c.args.self.now.input.now c.args.self.now.first_record_offset c.args.self.now.in_place c.take_record.ensures }
+
+pub returns-in-Some-clause-returns_next : goal.returns-in-Some-clause-returns_next
+returns-in-Some-clause-returns_next c =
+    let t = rw c.in-Some.is at c.in_ok-found.ensures in
+    let old = c.args.self.now.iter in
+    let new = c.take_record.new.iter in
+    let found = c.in-Some.found in
+    let input = c.args.self.now.input.now in
+    let first = c.args.self.now.first_record_offset in
+    let view : record_view_of found.place c.into_record.result ≡ record_view_with new.attribute_lookup found new.endian c.in-Some.body.now = search rules in
+    let is = ap bytes_of c.into_record.ensures.same_body in
+    record {
+      buffer = t.buffer;
+      returns = subst (λ h. ReturnsRecord memory_state old c.args.perf_file.now h (with_buffer new t.buffer) c.take_record.new.file) (sym view) t.returns;
+      in_input = record {
+        single = subst IsSingle (sym c.into_record.ensures.same_body) tt;
+        bytes = subst (λ b. b ≡ take (length b) (drop (first + found.place.offset + 8) input)) (sym is) (body_in_place old (with_buffer new t.buffer) c.args.perf_file.now c.take_record.new.file _ input first c.args.self.now.in_place t.returns);
+      };
+    }

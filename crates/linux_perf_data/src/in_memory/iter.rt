@@ -1,0 +1,128 @@
+//! Takes records from bytes in memory. The calls are those of a `PerfRecordIter` over a cursor, but the body buffer stays empty.
+ghost use Rattle.std.specs.Prelude.{◌≡◌, []};
+ghost use Rattle.linux_perf_data.specs.InMemory.{EndsOrFails, ProcessesBody, TakesRawRecord, TakesRecord};
+
+use crate::in_memory::framing::{skip_bytes, take_record_body};
+use crate::perf_file::PerfFile;
+use crate::pipe::late_metadata::apply_metadata;
+use crate::records::framing::{body_size, read_header, record_end};
+use crate::records::input::Input;
+use crate::records::iter::{PerfRecordIter, RecordInfo, Stage};
+use perfdata_base::event::PerfEventHeader;
+use perfdata_base::source::unexpected_eof;
+use perfdata_parts::constants::PERF_RECORD_FINISHED_ROUND;
+use perfdata_parts::error::{Error, ReadError};
+use std::io::Cursor;
+
+// A raw record: a marker, or a record with its body and aux data; or the end of a pipe.
+pub(crate) enum RawRecord<'a> {
+    Marker(PerfEventHeader),
+    Record(PerfEventHeader, &'a [u8]),
+    End,
+}
+
+// The result for a truncated record: the end in a pipe, this error in a file.
+fn end_or_error<'a>(input: Input, error: Error) -> Result<RawRecord<'a>, Error>
+    ensures { EndsOrFails input error result }
+{
+    match input {
+        Input::Pipe(_) => Ok(RawRecord::End),
+        Input::Section(_) => Err(error),
+    }
+}
+
+// Takes the next raw record.
+fn take_raw_record<'a>(iter: &mut PerfRecordIter<Cursor<&'a [u8]>>) -> Result<RawRecord<'a>, Error>
+    requires { iter.old.body.items ≡ [] }
+    ensures raw_record { TakesRawRecord iter.old result iter.new }
+    ensures same_buffer { iter.new.body ≡ iter.old.body }
+{
+    let header = match read_header(&mut iter.source, &mut iter.input, iter.endian)? {
+        Some(header) => header,
+        None => return end_or_error(iter.input, Error::from(unexpected_eof())),
+    };
+    let body_size = body_size(header)?;
+    let end = record_end(iter.offset, header.size)?;
+    if header.type_ == PERF_RECORD_FINISHED_ROUND {
+        if !skip_bytes(&mut iter.source, body_size as u64) {
+            return end_or_error(iter.input, Error::Read(ReadError::PerfEventData));
+        }
+        iter.round += 1;
+        iter.offset = end;
+        return Ok(RawRecord::Marker(header));
+    }
+    match take_record_body(&mut iter.source, iter.endian, header, end)? {
+        Some((body, end)) => {
+            iter.offset = end;
+            Ok(RawRecord::Record(header, body))
+        }
+        None => end_or_error(iter.input, Error::Read(ReadError::PerfEventData)),
+    }
+}
+
+// Identifies the record with this body by the attributes before it, and then applies its metadata.
+fn process_record(
+    iter: &mut PerfRecordIter<Cursor<&[u8]>>,
+    file: &mut PerfFile,
+    offset: u64,
+    round: u64,
+    header: PerfEventHeader,
+    body: &[u8],
+) -> Result<RecordInfo, Error>
+    ensures processes { ProcessesBody iter.old file.old offset round header body.now result iter.new file.new }
+    ensures same_buffer { iter.new.body ≡ iter.old.body }
+{
+    let found = RecordInfo::identify(&mut iter.attribute_lookup, body, offset, round, header);
+    match iter.input {
+        Input::Section(_) => Ok(found),
+        Input::Pipe(_) => {
+            let (alloc, endian) = (iter.alloc, iter.endian);
+            let lookup = &mut iter.attribute_lookup;
+            apply_metadata(alloc, endian, lookup, file, header.type_, body)?;
+            Ok(found)
+        }
+    }
+}
+
+// Takes the next record, with its body.
+pub(crate) fn take_record<'a>(
+    iter: &mut PerfRecordIter<Cursor<&'a [u8]>>,
+    file: &mut PerfFile,
+) -> Result<Option<(RecordInfo, &'a [u8])>, Error>
+    ensures { TakesRecord iter.old file.old result iter.new file.new }
+{
+    match iter.stage {
+        Stage::Running => {}
+        Stage::Failed => return Err(Error::Failed),
+        Stage::Ended => return Ok(None),
+    }
+    iter.body.clear();
+    let _offset = iter.offset;
+    'raw_records: while iter.may_start_record() {
+        let offset = iter.offset;
+        let round = iter.round;
+        match take_raw_record(iter) {
+            Ok(RawRecord::Marker(_)) => {}
+            Ok(RawRecord::Record(header, body)) => {
+                match process_record(iter, file, offset, round, header, body) {
+                    Ok(found) => return Ok(Some((found, body))),
+                    Err(error) => {
+                        iter.offset = offset;
+                        iter.stage = Stage::Failed;
+                        return Err(error);
+                    }
+                }
+            }
+            Ok(RawRecord::End) => {
+                iter.stage = Stage::Ended;
+                return Ok(None);
+            }
+            Err(error) => {
+                iter.stage = Stage::Failed;
+                return Err(error);
+            }
+        }
+    }
+    iter.stage = Stage::Ended;
+    Ok(None)
+}

@@ -1,0 +1,77 @@
+-- Numbers of eight bytes each, and blocks one after another.
+use Rattle.perfdata_events.specs.Fields.{u64_at}
+use Rattle.std.proofs.Common.{◌≡◌, ℕ, zero, suc, ◌+◌, ◌*◌, ◌/◌, List, ◌∷◌, ◌++◌, length, take, drop, refl, sym, ap, subst, ◌∙◌, arith, length-drop, ◌<◌, ◌≤◌, []}
+use Rattle.std.proofs.Math.Nat.{mul_assoc, mul_comm, mul-add-div}
+use Rattle.std.proofs.Math.Seq.{take-add}
+use Rattle.std.proofs.lemmas.Nat.{div-mul-add}
+use Rattle.std.proofs.lemmas.List.{drop-take, drop-drop, length-take-le}
+use Rattle.perfdata_base.proofs.Numbers.{number_take}
+use Rattle.perfdata_base.specs.Endian.{number_in}
+use Rattle.perfdata_base.specs.declared.raw.Endianness.{Endianness}
+use Rattle.perfdata_events.specs.Format.{IsBlock, IsFixed}
+use Rattle.perfdata_events.specs.Words.{u64s_of, AreU64s}
+
+-- Numbers don't depend on the bytes after them.
+pub u64s_take : (order : Endianness) (n : ℕ) (xs : List ℕ) → u64s_of (number_in order) n (take (8 * n) xs) ≡ u64s_of (number_in order) n xs
+u64s_take order zero xs = refl
+u64s_take order (suc n) xs =
+    let more : 8 * suc n ≡ 8 + 8 * n = omega arith in
+    rw more (λ i. number_take order 8 (8 + 8 * n) xs (omega arith) i ∷ (ap (u64s_of (number_in order) n) (drop-take 8 (8 * n) xs) ∙ u64s_take order n (drop 8 xs)) i)
+
+-- A block of eight bytes for each number contains the numbers.
+pub u64s_block : (order : Endianness) (n m : ℕ) (xs bs rest : List ℕ) → m ≡ n * 8 → IsBlock m xs bs rest
+    → AreU64s (number_in order) n xs (u64s_of (number_in order) (length bs / 8) bs) rest
+u64s_block order n m xs bs rest e b =
+    let size : m ≡ 8 * n = omega arith in
+    let long : length bs ≡ n * 8 + 0 = ap length b.block_is ∙ length-take-le m xs b.enough ∙ omega arith in
+    let count : length bs / 8 ≡ n = ap (λ l. l / 8) long ∙ div-mul-add n 8 0 (omega arith) in
+    record {
+      enough = omega (arith, b.enough);
+      values_are = ap (λ k. u64s_of (number_in order) k bs) count ∙ ap (u64s_of (number_in order) n) (b.block_is ∙ ap (λ k. take k xs) size) ∙ u64s_take order n xs;
+      rest_is = b.rest_is ∙ ap (λ k. drop k xs) size;
+    }
+
+pub element_size : (count width : ℕ) → count * (8 * width) ≡ width * count * 8
+element_size c w = mul_comm c (8 * w) ∙ mul_assoc 8 w c ∙ mul_comm 8 (w * c)
+
+-- Two blocks, one after the other.
+pub two_blocks : (n m : ℕ) (xs a ys b zs : List ℕ) → IsBlock n xs a ys → IsBlock m ys b zs → IsBlock (n + m) xs (a ++ b) zs
+two_blocks n m xs a ys b zs one two = record {
+  enough = omega (arith, one.enough, two.enough, ap length one.rest_is, length-drop n xs);
+  block_is = (λ i. one.block_is i ++ (two.block_is ∙ ap (take m) one.rest_is) i) ∙ sym (take-add n m xs);
+  rest_is = two.rest_is ∙ ap (drop m) one.rest_is ∙ drop-drop m n xs;
+}
+
+pub block_len : (n : ℕ) (xs a ys : List ℕ) → IsBlock n xs a ys → length a ≡ n
+block_len n xs a ys one = ap length one.block_is ∙ length-take-le n xs one.enough
+
+-- `two_blocks` with a size and bytes that are equal to these.
+pub two_blocks_at : (n m k : ℕ) (xs a ys b zs other : List ℕ) → n + m ≡ k → xs ≡ other → IsBlock n xs a ys → IsBlock m ys b zs → IsBlock k other (a ++ b) zs
+two_blocks_at n m k xs a ys b zs other size same one two =
+    subst (λ l. IsBlock k l (a ++ b) zs) same (subst (λ j. IsBlock j xs (a ++ b) zs) size (two_blocks n m xs a ys b zs one two))
+
+-- The first number of at least eight bytes, and the others.
+pub u64s_step : (order : Endianness) (xs : List ℕ) → 8 ≤ length xs
+    → u64s_of (number_in order) (length xs / 8) xs ≡ number_in order 8 xs ∷ u64s_of (number_in order) (length (drop 8 xs) / 8) (drop 8 xs)
+u64s_step order xs enough =
+    let long : length xs ≡ 8 * 1 + length (drop 8 xs) = omega (arith, length-drop 8 xs) in
+    let one : length xs / 8 ≡ suc (length (drop 8 xs) / 8) =
+    ap (λ n. n / 8) long ∙ mul-add-div {m = 8} (omega arith) 1 (length (drop 8 xs)) ∙ omega arith
+    in
+    ap (λ n. u64s_of (number_in order) n xs) one
+
+pub u64s_none : (order : Endianness) (xs : List ℕ) → length xs < 8 → u64s_of (number_in order) (length xs / 8) xs ≡ []
+u64s_none order xs few =
+    let long : length xs ≡ 0 * 8 + length xs = omega arith in
+    ap (λ n. u64s_of (number_in order) n xs) (ap (λ l. l / 8) long ∙ div-mul-add 0 8 (length xs) few)
+
+-- A number and the bytes after it are the first number and the others.
+pub split_first : (order : Endianness) (xs rest : List ℕ) (value : ℕ) → IsFixed 8 (u64_at (number_in order) 0) xs value rest
+    → u64s_of (number_in order) (length xs / 8) xs ≡ value ∷ u64s_of (number_in order) (length rest / 8) rest
+split_first order xs rest value is =
+    let same : value ≡ number_in order 8 xs = is.value_is ∙ number_take order 8 8 xs (omega arith) in
+    u64s_step order xs is.enough ∙ (λ i. sym same i ∷ ap (λ l. u64s_of (number_in order) (length l / 8) l) (sym is.rest_is) i)
+
+-- Fewer bytes are left after a number.
+pub shorter_rest : (order : Endianness) (xs rest : List ℕ) (value : ℕ) → IsFixed 8 (u64_at (number_in order) 0) xs value rest → length rest < length xs
+shorter_rest order xs rest value is = omega (arith, is.enough, ap length is.rest_is, length-drop 8 xs)

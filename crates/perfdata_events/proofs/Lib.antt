@@ -1,0 +1,6 @@
+pub mod Elements
+pub mod Events
+pub mod OneOutcomes
+pub mod RecordOutcomes
+pub mod Frames
+pub mod Prefixes

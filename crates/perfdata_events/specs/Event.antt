@@ -1,0 +1,161 @@
+-- The parsed form of a kernel record, by its type (`enum perf_event_type` of Linux's `perf_event.h`).
+use Rattle.std.specs.Prelude.{◌≡◌, ◌≢◌, ℕ, ◌^◌, ◌<◌, ◌≤◌, ◌⊎◌, ◌&&◌, ◌||◌, not, nat_lt, Bool, true, false, List, length, Result, Ok, Err}
+use Rattle.std.specs.IoError.{error_kind}
+use Rattle.std.specs.declared.io.Error.{Error}
+use Rattle.std.specs.declared.io.ErrorKind.{ErrorKind}
+use Rattle.perfdata_base.specs.Raw.{bytes_of}
+use Rattle.perfdata_base.specs.Endian.{number_in}
+use Rattle.perfdata_base.specs.ParseInfo.{is_set}
+use Rattle.perfdata_base.specs.declared.event.RawEventRecord.{RawEventRecord}
+use Rattle.perfdata_events.specs.Format.{spells, fails, IsTruncated}
+use Rattle.perfdata_events.specs.EventFormat.{trailing_size, before_trailing}
+use Rattle.perfdata_events.specs.Mmap.{mmap, mapping_of}
+use Rattle.perfdata_events.specs.Lost.{lost}
+use Rattle.perfdata_events.specs.Comm.{comm, named_task_of}
+use Rattle.perfdata_events.specs.ForkOrExit.{fork_or_exit}
+use Rattle.perfdata_events.specs.Throttle.{throttle}
+use Rattle.perfdata_events.specs.Read.{read, task_values_of}
+use Rattle.perfdata_events.specs.Mmap2.{mmap2, mapping2_of}
+use Rattle.perfdata_events.specs.Aux.{aux}
+use Rattle.perfdata_events.specs.ItraceStart.{itrace_start}
+use Rattle.perfdata_events.specs.LostSamples.{lost_samples}
+use Rattle.perfdata_events.specs.ContextSwitch.{switch, switch_cpu_wide}
+use Rattle.perfdata_events.specs.Namespaces.{namespaces, namespaces_of}
+use Rattle.perfdata_events.specs.Ksymbol.{ksymbol, symbol_of}
+use Rattle.perfdata_events.specs.BpfEvent.{bpf_event, bpf_event_of}
+use Rattle.perfdata_events.specs.Cgroup.{cgroup, cgroup_of}
+use Rattle.perfdata_events.specs.TextPoke.{text_poke, poke_of}
+use Rattle.perfdata_events.specs.AuxOutputHwId.{aux_output_hw_id}
+use Rattle.perfdata_events.specs.Sample.{sample, sample_of}
+use Rattle.perfdata_events.specs.declared.format.EventFormat.{EventFormat}
+use Rattle.perfdata_events.specs.declared.event.EventRecord.{EventRecord}
+use Rattle.perfdata_events.specs.declared.event.EventRecord.TheVariants.{Mmap, Lost, Comm, Exit, Throttle, Unthrottle, Fork, Read, Mmap2, Aux, ItraceStart, LostSamples, ContextSwitch, Namespaces, Ksymbol, BpfEvent, Cgroup, TextPoke, AuxOutputHwId, Sample, Raw}
+
+-- The offset of each field of a sample is known: no bit of the sample format from 25 on is set, none of the read format from 5 on
+-- where counter values are selected (bit 4), and none of the branch sample type from 20 on where a branch stack is (bit 11).
+abbrev pub has_known_fields : EventFormat → Bool
+has_known_fields format = nat_lt format.sample_format (2 ^ 25)
+    && ((not (is_set format.sample_format 4) || nat_lt format.read_format (2 ^ 5))
+    && (not (is_set format.sample_format 11) || nat_lt format.branch_sample_type (2 ^ 20)))
+
+module _ (format : EventFormat) (raw : RawEventRecord) where
+  abbrev pub number : ℕ → List ℕ → ℕ
+  number = number_in format.endian
+
+  abbrev pub kind_of : ℕ
+  kind_of = raw.record_type.0
+
+  -- The bytes before the sample_id fields start with the fields of an event that isn't a sample, and these bytes follow.
+  abbrev pub IsEvent : List ℕ → EventRecord → List ℕ → Type 0
+  IsEvent xs (Mmap v) rest = (kind_of ≡ 1) × mmap number xs (spells (mapping_of v) rest)
+  IsEvent xs (Lost v) rest = (kind_of ≡ 2) × lost number xs (spells v rest)
+  IsEvent xs (Comm v) rest = (kind_of ≡ 3) × comm number raw.misc xs (spells (named_task_of v) rest)
+  IsEvent xs (Exit v) rest = (kind_of ≡ 4) × fork_or_exit number xs (spells v rest)
+  IsEvent xs (Throttle v) rest = (kind_of ≡ 5) × throttle number xs (spells v rest)
+  IsEvent xs (Unthrottle v) rest = (kind_of ≡ 6) × throttle number xs (spells v rest)
+  IsEvent xs (Fork v) rest = (kind_of ≡ 7) × fork_or_exit number xs (spells v rest)
+  IsEvent xs (Read v) rest = (kind_of ≡ 8) × read number format.read_format xs (spells (task_values_of v) rest)
+  IsEvent xs (Mmap2 v) rest = (kind_of ≡ 10) × mmap2 number (is_set raw.misc 14) xs (spells (mapping2_of v) rest)
+  IsEvent xs (Aux v) rest = (kind_of ≡ 11) × aux number xs (spells v rest)
+  IsEvent xs (ItraceStart v) rest = (kind_of ≡ 12) × itrace_start number xs (spells v rest)
+  IsEvent xs (LostSamples v) rest = (kind_of ≡ 13) × lost_samples number xs (spells v rest)
+  IsEvent xs (ContextSwitch v) rest = ((kind_of ≡ 14) × switch raw.misc xs (spells v rest)) ⊎ ((kind_of ≡ 15) × switch_cpu_wide raw.misc number xs (spells v rest))
+  IsEvent xs (Namespaces v) rest = (kind_of ≡ 16) × namespaces number xs (spells (namespaces_of v) rest)
+  IsEvent xs (Ksymbol v) rest = (kind_of ≡ 17) × ksymbol number xs (spells (symbol_of v) rest)
+  IsEvent xs (BpfEvent v) rest = (kind_of ≡ 18) × bpf_event number xs (spells (bpf_event_of v) rest)
+  IsEvent xs (Cgroup v) rest = (kind_of ≡ 19) × cgroup number xs (spells (cgroup_of v) rest)
+  IsEvent xs (TextPoke v) rest = (kind_of ≡ 20) × text_poke number xs (spells (poke_of v) rest)
+  IsEvent xs (AuxOutputHwId v) rest = (kind_of ≡ 21) × aux_output_hw_id number xs (spells v rest)
+  IsEvent xs (Sample v) rest = ⊥
+  IsEvent xs (Raw v) rest = ⊥
+
+  -- The first error of the fields of a record of type 1 to 7.
+  abbrev pub FailsTo7 : List ℕ → ErrorKind → Type 0
+  FailsTo7 xs kind =
+      ((kind_of ≡ 1) × mmap number xs (fails kind))
+      ⊎ (((kind_of ≡ 2) × lost number xs (fails kind))
+      ⊎ (((kind_of ≡ 3) × comm number raw.misc xs (fails kind))
+      ⊎ (((kind_of ≡ 4) × fork_or_exit number xs (fails kind))
+      ⊎ (((kind_of ≡ 5) × throttle number xs (fails kind))
+      ⊎ (((kind_of ≡ 6) × throttle number xs (fails kind))
+      ⊎ (((kind_of ≡ 7) × fork_or_exit number xs (fails kind))))))))
+
+  -- The first error of the fields of a record of type 8 or 10 to 15.
+  abbrev pub FailsTo15 : List ℕ → ErrorKind → Type 0
+  FailsTo15 xs kind =
+      ((kind_of ≡ 8) × read number format.read_format xs (fails kind))
+      ⊎ (((kind_of ≡ 10) × mmap2 number (is_set raw.misc 14) xs (fails kind))
+      ⊎ (((kind_of ≡ 11) × aux number xs (fails kind))
+      ⊎ (((kind_of ≡ 12) × itrace_start number xs (fails kind))
+      ⊎ (((kind_of ≡ 13) × lost_samples number xs (fails kind))
+      ⊎ (((kind_of ≡ 14) × switch raw.misc xs (fails kind))
+      ⊎ (((kind_of ≡ 15) × switch_cpu_wide raw.misc number xs (fails kind))))))))
+
+  -- The first error of the fields of a record of type 16 to 21.
+  abbrev pub FailsTo21 : List ℕ → ErrorKind → Type 0
+  FailsTo21 xs kind =
+      ((kind_of ≡ 16) × namespaces number xs (fails kind))
+      ⊎ (((kind_of ≡ 17) × ksymbol number xs (fails kind))
+      ⊎ (((kind_of ≡ 18) × bpf_event number xs (fails kind))
+      ⊎ (((kind_of ≡ 19) × cgroup number xs (fails kind))
+      ⊎ (((kind_of ≡ 20) × text_poke number xs (fails kind))
+      ⊎ (((kind_of ≡ 21) × aux_output_hw_id number xs (fails kind)))))))
+
+  abbrev pub EventFails : List ℕ → ErrorKind → Type 0
+  EventFails xs kind = FailsTo7 xs kind ⊎ (FailsTo15 xs kind ⊎ FailsTo21 xs kind)
+
+  abbrev pub DecodesEvent : List ℕ → Result EventRecord Error → List ℕ → Type 0
+  DecodesEvent xs (Ok event) rest = IsEvent xs event rest
+  DecodesEvent xs (Err e) rest = EventFails xs (error_kind e)
+
+  -- The sample_id fields are complete, and the bytes before them are the fields of the event and some padding.
+  pub record IsSplit (event : EventRecord) : Type 0 where
+    pub enough : trailing_size format ≤ length (bytes_of raw.body)
+    pub padding : List ℕ
+    pub event_is : IsEvent (before_trailing format (bytes_of raw.body)) event padding
+
+  -- The body is the fields of the sample and some padding.
+  pub record IsSample (event : List ℕ → Type 0) : Type 0 where
+    pub is_type : kind_of ≡ 9
+    pub known : has_known_fields format ≡ true
+    pub padding : List ℕ
+    pub event_is : event padding
+
+  -- The type isn't parsed, or it is that of samples and the offset of a field isn't known.
+  abbrev pub IsUnparsed : Type 0
+  IsUnparsed = (kind_of ≡ 0) ⊎ ((21 < kind_of) ⊎ ((kind_of ≡ 9) × (has_known_fields format ≡ false)))
+
+  -- The parsed form of the record.
+  abbrev pub IsParsed : EventRecord → Type 0
+  IsParsed (Sample v) = IsSample (λ padding. sample number format (bytes_of raw.body) (spells (sample_of v) padding))
+  IsParsed (Raw v) = (v ≡ raw) × IsUnparsed
+  IsParsed (Mmap v) = IsSplit (Mmap v)
+  IsParsed (Lost v) = IsSplit (Lost v)
+  IsParsed (Comm v) = IsSplit (Comm v)
+  IsParsed (Exit v) = IsSplit (Exit v)
+  IsParsed (Throttle v) = IsSplit (Throttle v)
+  IsParsed (Unthrottle v) = IsSplit (Unthrottle v)
+  IsParsed (Fork v) = IsSplit (Fork v)
+  IsParsed (Read v) = IsSplit (Read v)
+  IsParsed (Mmap2 v) = IsSplit (Mmap2 v)
+  IsParsed (Aux v) = IsSplit (Aux v)
+  IsParsed (ItraceStart v) = IsSplit (ItraceStart v)
+  IsParsed (LostSamples v) = IsSplit (LostSamples v)
+  IsParsed (ContextSwitch v) = IsSplit (ContextSwitch v)
+  IsParsed (Namespaces v) = IsSplit (Namespaces v)
+  IsParsed (Ksymbol v) = IsSplit (Ksymbol v)
+  IsParsed (BpfEvent v) = IsSplit (BpfEvent v)
+  IsParsed (Cgroup v) = IsSplit (Cgroup v)
+  IsParsed (TextPoke v) = IsSplit (TextPoke v)
+  IsParsed (AuxOutputHwId v) = IsSplit (AuxOutputHwId v)
+
+  -- The sample_id fields are truncated, or they are complete and there is an error before them.
+  abbrev pub SplitFails : ErrorKind → Type 0
+  SplitFails kind = IsTruncated (trailing_size format) (bytes_of raw.body) kind
+      ⊎ ((trailing_size format ≤ length (bytes_of raw.body)) × EventFails (before_trailing format (bytes_of raw.body)) kind)
+
+  -- The first error of the record.
+  abbrev pub ParseFails : ErrorKind → Type 0
+  ParseFails kind =
+      ((kind_of ≡ 9) × (has_known_fields format ≡ true) × sample number format (bytes_of raw.body) (fails kind))
+      ⊎ ((1 ≤ kind_of) × (kind_of ≤ 21) × (kind_of ≢ 9) × SplitFails kind)

@@ -1,0 +1,44 @@
+-- What the bodies of one attribute's records hold, and where the fields of a record end.
+use Rattle.std.specs.Prelude.{◌≡◌, ℕ, ◌-◌, ◌≤◌, List, [], ◌∷◌, length, take, drop, Result, Ok, Err, if◌then◌else◌}
+use Rattle.std.specs.IoError.{error_kind}
+use Rattle.std.specs.declared.io.Error.{Error}
+use Rattle.perfdata_base.specs.Raw.{bytes_of}
+use Rattle.perfdata_base.specs.ParseInfo.{is_set}
+use Rattle.perfdata_base.specs.declared.attr.PerfEventAttr.{PerfEventAttr}
+use Rattle.perfdata_base.specs.declared.raw.Endianness.{Endianness}
+use Rattle.perfdata_base.specs.declared.raw.RawData.{RawData}
+use Rattle.perfdata_events.specs.Format.{IsTruncated}
+use Rattle.perfdata_events.specs.Words.{words_size}
+use Rattle.perfdata_events.specs.declared.format.EventFormat.{EventFormat}
+
+-- The format of an attribute's records in a byte order.
+abbrev pub event_format_of : PerfEventAttr → Endianness → EventFormat
+event_format_of attr order = record {
+  endian = order;
+  sample_format = attr.sample_format.0;
+  read_format = attr.read_format;
+  branch_sample_type = attr.branch_sample_type;
+  sample_regs_user = attr.sample_regs_user;
+  sample_regs_intr = attr.sample_regs_intr;
+  sample_id_all = is_set attr.flags.0 18;
+}
+
+-- The size of the sample_id fields at the end of a record that isn't a sample, in bytes.
+abbrev pub trailing_size : EventFormat → ℕ
+trailing_size format = if format.sample_id_all then words_size format.sample_format (1 ∷ 2 ∷ 6 ∷ 9 ∷ 7 ∷ 16 ∷ []) else 0
+
+-- The bytes before and after the start of the sample_id fields.
+abbrev pub before_trailing : EventFormat → List ℕ → List ℕ
+before_trailing format body = take (length body - trailing_size format) body
+
+abbrev pub trailing : EventFormat → List ℕ → List ℕ
+trailing format body = drop (length body - trailing_size format) body
+
+pub record SplitsAtTrailing (format : EventFormat) (body : List ℕ) (parts : RawData × RawData) : Type 0 where
+  pub enough : trailing_size format ≤ length body
+  pub fields_are : bytes_of parts.0 ≡ before_trailing format body
+  pub trailing_is : bytes_of parts.1 ≡ trailing format body
+
+abbrev pub SplitsTrailing : EventFormat → List ℕ → Result (RawData × RawData) Error → Type 0
+SplitsTrailing format body (Ok parts) = SplitsAtTrailing format body parts
+SplitsTrailing format body (Err e) = IsTruncated (trailing_size format) body (error_kind e)

@@ -1,0 +1,86 @@
+//! Records on the aux area and its traces.
+ghost use Rattle.perfdata_base.specs.Raw.{bytes_of};
+ghost use Rattle.perfdata_base.specs.Endian.{number_in};
+ghost use Rattle.perfdata_events.specs.Format.{Decodes};
+ghost use Rattle.perfdata_events.specs.Aux.{aux};
+ghost use Rattle.perfdata_events.specs.ItraceStart.{itrace_start};
+ghost use Rattle.perfdata_events.specs.AuxOutputHwId.{aux_output_hw_id};
+
+use crate::numbers::{i32_at, u64_at};
+use perfdata_base::raw::{Endianness, RawData};
+use std::io::Result;
+
+/// New data in the aux area (`PERF_RECORD_AUX`).
+#[derive(Clone, Copy, Debug, PartialEq, Eq)]
+pub struct AuxRecord {
+    /// The offset of the data in the aux area, in bytes.
+    pub offset: u64,
+    /// The size of the data in bytes.
+    pub size: u64,
+    /// The flags of the data.
+    pub flags: u64,
+}
+
+/// The start of an instruction trace (`PERF_RECORD_ITRACE_START`).
+#[derive(Clone, Copy, Debug, PartialEq, Eq)]
+pub struct ItraceStartRecord {
+    /// The process id.
+    pub pid: i32,
+    /// The thread id.
+    pub tid: i32,
+}
+
+/// The hardware id of an event whose data is in the aux area (`PERF_RECORD_AUX_OUTPUT_HW_ID`).
+#[derive(Clone, Copy, Debug, PartialEq, Eq)]
+pub struct AuxOutputHwIdRecord {
+    /// The hardware id.
+    pub hw_id: u64,
+}
+
+impl AuxRecord {
+    /// Parses the fields at the start of `fields`, and removes them.
+    ///
+    /// Fails with an `UnexpectedEof` error if they are truncated.
+    pub fn parse(endian: Endianness, fields: &mut RawData<'_>) -> Result<AuxRecord>
+        ensures { Decodes (aux (number_in endian)) (λ v. v) (bytes_of fields.old) result (bytes_of fields.new) }
+    {
+        let mut bytes = [0u8; 24];
+        fields.read_exact(&mut bytes)?;
+        Ok(AuxRecord {
+            offset: u64_at(endian, &bytes, 0),
+            size: u64_at(endian, &bytes, 8),
+            flags: u64_at(endian, &bytes, 16),
+        })
+    }
+}
+
+impl ItraceStartRecord {
+    /// Parses the fields at the start of `fields`, and removes them.
+    ///
+    /// Fails with an `UnexpectedEof` error if they are truncated.
+    pub fn parse(endian: Endianness, fields: &mut RawData<'_>) -> Result<ItraceStartRecord>
+        ensures { Decodes (itrace_start (number_in endian)) (λ v. v) (bytes_of fields.old) result (bytes_of fields.new) }
+    {
+        let mut bytes = [0u8; 8];
+        fields.read_exact(&mut bytes)?;
+        Ok(ItraceStartRecord {
+            pid: i32_at(endian, &bytes, 0),
+            tid: i32_at(endian, &bytes, 4),
+        })
+    }
+}
+
+impl AuxOutputHwIdRecord {
+    /// Parses the fields at the start of `fields`, and removes them.
+    ///
+    /// Fails with an `UnexpectedEof` error if they are truncated.
+    pub fn parse(endian: Endianness, fields: &mut RawData<'_>) -> Result<AuxOutputHwIdRecord>
+        ensures { Decodes (aux_output_hw_id (number_in endian)) (λ v. v) (bytes_of fields.old) result (bytes_of fields.new) }
+    {
+        let mut bytes = [0u8; 8];
+        fields.read_exact(&mut bytes)?;
+        Ok(AuxOutputHwIdRecord {
+            hw_id: u64_at(endian, &bytes, 0),
+        })
+    }
+}

@@ -1,0 +1,316 @@
+//! The parsed bodies of kernel records.
+ghost use Rattle.std.specs.Prelude.{◌≡◌, ◌<◌, ◌≤◌, ◌≢◌, ◌||◌, ◌&&◌, nat_lt, not, IfOk, IfErr};
+ghost use Rattle.std.specs.IoError.{error_kind};
+ghost use Rattle.perfdata_base.specs.Raw.{bytes_of};
+
+use crate::aux_area::{AuxOutputHwIdRecord, AuxRecord, ItraceStartRecord};
+use crate::context_switch::ContextSwitchRecord;
+use crate::format::EventFormat;
+use crate::kernel::{BpfEventRecord, KsymbolRecord, TextPokeRecord};
+use crate::lost::{LostRecord, LostSamplesRecord, ThrottleRecord};
+use crate::mmap::MmapRecord;
+use crate::mmap2::Mmap2Record;
+use crate::numbers::has_bits;
+use crate::read_values::ReadRecord;
+use crate::sample::SampleRecord;
+use crate::task::{CgroupRecord, CommOrExecRecord, ForkOrExitRecord, NamespacesRecord};
+use perfdata_base::event::{RawEventRecord, RecordType};
+use perfdata_base::raw::RawData;
+use std::io::Result;
+
+const PERF_RECORD_MMAP: u32 = 1;
+
+const PERF_RECORD_LOST: u32 = 2;
+
+const PERF_RECORD_COMM: u32 = 3;
+
+const PERF_RECORD_EXIT: u32 = 4;
+
+const PERF_RECORD_THROTTLE: u32 = 5;
+
+const PERF_RECORD_UNTHROTTLE: u32 = 6;
+
+const PERF_RECORD_FORK: u32 = 7;
+
+const PERF_RECORD_READ: u32 = 8;
+
+const PERF_RECORD_MMAP2: u32 = 10;
+
+const PERF_RECORD_AUX: u32 = 11;
+
+const PERF_RECORD_ITRACE_START: u32 = 12;
+
+const PERF_RECORD_LOST_SAMPLES: u32 = 13;
+
+const PERF_RECORD_SWITCH: u32 = 14;
+
+const PERF_RECORD_SWITCH_CPU_WIDE: u32 = 15;
+
+const PERF_RECORD_NAMESPACES: u32 = 16;
+
+const PERF_RECORD_KSYMBOL: u32 = 17;
+
+const PERF_RECORD_BPF_EVENT: u32 = 18;
+
+const PERF_RECORD_CGROUP: u32 = 19;
+
+const PERF_RECORD_TEXT_POKE: u32 = 20;
+
+const PERF_RECORD_AUX_OUTPUT_HW_ID: u32 = 21;
+
+/// The highest type that is parsed.
+const LAST_TYPE: u32 = PERF_RECORD_AUX_OUTPUT_HW_ID;
+
+/// A kernel record, parsed by its type.
+#[derive(Clone, Copy, Debug)]
+pub enum EventRecord<'a> {
+    /// An executable mapping (1).
+    Mmap(MmapRecord<'a>),
+    /// Dropped records (2).
+    Lost(LostRecord),
+    /// The name of a task (3).
+    Comm(CommOrExecRecord<'a>),
+    /// The end of a task (4).
+    Exit(ForkOrExitRecord),
+    /// The kernel limits the samples of an event (5).
+    Throttle(ThrottleRecord),
+    /// The kernel no longer limits the samples of an event (6).
+    Unthrottle(ThrottleRecord),
+    /// A new task (7).
+    Fork(ForkOrExitRecord),
+    /// The values of counters when a task ended (8).
+    Read(ReadRecord<'a>),
+    /// A sample (9).
+    Sample(SampleRecord<'a>),
+    /// An executable mapping with the identity of its file (10).
+    Mmap2(Mmap2Record<'a>),
+    /// New data in the aux area (11).
+    Aux(AuxRecord),
+    /// The start of an instruction trace (12).
+    ItraceStart(ItraceStartRecord),
+    /// Dropped samples (13).
+    LostSamples(LostSamplesRecord),
+    /// A switch of the recorded task (14, 15).
+    ContextSwitch(ContextSwitchRecord),
+    /// The namespaces of a task (16).
+    Namespaces(NamespacesRecord<'a>),
+    /// A symbol of the kernel (17).
+    Ksymbol(KsymbolRecord<'a>),
+    /// An event of a BPF program (18).
+    BpfEvent(BpfEventRecord<'a>),
+    /// The path of a control group (19).
+    Cgroup(CgroupRecord<'a>),
+    /// Changed code of the kernel (20).
+    TextPoke(TextPokeRecord<'a>),
+    /// The hardware id of an event (21).
+    AuxOutputHwId(AuxOutputHwIdRecord),
+    /// A record of any other type, or a sample with fields that aren't known.
+    Raw(RawEventRecord<'a>),
+}
+
+// The same record.
+fn copy_of<'a>(raw: &RawEventRecord<'a>) -> RawEventRecord<'a>
+    ensures { result ≡ raw.now }
+{
+    RawEventRecord {
+        record_type: raw.record_type,
+        misc: raw.misc,
+        body: raw.body,
+        parse_info: raw.parse_info,
+    }
+}
+
+impl EventFormat {
+    ghost use Rattle.perfdata_events.specs.Event.{DecodesEvent, IsParsed, ParseFails, has_known_fields};
+
+    // Parses the fields of a record of type 1 to 7.
+    fn parse_types_to_7<'a>(
+        &self,
+        raw: &RawEventRecord<'a>,
+        fields: &mut RawData<'a>,
+    ) -> Result<EventRecord<'a>>
+        requires from { 1 ≤ raw.now.record_type.0 }
+        requires to { raw.now.record_type.0 ≤ 7 }
+        ensures { DecodesEvent self.now raw.now (bytes_of fields.old) result (bytes_of fields.new) }
+    {
+        let endian = self.endian;
+        let misc = raw.misc;
+        match raw.record_type.0 {
+            PERF_RECORD_MMAP => {
+                let mmap = MmapRecord::parse(endian, fields)?;
+                Ok(EventRecord::Mmap(mmap))
+            }
+            PERF_RECORD_LOST => {
+                let lost = LostRecord::parse(endian, fields)?;
+                Ok(EventRecord::Lost(lost))
+            }
+            PERF_RECORD_COMM => {
+                let comm = CommOrExecRecord::parse(endian, misc, fields)?;
+                Ok(EventRecord::Comm(comm))
+            }
+            PERF_RECORD_EXIT => {
+                let exit = ForkOrExitRecord::parse(endian, fields)?;
+                Ok(EventRecord::Exit(exit))
+            }
+            PERF_RECORD_THROTTLE => {
+                let throttle = ThrottleRecord::parse(endian, fields)?;
+                Ok(EventRecord::Throttle(throttle))
+            }
+            PERF_RECORD_UNTHROTTLE => {
+                let unthrottle = ThrottleRecord::parse(endian, fields)?;
+                Ok(EventRecord::Unthrottle(unthrottle))
+            }
+            PERF_RECORD_FORK => {
+                let fork = ForkOrExitRecord::parse(endian, fields)?;
+                Ok(EventRecord::Fork(fork))
+            }
+            _ => Ok(EventRecord::Raw(copy_of(raw))),
+        }
+    }
+
+    // Parses the fields of a record of type 8 or 10 to 15.
+    fn parse_types_to_15<'a>(
+        &self,
+        raw: &RawEventRecord<'a>,
+        fields: &mut RawData<'a>,
+    ) -> Result<EventRecord<'a>>
+        requires from { 8 ≤ raw.now.record_type.0 }
+        requires to { raw.now.record_type.0 ≤ 15 }
+        requires no_sample { raw.now.record_type.0 ≢ 9 }
+        ensures { DecodesEvent self.now raw.now (bytes_of fields.old) result (bytes_of fields.new) }
+    {
+        let endian = self.endian;
+        let misc = raw.misc;
+        match raw.record_type.0 {
+            PERF_RECORD_READ => {
+                let read = ReadRecord::parse(endian, self.read_format, fields)?;
+                Ok(EventRecord::Read(read))
+            }
+            PERF_RECORD_MMAP2 => {
+                let mmap2 = Mmap2Record::parse(endian, misc, fields)?;
+                Ok(EventRecord::Mmap2(mmap2))
+            }
+            PERF_RECORD_AUX => {
+                let aux = AuxRecord::parse(endian, fields)?;
+                Ok(EventRecord::Aux(aux))
+            }
+            PERF_RECORD_ITRACE_START => {
+                let start = ItraceStartRecord::parse(endian, fields)?;
+                Ok(EventRecord::ItraceStart(start))
+            }
+            PERF_RECORD_LOST_SAMPLES => {
+                let lost_samples = LostSamplesRecord::parse(endian, fields)?;
+                Ok(EventRecord::LostSamples(lost_samples))
+            }
+            PERF_RECORD_SWITCH => {
+                let switch = ContextSwitchRecord::parse(misc, fields)?;
+                Ok(EventRecord::ContextSwitch(switch))
+            }
+            PERF_RECORD_SWITCH_CPU_WIDE => {
+                let wide = ContextSwitchRecord::parse_cpu_wide(endian, misc, fields)?;
+                Ok(EventRecord::ContextSwitch(wide))
+            }
+            _ => Ok(EventRecord::Raw(copy_of(raw))),
+        }
+    }
+
+    // Parses the fields of a record of type 16 to 21.
+    fn parse_types_to_21<'a>(
+        &self,
+        raw: &RawEventRecord<'a>,
+        fields: &mut RawData<'a>,
+    ) -> Result<EventRecord<'a>>
+        requires from { 16 ≤ raw.now.record_type.0 }
+        requires to { raw.now.record_type.0 ≤ 21 }
+        ensures { DecodesEvent self.now raw.now (bytes_of fields.old) result (bytes_of fields.new) }
+    {
+        let endian = self.endian;
+        let misc = raw.misc;
+        match raw.record_type.0 {
+            PERF_RECORD_NAMESPACES => {
+                let namespaces = NamespacesRecord::parse(endian, fields)?;
+                Ok(EventRecord::Namespaces(namespaces))
+            }
+            PERF_RECORD_KSYMBOL => {
+                let ksymbol = KsymbolRecord::parse(endian, fields)?;
+                Ok(EventRecord::Ksymbol(ksymbol))
+            }
+            PERF_RECORD_BPF_EVENT => {
+                let bpf_event = BpfEventRecord::parse(endian, fields)?;
+                Ok(EventRecord::BpfEvent(bpf_event))
+            }
+            PERF_RECORD_CGROUP => {
+                let cgroup = CgroupRecord::parse(endian, fields)?;
+                Ok(EventRecord::Cgroup(cgroup))
+            }
+            PERF_RECORD_TEXT_POKE => {
+                let poke = TextPokeRecord::parse(endian, fields)?;
+                Ok(EventRecord::TextPoke(poke))
+            }
+            PERF_RECORD_AUX_OUTPUT_HW_ID => {
+                let hw_id = AuxOutputHwIdRecord::parse(endian, fields)?;
+                Ok(EventRecord::AuxOutputHwId(hw_id))
+            }
+            _ => Ok(EventRecord::Raw(copy_of(raw))),
+        }
+    }
+
+    // Parses the fields of a record that isn't a sample.
+    fn parse_fields<'a>(
+        &self,
+        raw: &RawEventRecord<'a>,
+        fields: &mut RawData<'a>,
+    ) -> Result<EventRecord<'a>>
+        requires from { 1 ≤ raw.now.record_type.0 }
+        requires to { raw.now.record_type.0 ≤ 21 }
+        requires no_sample { raw.now.record_type.0 ≢ 9 }
+        ensures { DecodesEvent self.now raw.now (bytes_of fields.old) result (bytes_of fields.new) }
+    {
+        if raw.record_type.0 < PERF_RECORD_READ {
+            self.parse_types_to_7(raw, fields)
+        } else if raw.record_type.0 < PERF_RECORD_NAMESPACES {
+            self.parse_types_to_15(raw, fields)
+        } else {
+            self.parse_types_to_21(raw, fields)
+        }
+    }
+
+    // Whether the offset of each field of a sample is known.
+    fn has_known_fields(&self) -> bool
+        ensures { result ≡ has_known_fields self.now }
+    {
+        self.sample_format < 1 << 25
+            && (!has_bits(self.sample_format, 1 << 4) || self.read_format < 1 << 5)
+            && (!has_bits(self.sample_format, 1 << 11) || self.branch_sample_type < 1 << 20)
+    }
+
+    /// Parses the body of a record by its type. Nothing is allocated; what has no fixed size is borrowed from the body.
+    ///
+    /// A record of a type that isn't parsed remains raw. So does a sample if its attribute selects a field whose offset
+    /// isn't known: bits of the sample format from 25 on, of the read format from 5 on, and of the branch sample type
+    /// from 20 on, the last two only where they apply.
+    ///
+    /// Fails with an `UnexpectedEof` error if the fields are truncated, and with an `InvalidData` error if a text has no
+    /// NUL before the sample_id fields or a build id has more than 20 bytes. The first error counts.
+    pub fn parse<'a>(&self, raw: &RawEventRecord<'a>) -> Result<EventRecord<'a>>
+        ensures value { IfOk result (λ event. IsParsed self.now raw.now event) }
+        ensures error { IfErr result (λ error. ParseFails self.now raw.now (error_kind error)) }
+    {
+        let record_type = raw.record_type.0;
+        if record_type == RecordType::SAMPLE.0 {
+            if !self.has_known_fields() {
+                return Ok(EventRecord::Raw(copy_of(raw)));
+            }
+            let mut body = raw.body;
+            let sample = SampleRecord::parse(self, &mut body)?;
+            return Ok(EventRecord::Sample(sample));
+        }
+        if record_type == 0 || record_type > LAST_TYPE {
+            return Ok(EventRecord::Raw(copy_of(raw)));
+        }
+        let (fields, _) = self.split_trailing(raw.body)?;
+        let mut rest = fields;
+        let event = self.parse_fields(raw, &mut rest)?;
+        Ok(event)
+    }
+}

@@ -1,0 +1,94 @@
+//! What the bodies of one attribute's records hold.
+ghost use Rattle.std.specs.Prelude.{◌≡◌, [], ◌∷◌};
+ghost use Rattle.perfdata_base.specs.Raw.{bytes_of};
+ghost use Rattle.perfdata_events.specs.Words.{word_size, words_size};
+
+use crate::numbers::has_bits;
+use perfdata_base::attr::PerfEventAttr;
+use perfdata_base::raw::{Endianness, RawData};
+use perfdata_base::source::unexpected_eof;
+use std::io::Result;
+
+/// The bit of an attribute's flags for sample_id fields in all records.
+const SAMPLE_ID_ALL: u64 = 1 << 18;
+
+/// What the bodies of one attribute's records hold.
+#[derive(Clone, Copy, Debug)]
+pub struct EventFormat {
+    /// The byte order of numbers.
+    pub endian: Endianness,
+    /// The fields of a sample, as bits.
+    pub sample_format: u64,
+    /// The fields of counter values, as bits.
+    pub read_format: u64,
+    /// The fields of a branch stack, as bits.
+    pub branch_sample_type: u64,
+    /// The user registers of a sample, as bits.
+    pub sample_regs_user: u64,
+    /// The registers at the interrupt of a sample, as bits.
+    pub sample_regs_intr: u64,
+    /// Whether records that aren't samples end with sample_id fields.
+    pub sample_id_all: bool,
+}
+
+// The size of an optional word in bytes.
+fn word_size(present: bool) -> usize
+    ensures { result ≡ word_size present }
+{
+    if present { 8 } else { 0 }
+}
+
+// The size of the sample_id fields of a sample format in bytes.
+fn sample_id_size(format: u64) -> usize
+    ensures { result ≡ words_size format (1 ∷ 2 ∷ 6 ∷ 9 ∷ 7 ∷ 16 ∷ []) }
+{
+    let task = word_size(has_bits(format, 1 << 1));
+    let time = word_size(has_bits(format, 1 << 2));
+    let id = word_size(has_bits(format, 1 << 6));
+    let stream_id = word_size(has_bits(format, 1 << 9));
+    let cpu = word_size(has_bits(format, 1 << 7));
+    let identifier = word_size(has_bits(format, 1 << 16));
+    task + time + id + stream_id + cpu + identifier
+}
+
+impl EventFormat {
+    ghost use Rattle.perfdata_events.specs.EventFormat.{event_format_of, trailing_size, SplitsTrailing};
+
+    /// Returns the format of the records of an attribute, with numbers in the byte order `endian`.
+    pub fn new(attr: &PerfEventAttr, endian: Endianness) -> EventFormat
+        ensures { result ≡ event_format_of attr.now endian }
+    {
+        EventFormat {
+            endian,
+            sample_format: attr.sample_format.0,
+            read_format: attr.read_format,
+            branch_sample_type: attr.branch_sample_type,
+            sample_regs_user: attr.sample_regs_user,
+            sample_regs_intr: attr.sample_regs_intr,
+            sample_id_all: has_bits(attr.flags.0, SAMPLE_ID_ALL),
+        }
+    }
+
+    // The size of the sample_id fields at the end of a record that isn't a sample, in bytes.
+    fn trailing_size(&self) -> usize
+        ensures { result ≡ trailing_size self.now }
+    {
+        if self.sample_id_all {
+            sample_id_size(self.sample_format)
+        } else {
+            0
+        }
+    }
+
+    // Splits the body of a record that isn't a sample into its fields with their padding, and its sample_id fields.
+    pub(crate) fn split_trailing<'a>(&self, body: RawData<'a>) -> Result<(RawData<'a>, RawData<'a>)>
+        ensures { SplitsTrailing self.now (bytes_of body.entry) result }
+    {
+        let Some(len) = body.len().checked_sub(self.trailing_size()) else {
+            return Err(unexpected_eof());
+        };
+        let mut trailing = body;
+        let fields = trailing.split_off_prefix(len)?;
+        Ok((fields, trailing))
+    }
+}

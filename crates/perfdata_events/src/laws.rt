@@ -1,0 +1,82 @@
+//! Laws on the definitions of formats.
+ghost use Rattle.std.specs.Prelude.{ℕ, List, Bool, ◌≡◌, ◌++◌, not, map, filter};
+ghost use Rattle.perfdata_events.specs.CallChain.{is_context_change, frames_of, last_context};
+ghost use Rattle.perfdata_events.specs.declared.call_chain.CallContext.{CallContext};
+ghost use Rattle.perfdata_events.specs.declared.call_chain.Frame.{Frame};
+ghost use Rattle.perfdata_events.specs.OneOutcome.{HasOneOutcome};
+ghost use Rattle.perfdata_events.specs.Prefix.{ConsumesPrefix};
+ghost use Rattle.perfdata_events.specs.Mmap.{mmap};
+ghost use Rattle.perfdata_events.specs.Lost.{lost};
+ghost use Rattle.perfdata_events.specs.Comm.{comm};
+ghost use Rattle.perfdata_events.specs.ForkOrExit.{fork_or_exit};
+ghost use Rattle.perfdata_events.specs.Throttle.{throttle};
+ghost use Rattle.perfdata_events.specs.Read.{read};
+ghost use Rattle.perfdata_events.specs.Mmap2.{mmap2};
+ghost use Rattle.perfdata_events.specs.Aux.{aux};
+ghost use Rattle.perfdata_events.specs.ItraceStart.{itrace_start};
+ghost use Rattle.perfdata_events.specs.LostSamples.{lost_samples};
+ghost use Rattle.perfdata_events.specs.ContextSwitch.{switch, switch_cpu_wide};
+ghost use Rattle.perfdata_events.specs.Namespaces.{namespaces};
+ghost use Rattle.perfdata_events.specs.Ksymbol.{ksymbol};
+ghost use Rattle.perfdata_events.specs.BpfEvent.{bpf_event};
+ghost use Rattle.perfdata_events.specs.Cgroup.{cgroup};
+ghost use Rattle.perfdata_events.specs.TextPoke.{text_poke};
+ghost use Rattle.perfdata_events.specs.AuxOutputHwId.{aux_output_hw_id};
+ghost use Rattle.perfdata_events.specs.Sample.{sample};
+ghost use Rattle.perfdata_events.specs.SampleId.{sample_id};
+ghost use Rattle.perfdata_events.specs.declared.format.EventFormat.{EventFormat};
+
+/// Bytes either start with exactly one value of a record's fields, which are followed by exactly one rest, or have exactly one
+/// first error. `number` parses a number of a given size, in either byte order.
+pub fn fields_have_one_outcome()
+    ensures mmap { (number : ℕ → List ℕ → ℕ) → HasOneOutcome (mmap number) }
+    ensures lost { (number : ℕ → List ℕ → ℕ) → HasOneOutcome (lost number) }
+    ensures comm { (number : ℕ → List ℕ → ℕ) (misc : ℕ) → HasOneOutcome (comm number misc) }
+    ensures fork_or_exit { (number : ℕ → List ℕ → ℕ) → HasOneOutcome (fork_or_exit number) }
+    ensures throttle { (number : ℕ → List ℕ → ℕ) → HasOneOutcome (throttle number) }
+    ensures read { (number : ℕ → List ℕ → ℕ) (read_format : ℕ) → HasOneOutcome (read number read_format) }
+    ensures mmap2 { (number : ℕ → List ℕ → ℕ) (is_build_id : Bool) → HasOneOutcome (mmap2 number is_build_id) }
+    ensures aux { (number : ℕ → List ℕ → ℕ) → HasOneOutcome (aux number) }
+    ensures itrace_start { (number : ℕ → List ℕ → ℕ) → HasOneOutcome (itrace_start number) }
+    ensures lost_samples { (number : ℕ → List ℕ → ℕ) → HasOneOutcome (lost_samples number) }
+    ensures switch { (misc : ℕ) → HasOneOutcome (switch misc) }
+    ensures switch_cpu_wide { (number : ℕ → List ℕ → ℕ) (misc : ℕ) → HasOneOutcome (switch_cpu_wide misc number) }
+    ensures namespaces { (number : ℕ → List ℕ → ℕ) → HasOneOutcome (namespaces number) }
+    ensures ksymbol { (number : ℕ → List ℕ → ℕ) → HasOneOutcome (ksymbol number) }
+    ensures bpf_event { (number : ℕ → List ℕ → ℕ) → HasOneOutcome (bpf_event number) }
+    ensures cgroup { (number : ℕ → List ℕ → ℕ) → HasOneOutcome (cgroup number) }
+    ensures text_poke { (number : ℕ → List ℕ → ℕ) → HasOneOutcome (text_poke number) }
+    ensures aux_output_hw_id { (number : ℕ → List ℕ → ℕ) → HasOneOutcome (aux_output_hw_id number) }
+    ensures sample { (number : ℕ → List ℕ → ℕ) (format : EventFormat) → HasOneOutcome (sample number format) }
+    ensures sample_id { (number : ℕ → List ℕ → ℕ) (sample_format : ℕ) → HasOneOutcome (sample_id number sample_format) }
+{}
+
+/// The bytes of a record's fields and the bytes after them are all the bytes, in order.
+pub fn fields_are_a_prefix()
+    ensures mmap { (number : ℕ → List ℕ → ℕ) → ConsumesPrefix (mmap number) }
+    ensures lost { (number : ℕ → List ℕ → ℕ) → ConsumesPrefix (lost number) }
+    ensures comm { (number : ℕ → List ℕ → ℕ) (misc : ℕ) → ConsumesPrefix (comm number misc) }
+    ensures fork_or_exit { (number : ℕ → List ℕ → ℕ) → ConsumesPrefix (fork_or_exit number) }
+    ensures throttle { (number : ℕ → List ℕ → ℕ) → ConsumesPrefix (throttle number) }
+    ensures read { (number : ℕ → List ℕ → ℕ) (read_format : ℕ) → ConsumesPrefix (read number read_format) }
+    ensures mmap2 { (number : ℕ → List ℕ → ℕ) (is_build_id : Bool) → ConsumesPrefix (mmap2 number is_build_id) }
+    ensures aux { (number : ℕ → List ℕ → ℕ) → ConsumesPrefix (aux number) }
+    ensures itrace_start { (number : ℕ → List ℕ → ℕ) → ConsumesPrefix (itrace_start number) }
+    ensures lost_samples { (number : ℕ → List ℕ → ℕ) → ConsumesPrefix (lost_samples number) }
+    ensures switch { (misc : ℕ) → ConsumesPrefix (switch misc) }
+    ensures switch_cpu_wide { (number : ℕ → List ℕ → ℕ) (misc : ℕ) → ConsumesPrefix (switch_cpu_wide misc number) }
+    ensures namespaces { (number : ℕ → List ℕ → ℕ) → ConsumesPrefix (namespaces number) }
+    ensures ksymbol { (number : ℕ → List ℕ → ℕ) → ConsumesPrefix (ksymbol number) }
+    ensures bpf_event { (number : ℕ → List ℕ → ℕ) → ConsumesPrefix (bpf_event number) }
+    ensures cgroup { (number : ℕ → List ℕ → ℕ) → ConsumesPrefix (cgroup number) }
+    ensures text_poke { (number : ℕ → List ℕ → ℕ) → ConsumesPrefix (text_poke number) }
+    ensures aux_output_hw_id { (number : ℕ → List ℕ → ℕ) → ConsumesPrefix (aux_output_hw_id number) }
+    ensures sample { (number : ℕ → List ℕ → ℕ) (format : EventFormat) → ConsumesPrefix (sample number format) }
+    ensures sample_id { (number : ℕ → List ℕ → ℕ) (sample_format : ℕ) → ConsumesPrefix (sample_id number sample_format) }
+{}
+
+/// The frames of a call chain are its values that change no context, in order, each with the last context before it.
+pub fn frames_are_values_in_context()
+    ensures addresses { (context : CallContext) (values : List ℕ) → map (λ (f : Frame). f.address) (frames_of context values) ≡ filter (λ v. not (is_context_change v)) values }
+    ensures contexts { (context : CallContext) (before later : List ℕ) → frames_of context (before ++ later) ≡ frames_of context before ++ frames_of (last_context context before) later }
+{}

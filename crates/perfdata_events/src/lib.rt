@@ -1,0 +1,27 @@
+//! The bodies of kernel records: what the fields of each type hold (`perf_event.h` of Linux), with nothing allocated.
+//!
+//! [`format::EventFormat`] describes the records of one attribute. Its `parse` parses a record by its type, and its
+//! `sample_id` returns who wrote the record, when and where.
+#![tactic(auto)]
+
+pub mod aux_area;
+pub mod call_chain;
+pub mod context_switch;
+pub mod event;
+pub mod format;
+pub mod kernel;
+pub mod laws;
+pub mod lost;
+pub mod mmap;
+pub mod mmap2;
+mod numbers;
+pub mod read_values;
+pub mod record_id;
+pub mod sample;
+pub mod sample_id;
+pub mod sample_parts;
+mod sample_words;
+pub mod task;
+mod text;
+pub mod u64s;
+mod words;

@@ -1,0 +1,50 @@
+//! Records on mappings.
+ghost use Rattle.perfdata_base.specs.Raw.{bytes_of};
+ghost use Rattle.perfdata_base.specs.Endian.{number_in};
+ghost use Rattle.perfdata_events.specs.Format.{Decodes};
+
+use crate::numbers::{i32_at, u64_at};
+use crate::text::read_text;
+use perfdata_base::raw::{Endianness, RawData};
+use std::io::Result;
+
+/// An executable mapping (`PERF_RECORD_MMAP`).
+#[derive(Clone, Copy, Debug, PartialEq, Eq)]
+pub struct MmapRecord<'a> {
+    /// The process id.
+    pub pid: i32,
+    /// The thread id.
+    pub tid: i32,
+    /// The start address.
+    pub address: u64,
+    /// The length in bytes.
+    pub length: u64,
+    /// The offset in the file, in bytes.
+    pub page_offset: u64,
+    /// The path of the file.
+    pub path: RawData<'a>,
+}
+
+impl<'a> MmapRecord<'a> {
+    ghost use Rattle.perfdata_events.specs.Mmap.{mmap, mapping_of};
+
+    /// Parses the fields at the start of `fields`, and removes them.
+    ///
+    /// Fails with an `UnexpectedEof` error if they are truncated, and with an `InvalidData` error if the path has no
+    /// NUL.
+    pub fn parse(endian: Endianness, fields: &mut RawData<'a>) -> Result<MmapRecord<'a>>
+        ensures { Decodes (mmap (number_in endian)) mapping_of (bytes_of fields.old) result (bytes_of fields.new) }
+    {
+        let mut bytes = [0u8; 32];
+        fields.read_exact(&mut bytes)?;
+        let path = read_text(fields)?;
+        Ok(MmapRecord {
+            pid: i32_at(endian, &bytes, 0),
+            tid: i32_at(endian, &bytes, 4),
+            address: u64_at(endian, &bytes, 8),
+            length: u64_at(endian, &bytes, 16),
+            page_offset: u64_at(endian, &bytes, 24),
+            path,
+        })
+    }
+}

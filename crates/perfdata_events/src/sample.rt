@@ -1,0 +1,234 @@
+//! Samples.
+ghost use Rattle.std.specs.Prelude.{◌≡◌, ◌||◌};
+ghost use Rattle.perfdata_base.specs.Raw.{bytes_of};
+ghost use Rattle.perfdata_base.specs.Endian.{number_in};
+ghost use Rattle.perfdata_base.specs.ParseInfo.{is_set};
+ghost use Rattle.perfdata_events.specs.Format.{Decodes};
+
+use crate::call_chain::CallChain;
+use crate::format::EventFormat;
+use crate::numbers::has_bits;
+use crate::read_values::ReadValues;
+use crate::sample_id::Task;
+use crate::sample_parts::{BranchStack, Registers, UserStack, read_aux_data_if, read_raw_data_if};
+use crate::sample_words::{DataWords, EventWords, OriginWords, PageWords};
+use crate::words::read_u64_if;
+use perfdata_base::raw::RawData;
+use std::io::Result;
+
+/// A sample of an event (`PERF_RECORD_SAMPLE`). A field is `None` if the attribute doesn't select it.
+#[derive(Clone, Copy, Debug)]
+pub struct SampleRecord<'a> {
+    /// The identifier of the event, at an offset that doesn't depend on the other fields.
+    pub identifier: Option<u64>,
+    /// The address of the instruction.
+    pub ip: Option<u64>,
+    /// The process and the thread.
+    pub task: Option<Task>,
+    /// The time.
+    pub timestamp: Option<u64>,
+    /// The address in memory.
+    pub address: Option<u64>,
+    /// The identifier of the event.
+    pub id: Option<u64>,
+    /// The identifier of the event itself, also if another task inherited it.
+    pub stream_id: Option<u64>,
+    /// The processor.
+    pub cpu: Option<u32>,
+    /// The number of events since the previous sample.
+    pub period: Option<u64>,
+    /// The values of the event's counters.
+    pub values: Option<ReadValues<'a>>,
+    /// The call chain.
+    pub call_chain: Option<CallChain<'a>>,
+    /// Raw data, as of a tracepoint.
+    pub raw: Option<RawData<'a>>,
+    /// The last branches.
+    pub branch_stack: Option<BranchStack<'a>>,
+    /// The registers of the program.
+    pub user_registers: Option<Registers<'a>>,
+    /// A copy of the start of the program's stack.
+    pub user_stack: Option<UserStack<'a>>,
+    /// The weight: the cost of the access, in the unit of the hardware.
+    pub weight: Option<u64>,
+    /// Where the data came from, as bits (`union perf_mem_data_src`).
+    pub data_source: Option<u64>,
+    /// Why a transaction was aborted, as bits.
+    pub transaction: Option<u64>,
+    /// The registers at the interrupt.
+    pub interrupt_registers: Option<Registers<'a>>,
+    /// The physical address of the data.
+    pub physical_address: Option<u64>,
+    /// The id of the control group.
+    pub cgroup: Option<u64>,
+    /// The size of the page of the data, in bytes.
+    pub data_page_size: Option<u64>,
+    /// The size of the page of the instruction, in bytes.
+    pub code_page_size: Option<u64>,
+    /// Aux data.
+    pub aux_data: Option<RawData<'a>>,
+}
+
+// The fields up to the call chain.
+#[derive(Clone, Copy)]
+struct SampleStart<'a> {
+    origin: OriginWords,
+    event: EventWords,
+    period: Option<u64>,
+    values: Option<ReadValues<'a>>,
+    call_chain: Option<CallChain<'a>>,
+}
+
+// The fields from the raw data to the user stack.
+#[derive(Clone, Copy)]
+struct SampleMiddle<'a> {
+    raw: Option<RawData<'a>>,
+    branch_stack: Option<BranchStack<'a>>,
+    user_registers: Option<Registers<'a>>,
+    user_stack: Option<UserStack<'a>>,
+}
+
+// The fields from the weight on.
+#[derive(Clone, Copy)]
+struct SampleEnd<'a> {
+    weight: Option<u64>,
+    data: DataWords,
+    interrupt_registers: Option<Registers<'a>>,
+    pages: PageWords,
+    aux_data: Option<RawData<'a>>,
+}
+
+impl<'a> SampleStart<'a> {
+    ghost use Rattle.perfdata_events.specs.Sample.{sample_start, start_of};
+
+    fn parse(format: &EventFormat, fields: &mut RawData<'a>) -> Result<SampleStart<'a>>
+        ensures { Decodes (sample_start (number_in format.now.endian) format.now) start_of (bytes_of fields.old) result (bytes_of fields.new) }
+    {
+        let endian = format.endian;
+        let bits = format.sample_format;
+        let origin = OriginWords::parse(endian, bits, fields)?;
+        let event = EventWords::parse(endian, bits, fields)?;
+        let period = read_u64_if(endian, fields, has_bits(bits, 1 << 8))?;
+        let values = ReadValues::parse_if(
+            endian,
+            has_bits(bits, 1 << 4),
+            format.read_format,
+            fields,
+        )?;
+        let call_chain = CallChain::parse_if(endian, has_bits(bits, 1 << 5), fields)?;
+        Ok(SampleStart {
+            origin,
+            event,
+            period,
+            values,
+            call_chain,
+        })
+    }
+}
+
+impl<'a> SampleMiddle<'a> {
+    ghost use Rattle.perfdata_events.specs.Sample.{sample_middle, middle_of};
+
+    fn parse(format: &EventFormat, fields: &mut RawData<'a>) -> Result<SampleMiddle<'a>>
+        ensures { Decodes (sample_middle (number_in format.now.endian) format.now) middle_of (bytes_of fields.old) result (bytes_of fields.new) }
+    {
+        let endian = format.endian;
+        let bits = format.sample_format;
+        let raw = read_raw_data_if(endian, has_bits(bits, 1 << 10), fields)?;
+        let branch_stack = BranchStack::parse_if(
+            endian,
+            has_bits(bits, 1 << 11),
+            format.branch_sample_type,
+            fields,
+        )?;
+        let user_registers = Registers::parse_if(
+            endian,
+            has_bits(bits, 1 << 12),
+            format.sample_regs_user,
+            fields,
+        )?;
+        let user_stack = UserStack::parse_if(endian, has_bits(bits, 1 << 13), fields)?;
+        Ok(SampleMiddle {
+            raw,
+            branch_stack,
+            user_registers,
+            user_stack,
+        })
+    }
+}
+
+// Whether a sample has a weight, in one of its two forms.
+fn has_weight(bits: u64) -> bool
+    ensures { result ≡ (is_set bits 14 || is_set bits 24) }
+{
+    has_bits(bits, 1 << 14) || has_bits(bits, 1 << 24)
+}
+
+impl<'a> SampleEnd<'a> {
+    ghost use Rattle.perfdata_events.specs.Sample.{sample_end, end_of};
+
+    fn parse(format: &EventFormat, fields: &mut RawData<'a>) -> Result<SampleEnd<'a>>
+        ensures { Decodes (sample_end (number_in format.now.endian) format.now) end_of (bytes_of fields.old) result (bytes_of fields.new) }
+    {
+        let endian = format.endian;
+        let bits = format.sample_format;
+        let weight = read_u64_if(endian, fields, has_weight(bits))?;
+        let data = DataWords::parse(endian, bits, fields)?;
+        let interrupt_registers = Registers::parse_if(
+            endian,
+            has_bits(bits, 1 << 18),
+            format.sample_regs_intr,
+            fields,
+        )?;
+        let pages = PageWords::parse(endian, bits, fields)?;
+        let aux_data = read_aux_data_if(endian, has_bits(bits, 1 << 20), fields)?;
+        Ok(SampleEnd {
+            weight,
+            data,
+            interrupt_registers,
+            pages,
+            aux_data,
+        })
+    }
+}
+
+impl<'a> SampleRecord<'a> {
+    ghost use Rattle.perfdata_events.specs.Sample.{sample, sample_of};
+
+    /// Parses the fields that a format selects at the start of `fields`, and removes them.
+    ///
+    /// Fails with an `UnexpectedEof` error if they are truncated.
+    pub fn parse(format: &EventFormat, fields: &mut RawData<'a>) -> Result<SampleRecord<'a>>
+        ensures { Decodes (sample (number_in format.now.endian) format.now) sample_of (bytes_of fields.old) result (bytes_of fields.new) }
+    {
+        let start = SampleStart::parse(format, fields)?;
+        let middle = SampleMiddle::parse(format, fields)?;
+        let end = SampleEnd::parse(format, fields)?;
+        Ok(SampleRecord {
+            identifier: start.origin.identifier,
+            ip: start.origin.ip,
+            task: start.origin.task,
+            timestamp: start.origin.timestamp,
+            address: start.event.address,
+            id: start.event.id,
+            stream_id: start.event.stream_id,
+            cpu: start.event.cpu,
+            period: start.period,
+            values: start.values,
+            call_chain: start.call_chain,
+            raw: middle.raw,
+            branch_stack: middle.branch_stack,
+            user_registers: middle.user_registers,
+            user_stack: middle.user_stack,
+            weight: end.weight,
+            data_source: end.data.data_source,
+            transaction: end.data.transaction,
+            interrupt_registers: end.interrupt_registers,
+            physical_address: end.pages.physical_address,
+            cgroup: end.pages.cgroup,
+            data_page_size: end.pages.data_page_size,
+            code_page_size: end.pages.code_page_size,
+            aux_data: end.aux_data,
+        })
+    }
+}

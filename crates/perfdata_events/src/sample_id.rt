@@ -1,0 +1,60 @@
+//! Who wrote a record, when and where.
+ghost use Rattle.perfdata_base.specs.Raw.{bytes_of};
+ghost use Rattle.perfdata_base.specs.Endian.{number_in};
+ghost use Rattle.perfdata_events.specs.Format.{Decodes};
+ghost use Rattle.perfdata_events.specs.SampleId.{sample_id};
+
+use crate::numbers::has_bits;
+use crate::words::{read_task_if, read_u32_if, read_u64_if};
+use perfdata_base::raw::{Endianness, RawData};
+use std::io::Result;
+
+/// A process and a thread.
+#[derive(Clone, Copy, Debug, PartialEq, Eq)]
+pub struct Task {
+    /// The process id.
+    pub pid: i32,
+    /// The thread id.
+    pub tid: i32,
+}
+
+/// Who wrote a record, when and where. A field is `None` if the attribute doesn't select it.
+#[derive(Clone, Copy, Debug, PartialEq, Eq)]
+pub struct SampleId {
+    /// The process and the thread.
+    pub task: Option<Task>,
+    /// The time.
+    pub timestamp: Option<u64>,
+    /// The identifier of the event.
+    pub id: Option<u64>,
+    /// The identifier of the event itself, also if another task inherited it.
+    pub stream_id: Option<u64>,
+    /// The processor.
+    pub cpu: Option<u32>,
+    /// The identifier of the event again, at an offset that doesn't depend on the other fields.
+    pub identifier: Option<u64>,
+}
+
+impl SampleId {
+    /// Parses the sample_id fields that a sample format selects at the start of `fields`, and removes them.
+    ///
+    /// Fails with an `UnexpectedEof` error if they are truncated.
+    pub fn parse(endian: Endianness, format: u64, fields: &mut RawData<'_>) -> Result<SampleId>
+        ensures { Decodes (sample_id (number_in endian) format) (λ v. v) (bytes_of fields.old) result (bytes_of fields.new) }
+    {
+        let task = read_task_if(endian, fields, has_bits(format, 1 << 1))?;
+        let timestamp = read_u64_if(endian, fields, has_bits(format, 1 << 2))?;
+        let id = read_u64_if(endian, fields, has_bits(format, 1 << 6))?;
+        let stream_id = read_u64_if(endian, fields, has_bits(format, 1 << 9))?;
+        let cpu = read_u32_if(endian, fields, has_bits(format, 1 << 7))?;
+        let identifier = read_u64_if(endian, fields, has_bits(format, 1 << 16))?;
+        Ok(SampleId {
+            task,
+            timestamp,
+            id,
+            stream_id,
+            cpu,
+            identifier,
+        })
+    }
+}

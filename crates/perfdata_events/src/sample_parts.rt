@@ -1,0 +1,222 @@
+//! The parts of samples whose size is in the record.
+ghost use Rattle.std.specs.Prelude.{◌≡◌, ◌==◌, not};
+ghost use Rattle.perfdata_base.specs.Raw.{bytes_of};
+ghost use Rattle.perfdata_base.specs.Endian.{number_in};
+ghost use Rattle.perfdata_events.specs.Format.{Decodes, optional};
+ghost use Rattle.std.specs.Option.{option_map};
+
+use crate::numbers::has_bits;
+use crate::u64s::{RawDataU64, read_block, read_u64_list, read_u64_list_if, read_u64s};
+use crate::words::{read_u32, read_u64, read_u64_if};
+use perfdata_base::raw::{Endianness, RawData};
+use std::io::Result;
+
+/// The bit of the branch sample type for the hardware index (`PERF_SAMPLE_BRANCH_HW_INDEX`).
+const BRANCH_HW_INDEX: u64 = 1 << 17;
+
+/// The bit of the branch sample type for the counters (`PERF_SAMPLE_BRANCH_COUNTERS`).
+const BRANCH_COUNTERS: u64 = 1 << 19;
+
+/// The last branches that the processor took.
+#[derive(Clone, Copy, Debug)]
+pub struct BranchStack<'a> {
+    /// The hardware index of the first entry, if the attribute selects it.
+    pub hw_index: Option<u64>,
+    /// Three numbers for each branch: the address that it came from, its target and its flags.
+    pub entries: RawDataU64<'a>,
+    /// A number for each branch with the events that occurred before it, if the attribute selects them.
+    pub counters: Option<RawDataU64<'a>>,
+}
+
+/// The registers of a program or at an interrupt.
+#[derive(Clone, Copy, Debug)]
+pub struct Registers<'a> {
+    /// The kind of the program: 0 none, 1 of 32 bits, 2 of 64 bits.
+    pub abi: u64,
+    /// The registers of the attribute's mask, by ascending bit; none if `abi` is 0.
+    pub values: RawDataU64<'a>,
+}
+
+/// A copy of the start of a program's stack.
+#[derive(Clone, Copy, Debug)]
+pub struct UserStack<'a> {
+    /// The bytes.
+    pub bytes: RawData<'a>,
+    /// The number of these bytes that the kernel could copy; `None` if there are none.
+    pub dynamic_size: Option<u64>,
+}
+
+impl<'a> BranchStack<'a> {
+    ghost use Rattle.perfdata_events.specs.Sample.{branch_stack, branches_of};
+
+    // Removes a branch stack.
+    pub(crate) fn parse(
+        endian: Endianness,
+        branch_sample_type: u64,
+        fields: &mut RawData<'a>,
+    ) -> Result<BranchStack<'a>>
+        ensures { Decodes (branch_stack (number_in endian) branch_sample_type) branches_of (bytes_of fields.old) result (bytes_of fields.new) }
+    {
+        let count = read_u64(endian, fields)?;
+        let hw_index = read_u64_if(
+            endian,
+            fields,
+            has_bits(branch_sample_type, BRANCH_HW_INDEX),
+        )?;
+        let entries = read_u64s(endian, fields, count, 3)?;
+        let has_counters = has_bits(branch_sample_type, BRANCH_COUNTERS);
+        let counters = read_u64_list_if(endian, fields, has_counters, count)?;
+        Ok(BranchStack {
+            hw_index,
+            entries,
+            counters,
+        })
+    }
+
+    // The same if it is there.
+    pub(crate) fn parse_if(
+        endian: Endianness,
+        present: bool,
+        branch_sample_type: u64,
+        fields: &mut RawData<'a>,
+    ) -> Result<Option<BranchStack<'a>>>
+        ensures { Decodes (optional present (branch_stack (number_in endian) branch_sample_type)) (option_map branches_of) (bytes_of fields.old) result (bytes_of fields.new) }
+    {
+        if !present {
+            return Ok(None);
+        }
+        let value = BranchStack::parse(endian, branch_sample_type, fields)?;
+        Ok(Some(value))
+    }
+}
+
+impl<'a> Registers<'a> {
+    ghost use Rattle.perfdata_events.specs.Sample.{registers, registers_of, register_count};
+
+    // The number of registers.
+    fn count(abi: u64, mask: u64) -> u64
+        ensures { result ≡ register_count abi mask }
+    {
+        if abi == 0 {
+            0
+        } else {
+            mask.count_ones() as u64
+        }
+    }
+
+    // Removes the registers of a mask.
+    pub(crate) fn parse(
+        endian: Endianness,
+        mask: u64,
+        fields: &mut RawData<'a>,
+    ) -> Result<Registers<'a>>
+        ensures { Decodes (registers (number_in endian) mask) registers_of (bytes_of fields.old) result (bytes_of fields.new) }
+    {
+        let abi = read_u64(endian, fields)?;
+        let count = Registers::count(abi, mask);
+        let values = read_u64_list(endian, fields, count)?;
+        Ok(Registers { abi, values })
+    }
+
+    // The same if it is there.
+    pub(crate) fn parse_if(
+        endian: Endianness,
+        present: bool,
+        mask: u64,
+        fields: &mut RawData<'a>,
+    ) -> Result<Option<Registers<'a>>>
+        ensures { Decodes (optional present (registers (number_in endian) mask)) (option_map registers_of) (bytes_of fields.old) result (bytes_of fields.new) }
+    {
+        if !present {
+            return Ok(None);
+        }
+        let value = Registers::parse(endian, mask, fields)?;
+        Ok(Some(value))
+    }
+}
+
+fn is_nonzero(size: u64) -> bool
+    ensures { result ≡ not (size == 0) }
+{
+    !(size == 0)
+}
+
+impl<'a> UserStack<'a> {
+    ghost use Rattle.perfdata_events.specs.Sample.{user_stack, stack_of};
+
+    // Removes a copy of a stack.
+    pub(crate) fn parse(endian: Endianness, fields: &mut RawData<'a>) -> Result<UserStack<'a>>
+        ensures { Decodes (user_stack (number_in endian)) stack_of (bytes_of fields.old) result (bytes_of fields.new) }
+    {
+        let size = read_u64(endian, fields)?;
+        let bytes = read_block(fields, size as usize)?;
+        let dynamic_size = read_u64_if(endian, fields, is_nonzero(size))?;
+        Ok(UserStack {
+            bytes,
+            dynamic_size,
+        })
+    }
+
+    // The same if it is there.
+    pub(crate) fn parse_if(
+        endian: Endianness,
+        present: bool,
+        fields: &mut RawData<'a>,
+    ) -> Result<Option<UserStack<'a>>>
+        ensures { Decodes (optional present (user_stack (number_in endian))) (option_map stack_of) (bytes_of fields.old) result (bytes_of fields.new) }
+    {
+        if !present {
+            return Ok(None);
+        }
+        let value = UserStack::parse(endian, fields)?;
+        Ok(Some(value))
+    }
+}
+
+ghost use Rattle.perfdata_events.specs.Sample.{raw_data, aux_data};
+
+// Removes raw data, whose size is four bytes before it.
+pub(crate) fn read_raw_data<'a>(endian: Endianness, fields: &mut RawData<'a>) -> Result<RawData<'a>>
+    ensures { Decodes (raw_data (number_in endian)) bytes_of (bytes_of fields.old) result (bytes_of fields.new) }
+{
+    let size = read_u32(endian, fields)?;
+    read_block(fields, size as usize)
+}
+
+// Removes aux data, whose size is eight bytes before it.
+pub(crate) fn read_aux_data<'a>(endian: Endianness, fields: &mut RawData<'a>) -> Result<RawData<'a>>
+    ensures { Decodes (aux_data (number_in endian)) bytes_of (bytes_of fields.old) result (bytes_of fields.new) }
+{
+    let size = read_u64(endian, fields)?;
+    read_block(fields, size as usize)
+}
+
+// Removes raw data if it is there.
+pub(crate) fn read_raw_data_if<'a>(
+    endian: Endianness,
+    present: bool,
+    fields: &mut RawData<'a>,
+) -> Result<Option<RawData<'a>>>
+    ensures { Decodes (optional present (raw_data (number_in endian))) (option_map bytes_of) (bytes_of fields.old) result (bytes_of fields.new) }
+{
+    if !present {
+        return Ok(None);
+    }
+    let data = read_raw_data(endian, fields)?;
+    Ok(Some(data))
+}
+
+// Removes aux data if it is there.
+pub(crate) fn read_aux_data_if<'a>(
+    endian: Endianness,
+    present: bool,
+    fields: &mut RawData<'a>,
+) -> Result<Option<RawData<'a>>>
+    ensures { Decodes (optional present (aux_data (number_in endian))) (option_map bytes_of) (bytes_of fields.old) result (bytes_of fields.new) }
+{
+    if !present {
+        return Ok(None);
+    }
+    let data = read_aux_data(endian, fields)?;
+    Ok(Some(data))
+}

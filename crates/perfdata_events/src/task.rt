@@ -1,0 +1,147 @@
+//! Records on tasks.
+ghost use Rattle.perfdata_base.specs.Raw.{bytes_of};
+ghost use Rattle.perfdata_base.specs.Endian.{number_in};
+ghost use Rattle.perfdata_events.specs.Format.{Decodes};
+ghost use Rattle.perfdata_events.specs.ForkOrExit.{fork_or_exit};
+
+use crate::numbers::{has_bits, i32_at, u64_at};
+use crate::text::read_text;
+use crate::u64s::{RawDataU64, read_u64s};
+use perfdata_base::raw::{Endianness, RawData};
+use std::io::Result;
+
+/// A task that began or ended (`PERF_RECORD_FORK`, `PERF_RECORD_EXIT`).
+#[derive(Clone, Copy, Debug, PartialEq, Eq)]
+pub struct ForkOrExitRecord {
+    /// The process id.
+    pub pid: i32,
+    /// The process id of the parent.
+    pub ppid: i32,
+    /// The thread id.
+    pub tid: i32,
+    /// The thread id of the parent.
+    pub ptid: i32,
+    /// The time.
+    pub timestamp: u64,
+}
+
+/// The name of a task (`PERF_RECORD_COMM`).
+#[derive(Clone, Copy, Debug, PartialEq, Eq)]
+pub struct CommOrExecRecord<'a> {
+    /// The process id.
+    pub pid: i32,
+    /// The thread id.
+    pub tid: i32,
+    /// Whether the task executed another program.
+    pub is_execve: bool,
+    /// The name.
+    pub name: RawData<'a>,
+}
+
+/// The path of a control group (`PERF_RECORD_CGROUP`).
+#[derive(Clone, Copy, Debug, PartialEq, Eq)]
+pub struct CgroupRecord<'a> {
+    /// The id of the control group.
+    pub id: u64,
+    /// The path.
+    pub path: RawData<'a>,
+}
+
+/// The namespaces of a task (`PERF_RECORD_NAMESPACES`).
+#[derive(Clone, Copy, Debug)]
+pub struct NamespacesRecord<'a> {
+    /// The process id.
+    pub pid: i32,
+    /// The thread id.
+    pub tid: i32,
+    /// The device and the inode of each namespace.
+    pub namespaces: RawDataU64<'a>,
+}
+
+/// The bit of a record header's `misc` that marks a name set by an exec (`PERF_RECORD_MISC_COMM_EXEC`).
+const MISC_COMM_EXEC: u64 = 1 << 13;
+
+impl ForkOrExitRecord {
+    /// Parses the fields at the start of `fields`, and removes them.
+    ///
+    /// Fails with an `UnexpectedEof` error if they are truncated.
+    pub fn parse(endian: Endianness, fields: &mut RawData<'_>) -> Result<ForkOrExitRecord>
+        ensures { Decodes (fork_or_exit (number_in endian)) (λ v. v) (bytes_of fields.old) result (bytes_of fields.new) }
+    {
+        let mut bytes = [0u8; 24];
+        fields.read_exact(&mut bytes)?;
+        Ok(ForkOrExitRecord {
+            pid: i32_at(endian, &bytes, 0),
+            ppid: i32_at(endian, &bytes, 4),
+            tid: i32_at(endian, &bytes, 8),
+            ptid: i32_at(endian, &bytes, 12),
+            timestamp: u64_at(endian, &bytes, 16),
+        })
+    }
+}
+
+impl<'a> CommOrExecRecord<'a> {
+    ghost use Rattle.perfdata_events.specs.Comm.{comm, named_task_of};
+
+    /// Parses the fields at the start of `fields`, and removes them. `misc` is that of the record header.
+    ///
+    /// Fails with an `UnexpectedEof` error if they are truncated, and with an `InvalidData` error if the name has no
+    /// NUL.
+    pub fn parse(
+        endian: Endianness,
+        misc: u16,
+        fields: &mut RawData<'a>,
+    ) -> Result<CommOrExecRecord<'a>>
+        ensures { Decodes (comm (number_in endian) misc) named_task_of (bytes_of fields.old) result (bytes_of fields.new) }
+    {
+        let mut bytes = [0u8; 8];
+        fields.read_exact(&mut bytes)?;
+        let name = read_text(fields)?;
+        Ok(CommOrExecRecord {
+            pid: i32_at(endian, &bytes, 0),
+            tid: i32_at(endian, &bytes, 4),
+            is_execve: has_bits(misc as u64, MISC_COMM_EXEC),
+            name,
+        })
+    }
+}
+
+impl<'a> CgroupRecord<'a> {
+    ghost use Rattle.perfdata_events.specs.Cgroup.{cgroup, cgroup_of};
+
+    /// Parses the fields at the start of `fields`, and removes them.
+    ///
+    /// Fails with an `UnexpectedEof` error if they are truncated, and with an `InvalidData` error if the path has no
+    /// NUL.
+    pub fn parse(endian: Endianness, fields: &mut RawData<'a>) -> Result<CgroupRecord<'a>>
+        ensures { Decodes (cgroup (number_in endian)) cgroup_of (bytes_of fields.old) result (bytes_of fields.new) }
+    {
+        let mut bytes = [0u8; 8];
+        fields.read_exact(&mut bytes)?;
+        let path = read_text(fields)?;
+        Ok(CgroupRecord {
+            id: u64_at(endian, &bytes, 0),
+            path,
+        })
+    }
+}
+
+impl<'a> NamespacesRecord<'a> {
+    ghost use Rattle.perfdata_events.specs.Namespaces.{namespaces, namespaces_of};
+
+    /// Parses the fields at the start of `fields`, and removes them.
+    ///
+    /// Fails with an `UnexpectedEof` error if they are truncated.
+    pub fn parse(endian: Endianness, fields: &mut RawData<'a>) -> Result<NamespacesRecord<'a>>
+        ensures { Decodes (namespaces (number_in endian)) namespaces_of (bytes_of fields.old) result (bytes_of fields.new) }
+    {
+        let mut bytes = [0u8; 16];
+        fields.read_exact(&mut bytes)?;
+        let namespaces = read_u64s(endian, fields, u64_at(endian, &bytes, 8), 2)?;
+        Ok(NamespacesRecord {
+            pid: i32_at(endian, &bytes, 0),
+            tid: i32_at(endian, &bytes, 4),
+            namespaces,
+        })
+    }
+}

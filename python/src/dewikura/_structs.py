@@ -1,0 +1,134 @@
+"""The structs of include/dewikura.h. Their sizes are checked when the module is loaded."""
+
+import ctypes
+from ctypes import c_int32 as i32, c_uint8 as u8, c_uint16 as u16, c_uint32 as u32, c_uint64 as u64
+from typing import Optional, Union
+
+from .constants import JitRecordType, RecordType
+
+
+def known(kind, number):
+    """The member of an enum with this number, or the number if the enum has none."""
+    try:
+        return kind(number)
+    except ValueError:
+        return number
+
+
+class Record(ctypes.Structure):
+    """A record of a perf.data file or pipe."""
+
+    offset: int
+    body_offset: int
+    body_size: int
+    round: int
+    misc: int
+    _fields_ = [
+        ("offset", u64), ("body_offset", u64), ("body_size", u64), ("round", u64), ("_timestamp", u64), ("_attr_index", u64),
+        ("_type", u32), ("misc", u16), ("has_timestamp", u8), ("has_attr", u8),
+    ]
+
+    @property
+    def type(self) -> Union[RecordType, int]:
+        """The type of the record."""
+        return known(RecordType, self._type)
+
+    @property
+    def timestamp(self) -> Optional[int]:
+        """The time in nanoseconds of the recording's clock, or None if the record has none."""
+        return self._timestamp if self.has_timestamp else None
+
+    @property
+    def attr_index(self) -> Optional[int]:
+        """The index of the record's attribute, or None for a record that a tool wrote."""
+        return self._attr_index if self.has_attr else None
+
+    def __repr__(self) -> str:
+        return (f"Record(type={self.type!r}, offset={self.offset}, body_size={self.body_size}, "
+                f"timestamp={self.timestamp}, attr_index={self.attr_index})")
+
+
+class Attr(ctypes.Structure):
+    """A perf_event_attr, with the positions of its name and its ids."""
+
+    _fields_ = [*((name, u64) for name in (
+        "config", "sample_period_or_freq", "sample_type", "read_format", "flags", "config1", "config2", "branch_sample_type",
+        "sample_regs_user", "sample_regs_intr", "sig_data", "config3", "name_offset", "name_size", "ids_start", "ids_count")),
+        ("type", u32), ("size", u32), ("wakeup_events", u32), ("bp_type", u32), ("sample_stack_user", u32), ("clockid", i32),
+        ("aux_watermark", u32), ("aux_sample_size", u32), ("sample_max_stack", u32), ("has_name", u32)]
+
+
+class AttrTotals(ctypes.Structure):
+    """The totals over all attributes."""
+
+    _fields_ = [("attr_count", u64), ("names_size", u64), ("ids_count", u64)]
+
+
+class FeatureSet(ctypes.Structure):
+    """A set of features."""
+
+    _fields_ = [("bits0", u64), ("bits1", u64), ("bits2", u64), ("bits3", u64)]
+
+
+class BuildIdEntry(ctypes.Structure):
+    """An entry of the BUILD_ID section."""
+
+    _fields_ = [("id_offset", u64), ("id_size", u64), ("path_offset", u64), ("path_size", u64), ("next_offset", u64),
+                ("pid", i32), ("dso_kind", u32)]
+
+
+class StringStruct(ctypes.Structure):
+    """The positions of a string in a feature section."""
+
+    _fields_ = [("text_offset", u64), ("text_size", u64), ("next_offset", u64)]
+
+
+class JitHeaderStruct(ctypes.Structure):
+    """The header of a jitdump."""
+
+    _fields_ = [("timestamp", u64), ("flags", u64), ("version", u32), ("size", u32), ("elf_machine", u32), ("pid", u32),
+                ("is_big_endian", u32), ("reserved", u32)]
+
+
+class JitRecord(ctypes.Structure):
+    """A record of a jitdump."""
+
+    offset: int
+    timestamp: int
+    size: int
+    _fields_ = [("offset", u64), ("timestamp", u64), ("_type", u32), ("size", u32)]
+
+    @property
+    def type(self) -> Union[JitRecordType, int]:
+        """The type of the record."""
+        return known(JitRecordType, self._type)
+
+    def __repr__(self) -> str:
+        return f"JitRecord(type={self.type!r}, offset={self.offset}, timestamp={self.timestamp}, size={self.size})"
+
+
+class JitLoadStruct(ctypes.Structure):
+    """A load record of a jitdump."""
+
+    _fields_ = [*((name, u64) for name in (
+        "vma", "code_address", "code_index", "name_offset", "name_size", "code_offset", "code_size")), ("pid", u32), ("tid", u32)]
+
+
+class JitMoveStruct(ctypes.Structure):
+    """A move record of a jitdump."""
+
+    _fields_ = [*((name, u64) for name in ("vma", "old_code_address", "new_code_address", "code_size", "code_index")),
+                ("pid", u32), ("tid", u32)]
+
+
+class JitUnwindingStruct(ctypes.Structure):
+    """An unwinding info record of a jitdump."""
+
+    _fields_ = [(name, u64) for name in (
+        "mapped_size", "eh_frame_hdr_offset", "eh_frame_hdr_size", "eh_frame_offset", "eh_frame_size")]
+
+
+for _struct, _size in ((Record, 56), (Attr, 168), (AttrTotals, 24), (FeatureSet, 32), (BuildIdEntry, 48), (JitHeaderStruct, 40),
+                       (JitRecord, 24), (JitLoadStruct, 64), (StringStruct, 24), (JitMoveStruct, 48), (JitUnwindingStruct, 40)):
+    if ctypes.sizeof(_struct) != _size:
+        raise ImportError(f"{_struct.__name__} has {ctypes.sizeof(_struct)} bytes instead of {_size}")

@@ -1,0 +1,180 @@
+"""Jitdumps."""
+
+import contextlib
+import ctypes
+import dataclasses
+import mmap
+from ctypes import c_uint64 as u64
+from typing import Any, ContextManager, Iterator, NamedTuple, Optional, Union
+
+from . import _native, _structs
+from ._arrays import StructSequence
+from ._structs import JitRecord
+from .constants import JitRecordType
+from .errors import check
+from .recording import Buffer, PathLike, map_file
+
+
+@dataclasses.dataclass(frozen=True)
+class JitHeader:
+    """The header of a jitdump."""
+
+    timestamp: int
+    flags: int
+    version: int
+    size: int
+    elf_machine: int
+    pid: int
+    byteorder: str
+
+
+class JitRecords(StructSequence[JitRecord]):
+    """Records of a jitdump. `next_offset` is where the next call continues."""
+
+    _struct = JitRecord
+
+    def __init__(self, array: Any, indices: range, next_offset: int) -> None:
+        super().__init__(array, indices)
+        self.next_offset = next_offset
+
+    def _slice(self, indices: range) -> "JitRecords":
+        return JitRecords(self._array, indices, self.next_offset)
+
+
+class JitLoad(NamedTuple):
+    """A load record of a jitdump."""
+
+    name: bytes
+    code: memoryview
+    vma: int
+    code_address: int
+    code_index: int
+    pid: int
+    tid: int
+
+
+class JitMove(NamedTuple):
+    """A move record of a jitdump."""
+
+    vma: int
+    old_code_address: int
+    new_code_address: int
+    code_size: int
+    code_index: int
+    pid: int
+    tid: int
+
+
+class JitUnwinding(NamedTuple):
+    """An unwinding info record of a jitdump."""
+
+    mapped_size: int
+    eh_frame_hdr: memoryview
+    eh_frame: memoryview
+
+
+class JitDump(ContextManager["JitDump"]):
+    """A jitdump."""
+
+    def __init__(self, data: Buffer, mapping: Optional[mmap.mmap] = None, path: Optional[PathLike] = None) -> None:
+        self._path = path
+        self._set(data, mapping)
+
+    def _set(self, data: Buffer, mapping: Optional[mmap.mmap]) -> None:
+        self._view: Optional[memoryview] = memoryview(data).cast("B")
+        self._mapping = mapping
+
+    def __exit__(self, *_: object) -> None:
+        self.close()
+
+    def close(self) -> None:
+        """Unmaps the file. The code of a load record keeps the mapping until it is released. Later calls raise ValueError."""
+        if self._view is not None:
+            self._view.release()
+            self._view = None
+        if self._mapping is not None:
+            with contextlib.suppress(BufferError):
+                self._mapping.close()
+            self._mapping = None
+
+    @property
+    def _data(self) -> memoryview:
+        if self._view is None:
+            raise ValueError("the jitdump is closed")
+        return self._view
+
+    def refresh(self) -> None:
+        """Maps the file again after it has grown. A jitdump over a buffer stays as it is."""
+        if self._path is not None:
+            self.close()
+            self._set(*map_file(self._path))
+
+    @property
+    def header(self) -> JitHeader:
+        """The header."""
+        found = _structs.JitHeaderStruct()
+        with _native.Input(self._data) as (address, size):
+            check(_native.read_jit_header(address, size, found))
+        return JitHeader(found.timestamp, found.flags, found.version, found.size, found.elf_machine, found.pid,
+                         "big" if found.is_big_endian else "little")
+
+    def records(self, start: int = 0) -> JitRecords:
+        """Returns the complete records from an offset on. Raises the first error after them."""
+        data = self._data
+        count, next_offset, capacity = u64(), u64(start), max(len(data) - start, 0) // 64 + 1
+        array, total = (JitRecord * capacity)(), 0
+        with _native.Input(data) as (address, size):
+            while True:
+                rest = (JitRecord * (capacity - total)).from_buffer(array, total * ctypes.sizeof(JitRecord))
+                status = _native.read_jit_records(address, size, next_offset.value, rest, capacity - total, count, next_offset)
+                total += count.value
+                check(status, total)
+                if total < capacity:
+                    return JitRecords(array, range(total), next_offset.value)
+                larger = (JitRecord * (2 * capacity))()
+                ctypes.memmove(larger, array, ctypes.sizeof(array))
+                array, capacity = larger, 2 * capacity
+
+    def load(self, record: Union[JitRecord, int]) -> JitLoad:
+        """Returns a load record, which is given as a record or by its offset."""
+        data, found = self._data, _structs.JitLoadStruct()
+        with _native.Input(data) as (address, size):
+            check(_native.read_jit_load(address, size, _offset_of(record), found))
+        name = bytes(data[found.name_offset:found.name_offset + found.name_size])
+        code = data[found.code_offset:found.code_offset + found.code_size].toreadonly()
+        return JitLoad(name, code, found.vma, found.code_address, found.code_index, found.pid, found.tid)
+
+    def move(self, record: Union[JitRecord, int]) -> JitMove:
+        """Returns a move record, which is given as a record or by its offset."""
+        found = _structs.JitMoveStruct()
+        with _native.Input(self._data) as (address, size):
+            check(_native.read_jit_move(address, size, _offset_of(record), found))
+        return JitMove(*(getattr(found, name) for name in JitMove._fields))
+
+    def unwinding(self, record: Union[JitRecord, int]) -> JitUnwinding:
+        """Returns an unwinding info record, which is given as a record or by its offset."""
+        data, found = self._data, _structs.JitUnwindingStruct()
+        with _native.Input(data) as (address, size):
+            check(_native.read_jit_unwinding(address, size, _offset_of(record), found))
+        eh_frame_hdr = data[found.eh_frame_hdr_offset:found.eh_frame_hdr_offset + found.eh_frame_hdr_size]
+        eh_frame = data[found.eh_frame_offset:found.eh_frame_offset + found.eh_frame_size]
+        return JitUnwinding(found.mapped_size, eh_frame_hdr.toreadonly(), eh_frame.toreadonly())
+
+    def loads(self) -> Iterator[JitLoad]:
+        """Iterates over all load records."""
+        return (self.load(record) for record in self.records() if record.type == JitRecordType.CODE_LOAD)
+
+
+def _offset_of(record: Union[JitRecord, int]) -> int:
+    return record.offset if isinstance(record, JitRecord) else record
+
+
+def open_jitdump(path: PathLike) -> JitDump:
+    """Maps a jitdump."""
+    data, mapping = map_file(path)
+    return JitDump(data, mapping, path)
+
+
+def jitdump_from_buffer(data: Buffer) -> JitDump:
+    """Reads a jitdump from a buffer, without a copy."""
+    return JitDump(data)

@@ -1,0 +1,334 @@
+"""Recordings: perf.data files and pipes."""
+
+import builtins
+import contextlib
+import ctypes
+import dataclasses
+import enum
+import itertools
+import mmap
+import os
+import sys
+from ctypes import c_uint8 as u8, c_uint64 as u64
+from typing import Any, ContextManager, Iterator, Literal, Mapping, NamedTuple, Optional, Tuple, Union
+
+from . import _native, _structs
+from ._arrays import StructSequence
+from ._structs import Record, known
+from .constants import AttrFlag, DsoKind, EventType, Feature, ReadFormat, SampleType, Status
+from .errors import PerfDataError, check, error_of
+
+if sys.version_info >= (3, 12):
+    from collections.abc import Buffer
+else:
+    Buffer = Any
+
+PathLike = Union[str, "os.PathLike[str]"]
+
+
+class Kind(enum.Enum):
+    """The form of a recording: a perf.data file, or perf's pipe format."""
+
+    FILE = "file"
+    PIPE = "pipe"
+
+
+class Records(StructSequence[Record]):
+    """The records of a recording, as a sequence over the array that the library filled."""
+
+    _struct = Record
+
+    def masked(self, field: Literal["timestamp", "attr_index"]) -> Any:
+        """Returns `timestamp` or `attr_index` as a masked array, in which absent values are masked."""
+        import numpy
+
+        array = self.to_numpy()
+        present = {"timestamp": "has_timestamp", "attr_index": "has_attr"}[field]
+        return numpy.ma.masked_array(array[field], mask=array[present] == 0)
+
+
+@dataclasses.dataclass(frozen=True)
+class Attribute:
+    """An event attribute: perf_event_attr, by the kernel's names."""
+
+    index: int
+    name: Optional[str]
+    ids: Tuple[int, ...]
+    type: Union[EventType, int]
+    config: int
+    config1: int
+    config2: int
+    config3: int
+    sample_period: Optional[int]
+    sample_freq: Optional[int]
+    sample_type: SampleType
+    read_format: ReadFormat
+    flags: AttrFlag
+    size: int
+    wakeup_events: int
+    bp_type: int
+    branch_sample_type: int
+    sample_regs_user: int
+    sample_regs_intr: int
+    sample_stack_user: int
+    clockid: int
+    aux_watermark: int
+    aux_sample_size: int
+    sample_max_stack: int
+    sig_data: int
+
+
+_SAME_NAMES = ("config", "config1", "config2", "config3", "size", "wakeup_events", "bp_type", "branch_sample_type", "sample_regs_user",
+               "sample_regs_intr", "sample_stack_user", "clockid", "aux_watermark", "aux_sample_size", "sample_max_stack", "sig_data")
+
+
+def _attribute(index: int, attr: _structs.Attr, names: bytes, ids) -> Attribute:
+    name = names[attr.name_offset:attr.name_offset + attr.name_size].decode("utf-8", "surrogateescape") if attr.has_name else None
+    flags = AttrFlag(attr.flags)
+    period = attr.sample_period_or_freq
+    is_freq = bool(flags & AttrFlag.FREQ)
+    return Attribute(
+        index=index, name=name, ids=tuple(ids[attr.ids_start:attr.ids_start + attr.ids_count]), type=known(EventType, attr.type),
+        sample_period=None if is_freq else period, sample_freq=period if is_freq else None, sample_type=SampleType(attr.sample_type),
+        read_format=ReadFormat(attr.read_format), flags=flags, **{field: getattr(attr, field) for field in _SAME_NAMES})
+
+
+class BuildId(NamedTuple):
+    """An entry of the BUILD_ID section."""
+
+    build_id: bytes
+    path: bytes
+    kind: DsoKind
+    pid: int
+
+
+class _Features(Mapping[int, memoryview]):
+    """The feature sections of a recording, by number. A section is read when it is first used."""
+
+    def __init__(self, recording: "Recording", numbers: Tuple[int, ...]) -> None:
+        self._recording = recording
+        self._numbers = dict.fromkeys(numbers)
+
+    def __len__(self) -> int:
+        return len(self._numbers)
+
+    def __iter__(self) -> Iterator[int]:
+        return map(lambda number: known(Feature, number), self._numbers)
+
+    def __contains__(self, number: object) -> bool:
+        return number in self._numbers
+
+    def __getitem__(self, number: int) -> memoryview:
+        section = self._numbers[number]
+        if section is None:
+            section = self._numbers[number] = memoryview(self._recording._read_feature(number)).toreadonly()
+        return section
+
+
+class Recording(ContextManager["Recording"]):
+    """A perf.data file or pipe. Everything is read once, when it is first used, and kept."""
+
+    def __init__(self, data: Buffer, kind: Kind, mapping: Optional[mmap.mmap] = None) -> None:
+        self._view: Optional[memoryview] = memoryview(data).cast("B")
+        self._mapping = mapping
+        self._kept: dict = {}
+        self.kind = kind
+
+    def __exit__(self, *_: object) -> None:
+        self.close()
+
+    def close(self) -> None:
+        """Unmaps the file. A view that `body` returned keeps the mapping until it is released. Later calls raise ValueError."""
+        if self._view is not None:
+            self._view.release()
+            self._view = None
+        if self._mapping is not None:
+            with contextlib.suppress(BufferError):
+                self._mapping.close()
+            self._mapping = None
+
+    @property
+    def _data(self) -> memoryview:
+        if self._view is None:
+            raise ValueError("the recording is closed")
+        return self._view
+
+    def _keep(self, name: str, read):
+        data = self._data
+        if name not in self._kept:
+            self._kept[name] = read(data)
+        return self._kept[name]
+
+    @property
+    def byteorder(self) -> Literal["little", "big"]:
+        """The byte order of the recording, "little" or "big"."""
+        with _native.Input(self._data) as (address, size):
+            return "big" if _native.is_big_endian(address, size) else "little"
+
+    def partial(self) -> Tuple[Records, Optional[Exception]]:
+        """Returns the records before the first error, and that error, or None if there is none."""
+        return self._keep("records", self._read_records)
+
+    @property
+    def records(self) -> Records:
+        """All records in the order of the input. Raises the first error of the input."""
+        records, error = self.partial()
+        if error is not None:
+            raise error
+        return records
+
+    def events(self) -> Iterator[Record]:
+        """Iterates over the records with an attribute, which the kernel wrote."""
+        return filter(lambda record: record.has_attr, self.records)
+
+    def body(self, record: Union[Record, int]) -> memoryview:
+        """Returns a view of the bytes of a record's body, aux data included."""
+        data = self._data
+        if not isinstance(record, Record):
+            record = self.partial()[0][record]
+        return data[record.body_offset:record.body_offset + record.body_size].toreadonly()
+
+    @property
+    def attributes(self) -> Tuple[Attribute, ...]:
+        """The event attributes, with their names and ids."""
+        return self._keep("attributes", self._read_attributes)
+
+    @property
+    def features(self) -> Mapping[int, memoryview]:
+        """The feature sections, by number."""
+        return self._keep("features", self._read_feature_set)
+
+    @property
+    def build_ids(self) -> Tuple[BuildId, ...]:
+        """The entries of the BUILD_ID section; empty without one."""
+        return self._keep("build_ids", self._read_build_ids)
+
+    def strings(self, feature: int, start: int = 0) -> Iterator[str]:
+        """Iterates over the strings of a feature section, from an offset on; none if the recording doesn't have the section."""
+        section = self.features.get(feature, memoryview(b""))
+        is_big_endian, found = self.byteorder == "big", _structs.StringStruct(next_offset=start)
+        while found.next_offset < len(section):
+            with _native.Input(section) as (address, size):
+                check(_native.read_string(address, size, is_big_endian, found.next_offset, found))
+            yield bytes(section[found.text_offset:found.text_offset + found.text_size]).decode("utf-8", "surrogateescape")
+
+    @property
+    def hostname(self) -> Optional[str]:
+        """The name of the machine, as `uname -n` prints it."""
+        return next(self.strings(Feature.HOSTNAME), None)
+
+    @property
+    def os_release(self) -> Optional[str]:
+        """The release of the system, as `uname -r` prints it."""
+        return next(self.strings(Feature.OSRELEASE), None)
+
+    @property
+    def perf_version(self) -> Optional[str]:
+        """The version of the recording tool."""
+        return next(self.strings(Feature.VERSION), None)
+
+    @property
+    def arch(self) -> Optional[str]:
+        """The architecture of the processor, as `uname -m` prints it."""
+        return next(self.strings(Feature.ARCH), None)
+
+    @property
+    def cpu_desc(self) -> Optional[str]:
+        """The description of the processor."""
+        return next(self.strings(Feature.CPUDESC), None)
+
+    @property
+    def cpu_id(self) -> Optional[str]:
+        """The identifier of the processor."""
+        return next(self.strings(Feature.CPUID), None)
+
+    @property
+    def cmdline(self) -> Tuple[str, ...]:
+        """The command-line arguments of the recording tool; empty if the recording doesn't have them."""
+        section = self.features.get(Feature.CMDLINE, memoryview(b""))
+        return tuple(itertools.islice(self.strings(Feature.CMDLINE, 4), int.from_bytes(section[:4], self.byteorder)))
+
+    def _read_records(self, data: memoryview) -> Tuple[Records, Optional[Exception]]:
+        total, capacity = u64(), len(data) // 32 + 1
+        while True:
+            array = (Record * capacity)()
+            with _native.Input(data) as (address, size):
+                status = _native.read_records[self.kind.value](address, size, 0, array, capacity, total)
+            if total.value <= capacity:
+                break
+            capacity = total.value
+        error = None if status == Status.OK else error_of(status, total.value)
+        return Records(array, range(total.value)), error
+
+    def _read_attributes(self, data: memoryview) -> Tuple[Attribute, ...]:
+        totals, capacities = _structs.AttrTotals(), (0, 0, 0)
+        while True:
+            attrs, names, ids = ((kind * max(count, 1))() for kind, count in zip((_structs.Attr, u8, u64), capacities))
+            with _native.Input(data) as (address, size):
+                status = _native.read_attrs[self.kind.value](
+                    address, size, attrs, capacities[0], names, capacities[1], ids, capacities[2], totals)
+            found = totals.attr_count, totals.names_size, totals.ids_count
+            if found == capacities:
+                break
+            capacities = found
+        check(status)
+        all_names = bytes(names)
+        return tuple(_attribute(index, attrs[index], all_names, ids) for index in range(totals.attr_count))
+
+    def _read_feature_set(self, data: memoryview) -> _Features:
+        found = _structs.FeatureSet()
+        with _native.Input(data) as (address, size):
+            check(_native.read_feature_set[self.kind.value](address, size, found))
+        bits = found.bits0 | found.bits1 << 64 | found.bits2 << 128 | found.bits3 << 192
+        return _Features(self, tuple(number for number in range(256) if bits >> number & 1))
+
+    def _read_feature(self, number: int) -> bytes:
+        is_present, section_size, capacity = u8(), u64(), 0
+        while True:
+            buffer = (u8 * max(capacity, 1))()
+            with _native.Input(self._data) as (address, size):
+                check(_native.read_feature[self.kind.value](address, size, number, buffer, capacity, is_present, section_size))
+            if section_size.value <= capacity:
+                return ctypes.string_at(buffer, section_size.value)
+            capacity = section_size.value
+
+    def _read_build_ids(self, data: memoryview) -> Tuple[BuildId, ...]:
+        if Feature.BUILD_ID not in self.features:
+            return ()
+        section, entry, found = self.features[Feature.BUILD_ID], _structs.BuildIdEntry(), []
+        is_big_endian = self.byteorder == "big"
+        with _native.Input(section) as (address, size):
+            while (status := _native.read_build_id(address, size, is_big_endian, entry.next_offset, entry)) == Status.OK:
+                build_id = bytes(section[entry.id_offset:entry.id_offset + entry.id_size])
+                path = bytes(section[entry.path_offset:entry.path_offset + entry.path_size])
+                found.append(BuildId(build_id, path, DsoKind(entry.dso_kind), entry.pid))
+        if status != Status.TRUNCATED:
+            check(status)
+        return tuple(found)
+
+
+def _kind_of(data: memoryview) -> Kind:
+    """The kind by the header: the header of a pipe has 16 bytes."""
+    header_size = bytes(data[8:16])
+    sizes = (int.from_bytes(header_size, "little"), int.from_bytes(header_size, "big"))
+    return Kind.PIPE if 16 in sizes else Kind.FILE
+
+
+def map_file(path: PathLike) -> Tuple[Buffer, Optional[mmap.mmap]]:
+    """Maps a file privately. An empty file has no mapping."""
+    with builtins.open(path, "rb") as file:
+        if os.fstat(file.fileno()).st_size == 0:
+            return b"", None
+        mapping = mmap.mmap(file.fileno(), 0, flags=mmap.MAP_PRIVATE, prot=mmap.PROT_READ)
+        return mapping, mapping
+
+
+def open(path: PathLike, *, kind: Optional[Kind] = None) -> Recording:
+    """Maps a perf.data file or a stored pipe. The kind is that of its header unless it is given."""
+    data, mapping = map_file(path)
+    return Recording(data, kind or _kind_of(memoryview(data)), mapping)
+
+
+def from_buffer(data: Buffer, *, kind: Optional[Kind] = None) -> Recording:
+    """Reads a recording from a buffer (bytes, bytearray, memoryview, mmap, numpy array), without a copy."""
+    return Recording(data, kind or _kind_of(memoryview(data).cast("B")))

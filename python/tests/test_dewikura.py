@@ -1,0 +1,208 @@
+"""Tests of the package over the recordings of the repository. With the variable PERFLIST, which names perflist's program, the records
+are also compared with its lines. The numpy tests run where numpy is installed."""
+
+import contextlib
+import glob
+import importlib.util
+import io
+import mmap
+import os
+import pathlib
+import random
+import subprocess
+import tempfile
+import unittest
+
+import dewikura
+from dewikura.__main__ import main, record_line
+
+TOP = pathlib.Path(__file__).resolve().parent.parent.parent
+CALLS = TOP / "crates/perfinfo/data/calls.data"
+CALLS_PIPE = TOP / "crates/perfinfo/data/calls.pipe"
+FIRST = TOP / "crates/perflist/data/first.data"
+SEVERAL = TOP / "crates/perflist/data/several.data"
+STREAM = TOP / "crates/perflist/stdin"
+DUMP = TOP / "crates/perflist/data/node.dump"
+HAS_NUMPY = importlib.util.find_spec("numpy") is not None
+PERFLIST = os.environ.get("PERFLIST")
+
+
+def command(*arguments):
+    """The exit status, the output and the error output of the package's program."""
+    with contextlib.redirect_stdout(io.StringIO()) as output, contextlib.redirect_stderr(io.StringIO()) as errors:
+        status = main(list(arguments))
+    return status, output.getvalue(), errors.getvalue()
+
+
+class RecordingTest(unittest.TestCase):
+    """The values are those of perf and of a reference implementation for the recordings (their recordings.txt)."""
+
+    def test_attributes(self):
+        events = ("cpu-clock", "task-clock", "page-faults", "context-switches")
+        flags = (0x63943703, 0x2141403, 0x2141403, 0x2141403)
+        for path, first_id in ((CALLS, 33), (CALLS_PIPE, 110)):
+            with dewikura.open(path) as recording:
+                found = [(attr.index, attr.name, attr.type, attr.config, attr.sample_freq, attr.sample_period, int(attr.sample_type),
+                          int(attr.read_format), int(attr.flags), attr.ids) for attr in recording.attributes]
+            self.assertEqual(found, [(i, events[i], dewikura.EventType.SOFTWARE, i, 400, None, 0x10127, 0x14, flags[i],
+                                      tuple(range(first_id + 4 * i, first_id + 4 * i + 4))) for i in range(4)])
+
+    def test_features(self):
+        with dewikura.open(CALLS) as recording:
+            self.assertEqual(len(recording.features), 22)
+            self.assertEqual(bytes(recording.features[dewikura.Feature.HOSTNAME][4:7]), b"vm\0")
+            self.assertEqual(bytes(recording.features[dewikura.Feature.ARCH][4:10]), b"x86_64")
+            self.assertEqual((recording.hostname, recording.arch), ("vm", "x86_64"))
+            self.assertEqual(recording.cmdline[1], "record")
+            self.assertIn(dewikura.Feature.HOSTNAME, list(recording.features))
+            self.assertNotIn(200, recording.features)
+            self.assertRaises(KeyError, lambda: recording.features[200])
+        with dewikura.open(CALLS_PIPE) as recording:
+            self.assertEqual(recording.kind, dewikura.Kind.PIPE)
+            self.assertEqual(bytes(recording.features[dewikura.Feature.HOSTNAME][4:7]), b"vm\0")
+            self.assertEqual(recording.build_ids, ())
+
+    def test_build_ids(self):
+        with dewikura.open(CALLS) as recording:
+            found = sorted((entry.path, entry.build_id.hex(), entry.kind.name) for entry in recording.build_ids)
+        self.assertEqual(found, [
+            (b"/usr/bin/bash", "135afc8c6d1b9e02356cce218bf0109c3687ad9f", "USER"),
+            (b"/usr/lib/x86_64-linux-gnu/ld-linux-x86-64.so.2", "7ebc65e52f2bbea498b4040fa92f7238377aaba9", "USER"),
+            (b"/usr/lib/x86_64-linux-gnu/libc.so.6", "93ac61ec5a8eb1396f9fbd350e3169a558528a40", "USER"),
+            (b"[kernel.kallsyms]", "e4f18d9dc1d0e6fc2b17e93e885a647b3c0a6fc1", "KERNEL"),
+            (b"[vdso]", "a599807156a2a62fe956a82e388aeeabc874119c", "VDSO64"),
+        ])
+
+    def test_buffers(self):
+        data = FIRST.read_bytes()
+        with open(FIRST, "rb") as file, mmap.mmap(file.fileno(), 0, access=mmap.ACCESS_READ) as mapping:
+            wanted = [bytes(record) for record in dewikura.from_buffer(data).records]
+            for buffer in (bytearray(data), memoryview(data), mapping):
+                with dewikura.from_buffer(buffer) as recording:
+                    self.assertEqual([bytes(record) for record in recording.records], wanted)
+                    self.assertEqual(recording.byteorder, "little")
+
+    def test_records(self):
+        with dewikura.open(SEVERAL) as recording:
+            records = recording.records
+            samples = [record for record in records if record.type == dewikura.RecordType.SAMPLE]
+            self.assertEqual(len(samples), 35)
+            self.assertEqual(records[-1].offset, records[len(records) - 1].offset)
+            self.assertEqual([record.offset for record in records[::-2]], [record.offset for record in list(records)[::-2]])
+            self.assertRaises(IndexError, lambda: records[len(records)])
+            self.assertEqual(records.to_memoryview().itemsize, 56)
+            self.assertEqual(records[3:5].to_memoryview().nbytes, 112)
+            self.assertEqual(len(recording.body(samples[0])), samples[0].body_size)
+            self.assertIs(recording.records, records)
+            self.assertEqual(len(list(recording.events())), sum(record.attr_index is not None for record in records))
+            data = SEVERAL.read_bytes()
+            for record in records:
+                self.assertEqual(recording.body(record), data[record.body_offset:record.body_offset + record.body_size])
+        self.assertRaises(ValueError, lambda: recording.records)
+
+    def test_errors(self):
+        data = FIRST.read_bytes()
+        with self.assertRaises(dewikura.TruncatedError) as caught:
+            dewikura.from_buffer(b"").records
+        self.assertEqual(caught.exception.status, dewikura.Status.TRUNCATED)
+        with self.assertRaises(dewikura.FormatError) as caught:
+            dewikura.from_buffer(b"x" * 200).attributes
+        self.assertEqual((caught.exception.status, str(caught.exception)), (dewikura.Status.BAD_MAGIC, "not a perf.data file or pipe"))
+        with dewikura.open(FIRST) as recording:
+            last = recording.records[-1]
+        short = dewikura.from_buffer(data[:last.body_offset])
+        records, error = short.partial()
+        self.assertEqual((len(records), error.record_count), (last_index(data), last_index(data)))
+        self.assertIsInstance(error, dewikura.PerfDataError)
+        self.assertIn(f"after {len(records)} records", str(error))
+        with tempfile.NamedTemporaryFile() as empty:
+            self.assertRaises(dewikura.TruncatedError, lambda: dewikura.open(empty.name).records)
+
+    def test_version(self):
+        self.assertEqual(".".join(map(str, dewikura.library_version())), dewikura.__version__)
+
+    @unittest.skipUnless(HAS_NUMPY, "numpy isn't installed")
+    def test_numpy(self):
+        with dewikura.open(SEVERAL) as recording:
+            array = recording.records.to_numpy()
+            self.assertEqual(array.dtype.itemsize, 56)
+            self.assertEqual(int((array["type"] == dewikura.RecordType.SAMPLE).sum()), 35)
+            masked = recording.records.masked("timestamp")
+            self.assertEqual([None if value is None else int(value) for value in masked.tolist()],
+                             [record.timestamp for record in recording.records])
+            self.assertEqual(recording.records[2:4].to_numpy()["offset"].tolist(), [record.offset for record in recording.records[2:4]])
+            self.assertEqual(len(dewikura.from_buffer(__import__("numpy").frombuffer(SEVERAL.read_bytes(), "u1")).records), len(array))
+
+
+def last_index(data):
+    """The number of records before the last one of a file."""
+    return len(dewikura.from_buffer(data).records) - 1
+
+
+class JitDumpTest(unittest.TestCase):
+    def test_loads(self):
+        with dewikura.open_jitdump(DUMP) as jitdump:
+            header = jitdump.header
+            self.assertEqual((header.version, header.elf_machine, header.pid, header.timestamp, header.flags, header.byteorder),
+                             (1, 62, 27149, 1795352521542614, 0, "little"))
+            loads = list(jitdump.loads())
+            self.assertEqual((len(loads), sum(len(load.code) for load in loads)), (29, 19936))
+            self.assertEqual(max((len(load.code), load.name) for load in loads), (3032, b"JS:^normalizeString node:path:94:25"))
+            records = jitdump.records()
+            for record in records:
+                if record.type == dewikura.JitRecordType.CODE_DEBUG_INFO:
+                    for call in (jitdump.load, jitdump.move, jitdump.unwinding):
+                        with self.assertRaises(dewikura.PerfDataError) as caught:
+                            call(record)
+                        self.assertEqual(caught.exception.status, dewikura.Status.JIT_WRONG_TYPE)
+            self.assertRaises(dewikura.TruncatedError, lambda: jitdump.load(records.next_offset))
+            self.assertEqual(len(jitdump.records(records[5].offset)), len(records) - 5)
+            del loads
+
+    def test_growing_file(self):
+        data = DUMP.read_bytes()
+        with tempfile.NamedTemporaryFile() as file:
+            file.write(data[:1000])
+            file.flush()
+            with dewikura.open_jitdump(file.name) as jitdump:
+                before = jitdump.records()
+                file.write(data[1000:])
+                file.flush()
+                jitdump.refresh()
+                after = jitdump.records(before.next_offset)
+            wanted = dewikura.jitdump_from_buffer(data).records()
+            self.assertEqual([record.offset for record in [*before, *after]], [record.offset for record in wanted])
+
+
+class ProgramTest(unittest.TestCase):
+    def test_commands(self):
+        self.assertEqual(command("samples", str(SEVERAL)), (0, "cpu-clock: 11 samples\ntask-clock: 11 samples\npage-faults: 13 samples\n", ""))
+        self.assertEqual(command("loads", str(DUMP))[1].count("\n"), 29)
+        self.assertEqual(command("records")[0], 1)
+        self.assertEqual(command("samples", str(DUMP)), (2, "", "dewikura: not a perf.data file or pipe\n"))
+
+    @unittest.skipUnless(PERFLIST, "PERFLIST isn't set")
+    def test_same_as_perflist(self):
+        """Each recording, truncations and random changes of them: the same records as perflist, and an error where it has one."""
+        paths = sorted(glob.glob(f"{TOP}/crates/*/data/*.data") + glob.glob(f"{TOP}/crates/*/data/*.pipe")) + [str(STREAM)]
+        inputs = [pathlib.Path(path).read_bytes() for path in paths]
+        first, stream, chance = FIRST.read_bytes(), STREAM.read_bytes(), random.Random(1)
+        inputs += [data[:chance.randrange(len(data))] for data in (first, stream) for _ in range(60)]
+        for _ in range(200):
+            data = bytearray(chance.choice((first, stream)))
+            data[chance.randrange(104, len(data))] = chance.randrange(256)
+            inputs.append(bytes(data))
+        for number, data in enumerate(inputs):
+            for kind in dewikura.Kind:
+                with self.subTest(number=number, kind=kind), tempfile.NamedTemporaryFile() as file:
+                    file.write(data)
+                    file.seek(0)
+                    arguments = [PERFLIST, "pipe"] if kind is dewikura.Kind.PIPE else [PERFLIST, "file", file.name]
+                    wanted = subprocess.run(arguments, stdin=file, capture_output=True, check=False)
+                    records, error = dewikura.from_buffer(data, kind=kind).partial()
+                    lines = "".join(f"{record_line(record)}\n" for record in records)
+                    self.assertEqual((error is not None, lines.encode()), (wanted.returncode == 2, wanted.stdout))
+
+
+if __name__ == "__main__":
+    unittest.main()
