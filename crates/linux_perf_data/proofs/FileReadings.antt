@@ -26,10 +26,11 @@ use Rattle.linux_perf_data.specs.Layout.{ConsistsOfMarkers, IsEnd, SectionSize, 
 use Rattle.linux_perf_data.specs.FeatureNumbers.{event_desc}
 use Rattle.linux_perf_data.specs.Names.{IsReadableOrAbsent}
 use Rattle.linux_perf_data.specs.RecordFraming.{IsErrorFor}
-use Rattle.linux_perf_data.specs.Iter.{iter_source_state, section_size_of, HasRemainingRecords, ReadSoFar, ReturnsRecord, ReturnsEnd, ReturnsError, IsMismatchedPerfFile}
+use Rattle.linux_perf_data.specs.Iter.{iter_source_state, section_size_of, HasRemainingRecords, ReturnsRecord, ReturnsEnd, ReturnsError, IsMismatchedPerfFile}
+use Rattle.linux_perf_data.specs.Reading.{ReadSoFar, AreFirstRemaining, AreFirstRecords, EndsWithError, EndsComplete, ReturnsRecords, HasMatchingFile, SourceErrorInCall, SourceErrorInSomeRecord, end_after}
 use Rattle.linux_perf_data.specs.OpenedFile.{FileParsed, FileOpensAt, FileRecords}
 use Rattle.linux_perf_data.specs.PerfFile.{endian_of_file, attributes_of_file, feature_data_in_file, descriptions_of_file}
-use Rattle.linux_perf_data.specs.FileReading.{AreFirstRemaining, AreFirstRecords, EndsWithError, EndsComplete, ReadingFilePartly, ReadingFileToError, ReadingFileToEnd, ReturnsRecords, HasMatchingFile, HoldsForFile, SourceErrorInCall, SourceErrorInFile, SourceErrorInSomeRecord, end_after}
+use Rattle.linux_perf_data.specs.FileReading.{ReadingFilePartly, ReadingFileToError, ReadingFileToEnd, HoldsForFile, SourceErrorInFile}
 use Rattle.linux_perf_data.proofs.IterCalls.{read_so_far_none, read_so_far_more, read_so_far_end, read_so_far_reason}
 use Rattle.linux_perf_data.proofs.LayoutUniqueness.{layout_exists}
 use Rattle.linux_perf_data.proofs.MetadataAccumulation.{holds_none, holds_more, event_desc_stays_valid}

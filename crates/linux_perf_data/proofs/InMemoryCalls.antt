@@ -16,7 +16,9 @@ use Rattle.linux_perf_data.specs.Input.{HasNoPendingHeader}
 use Rattle.linux_perf_data.specs.Layout.{MayStartAt}
 use Rattle.linux_perf_data.specs.LateMetadata.{IsMetadataType, MetadataApplied, MetadataRejected}
 use Rattle.linux_perf_data.specs.RecordFraming.{RecordTruncatedAt, RecordErrorAt}
-use Rattle.linux_perf_data.specs.Iter.{iter_source_state, section_size_of, SameInput, RawRecordRead, IdentifiesRecord, SameButLookup, RecordProcessed, RecordRejected, StopsAtError}
+use Rattle.linux_perf_data.specs.RecordViews.{IdentifiesRecord}
+use Rattle.linux_perf_data.specs.Iter.{iter_source_state, section_size_of, SameInput, StopsAtError}
+use Rattle.linux_perf_data.specs.IterSteps.{RawRecordRead, SameButLookup, RecordProcessed, RecordRejected}
 use Rattle.linux_perf_data.specs.InMemory.{memory_state, MemoryIter, with_buffer, EndsOrFails, TakesRawRecord}
 use Rattle.linux_perf_data.proofs.IterCalls.{Idles, late_stops}
 use Rattle.linux_perf_data.proofs.ProcessedRecords.{record_processed, record_rejected}

@@ -7,8 +7,9 @@ use Rattle.linux_perf_data.specs.declared.records.iter.Stage.TheVariants.{Failed
 use Rattle.linux_perf_data.specs.declared.perf_file.PerfFile.{PerfFile}
 use Rattle.linux_perf_data.specs.declared.in_memory.InMemoryRecords.{InMemoryRecords}
 use Rattle.linux_perf_data.specs.Layout.{RecordView}
-use Rattle.linux_perf_data.specs.Iter.{record_view_of, ReturnsRecord, ReachesEnd, StopsAtError, IsMismatchedPerfFile, IsErrorCause}
-use Rattle.linux_perf_data.specs.FileReading.{ReturnsRecords}
+use Rattle.linux_perf_data.specs.RecordViews.{record_view_of}
+use Rattle.linux_perf_data.specs.Iter.{ReturnsRecord, ReachesEnd, StopsAtError, IsMismatchedPerfFile, IsErrorCause}
+use Rattle.linux_perf_data.specs.Reading.{ReturnsRecords}
 use Rattle.linux_perf_data.specs.InMemory.{memory_state, MemoryIter, with_buffer}
 use Rattle.linux_perf_data.specs.InMemoryReading.{ReturnsRecordInMemory, ReturnsRecordsInMemory, OneCallMoreInMemory, ReturnsSameRecords, ReturnsSameEnd, ReturnsSameError}
 

@@ -26,7 +26,10 @@ use Rattle.linux_perf_data.specs.LateMetadata.{IsMetadataType, UpdatesPerfFile, 
 use Rattle.linux_perf_data.specs.PerfFile.{endian_of_file, descriptions_of_file, features_of_file, feature_data_in_file}
 use Rattle.linux_perf_data.specs.Layout.{SectionSize, MayStartAt, IsEnd, IsTruncated, IsRecord, AreMarkerRecords, ConsistsOfMarkers, IsValidRecord, record_type_of, misc_of, RecordView, LayoutEnd, ends_complete, ends_with_error, LayoutError, ConcernsMetadata, ErrorAt, RemainingRecords, record_view, record_view_in, attributes_in_record, attributes_in_views}
 use Rattle.linux_perf_data.specs.RecordFraming.{IsErrorFor, ShownBy, StaysWithinRecord, IsTruncatedAfterHeader, SourceErrorInRecord, MayNeedMemory}
-use Rattle.linux_perf_data.specs.Iter.{iter_source_state, section_size_of, TestsMayStart, SameInput, RawRecordRead, RawRecordTruncated, RawRecordError, IdentifiesRecord, record_view_with, HasRemainingRecords, SameButLookup, RecordProcessed, RecordRejected, ReturnsRecord, ReachesEnd, ReturnsEnd, IsMismatchedPerfFile, IsErrorCause, StopsAtError, ReturnsError, ReadSoFar}
+use Rattle.linux_perf_data.specs.RecordViews.{IdentifiesRecord, record_view_with}
+use Rattle.linux_perf_data.specs.Iter.{iter_source_state, section_size_of, TestsMayStart, SameInput, HasRemainingRecords, ReturnsRecord, ReachesEnd, ReturnsEnd, IsMismatchedPerfFile, IsErrorCause, StopsAtError, ReturnsError}
+use Rattle.linux_perf_data.specs.IterSteps.{RawRecordRead, RawRecordTruncated, RawRecordError, SameButLookup, RecordProcessed, RecordRejected}
+use Rattle.linux_perf_data.specs.Reading.{ReadSoFar}
 use Rattle.linux_perf_data.proofs.AddedAttributes.{adds_none, added_one}
 use Rattle.linux_perf_data.proofs.RecordHeaders.{record_least, total_size_plain}
 use Rattle.linux_perf_data.proofs.ProcessedRecords.{LateFault, Foreign, consumed_record, marker_record, late_why, wants_memory}

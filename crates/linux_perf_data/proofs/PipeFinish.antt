@@ -26,7 +26,7 @@ use Rattle.linux_perf_data.specs.FeatureNumbers.{event_desc}
 use Rattle.linux_perf_data.specs.Names.{IsReadableOrAbsent, NamedByEventDesc, IsReadableEventDesc}
 use Rattle.linux_perf_data.specs.FileOpening.{RecognizesMagic, magic_of}
 use Rattle.linux_perf_data.specs.PipeOpening.{MetadataEnded, HoldsPipeMetadata, IsPipeHeader, PipeOpened, OpensPerfPipe, FailsBy, IsMetadataReadError, IsPipeError, IsMetadataListError, OpeningRead, IsErrorCauseFor}
-use Rattle.linux_perf_data.specs.PipeSteps.{OpeningFinished, FinishesOpening, OpensAfterPipeHeader, IsFinishError, HoldsMetadataOf, MetadataRead}
+use Rattle.linux_perf_data.specs.PipeSteps.{OpeningFinished, FinishesOpening, OpensAfterPipeHeader, IsFinishError, CollectsMetadata, MetadataRead}
 use Rattle.linux_perf_data.specs.Consistency.{error_of_inconsistency}
 use Rattle.linux_perf_data.specs.FeatureData.{feature_data_of}
 use Rattle.linux_perf_data.specs.declared.pipe.opening.PipeMetadata.{PipeMetadata}
@@ -65,26 +65,28 @@ inconsistency_stops order m desc named e is names same (b, breaks, told) =
 
 module _ (order : Endianness) (a b : State) (m : PipeMetadata) (head : Option (List ℕ)) where
   -- the pipe is opened
-  pub opens_after_header : (opening : PipeOpening) → (pieces : List (List ℕ)) × MetadataRead order pieces head a b × HoldsMetadataOf order pieces m → OpeningFinished order m head opening
+  pub opens_after_header : (opening : PipeOpening) → (pieces : List (List ℕ)) × MetadataRead order pieces head a b × CollectsMetadata order pieces m → OpeningFinished order m head opening
       → (pieces : List (List ℕ)) × MetadataRead order pieces opening.pending_header a b × HoldsPipeMetadata order pieces opening
   opens_after_header opening (pieces, took, tells) f = (
     pieces,
     subst (λ h. MetadataRead order pieces h a b) (sym f.pending_header) took,
     record {
       endian = f.endian;
-      attributes = f.attributes ∙ tells.attributes;
-      feature_data = λ n. f.sections n ∙ tells.feature_data n;
-      features = λ n. (
-        λ has. (tells.features n).0 (subst (λ s. HasFeature s n) f.features has),
-        λ both. subst (λ s. HasFeature s n) (sym f.features) ((tells.features n).1 both),
-      );
+      contents = record {
+        attributes = f.attributes ∙ tells.attributes;
+        feature_data = λ n. f.sections n ∙ tells.feature_data n;
+        features = λ n. (
+          λ has. (tells.features n).0 (subst (λ s. HasFeature s n) f.features has),
+          λ both. subst (λ s. HasFeature s n) (sym f.features) ((tells.features n).1 both),
+        );
+      };
       names_match = subst (λ d. NamedByEventDesc order d opening.attributes.items) (tells.feature_data event_desc) f.names_match;
       nonempty = f.nonempty;
       consistent = subst AreConsistent (sym f.attributes) f.consistent;
     },
   )
 
-  told_stops : (pieces : List (List ℕ)) (e : Error) → HoldsMetadataOf order pieces m → IsFinishError order m e → IsMetadataListError order pieces e
+  told_stops : (pieces : List (List ℕ)) (e : Error) → CollectsMetadata order pieces m → IsFinishError order m e → IsMetadataListError order pieces e
   told_stops pieces e tells (inl (is, none)) = inl (is, sym tells.attributes ∙ none)
   told_stops pieces e tells (inr (inl (bytes, some, there, unread))) = inr (inl (bytes, (λ none. some (tells.attributes ∙ none)), sym (tells.feature_data event_desc) ∙ there, unread))
   told_stops pieces e tells (inr (inr (b, names, breaks, is))) =
@@ -108,7 +110,7 @@ ended_why order a b pieces (Some head) e t (is, eight, least, other) told = inl 
     })
 
 -- the opening fails
-pub stops_after : (order : Endianness) (a b : State) (m : PipeMetadata) (head : Option (List ℕ)) (e : Error) → (pieces : List (List ℕ)) × MetadataRead order pieces head a b × HoldsMetadataOf order pieces m
+pub stops_after : (order : Endianness) (a b : State) (m : PipeMetadata) (head : Option (List ℕ)) (e : Error) → (pieces : List (List ℕ)) × MetadataRead order pieces head a b × CollectsMetadata order pieces m
     → (e ≢ Memory → IsFinishError order m e) → FailsBy (IsMetadataReadError order) a e b
 stops_after order a b m head e (pieces, took, tells) stops = record {
   consumed_bytes = concat pieces ++ took.last_bytes;
@@ -201,7 +203,7 @@ pipe_opened a b c h order opening t tells (pieces, took, holds) =
 
 -- ---- the results of the last calls
 
-pub after_done : (order : Endianness) (a b : State) (m : PipeMetadata) (head : Option (List ℕ)) (r : Result PipeOpening Error) → (pieces : List (List ℕ)) × MetadataRead order pieces head a b × HoldsMetadataOf order pieces m
+pub after_done : (order : Endianness) (a b : State) (m : PipeMetadata) (head : Option (List ℕ)) (r : Result PipeOpening Error) → (pieces : List (List ℕ)) × MetadataRead order pieces head a b × CollectsMetadata order pieces m
     → FinishesOpening order m head r → OpensAfterPipeHeader order a r b
 after_done order a b m head (Ok opening) told finished = opens_after_header order a b m head opening told finished
 after_done order a b m head (Err e) told stops = stops_after order a b m head e told stops

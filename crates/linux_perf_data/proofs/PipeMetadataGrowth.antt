@@ -14,7 +14,7 @@ use Rattle.linux_perf_data.specs.LateMetadata.{features_in_record}
 use Rattle.linux_perf_data.specs.Layout.{attributes_in_records, attributes_in_record, record_type_of}
 use Rattle.linux_perf_data.specs.Names.{feature_in_body}
 use Rattle.linux_perf_data.specs.PipeOpening.{features_in_records, feature_data_in}
-use Rattle.linux_perf_data.specs.PipeSteps.{RecordAdded, HoldsMetadataOf}
+use Rattle.linux_perf_data.specs.PipeSteps.{RecordAdded, CollectsMetadata}
 use Rattle.linux_perf_data.specs.FeatureData.{feature_data_of}
 use Rattle.linux_perf_data.specs.declared.pipe.opening.PipeMetadata.{PipeMetadata}
 
@@ -77,7 +77,7 @@ brought_some true f n d g (inr is) = some_of (nat_eq f n) d (g n) (inr is.1)
 brought_some false f n d g (inl before) = before
 brought_some false f n d g (inr is) = absurd (let e = is.0 in cc)
 
-pub metadata_more : (order : Endianness) (ps : List (List ℕ)) (p : List ℕ) (m m' : PipeMetadata) → HoldsMetadataOf order ps m → RecordAdded order (record_type_of order p) (drop 8 p) m m' → HoldsMetadataOf order (ps ++ p ∷ []) m'
+pub metadata_more : (order : Endianness) (ps : List (List ℕ)) (p : List ℕ) (m m' : PipeMetadata) → CollectsMetadata order ps m → RecordAdded order (record_type_of order p) (drop 8 p) m m' → CollectsMetadata order (ps ++ p ∷ []) m'
 metadata_more order ps p m m' told g =
     let kind = record_type_of order p in
     let body = drop 8 p in

@@ -9,7 +9,7 @@ use Rattle.perfdata_base.proofs.ConsumedLemmas.{consumed_none, consumed_more, co
 use Rattle.perfdata_base.specs.declared.raw.Endianness.{Endianness}
 use Rattle.perfdata_sections.specs.declared.error.Error.{Error}
 use Rattle.linux_perf_data.specs.PipeOpening.{AreMetadata, MetadataEnded, IsMetadataRecord, FailsBy, IsMetadataReadError, IsMetadataRecordError}
-use Rattle.linux_perf_data.specs.PipeSteps.{HoldsMetadataOf, MetadataEndRead, MetadataRead, NextRecordRead}
+use Rattle.linux_perf_data.specs.PipeSteps.{CollectsMetadata, MetadataEndRead, MetadataRead, NextRecordRead}
 use Rattle.linux_perf_data.specs.declared.pipe.opening.PipeMetadata.{PipeMetadata}
 use Rattle.linux_perf_data.proofs.PipeMetadataGrowth.{metadata_more}
 use Rattle.linux_perf_data.proofs.PipeErrors.{error_later}
@@ -20,11 +20,11 @@ module _ (order : Endianness) where
     pub pieces : List (List ℕ)
     pub are : All (IsMetadataRecord order) pieces
     pub gave : Consumed old (concat pieces) now
-    pub tells : HoldsMetadataOf order pieces m
+    pub tells : CollectsMetadata order pieces m
     pub at : offset ≡ length (concat pieces)
     pub fits : offset < 2 ^ 64
 
-  pub so_none : (s : State) (m : PipeMetadata) → HoldsMetadataOf order [] m → SoFar s s m 0
+  pub so_none : (s : State) (m : PipeMetadata) → CollectsMetadata order [] m → SoFar s s m 0
   so_none s m tells = record { pieces = []; are = All-nil (IsMetadataRecord order); gave = consumed_none s; tells = tells; at = refl; fits = omega arith }
 
   pub so_more : (a b c : State) (m m' : PipeMetadata) (offset end : ℕ) → SoFar a b m offset → NextRecordRead order offset b m end c m' → SoFar a c m' end
@@ -49,7 +49,7 @@ module _ (order : Endianness) where
   ended_later a b c front last (Some head) gave ended = ended
 
   -- the metadata records end
-  pub so_ended : (a b c : State) (m m' : PipeMetadata) (offset : ℕ) (head : Option (List ℕ)) → SoFar a b m offset → MetadataEndRead order b m head c m' → (pieces : List (List ℕ)) × MetadataRead order pieces head a c × HoldsMetadataOf order pieces m'
+  pub so_ended : (a b c : State) (m m' : PipeMetadata) (offset : ℕ) (head : Option (List ℕ)) → SoFar a b m offset → MetadataEndRead order b m head c m' → (pieces : List (List ℕ)) × MetadataRead order pieces head a c × CollectsMetadata order pieces m'
   so_ended a b c m m' offset head so t = (
     so.pieces,
     record {
@@ -58,7 +58,7 @@ module _ (order : Endianness) where
       consumes = consumed_more a b c (concat so.pieces) t.last_bytes so.gave t.consumes;
       metadata_end = ended_later a b c (concat so.pieces) t.last_bytes head so.gave t.metadata_end;
     },
-    subst (HoldsMetadataOf order so.pieces) (sym t.unchanged) so.tells,
+    subst (CollectsMetadata order so.pieces) (sym t.unchanged) so.tells,
   )
 
   -- reading the next record fails

@@ -27,7 +27,7 @@ use Rattle.linux_perf_data.specs.PerfFile.{attributes_of_file, feature_data_in_f
 use Rattle.linux_perf_data.specs.RecordFraming.{IsErrorFor}
 use Rattle.linux_perf_data.specs.PipeOpening.{AreMetadata, CanOpenPipe, EndsMetadata, IsPipeError, feature_data_in}
 use Rattle.linux_perf_data.specs.PipeReading.{HoldsForPipeRest, BeginsPipe, HoldsAllMetadata, IsCompletePipe, HoldsForPipe, OpensWith, ReadingPipeToEnd, ReadingPipeToError, ReadingPipePartly}
-use Rattle.linux_perf_data.specs.FileReading.{AreFirstRemaining, AreFirstRecords, EndsWithError, ReturnsRecords, HasMatchingFile, HasNotFailed, SourceErrorInSomeRecord, end_after}
+use Rattle.linux_perf_data.specs.Reading.{AreFirstRemaining, AreFirstRecords, EndsWithError, ReturnsRecords, HasMatchingFile, HasNotFailed, SourceErrorInSomeRecord, end_after}
 use Rattle.linux_perf_data.proofs.RecordHeaders.{record_type_front, size_front}
 use Rattle.linux_perf_data.proofs.IterCalls.{none_left, read_so_far_whole}
 use Rattle.linux_perf_data.proofs.LayoutSteps.{nothing_more}
@@ -93,14 +93,14 @@ module _ {R : Type 0} (state : R → State) (old : State) (file : PerfFile) (it 
   is_consistent = o.represents.consistent
 
   opening_consistent : AreConsistent (attributes_in_records it.endian None o.raw_records)
-  opening_consistent = subst AreConsistent o.metadata.attributes is_consistent
+  opening_consistent = subst AreConsistent o.metadata.contents.attributes is_consistent
 
   -- the pipe has an attribute, and its last EVENT_DESC is readable
   some_attribute : attributes_in_records it.endian None o.raw_records ≡ [] → ⊥
-  some_attribute none = (let e : [] ≡ o.represents.first_attribute ∷ o.represents.other_attributes = sym none ∙ sym o.metadata.attributes ∙ o.represents.elements in absurd cc)
+  some_attribute none = (let e : [] ≡ o.represents.first_attribute ∷ o.represents.other_attributes = sym none ∙ sym o.metadata.contents.attributes ∙ o.represents.elements in absurd cc)
 
   readable_desc : (bytes : List ℕ) → feature_data_in it.endian o.raw_records event_desc ≡ Some bytes → IsReadableEventDesc it.endian bytes
-  readable_desc bytes bytes_are = subst (IsReadableOrAbsent it.endian) (o.metadata.feature_data event_desc ∙ bytes_are) (can_name it.endian (feature_data_in_file file event_desc) (descriptions_of_file file) o.metadata.names_match)
+  readable_desc bytes bytes_are = subst (IsReadableOrAbsent it.endian) (o.metadata.contents.feature_data event_desc ∙ bytes_are) (can_name it.endian (feature_data_in_file file event_desc) (descriptions_of_file file) o.metadata.names_match)
 
   pub can_open : CanOpenPipe it.endian o.raw_records
   can_open = record { nonempty = some_attribute; event_desc_readable = readable_desc; consistent = opening_consistent }
@@ -113,21 +113,21 @@ module _ {R : Type 0} (state : R → State) (old : State) (file : PerfFile) (it 
   RemainAfter rest = RemainingRecords it.endian rest None 0 0 (attributes_in_records it.endian None o.raw_records)
 
   pub same_remaining : Come ≡ RemainAfter
-  same_remaining = λ i rest. RemainingRecords it.endian rest (o.section_size i) (o.offset i) (o.round i) (o.metadata.attributes i)
+  same_remaining = λ i rest. RemainingRecords it.endian rest (o.section_size i) (o.offset i) (o.round i) (o.metadata.contents.attributes i)
 
   -- the `PerfFile` holds all metadata
   pub holds_all : (records : List RecordView) (file' : PerfFile) → AccumulatesMetadata it.endian (section_size_of state it) records file file' → HoldsAllMetadata it.endian o.raw_records records file'
   holds_all records file' h = record {
     file_endian = h.same_endian ∙ o.metadata.file_endian;
-    attributes = h.attributes ∙ (λ i. o.metadata.attributes i ++ attributes_in_views it.endian (o.section_size i) records);
-    feature_data = λ n. h.feature_data n ∙ (λ i. update_all nat_eq (λ m. o.metadata.feature_data m i) (features_in_views it.endian (o.section_size i) records) n);
+    attributes = h.attributes ∙ (λ i. o.metadata.contents.attributes i ++ attributes_in_views it.endian (o.section_size i) records);
+    feature_data = λ n. h.feature_data n ∙ (λ i. update_all nat_eq (λ m. o.metadata.contents.feature_data m i) (features_in_views it.endian (o.section_size i) records) n);
     features = λ n. (
       λ is. elim ((h.features n).0 is) [
-        | inl first ↦ inl ((o.metadata.features n).0 first)
+        | inl first ↦ inl ((o.metadata.contents.features n).0 first)
         | inr later ↦ inr (later.0, subst (λ b. SomeProvideFeature it.endian b n records) o.section_size later.1)
       ],
       λ is. elim is [
-        | inl first ↦ (h.features n).1 (inl ((o.metadata.features n).1 first))
+        | inl first ↦ (h.features n).1 (inl ((o.metadata.contents.features n).1 first))
         | inr later ↦ (h.features n).1 (inr (later.0, subst (λ b. SomeProvideFeature it.endian b n records) (sym o.section_size) later.1))
       ],
     );

@@ -40,10 +40,12 @@ module _ {R : Type 0} (state : R → State) (source : R) (opening : PipeOpening)
   holds : (pieces : List (List ℕ)) → HoldsPipeMetadata opening.endian pieces opening → HoldsMetadata opening.endian pieces r.perf_file
   holds pieces told = record {
     file_endian = starts.file_endian;
-    attributes = ap described_attributes starts.attributes ∙ told.attributes;
-    feature_data = λ n. starts.sections n ∙ told.feature_data n;
-    features = λ n. subst (λ f. HasFeature f n ↔ ((n < 256) × IsSome (feature_data_in opening.endian pieces n))) (sym starts.features) (told.features n);
-    names_match = subst (λ d. NamedByEventDesc opening.endian d (descriptions_of_file r.perf_file)) (sym (starts.sections event_desc ∙ told.feature_data event_desc))
+    contents = record {
+      attributes = ap described_attributes starts.attributes ∙ told.contents.attributes;
+      feature_data = λ n. starts.sections n ∙ told.contents.feature_data n;
+      features = λ n. subst (λ f. HasFeature f n ↔ ((n < 256) × IsSome (feature_data_in opening.endian pieces n))) (sym starts.features) (told.contents.features n);
+    };
+    names_match = subst (λ d. NamedByEventDesc opening.endian d (descriptions_of_file r.perf_file)) (sym (starts.sections event_desc ∙ told.contents.feature_data event_desc))
         (subst (λ ds. NamedByEventDesc opening.endian (feature_data_in opening.endian pieces event_desc) ds) (sym starts.attributes) told.names_match);
   }
 

@@ -28,7 +28,9 @@ use Rattle.linux_perf_data.specs.Names.{IsReadableEventDesc, NamedByEventDesc, f
 use Rattle.linux_perf_data.specs.PerfFile.{descriptions_of_file, feature_data_in_file}
 use Rattle.linux_perf_data.specs.LateMetadata.{IsMetadataType, UpdatesPerfFile, HasValidMetadata, SameAttributeCount, MetadataApplied, MetadataRejected, RejectsMetadata, PassesEarlierChecks}
 use Rattle.linux_perf_data.specs.RecordFraming.{IsErrorFor, MayNeedMemory}
-use Rattle.linux_perf_data.specs.Iter.{section_size_of, event_by_writer, attr_index_by_writer, record_type_by_writer, endian_by_writer, SameButLookup, IdentifiesRecord, RecordProcessed, RecordRejected}
+use Rattle.linux_perf_data.specs.RecordViews.{event_by_writer, attr_index_by_writer, record_type_by_writer, endian_by_writer, IdentifiesRecord}
+use Rattle.linux_perf_data.specs.Iter.{section_size_of}
+use Rattle.linux_perf_data.specs.IterSteps.{SameButLookup, RecordProcessed, RecordRejected}
 use Rattle.linux_perf_data.proofs.RecordHeaders.{total_size_plain}
 
 -- an EVENT_DESC that is applied is readable

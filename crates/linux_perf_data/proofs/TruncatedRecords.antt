@@ -7,7 +7,8 @@ use Rattle.perfdata_sections.specs.declared.error.Error.{Error}
 use Rattle.linux_perf_data.specs.declared.records.iter.PerfRecordIter.{PerfRecordIter}
 use Rattle.linux_perf_data.specs.Input.{AnswersTruncation, HasNoPendingHeader}
 use Rattle.linux_perf_data.specs.RecordFraming.{RecordTruncatedAt, RecordErrorAt}
-use Rattle.linux_perf_data.specs.Iter.{iter_source_state, section_size_of, SameInput, RawRecordRead, RawRecordTruncated, ReadsRawRecord}
+use Rattle.linux_perf_data.specs.Iter.{iter_source_state, section_size_of, SameInput}
+use Rattle.linux_perf_data.specs.IterSteps.{RawRecordRead, RawRecordTruncated, ReadsRawRecord}
 use Rattle.linux_perf_data.proofs.SourceViews.{truncated_by}
 
 module _ {R : Type 0} (state : R → State) where

@@ -20,7 +20,9 @@ use Rattle.linux_perf_data.specs.declared.in_memory.iter.RawRecord.TheVariants.{
 use Rattle.linux_perf_data.specs.declared.perf_file.PerfFile.{PerfFile}
 use Rattle.linux_perf_data.specs.Input.{section_size_in}
 use Rattle.linux_perf_data.specs.RecordFraming.{AuxDataRead, AuxDataError, ReadsRecordBody}
-use Rattle.linux_perf_data.specs.Iter.{iter_source_state, section_size_of, RawRecordRead, RawRecordTruncated, RawRecordError, ProcessesRecord, record_view_with, ReturnsRecord, ReturnsEnd, ReturnsError}
+use Rattle.linux_perf_data.specs.RecordViews.{record_view_with}
+use Rattle.linux_perf_data.specs.Iter.{iter_source_state, section_size_of, ReturnsRecord, ReturnsEnd, ReturnsError}
+use Rattle.linux_perf_data.specs.IterSteps.{RawRecordRead, RawRecordTruncated, RawRecordError, ProcessesRecord}
 
 -- A cursor over bytes in memory, as a source.
 abbrev pub memory_state : Cursor (Bor (List ℕ)) → State

@@ -11,10 +11,11 @@ use Rattle.linux_perf_data.specs.declared.perf_file.PerfFile.{PerfFile}
 use Rattle.linux_perf_data.specs.declared.in_memory.InMemoryRecords.{InMemoryRecords}
 use Rattle.linux_perf_data.specs.declared.in_memory.InMemoryReader.{InMemoryReader}
 use Rattle.linux_perf_data.specs.declared.records.iter.Stage.TheVariants.{Running}
-use Rattle.linux_perf_data.specs.FileReading.{ReturnsRecords}
+use Rattle.linux_perf_data.specs.Reading.{ReturnsRecords}
 use Rattle.linux_perf_data.specs.Layout.{RecordView}
 use Rattle.perfdata_records.specs.FileRecord.{file_record_body}
-use Rattle.linux_perf_data.specs.Iter.{section_size_of, record_view_of, ReturnsRecord, ReturnsEnd, ReturnsError}
+use Rattle.linux_perf_data.specs.RecordViews.{record_view_of}
+use Rattle.linux_perf_data.specs.Iter.{section_size_of, ReturnsRecord, ReturnsEnd, ReturnsError}
 use Rattle.linux_perf_data.specs.OpenedFile.{FileParsed, FileParseError}
 use Rattle.linux_perf_data.specs.OpenedPipe.{PipeParsed, PipeParseError}
 use Rattle.linux_perf_data.specs.InMemory.{memory_state, with_buffer}

@@ -1,101 +1,29 @@
--- The remaining records of a `PerfRecordIter`, and the contracts of its calls.
-use Rattle.std.specs.Prelude.{◌≡◌, ◌≢◌, ℕ, ◌+◌, ◌^◌, ◌<◌, ◌≤◌, ◌==◌, ◌⊎◌, Bool, true, false, List, [], ◌∷◌, ◌++◌, length, drop, if◌then◌else◌, Option, None, Some, Result, Ok, Err, IfSome}
+-- The state of a `PerfRecordIter`, its remaining records, and the contract of one call.
+use Rattle.std.specs.Prelude.{◌≡◌, ◌≢◌, ℕ, ◌+◌, ◌^◌, ◌<◌, ◌≤◌, ◌⊎◌, Bool, true, false, List, [], ◌∷◌, ◌++◌, length, drop, Option, None, Some, Result, Ok, Err, IfSome}
 use Rattle.perfdata_base.specs.Source.{State, Consumed, SourcePaused}
 use Rattle.perfdata_base.specs.Endian.{number_in}
-use Rattle.perfdata_base.specs.Raw.{bytes_of}
 use Rattle.perfdata_base.specs.declared.raw.Endianness.{Endianness}
-use Rattle.perfdata_base.specs.declared.event.PerfEventHeader.{PerfEventHeader}
-use Rattle.perfdata_base.specs.declared.place.RecordParseInfo.{RecordParseInfo}
 use Rattle.perfdata_sections.specs.declared.error.Error.{Error}
 use Rattle.perfdata_sections.specs.declared.error.Error.TheVariants as error
 use Rattle.perfdata_records.specs.declared.record.PerfFileRecord.{PerfFileRecord}
-use Rattle.perfdata_records.specs.declared.record.PerfFileRecord.TheVariants.{EventRecord, UserRecord}
 use Rattle.perfdata_sections.specs.Error.{IsInvalidInput}
 use Rattle.perfdata_sections.specs.EventDesc.{IsEventDescError}
-use Rattle.perfdata_records.specs.UserRecordType.{user_type_number}
-use Rattle.perfdata_sections.specs.RecordTypes.{header_attr, finished_round, header_feature}
+use Rattle.perfdata_sections.specs.RecordTypes.{header_attr}
 use Rattle.linux_perf_data.specs.declared.records.iter.PerfRecordIter.{PerfRecordIter}
 use Rattle.linux_perf_data.specs.declared.records.iter.RecordPlace.{RecordPlace}
 use Rattle.linux_perf_data.specs.declared.records.iter.RecordInfo.{RecordInfo}
-use Rattle.linux_perf_data.specs.declared.records.iter.Writer.{Writer}
-use Rattle.linux_perf_data.specs.declared.records.iter.Writer.TheVariants.{Kernel, User}
-use Rattle.linux_perf_data.specs.declared.attributes.lookup.AttributeLookup.{AttributeLookup}
 use Rattle.linux_perf_data.specs.declared.records.iter.Stage.TheVariants.{Running, Failed, Ended}
 use Rattle.linux_perf_data.specs.declared.perf_file.PerfFile.{PerfFile}
-use Rattle.linux_perf_data.specs.Attribute.{Attribute, EventRef, HoldsAttribute}
+use Rattle.linux_perf_data.specs.Attribute.{Attribute, HoldsAttribute}
 use Rattle.linux_perf_data.specs.Input.{HasNoPendingHeader, section_size_in, input_source_state}
-use Rattle.linux_perf_data.specs.LateMetadata.{HasValidMetadata, IsMetadataType, UpdatesPerfFile, PassesEarlierChecks, SamePerfFile, RejectsMetadata, SameAttributeCount}
+use Rattle.linux_perf_data.specs.LateMetadata.{HasValidMetadata, IsMetadataType, UpdatesPerfFile, PassesEarlierChecks, SamePerfFile, SameAttributeCount}
 use Rattle.linux_perf_data.specs.FeatureNumbers.{event_desc}
 use Rattle.linux_perf_data.specs.PerfFile.{descriptions_of_file, feature_data_in_file}
-use Rattle.linux_perf_data.specs.AttributeLookup.{Represents, parse_info_at}
-use Rattle.linux_perf_data.specs.Layout.{SectionSize, MayStartAt, IsEnd, IsRecord, ConsistsOfMarkers, record_type_of, misc_of, RecordView, LayoutEnd, ends_complete, ends_with_error, LayoutError, RemainingRecords, record_view, attributes_in_record, attributes_in_views}
+use Rattle.linux_perf_data.specs.AttributeLookup.{Represents}
+use Rattle.linux_perf_data.specs.Layout.{SectionSize, MayStartAt, IsEnd, IsRecord, ConsistsOfMarkers, record_type_of, RecordView, LayoutEnd, ends_complete, ends_with_error, LayoutError, RemainingRecords, attributes_in_record}
 use Rattle.linux_perf_data.specs.Pauses.{PausesOnlyAtEndOrError}
-use Rattle.linux_perf_data.specs.RecordFraming.{RecordErrorAt, StaysWithinRecord, RecordTruncatedAt, IsTruncatedAfterHeader, IsErrorFor, ShownBy, SourceErrorInRecord, MayNeedMemory}
-
--- The view of a returned record: its fields as the layout gives them.
-abbrev pub record_view_of : RecordPlace → PerfFileRecord → RecordView
-record_view_of p (EventRecord index r) = record {
-  offset = p.offset;
-  round = p.round;
-  record_type = r.record_type.0;
-  misc = r.misc;
-  endian = r.parse_info.endian;
-  body = bytes_of r.body;
-  event = Some (record { index = index; parse_info = r.parse_info });
-  timestamp = p.timestamp;
-}
-record_view_of p (UserRecord r) = record {
-  offset = p.offset;
-  round = p.round;
-  record_type = user_type_number r.record_type;
-  misc = r.misc;
-  endian = r.endian;
-  body = bytes_of r.body;
-  event = None;
-  timestamp = p.timestamp;
-}
-
--- The attribute index of a record; 0 if a tool wrote it.
-abbrev pub attr_index_by_writer : Writer → ℕ
-attr_index_by_writer (Kernel index) = index
-attr_index_by_writer (User t) = 0
-
-abbrev pub event_by_writer : RecordParseInfo → Writer → Option EventRef
-event_by_writer places (Kernel index) = Some (record { index = index; parse_info = places })
-event_by_writer places (User t) = None
-
-abbrev pub record_type_by_writer : Writer → ℕ → ℕ
-record_type_by_writer (Kernel index) kind = kind
-record_type_by_writer (User t) kind = user_type_number t
-
-abbrev pub endian_by_writer : RecordParseInfo → Writer → Endianness → Endianness
-endian_by_writer places (Kernel index) order = places.endian
-endian_by_writer places (User t) order = order
-
--- The view of an identified record, with the parse info of its attribute, the byte order of the input and the buffered body.
-abbrev pub record_view_at : RecordParseInfo → RecordInfo → Endianness → List ℕ → RecordView
-record_view_at places f order body = record {
-  offset = f.place.offset;
-  round = f.place.round;
-  record_type = record_type_by_writer f.writer f.record_type.0;
-  misc = f.misc;
-  endian = endian_by_writer places f.writer order;
-  body = body;
-  event = event_by_writer places f.writer;
-  timestamp = f.place.timestamp;
-}
-
--- The same, with the parse info from the attribute lookup.
-abbrev pub record_view_with : AttributeLookup → RecordInfo → Endianness → List ℕ → RecordView
-record_view_with known f order body = record_view_at (parse_info_at known (attr_index_by_writer f.writer)) f order body
-
--- The record with this header, which isn't a marker's, is identified as the represented attributes require. The view uses the
--- parse infos of the new lookup.
-pub record IdentifiesRecord (old : AttributeLookup) (offset round : ℕ) (header : PerfEventHeader) (body : List ℕ) (found : RecordInfo) (new : AttributeLookup) : Type 0 where
-  pub offset_matches : found.place.offset ≡ offset
-  pub record_type : record_type_by_writer found.writer found.record_type.0 ≡ header.type_
-  pub kernel_type : (index : ℕ) → found.writer ≡ Kernel index → header.type_ < 64
-  pub matches : (order : Endianness) (attrs : List Attribute) → Represents order old attrs → record_view_with new found order body ≡ record_view order offset round attrs header.type_ header.misc body
+use Rattle.linux_perf_data.specs.RecordFraming.{StaysWithinRecord, IsTruncatedAfterHeader, IsErrorFor, ShownBy, SourceErrorInRecord, MayNeedMemory}
+use Rattle.linux_perf_data.specs.RecordViews.{record_view_of, record_view_with}
 
 -- Whether a record may start at this offset.
 abbrev pub TestsMayStart : SectionSize → ℕ → Bool → Type 0
@@ -121,85 +49,9 @@ module _ {R : Type 0} (state : R → State) where
     pub same_endian : new.endian ≡ old.endian
     pub section_size : section_size_of new ≡ section_size_of old
 
-  -- One raw record was consumed from the source. Its body is buffered unless it is a marker.
-  pub record RawRecordRead (old : PerfRecordIter R) (header : PerfEventHeader) (new : PerfRecordIter R) : Type 0 where
-    pub raw_record : List ℕ
-    pub consumes : Consumed (iter_source_state old) raw_record (iter_source_state new)
-    pub is_record : IsRecord old.endian raw_record
-    pub record_type : record_type_of old.endian raw_record ≡ header.type_
-    pub misc : misc_of old.endian raw_record ≡ header.misc
-    pub offset : new.offset ≡ old.offset + length raw_record
-    pub offset_fits : new.offset < 2 ^ 64
-    pub round : new.round ≡ (if header.type_ == finished_round then old.round + 1 else old.round)
-    pub buffered_body : header.type_ ≢ finished_round → new.body.items ≡ drop 8 raw_record
-    pub empty_if_marker : header.type_ ≡ finished_round → new.body.items ≡ []
-    pub same_input : SameInput old new
-    pub attribute_lookup : new.attribute_lookup ≡ old.attribute_lookup
-    pub stage : new.stage ≡ old.stage
-    pub no_pending_header : HasNoPendingHeader new.input
-
-  -- Reading a raw record failed. The iterator's offset is unchanged.
-  pub record RawRecordError (old : PerfRecordIter R) (e : Error) (new : PerfRecordIter R) : Type 0 where
-    pub error : RecordErrorAt old.endian (iter_source_state old) (section_size_of old) old.offset e (length new.body.items) (iter_source_state new)
-    pub offset : new.offset ≡ old.offset
-    pub round : new.round ≡ old.round
-    pub same_input : SameInput old new
-    pub attribute_lookup : new.attribute_lookup ≡ old.attribute_lookup
-    pub no_pending_header : HasNoPendingHeader new.input
-
-  -- A raw record is truncated in a pipe. The iterator's offset is unchanged.
-  pub record RawRecordTruncated (old new : PerfRecordIter R) : Type 0 where
-    pub in_pipe : section_size_of old ≡ None
-    pub is_truncated : RecordTruncatedAt old.endian (iter_source_state old) old.offset (length new.body.items) (iter_source_state new)
-    pub offset : new.offset ≡ old.offset
-    pub round : new.round ≡ old.round
-    pub same_input : SameInput old new
-    pub attribute_lookup : new.attribute_lookup ≡ old.attribute_lookup
-    pub no_pending_header : HasNoPendingHeader new.input
-
-  abbrev pub ReadsRawRecord : PerfRecordIter R → Result (Option PerfEventHeader) Error → PerfRecordIter R → Type 0
-  ReadsRawRecord old (Ok (Some header)) new = RawRecordRead old header new
-  ReadsRawRecord old (Ok None) new = RawRecordTruncated old new
-  ReadsRawRecord old (Err e) new = RawRecordError old e new
-
   -- The records that the iterator still returns and how its layout then ends, if the attributes before are `attrs`.
   abbrev pub HasRemainingRecords : PerfRecordIter R → List Attribute → List RecordView → LayoutEnd → Type 0
   HasRemainingRecords it attrs records end = IfSome (iter_source_state it).bytes (λ bytes. RemainingRecords it.endian bytes (section_size_of it) it.offset it.round attrs records end)
-
-  -- The iterators are equal except for the attribute lookup and the stage.
-  pub record SameButLookup (piece new : PerfRecordIter R) : Type 0 where
-    pub source : new.source ≡ piece.source
-    pub same_endian : new.endian ≡ piece.endian
-    pub body : new.body.items ≡ piece.body.items
-    pub offset : new.offset ≡ piece.offset
-    pub round : new.round ≡ piece.round
-    pub input : new.input ≡ piece.input
-
-  -- The record in the body buffer was identified, and its metadata was applied.
-  pub record RecordProcessed (old : PerfRecordIter R) (file : PerfFile) (offset round : ℕ) (header : PerfEventHeader) (found : RecordInfo) (new : PerfRecordIter R) (file' : PerfFile) : Type 0 where
-    pub same_but_lookup : SameButLookup old new
-    pub stage : new.stage ≡ old.stage
-    pub record_identified : IdentifiesRecord old.attribute_lookup offset round header old.body.items found new.attribute_lookup
-    pub represents : (attrs : List Attribute) → Represents old.endian old.attribute_lookup attrs → Represents old.endian new.attribute_lookup (attrs ++ attributes_in_record old.endian (section_size_of old) header.type_ old.body.items)
-    pub valid_attribute : section_size_of old ≡ None → header.type_ ≡ header_attr → HoldsAttribute old.endian old.body.items
-    pub valid_feature : section_size_of old ≡ None → header.type_ ≡ header_feature → 8 ≤ length old.body.items
-    pub same_attribute_count : section_size_of old ≡ None → IsMetadataType header.type_ → SameAttributeCount old.endian old.attribute_lookup file
-    pub file_updates : UpdatesPerfFile old.endian (section_size_of old) header.type_ old.body.items file file'
-    pub file_unchanged_otherwise : (section_size_of old ≢ None) ⊎ (¬ IsMetadataType header.type_) → file' ≡ file
-
-  -- The record was rejected, and the contents of the `PerfFile` are unchanged.
-  pub record RecordRejected (old : PerfRecordIter R) (file : PerfFile) (header : PerfEventHeader) (e : Error) (new : PerfRecordIter R) (file' : PerfFile) : Type 0 where
-    pub same_but_lookup : SameButLookup old new
-    pub in_pipe : section_size_of old ≡ None
-    pub metadata_type : IsMetadataType header.type_
-    pub same_file : SamePerfFile file file'
-    pub not_failed : e ≢ error.Failed
-    pub if_out_of_memory : e ≡ error.Memory → SameAttributeCount old.endian old.attribute_lookup file × HasValidMetadata old.endian header.type_ old.body.items
-    pub cause : e ≢ error.Memory → RejectsMetadata old.endian old.attribute_lookup file header.type_ old.body.items e
-
-  abbrev pub ProcessesRecord : PerfRecordIter R → PerfFile → ℕ → ℕ → PerfEventHeader → Result RecordInfo Error → PerfRecordIter R → PerfFile → Type 0
-  ProcessesRecord old file offset round header (Ok found) new file' = RecordProcessed old file offset round header found new file'
-  ProcessesRecord old file offset round header (Err e) new file' = RecordRejected old file header e new file'
 
   -- A record was returned.
   pub record ReturnsRecord (old : PerfRecordIter R) (file : PerfFile) (h : RecordView) (new : PerfRecordIter R) (file' : PerfFile) : Type 0 where
@@ -327,12 +179,3 @@ module _ {R : Type 0} (state : R → State) where
   -- after an empty read.
   abbrev pub NextRecord : (R → ℕ) → PerfRecordIter R → PerfFile → Result (Option (RecordPlace × PerfFileRecord)) Error → PerfRecordIter R → PerfFile → Type 0
   NextRecord loan old file r new file' = ReturnsNext old file r new file' × (loan new.source ≡ loan old.source) × PausesOnlyAtEndOrError (state old.source) r (state new.source)
-
-  -- Calls between the two iterators returned these records.
-  pub record ReadSoFar (old : PerfRecordIter R) (records : List RecordView) (now : PerfRecordIter R) : Type 0 where
-    pub same_input : SameInput old now
-    pub represents : (attrs : List Attribute) → Represents old.endian old.attribute_lookup attrs → Represents now.endian now.attribute_lookup (attrs ++ attributes_in_views old.endian (section_size_of old) records)
-    pub extends_remaining : (attrs : List Attribute) → Represents old.endian old.attribute_lookup attrs → (more : List RecordView) (end : LayoutEnd)
-        → HasRemainingRecords now (attrs ++ attributes_in_views old.endian (section_size_of old) records) more end → HasRemainingRecords old attrs (records ++ more) end
-    pub consumed_bytes : List ℕ
-    pub consumes : Consumed (iter_source_state old) consumed_bytes (iter_source_state now)

@@ -12,7 +12,9 @@ pub mod Consistency
 pub mod AttributeSources
 pub mod IdPairs
 pub mod Pauses
+pub mod RecordViews
 pub mod Iter
+pub mod IterSteps
 pub mod BufferedRecord
 pub mod PerfFile
 pub mod FeatureNumbers
@@ -32,6 +34,7 @@ pub mod OpenedPipe
 pub mod LateSteps
 pub mod PipeOpening
 pub mod PipeSteps
+pub mod Reading
 pub mod FileReading
 pub mod PipeReading
 pub mod InMemory

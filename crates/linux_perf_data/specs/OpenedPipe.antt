@@ -1,8 +1,7 @@
 -- The contracts of parsing a pipe: the reader on success, and the cause on error.
-use Rattle.std.specs.Prelude.{◌≡◌, ◌⊎◌, ◌↔◌, ℕ, ◌<◌, ◌≤◌, List, ◌++◌, length, IsSome, Option, None, Some, Result, Ok, Err}
+use Rattle.std.specs.Prelude.{◌≡◌, ◌⊎◌, ℕ, ◌<◌, ◌≤◌, List, ◌++◌, length, Option, None, Some, Result, Ok, Err}
 use Rattle.std.specs.List.{concat}
 use Rattle.perfdata_base.specs.Source.{State, Consumed, EndedOrPaused}
-use Rattle.perfdata_base.specs.Features.{HasFeature}
 use Rattle.perfdata_base.specs.declared.raw.Endianness.{Endianness}
 use Rattle.perfdata_sections.specs.declared.error.Error.{Error}
 use Rattle.perfdata_sections.specs.declared.error.Error.TheVariants.{Memory}
@@ -15,21 +14,18 @@ use Rattle.linux_perf_data.specs.declared.pipe.pipe_opening.PipeOpening.{PipeOpe
 use Rattle.linux_perf_data.specs.Descriptions.{described_attributes}
 use Rattle.linux_perf_data.specs.FeatureData.{feature_data_of}
 use Rattle.linux_perf_data.specs.AttributeLookup.{Represents}
-use Rattle.linux_perf_data.specs.Layout.{attributes_in_records, record_type_of, record_size_of}
+use Rattle.linux_perf_data.specs.Layout.{record_type_of, record_size_of}
 use Rattle.linux_perf_data.specs.LateMetadata.{IsMetadataType}
 use Rattle.linux_perf_data.specs.FeatureNumbers.{event_desc}
 use Rattle.linux_perf_data.specs.Names.{NamedByEventDesc}
 use Rattle.linux_perf_data.specs.Iter.{iter_source_state, section_size_of}
 use Rattle.linux_perf_data.specs.PerfFile.{descriptions_of_file, features_of_file, endian_of_file, feature_data_in_file, attributes_of_file}
-use Rattle.linux_perf_data.specs.PipeOpening.{IsPipeHeader, AreMetadata, feature_data_in, FailsBy, IsPipeError}
+use Rattle.linux_perf_data.specs.PipeOpening.{IsPipeHeader, AreMetadata, HoldsMetadataOf, FailsBy, IsPipeError}
 
--- The `PerfFile` contains the metadata of these records: their attributes in order, named by the last EVENT_DESC, and the last
--- data of each feature.
+-- The `PerfFile` contains the metadata of these records, and its attributes are named by the last EVENT_DESC.
 pub record HoldsMetadata (order : Endianness) (raw_records : List (List ℕ)) (file : PerfFile) : Type 0 where
   pub file_endian : endian_of_file file ≡ order
-  pub attributes : attributes_of_file file ≡ attributes_in_records order None raw_records
-  pub feature_data : (n : ℕ) → feature_data_in_file file n ≡ feature_data_in order raw_records n
-  pub features : (n : ℕ) → HasFeature (features_of_file file) n ↔ ((n < 256) × IsSome (feature_data_in order raw_records n))
+  pub contents : HoldsMetadataOf order raw_records (attributes_of_file file) (feature_data_in_file file) (features_of_file file)
   pub names_match : NamedByEventDesc order (feature_data_in_file file event_desc) (descriptions_of_file file)
 
 -- The source, with its position unspecified.

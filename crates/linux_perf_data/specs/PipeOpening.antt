@@ -5,6 +5,7 @@ use Rattle.std.specs.Map.{update_all}
 use Rattle.perfdata_base.specs.Source.{State, Consumed, EndedOrPaused, SourceFailed}
 use Rattle.perfdata_base.specs.Endian.{number_in}
 use Rattle.perfdata_base.specs.Features.{HasFeature}
+use Rattle.perfdata_base.specs.declared.features.FeatureSet.{FeatureSet}
 use Rattle.perfdata_base.specs.declared.raw.Endianness.{Endianness}
 use Rattle.perfdata_sections.specs.Error.{IsUnexpectedEof, IsIoError}
 use Rattle.perfdata_sections.specs.EventDesc.{IsEventDescError}
@@ -12,7 +13,7 @@ use Rattle.perfdata_sections.specs.declared.error.Error.{Error}
 use Rattle.perfdata_sections.specs.declared.error.Error.TheVariants.{Read, UnrecognizedMagicValue, InvalidPerfEventSize, NoAttributes, Memory}
 use Rattle.perfdata_sections.specs.declared.error.ReadError.TheVariants.{PerfEventData}
 use Rattle.perfdata_sections.specs.RecordTypes.{header_attr, header_feature}
-use Rattle.linux_perf_data.specs.Attribute.{Inconsistency, AreInconsistent, AreConsistent, HoldsAttribute}
+use Rattle.linux_perf_data.specs.Attribute.{Attribute, Inconsistency, AreInconsistent, AreConsistent, HoldsAttribute}
 use Rattle.linux_perf_data.specs.Descriptions.{described_attributes}
 use Rattle.linux_perf_data.specs.LateMetadata.{IsMetadataType, IsMetadataError, features_in_record}
 use Rattle.linux_perf_data.specs.Layout.{IsRecord, StartsWithRecord, HasRecordHeader, attributes_in_records, record_type_of, record_size_of}
@@ -142,12 +143,17 @@ pub record OpeningRead (order : Endianness) (pieces : List (List ℕ)) (ending_h
   pub consumes : Consumed old (header ++ (concat pieces ++ last_bytes)) new
   pub metadata_end : MetadataEnded order ending_header old last_bytes new
 
+-- These attributes, data of features, and features are those of the records: their attributes in order, and the last data of each
+-- feature.
+pub record HoldsMetadataOf (order : Endianness) (pieces : List (List ℕ)) (attrs : List Attribute) (data_of : ℕ → Option (List ℕ)) (set : FeatureSet) : Type 0 where
+  pub attributes : attrs ≡ attributes_in_records order None pieces
+  pub feature_data : (n : ℕ) → data_of n ≡ feature_data_in order pieces n
+  pub features : (n : ℕ) → HasFeature set n ↔ ((n < 256) × IsSome (feature_data_in order pieces n))
+
 -- The opening contains the metadata of the records.
 pub record HoldsPipeMetadata (order : Endianness) (pieces : List (List ℕ)) (opening : PipeOpening) : Type 0 where
   pub endian : opening.endian ≡ order
-  pub attributes : described_attributes opening.attributes.items ≡ attributes_in_records order None pieces
-  pub feature_data : (n : ℕ) → feature_data_of opening.sections n ≡ feature_data_in order pieces n
-  pub features : (n : ℕ) → HasFeature opening.features n ↔ ((n < 256) × IsSome (feature_data_in order pieces n))
+  pub contents : HoldsMetadataOf order pieces (described_attributes opening.attributes.items) (feature_data_of opening.sections) opening.features
   pub names_match : NamedByEventDesc order (feature_data_in order pieces event_desc) opening.attributes.items
   pub nonempty : 0 < length opening.attributes.items
   pub consistent : AreConsistent (described_attributes opening.attributes.items)

@@ -19,7 +19,7 @@ use Rattle.linux_perf_data.specs.OpenedPipe.{PipeParsed}
 use Rattle.linux_perf_data.specs.PerfFile.{descriptions_of_file, features_of_file, endian_of_file, feature_data_in_file, attributes_of_file}
 use Rattle.linux_perf_data.specs.RecordFraming.{IsErrorFor}
 use Rattle.linux_perf_data.specs.PipeOpening.{IsPipeHeader, AreMetadata, CanOpenPipe, EndsMetadata, IsPipeError, OpeningRead, feature_data_in}
-use Rattle.linux_perf_data.specs.FileReading.{AreFirstRecords, ReturnsRecords, SourceErrorInCall, end_after}
+use Rattle.linux_perf_data.specs.Reading.{AreFirstRecords, ReturnsRecords, SourceErrorInCall, end_after}
 
 module _ (order : Endianness) (raw_records : List (List ℕ)) where
   -- The bytes start with a pipe header and these metadata records, and `rest` follows them.

@@ -1,5 +1,5 @@
 -- The steps of a pipe's opening.
-use Rattle.std.specs.Prelude.{◌≡◌, ◌≢◌, ◌⊎◌, ◌↔◌, ℕ, ◌+◌, ◌-◌, ◌^◌, ◌<◌, ◌≤◌, List, [], ◌++◌, length, drop, nat_eq, IsSome, Bool, true, false, Option, None, Some, Result, Ok, Err}
+use Rattle.std.specs.Prelude.{◌≡◌, ◌≢◌, ◌⊎◌, ℕ, ◌+◌, ◌-◌, ◌^◌, ◌<◌, ◌≤◌, List, [], ◌++◌, length, drop, nat_eq, Bool, true, false, Option, None, Some, Result, Ok, Err}
 use Rattle.std.specs.List.{concat}
 use Rattle.std.specs.Map.{update_all}
 use Rattle.std.specs.IoError.{error_kind}
@@ -7,7 +7,6 @@ use Rattle.std.specs.declared.io.Error.{Error as IoErrorValue}
 use Rattle.std.specs.declared.io.ErrorKind.TheVariants.{OutOfMemory}
 use Rattle.perfdata_base.specs.Source.{State, Consumed}
 use Rattle.perfdata_base.specs.Endian.{number_in}
-use Rattle.perfdata_base.specs.Features.{HasFeature}
 use Rattle.perfdata_base.specs.declared.raw.Endianness.{Endianness}
 use Rattle.perfdata_sections.specs.Error.{IsUnexpectedEof}
 use Rattle.perfdata_records.specs.HeaderAttr.{attribute_of}
@@ -21,11 +20,11 @@ use Rattle.perfdata_sections.specs.RecordTypes.{header_attr, header_feature}
 use Rattle.linux_perf_data.specs.Attribute.{Inconsistency, AreInconsistent, AreConsistent, HoldsAttribute, attribute_in}
 use Rattle.linux_perf_data.specs.Descriptions.{described_attributes}
 use Rattle.linux_perf_data.specs.LateMetadata.{AddsFeatures, IsMetadataType, IsMetadataError, features_in_record}
-use Rattle.linux_perf_data.specs.Layout.{attributes_in_records, attributes_in_record, record_type_of}
+use Rattle.linux_perf_data.specs.Layout.{attributes_in_record, record_type_of}
 use Rattle.linux_perf_data.specs.FeatureNumbers.{event_desc}
 use Rattle.linux_perf_data.specs.Names.{NamedByEventDesc, IsReadableEventDesc, feature_in_body}
 use Rattle.linux_perf_data.specs.RecordFraming.{BytesRead}
-use Rattle.linux_perf_data.specs.PipeOpening.{AreMetadata, IsMetadataRecord, IsMetadataRecordError, IsMetadataReadError, MetadataEnded, HoldsPipeMetadata, FailsBy, feature_data_in}
+use Rattle.linux_perf_data.specs.PipeOpening.{AreMetadata, IsMetadataRecord, IsMetadataRecordError, IsMetadataReadError, MetadataEnded, HoldsPipeMetadata, HoldsMetadataOf, FailsBy}
 use Rattle.linux_perf_data.specs.Consistency.{error_of_inconsistency}
 use Rattle.linux_perf_data.specs.FeatureData.{feature_data_of}
 use Rattle.linux_perf_data.specs.declared.pipe.pipe_opening.PipeOpening.{PipeOpening}
@@ -70,11 +69,9 @@ module _ (order : Endianness) where
   AddsRecord kind body old (Ok _) new = RecordAdded kind body old new
   AddsRecord kind body old (Err e) new = e ≢ Memory → IsMetadataError order kind body e
 
-  -- The metadata of these records.
-  pub record HoldsMetadataOf (pieces : List (List ℕ)) (m : PipeMetadata) : Type 0 where
-    pub attributes : described_attributes m.attributes.items ≡ attributes_in_records order None pieces
-    pub feature_data : (n : ℕ) → feature_data_of m.sections n ≡ feature_data_in order pieces n
-    pub features : (n : ℕ) → HasFeature m.features n ↔ ((n < 256) × IsSome (feature_data_in order pieces n))
+  -- The metadata of these records was collected.
+  abbrev pub CollectsMetadata : List (List ℕ) → PipeMetadata → Type 0
+  CollectsMetadata pieces m = HoldsMetadataOf order pieces (described_attributes m.attributes.items) (feature_data_of m.sections) m.features
 
   -- ---- one record
 
@@ -109,7 +106,7 @@ module _ (order : Endianness) where
     pub metadata_end : MetadataEnded order ending_header old last_bytes new
 
   abbrev pub ReadsMetadata : State → Result (PipeMetadata × Option (List ℕ)) Error → State → Type 0
-  ReadsMetadata old (Ok r) new = (pieces : List (List ℕ)) × MetadataRead pieces r.1 old new × HoldsMetadataOf pieces r.0
+  ReadsMetadata old (Ok r) new = (pieces : List (List ℕ)) × MetadataRead pieces r.1 old new × CollectsMetadata pieces r.0
   ReadsMetadata old (Err e) new = FailsBy (IsMetadataReadError order) old e new
 
   -- ---- their metadata

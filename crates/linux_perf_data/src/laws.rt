@@ -2,7 +2,8 @@
 //! exists and is unique.
 ghost use Rattle.linux_perf_data.specs.BuildIds.{BuildIdListIsUnique, KeysEqualByTexts};
 ghost use Rattle.linux_perf_data.specs.LateMetadata.{AccumulatesNone, AccumulatesOneMore, EventDescStaysValid};
-ghost use Rattle.linux_perf_data.specs.FileReading.{ReadingFilePartly, ReadingFileToEnd, ReadingFileToError, NoCalls, OneCallMore};
+ghost use Rattle.linux_perf_data.specs.Reading.{NoCalls, OneCallMore};
+ghost use Rattle.linux_perf_data.specs.FileReading.{ReadingFilePartly, ReadingFileToEnd, ReadingFileToError};
 ghost use Rattle.linux_perf_data.specs.PipeReading.{ReadingPipePartly, ReadingPipeToEnd, ReadingPipeToError, LongestRun, OpeningHasNoError};
 ghost use Rattle.linux_perf_data.specs.Laws.{RecordIsUnique, ErrorIsUnique, NoErrorAtRecord, EndErrorOrRecord, ConsistentOrNot, InconsistencyIsUnique, LayoutIsUnique, LayoutExists, RemainingRecordsAreUnique, OffsetsIncrease, OffsetAndRoundOfRecord, MarkersAddNoAttributes, AuxtracesParse, NoNamesOnError, NamesAreUnique, PipeOpeningIsUnique, DescribedPipeOpens, DescribedFileOpens, FileDescriptionIsUnique, TruncatedHeaderFails, FarHeaderFails, UnknownMagicFails, FileErrorIsUnique, PipeErrorIsUnique};
 

@@ -8,7 +8,7 @@ use Rattle.std.proofs.lemmas.List.Elements.{All-head, All-tail}
 use Rattle.perfdata_base.specs.declared.raw.Endianness.{Endianness}
 use Rattle.linux_perf_data.specs.Attribute.{Attribute}
 use Rattle.linux_perf_data.specs.Layout.{SectionSize, RecordView, LayoutEnd, IsValidRecord, RemainingRecords, attributes_in_record, record_views, record_view_in, record_type_of}
-use Rattle.linux_perf_data.specs.FileReading.{AreFirstRecords}
+use Rattle.linux_perf_data.specs.Reading.{AreFirstRecords}
 use Rattle.linux_perf_data.proofs.RecordHeaders.{record_least}
 use Rattle.perfdata_arrays.specs.Records.{HasBodiesAt, HasBytesAt}
 

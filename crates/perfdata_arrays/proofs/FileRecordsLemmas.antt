@@ -15,7 +15,8 @@ use Rattle.linux_perf_data.specs.Layout.{RecordView, LayoutEnd, ends_with_error}
 use Rattle.linux_perf_data.specs.FileOpening.{HasHeader, IsFileError, SourceErrorInOpening}
 use Rattle.linux_perf_data.specs.OpenedFile.{DescribesFile, FileParsed, FileOpensAt, FileRecords, FileParseError}
 use Rattle.linux_perf_data.specs.PerfFile.{endian_of_file, attributes_of_file}
-use Rattle.linux_perf_data.specs.FileReading.{HasNotFailed, FilePartlyRead}
+use Rattle.linux_perf_data.specs.Reading.{HasNotFailed}
+use Rattle.linux_perf_data.specs.FileReading.{FilePartlyRead}
 use Rattle.linux_perf_data.proofs.FileReadings.{file_so_far, file_to_error, file_whole}
 use Rattle.perfdata_arrays.specs.Overwrites.{with_prefix_from}
 use Rattle.perfdata_arrays.specs.Status.{error_status}

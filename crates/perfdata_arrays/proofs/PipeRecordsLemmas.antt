@@ -25,7 +25,7 @@ use Rattle.linux_perf_data.specs.OpenedPipe.{PipeParsed, PipeParseError}
 use Rattle.linux_perf_data.specs.RecordFraming.{IsErrorFor}
 use Rattle.linux_perf_data.specs.PipeOpening.{EndsMetadata, IsPipeError}
 use Rattle.linux_perf_data.specs.PipeReading.{BeginsPipe, HoldsAllMetadata, IsCompletePipe, HoldsForPipe}
-use Rattle.linux_perf_data.specs.FileReading.{AreFirstRecords, ReturnsRecords, HasNotFailed}
+use Rattle.linux_perf_data.specs.Reading.{AreFirstRecords, ReturnsRecords, HasNotFailed}
 use Rattle.linux_perf_data.proofs.PipeReadings.{begins, ends_there, error_there, first_there, holds_all, opening_prefix, own_pipe, pipe_up_to_end, pipe_has_not_failed}
 use Rattle.linux_perf_data.proofs.FileReadings.{after_prefix_is, first_of, holds_of, none_of, source_error_none, stops_of}
 use Rattle.perfdata_arrays.specs.Overwrites.{with_prefix_from}

@@ -8,9 +8,10 @@ use Rattle.linux_perf_data.specs.declared.perf_file.PerfFile.{PerfFile}
 use Rattle.perfdata_records.specs.declared.record.PerfFileRecord.{PerfFileRecord}
 use Rattle.perfdata_records.specs.declared.record.PerfFileRecord.TheVariants.{EventRecord, UserRecord}
 use Rattle.linux_perf_data.specs.declared.records.iter.RecordPlace.{RecordPlace}
-use Rattle.linux_perf_data.specs.Iter.{ReturnsRecord, record_view_of, iter_source_state}
+use Rattle.linux_perf_data.specs.RecordViews.{record_view_of}
+use Rattle.linux_perf_data.specs.Iter.{ReturnsRecord, iter_source_state}
 use Rattle.linux_perf_data.specs.Layout.{RecordView}
-use Rattle.linux_perf_data.specs.FileReading.{ReturnsRecords, HasNotFailed}
+use Rattle.linux_perf_data.specs.Reading.{ReturnsRecords, HasNotFailed}
 use Rattle.linux_perf_data.proofs.FileReadings.{consumed_of, returns_records_more, none_of}
 use Rattle.perfdata_arrays.specs.Walk.{FitsAtIfRunning}
 

@@ -15,7 +15,7 @@ use Rattle.linux_perf_data.specs.PerfFile.{endian_of_file, attributes_of_file}
 use Rattle.linux_perf_data.specs.RecordFraming.{IsErrorFor}
 use Rattle.linux_perf_data.specs.PipeOpening.{EndsMetadata, IsPipeError}
 use Rattle.linux_perf_data.specs.PipeReading.{BeginsPipe, HoldsAllMetadata}
-use Rattle.linux_perf_data.specs.FileReading.{AreFirstRecords}
+use Rattle.linux_perf_data.specs.Reading.{AreFirstRecords}
 use Rattle.perfdata_arrays.specs.Overwrites.{with_prefix_from}
 use Rattle.perfdata_arrays.specs.Status.{error_status}
 use Rattle.perfdata_arrays.specs.declared.status.Status.{Status}

@@ -7,7 +7,7 @@ use Rattle.linux_perf_data.specs.declared.records.iter.Stage.TheVariants.{Runnin
 use Rattle.linux_perf_data.specs.declared.perf_file.PerfFile.{PerfFile}
 use Rattle.linux_perf_data.specs.Iter.{iter_source_state, ReturnsEnd, ReturnsError}
 use Rattle.linux_perf_data.specs.Layout.{RecordView}
-use Rattle.linux_perf_data.specs.FileReading.{ReturnsRecords}
+use Rattle.linux_perf_data.specs.Reading.{ReturnsRecords}
 use Rattle.perfdata_arrays.specs.Overwrites.{with_prefix_from}
 use Rattle.perfdata_arrays.specs.Status.{error_status}
 use Rattle.perfdata_arrays.specs.Records.{record_entries_at}

@@ -1,6 +1,6 @@
 //! The entry of a record.
 ghost use Rattle.std.specs.Prelude.{◌≡◌, ◌+◌, ◌^◌, ◌<◌};
-ghost use Rattle.linux_perf_data.specs.Iter.{record_view_of};
+ghost use Rattle.linux_perf_data.specs.RecordViews.{record_view_of};
 ghost use Rattle.perfdata_arrays.specs.Records.{record_entry_at};
 
 use linux_perf_data::event::PerfEventHeader;

@@ -1,6 +1,6 @@
 //! The records of a perf.data file or pipe, as entries.
 ghost use Rattle.std.specs.Prelude.{◌≡◌, ◌<◌, ◌^◌, drop, length};
-ghost use Rattle.linux_perf_data.specs.FileReading.{HasNotFailed};
+ghost use Rattle.linux_perf_data.specs.Reading.{HasNotFailed};
 ghost use Rattle.perfdata_arrays.specs.Records.{ReadsFileRecords, IsMetadataSize, IsOpeningSize, ReadsPipeRecords};
 ghost use Rattle.perfdata_arrays.specs.Walk.{FitsAtIfRunning, WalksRecords, walk_status};
 

@@ -3,11 +3,11 @@ ghost use Rattle.std.specs.Prelude.{◌≡◌, ◌⊎◌, [], IfOk, IfErr, IsErr
 ghost use Rattle.std.specs.Io.KnownBytes.{Keeps};
 ghost use Rattle.linux_perf_data.specs.BufferedRecord.{IsFinished};
 ghost use Rattle.perfdata_listing.specs.CountingBufWriter.{pending_bytes, has_failed, lines_written, BuffersAndForwards};
-ghost use Rattle.linux_perf_data.specs.Iter.{record_view_of};
+ghost use Rattle.linux_perf_data.specs.RecordViews.{record_view_of};
 ghost use Rattle.perfdata_listing.specs.Line.{record_line};
 ghost use Rattle.perfdata_listing.specs.LineText.{text_of};
 ghost use Rattle.perfdata_listing.specs.Listing.{fields_text};
-ghost use Rattle.linux_perf_data.specs.FileReading.{HasMatchingFile, HasNotFailed};
+ghost use Rattle.linux_perf_data.specs.Reading.{HasMatchingFile, HasNotFailed};
 ghost use Rattle.perfdata_listing.specs.Listing.{ListsNext, ListsRecords, ListsLiveRecords, ListsFile, MayBlock};
 ghost use Rattle.perfdata_listing.specs.PipeListing.{ListsPipe, ListsLivePipe, ListsPipeWithFile};
 

@@ -1,6 +1,7 @@
 use Rattle.std.proofs.Common.{arith, [], ◌∷◌, ◌++◌, length-append, refl, ap, ◌∙◌, subst, Some, Ok, inl, inr}
 use Rattle.std.proofs.lemmas.Result.{err_from_is_err_and}
-use Rattle.linux_perf_data.specs.Iter.{NextRecord, record_view_of}
+use Rattle.linux_perf_data.specs.RecordViews.{record_view_of}
+use Rattle.linux_perf_data.specs.Iter.{NextRecord}
 use Rattle.example_proved_count.proofs.OpeningErrors.{file_open_error}
 use Rattle.example_proved_count.proofs.count_records.Invariants.{state}
 use Rattle.example_proved_count.proofs.count_records.Goals as goal

@@ -5,7 +5,7 @@ use Rattle.std.specs.declared.io.impls.Cursor.{Cursor}
 use Rattle.perfdata_base.specs.Source.{State, memory_source_at, at_start}
 use Rattle.linux_perf_data.specs.Layout.{RecordView}
 use Rattle.linux_perf_data.specs.OpenedFile.{FileParsed}
-use Rattle.linux_perf_data.specs.FileReading.{ReturnsRecords}
+use Rattle.linux_perf_data.specs.Reading.{ReturnsRecords}
 use Rattle.example_proved_count.proofs.count_records.Given as goal
 
 -- the source's state in contracts, for a slice that is read from its start

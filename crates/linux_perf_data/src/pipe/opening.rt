@@ -4,7 +4,7 @@ ghost use Rattle.linux_perf_data.specs.LateMetadata.{IsMetadataType};
 ghost use Rattle.perfdata_base.specs.Source.{PausesOnlyOnError};
 ghost use Rattle.linux_perf_data.specs.Pauses.{PausesOnlyWithoutHeader, PausesOnlyWithoutPendingHeader, PausesOnlyInEndedOpening};
 ghost use Rattle.linux_perf_data.specs.PipeOpening.{OpensPerfPipe};
-ghost use Rattle.linux_perf_data.specs.PipeSteps.{FinishesOpening, AddsRecord, OpensAfterPipeHeader, ParsesAttribute, ParsesFeature, ReadsMetadata, ReadsMetadataBody, ReadsNext, HoldsMetadataOf, ReportsContentsError, TestsMetadataType};
+ghost use Rattle.linux_perf_data.specs.PipeSteps.{FinishesOpening, AddsRecord, OpensAfterPipeHeader, ParsesAttribute, ParsesFeature, ReadsMetadata, ReadsMetadataBody, ReadsNext, CollectsMetadata, ReportsContentsError, TestsMetadataType};
 
 use crate::attributes::consistency::check_consistency;
 use crate::attributes::names::name_attributes;
@@ -113,7 +113,7 @@ pub(crate) fn parse_feature(
 impl PipeMetadata {
     // Empty metadata.
     fn new(alloc: Global) -> PipeMetadata
-        ensures { (endian : Endianness) → HoldsMetadataOf endian [] result }
+        ensures { (endian : Endianness) → CollectsMetadata endian [] result }
     {
         PipeMetadata {
             features: FeatureSet([0; 4]),

@@ -56,7 +56,7 @@ pub(crate) struct RecordInfo {
 
 impl RecordInfo {
     ghost use Rattle.perfdata_records.specs.FileRecord.{file_record_body};
-    ghost use Rattle.linux_perf_data.specs.Iter.{record_view_of, record_view_at, attr_index_by_writer, IdentifiesRecord};
+    ghost use Rattle.linux_perf_data.specs.RecordViews.{record_view_of, record_view_at, attr_index_by_writer, IdentifiesRecord};
     ghost use Rattle.linux_perf_data.specs.AttributeLookup.{KeepsAttributes};
 
     // Identifies the record with this record header and body, at this offset and in this round.
@@ -181,7 +181,8 @@ impl<R> PerfRecordIter<R> {
 
 impl<R: Source> PerfRecordIter<R> {
     ghost use Rattle.linux_perf_data.specs.BufferedRecord.{IsFinished, IsNextBuffered, ContainsNextRecord, TestsNextBuffered};
-    ghost use Rattle.linux_perf_data.specs.Iter.{ReadsRawRecord, TestsMayStart, ProcessesRecord, Advances, NextRecord, section_size_of, iter_source_state};
+    ghost use Rattle.linux_perf_data.specs.Iter.{TestsMayStart, Advances, NextRecord, section_size_of, iter_source_state};
+    ghost use Rattle.linux_perf_data.specs.IterSteps.{ReadsRawRecord, ProcessesRecord};
     ghost use Rattle.std.specs.Io.BufRead.{Rests};
     ghost use Rattle.std.specs.Borrow.{sem};
     ghost use Rattle.linux_perf_data.specs.contracts.records.iter.PerfRecordIter.{the_row};

@@ -1,7 +1,8 @@
 use Rattle.std.proofs.Common.{arith, [], ◌∷◌, ◌++◌, ◌+◌, ◌<◌, ◌^◌, length-append, Ok, refl, ap, ◌∙◌, sym, subst}
 use Rattle.std.proofs.lemmas.List.{length-map, map_push}
 use Rattle.std.proofs.Math.Seq.{drop-nil}
-use Rattle.linux_perf_data.specs.Iter.{NextRecord, record_view_of}
+use Rattle.linux_perf_data.specs.RecordViews.{record_view_of}
+use Rattle.linux_perf_data.specs.Iter.{NextRecord}
 use Rattle.linux_perf_data.proofs.FileReadings.{returns_records_more}
 use Rattle.perfdata_arrays.specs.Overwrites.{with_prefix_from}
 use Rattle.perfdata_arrays.specs.Records.{record_entries_at, record_entry_at}

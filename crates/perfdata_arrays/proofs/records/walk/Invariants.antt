@@ -1,6 +1,6 @@
 use Rattle.std.proofs.Common.{◌≡◌, ◌-◌, ◌^◌, ◌<◌, ◌≤◌, List, length}
 use Rattle.linux_perf_data.specs.Layout.{RecordView}
-use Rattle.linux_perf_data.specs.FileReading.{ReturnsRecords}
+use Rattle.linux_perf_data.specs.Reading.{ReturnsRecords}
 use Rattle.perfdata_arrays.specs.Overwrites.{with_prefix_from}
 use Rattle.perfdata_arrays.specs.Records.{record_entries_at}
 use Rattle.perfdata_arrays.proofs.records.walk.Given as goal

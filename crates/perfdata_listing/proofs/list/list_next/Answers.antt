@@ -1,7 +1,8 @@
 use Rattle.std.proofs.Common.{Ok, ap, ◌∙◌, subst}
 use Rattle.std.specs.Io.KnownBytes.{Appends}
 use Rattle.std.proofs.KnownBytes.{Keeps-refl}
-use Rattle.linux_perf_data.specs.Iter.{NextRecord, record_view_of}
+use Rattle.linux_perf_data.specs.RecordViews.{record_view_of}
+use Rattle.linux_perf_data.specs.Iter.{NextRecord}
 use Rattle.perfdata_listing.specs.Output.{AppendsPrefix}
 use Rattle.perfdata_listing.proofs.list.list_next.Goals as goal
 

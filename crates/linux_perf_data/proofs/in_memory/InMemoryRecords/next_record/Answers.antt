@@ -1,6 +1,7 @@
 use Rattle.std.proofs.Common.{rules, ◌≡◌, sym, ap, subst, length, take, drop, ◌+◌}
 use Rattle.perfdata_base.specs.Raw.{bytes_of, IsSingle}
-use Rattle.linux_perf_data.specs.Iter.{record_view_of, record_view_with, ReturnsRecord}
+use Rattle.linux_perf_data.specs.RecordViews.{record_view_of, record_view_with}
+use Rattle.linux_perf_data.specs.Iter.{ReturnsRecord}
 use Rattle.linux_perf_data.specs.InMemory.{memory_state, with_buffer}
 use Rattle.linux_perf_data.proofs.InMemoryPlaces.{taken_in_place, body_in_place}
 use Rattle.linux_perf_data.proofs.in_memory.InMemoryRecords.next_record.Goals as goal

@@ -1,6 +1,8 @@
 use Rattle.std.proofs.Common.{arith, refl, sym, ap, subst, [], ◌∙◌}
 use Rattle.perfdata_base.proofs.ConsumedLemmas.{consumed_none}
-use Rattle.linux_perf_data.specs.Iter.{iter_source_state, section_size_of, RecordProcessed, RecordRejected, ReturnsRecord, record_view_with}
+use Rattle.linux_perf_data.specs.RecordViews.{record_view_with}
+use Rattle.linux_perf_data.specs.Iter.{iter_source_state, section_size_of, ReturnsRecord}
+use Rattle.linux_perf_data.specs.IterSteps.{RecordProcessed, RecordRejected}
 use Rattle.linux_perf_data.specs.InMemory.{memory_state, with_buffer}
 use Rattle.linux_perf_data.proofs.IterCalls.{markers_none, idles_on, returns_record, stops, section_ends, pipe_ends, same_later}
 use Rattle.linux_perf_data.proofs.InMemoryCalls.{rejected_stops}

@@ -1,6 +1,7 @@
 use Rattle.std.proofs.Common.{rules, arith, refl, subst, [], ◌∙◌}
 use Rattle.perfdata_base.proofs.ConsumedLemmas.{consumed_none}
-use Rattle.linux_perf_data.specs.Iter.{iter_source_state, section_size_of, RecordProcessed, RecordRejected}
+use Rattle.linux_perf_data.specs.Iter.{iter_source_state, section_size_of}
+use Rattle.linux_perf_data.specs.IterSteps.{RecordProcessed, RecordRejected}
 use Rattle.linux_perf_data.proofs.TruncatedRecords.{some_record, no_record}
 use Rattle.linux_perf_data.proofs.IterCalls.{markers_none, idles_on, returns_record, stops, late_stops, section_ends, pipe_ends, same_later}
 use Rattle.linux_perf_data.proofs.records.iter.PerfRecordIter.advance.Goals as goal
