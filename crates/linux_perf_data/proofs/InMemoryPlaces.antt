@@ -1,5 +1,5 @@
 -- The remaining bytes of an iterator are the bytes of the input from its offset on, and so are the bodies of its records.
-use Rattle.std.proofs.Common.{◌≡◌, ℕ, ◌+◌, ◌-◌, ◌++◌, List, [], length, take, drop, refl, sym, ap, ◌∙◌, arith, append_assoc, length-append, inl, inr, Option, None, Some}
+use Rattle.std.proofs.Common.{◌≡◌, ℕ, ◌+◌, ◌-◌, ◌++◌, ◌≤◌, List, [], length, take, drop, refl, sym, ap, ◌∙◌, arith, append_assoc, length-append, length-drop, inl, inr, Option, None, Some}
 use Rattle.std.proofs.lemmas.List.{drop-drop}
 use Rattle.std.proofs.Math.Seq.{drop-append_seam, take-append_seam}
 use Rattle.std.specs.Prelude.{Result, Ok, Err}
@@ -61,6 +61,17 @@ body_in_place old new file file' h input first placed returned =
     let x = returned.markers ++ (returned.header_bytes ++ h.body) in
     let split = split_is (drop (first + old.offset) input) x (iter_source_state memory_state new).bytes (sym (placed returned.was_running) ∙ returned.consumes.bytes) in
     body_at input returned.markers returned.header_bytes h.body split.0 first old.offset h.offset split.1 returned.header_len returned.record_offset
+
+-- the body of a returned record ends in the input
+pub body_ends_in_place : (old new : MemoryIter) (file file' : PerfFile) (h : RecordView) (input : List ℕ) (first : ℕ) → IsInPlace old input first → ReturnsRecord memory_state old file h new file' → first + h.offset + 8 + length h.body ≤ length input
+body_ends_in_place old new file file' h input first placed returned =
+    let body = returned.header_bytes ++ h.body in
+    let x = returned.markers ++ body in
+    let split = split_is (drop (first + old.offset) input) x (iter_source_state memory_state new).bytes (sym (placed returned.was_running) ∙ returned.consumes.bytes) in
+    let long = ap length split.1 in
+    let eight = returned.header_len in
+    let at = returned.record_offset in
+    omega (arith, long, length-drop (first + old.offset) input, length-append x split.0, length-append returned.markers body, length-append returned.header_bytes h.body, eight, at)
 
 -- the iterator after any call is in place
 pub taken_in_place : (old new : MemoryIter) (file file' : PerfFile) (r : Result (Option (RecordInfo × Bor (List ℕ))) Error) (input : List ℕ) (first : ℕ) → IsInPlace old input first → TakesRecord old file r new file' → IsInPlace new input first

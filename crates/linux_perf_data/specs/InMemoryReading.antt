@@ -1,5 +1,5 @@
 -- The contracts of a reader of a file or a pipe in memory.
-use Rattle.std.specs.Prelude.{◌≡◌, ℕ, ◌+◌, List, [], ◌∷◌, ◌++◌, length, take, drop, Vec, Option, None, Some, Result, Ok, Err}
+use Rattle.std.specs.Prelude.{◌≡◌, ℕ, ◌+◌, ◌≤◌, List, [], ◌∷◌, ◌++◌, length, take, drop, Vec, Option, None, Some, Result, Ok, Err}
 use Rattle.std.specs.declared.alloc.Global.{Global}
 use Rattle.perfdata_base.specs.Source.{memory_source_at}
 use Rattle.perfdata_base.specs.Raw.{bytes_of, IsSingle}
@@ -33,9 +33,10 @@ pub record KeepsInput (old new : InMemoryRecords) : Type 0 where
   pub input : input_of new ≡ input_of old
   pub first_record_offset : first_record_offset_of new ≡ first_record_offset_of old
 
--- The body is one slice: these bytes of the input.
+-- The body is one slice: these bytes of the input. It ends in the input.
 pub record IsSliceOfInput (records : InMemoryRecords) (place : RecordPlace) (r : PerfFileRecord) : Type 0 where
   pub single : IsSingle (file_record_body r)
+  pub ends_in_input : first_record_offset_of records + place.offset + 8 + length (bytes_of (file_record_body r)) ≤ length (input_of records)
   pub bytes : bytes_of (file_record_body r) ≡ take (length (bytes_of (file_record_body r))) (drop (first_record_offset_of records + place.offset + 8) (input_of records))
 
 -- A record was returned, as a streaming iterator over the same bytes returns it, whose buffer then is `buffer`. The body is a

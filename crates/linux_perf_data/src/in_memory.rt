@@ -21,7 +21,7 @@
 //!     Ok(last)
 //! }
 //! ```
-ghost use Rattle.std.specs.Prelude.{◌≡◌};
+ghost use Rattle.std.specs.Prelude.{◌≡◌, ◌<◌, ◌^◌, length};
 ghost use Rattle.std.proofs.Props.{props};
 ghost use Rattle.linux_perf_data.specs.InMemory.{IsInPlace};
 
@@ -52,11 +52,11 @@ pub struct InMemoryRecords<'a> {
 }
 
 impl<'a> InMemoryRecords<'a> {
-    ghost use Rattle.linux_perf_data.specs.InMemoryReading.{KeepsInput, NeedsMemoryInPipeOnly, ReturnsNextInMemory, first_record_offset_of};
+    ghost use Rattle.linux_perf_data.specs.InMemoryReading.{KeepsInput, NeedsMemoryInPipeOnly, ReturnsNextInMemory, first_record_offset_of, input_of};
 
     /// Returns the offset of the first record's header in the input, in bytes.
     ///
-    /// The body of the record at offset `o` starts at `first_record_offset() + o + 8`. If a pipe has no records, the result is
+    /// The body of the record at offset `o` starts at `first_record_offset() + o + 8`. If the input has no records, the result is
     /// unspecified.
     pub fn first_record_offset(&self) -> u64
         ensures { result ≡ first_record_offset_of self.now }
@@ -82,7 +82,10 @@ impl<'a> InMemoryRecords<'a> {
         ensures returns_next { ReturnsNextInMemory self.old perf_file.old result self.new perf_file.new }
         ensures same_input { KeepsInput self.old self.new }
         ensures memory_in_pipe_only { NeedsMemoryInPipeOnly self.old result }
+        ensures input_len_fits { length (input_of self.old) < 2 ^ 63 }
     {
+        // For the prover.
+        let _size = self.input.len();
         match take_record(&mut self.iter, perf_file)? {
             Some((found, body)) => {
                 let endian = self.iter.endian;

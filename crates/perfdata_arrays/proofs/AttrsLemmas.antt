@@ -1,18 +1,20 @@
 -- Lemmas on the attributes that are written one after another.
-use Rattle.std.proofs.Common.{◌≡◌, ◌≢◌, ℕ, zero, suc, ◌+◌, ◌<◌, ◌++◌, List, [], ◌∷◌, length, take, drop, refl, sym, ap, ◌∙◌, subst, arith, inl, inr, length-append, Some, get_or}
-use Rattle.std.specs.Prelude.{IfSome, IsTrue, flat_map}
+use Rattle.std.proofs.Common.{◌≡◌, ◌≢◌, ℕ, zero, suc, ◌+◌, ◌<◌, ◌++◌, List, [], ◌∷◌, length, take, drop, refl, sym, ap, ◌∙◌, subst, arith, inl, inr, length-append, Some, Ok, get_or}
+use Rattle.std.specs.Prelude.{flat_map}
 use Rattle.std.proofs.lemmas.List.{append-nil, take-append-drop, length-take-le}
 use Rattle.std.proofs.lemmas.Grind.{flat_map-append, take_at_read}
-use Rattle.perfdata_base.specs.Source.{State, at_start}
+use Rattle.perfdata_base.specs.Source.{at_start}
 use Rattle.perfdata_sections.specs.AttributeDescription.{ids_in}
 use Rattle.perfdata_sections.specs.declared.error.Error.{Error}
 use Rattle.perfdata_sections.specs.declared.error.Error.TheVariants.{Memory}
 use Rattle.perfdata_sections.specs.declared.feature_sections.AttributeDescription.{AttributeDescription}
-use Rattle.linux_perf_data.specs.declared.records.iter.PerfRecordIter.{PerfRecordIter}
+use Rattle.linux_perf_data.specs.declared.in_memory.InMemoryReader.{InMemoryReader}
+use Rattle.linux_perf_data.specs.declared.in_memory.InMemoryRecords.{InMemoryRecords}
 use Rattle.linux_perf_data.specs.declared.perf_file.PerfFile.{PerfFile}
 use Rattle.linux_perf_data.specs.FileOpening.{IsFileError}
-use Rattle.linux_perf_data.specs.OpenedFile.{FileParsed, FileOpensAt}
-use Rattle.linux_perf_data.specs.OpenedPipe.{PipeParsed}
+use Rattle.linux_perf_data.specs.InMemory.{memory_state}
+use Rattle.linux_perf_data.specs.InMemoryReading.{ParsesFileInMemory, ParsesPipeInMemory}
+use Rattle.linux_perf_data.specs.OpenedFile.{FileOpensAt}
 use Rattle.linux_perf_data.specs.PerfFile.{descriptions_of_file}
 use Rattle.linux_perf_data.specs.PipeOpening.{IsPipeError}
 use Rattle.perfdata_arrays.specs.Attrs.{ReadsFileAttrs, ExceedsU64, ReadsPipeAttrs, WritesAttrsOrPrefix, WritesAttrs, all_ids, attr_entry_at, attr_entries_at, name_bytes, all_names, no_attrs_with}
@@ -26,7 +28,7 @@ use Rattle.perfdata_arrays.specs.declared.status.Status.TheVariants.{OutOfMemory
 use Rattle.perfdata_arrays.specs.declared.record.Record.{Record}
 use Rattle.perfdata_arrays.specs.declared.records.WalkResult.{WalkResult}
 use Rattle.perfdata_arrays.proofs.OverwriteLemmas.{with_prefix-nil}
-use Rattle.perfdata_arrays.proofs.PipeRecordsLemmas.{pipe_ends, is_pipe_with_records}
+use Rattle.perfdata_arrays.proofs.PipeRecordsLemmas.{is_pipe_with_records}
 
 -- more entries follow those that are written
 with_entries_at-with_prefix : {T : Type 0} (done more buffer : List T) → with_entries_at (length done) more (with_prefix done buffer) ≡ with_prefix (done ++ more) buffer
@@ -102,11 +104,11 @@ writes_prefix all status entries entries' names ids names' ids' index name_offse
   ends = inr (refl, (d, (drop (suc index) all, drop-suc all index d within is, uncounted)));
 }
 
-pub reads_file_attrs : (bytes : List ℕ) (old : State) → old.position ≡ Some (at_start bytes) → {R : Type 0} (state : R → State) (file : PerfFile) (it : PerfRecordIter R) → FileParsed state old file it
-    → (entries entries' : List Attr) (names ids names' ids' : List ℕ) (outcome : AttrsResult) → WritesAttrsOrPrefix (descriptions_of_file file) Success entries names ids outcome entries' names' ids' → ReadsFileAttrs bytes entries names ids outcome entries' names' ids'
-reads_file_attrs bytes old at_offset_0 state file it opened entries entries' names ids names' ids' outcome written =
-    let opens : FileOpensAt state (at_start bytes) file it = subst (λ q. IfSome q (λ p. FileOpensAt state p file it)) at_offset_0 opened.file_opened in
-    inl (file, (opens.header, opens.describes, written))
+pub reads_file_attrs : (bytes : List ℕ) (reader : InMemoryReader) → ParsesFileInMemory bytes (Ok reader)
+    → (entries entries' : List Attr) (names ids names' ids' : List ℕ) (outcome : AttrsResult) → WritesAttrsOrPrefix (descriptions_of_file reader.perf_file) Success entries names ids outcome entries' names' ids' → ReadsFileAttrs bytes entries names ids outcome entries' names' ids'
+reads_file_attrs bytes reader opened entries entries' names ids names' ids' outcome written =
+    let opens : FileOpensAt memory_state (at_start bytes) reader.perf_file reader.records.iter = opened.0.file_opened in
+    inl (reader.perf_file, (opens.header, opens.describes, written))
 
 pub file_attrs_error : (bytes : List ℕ) (entries : List Attr) (names ids : List ℕ) (outcome : AttrsResult) (e : Error) (status : Status) → outcome ≡ no_attrs_with status → status ≡ error_status e → (e ≢ Memory → IsFileError (at_start bytes) e)
     → ReadsFileAttrs bytes entries names ids outcome entries names ids
@@ -118,10 +120,9 @@ pub pipe_attrs_error : (bytes : List ℕ) (entries : List Attr) (names ids : Lis
 pipe_attrs_error bytes entries names ids outcome e status none is cause =
     inr ((e, ap (λ t. t.status) none ∙ is, cause), none ∙ ap no_attrs_with (sym (ap (λ t. t.status) none)), refl, refl, refl)
 
-pub reads_pipe_attrs : (bytes : List ℕ) (old : State) (known : old.bytes ≡ Some bytes) (steady : IsTrue old.steady) {R : Type 0} (state : R → State) (file : PerfFile) (it : PerfRecordIter R) (o : PipeParsed state old file it)
-    (base start : ℕ) (table table' : List Record) (walked : WalkResult) (new : PerfRecordIter R) (file' : PerfFile) → WalksRecords state it file base start table walked new file' table'
+pub reads_pipe_attrs : (bytes : List ℕ) (reader : InMemoryReader) (opened : ParsesPipeInMemory bytes (Ok reader))
+    (start : ℕ) (table table' : List Record) (walked : WalkResult) (new : InMemoryRecords) (file' : PerfFile) → WalksRecords reader.records reader.perf_file start table walked new file' table'
     → (status : Status) → status ≡ walk_status walked.end → (entries entries' : List Attr) (names ids names' ids' : List ℕ) (outcome : AttrsResult) → WritesAttrsOrPrefix (descriptions_of_file file') status entries names ids outcome entries' names' ids'
     → ReadsPipeAttrs bytes entries names ids outcome entries' names' ids'
-reads_pipe_attrs bytes old known steady state file it o base start table table' walked new file' w status is entries entries' names ids names' ids' outcome written =
-    let end = pipe_ends bytes old known steady state file it o w.iter_at_end new w.file_at_end file' w.records w.returned walked.end w.ends in
-    inl (w.records, (file', (walk_status walked.end, is_pipe_with_records bytes old known steady state file it o w.records (walk_status walked.end) file' end.metadata_records end.holds end.end_is, subst (λ s. WritesAttrsOrPrefix (descriptions_of_file file') s entries names ids outcome entries' names' ids') is written)))
+reads_pipe_attrs bytes reader opened start table table' walked new file' w status is entries entries' names ids names' ids' outcome written =
+    inl (w.records, (file', (status, is_pipe_with_records bytes reader opened start table table' walked new file' w status is, written)))

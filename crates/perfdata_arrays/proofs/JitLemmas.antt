@@ -20,7 +20,9 @@ use Rattle.perfdata_arrays.specs.Overwrites.{with_prefix}
 use Rattle.perfdata_arrays.specs.declared.jit.JitRecord.{JitRecord}
 use Rattle.perfdata_arrays.specs.declared.status.Status.TheVariants.{JitBadRecordSize}
 use Rattle.perfdata_arrays.proofs.OverwriteLemmas.{with_prefix-snoc, take-drop-length}
-use Rattle.perfdata_arrays.proofs.PrefixLemmas.{take-prefix}
+
+take-prefix : (all prefix rest : List ℕ) (n : ℕ) → all ≡ prefix ++ rest → length prefix ≡ n → take n all ≡ prefix
+take-prefix all prefix rest n is long = ap (take n) is ∙ ap (λ k. take k (prefix ++ rest)) (sym long) ∙ take-append_seam prefix rest
 
 -- a prefix of a limited size is as long as the bytes allow
 pub take-min : (n m : ℕ) (xs : List ℕ) → n ≡ min (length xs) m → take n xs ≡ take m xs

@@ -1,77 +1,72 @@
 -- Lemmas on a walk over a pipe's records.
-use Rattle.std.proofs.Common.{◌≡◌, ◌≢◌, ℕ, ◌+◌, ◌^◌, ◌<◌, ◌++◌, List, [], length, drop, refl, sym, ap, ◌∙◌, subst, arith, inl, inr, append_assoc, length-append, length-drop, None, Some, Result, Ok, Err}
-use Rattle.std.specs.Prelude.{IfSome, IsTrue}
+use Rattle.std.proofs.Common.{◌≡◌, ◌≢◌, ◌⊎◌, ℕ, ◌+◌, ◌-◌, ◌^◌, ◌<◌, ◌≤◌, ◌++◌, List, [], length, drop, refl, sym, ap, ◌∙◌, subst, arith, inl, inr, append_assoc, length-append, length-drop, None, Some, Result, Ok, Err}
 use Rattle.std.specs.List.{concat}
 use Rattle.std.proofs.Math.Seq.{drop-append_seam, drop-nil}
-use Rattle.std.proofs.lemmas.List.{append-nil}
 use Rattle.perfdata_base.specs.Features.{HasFeature}
 use Rattle.perfdata_base.specs.Endian.{number_in}
 use Rattle.perfdata_base.specs.declared.raw.Endianness.{Endianness}
 use Rattle.perfdata_base.proofs.Numbers.{number_drop_front}
-use Rattle.perfdata_base.specs.Source.{State}
+use Rattle.perfdata_base.specs.Source.{State, memory_source_at}
 use Rattle.perfdata_base.proofs.ReadErrors.{none_or_paused, all_read}
 use Rattle.perfdata_sections.specs.declared.error.Error.{Error}
 use Rattle.perfdata_sections.specs.declared.error.Error.TheVariants.{Memory}
-use Rattle.linux_perf_data.specs.declared.records.iter.PerfRecordIter.{PerfRecordIter}
+use Rattle.linux_perf_data.specs.declared.in_memory.InMemoryReader.{InMemoryReader}
+use Rattle.linux_perf_data.specs.declared.in_memory.InMemoryRecords.{InMemoryRecords}
 use Rattle.linux_perf_data.specs.declared.perf_file.PerfFile.{PerfFile}
-use Rattle.linux_perf_data.specs.Iter.{iter_source_state, section_size_of}
+use Rattle.linux_perf_data.specs.Iter.{HasRemainingRecords, iter_source_state, section_size_of}
 use Rattle.linux_perf_data.specs.Descriptions.{described_attributes}
-use Rattle.linux_perf_data.specs.LateMetadata.{SamePerfFile}
+use Rattle.linux_perf_data.specs.InMemory.{memory_state, MemoryIter}
+use Rattle.linux_perf_data.specs.InMemoryReading.{ParsesPipeInMemory, first_record_offset_of, input_of}
+use Rattle.linux_perf_data.specs.LateMetadata.{AccumulatesMetadata, SamePerfFile}
 use Rattle.linux_perf_data.specs.FeatureNumbers.{event_desc}
 use Rattle.linux_perf_data.specs.Names.{NamedByEventDesc}
-use Rattle.linux_perf_data.specs.PerfFile.{feature_data_in_file, descriptions_of_file}
-use Rattle.linux_perf_data.specs.Layout.{RecordView, ends_complete, ends_with_error, LayoutError, RemainingRecords, attributes_in_records}
-use Rattle.linux_perf_data.specs.OpenedPipe.{PipeParsed, PipeParseError}
+use Rattle.linux_perf_data.specs.PerfFile.{attributes_of_file, feature_data_in_file, descriptions_of_file}
+use Rattle.linux_perf_data.specs.Layout.{RecordView, LayoutEnd, ends_complete, ends_with_error, LayoutError, RemainingRecords, attributes_in_records}
+use Rattle.linux_perf_data.specs.OpenedPipe.{KeepsPendingHeader, PipeParsed, PipeParseError}
 use Rattle.linux_perf_data.specs.RecordFraming.{IsErrorFor}
 use Rattle.linux_perf_data.specs.PipeOpening.{EndsMetadata, IsPipeError}
 use Rattle.linux_perf_data.specs.PipeReading.{BeginsPipe, HoldsAllMetadata, IsCompletePipe, HoldsForPipe}
-use Rattle.linux_perf_data.specs.Reading.{AreFirstRecords, ReturnsRecords, HasNotFailed}
-use Rattle.linux_perf_data.proofs.PipeReadings.{begins, ends_there, error_there, first_there, holds_all, opening_prefix, own_pipe, pipe_up_to_end, pipe_has_not_failed}
-use Rattle.linux_perf_data.proofs.FileReadings.{after_prefix_is, first_of, holds_of, none_of, source_error_none, stops_of}
+use Rattle.linux_perf_data.specs.Reading.{AreFirstRecords, ReturnsRecords}
+use Rattle.linux_perf_data.proofs.PipeReadings.{begins, ends_there, error_there, first_there, holds_all, opening_prefix, own_pipe, pipe_up_to_end, whole_there}
+use Rattle.linux_perf_data.proofs.FileReadings.{after_prefix_is, first_of, holds_of, none_of, source_error_none, stops_of, whole_of}
 use Rattle.perfdata_arrays.specs.Overwrites.{with_prefix_from}
 use Rattle.perfdata_arrays.specs.Status.{error_status}
-use Rattle.perfdata_arrays.specs.Records.{HasBodiesAt, EndsWithStatus, IsPipeWithRecords, IsOpeningSize, ReadsPipeRecords, IsPipeWithFirstRecordAt}
-use Rattle.perfdata_arrays.specs.Walk.{WalkEnds, FitsAtIfRunning, WalksRecords, walk_status}
+use Rattle.perfdata_arrays.specs.Records.{HasBodiesAt, EndsWithStatus, IsPipeWithRecords, ReadsPipeRecords}
+use Rattle.perfdata_arrays.specs.Walk.{WalkEnds, WalksRecords, walk_status}
 use Rattle.perfdata_arrays.specs.declared.status.Status.{Status}
 use Rattle.perfdata_arrays.specs.declared.status.Status.TheVariants.{Success}
 use Rattle.perfdata_arrays.specs.declared.record.Record.{Record}
 use Rattle.perfdata_arrays.specs.declared.records.RecordsResult.{RecordsResult}
 use Rattle.perfdata_arrays.specs.declared.records.WalkResult.{WalkResult}
-use Rattle.perfdata_arrays.proofs.BodyOffsets.{has_bodies-first}
-use Rattle.perfdata_arrays.proofs.PrefixLemmas.{prefix-split}
+use Rattle.perfdata_arrays.proofs.WalkLemmas.{length-prefix, prefix-split, streams_records, writes_at}
 
--- the bytes of an opening, and the rest after it
-pub opening_size-drop : (base : ℕ) (bytes header middle rest : List ℕ) → bytes ≡ header ++ (middle ++ rest) → base + length rest ≡ length bytes → drop base bytes ≡ rest
-opening_size-drop base bytes header middle rest is size_is =
-    let long : base ≡ length (header ++ middle) = omega (arith, size_is, ap length is, length-append header (middle ++ rest), length-append middle rest, length-append header middle) in
-    ap (λ n. drop n bytes) long ∙ ap (drop (length (header ++ middle))) (is ∙ sym (append_assoc header middle rest)) ∙ drop-append_seam (header ++ middle) rest
-
-module _ (bytes : List ℕ) (old : State) (known : old.bytes ≡ Some bytes) (steady : IsTrue old.steady) where
+module _ (bytes : List ℕ) where
   -- an error in opening a pipe is an error of its bytes
-  pub pipe_open_error : {R : Type 0} (state : R → State) (e : Error) → PipeParseError state old e → e ≢ Memory → IsPipeError bytes e
-  pipe_open_error state e r other =
+  pub pipe_open_error : (e : Error) → PipeParseError memory_state (memory_source_at bytes 0) e → e ≢ Memory → IsPipeError bytes e
+  pipe_open_error e r other =
+      let old = memory_source_at bytes 0 in
       let failed_opening = r.error in
-      let split = prefix-split r.final_state.bytes bytes failed_opening.consumed_bytes (sym known ∙ failed_opening.consumes.bytes) in
+      let split = prefix-split r.final_state.bytes bytes failed_opening.consumed_bytes failed_opening.consumes.bytes in
       elim (failed_opening.cause other) [
         | inl any ↦ subst (λ l. IsPipeError l e) (sym split.1) (any split.0)
         | inr cause ↦ elim cause [
           | inl none ↦ elim (none_or_paused old r.final_state none.0) [
             | inl end ↦
-                let all : Some bytes ≡ Some failed_opening.consumed_bytes = sym known ∙ all_read old r.final_state failed_opening.consumed_bytes failed_opening.consumes end in
-                let same : bytes ≡ failed_opening.consumed_bytes = ap (λ s. elim s [ None ↦ [] | Some x ↦ x ]) all in
+                let all : Some bytes ≡ Some failed_opening.consumed_bytes = all_read old r.final_state failed_opening.consumed_bytes failed_opening.consumes end in
+                let same : bytes ≡ failed_opening.consumed_bytes = cc in
                 subst (λ l. IsPipeError l e) (sym same) none.1
-            | inr paused ↦ absurd (paused.not_steady steady)
+            | inr paused ↦ absurd (paused.not_steady refl)
           ]
-          | inr failed ↦ absurd (failed.1.not_steady steady)
+          | inr failed ↦ absurd (failed.1.not_steady refl)
         ]
       ]
 
-  pub no_records_written : (start : ℕ) (entries : List Record) (e : Error) (total : RecordsResult) → total.count ≡ 0 → total.status ≡ error_status e → (e ≢ Memory → IsPipeError bytes e) → ReadsPipeRecords bytes start entries total entries
-  no_records_written start entries e total none is cause = record {
+  pub no_records_written : (start : ℕ) (entries : List Record) (e : Error) (total : RecordsResult) → total.count ≡ 0 → total.status ≡ error_status e → PipeParseError memory_state (memory_source_at bytes 0) e → ReadsPipeRecords bytes start entries total entries
+  no_records_written start entries e total none is error = record {
     records = [];
     base = 0;
     writes = record { count = none; written = ap (λ l. with_prefix_from 0 l entries) (sym (drop-nil start)); body_bytes_at = tt };
-    ends = inl (refl, (e, is, cause));
+    ends = inl (refl, (e, is, pipe_open_error e error));
   }
 
 -- The rest after the same metadata records is the same, because the bytes of a pipe header determine its size.
@@ -96,18 +91,79 @@ file_matches-same endian metadata_records records file file' h same = record {
   names_match = subst (λ d. NamedByEventDesc endian d (descriptions_of_file file')) (sym (same.feature_data event_desc)) (subst (λ ds. NamedByEventDesc endian (feature_data_in_file file event_desc) ds) (sym same.descriptions) h.names_match);
 }
 
--- ---- a pipe in memory, for any properties of its records
+-- ---- a pipe in memory
 
-module _ (bytes : List ℕ) (old : State) (known : old.bytes ≡ Some bytes) (steady : IsTrue old.steady) {R : Type 0} (state : R → State) (file : PerfFile) (it : PerfRecordIter R) (o : PipeParsed state old file it) where
-  -- the result for the records that follow these metadata records
+module _ (bytes : List ℕ) (reader : InMemoryReader) (parsed : ParsesPipeInMemory bytes (Ok reader)) where
+  abbrev file : PerfFile
+  file = reader.perf_file
+
+  abbrev it : MemoryIter
+  it = reader.records.iter
+
+  abbrev old : State
+  old = memory_source_at bytes 0
+
+  abbrev o : PipeParsed memory_state old file it
+  o = parsed.0
+
+  -- The result for the records that follow these metadata records. If there are records, the first starts at the offset of
+  -- `rest`.
   pub record PipeEnds (records : List RecordView) (status : Status) (file' : PerfFile) : Type 0 where
     pub metadata_records : List (List ℕ)
-    pub end_is : HoldsForPipe it.endian metadata_records bytes (λ C. EndsWithStatus C records status)
-    pub first_records : HoldsForPipe it.endian metadata_records bytes (λ C. AreFirstRecords C records)
+    pub rest : List ℕ
+    pub opening : BeginsPipe it.endian metadata_records bytes rest
+    pub after_opening : EndsMetadata it.endian rest
+    pub end_is : EndsWithStatus (RemainingRecords it.endian rest None 0 0 (attributes_in_records it.endian None metadata_records)) records status
+    pub first_record_at : (records ≡ []) ⊎ (first_record_offset_of reader.records ≡ length bytes - length rest)
     pub holds : HoldsAllMetadata it.endian metadata_records records file'
 
-  returned_are_first : (metadata_records : List (List ℕ)) (records : List RecordView) → IsCompletePipe it.endian metadata_records records bytes → HoldsForPipe it.endian metadata_records bytes (λ C. AreFirstRecords C records)
-  returned_are_first metadata_records records (rest, opening, ends, remaining) = (rest, opening, ends, ([], (ends_complete, subst (λ l. RemainingRecords it.endian rest None 0 0 (attributes_in_records it.endian None metadata_records) l ends_complete) (sym (append-nil records)) remaining)))
+  -- ---- if the opening kept the header of the first record
+
+  module _ (k : KeepsPendingHeader memory_state old (opening_prefix memory_state old file it o) it) where
+    abbrev before : List ℕ
+    before = opening_prefix memory_state old file it o
+
+    abbrev rest_after : List ℕ
+    rest_after = drop (length before) bytes
+
+    rest_remains : (iter_source_state memory_state it).bytes ≡ Some rest_after
+    rest_remains = after_prefix_is old.bytes (iter_source_state memory_state it).bytes before bytes k.consumes.bytes refl
+
+    pipe_begins : BeginsPipe it.endian o.raw_records bytes rest_after
+    pipe_begins =
+        let split = prefix-split (iter_source_state memory_state it).bytes bytes before k.consumes.bytes in
+        let tail : rest_after ≡ split.0 = ap (drop (length before)) split.1 ∙ drop-append_seam before split.0 in
+        let all : bytes ≡ before ++ rest_after = split.1 ∙ ap (λ l. before ++ l) (sym tail) in
+        subst (λ l. BeginsPipe it.endian o.raw_records l rest_after) (sym all) (begins memory_state old file it o rest_after)
+
+    -- what holds after some opening with these metadata records holds after this one
+    at_rest : (P : (List RecordView → LayoutEnd → Type 0) → Type 0) → HoldsForPipe it.endian o.raw_records bytes P → P (RemainingRecords it.endian rest_after None 0 0 (attributes_in_records it.endian None o.raw_records))
+    at_rest P (rest, opening, ends, holds) =
+        subst (λ l. P (RemainingRecords it.endian l None 0 0 (attributes_in_records it.endian None o.raw_records))) (opening_is_unique it.endian o.raw_records bytes rest rest_after opening pipe_begins) holds
+
+    -- the first record starts after the opening
+    first_is_after : first_record_offset_of reader.records ≡ length bytes - length rest_after
+    first_is_after =
+        let first = first_record_offset_of reader.records in
+        let start = o.offset in
+        let placed : (iter_source_state memory_state it).bytes ≡ Some (drop (first + it.offset) (input_of reader.records)) = reader.records.in_place k.stage_running in
+        let same : rest_after ≡ drop (first + it.offset) (input_of reader.records) = (let e : Some rest_after ≡ Some (drop (first + it.offset) (input_of reader.records)) = sym rest_remains ∙ placed in cc) in
+        let long = length-prefix (memory_state it.source).bytes rest_after k.header_bytes (sym rest_remains ∙ k.consumes_header.bytes) in
+        let eight = k.exact_len in
+        omega (arith, ap length same, length-drop (first + it.offset) (input_of reader.records), ap length parsed.1, start, long, eight)
+
+    pipe_ends_after : (records : List RecordView) (status : Status) (file' : PerfFile) → HoldsForPipe it.endian o.raw_records bytes (λ C. EndsWithStatus C records status) → HoldsAllMetadata it.endian o.raw_records records file' → PipeEnds records status file'
+    pipe_ends_after records status file' ends holds = record {
+      metadata_records = o.raw_records;
+      rest = rest_after;
+      opening = pipe_begins;
+      after_opening = ends_there memory_state old file it o k rest_after rest_remains;
+      end_is = at_rest (λ C. EndsWithStatus C records status) ends;
+      first_record_at = inr first_is_after;
+      holds = holds;
+    }
+
+  -- ---- any opening
 
   complete_status : (metadata_records : List (List ℕ)) (records : List RecordView) → IsCompletePipe it.endian metadata_records records bytes → HoldsForPipe it.endian metadata_records bytes (λ C. EndsWithStatus C records Success)
   complete_status metadata_records records (rest, opening, ends, remaining) = (rest, opening, ends, inl (refl, remaining))
@@ -131,84 +187,73 @@ module _ (bytes : List ℕ) (old : State) (known : old.bytes ≡ Some bytes) (st
     ),
   )
 
-  module _ (now new : PerfRecordIter R) (now_file file' : PerfFile) (records : List RecordView) (all : ReturnsRecords state it file records now now_file) where
-    pub pipe_ends : {A : Type 0} (end : Result A Error) → WalkEnds state now now_file end new file' → PipeEnds records (walk_status end) file'
-    pipe_ends (Ok _) at = elim (pipe_up_to_end state old bytes file now_file file' it now new records known o all at) [
-      | inl end ↦ record { metadata_records = end.raw_records; end_is = complete_status end.raw_records records end.all_records; first_records = returned_are_first end.raw_records records end.all_records; holds = end.all_metadata }
-      | inr paused ↦ absurd (paused.1.not_steady steady)
+  -- the pipe without a record after its opening
+  no_record_ends : (records : List RecordView) (file' : PerfFile) (metadata_records : List (List ℕ)) → records ≡ [] → IsCompletePipe it.endian metadata_records records bytes → HoldsAllMetadata it.endian metadata_records records file' → PipeEnds records Success file'
+  no_record_ends records file' metadata_records none (rest, opening, ends, remaining) holds =
+      record { metadata_records = metadata_records; rest = rest; opening = opening; after_opening = ends; end_is = inl (refl, remaining); first_record_at = inl none; holds = holds }
+
+  module _ (now new : MemoryIter) (now_file file' : PerfFile) (records : List RecordView) (all : ReturnsRecords memory_state it file records now now_file) where
+    pub pipe_ends : {A : Type 0} (end : Result A Error) → WalkEnds now now_file end new file' → PipeEnds records (walk_status end) file'
+    pipe_ends (Ok _) at = elim (pipe_up_to_end memory_state old bytes file now_file file' it now new records refl o all at) [
+      | inl end ↦ elim o.end_of_opening [
+        | inl k ↦
+            let whole : HasRemainingRecords memory_state it (attributes_of_file file) records ends_complete =
+            elim (whole_of memory_state it now new file now_file file' records k.stage_running all at) [
+              | inl is ↦ is (attributes_of_file file) o.represents
+              | inr paused ↦ (let p = paused.1 in absurd (p.not_steady (k.consumes.steady refl).steady))
+            ] in
+            pipe_ends_after k records Success file' (complete_status o.raw_records records (whole_there memory_state old file it o k records whole))
+            (holds_all memory_state old file it o records file' (subst (AccumulatesMetadata it.endian (section_size_of memory_state it) records file) (sym at.file_unchanged) (holds_of memory_state it now file now_file records all)))
+        | inr e ↦ no_record_ends records file' end.raw_records (none_of memory_state it now file now_file records e.stage_ended all).0 end.all_records end.all_metadata
+      ]
+      | inr paused ↦ absurd (paused.1.not_steady refl)
     ]
     pipe_ends (Err e) failed_opening = elim o.end_of_opening [
       | inl k ↦
           let start : it.offset < 2 ^ 64 = (let z = o.offset in omega (arith, z)) in
-          let remaining = subst (λ b. IfSome b (λ l. HoldsForPipe it.endian o.raw_records l (λ C. AreFirstRecords C records))) known (first_there state old file it o k records (first_of state it now file now_file records start all)) in
-          let cause : e ≢ Memory → HoldsForPipe it.endian o.raw_records bytes (λ C. (f : LayoutError) × C records (ends_with_error f) × IsErrorFor f e) = λ other. elim (stops_of state it now new file now_file file' records e k.stage_running (own_pipe state old file it o) all failed_opening other) [
-            | inl ends ↦ subst (λ b. IfSome b (λ l. HoldsForPipe it.endian o.raw_records l (λ C. (f : LayoutError) × C records (ends_with_error f) × IsErrorFor f e))) known (error_there state old file it o k records e ends)
-            | inr owes ↦ absurd (source_error_none it.endian (section_size_of state it) (iter_source_state state it) (iter_source_state state new) e (k.consumes.steady steady).steady owes)
+          let remaining = first_there memory_state old file it o k records (first_of memory_state it now file now_file records start all) in
+          let cause : e ≢ Memory → HoldsForPipe it.endian o.raw_records bytes (λ C. (f : LayoutError) × C records (ends_with_error f) × IsErrorFor f e) = λ other. elim (stops_of memory_state it now new file now_file file' records e k.stage_running (own_pipe memory_state old file it o) all failed_opening other) [
+            | inl ends ↦ error_there memory_state old file it o k records e ends
+            | inr owes ↦ absurd (source_error_none it.endian (section_size_of memory_state it) (iter_source_state memory_state it) (iter_source_state memory_state new) e (k.consumes.steady refl).steady owes)
           ] in
-          record {
-            metadata_records = o.raw_records;
-            end_is = error_status_is o.raw_records records e remaining cause;
-            first_records = remaining;
-            holds = file_matches-same it.endian o.raw_records records now_file file' (holds_all state old file it o records now_file (holds_of state it now file now_file records all)) failed_opening.same_file;
-          }
-      | inr ends ↦ (let none = none_of state it now file now_file records ends.stage_ended all in absurd (failed_opening.not_ended (ap (λ i. i.stage) none.1 ∙ ends.stage_ended)))
+          pipe_ends_after k records (error_status e) file' (error_status_is o.raw_records records e remaining cause)
+          (file_matches-same it.endian o.raw_records records now_file file' (holds_all memory_state old file it o records now_file (holds_of memory_state it now file now_file records all)) failed_opening.same_file)
+      | inr ends ↦ (let none = none_of memory_state it now file now_file records ends.stage_ended all in absurd (failed_opening.not_ended (ap (λ i. i.stage) none.1 ∙ ends.stage_ended)))
     ]
 
-  -- the bytes are that pipe
-  abbrev pub is_pipe_with_records : (records : List RecordView) (status : Status) (file' : PerfFile) (metadata_records : List (List ℕ)) → HoldsAllMetadata it.endian metadata_records records file' → HoldsForPipe it.endian metadata_records bytes (λ C. EndsWithStatus C records status) → IsPipeWithRecords bytes records file' status
-  is_pipe_with_records records status file' metadata_records holds (rest, opening, ends, so) = record { endian = it.endian; metadata_records = metadata_records; rest = rest; has_opening = opening; after_opening = ends; ends = so; file_matches = holds }
+  -- ---- a walk
 
-  pub pipe_not_failed : HasNotFailed it
-  pipe_not_failed = pipe_has_not_failed state old file it o
+  module _ (start : ℕ) (entries entries' : List Record) (walked : WalkResult) (new : InMemoryRecords) (file' : PerfFile) (w : WalksRecords reader.records file start entries walked new file' entries') where
+    pub walk_ends : PipeEnds w.records (walk_status walked.end) file'
+    walk_ends =
+        let s = streams_records reader.records w.input_at_end new file w.file_at_end file' w.records walked.end w.returned w.ends in
+        pipe_ends s.iter_at_end new.iter s.file_at_end file' w.records s.returned walked.end s.ends
 
-  -- the offsets of a walk fit in 64 bits if they start at zero
-  pub fits_at_zero : length bytes < 2 ^ 64 → FitsAtIfRunning state it 0
-  fits_at_zero length_fits runs = elim o.end_of_opening [
-    | inl k ↦
-        let before = opening_prefix state old file it o in
-        let split = prefix-split (iter_source_state state it).bytes bytes before (sym known ∙ k.consumes.bytes) in
-        let rest = drop (length before) bytes in
-        record { bytes = rest; bytes_known = after_prefix_is old.bytes (iter_source_state state it).bytes before bytes k.consumes.bytes known; fits = (let long = length-drop (length before) bytes in omega (arith, long, length_fits)); at_first_record = o.offset }
-    | inr e ↦ (let s = e.stage_ended in absurd cc)
-  ]
+    -- the bytes are that pipe
+    abbrev pub is_pipe_with_records : (status : Status) → status ≡ walk_status walked.end → IsPipeWithRecords bytes w.records file' status
+    is_pipe_with_records status is = record {
+      endian = it.endian;
+      metadata_records = walk_ends.metadata_records;
+      rest = walk_ends.rest;
+      has_opening = walk_ends.opening;
+      after_opening = walk_ends.after_opening;
+      ends = subst (EndsWithStatus (RemainingRecords it.endian walk_ends.rest None 0 0 (attributes_in_records it.endian None walk_ends.metadata_records)) w.records) (sym is) walk_ends.end_is;
+      file_matches = walk_ends.holds;
+    }
 
-  -- ---- the offsets of its records
-
-  module _ (base : ℕ) (opens : IsOpeningSize it.endian bytes base) where
-    -- the bytes from the opening's size on are the rest after the opening
-    bytes_after_base : (metadata_records : List (List ℕ)) (rest : List ℕ) → BeginsPipe it.endian metadata_records bytes rest → EndsMetadata it.endian rest → drop base bytes ≡ rest
-    bytes_after_base metadata_records rest b ends = opening_size-drop base bytes b.header (concat metadata_records) rest b.split (opens metadata_records rest b ends)
-
-    -- the offsets of the walk fit in 64 bits
-    pub fits_in_pipe : length bytes < 2 ^ 64 → FitsAtIfRunning state it base
-    fits_in_pipe length_fits runs = elim o.end_of_opening [
-      | inl k ↦
-          let before = opening_prefix state old file it o in
-          let is = after_prefix_is old.bytes (iter_source_state state it).bytes before bytes k.consumes.bytes known in
-          let rest = drop (length before) bytes in
-          let ends = ends_there state old file it o k rest is in
-          let split = prefix-split (iter_source_state state it).bytes bytes before (sym known ∙ k.consumes.bytes) in
-          let tail : rest ≡ split.0 = ap (drop (length before)) split.1 ∙ drop-append_seam before split.0 in
-          let all : bytes ≡ before ++ rest = split.1 ∙ ap (λ l. before ++ l) (sym tail) in
-          let begins_so : BeginsPipe it.endian o.raw_records bytes rest = subst (λ l. BeginsPipe it.endian o.raw_records l rest) (sym all) (begins state old file it o rest) in
-          let size_is = opens o.raw_records rest begins_so ends in
-          record { bytes = rest; bytes_known = is; fits = omega (arith, size_is, length_fits); at_first_record = o.offset }
-      | inr e ↦ (let s = e.stage_ended in absurd cc)
-    ]
-
-    has_bodies : (metadata_records : List (List ℕ)) (records : List RecordView) → HoldsForPipe it.endian metadata_records bytes (λ C. AreFirstRecords C records) → HasBodiesAt bytes base records
-    has_bodies metadata_records records (rest, opening, ends, so) = has_bodies-first it.endian None bytes base rest (attributes_in_records it.endian None metadata_records) records (bytes_after_base metadata_records rest opening ends) so
-
-    has_first_record : (records : List RecordView) (status : Status) (file' : PerfFile) (metadata_records : List (List ℕ)) → HoldsAllMetadata it.endian metadata_records records file' → HoldsForPipe it.endian metadata_records bytes (λ C. EndsWithStatus C records status) → IsPipeWithFirstRecordAt bytes base records status
-    has_first_record records status file' metadata_records holds (rest, opening, ends, so) = record { file = file'; is = is_pipe_with_records records status file' metadata_records holds (rest, opening, ends, so); first_record_at = opens metadata_records rest opening ends }
-
-    pub reads_pipe_records : (start : ℕ) (before after : List Record) (walked : WalkResult) (new : PerfRecordIter R) (file' : PerfFile) → WalksRecords state it file base start before walked new file' after
-        → (total : RecordsResult) → total.count ≡ walked.count → total.status ≡ walk_status walked.end → ReadsPipeRecords bytes start before total after
-    reads_pipe_records start before after walked new file' w total count status =
-        let end = pipe_ends w.iter_at_end new w.file_at_end file' w.records w.returned walked.end w.ends in
+    pub reads_pipe_records : (total : RecordsResult) → total.count ≡ walked.count → total.status ≡ walk_status walked.end → ReadsPipeRecords bytes start entries total entries'
+    reads_pipe_records total count status =
+        let end = walk_ends in
+        let base = length bytes - length end.rest in
+        let first = first_record_offset_of reader.records in
+        let opening = end.opening in
         record {
           records = w.records;
           base = base;
-          writes = record { count = count ∙ w.count; written = w.written; body_bytes_at = has_bodies end.metadata_records w.records end.first_records };
-          ends = inr (subst (IsPipeWithFirstRecordAt bytes base w.records) (sym status) (has_first_record w.records (walk_status walked.end) file' end.metadata_records end.holds end.end_is));
+          writes = writes_at bytes first base start w.records entries entries' total end.first_record_at (count ∙ w.count) w.written (subst (λ l. HasBodiesAt l first w.records) parsed.1 w.body_bytes_at);
+          ends = inr (record {
+            file = file';
+            is = is_pipe_with_records total.status status;
+            first_record_at = omega (arith, ap length opening.split, length-append opening.header (concat end.metadata_records ++ end.rest), length-append (concat end.metadata_records) end.rest);
+          });
         }

@@ -7,8 +7,7 @@ use Rattle.perfdata_sections.specs.declared.error.Error.{Error}
 use Rattle.perfdata_sections.specs.declared.error.Error.TheVariants.{Memory}
 use Rattle.linux_perf_data.specs.declared.perf_file.PerfFile.{PerfFile}
 use Rattle.linux_perf_data.specs.Attribute.{EventRef}
-use Rattle.linux_perf_data.specs.LateMetadata.{IsMetadataType}
-use Rattle.linux_perf_data.specs.Layout.{RecordView, LayoutEnd, ends_complete, ends_with_error, LayoutError, RemainingRecords, attributes_in_records, record_type_of, record_size_of}
+use Rattle.linux_perf_data.specs.Layout.{RecordView, LayoutEnd, ends_complete, ends_with_error, LayoutError, RemainingRecords, attributes_in_records}
 use Rattle.linux_perf_data.specs.FileOpening.{IsFileError}
 use Rattle.linux_perf_data.specs.OpenedFile.{DescribesFile, FileRecords}
 use Rattle.linux_perf_data.specs.PerfFile.{endian_of_file, attributes_of_file}
@@ -118,16 +117,6 @@ pub record IsPipeWithRecords (bytes : List ℕ) (records : List RecordView) (fil
   pub after_opening : EndsMetadata endian rest
   pub ends : EndsWithStatus (RemainingRecords endian rest None 0 0 (attributes_in_records endian None metadata_records)) records status
   pub file_matches : HoldsAllMetadata endian metadata_records records file
-
--- the size of the metadata record at the start of bytes, or 0 if none starts there
-abbrev pub IsMetadataSize : Endianness → List ℕ → ℕ → Type 0
-IsMetadataSize endian rest n =
-    ((n ≡ 0) × (8 ≤ length rest → (¬ IsMetadataType (record_type_of endian rest)) ⊎ (record_size_of endian rest < 8)))
-    ⊎ ((8 ≤ length rest) × (8 ≤ record_size_of endian rest) × IsMetadataType (record_type_of endian rest) × (n ≡ record_size_of endian rest))
-
--- `n` is the size of a pipe's opening in bytes
-abbrev pub IsOpeningSize : Endianness → List ℕ → ℕ → Type 0
-IsOpeningSize endian bytes n = (metadata_records : List (List ℕ)) (rest : List ℕ) → BeginsPipe endian metadata_records bytes rest → EndsMetadata endian rest → n + length rest ≡ length bytes
 
 -- a pipe whose first record after the opening is at offset `base`
 pub record IsPipeWithFirstRecordAt (bytes : List ℕ) (base : ℕ) (records : List RecordView) (status : Status) : Type 0 where

@@ -1,16 +1,15 @@
--- The entries that a walk over an iterator's records writes, and how it ends.
-use Rattle.std.specs.Prelude.{◌≡◌, ℕ, ◌+◌, ◌^◌, ◌<◌, List, length, Some, Result, Ok, Err}
-use Rattle.perfdata_base.specs.Source.{State}
+-- The entries that a walk over the records of an input in memory writes, and how it ends.
+use Rattle.std.specs.Prelude.{◌≡◌, ℕ, List, length, Result, Ok, Err}
 use Rattle.perfdata_sections.specs.declared.error.Error.{Error}
-use Rattle.linux_perf_data.specs.declared.records.iter.PerfRecordIter.{PerfRecordIter}
-use Rattle.linux_perf_data.specs.declared.records.iter.Stage.TheVariants.{Running}
+use Rattle.linux_perf_data.specs.declared.in_memory.InMemoryRecords.{InMemoryRecords}
 use Rattle.linux_perf_data.specs.declared.perf_file.PerfFile.{PerfFile}
-use Rattle.linux_perf_data.specs.Iter.{iter_source_state, ReturnsEnd, ReturnsError}
+use Rattle.linux_perf_data.specs.Iter.{ReturnsEnd, ReturnsError}
+use Rattle.linux_perf_data.specs.InMemory.{memory_state, MemoryIter}
+use Rattle.linux_perf_data.specs.InMemoryReading.{ReturnsRecordsInMemory, input_of, first_record_offset_of}
 use Rattle.linux_perf_data.specs.Layout.{RecordView}
-use Rattle.linux_perf_data.specs.Reading.{ReturnsRecords}
 use Rattle.perfdata_arrays.specs.Overwrites.{with_prefix_from}
 use Rattle.perfdata_arrays.specs.Status.{error_status}
-use Rattle.perfdata_arrays.specs.Records.{record_entries_at}
+use Rattle.perfdata_arrays.specs.Records.{HasBodiesAt, record_entries_at}
 use Rattle.perfdata_arrays.specs.declared.status.Status.{Status}
 use Rattle.perfdata_arrays.specs.declared.status.Status.TheVariants.{Success}
 use Rattle.perfdata_arrays.specs.declared.record.Record.{Record}
@@ -21,29 +20,19 @@ abbrev pub walk_status : {A : Type 0} → Result A Error → Status
 walk_status (Ok _) = Success
 walk_status (Err e) = error_status e
 
-module _ {R : Type 0} (state : R → State) where
-  -- An iterator is at its first record and its bytes are known. They fit in 64 bits after offset `base`.
-  pub record FitsAt (it : PerfRecordIter R) (base : ℕ) : Type 0 where
-    pub bytes : List ℕ
-    pub bytes_known : (iter_source_state state it).bytes ≡ Some bytes
-    pub fits : base + length bytes < 2 ^ 64
-    pub at_first_record : it.offset ≡ 0
+-- The walk ends with the end of the records or with an error.
+abbrev pub WalkEnds : {A : Type 0} → MemoryIter → PerfFile → Result A Error → MemoryIter → PerfFile → Type 0
+WalkEnds now file (Ok _) new file' = ReturnsEnd memory_state now file new file'
+WalkEnds now file (Err e) new file' = ReturnsError memory_state now file e new file'
 
-  -- this holds for an iterator that is running
-  abbrev pub FitsAtIfRunning : PerfRecordIter R → ℕ → Type 0
-  FitsAtIfRunning it base = it.stage ≡ Running → FitsAt it base
-
-  -- The walk ends with the end of the records or with an error.
-  abbrev pub WalkEnds : {A : Type 0} → PerfRecordIter R → PerfFile → Result A Error → PerfRecordIter R → PerfFile → Type 0
-  WalkEnds now file (Ok _) new file' = ReturnsEnd state now file new file'
-  WalkEnds now file (Err e) new file' = ReturnsError state now file e new file'
-
-  -- The walk returns and counts these records, writes their entries, and ends.
-  pub record WalksRecords (old : PerfRecordIter R) (file : PerfFile) (base start : ℕ) (before : List Record) (walked : WalkResult) (new : PerfRecordIter R) (file' : PerfFile) (after : List Record) : Type 0 where
-    pub records : List RecordView
-    pub iter_at_end : PerfRecordIter R
-    pub file_at_end : PerfFile
-    pub returned : ReturnsRecords state old file records iter_at_end file_at_end
-    pub count : walked.count ≡ length records
-    pub written : after ≡ with_prefix_from start (record_entries_at base records) before
-    pub ends : WalkEnds iter_at_end file_at_end walked.end new file'
+-- The walk returns and counts these records, writes their entries, and ends. The input contains each body at the offset in its
+-- entry.
+pub record WalksRecords (old : InMemoryRecords) (file : PerfFile) (start : ℕ) (before : List Record) (walked : WalkResult) (new : InMemoryRecords) (file' : PerfFile) (after : List Record) : Type 0 where
+  pub records : List RecordView
+  pub input_at_end : InMemoryRecords
+  pub file_at_end : PerfFile
+  pub returned : ReturnsRecordsInMemory old file records input_at_end file_at_end
+  pub count : walked.count ≡ length records
+  pub written : after ≡ with_prefix_from start (record_entries_at (first_record_offset_of old) records) before
+  pub body_bytes_at : HasBodiesAt (input_of old) (first_record_offset_of old) records
+  pub ends : WalkEnds input_at_end.iter file_at_end walked.end new.iter file'

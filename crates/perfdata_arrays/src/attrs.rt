@@ -2,12 +2,12 @@
 ghost use Rattle.std.specs.Prelude.{◌≡◌};
 ghost use Rattle.perfdata_arrays.specs.Attrs.{AreEndOffsets, ReadsFileAttrs, ReadsPipeAttrs, IsCheckedSum, WritesAttrsOrPrefix, attr_entry_at, has_name_number, name_bytes, no_attrs_with};
 
-use crate::array::{byte_count, copy_at, write_entry};
+use crate::array::{copy_at, write_entry};
 use crate::records::{walk, walk_result_status};
 use crate::status::{Status, status_of_error};
-use linux_perf_data::{AttributeDescription, PerfFileReader};
+use linux_perf_data::AttributeDescription;
+use linux_perf_data::in_memory::InMemoryReader;
 use std::alloc::Global;
-use std::io::Cursor;
 
 /// An attribute as plain numbers (`perf_event_attr` in Linux's `perf_event.h`), with the positions of its name and its IDs.
 #[repr(C)]
@@ -230,7 +230,7 @@ pub fn file_attrs(
 ) -> AttrsResult
     ensures { ReadsFileAttrs bytes.now entries.old names.old ids.old result entries.new names.new ids.new }
 {
-    match PerfFileReader::parse_file(alloc, Cursor::new(bytes)) {
+    match InMemoryReader::parse_file(alloc, bytes) {
         Ok(reader) => write_attrs(
             reader.perf_file.event_attributes(),
             entries,
@@ -255,15 +255,13 @@ pub fn pipe_attrs(
 ) -> AttrsResult
     ensures { ReadsPipeAttrs bytes.now entries.old names.old ids.old result entries.new names.new ids.new }
 {
-    let reader = match PerfFileReader::parse_pipe(alloc, Cursor::new(bytes)) {
+    let reader = match InMemoryReader::parse_pipe(alloc, bytes) {
         Ok(reader) => reader,
         Err(error) => return no_attrs(status_of_error(&error)),
     };
     let mut file = reader.perf_file;
-    let mut iter = reader.record_iter;
-    // For the prover.
-    let _count = byte_count(bytes);
-    let walked = walk(&mut iter, &mut file, 0, 0, &mut []);
+    let mut input = reader.records;
+    let walked = walk(&mut input, &mut file, 0, &mut []);
     let status = walk_result_status(&walked.end);
     write_attrs(file.event_attributes(), entries, names, ids, status)
 }

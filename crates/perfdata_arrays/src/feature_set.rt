@@ -2,13 +2,11 @@
 ghost use Rattle.std.specs.Prelude.{◌≡◌};
 ghost use Rattle.perfdata_arrays.specs.FeatureSets.{AreBitsOf, ReadsFileFeatures, ReadsPipeFeatures, no_features_with};
 
-use crate::array::byte_count;
 use crate::records::{walk, walk_result_status};
 use crate::status::{Status, status_of_error};
-use linux_perf_data::PerfFileReader;
+use linux_perf_data::in_memory::InMemoryReader;
 use perfdata_base::features::FeatureSet;
 use std::alloc::Global;
-use std::io::Cursor;
 
 /// A set of features. Feature n is bit n mod 64 of the number with index n div 64.
 #[repr(C)]
@@ -66,7 +64,7 @@ fn no_features(status: Status) -> FeaturesResult
 pub fn file_features(alloc: Global, bytes: &[u8]) -> FeaturesResult
     ensures { ReadsFileFeatures bytes.now result }
 {
-    match PerfFileReader::parse_file(alloc, Cursor::new(bytes)) {
+    match InMemoryReader::parse_file(alloc, bytes) {
         Ok(reader) => FeaturesResult {
             features: bits_of(reader.perf_file.features()),
             status: Status::Success,
@@ -81,15 +79,13 @@ pub fn file_features(alloc: Global, bytes: &[u8]) -> FeaturesResult
 pub fn pipe_features(alloc: Global, bytes: &[u8]) -> FeaturesResult
     ensures { ReadsPipeFeatures bytes.now result }
 {
-    let reader = match PerfFileReader::parse_pipe(alloc, Cursor::new(bytes)) {
+    let reader = match InMemoryReader::parse_pipe(alloc, bytes) {
         Ok(reader) => reader,
         Err(error) => return no_features(status_of_error(&error)),
     };
     let mut file = reader.perf_file;
-    let mut iter = reader.record_iter;
-    // For the prover.
-    let _count = byte_count(bytes);
-    let walked = walk(&mut iter, &mut file, 0, 0, &mut []);
+    let mut input = reader.records;
+    let walked = walk(&mut input, &mut file, 0, &mut []);
     FeaturesResult {
         features: bits_of(file.features()),
         status: walk_result_status(&walked.end),

@@ -3,12 +3,12 @@ ghost use Rattle.std.specs.Prelude.{◌≡◌};
 ghost use Rattle.linux_perf_data.specs.PerfFile.{feature_data_in_file};
 ghost use Rattle.perfdata_arrays.specs.Features.{CopiesFeature, ReadsFileFeature, ReadsPipeFeature};
 
-use crate::array::{byte_count, copy_prefix};
+use crate::array::copy_prefix;
 use crate::records::{walk, walk_result_status};
 use crate::status::{Status, status_of_error};
-use linux_perf_data::{Feature, PerfFile, PerfFileReader};
+use linux_perf_data::in_memory::InMemoryReader;
+use linux_perf_data::{Feature, PerfFile};
 use std::alloc::Global;
-use std::io::Cursor;
 
 /// The size of a feature and the status of the call.
 #[derive(Clone, Copy, Debug, PartialEq, Eq)]
@@ -49,7 +49,7 @@ fn copy_feature(file: &PerfFile, feature: u32, buf: &mut [u8], status: Status) -
 pub fn file_feature(alloc: Global, bytes: &[u8], feature: u32, buf: &mut [u8]) -> FeatureResult
     ensures { ReadsFileFeature bytes.now feature buf.old result buf.new }
 {
-    match PerfFileReader::parse_file(alloc, Cursor::new(bytes)) {
+    match InMemoryReader::parse_file(alloc, bytes) {
         Ok(reader) => copy_feature(&reader.perf_file, feature, buf, Status::Success),
         Err(error) => {
             let status = status_of_error(&error);
@@ -69,7 +69,7 @@ pub fn file_feature(alloc: Global, bytes: &[u8], feature: u32, buf: &mut [u8]) -
 pub fn pipe_feature(alloc: Global, bytes: &[u8], feature: u32, buf: &mut [u8]) -> FeatureResult
     ensures { ReadsPipeFeature bytes.now feature buf.old result buf.new }
 {
-    let reader = match PerfFileReader::parse_pipe(alloc, Cursor::new(bytes)) {
+    let reader = match InMemoryReader::parse_pipe(alloc, bytes) {
         Ok(reader) => reader,
         Err(error) => {
             let status = status_of_error(&error);
@@ -81,10 +81,8 @@ pub fn pipe_feature(alloc: Global, bytes: &[u8], feature: u32, buf: &mut [u8]) -
         }
     };
     let mut file = reader.perf_file;
-    let mut iter = reader.record_iter;
-    // For the prover.
-    let _count = byte_count(bytes);
-    let walked = walk(&mut iter, &mut file, 0, 0, &mut []);
+    let mut input = reader.records;
+    let walked = walk(&mut input, &mut file, 0, &mut []);
     let status = walk_result_status(&walked.end);
     copy_feature(&file, feature, buf, status)
 }

@@ -1,5 +1,4 @@
 //! The statuses of calls, their codes and their texts.
-ghost use Rattle.std.specs.IoError.{error_kind};
 ghost use Rattle.std.specs.Prelude.{◌≡◌, ◌-◌, ◌++◌, ◌∷◌, [], length, take};
 ghost use Rattle.perfdata_arrays.specs.Overwrites.{with_prefix};
 ghost use Rattle.perfdata_arrays.specs.Status.{io_kind_status, read_error_status, error_status, jit_error_status, status_code, code_text};
@@ -7,7 +6,6 @@ ghost use Rattle.perfdata_arrays.specs.Status.{io_kind_status, read_error_status
 use crate::array::{copy_prefix, write_entry};
 use linux_perf_data::jitdump::JitDumpError;
 use linux_perf_data::{Error, ReadError};
-use std::io;
 use std::io::ErrorKind;
 
 /// The status of a call: success, or the first error in its input.
@@ -220,13 +218,6 @@ pub fn status_of_error(error: &Error) -> Status
         Error::InvalidPerfEventSize => Status::BadRecordSize,
         _ => Status::Other,
     }
-}
-
-/// Returns the status of an I/O error.
-pub fn status_of_io_error(error: &io::Error) -> Status
-    ensures { result ≡ io_kind_status (error_kind error.now) }
-{
-    status_of_io_kind(error.kind())
 }
 
 /// Returns the status of a jitdump header's error.

@@ -1,25 +1,11 @@
-use Rattle.std.proofs.Common.{◌≡◌, List, ℕ, Bor, refl, subst}
-use Rattle.std.specs.Io.Cursor.{cursor_inner, cursor_position}
-use Rattle.std.specs.declared.io.impls.Cursor.{Cursor}
-use Rattle.perfdata_base.specs.Source.{State, memory_source_at}
-use Rattle.linux_perf_data.specs.OpenedFile.{FileParsed, FileParseError}
+use Rattle.std.proofs.Common.{refl}
 use Rattle.perfdata_arrays.proofs.FeaturesLemmas.{reads_file_feature, file_feature_error}
 use Rattle.perfdata_arrays.proofs.FileRecordsLemmas.{file_open_error}
 use Rattle.perfdata_arrays.proofs.features.file_feature.Goals as goal
 
-abbrev state : Cursor (Bor (List ℕ)) → State
-state c = memory_source_at (cursor_inner c).now (cursor_position c)
-
 pub returns-in-Ok : goal.returns-in-Ok
 returns-in-Ok c =
-    let bytes = c.args.bytes.now in
-    let same : state c.new.result ≡ memory_source_at bytes 0 = λ i. memory_source_at (c.new.ensures.inner i).now (c.new.ensures.position i) in
-    let opened = subst (λ s. FileParsed state s c.in-Ok.reader.perf_file c.in-Ok.reader.record_iter) same c.in-Ok.ensures.parses in
-    reads_file_feature bytes (memory_source_at bytes 0) refl state c.in-Ok.reader.perf_file c.in-Ok.reader.record_iter opened c.args.feature c.args.buf.now c.copy_feature.result c.copy_feature.new.buf c.copy_feature.ensures.status c.copy_feature.ensures.copied
+    reads_file_feature c.args.bytes.now c.in-Ok.reader c.in-Ok.ensures c.args.feature c.args.buf.now c.copy_feature.result c.copy_feature.new.buf c.copy_feature.ensures.status c.copy_feature.ensures.copied
 
 pub returns-in-Err : goal.returns-in-Err
-returns-in-Err c =
-    let bytes = c.args.bytes.now in
-    let same : state c.new.result ≡ memory_source_at bytes 0 = λ i. memory_source_at (c.new.ensures.inner i).now (c.new.ensures.position i) in
-    let error = subst (λ s. FileParseError s c.in-Err.error) same c.in-Err.ensures.parses in
-    file_feature_error bytes c.args.feature c.args.buf.now _ c.in-Err.error c.status_of_error-status.ensures refl refl (file_open_error bytes (memory_source_at bytes 0) refl refl refl c.in-Err.error error)
+returns-in-Err c = file_feature_error c.args.bytes.now c.args.feature c.args.buf.now _ c.in-Err.error c.status_of_error-status.ensures refl refl (file_open_error c.args.bytes.now c.in-Err.error c.in-Err.ensures)

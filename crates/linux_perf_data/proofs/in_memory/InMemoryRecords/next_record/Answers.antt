@@ -1,9 +1,9 @@
-use Rattle.std.proofs.Common.{rules, ◌≡◌, sym, ap, subst, length, take, drop, ◌+◌}
+use Rattle.std.proofs.Common.{rules, ◌≡◌, sym, ap, subst, length, take, drop, ◌+◌, ◌≤◌}
 use Rattle.perfdata_base.specs.Raw.{bytes_of, IsSingle}
 use Rattle.linux_perf_data.specs.RecordViews.{record_view_of, record_view_with}
 use Rattle.linux_perf_data.specs.Iter.{ReturnsRecord}
 use Rattle.linux_perf_data.specs.InMemory.{memory_state, with_buffer}
-use Rattle.linux_perf_data.proofs.InMemoryPlaces.{taken_in_place, body_in_place}
+use Rattle.linux_perf_data.proofs.InMemoryPlaces.{taken_in_place, body_in_place, body_ends_in_place}
 use Rattle.linux_perf_data.proofs.in_memory.InMemoryRecords.next_record.Goals as goal
 
 pub invariant_of-self : goal.invariant_of-self
@@ -23,6 +23,7 @@ returns-in-Some-clause-returns_next c =
       buffer = t.buffer;
       returns = subst (λ h. ReturnsRecord memory_state old c.args.perf_file.now h (with_buffer new t.buffer) c.take_record.new.file) (sym view) t.returns;
       in_input = record {
+        ends_in_input = subst (λ b. first + found.place.offset + 8 + length b ≤ length input) (sym is) (body_ends_in_place old (with_buffer new t.buffer) c.args.perf_file.now c.take_record.new.file _ input first c.args.self.now.in_place t.returns);
         single = subst IsSingle (sym c.into_record.ensures.same_body) tt;
         bytes = subst (λ b. b ≡ take (length b) (drop (first + found.place.offset + 8) input)) (sym is) (body_in_place old (with_buffer new t.buffer) c.args.perf_file.now c.take_record.new.file _ input first c.args.self.now.in_place t.returns);
       };
