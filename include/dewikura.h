@@ -449,6 +449,7 @@ DEWIKURA_NONNULL dewikura_status dewikura_read_file_records_raw(const void *data
     struct dewikura_record *records, size_t capacity, uint64_t *total);
 DEWIKURA_NONNULL dewikura_status dewikura_read_pipe_records_raw(const void *data, size_t size, uint64_t start,
     struct dewikura_record *records, size_t capacity, uint64_t *total);
+DEWIKURA_NONNULL dewikura_status dewikura_sort_records_raw(struct dewikura_record *records, size_t count);
 DEWIKURA_NONNULL dewikura_status dewikura_read_file_attrs_raw(const void *data, size_t size, struct dewikura_attr *attrs,
     size_t attrs_capacity, char *names, size_t names_capacity, uint64_t *ids, size_t ids_capacity, struct dewikura_attr_totals *totals);
 DEWIKURA_NONNULL dewikura_status dewikura_read_pipe_attrs_raw(const void *data, size_t size, struct dewikura_attr *attrs,
@@ -514,6 +515,14 @@ DEWIKURA_NODISCARD static inline dewikura_status dewikura_read_pipe_records(cons
     uint64_t unused;
     return dewikura_read_pipe_records_raw(data ? data : &no_data, size, start, records ? records : &no_record, capacity,
         total ? total : &unused);
+}
+
+// Sorts records by time. Records without a time come first, and records with one time keep their order; the times 0 and 2^64 - 1 count as
+// none. Returns DEWIKURA_OK, or DEWIKURA_OUT_OF_MEMORY if a temporary array can't be allocated: the records are then unchanged.
+DEWIKURA_NODISCARD static inline dewikura_status dewikura_sort_records(struct dewikura_record *records, size_t count)
+{
+    struct dewikura_record no_record;
+    return dewikura_sort_records_raw(records ? records : &no_record, count);
 }
 
 // Writes the event attributes of a file, all names without a separator, and all ids, in the order of the file, each up to the capacity of

@@ -100,6 +100,12 @@ class RecordingTest(unittest.TestCase):
                 self.assertEqual(recording.body(record), data[record.body_offset:record.body_offset + record.body_size])
         self.assertRaises(ValueError, lambda: recording.records)
 
+    def test_records_by_time(self):
+        for path in (FIRST, SEVERAL, CALLS, CALLS_PIPE):
+            with dewikura.open(path) as recording:
+                wanted = sorted(recording.records, key=lambda record: 0 if record.timestamp in (None, 2 ** 64 - 1) else record.timestamp)
+                self.assertEqual([bytes(record) for record in recording.records_by_time()], [bytes(record) for record in wanted])
+
     def test_errors(self):
         data = FIRST.read_bytes()
         with self.assertRaises(dewikura.TruncatedError) as caught:

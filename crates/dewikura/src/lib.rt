@@ -17,6 +17,7 @@ ghost use Rattle.perfdata_arrays.specs.Jit.{ReadsJitHeader, ReadsJitRecords, Rea
 ghost use Rattle.perfdata_arrays.specs.JitBodies.{ReadsJitMove, ReadsJitUnwinding};
 ghost use Rattle.perfdata_arrays.specs.Overwrites.{with_prefix};
 ghost use Rattle.perfdata_arrays.specs.Records.{ReadsFileRecords, ReadsPipeRecords};
+ghost use Rattle.perfdata_arrays.specs.Sorting.{SortsByTime};
 ghost use Rattle.perfdata_arrays.specs.Status.{IsCodeOf, code_text};
 ghost use Rattle.perfdata_arrays.specs.Strings.{ReadsString};
 ghost use Rattle.dewikura.specs.Numbers.{endian_from, number_of_bool};
@@ -30,7 +31,8 @@ use perfdata_arrays::jit_bodies::{JitMove, JitUnwinding};
 use perfdata_arrays::record::Record;
 use perfdata_arrays::strings::StringEntry;
 use perfdata_arrays::{
-    attrs, build_ids, byte_order, feature_set, features, jit, jit_bodies, records, status, strings,
+    attrs, build_ids, byte_order, feature_set, features, jit, jit_bodies, records, sort, status,
+    strings,
 };
 use std::alloc::Global;
 
@@ -103,6 +105,14 @@ pub extern "C" fn dewikura_read_pipe_records_raw(
     let outcome = records::pipe_records(alloc, input, start, entries);
     *count = outcome.count;
     outcome.status.code()
+}
+
+/// Sorts records by time, as `sort::sort_records` does.
+#[unsafe(no_mangle)]
+pub extern "C" fn dewikura_sort_records_raw(alloc: Global, entries: &mut [Record]) -> u32
+    ensures { IsCodeOf result (λ s. SortsByTime entries.old s entries.new) }
+{
+    sort::sort_records(alloc, entries).code()
 }
 
 /// Reads the attributes of a perf.data file, as `attrs::file_attrs` does.

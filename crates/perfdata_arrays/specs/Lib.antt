@@ -2,6 +2,7 @@
 pub mod Overwrites
 pub mod Status
 pub mod Records
+pub mod Sorting
 pub mod Walk
 pub mod Jit
 pub mod JitBodies

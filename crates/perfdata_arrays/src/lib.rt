@@ -14,5 +14,6 @@ pub mod jit;
 pub mod jit_bodies;
 pub mod record;
 pub mod records;
+pub mod sort;
 pub mod status;
 pub mod strings;

@@ -45,6 +45,7 @@ def _declare_reads(name, *kinds):
 
 is_big_endian = _declare_read("is_big_endian_raw")
 read_records = _declare_reads("records", u64, POINTER(_structs.Record), size, POINTER(u64))
+sort_records = _declare("sort_records_raw", POINTER(_structs.Record), size)
 read_attrs = _declare_reads("attrs", POINTER(_structs.Attr), size, POINTER(u8), size, POINTER(u64), size, POINTER(_structs.AttrTotals))
 read_feature_set = _declare_reads("feature_set", POINTER(_structs.FeatureSet))
 read_feature = _declare_reads("feature", u32, POINTER(u8), size, POINTER(u8), POINTER(u64))

@@ -177,6 +177,10 @@ class Recording(ContextManager["Recording"]):
             raise error
         return records
 
+    def records_by_time(self) -> Records:
+        """A copy of all records in order of time: those without a time first, records with one time in the order of the input."""
+        return self._keep("records_by_time", lambda _data: self._sorted(self.records))
+
     def events(self) -> Iterator[Record]:
         """Iterates over the records with an attribute, which the kernel wrote."""
         return filter(lambda record: record.has_attr, self.records)
@@ -259,6 +263,13 @@ class Recording(ContextManager["Recording"]):
             capacity = total.value
         error = None if status == Status.OK else error_of(status, total.value)
         return Records(array, range(total.value)), error
+
+    @staticmethod
+    def _sorted(records: Records) -> Records:
+        array = (Record * max(len(records), 1))()
+        ctypes.memmove(array, records._array, len(records) * ctypes.sizeof(Record))
+        check(_native.sort_records(array, len(records)))
+        return Records(array, range(len(records)))
 
     def _read_attributes(self, data: memoryview) -> Tuple[Attribute, ...]:
         totals, capacities = _structs.AttrTotals(), (0, 0, 0)
