@@ -3,6 +3,7 @@
 //   one          a perf.data file with one attribute whose records have TIME, and records of mixed kinds and sizes
 //   small        the same with samples of 32 bytes
 //   events       one with eight attributes and their identifiers, in the layout of perf record: ids, attributes, records, EVENT_DESC
+//   rounds       the same of a system-wide recording: in each round one CPU's records after the other's, so most are later than the next CPU's
 //   pipe         the records of `one` as a pipe
 //   pipe-events  the records of `events` as a pipe
 //   late         a pipe that begins with one attribute and contains SIZE late ones, with a sample after each
@@ -78,11 +79,9 @@ static size_t put_record(unsigned char *at, uint64_t number, uint64_t *state) {
 // The identifier of an event on a CPU, as the kernel counts them: event by event, with gaps.
 static uint64_t id_of(int event, int cpu) { return 4000 + 97 * (uint64_t)event + 5 * (uint64_t)cpu; }
 
-// Writes one record of an event on a CPU. A sample begins with its identifier, all other records end with theirs.
-static size_t put_event_record(unsigned char *at, uint64_t number, uint64_t *state) {
+// Writes one record of an event on a CPU at a time. A sample begins with its identifier, all other records end with theirs.
+static size_t put_event_at(unsigned char *at, uint64_t time, uint64_t *state) {
     static const int kinds[16] = {SAMPLE, SAMPLE, SAMPLE, SAMPLE, SAMPLE, MMAP2, SAMPLE, SAMPLE, SAMPLE, COMM, SAMPLE, SAMPLE, MMAP, SAMPLE, SAMPLE, SAMPLE};
-    if (number % ROUND == ROUND - 1) return put_head(at, FINISHED_ROUND, 0, 8);
-    uint64_t time = clock_of(number, state);
     int kind = kinds[next(state) % 16], event = (int)(next(state) % EVENTS), cpu = (int)(next(state) % CPUS);
     uint64_t id = id_of(event, cpu);
     // the minimum body size, and the size that a call chain or a name adds
@@ -100,6 +99,18 @@ static size_t put_event_record(unsigned char *at, uint64_t number, uint64_t *sta
         put(words + 24, id, 8);
     }
     return 8 + body;
+}
+
+static size_t put_event_record(unsigned char *at, uint64_t number, uint64_t *state) {
+    if (number % ROUND == ROUND - 1) return put_head(at, FINISHED_ROUND, 0, 8);
+    return put_event_at(at, clock_of(number, state), state);
+}
+
+// Writes one record of a round in which the buffers of the CPUs were drained one by one. All cover the same time.
+static size_t put_round_record(unsigned char *at, uint64_t number, uint64_t *state) {
+    const uint64_t size = CPUS * ROUND, each = ROUND * 1000;
+    if (number % size == size - 1) return put_head(at, FINISHED_ROUND, 0, 8);
+    return put_event_at(at, number / size * each + clock_of(number % ROUND, state), state);
 }
 
 typedef size_t (*Put)(unsigned char *, uint64_t, uint64_t *);
@@ -168,7 +179,7 @@ static void write_descriptions(void) {
 
 enum { DESCRIPTIONS = 8 + EVENTS * (PERF_ATTRIBUTE + 4 + 4 + 16 + 8 * CPUS) };
 
-static void write_events(uint64_t wanted) {
+static void write_event_file(Put put_one, uint64_t wanted) {
     const uint64_t attr_size = PERF_ATTRIBUTE + 16, attrs = HEADER + EVENTS * CPUS * 8;
     const uint64_t records = attrs + EVENTS * attr_size;
     uint64_t size = 0;
@@ -185,12 +196,16 @@ static void write_events(uint64_t wanted) {
             write_number(HEADER + (uint64_t)event * CPUS * 8, 8);
             write_number(CPUS * 8, 8);
         }
-        size = write_records(put_event_record, wanted);
+        size = write_records(put_one, wanted);
         write_number(records + size + 16, 8);
         write_number(DESCRIPTIONS, 8);
         write_descriptions();
     }
 }
+
+static void write_events(uint64_t wanted) { write_event_file(put_event_record, wanted); }
+
+static void write_rounds(uint64_t wanted) { write_event_file(put_round_record, wanted); }
 
 // ---- pipes
 
@@ -447,7 +462,8 @@ static void write_jit(uint64_t wanted) {
 
 int main(int argc, char **argv) {
     static const struct { const char *name; void (*write)(uint64_t); } kinds[] = {
-        {"one", write_one}, {"small", write_small}, {"events", write_events}, {"pipe", write_pipe}, {"pipe-events", write_pipe_events},
+        {"one", write_one}, {"small", write_small}, {"events", write_events}, {"rounds", write_rounds},
+        {"pipe", write_pipe}, {"pipe-events", write_pipe_events},
         {"late", write_late}, {"late-named", write_late_named}, {"described", write_described}, {"opening", write_opening}, {"renamed", write_renamed},
         {"ids-up", write_ids_up}, {"ids-down", write_ids_down}, {"single-up", write_single_up}, {"single-down", write_single_down},
         {"attributes", write_attribute_section}, {"types", write_types}, {"pmu", write_pmu},
