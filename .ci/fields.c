@@ -368,6 +368,25 @@ static void check_empty(void)
     CHECK(dewikura_read_jit_load(NULL, 0, 0, &load), DEWIKURA_JIT_TRUNCATED_HEADER);
 }
 
+static void check_sort(void)
+{
+    static const uint64_t times[] = {7, 0, 3, 7, UINT64_MAX}, order[] = {1, 4, 2, 0, 3};
+    struct dewikura_record records[5];
+    size_t i;
+    memset(records, 0, sizeof records);
+    for (i = 0; i < 5; i++) {
+        records[i].offset = i;
+        records[i].timestamp = times[i];
+        records[i].has_timestamp = i != 1;
+    }
+    CHECK(dewikura_sort_records(records, 5), DEWIKURA_OK);
+    for (i = 0; i < 5; i++) {
+        CHECK(records[i].offset, order[i]);
+        CHECK(records[i].timestamp, times[order[i]]);
+    }
+    CHECK(dewikura_sort_records(NULL, 0), DEWIKURA_OK);
+}
+
 static void check_texts(void)
 {
     char text[128], part[8], unknown[128];
@@ -394,6 +413,7 @@ int main(void)
     check_string();
     check_jitdump();
     check_empty();
+    check_sort();
     check_texts();
     return 0;
 }

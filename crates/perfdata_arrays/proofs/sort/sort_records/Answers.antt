@@ -1,4 +1,4 @@
-use Rattle.std.proofs.Common.{rules, ◌≡◌, inl}
+use Rattle.std.proofs.Common.{rules, ◌≡◌, refl, inl}
 use Rattle.std.proofs.lemmas.List.Sorted.{IsNonDecreasingBy-from_sort_by_key}
 use Rattle.std.proofs.lemmas.Fn.{always_returns_same}
 use Rattle.perfdata_arrays.specs.Sorting.{time_or_zero}
