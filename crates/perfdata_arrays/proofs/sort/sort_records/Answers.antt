@@ -5,7 +5,11 @@ use Rattle.perfdata_arrays.specs.Sorting.{time_or_zero}
 use Rattle.perfdata_arrays.proofs.sort.sort_records.Goals as goal
 
 pub returns-in-Ok : goal.returns-in-Ok
-returns-in-Ok c = inl (refl, record {
-  permutation = c.sort_by_key.ensures.permutation;
-  ascending = IsNonDecreasingBy-from_sort_by_key time_or_zero _ c.in-Ok.ensures.sorted (λ a r q k. search rules);
-  stable = c.sort_by_key.ensures.stable time_or_zero (always_returns_same _ (λ a r. r ≡ time_or_zero a.0.now) _ (λ a r q k. search rules)) })
+returns-in-Ok c = inl (
+  refl,
+  record {
+    permutation = c.sort_by_key.ensures.permutation;
+    ascending = IsNonDecreasingBy-from_sort_by_key time_or_zero _ c.in-Ok.ensures.sorted (λ a r q k. search rules);
+    stable = c.sort_by_key.ensures.stable time_or_zero (always_returns_same _ (λ a r. r ≡ time_or_zero a.0.now) _ (λ a r q k. search rules));
+  },
+)
