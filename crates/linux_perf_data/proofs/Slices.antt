@@ -73,7 +73,7 @@ module _ (o endian : Endianness) (same : endian ≡ o) (xs : List ℕ) (left : S
       in_order (λ e. BeginsWithPmuSection e xs m) (took.bytes, cut.0, cut.1, took.matches)
 
   units_fault : (fault : AppendError) → ReadsPmus (number_in o) (memory_source xs) (Err fault) left → ParsesPmuMappings o xs (Err (file_error_of fault))
-  units_fault Memory some = tt
+  units_fault Memory part = let start = slice_front xs part.bytes left part.consumes in (part.bytes, start.0, start.1, part.is_truncated)
   units_fault (Source e) stopped = slice_stopped (IsTruncatedPmuSection (number_in o)) xs left e stopped
 
   pub units_err : (r read : Result PmuMappings AppendError) (fault : AppendError) (e : Error) → read ≡ r → read ≡ Err fault → e ≡ file_error_of fault → ReadsPmus (number_in o) (memory_source xs) r left

@@ -8,7 +8,7 @@ use Rattle.perfdata_base.specs.declared.raw.Endianness.{Endianness}
 use Rattle.perfdata_sections.specs.Error.{IsInvalidData, IsUnexpectedEof}
 use Rattle.perfdata_sections.specs.HeaderString.{before_nul}
 use Rattle.perfdata_sections.specs.NumberSections.{nr_cpus_of, sample_times_of, compression_of, clock_of, IsTruncatedClock}
-use Rattle.perfdata_sections.specs.PmuMappings.{IsPmuSectionOf, IsTruncatedPmuSection}
+use Rattle.perfdata_sections.specs.PmuMappings.{IsPmuSectionOf, IsPrefixOfPmuSection, IsTruncatedPmuSection}
 use Rattle.perfdata_sections.specs.declared.error.Error.{Error}
 use Rattle.perfdata_sections.specs.declared.error.Error.TheVariants.{NotEnoughSpaceForStringLen, NotEnoughSpaceForStringListLen, StringLengthTooLong, StringUtf8, FeatureSectionTooSmall, Memory}
 use Rattle.perfdata_sections.specs.declared.feature_sections.number_sections.NrCpus.{NrCpus}
@@ -110,10 +110,14 @@ module _ (order : Endianness) where
   abbrev pub BeginsWithPmuSection : List ℕ → PmuMappings → Type 0
   BeginsWithPmuSection xs m = (section : List ℕ) × (rest : List ℕ) × (xs ≡ section ++ rest) × IsPmuSectionOf (number_in order) section m
 
-  -- Parses a section of PMUs. Memory may run out at any of them.
+  -- The bytes start with a part of a section of PMUs that needs memory: the count, and a unit or the length of a name.
+  abbrev pub NeedsMemoryForPmus : List ℕ → Type 0
+  NeedsMemoryForPmus xs = (part : List ℕ) × (rest : List ℕ) × (xs ≡ part ++ rest) × IsPrefixOfPmuSection (number_in order) part
+
+  -- Parses a section of PMUs. Memory runs out only after the count.
   abbrev pub ParsesPmuMappings : List ℕ → Result PmuMappings Error → Type 0
   ParsesPmuMappings xs (Ok m) = BeginsWithPmuSection xs m
-  ParsesPmuMappings xs (Err Memory) = ⊤
+  ParsesPmuMappings xs (Err Memory) = NeedsMemoryForPmus xs
   ParsesPmuMappings xs (Err e) = IsUnexpectedEof e × IsTruncatedPmuSection (number_in order) xs
 
   -- Splits the bytes into the text of the first string and the bytes after the string.
