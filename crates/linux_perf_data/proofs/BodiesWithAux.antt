@@ -1,14 +1,15 @@
 -- Reading the body of a record and its aux data.
-use Rattle.std.proofs.Common.{◌≡◌, ℕ, ◌+◌, ◌-◌, ◌≤◌, ◌++◌, List, [], length, sym, ap, ◌∙◌, subst, arith, inl, inr, length-append}
-use Rattle.perfdata_base.specs.Source.{State, Consumed, AppendedExactly}
+use Rattle.std.proofs.Common.{◌≡◌, ℕ, ◌+◌, ◌-◌, ◌<◌, ◌≤◌, ◌++◌, List, [], length, sym, ap, ◌∙◌, subst, arith, inl, inr, length-append}
+use Rattle.perfdata_base.specs.Source.{State, Consumed, AppendedExactly, PartlyAppended}
 use Rattle.perfdata_base.proofs.ConsumedLemmas.{consumed_more, failed_later, consumed_none_later}
 use Rattle.perfdata_base.specs.Endian.{number_in}
 use Rattle.perfdata_base.proofs.Numbers.{number_front}
 use Rattle.perfdata_base.specs.declared.raw.Endianness.{Endianness}
 use Rattle.perfdata_base.specs.declared.event.PerfEventHeader.{PerfEventHeader}
 use Rattle.perfdata_sections.specs.declared.error.Error.{Error}
+use Rattle.perfdata_sections.specs.declared.error.Error.TheVariants.{Memory}
 use Rattle.linux_perf_data.specs.Layout.{IsCompressed}
-use Rattle.linux_perf_data.specs.RecordFraming.{BytesRead, AuxDataRead, AuxDataError, BodyRead, BodyErrorCause, BodyPartlyRead}
+use Rattle.linux_perf_data.specs.RecordFraming.{BytesRead, AuxDataRead, AuxDataError, BodyRead, BodyErrorCause, BodyPartlyRead, BodyExceedsCapacity}
 
 -- a buffer that was empty contains exactly the bytes read
 kept_alone : (a b : State) (held body : List ℕ) (count : ℕ) → held ≡ [] → AppendedExactly a held count body b → BytesRead a count body b
@@ -93,3 +94,28 @@ content_auxtrace order a b c head held body now end whole empty least plain kind
 pub content_not_auxtrace : (order : Endianness) (a b c : State) (head : PerfEventHeader) (held body now : List ℕ) (end : ℕ) (e : Error) → held ≡ [] → 8 ≤ head.size → head.type_ ≡ 71
     → AppendedExactly a held (head.size - 8) body b → AuxDataError order b body end e now c → BodyPartlyRead a e now c (BodyErrorCause order a head end e c)
 content_not_auxtrace order a b c head held body now end e empty least kind kept t = traced_refused order a b c head body now end e least kind (kept_alone a b held body (head.size - 8) empty kept) t
+
+-- memory runs out for the body
+pub body_exceeds : (order : Endianness) (a b : State) (head : PerfEventHeader) (held : List ℕ) (now capacity : ℕ) → held ≡ [] → PartlyAppended a (length held) (head.size - 8) now b → capacity < length held + (head.size - 8) → BodyExceedsCapacity order capacity a head b
+body_exceeds order a b head held now capacity empty part small = record { consumed_bytes = part.partial_read.consumed_bytes; consumes = part.partial_read.consumes; exceeds = inl (omega (arith, small, ap length empty)) }
+
+-- memory runs out for the aux data
+aux_exceeds_after : (order : Endianness) (a b c : State) (head : PerfEventHeader) (body now : List ℕ) (end capacity grown : ℕ) → head.type_ ≡ 71 → BytesRead a (head.size - 8) body b → AuxDataError order b body end Memory now c
+    → capacity ≤ grown → grown < length body + number_in order 8 body → BodyExceedsCapacity order capacity a head c
+aux_exceeds_after order a b c head body now end capacity grown kind took (inl (short, few, holds, same)) kept small = absurd short
+aux_exceeds_after order a b c head body now end capacity grown kind took (inr (inl (is, enough, far, holds, same))) kept small = absurd cc
+aux_exceeds_after order a b c head body now end capacity grown kind took (inr (inr (enough, fits, part, why))) kept small =
+    let long = took.exact_len in
+    let came = body ++ part.partial_read.consumed_bytes in
+    let came_long : length came ≡ length body + length part.partial_read.consumed_bytes = length-append body part.partial_read.consumed_bytes in
+    let number : number_in order 8 came ≡ number_in order 8 body = number_front order 8 body part.partial_read.consumed_bytes (omega (arith, enough)) in
+    record {
+      consumed_bytes = came;
+      consumes = consumed_more a b c body part.partial_read.consumed_bytes took.consumes part.partial_read.consumes;
+      exceeds = inr (kind, omega (arith, long, enough), omega (arith, came_long, long), omega (arith, long, number, kept, small));
+    }
+
+pub aux_exceeds : (order : Endianness) (a b c : State) (head : PerfEventHeader) (held body now : List ℕ) (end capacity grown : ℕ) (e : Error) → held ≡ [] → head.type_ ≡ 71 → AppendedExactly a held (head.size - 8) body b → AuxDataError order b body end e now c
+    → capacity ≤ grown → e ≡ Memory → grown < length body + number_in order 8 body → BodyExceedsCapacity order capacity a head c
+aux_exceeds order a b c head held body now end capacity grown e empty kind appended stops kept is small =
+    aux_exceeds_after order a b c head body now end capacity grown kind (kept_alone a b held body (head.size - 8) empty appended) (subst (λ x. AuxDataError order b body end x now c) is stops) kept small

@@ -1,5 +1,5 @@
 -- Lemmas on the calls of a `PerfRecordIter`, one or several.
-use Rattle.std.proofs.Common.{◌≡◌, ◌≢◌, ◌==◌, ℕ, ◌+◌, ◌^◌, ◌<◌, ◌++◌, List, [], ◌∷◌, false, length, take, drop, refl, sym, ap, ◌∙◌, subst, arith, inl, inr, append_assoc, length-append, eq-eqb}
+use Rattle.std.proofs.Common.{◌≡◌, ◌≢◌, ◌==◌, ℕ, ◌+◌, ◌^◌, ◌<◌, ◌≤◌, ◌++◌, List, [], ◌∷◌, false, length, take, drop, refl, sym, ap, ◌∙◌, subst, arith, inl, inr, append_assoc, length-append, eq-eqb, vec_capacity}
 use Rattle.std.specs.Prelude.{◌⊎◌, if◌then◌else◌, Option, None, Some, IfSome}
 use Rattle.std.specs.List.{concat}
 use Rattle.std.proofs.lemmas.Bool.{cases_eq, ne_eqb}
@@ -25,10 +25,10 @@ use Rattle.linux_perf_data.specs.Input.{HasNoPendingHeader, section_size_in, inp
 use Rattle.linux_perf_data.specs.LateMetadata.{IsMetadataType, UpdatesPerfFile, HasValidMetadata, PassesEarlierChecks, SameAttributeCount, SamePerfFile, RejectsMetadata}
 use Rattle.linux_perf_data.specs.PerfFile.{endian_of_file, descriptions_of_file, features_of_file, feature_data_in_file}
 use Rattle.linux_perf_data.specs.Layout.{SectionSize, MayStartAt, IsEnd, IsTruncated, IsRecord, AreMarkerRecords, ConsistsOfMarkers, IsValidRecord, record_type_of, misc_of, RecordView, LayoutEnd, ends_complete, ends_with_error, LayoutError, ConcernsMetadata, ErrorAt, RemainingRecords, record_view, record_view_in, attributes_in_record, attributes_in_views}
-use Rattle.linux_perf_data.specs.RecordFraming.{IsErrorFor, ShownBy, StaysWithinRecord, IsTruncatedAfterHeader, SourceErrorInRecord, MayNeedMemory}
+use Rattle.linux_perf_data.specs.RecordFraming.{ExceedsCapacity, IsErrorFor, ShownBy, StaysWithinRecord, IsTruncatedAfterHeader, SourceErrorInRecord, MayNeedMemory}
 use Rattle.linux_perf_data.specs.RecordViews.{IdentifiesRecord, record_view_with}
-use Rattle.linux_perf_data.specs.Iter.{iter_source_state, section_size_of, TestsMayStart, SameInput, HasRemainingRecords, ReturnsRecord, ReachesEnd, ReturnsEnd, IsMismatchedPerfFile, IsErrorCause, StopsAtError, ReturnsError}
-use Rattle.linux_perf_data.specs.IterSteps.{RawRecordRead, RawRecordTruncated, RawRecordError, SameButLookup, RecordProcessed, RecordRejected}
+use Rattle.linux_perf_data.specs.Iter.{iter_source_state, section_size_of, TestsMayStart, SameInput, HasRemainingRecords, ReturnsRecord, ReachesEnd, ReturnsEnd, IsMismatchedPerfFile, IsErrorCause, StopsAtError, ReturnsError, NeedsLargerBuffer, BuffersMetadata}
+use Rattle.linux_perf_data.specs.IterSteps.{RawRecordExceedsBuffer, RawRecordRead, RawRecordTruncated, RawRecordError, SameButLookup, RecordProcessed, RecordRejected}
 use Rattle.linux_perf_data.specs.Reading.{ReadSoFar}
 use Rattle.linux_perf_data.proofs.AddedAttributes.{adds_none, added_one}
 use Rattle.linux_perf_data.proofs.RecordHeaders.{record_least, total_size_plain}
@@ -343,6 +343,34 @@ module _ {R : Type 0} (state : R → State) where
           | inr source_error ↦ inr (subst (λ s. SourceErrorInRecord now.endian (section_size_of state now) (iter_source_state state now) error_there.consumed_bytes e s) (sym same) source_error)
         ]);
       }
+
+  -- a buffer with less capacity is too small as well
+  smaller_exceeds : (order : Endianness) (less more : ℕ) (consumed_bytes : List ℕ) → less ≤ more → ExceedsCapacity order more consumed_bytes → ExceedsCapacity order less consumed_bytes
+  smaller_exceeds order less more consumed_bytes within (inl exceeds) = inl (omega (arith, within, exceeds))
+  smaller_exceeds order less more consumed_bytes within (inr (kind, there, exceeds)) = inr (kind, there, omega (arith, within, exceeds))
+
+  -- memory runs out for the body of the record after the markers
+  pub larger_buffer : (old now new new' : PerfRecordIter R) → Idles old now → vec_capacity old.body ≤ vec_capacity now.body → RawRecordExceedsBuffer state now new → IsStopped new new' → NeedsLargerBuffer state old new'
+  larger_buffer old now new new' i kept x stopped = record {
+    markers = i.markers;
+    valid_markers = i.passed;
+    consumed_bytes = x.consumed_bytes;
+    consumes = subst (λ s. Consumed (iter_source_state state old) (i.markers ++ x.consumed_bytes) s) (sym (view_stopped new new' stopped)) (consumed_more _ _ _ i.markers x.consumed_bytes i.gave x.consumes);
+    exceeds = subst (λ o. ExceedsCapacity o (vec_capacity old.body) x.consumed_bytes) i.same.same_endian (smaller_exceeds now.endian (vec_capacity old.body) (vec_capacity now.body) x.consumed_bytes kept x.exceeds);
+  }
+
+  -- memory runs out for the metadata of the record in the buffer
+  pub buffers_metadata : (old now piece new : PerfRecordIter R) (file file' : PerfFile) (head : PerfEventHeader) (e : Error) → Idles old now → RawRecordRead state now head piece → head.type_ ≢ 68
+      → RecordRejected state piece file head e new file' → BuffersMetadata state old new
+  buffers_metadata old now piece new file file' head e i t other d = (
+    sym i.same.section_size ∙ sym t.same_input.section_size ∙ d.in_pipe,
+    (
+      t.raw_record,
+      subst (λ o. IsRecord o t.raw_record) i.same.same_endian t.is_record,
+      subst IsMetadataType (sym t.record_type ∙ ap (λ o. record_type_of o t.raw_record) i.same.same_endian) d.metadata_type,
+      d.same_but_lookup.body ∙ t.buffered_body other,
+    ),
+  )
 
   -- a layout error in a metadata record
   metadata_layout_error : (old now piece new : PerfRecordIter R) (file : PerfFile) (head : PerfEventHeader) (e : Error) (i : Idles old now) (t : RawRecordRead state now head piece) → MayStartAt (section_size_of state now) now.offset → section_size_of state now ≡ None → iter_source_state state new ≡ iter_source_state state piece

@@ -17,7 +17,7 @@ use Rattle.perfdata_sections.specs.declared.error.ReadError.TheVariants.{PerfEve
 use Rattle.perfdata_sections.specs.Error.{IsUnexpectedEof, IsUnsupported, IsIoError}
 use Rattle.linux_perf_data.specs.Attribute.{Attribute}
 use Rattle.linux_perf_data.specs.Layout.{SectionSize, LayoutError, truncated_header, size_below_header, end_overflows, truncated_body, compressed_record, aux_body_too_short, aux_end_overflows, truncated_aux_data, ConcernsMetadata, ErrorAt, IsCompressed, IsTruncated, IsRecord, HasRecordHeader, HasCompleteBody, HasAuxSize, record_type_of, misc_of, record_size_of, aux_size_of, total_size_of}
-use Rattle.linux_perf_data.specs.RecordFraming.{ShownBy, IsErrorFor, EndedWithin, FailedWithin, ChecksBodySize, ChecksRecordEnd, BodyRead, BodyEnded, BodyPartlyRead, IsTruncatedBody, BodyErrorCause, IsTruncatedAfterHeader, StaysWithinRecord, SourceErrorInRecord, RecordErrorAt, RecordTruncatedAt}
+use Rattle.linux_perf_data.specs.RecordFraming.{ShownBy, IsErrorFor, EndedWithin, FailedWithin, ChecksBodySize, ChecksRecordEnd, BodyRead, BodyEnded, BodyPartlyRead, IsTruncatedBody, BodyErrorCause, IsTruncatedAfterHeader, StaysWithinRecord, SourceErrorInRecord, RecordErrorAt, RecordTruncatedAt, BodyExceedsCapacity, ExceedsCapacity}
 use Rattle.linux_perf_data.proofs.RecordHeaders.{record_type_front, misc_front, size_front, total_size_auxtrace, total_size_plain}
 
 -- the size in a record header is valid, and its record ends below 2^64
@@ -54,13 +54,13 @@ after_header h x long = ap (λ n. drop n (h ++ x)) (sym long) ∙ drop-append_se
 abbrev Owes : Endianness → SectionSize → ℕ → Error → List ℕ → Type 0
 Owes order bound offset e bytes = (f : LayoutError) × ((attrs : List Attribute) → ErrorAt order bound offset attrs bytes f) × (¬ ConcernsMetadata f) × IsErrorFor f e
 
-not_io_memory : (e : Error) → IsIoError e → e ≡ Memory → ⊥
+pub not_io_memory : (e : Error) → IsIoError e → e ≡ Memory → ⊥
 not_io_memory e io is = subst IsIoError is io
 
 not_io_failed : (e : Error) → IsIoError e → e ≡ Failed → ⊥
 not_io_failed e io is = subst IsIoError is io
 
-not_short_memory : (e : Error) → IsUnexpectedEof e → e ≡ Memory → ⊥
+pub not_short_memory : (e : Error) → IsUnexpectedEof e → e ≡ Memory → ⊥
 not_short_memory e short is = subst IsUnexpectedEof is short
 
 not_short_failed : (e : Error) → IsUnexpectedEof e → e ≡ Failed → ⊥
@@ -69,7 +69,7 @@ not_short_failed e short is = subst IsUnexpectedEof is short
 not_unsupported_failed : (e : Error) → IsUnsupported e → e ≡ Failed → ⊥
 not_unsupported_failed e unsupported is = subst IsUnsupported is unsupported
 
-not_unsupported_memory : (e : Error) → IsUnsupported e → e ≡ Memory → ⊥
+pub not_unsupported_memory : (e : Error) → IsUnsupported e → e ≡ Memory → ⊥
 not_unsupported_memory e unsupported is = subst IsUnsupported is unsupported
 
 -- The record header is truncated: in a pipe the records end, in a file it is an error.
@@ -363,6 +363,21 @@ content_error order a b c bound offset end head e now other t checks n =
           (record { complete_header = omega (arith, long); record_type = λ k. other (sym h.kind ∙ k); has_body = omega (arith, size, some) }, cut_behind order a b head t n.consumed_bytes wanted.1);
       cause = λ m. content_why order a b c bound offset end head e t n.consumed_bytes checks n.consumes m n.cause;
     }
+
+-- the body after a record header exceeds a capacity
+pub exceeds_behind : (order : Endianness) (a b c : State) (head : PerfEventHeader) (capacity : ℕ) (t : RecordHeaderParsed (number_in order) a head b) (x : BodyExceedsCapacity order capacity b head c) → Consumed a (t.bytes ++ x.consumed_bytes) c × ExceedsCapacity order capacity (t.bytes ++ x.consumed_bytes)
+exceeds_behind order a b c head capacity t x =
+    let h = headed order a b head t x.consumed_bytes in
+    let size = h.size in
+    let long = h.long in (
+      consumed_more a b c t.bytes x.consumed_bytes t.consumes x.consumes,
+      elim x.exceeds [
+        | inl small ↦ inl (omega (arith, size, small))
+        | inr (kind, enough, there, small) ↦
+            let extent = extent_alone order a b head t x.consumed_bytes kind (omega (arith, there, enough)) in
+            inr (h.kind ∙ kind, omega (arith, size, long, there, enough), omega (arith, extent, small, enough))
+      ],
+    )
 
 -- a record header and its body are a record
 pub record Whole (order : Endianness) (a : State) (offset : ℕ) (head : PerfEventHeader) (end : ℕ) (piece : List ℕ) (c : State) : Type 0 where

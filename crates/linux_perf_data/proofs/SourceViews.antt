@@ -1,16 +1,17 @@
 -- Without a pending header, the view of a reader is the state of its source.
 use Rattle.std.proofs.Common.{◌≡◌, ◌≢◌, ℕ, List, [], length, refl, sym, ap, ◌∙◌, subst, inl, inr, Option, None, Some}
-use Rattle.std.specs.Prelude.{Bool, true, false, Result, Ok, Err}
+use Rattle.std.specs.Prelude.{Bool, true, false, Result, Ok, Err, IfErr}
 use Rattle.perfdata_base.specs.Source.{State, prepend, Consumed, EndedOrPaused, SourceFailed, SourcePaused, PartlyRead, PartlyAppended, SkippedExactly, AppendedExactly}
 use Rattle.perfdata_base.specs.Endian.{number_in}
 use Rattle.perfdata_base.specs.Event.{RecordHeaderParsed}
 use Rattle.perfdata_base.specs.declared.raw.Endianness.{Endianness}
 use Rattle.perfdata_base.specs.declared.event.PerfEventHeader.{PerfEventHeader}
 use Rattle.perfdata_sections.specs.declared.error.Error.{Error}
+use Rattle.perfdata_sections.specs.declared.error.Error.TheVariants.{Memory}
 use Rattle.linux_perf_data.specs.declared.records.input.Input.{Input}
 use Rattle.linux_perf_data.specs.declared.records.input.Input.TheVariants.{Section, Pipe}
 use Rattle.linux_perf_data.specs.Input.{HasNoPendingHeader, with_leading_bytes, input_source_state, AnswersTruncation, section_size_in}
-use Rattle.linux_perf_data.specs.RecordFraming.{ReadsRecordHeader, SkipsBody, AppendsBody, ReadsRecordBody, EndedWithin, FailedWithin, BodyPartlyRead, BodyRead, BodyEnded, BodyErrorCause}
+use Rattle.linux_perf_data.specs.RecordFraming.{ReadsRecordHeader, SkipsBody, AppendsBody, ReadsRecordBody, EndedWithin, FailedWithin, BodyPartlyRead, BodyRead, BodyEnded, BodyErrorCause, BodyExceedsCapacity}
 
 prepend_none : (o : Option (List ℕ)) → prepend [] o ≡ o
 prepend_none None = refl
@@ -78,6 +79,9 @@ module _ (i : Input) (none : HasNoPendingHeader i) (a b : State) where
       → BodyPartlyRead (input_source_state i a) e now (input_source_state i b) (BodyErrorCause order (input_source_state i a) head end e (input_source_state i b))
   no_content_in order head end e now c = record { consumed_bytes = c.consumed_bytes; consumes = consumed_in i none a b c.consumed_bytes c.consumes; buffer_bound = c.buffer_bound; cause = why_in order head end e c.consumed_bytes c.cause }
 
+  pub exceeds_in : (order : Endianness) (capacity : ℕ) (head : PerfEventHeader) → BodyExceedsCapacity order capacity a head b → BodyExceedsCapacity order capacity (input_source_state i a) head (input_source_state i b)
+  exceeds_in order capacity head x = record { consumed_bytes = x.consumed_bytes; consumes = consumed_in i none a b x.consumed_bytes x.consumes; exceeds = x.exceeds }
+
 -- a truncated record gives the end in a pipe and the error in a file
 pub truncated_by : (i : Input) (e : Error) (r : Result (Option PerfEventHeader) Error) (P : Result (Option PerfEventHeader) Error → Type 0) → AnswersTruncation i e r → (section_size_in i ≡ None → P (Ok None)) → (section_size_in i ≢ None → P (Err e)) → P r
 truncated_by i e (Ok None) P answers pipe file = pipe answers
@@ -108,3 +112,9 @@ content_some order a b head end whole now r is reads = subst (λ o. ReadsRecordB
 
 pub content_none : (order : Endianness) (a b : State) (head : PerfEventHeader) (end : ℕ) (now : List ℕ) (r : Option ℕ) → r ≡ None → ReadsRecordBody order a head end (Ok r) now b → BodyEnded a head now b
 content_none order a b head end now r is reads = subst (λ o. ReadsRecordBody order a head end (Ok o) now b) is reads
+
+-- a truncated record isn't out of memory
+pub truncation_memory : (i : Input) (e : Error) (r : Result (Option PerfEventHeader) Error) (P : Type 0) → AnswersTruncation i e r → e ≢ Memory → IfErr r (λ e'. e' ≡ Memory → P)
+truncation_memory i e (Ok None) P answers other = tt
+truncation_memory i e (Ok (Some head)) P answers other = absurd answers
+truncation_memory i e (Err e') P answers other = λ is. absurd (other (sym answers.1 ∙ is))

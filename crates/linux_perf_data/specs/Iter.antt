@@ -1,5 +1,5 @@
 -- The state of a `PerfRecordIter`, its remaining records, and the contract of one call.
-use Rattle.std.specs.Prelude.{◌≡◌, ◌≢◌, ℕ, ◌+◌, ◌^◌, ◌<◌, ◌≤◌, ◌⊎◌, Bool, true, false, List, [], ◌∷◌, ◌++◌, length, drop, Option, None, Some, Result, Ok, Err, IfSome}
+use Rattle.std.specs.Prelude.{◌≡◌, ◌≢◌, ℕ, ◌+◌, ◌^◌, ◌<◌, ◌≤◌, ◌⊎◌, Bool, true, false, List, [], ◌∷◌, ◌++◌, length, drop, Option, None, Some, Result, Ok, Err, IfSome, IfErr, vec_capacity}
 use Rattle.perfdata_base.specs.Source.{State, Consumed, SourcePaused}
 use Rattle.perfdata_base.specs.Endian.{number_in}
 use Rattle.perfdata_base.specs.declared.raw.Endianness.{Endianness}
@@ -22,7 +22,7 @@ use Rattle.linux_perf_data.specs.PerfFile.{descriptions_of_file, feature_data_in
 use Rattle.linux_perf_data.specs.AttributeLookup.{Represents}
 use Rattle.linux_perf_data.specs.Layout.{SectionSize, MayStartAt, IsEnd, IsRecord, ConsistsOfMarkers, record_type_of, RecordView, LayoutEnd, ends_complete, ends_with_error, LayoutError, RemainingRecords, attributes_in_record}
 use Rattle.linux_perf_data.specs.Pauses.{PausesOnlyAtEndOrError}
-use Rattle.linux_perf_data.specs.RecordFraming.{StaysWithinRecord, IsTruncatedAfterHeader, IsErrorFor, ShownBy, SourceErrorInRecord, MayNeedMemory}
+use Rattle.linux_perf_data.specs.RecordFraming.{ExceedsCapacity, StaysWithinRecord, IsTruncatedAfterHeader, IsErrorFor, ShownBy, SourceErrorInRecord, MayNeedMemory}
 use Rattle.linux_perf_data.specs.RecordViews.{record_view_of, record_view_with}
 
 -- Whether a record may start at this offset.
@@ -155,6 +155,23 @@ module _ {R : Type 0} (state : R → State) where
     pub if_out_of_memory : e ≡ error.Memory → NeedsMemoryFor old file consumed_bytes
     pub cause : e ≢ error.Memory → IsErrorCause old file markers consumed_bytes e new
 
+  -- The body of the record after the markers is larger than the buffer's capacity.
+  pub record NeedsLargerBuffer (old new : PerfRecordIter R) : Type 0 where
+    pub markers : List ℕ
+    pub valid_markers : ConsistsOfMarkers old.endian (section_size_of old) old.offset markers
+    pub consumed_bytes : List ℕ
+    pub consumes : Consumed (iter_source_state old) (markers ++ consumed_bytes) (iter_source_state new)
+    pub exceeds : ExceedsCapacity old.endian (vec_capacity old.body) consumed_bytes
+
+  -- In a pipe, the buffer contains the body of a metadata record.
+  abbrev pub BuffersMetadata : PerfRecordIter R → PerfRecordIter R → Type 0
+  BuffersMetadata old new = (section_size_of old ≡ None)
+      × ((raw_record : List ℕ) × IsRecord old.endian raw_record × IsMetadataType (record_type_of old.endian raw_record) × (new.body.items ≡ drop 8 raw_record))
+
+  -- Memory runs out only where the buffer has to grow, or for metadata.
+  abbrev pub MemoryOnlyToGrow : {A : Type 0} → PerfRecordIter R → Result A Error → PerfRecordIter R → Type 0
+  MemoryOnlyToGrow old r new = IfErr r (λ e. e ≡ error.Memory → NeedsLargerBuffer old new ⊎ BuffersMetadata old new)
+
   -- The call returned an error, and the contents of the `PerfFile` are unchanged.
   pub record ReturnsError (old : PerfRecordIter R) (file : PerfFile) (e : Error) (new : PerfRecordIter R) (file' : PerfFile) : Type 0 where
     pub stage_failed : new.stage ≡ Failed
@@ -175,7 +192,7 @@ module _ {R : Type 0} (state : R → State) where
   ReturnsNext old file (Ok None) new file' = ReturnsEnd old file new file'
   ReturnsNext old file (Err e) new file' = ReturnsError old file e new file'
 
-  -- The result of a call, and the iterator after the loan of the record ends. The iterator keeps its source, and reads no further
-  -- after an empty read.
+  -- The result of a call, and the iterator after the loan of the record ends. The iterator keeps its source, reads no further
+  -- after an empty read, and needs memory only to grow its buffer and for metadata.
   abbrev pub NextRecord : (R → ℕ) → PerfRecordIter R → PerfFile → Result (Option (RecordPlace × PerfFileRecord)) Error → PerfRecordIter R → PerfFile → Type 0
-  NextRecord loan old file r new file' = ReturnsNext old file r new file' × (loan new.source ≡ loan old.source) × PausesOnlyAtEndOrError (state old.source) r (state new.source)
+  NextRecord loan old file r new file' = ReturnsNext old file r new file' × (loan new.source ≡ loan old.source) × PausesOnlyAtEndOrError (state old.source) r (state new.source) × MemoryOnlyToGrow old r new

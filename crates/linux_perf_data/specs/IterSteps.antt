@@ -1,5 +1,5 @@
 -- The steps of a call of `PerfRecordIter::next_record`: reading a raw record, and processing a record.
-use Rattle.std.specs.Prelude.{◌≡◌, ◌≢◌, ℕ, ◌+◌, ◌^◌, ◌<◌, ◌≤◌, ◌==◌, ◌⊎◌, List, [], ◌++◌, length, drop, if◌then◌else◌, Option, None, Some, Result, Ok, Err}
+use Rattle.std.specs.Prelude.{◌≡◌, ◌≢◌, ℕ, ◌+◌, ◌^◌, ◌<◌, ◌≤◌, ◌==◌, ◌⊎◌, List, [], ◌++◌, length, drop, if◌then◌else◌, Option, None, Some, Result, Ok, Err, vec_capacity}
 use Rattle.perfdata_base.specs.Source.{State, Consumed}
 use Rattle.perfdata_base.specs.declared.event.PerfEventHeader.{PerfEventHeader}
 use Rattle.perfdata_sections.specs.declared.error.Error.{Error}
@@ -13,7 +13,7 @@ use Rattle.linux_perf_data.specs.Input.{HasNoPendingHeader}
 use Rattle.linux_perf_data.specs.LateMetadata.{HasValidMetadata, IsMetadataType, UpdatesPerfFile, SamePerfFile, RejectsMetadata, SameAttributeCount}
 use Rattle.linux_perf_data.specs.AttributeLookup.{Represents}
 use Rattle.linux_perf_data.specs.Layout.{IsRecord, record_type_of, misc_of, attributes_in_record}
-use Rattle.linux_perf_data.specs.RecordFraming.{RecordErrorAt, RecordTruncatedAt}
+use Rattle.linux_perf_data.specs.RecordFraming.{RecordErrorAt, RecordTruncatedAt, ExceedsCapacity}
 use Rattle.linux_perf_data.specs.RecordViews.{IdentifiesRecord}
 use Rattle.linux_perf_data.specs.Iter.{iter_source_state, section_size_of, SameInput}
 
@@ -53,6 +53,12 @@ module _ {R : Type 0} (state : R → State) where
     pub same_input : SameInput state old new
     pub attribute_lookup : new.attribute_lookup ≡ old.attribute_lookup
     pub no_pending_header : HasNoPendingHeader new.input
+
+  -- The body of the raw record is larger than the buffer's capacity.
+  pub record RawRecordExceedsBuffer (old new : PerfRecordIter R) : Type 0 where
+    pub consumed_bytes : List ℕ
+    pub consumes : Consumed (iter_source_state state old) consumed_bytes (iter_source_state state new)
+    pub exceeds : ExceedsCapacity old.endian (vec_capacity old.body) consumed_bytes
 
   abbrev pub ReadsRawRecord : PerfRecordIter R → Result (Option PerfEventHeader) Error → PerfRecordIter R → Type 0
   ReadsRawRecord old (Ok (Some header)) new = RawRecordRead old header new

@@ -177,6 +177,20 @@ pub record MayNeedMemory (order : Endianness) (consumed : List ℕ) : Type 0 whe
   pub record_type : record_type_of order consumed ≢ finished_round
   pub has_body : 8 < record_size_of order consumed
 
+-- A buffer of this capacity is too small for the body of a record that starts with the bytes `consumed`: for what its header counts or,
+-- once that was read, for it and the aux data.
+abbrev pub ExceedsCapacity : Endianness → ℕ → List ℕ → Type 0
+ExceedsCapacity order capacity consumed =
+    (capacity + 8 < record_size_of order consumed)
+    ⊎ ((record_type_of order consumed ≡ auxtrace) × (record_size_of order consumed ≤ length consumed) × (capacity + 8 < total_size_of order consumed))
+
+-- The same of a body after its header, with the bytes of it that were read.
+pub record BodyExceedsCapacity (order : Endianness) (capacity : ℕ) (old : State) (header : PerfEventHeader) (new : State) : Type 0 where
+  pub consumed_bytes : List ℕ
+  pub consumes : Consumed old consumed_bytes new
+  pub exceeds : (capacity < header.size - 8)
+      ⊎ ((header.type_ ≡ auxtrace) × (48 ≤ header.size) × (header.size - 8 ≤ length consumed_bytes) × (capacity < header.size - 8 + number_in order 8 consumed_bytes))
+
 -- The bytes `consumed` show that `Holds`, whatever follows them or because nothing does.
 abbrev pub ShownBy : (List ℕ → Type 0) → List ℕ → State → Type 0
 ShownBy Holds consumed new = ((rest : List ℕ) → Holds (consumed ++ rest)) ⊎ ((new.bytes ≡ Some []) × Holds consumed)

@@ -1,5 +1,5 @@
 //! Byte sources, and functions that read, skip and append their bytes.
-ghost use Rattle.std.specs.Prelude.{◌≡◌, ◌+◌, ◌^◌, ◌<◌, ◌≤◌, ◌↔◌, ℕ, List, [], IsTrue, min, length, take, drop, vec_len, Ok, refl};
+ghost use Rattle.std.specs.Prelude.{◌≡◌, ◌+◌, ◌^◌, ◌<◌, ◌≤◌, ◌↔◌, ℕ, List, [], IsTrue, IfErr, OnErr, min, length, take, drop, vec_len, vec_capacity, Ok, refl};
 ghost use Rattle.std.proofs.Common.{lit<};
 ghost use Rattle.std.proofs.lemmas.Bool.{false≢true};
 ghost use Rattle.std.specs.Io.Cursor.{cursor_inner, cursor_position};
@@ -75,13 +75,16 @@ pub trait Source {
 
     /// Appends the next `count` bytes to `buffer` if that many are buffered, and returns whether it did.
     ///
-    /// If the result is `false` or out of memory, `buffer` and the source are unchanged.
+    /// If the result is `false` or out of memory, `buffer` and the source are unchanged. Memory can run out only if the
+    /// capacity of `buffer` is smaller than its content and `count` bytes.
     fn append_buffered(
         &mut self,
         buffer: &mut Vec<u8>,
         count: usize,
     ) -> std::result::Result<bool, AllocError>
         ensures appends { AppendsBuffered (state self.old) buffer.old.items count result buffer.new.items (state self.new) }
+        ensures memory_only_to_grow { OnErr result (vec_capacity buffer.old < length buffer.old.items + count) }
+        ensures capacity { vec_capacity buffer.old ≤ vec_capacity buffer.new }
         ensures same_loan { loan self.new ≡ loan self.old }
     {
         Ok(false)
@@ -594,6 +597,8 @@ fn append_chunk<S: Source>(
 ) -> std::result::Result<usize, AppendError>
     requires { count ≤ 4096 }
     ensures appends { 0 < count → AppendsUpTo (S.state source.old) buffer.old.items count result buffer.new.items (S.state source.new) }
+    ensures memory_only_to_grow { IfErr result (λ e. e ≡ Memory → vec_capacity buffer.old < length buffer.old.items + count) }
+    ensures capacity { vec_capacity buffer.old ≤ vec_capacity buffer.new }
     ensures pauses { PausesOnlyIfIncomplete count (S.state source.old) result (S.state source.new) }
     ensures same_loan { S.loan source.new ≡ S.loan source.old }
 {
@@ -611,6 +616,8 @@ fn append_by_reads<S: Source>(
     count: usize,
 ) -> std::result::Result<usize, AppendError>
     ensures appends { AppendsUpTo (S.state source.old) buffer.old.items count result buffer.new.items (S.state source.new) }
+    ensures memory_only_to_grow { IfErr result (λ e. e ≡ Memory → vec_capacity buffer.old < length buffer.old.items + count) }
+    ensures capacity { vec_capacity buffer.old ≤ vec_capacity buffer.new }
     ensures pauses { PausesOnlyIfIncomplete count (S.state source.old) result (S.state source.new) }
     ensures same_loan { S.loan source.new ≡ S.loan source.old }
 {
@@ -633,7 +640,8 @@ fn append_by_reads<S: Source>(
 /// 4,096 bytes, and allocates the memory for a chunk before it reads the chunk. `buffer` is never more than 4,096 bytes
 /// longer than its old content with the bytes read so far, whatever `count` is.
 ///
-/// Errors are [`AppendError::Memory`], and those of [`fill`] in [`AppendError::Source`]. After an error some of the
+/// Errors are [`AppendError::Memory`], only if the capacity of `buffer` is smaller than its content and `count` bytes, and
+/// those of [`fill`] in [`AppendError::Source`]. After an error some of the
 /// bytes may have been consumed, and `buffer` may be up to 4,096 bytes longer than its old content with these bytes.
 pub fn append_up_to<S: Source>(
     source: &mut S,
@@ -641,6 +649,8 @@ pub fn append_up_to<S: Source>(
     count: usize,
 ) -> std::result::Result<usize, AppendError>
     ensures appends { AppendsUpTo (S.state source.old) buffer.old.items count result buffer.new.items (S.state source.new) }
+    ensures memory_only_to_grow { IfErr result (λ e. e ≡ Memory → vec_capacity buffer.old < length buffer.old.items + count) }
+    ensures capacity { vec_capacity buffer.old ≤ vec_capacity buffer.new }
     ensures pauses { PausesOnlyIfIncomplete count (S.state source.old) result (S.state source.new) }
     ensures same_loan { S.loan source.new ≡ S.loan source.old }
 {
@@ -688,6 +698,8 @@ pub fn append_exact<S: Source>(
     count: usize,
 ) -> std::result::Result<(), AppendError>
     ensures appends { AppendsExactly (S.state source.old) buffer.old.items count result buffer.new.items (S.state source.new) }
+    ensures memory_only_to_grow { IfErr result (λ e. e ≡ Memory → vec_capacity buffer.old < length buffer.old.items + count) }
+    ensures capacity { vec_capacity buffer.old ≤ vec_capacity buffer.new }
     ensures pauses { PausesOnlyOnError (S.state source.old) result (S.state source.new) }
     ensures same_loan { S.loan source.new ≡ S.loan source.old }
 {

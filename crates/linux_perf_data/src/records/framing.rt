@@ -1,10 +1,12 @@
 //! Reads the parts of a record from a source: record header, body, aux data.
-ghost use Rattle.std.specs.Prelude.{◌≡◌, ◌≤◌, []};
+ghost use Rattle.std.specs.Prelude.{◌≡◌, ◌+◌, ◌<◌, ◌≤◌, [], length, IfErr, vec_capacity};
+ghost use Rattle.perfdata_base.specs.Endian.{number_in};
+ghost use Rattle.perfdata_sections.specs.declared.error.Error.TheVariants.{Memory};
 ghost use Rattle.perfdata_base.specs.Source.{PausesOnlyOnError};
 ghost use Rattle.linux_perf_data.specs.BufferedRecord.{WholeRecordLength};
 ghost use Rattle.linux_perf_data.specs.Input.{TakesPendingHeader, input_source_state};
 ghost use Rattle.linux_perf_data.specs.Pauses.{PausesOnlyAtEndOrError, PausesOnlyIfTruncated};
-ghost use Rattle.linux_perf_data.specs.RecordFraming.{ChecksBodySize, ChecksRecordEnd, SkipsBody, AppendsBody, ReadsRecordBody, ReadsRecordHeader, ReadsAuxData, TestsCompressed};
+ghost use Rattle.linux_perf_data.specs.RecordFraming.{ChecksBodySize, ChecksRecordEnd, SkipsBody, AppendsBody, BodyExceedsCapacity, ReadsRecordBody, ReadsRecordHeader, ReadsAuxData, TestsCompressed};
 
 use crate::records::input::{Input, next_header_bytes};
 use perfdata_base::endian::read_u64;
@@ -110,6 +112,8 @@ pub(crate) fn skip_body<R: Source>(source: &mut R, count: u64) -> Result<bool, E
 // Appends `count` bytes of the source to `body`. `false` if the source has fewer.
 fn append_body<R: Source>(source: &mut R, body: &mut Vec<u8>, count: usize) -> Result<bool, Error>
     ensures appends { AppendsBody (R.state source.old) body.old.items count result body.new.items (R.state source.new) }
+    ensures memory_only_to_grow { IfErr result (λ e. e ≡ Memory → vec_capacity body.old < length body.old.items + count) }
+    ensures capacity { vec_capacity body.old ≤ vec_capacity body.new }
     ensures pauses { PausesOnlyIfTruncated (R.state source.old) result (R.state source.new) }
     ensures same_loan { R.loan source.new ≡ R.loan source.old }
 {
@@ -133,6 +137,8 @@ fn read_aux_data<R: Source>(
     end: u64,
 ) -> Result<u64, Error>
     ensures reads { ReadsAuxData endian (R.state source.old) body.old.items end result body.new.items (R.state source.new) }
+    ensures memory_only_to_grow { IfErr result (λ e. e ≡ Memory → vec_capacity body.old < length body.old.items + number_in endian 8 body.old.items) }
+    ensures capacity { vec_capacity body.old ≤ vec_capacity body.new }
     ensures pauses { PausesOnlyOnError (R.state source.old) result (R.state source.new) }
     ensures same_loan { R.loan source.new ≡ R.loan source.old }
 {
@@ -162,6 +168,8 @@ pub(crate) fn read_record_body<R: Source>(
     requires size { 8 ≤ header.size }
     requires empty { body.old.items ≡ [] }
     ensures reads { ReadsRecordBody endian (R.state source.old) header end result body.new.items (R.state source.new) }
+    ensures memory_only_to_grow { IfErr result (λ e. e ≡ Memory → BodyExceedsCapacity endian (vec_capacity body.old) (R.state source.old) header (R.state source.new)) }
+    ensures capacity { vec_capacity body.old ≤ vec_capacity body.new }
     ensures pauses { PausesOnlyAtEndOrError (R.state source.old) result (R.state source.new) }
     ensures same_loan { R.loan source.new ≡ R.loan source.old }
 {

@@ -1,5 +1,6 @@
 //! The iterator over records.
-ghost use Rattle.std.specs.Prelude.{◌≡◌, ◌↔◌, ◌≤◌, [], IsTrue, IfSome, IfErr};
+ghost use Rattle.std.specs.Prelude.{◌≡◌, ◌↔◌, ◌≤◌, [], IsTrue, IfSome, IfErr, vec_capacity};
+ghost use Rattle.perfdata_sections.specs.declared.error.Error.TheVariants.{Memory};
 ghost use Rattle.perfdata_base.specs.Raw.{bytes_of};
 ghost use Rattle.linux_perf_data.specs.NamedErrors.{IsRecordError};
 ghost use Rattle.linux_perf_data.specs.Pauses.{PausesOnlyAtEndOrError};
@@ -181,8 +182,8 @@ impl<R> PerfRecordIter<R> {
 
 impl<R: Source> PerfRecordIter<R> {
     ghost use Rattle.linux_perf_data.specs.BufferedRecord.{IsFinished, IsNextBuffered, ContainsNextRecord, TestsNextBuffered};
-    ghost use Rattle.linux_perf_data.specs.Iter.{TestsMayStart, Advances, NextRecord, section_size_of, iter_source_state};
-    ghost use Rattle.linux_perf_data.specs.IterSteps.{ReadsRawRecord, ProcessesRecord};
+    ghost use Rattle.linux_perf_data.specs.Iter.{MemoryOnlyToGrow, TestsMayStart, Advances, NextRecord, section_size_of, iter_source_state};
+    ghost use Rattle.linux_perf_data.specs.IterSteps.{RawRecordExceedsBuffer, ReadsRawRecord, ProcessesRecord};
     ghost use Rattle.std.specs.Io.BufRead.{Rests};
     ghost use Rattle.std.specs.Borrow.{sem};
     ghost use Rattle.linux_perf_data.specs.contracts.records.iter.PerfRecordIter.{the_row};
@@ -236,6 +237,8 @@ impl<R: Source> PerfRecordIter<R> {
     fn next_raw_record(&mut self) -> Result<Option<PerfEventHeader>, Error>
         requires empty { self.old.body.items ≡ [] }
         ensures raw_record { ReadsRawRecord R.state self.old result self.new }
+        ensures memory_only_to_grow { IfErr result (λ e. e ≡ Memory → RawRecordExceedsBuffer R.state self.old self.new) }
+        ensures capacity { vec_capacity self.old.body ≤ vec_capacity self.new.body }
         ensures pauses { PausesOnlyAtEndOrError (R.state self.old.source) result (R.state self.new.source) }
         ensures same_loan { R.loan self.new.source ≡ R.loan self.old.source }
     {
@@ -290,6 +293,7 @@ impl<R: Source> PerfRecordIter<R> {
     // Reads up to the end of the next record, whose body is then in `self.body`.
     fn advance(&mut self, file: &mut PerfFile) -> Result<Option<RecordInfo>, Error>
         ensures advances { Advances R.state self.old file.old result self.new file.new }
+        ensures memory_only_to_grow { MemoryOnlyToGrow R.state self.old result self.new }
         ensures pauses { PausesOnlyAtEndOrError (R.state self.old.source) result (R.state self.new.source) }
         ensures same_loan { R.loan self.new.source ≡ R.loan self.old.source }
     {
@@ -350,7 +354,8 @@ impl<R: Source> PerfRecordIter<R> {
     /// - `InvalidPerfEventSize` if the size in a record header is below 8, the size of the record header.
     /// - `Read(PerfEventData)` if a body or aux data are truncated or can't be read, or would end past 2^64 - 1.
     /// - `IoError` of kind `Unsupported` for a compressed record (types 81 and 83), whose bytes are consumed.
-    /// - `Memory` if memory runs out for a body.
+    /// - `Memory` if memory runs out for a body. The body with its aux data is then larger than the
+    ///   capacity of the buffer.
     ///
     /// If a metadata record can't be applied, the metadata in `perf_file` is unchanged, and the error is:
     ///

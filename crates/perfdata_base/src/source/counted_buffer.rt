@@ -1,5 +1,5 @@
 //! A buffered reader of std as a source that exposes its buffer.
-ghost use Rattle.std.specs.Prelude.{◌≡◌, ◌<◌, length, Ok, refl};
+ghost use Rattle.std.specs.Prelude.{◌≡◌, ◌+◌, ◌<◌, ◌≤◌, OnErr, length, vec_capacity, Ok, refl};
 ghost use Rattle.std.proofs.lemmas.Bool.{false≢true};
 ghost use Rattle.perfdata_base.specs.Source.{opaque_source, CountsRead, CountsSeek, SizeFitsI64, PositionFitsU64, Reads, Seeks};
 ghost use Rattle.perfdata_base.specs.Buffered.{IsPrefixOfRemaining, ReadsBuffered, AppendsBuffered};
@@ -109,6 +109,8 @@ impl<R: Read> Source for CountedBuffer<R> {
         count: usize,
     ) -> std::result::Result<bool, AllocError>
         ensures appends { AppendsBuffered (buffered_state self.old) buffer.old.items count result buffer.new.items (buffered_state self.new) }
+        ensures memory_only_to_grow { OnErr result (vec_capacity buffer.old < length buffer.old.items + count) }
+        ensures capacity { vec_capacity buffer.old ≤ vec_capacity buffer.new }
         ensures takes_from_buffer { AppendsFromBuffer self.old buffer.old.items count result buffer.new.items self.new }
     {
         let buffered = self.reader.buffer();

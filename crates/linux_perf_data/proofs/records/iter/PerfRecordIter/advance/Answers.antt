@@ -1,9 +1,9 @@
-use Rattle.std.proofs.Common.{rules, arith, refl, subst, [], ◌∙◌}
+use Rattle.std.proofs.Common.{rules, arith, refl, subst, inl, inr, [], ◌∙◌}
 use Rattle.perfdata_base.proofs.ConsumedLemmas.{consumed_none}
 use Rattle.linux_perf_data.specs.Iter.{iter_source_state, section_size_of}
 use Rattle.linux_perf_data.specs.IterSteps.{RecordProcessed, RecordRejected}
 use Rattle.linux_perf_data.proofs.TruncatedRecords.{some_record, no_record}
-use Rattle.linux_perf_data.proofs.IterCalls.{markers_none, idles_on, returns_record, stops, late_stops, section_ends, pipe_ends, same_later}
+use Rattle.linux_perf_data.proofs.IterCalls.{markers_none, idles_on, returns_record, stops, late_stops, larger_buffer, buffers_metadata, section_ends, pipe_ends, same_later}
 use Rattle.linux_perf_data.proofs.records.iter.PerfRecordIter.advance.Goals as goal
 
 pub raw_records-init : goal.raw_records-init
@@ -24,6 +24,7 @@ raw_records-init g c = record {
   pauses = refl;
   same_loan = refl;
   file = refl;
+  capacity = (let same = c.clear.ensures.capacity in omega (arith, same));
 }
 
 pub raw_records-preserved : goal.raw_records-preserved
@@ -36,6 +37,7 @@ raw_records-preserved g c =
       pauses = (rw c.in-Ok-Some.field-0-is at c.in-Ok-Some.ensures.pauses) ∙ i.pauses;
       same_loan = c.in-Ok-Some.ensures.same_loan ∙ i.same_loan;
       file = i.file;
+      capacity = (let before = i.capacity in let kept = c.in-Ok-Some.ensures.capacity in omega (arith, before, kept));
     }
 
 pub returns-in-Ok-clause-advances : goal.returns-in-Ok-clause-advances
@@ -110,3 +112,16 @@ returns-clause-advances g c =
 
 pub returns-in-Failed-clause-advances : goal.returns-in-Failed-clause-advances
 returns-in-Failed-clause-advances g c = search rules
+
+pub returns-in-Err-clause-memory_only_to_grow : goal.returns-in-Err-clause-memory_only_to_grow
+returns-in-Err-clause-memory_only_to_grow g c = λ m.
+    let i = c.raw_records.invariant in
+    inl (larger_buffer g.R.Source.state c.args.self.now c.raw_records.self c.next_raw_record.new.self _ i.idles i.capacity (c.in-Err.ensures.memory_only_to_grow m) (record { source = refl; input = refl; body = refl }))
+
+pub returns-in-Err-process_record-clause-memory_only_to_grow : goal.returns-in-Err-process_record-clause-memory_only_to_grow
+returns-in-Err-process_record-clause-memory_only_to_grow g c = λ m.
+    let state = g.R.Source.state in
+    let head = c.in-Ok-Some.header in
+    let t = some_record state c.raw_records.self c.next_raw_record.new.self _ head c.in-Ok-Some.field-0-is c.in-Ok-Some.ensures.raw_record in
+    inr (buffers_metadata state c.args.self.now c.raw_records.self c.next_raw_record.new.self c.process_record.new.self c.raw_records.file c.process_record.new.file head c.in-Err-process_record.error c.raw_records.invariant.idles t c.if-header-ne-PERF_RECORD_FINISHED_ROUND.true
+    c.in-Err-process_record.ensures.processes)

@@ -1,4 +1,4 @@
-use Rattle.std.proofs.Common.{◌≡◌, ◌-◌, ◌^◌}
+use Rattle.std.proofs.Common.{◌≡◌, ◌≤◌, ◌-◌, ◌^◌, vec_capacity}
 use Rattle.linux_perf_data.proofs.IterCalls.{Idles}
 use Rattle.linux_perf_data.proofs.records.iter.PerfRecordIter.advance.Given as goal
 
@@ -8,6 +8,7 @@ invariant-raw_records g l = record {
   pauses : (g.R.Source.state l.self.source).pauses ≡ (g.R.Source.state l.fn.self.source).pauses;
   same_loan : g.R.Source.loan l.self.source ≡ g.R.Source.loan l.fn.self.source;
   file : l.file ≡ l.fn.file;
+  capacity : vec_capacity l.fn.self.body ≤ vec_capacity l.self.body;
 }
 
 abbrev pub decreases-raw_records : goal.decreases-raw_records

@@ -1,11 +1,11 @@
-use Rattle.std.proofs.Common.{◌++◌, length, rules, refl, ap, sym, subst}
+use Rattle.std.proofs.Common.{◌++◌, length, rules, refl, ap, sym, subst, vec_capacity}
 use Rattle.std.proofs.lemmas.Result.{err_from_is_err_and}
 use Rattle.perfdata_sections.specs.Error.{IsUnexpectedEof}
 use Rattle.linux_perf_data.specs.Input.{input_source_state}
 use Rattle.linux_perf_data.specs.Iter.{section_size_of, iter_source_state}
-use Rattle.linux_perf_data.proofs.RecordReads.{EndChecked, header_truncated, header_short, size_error, end_error, pass_truncated, pass_short, pass_failed, content_truncated, content_short, content_error, marker_whole, content_whole, after_header}
+use Rattle.linux_perf_data.proofs.RecordReads.{not_io_memory, not_short_memory, exceeds_behind, EndChecked, header_truncated, header_short, size_error, end_error, pass_truncated, pass_short, pass_failed, content_truncated, content_short, content_error, marker_whole, content_whole, after_header}
 use Rattle.linux_perf_data.proofs.TruncatedRecords.{record_truncated}
-use Rattle.linux_perf_data.proofs.SourceViews.{header_some, header_none, pass_true, pass_false, content_some, content_none, skipped_in, ended_in, failed_part_in, content_in, ended_content_in, no_content_in}
+use Rattle.linux_perf_data.proofs.SourceViews.{truncation_memory, exceeds_in, header_some, header_none, pass_true, pass_false, content_some, content_none, skipped_in, ended_in, failed_part_in, content_in, ended_content_in, no_content_in}
 use Rattle.linux_perf_data.proofs.records.iter.PerfRecordIter.next_raw_record.Goals as goal
 
 pub returns-in-None-clause-raw_record : goal.returns-in-None-clause-raw_record
@@ -205,3 +205,45 @@ returns-in_err-end-2-clause-raw_record g c =
       attribute_lookup = refl;
       no_pending_header = pending.no_pending_header;
     })
+
+pub returns-in_err-header-clause-memory_only_to_grow : goal.returns-in_err-header-clause-memory_only_to_grow
+returns-in_err-header-clause-memory_only_to_grow g c = let p = err_from_is_err_and c.from_residual.result c.from_residual.ensures.1 in
+    rw (p.1, p.2) (λ m. absurd (not_io_memory _ c.in_err-header.ensures.header.0 m))
+
+pub returns-in-None-clause-memory_only_to_grow : goal.returns-in-None-clause-memory_only_to_grow
+returns-in-None-clause-memory_only_to_grow g c =
+    let short : IsUnexpectedEof c.from.result = subst IsUnexpectedEof (sym c.from.ensures) c.unexpected_eof.ensures in
+    truncation_memory _ c.from.result c.at_truncation.result _ c.at_truncation.ensures (not_short_memory c.from.result short)
+
+pub returns-in_err-body_size-clause-memory_only_to_grow : goal.returns-in_err-body_size-clause-memory_only_to_grow
+returns-in_err-body_size-clause-memory_only_to_grow g c = let p = err_from_is_err_and c.from_residual-in_err-body_size.result c.from_residual-in_err-body_size.ensures.1 in
+    rw (p.1, p.2) (λ m. let is = c.in_err-body_size.ensures.0 in absurd cc)
+
+pub returns-in_err-end-clause-memory_only_to_grow : goal.returns-in_err-end-clause-memory_only_to_grow
+returns-in_err-end-clause-memory_only_to_grow g c = let p = err_from_is_err_and c.from_residual-in_err-end.result c.from_residual-in_err-end.ensures.1 in
+    rw (p.1, p.2) (λ m. let is = c.in_err-end.ensures.0 in absurd cc)
+
+pub returns-then-not-branch-clause-memory_only_to_grow : goal.returns-then-not-branch-clause-memory_only_to_grow
+returns-then-not-branch-clause-memory_only_to_grow g c = truncation_memory _ _ c.at_truncation-then-not-branch.result _ c.at_truncation-then-not-branch.ensures (λ m. cc)
+
+pub returns-in_err-skip_body-clause-memory_only_to_grow : goal.returns-in_err-skip_body-clause-memory_only_to_grow
+returns-in_err-skip_body-clause-memory_only_to_grow g c = let p = err_from_is_err_and c.from_residual-in_err-skip_body.result c.from_residual-in_err-skip_body.ensures.1 in
+    rw (p.1, p.2) (λ m. let is = c.in_err-skip_body.ensures.skips.0 in absurd cc)
+
+pub returns-in-None-2-clause-memory_only_to_grow : goal.returns-in-None-2-clause-memory_only_to_grow
+returns-in-None-2-clause-memory_only_to_grow g c = truncation_memory _ _ c.at_truncation-in-None-2.result _ c.at_truncation-in-None-2.ensures (λ m. cc)
+
+pub returns-in_err-end-2-clause-memory_only_to_grow : goal.returns-in_err-end-2-clause-memory_only_to_grow
+returns-in_err-end-2-clause-memory_only_to_grow g c =
+    let p = err_from_is_err_and c.from_residual-in_err-end-2.result c.from_residual-in_err-end-2.ensures.1 in
+    let it = c.args.self.now in
+    let state = g.R.Source.state in
+    let input = c.read_header.new.input in
+    let a = iter_source_state state it in
+    let b = input_source_state input (state c.read_header.new.source) in
+    let d = input_source_state input (state c.read_record_body.new.source) in
+    let t = header_some it.endian a b _ c.in-Some.header c.in-Some.is c.in_ok-header.ensures.header in
+    rw (p.1, p.2) (λ m.
+    let x = exceeds_in input c.read_header.ensures.pending_header.no_pending_header (state c.read_header.new.source) (state c.read_record_body.new.source) it.endian (vec_capacity it.body) c.in-Some.header (c.in_err-end-2.ensures.memory_only_to_grow m) in
+    let exceeds = exceeds_behind it.endian a b d c.in-Some.header (vec_capacity it.body) t x in
+    record { consumed_bytes = t.bytes ++ x.consumed_bytes; consumes = exceeds.0; exceeds = exceeds.1 })
