@@ -1,6 +1,6 @@
 -- The result of a listing of a jitdump's records.
 use Rattle.std.proofs.Common.{◌≡◌, ℕ, ◌+◌, ◌<◌, ◌≤◌, ◌⊎◌, ◌++◌, false, List, [], ◌∷◌, length, take, drop, refl, sym, ap, ◌∙◌, subst, append_assoc, arith, inl, inr, Option, None, Some, Result, Ok, Err, length-append}
-use Rattle.std.specs.Prelude.{IfSome}
+use Rattle.std.specs.Prelude.{IfSome, suc, true}
 use Rattle.std.specs.Option.{option_map}
 use Rattle.std.specs.List.{concat}
 use Rattle.std.proofs.lemmas.List.{append-nil, length-take-le}
@@ -31,7 +31,7 @@ use Rattle.perfdata_listing.proofs.NewlineCounts.{newline_count-append, newline_
 use Rattle.perfdata_listing.specs.declared.list.ListFault.{ListFault}
 use Rattle.perfdata_listing.specs.declared.list.ListCause.{ListCause}
 use Rattle.perfdata_listing.specs.declared.list.ListCause.TheVariants.{Perf, Jit, Read, Write}
-use Rattle.perfdata_listing.specs.JitListing.{raw_record_text, jit_line, jit_lines, EndsWithoutWholeRecord, WroteJitPrefix, BeginsWithJitRecords, ReturnedJitRecords, ListedJitRecordsUntilFlushError, ListedJitRecords, ReadsNothing, ListedJitRecordsUntilError, ListedJitRecordsPartOfNext, JitReadError, ListsJitRecords, ListsLiveJitRecords, ListsNextJit, JitRecordListingFails, ListsJit, ListsLiveJit, JitListingFails}
+use Rattle.perfdata_listing.specs.JitListing.{CalledFlushed, CallsFlushed, raw_record_text, jit_line, jit_lines, EndsWithoutWholeRecord, WroteJitPrefix, BeginsWithJitRecords, ReturnedJitRecords, ListedJitRecordsUntilFlushError, ListedJitRecords, ReadsNothing, ListedJitRecordsUntilError, ListedJitRecordsPartOfNext, JitReadError, ListsJitRecords, ListsLiveJitRecords, ListsNextJit, JitRecordListingFails, ListsJit, ListsLiveJit, JitListingFails}
 
 module _ (endian : Endianness) where
   -- one more line
@@ -352,3 +352,11 @@ module _ {R : Type 0} (state : R → State) where
         first = has_first new listed.raw_records listed.returned;
       },
     )
+
+-- one more call for a record, with no byte pending if it may block
+module _ {R W : Type 0} (state : R → State) (pending : W → List ℕ) (contents : W → Option (List ℕ)) where
+  pub more_flushed : (count : ℕ) (old : JitDumpReader R) (before : W) {last new : JitDumpReader R} {last_out after : W} → CallsFlushed state pending contents count old before last_out last
+      → CalledFlushed state pending contents last last_out (Ok true) after new → CallsFlushed state pending contents (count + 1) old before after new
+  more_flushed count old before {last} {new} {last_out} {after} calls call =
+      let next : suc count ≡ count + 1 = omega arith in
+      subst (λ n. CallsFlushed state pending contents n old before after new) next (last, last_out, calls, call)

@@ -10,7 +10,7 @@ use Rattle.linux_perf_data.specs.Iter.{iter_source_state, section_size_of, Retur
 use Rattle.linux_perf_data.specs.LateMetadata.{AccumulatesMetadata}
 use Rattle.perfdata_listing.specs.Line.{record_line}
 use Rattle.perfdata_sections.specs.declared.error.Error.{Error}
-use Rattle.std.specs.Prelude.{Result, Ok, Err}
+use Rattle.std.specs.Prelude.{Result, Ok, Err, true, suc}
 use Rattle.std.proofs.Common.{inl, inr}
 use Rattle.std.specs.Io.KnownBytes.{Appends, Keeps}
 use Rattle.std.proofs.KnownBytes.{Appends-trans, Appends-nil, Appends-kept}
@@ -26,7 +26,7 @@ use Rattle.linux_perf_data.specs.declared.perf_file.PerfFile.{PerfFile}
 use Rattle.linux_perf_data.specs.Reading.{AreFirstRecords, ReturnsRecords, HasMatchingFile, HasNotFailed}
 use Rattle.linux_perf_data.specs.FileReading.{HoldsForFile}
 use Rattle.linux_perf_data.proofs.FileReadings.{error_in_file, file_source_error, first_in_file, first_of, returns_records_more, holds_of, if_some_each, none_of, stops_of, whole_in_file, whole_of}
-use Rattle.perfdata_listing.specs.Listing.{record_lines, WrotePrefix, ListedAll, ListedUntilError, ListedPartOfNext, ListedUntilFlushError, ListsNext, ListsRecords, ListedFileUntilError, ListsFile, ListingFails, FileListingFails}
+use Rattle.perfdata_listing.specs.Listing.{record_lines, WrotePrefix, ListedAll, ListedUntilError, ListedPartOfNext, ListedUntilFlushError, CalledFlushed, CallsFlushed, ListsNext, ListsRecords, ListedFileUntilError, ListsFile, ListingFails, FileListingFails}
 
 -- one more line
 pub record_lines-snoc : (records : List RecordView) (h : RecordView) → record_lines records ++ record_line h ≡ record_lines (records ++ h ∷ [])
@@ -165,6 +165,14 @@ module _ {R : Type 0} (state : R → State) where
         (λ p opened. (file, (opened.header, opened.describes, opened.iter_to_file listed.records ends_complete (whole_in_file state old file it new listed.records o (listed.complete o.at_first_record.stage_running) (attributes_of_file file) o.at_first_record.represents)))) o.file_opened;
   }
   lists_file old file file' it new before after (Err error) o listed = listing_fails old file it new before after error.lines error.cause o listed
+
+-- one more call for a record, with no byte pending if it may block
+module _ {R W : Type 0} (state : R → State) (pending : W → List ℕ) (contents : W → Option (List ℕ)) where
+  pub more_flushed : (count : ℕ) (old : PerfRecordIter R) (file : PerfFile) (before : W) {last new : PerfRecordIter R} {last_file file' : PerfFile} {last_out after : W} → CallsFlushed state pending contents count old file before last_out last last_file
+      → CalledFlushed state pending contents last last_file last_out (Ok true) after new file' → CallsFlushed state pending contents (count + 1) old file before after new file'
+  more_flushed count old file before {last} {new} {last_file} {file'} {last_out} {after} calls call =
+      let next : suc count ≡ count + 1 = omega arith in
+      subst (λ n. CallsFlushed state pending contents n old file before after new file') next (last, last_file, last_out, calls, call)
 
 -- opening a file fails
 pub file_open_error : (old : State) (e : Error) (out : Option (List ℕ)) → FileParseError old e → ListedFileUntilError old out out 0 e

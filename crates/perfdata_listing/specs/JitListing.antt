@@ -1,5 +1,5 @@
 -- What a listing of a jitdump's records writes, and the causes of its errors.
-use Rattle.std.specs.Prelude.{◌≡◌, ℕ, ◌+◌, ◌<◌, ◌≤◌, ◌⊎◌, Bool, true, false, List, [], ◌∷◌, ◌++◌, length, take, drop, Option, Some, Result, Ok, Err, IfSome}
+use Rattle.std.specs.Prelude.{◌≡◌, ℕ, ◌+◌, ◌<◌, ◌≤◌, ◌⊎◌, Bool, true, false, List, [], ◌∷◌, ◌++◌, length, take, drop, Option, Some, Result, Ok, Err, IfSome, zero, suc, IsErr}
 use Rattle.std.specs.Option.{option_map}
 use Rattle.std.specs.List.{concat}
 use Rattle.std.specs.IoError.{error_kind}
@@ -142,6 +142,35 @@ module _ {R : Type 0} (state : R → State) where
 -- the call for the next record may block only without pending bytes: either the record is buffered, or there are none
 abbrev pub MayBlock : {R : Type 0} → JitDumpReader R → List ℕ → Type 0
 MayBlock j pending = (pending ≡ []) ⊎ HasWholeRecord (jit_endian j) (jit_offset j) (jit_buffered j)
+
+-- the calls for records of a listing of a reader's records into a writer with pending bytes
+module _ {R W : Type 0} (state : R → State) (pending : W → List ℕ) (contents : W → Option (List ℕ)) where
+  -- A call for a record, after a flush of the writer or none. If the call may block, no byte is pending.
+  pub record CalledFlushed (old : JitDumpReader R) (before : W) (r : Result Bool ListCause) (after : W) (new : JitDumpReader R) : Type 0 where
+    pub reader : JitDumpReader R
+    pub unread : ReadsNothing state old reader
+    pub flushed : W
+    pub contents_kept : Keeps (contents before) (contents flushed)
+    pub may_block : MayBlock reader (pending flushed)
+    pub lists_next : ListsNextJit state reader (contents flushed) r (contents after) new
+
+  -- this many such calls, each of which lists a record
+  abbrev pub CallsFlushed : ℕ → JitDumpReader R → W → W → JitDumpReader R → Type 0
+  CallsFlushed zero old before after now = (now ≡ old) × (after ≡ before)
+  CallsFlushed (suc count) old before after now = (last : JitDumpReader R) × (last_out : W) × CallsFlushed count old before last_out last × CalledFlushed last last_out (Ok true) after now
+
+  -- A listing calls for its records one by one. No byte is pending in a call that may block: neither in those that list a
+  -- record, nor in the last, which finds no complete record or fails. If a flush fails, there is no last call.
+  abbrev pub FlushesBeforeBlocking : JitDumpReader R → W → Result ℕ ListFault → W → JitDumpReader R → Type 0
+  FlushesBeforeBlocking old before (Ok lines) after new = (last : JitDumpReader R) × (last_out : W) × CallsFlushed lines old before last_out last × CalledFlushed last last_out (Ok false) after new
+  FlushesBeforeBlocking old before (Err error) after new = (last : JitDumpReader R) × (last_out : W)
+      × CallsFlushed error.lines old before last_out last × (CalledFlushed last last_out (Err error.cause) after new ⊎ (IsWrite error.cause × ReadsNothing state last new))
+
+  -- A jitdump is opened with a buffer of this size, and no byte is pending in a call for a record that may block. Or it isn't
+  -- opened, and nothing is written.
+  abbrev pub FlushesJitBeforeBlocking : R → ℕ → W → Result ℕ ListFault → W → Type 0
+  FlushesJitBeforeBlocking source size before r after =
+      ((reader : JitDumpReader R) × OpensReader state source size (Ok reader) × (new : JitDumpReader R) × FlushesBeforeBlocking reader before r after new) ⊎ (IsErr r × (after ≡ before))
 
 -- A source, and the buffer size of the reader over it.
 module _ {R : Type 0} (state : R → State) (source : R) (size : ℕ) where

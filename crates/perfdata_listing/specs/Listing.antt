@@ -1,5 +1,5 @@
 -- What a listing of records writes, and the causes of its errors.
-use Rattle.std.specs.Prelude.{◌≡◌, ◌≢◌, ◌⊎◌, ℕ, ◌<◌, Bool, true, false, List, [], ◌∷◌, ◌++◌, length, take, flat_map, Option, Result, Ok, Err, IfSome, ⊤}
+use Rattle.std.specs.Prelude.{◌≡◌, ◌≢◌, ◌⊎◌, ℕ, zero, suc, ◌<◌, Bool, true, false, List, [], ◌∷◌, ◌++◌, length, take, flat_map, Option, Result, Ok, Err, IfSome, ⊤}
 use Rattle.std.specs.Io.KnownBytes.{Appends, Keeps}
 use Rattle.perfdata_base.specs.Source.{State}
 use Rattle.perfdata_sections.specs.declared.error.Error.{Error}
@@ -108,6 +108,30 @@ module _ {R : Type 0} (state : R → State) where
   abbrev pub ListsLiveRecords : PerfRecordIter R → PerfFile → Option (List ℕ) → Result ℕ ListFault → Option (List ℕ) → PerfRecordIter R → PerfFile → Type 0
   ListsLiveRecords old file before (Ok lines) after new file' = ListedAll old file before after lines new file'
   ListsLiveRecords old file before (Err error) after new file' = LiveListingFails old before after error.lines error.cause new
+
+-- the calls for records of a listing of an iterator's records into a writer with pending bytes
+module _ {R W : Type 0} (state : R → State) (pending : W → List ℕ) (contents : W → Option (List ℕ)) where
+  -- A call for a record, after a flush of the writer or none. If the call may block, no byte is pending.
+  pub record CalledFlushed (old : PerfRecordIter R) (file : PerfFile) (before : W) (r : Result Bool ListCause) (after : W) (new : PerfRecordIter R) (file' : PerfFile) : Type 0 where
+    pub flushed : W
+    pub contents_kept : Keeps (contents before) (contents flushed)
+    pub may_block : MayBlock state old (pending flushed)
+    pub lists_next : ListsNext state old file (contents flushed) r (contents after) new file'
+
+  -- this many such calls, each of which lists a record
+  abbrev pub CallsFlushed : ℕ → PerfRecordIter R → PerfFile → W → W → PerfRecordIter R → PerfFile → Type 0
+  CallsFlushed zero old file before after now file' = (now ≡ old) × (file' ≡ file) × (after ≡ before)
+  CallsFlushed (suc count) old file before after now file' = (last : PerfRecordIter R) × (last_file : PerfFile) × (last_out : W)
+      × CallsFlushed count old file before last_out last last_file × CalledFlushed last last_file last_out (Ok true) after now file'
+
+  -- A listing calls for its records one by one. No byte is pending in a call that may block: neither in those that list a
+  -- record, nor in the last, which returns the end or fails. If a flush
+  -- fails, there is no last call.
+  abbrev pub FlushesBeforeBlocking : PerfRecordIter R → PerfFile → W → Result ℕ ListFault → W → PerfRecordIter R → PerfFile → Type 0
+  FlushesBeforeBlocking old file before (Ok lines) after new file' = (last : PerfRecordIter R) × (last_file : PerfFile) × (last_out : W)
+      × CallsFlushed lines old file before last_out last last_file × CalledFlushed last last_file last_out (Ok false) after new file'
+  FlushesBeforeBlocking old file before (Err error) after new file' = (last : PerfRecordIter R) × (last_file : PerfFile) × (last_out : W)
+      × CallsFlushed error.lines old file before last_out last last_file × (CalledFlushed last last_file last_out (Err error.cause) after new file' ⊎ (IsWrite error.cause × (new ≡ last) × (file' ≡ last_file)))
 
 -- all records of a file are listed, and its layout is complete
 pub record ListedFile (old : State) (before after : Option (List ℕ)) (lines : ℕ) : Type 0 where

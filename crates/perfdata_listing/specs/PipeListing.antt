@@ -1,18 +1,19 @@
 -- What a listing of a pipe writes, and the causes of its errors.
-use Rattle.std.specs.Prelude.{◌≡◌, ◌≢◌, ◌⊎◌, ℕ, List, [], ◌∷◌, ◌++◌, length, Option, None, Some, Result, Ok, Err, IfSome}
+use Rattle.std.specs.Prelude.{◌≡◌, ◌≢◌, ◌⊎◌, ℕ, List, [], ◌∷◌, ◌++◌, length, Option, None, Some, Result, Ok, Err, IfSome, IsErr}
 use Rattle.std.specs.Io.KnownBytes.{Appends}
 use Rattle.perfdata_base.specs.Source.{State, SourcePaused}
 use Rattle.perfdata_base.specs.declared.raw.Endianness.{Endianness}
 use Rattle.perfdata_sections.specs.declared.error.Error.{Error}
 use Rattle.perfdata_sections.specs.declared.error.Error.TheVariants.{Memory}
 use Rattle.linux_perf_data.specs.declared.perf_file.PerfFile.{PerfFile}
+use Rattle.linux_perf_data.specs.declared.records.iter.PerfRecordIter.{PerfRecordIter}
 use Rattle.linux_perf_data.specs.Layout.{RecordView, ends_with_error, LayoutError}
-use Rattle.linux_perf_data.specs.OpenedPipe.{without_position}
+use Rattle.linux_perf_data.specs.OpenedPipe.{PipeParsed, without_position}
 use Rattle.linux_perf_data.specs.RecordFraming.{IsErrorFor}
 use Rattle.linux_perf_data.specs.PipeOpening.{FailsBy, IsPipeError}
 use Rattle.linux_perf_data.specs.PipeReading.{HoldsForPipeRest, HoldsAllMetadata, IsCompletePipe, HoldsForPipe, OpensWith}
 use Rattle.linux_perf_data.specs.Reading.{AreFirstRecords, SourceErrorInSomeRecord}
-use Rattle.perfdata_listing.specs.Listing.{IsWrite, WrotePrefix, record_lines}
+use Rattle.perfdata_listing.specs.Listing.{FlushesBeforeBlocking, IsWrite, WrotePrefix, record_lines}
 use Rattle.perfdata_listing.specs.declared.list.ListFault.{ListFault}
 use Rattle.perfdata_listing.specs.declared.list.ListCause.{ListCause}
 use Rattle.perfdata_listing.specs.declared.list.ListCause.TheVariants.{Perf, Write}
@@ -91,6 +92,13 @@ ListsPipe old before (Ok lines) after = (file : PerfFile) × ListedPipe old befo
 ListsPipe old before (Err error) after = PipeListingFails old before after error.lines error.cause
 
 -- what a listing of a live pipe does: the same, except that the flush of its lines may also fail
+-- A live pipe is opened, and no byte is pending in a call for a record that may block. Or it doesn't open, and nothing is written.
+abbrev pub FlushesPipeBeforeBlocking : {R W : Type 0} → (R → State) → (W → List ℕ) → (W → Option (List ℕ)) → State → W → Result ℕ ListFault → W → Type 0
+FlushesPipeBeforeBlocking {R} state pending contents old before r after =
+    ((file : PerfFile) × (it : PerfRecordIter R) × PipeParsed state old file it
+    × (new : PerfRecordIter R) × (file' : PerfFile) × FlushesBeforeBlocking state pending contents it file before r after new file')
+    ⊎ (IsErr r × (after ≡ before))
+
 abbrev pub ListsLivePipe : State → Option (List ℕ) → Result ℕ ListFault → Option (List ℕ) → Type 0
 ListsLivePipe old before (Ok lines) after = (file : PerfFile) × ListedPipe old before after lines file
 ListsLivePipe old before (Err error) after = PipeListingFails old before after error.lines error.cause ⊎ (IsWrite error.cause × ListedPipeUntilFlushError old before after error.lines)

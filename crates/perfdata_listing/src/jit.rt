@@ -4,7 +4,7 @@ ghost use Rattle.std.specs.Io.KnownBytes.{Keeps};
 ghost use Rattle.perfdata_jit.specs.RecordBytes.{HasWholeRecord};
 ghost use Rattle.perfdata_jit.specs.JitDumpReader.{jit_buffered, jit_seek_failed, jit_offset, jit_endian, jit_ring_capacity};
 ghost use Rattle.perfdata_listing.specs.LineText.{text_of};
-ghost use Rattle.perfdata_listing.specs.JitListing.{raw_record_text, ListsJit, ListsJitRecords, ListsLiveJit, ListsLiveJitRecords, ListsNextJit, MayBlock, ReadsNothing};
+ghost use Rattle.perfdata_listing.specs.JitListing.{FlushesBeforeBlocking, FlushesJitBeforeBlocking, raw_record_text, ListsJit, ListsJitRecords, ListsLiveJit, ListsLiveJitRecords, ListsNextJit, MayBlock, ReadsNothing};
 
 use crate::line::Line;
 use crate::list::{ListCause, ListFault};
@@ -135,7 +135,8 @@ fn list_live_jit_records<R: Source, W: FlushPending>(
     out: &mut W,
 ) -> Result<u64, ListFault>
     requires { (jit_seek_failed reader.old ≡ false) × (16 ≤ jit_ring_capacity reader.old) }
-    ensures { ListsLiveJitRecords R.state reader.old (W.contents out.old) result (W.contents out.new) reader.new }
+    ensures lists { ListsLiveJitRecords R.state reader.old (W.contents out.old) result (W.contents out.new) reader.new }
+    ensures flushes { FlushesBeforeBlocking R.state W.pending W.contents reader.old out.old result out.new reader.new }
 {
     let mut lines = 0u64;
     let mut line = Line::new();
@@ -188,7 +189,8 @@ pub fn list_live_jit<R: Source + Drop, W: FlushPending>(
     source: R,
     out: &mut W,
 ) -> Result<u64, ListFault>
-    ensures { ListsLiveJit R.state source 65536 (W.contents out.old) result (W.contents out.new) }
+    ensures lists { ListsLiveJit R.state source 65536 (W.contents out.old) result (W.contents out.new) }
+    ensures flushes { FlushesJitBeforeBlocking R.state W.pending W.contents source 65536 out.old result out.new }
 {
     match JitDumpReader::new_with_buffer_size(alloc, source, LIVE_BUFFER_SIZE) {
         Ok(mut reader) => list_live_jit_records(&mut reader, out),

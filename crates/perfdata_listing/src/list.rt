@@ -8,8 +8,8 @@ ghost use Rattle.perfdata_listing.specs.Line.{record_line};
 ghost use Rattle.perfdata_listing.specs.LineText.{text_of};
 ghost use Rattle.perfdata_listing.specs.Listing.{fields_text};
 ghost use Rattle.linux_perf_data.specs.Reading.{HasMatchingFile, HasNotFailed};
-ghost use Rattle.perfdata_listing.specs.Listing.{ListsNext, ListsRecords, ListsLiveRecords, ListsFile, MayBlock};
-ghost use Rattle.perfdata_listing.specs.PipeListing.{ListsPipe, ListsLivePipe, ListsPipeWithFile};
+ghost use Rattle.perfdata_listing.specs.Listing.{ListsNext, ListsRecords, ListsLiveRecords, ListsFile, MayBlock, FlushesBeforeBlocking};
+ghost use Rattle.perfdata_listing.specs.PipeListing.{FlushesPipeBeforeBlocking, ListsPipe, ListsLivePipe, ListsPipeWithFile};
 
 use crate::line::{Line, RecordFields};
 use crate::output::{CountingBufWriter, FlushPending, write_line};
@@ -157,7 +157,8 @@ fn list_live_records<R: Source, W: FlushPending>(
 ) -> Result<u64, ListFault>
     requires not_failed { HasNotFailed iter.old }
     requires matching_file { HasMatchingFile R.state iter.old file.old }
-    ensures { ListsLiveRecords R.state iter.old file.old (W.contents out.old) result (W.contents out.new) iter.new file.new }
+    ensures lists { ListsLiveRecords R.state iter.old file.old (W.contents out.old) result (W.contents out.new) iter.new file.new }
+    ensures flushes { FlushesBeforeBlocking R.state W.pending W.contents iter.old file.old out.old result out.new iter.new file.new }
 {
     let mut lines = 0u64;
     let mut line = Line::new();
@@ -256,7 +257,8 @@ pub fn list_live_pipe<R: Source + Drop, W: FlushPending>(
     source: R,
     out: &mut W,
 ) -> Result<u64, ListFault>
-    ensures { ListsLivePipe (R.state source) (W.contents out.old) result (W.contents out.new) }
+    ensures lists { ListsLivePipe (R.state source) (W.contents out.old) result (W.contents out.new) }
+    ensures flushes { FlushesPipeBeforeBlocking R.state W.pending W.contents (R.state source) out.old result out.new }
 {
     match PerfFileReader::parse_pipe(alloc, source) {
         Ok(reader) => {

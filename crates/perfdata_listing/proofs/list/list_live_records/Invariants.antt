@@ -1,4 +1,5 @@
 use Rattle.std.proofs.Common.{◌-◌, ◌^◌, ◌<◌, ◌≤◌}
+use Rattle.perfdata_listing.specs.Listing.{CallsFlushed}
 use Rattle.perfdata_listing.proofs.ListingLemmas.{SoFar}
 use Rattle.perfdata_listing.proofs.list.list_live_records.Given as goal
 
@@ -6,6 +7,7 @@ abbrev pub invariant-records : goal.invariant-records
 invariant-records g l = record {
   offset_in_range : l.iter.offset < 2 ^ 64;
   count_below_offset : l.lines ≤ l.iter.offset;
+  live : CallsFlushed g.R.Source.state g.W.FlushPending.pending g.W.Write.contents l.lines l.initial.iter l.initial.file l.initial.out l.out l.iter l.file;
   listed : SoFar g.R.Source.state l.initial.iter l.initial.file (g.W.Write.contents l.initial.out) l.lines (g.W.Write.contents l.out) l.iter l.file;
 }
 
