@@ -52,3 +52,4 @@ pub mod InMemoryFraming
 pub mod InMemoryCalls
 pub mod InMemoryPlaces
 pub mod InMemoryReadings
+pub mod WholeRecordsTaken

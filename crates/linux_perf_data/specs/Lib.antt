@@ -39,3 +39,4 @@ pub mod FileReading
 pub mod PipeReading
 pub mod InMemory
 pub mod InMemoryReading
+pub mod InMemoryWholeRecords

@@ -1,5 +1,5 @@
 //! Takes the parts of a record from bytes in memory, without a copy.
-ghost use Rattle.std.specs.Prelude.{◌≡◌, ◌^◌, ◌<◌, ◌≤◌, drop, length, Ok};
+ghost use Rattle.std.specs.Prelude.{◌≡◌, ◌≢◌, ◌+◌, ◌^◌, ◌<◌, ◌≤◌, [], drop, length, Ok};
 ghost use Rattle.std.specs.Io.Cursor.{cursor_inner, cursor_position};
 ghost use Rattle.linux_perf_data.specs.InMemory.{SkipsAuxData, TakesRecordBody, memory_state};
 ghost use Rattle.linux_perf_data.specs.RecordFraming.{SkipsBody};
@@ -18,6 +18,7 @@ use std::io::Cursor;
 pub(crate) fn remaining<'a>(source: &Cursor<&'a [u8]>) -> &'a [u8]
     ensures value { result.now ≡ drop (cursor_position source.now) (cursor_inner source.now).now }
     ensures fits { length result.now < 2 ^ 63 }
+    ensures end_fits { result.now ≢ [] → cursor_position source.now + length result.now < 2 ^ 63 }
 {
     let all: &'a [u8] = *source.get_ref();
     let start = (source.position() as usize).min(all.len());

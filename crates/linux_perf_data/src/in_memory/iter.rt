@@ -3,6 +3,7 @@ ghost use Rattle.std.specs.Prelude.{◌≡◌, []};
 ghost use Rattle.linux_perf_data.specs.InMemory.{EndsOrFails, ProcessesBody, TakesRawRecord, TakesRecord};
 
 use crate::in_memory::framing::{skip_bytes, take_record_body};
+use crate::in_memory::whole_record::take_whole_record;
 use crate::perf_file::PerfFile;
 use crate::pipe::late_metadata::apply_metadata;
 use crate::records::framing::{body_size, read_header, record_end};
@@ -31,8 +32,10 @@ fn end_or_error<'a>(input: Input, error: Error) -> Result<RawRecord<'a>, Error>
     }
 }
 
-// Takes the next raw record.
-fn take_raw_record<'a>(iter: &mut PerfRecordIter<Cursor<&'a [u8]>>) -> Result<RawRecord<'a>, Error>
+// Takes the next raw record part by part, up to the part that is truncated or has an error.
+fn take_record_parts<'a>(
+    iter: &mut PerfRecordIter<Cursor<&'a [u8]>>,
+) -> Result<RawRecord<'a>, Error>
     requires { iter.old.body.items ≡ [] }
     ensures raw_record { TakesRawRecord iter.old result iter.new }
     ensures same_buffer { iter.new.body ≡ iter.old.body }
@@ -57,6 +60,18 @@ fn take_raw_record<'a>(iter: &mut PerfRecordIter<Cursor<&'a [u8]>>) -> Result<Ra
             Ok(RawRecord::Record(header, body))
         }
         None => end_or_error(iter.input, Error::Read(ReadError::PerfEventData)),
+    }
+}
+
+// Takes the next raw record.
+fn take_raw_record<'a>(iter: &mut PerfRecordIter<Cursor<&'a [u8]>>) -> Result<RawRecord<'a>, Error>
+    requires { iter.old.body.items ≡ [] }
+    ensures raw_record { TakesRawRecord iter.old result iter.new }
+    ensures same_buffer { iter.new.body ≡ iter.old.body }
+{
+    match take_whole_record(iter) {
+        Some(raw_record) => Ok(raw_record),
+        None => take_record_parts(iter),
     }
 }
 
