@@ -80,7 +80,7 @@ taken_in_place old new file file' (Ok None) input first placed ended = λ runs. 
 taken_in_place old new file file' (Err e) input first placed failed = λ runs. let stage = failed.0.stage_failed in absurd cc
 
 -- in a section, the iterator reads the source itself
-section_view : (i : Input) (size : ℕ) (s : State) → section_size_in i ≡ Some size → input_source_state i s ≡ s
+pub section_view : (i : Input) (size : ℕ) (s : State) → section_size_in i ≡ Some size → input_source_state i s ≡ s
 section_view (Section n) size s is = refl
 section_view (Pipe kept) size s is = absurd cc
 
@@ -92,11 +92,16 @@ abbrev bytes_in : Option (List ℕ) → List ℕ
 bytes_in None = []
 bytes_in (Some bytes) = bytes
 
+-- the bytes of the cursor of an opened file
+pub file_bytes : (bytes : List ℕ) (file : PerfFile) (it : MemoryIter) → FileParsed memory_state (memory_source_at bytes 0) file it → (cursor_inner it.source).now ≡ bytes
+file_bytes bytes file it parsed =
+    ap (λ s. bytes_in (all_bytes_of s.position)) (sym (section_view it.input parsed.in_section.0 (memory_state it.source) parsed.in_section.1)) ∙ ap bytes_in parsed.after_seek.all_bytes
+
 -- the iterator of an opened file is in place
 pub file_in_place : (bytes : List ℕ) (file : PerfFile) (it : MemoryIter) → FileParsed memory_state (memory_source_at bytes 0) file it → IsInPlace it bytes (cursor_position it.source)
 file_in_place bytes file it parsed = λ runs.
     let view = section_view it.input parsed.in_section.0 (memory_state it.source) parsed.in_section.1 in
-    let all : (cursor_inner it.source).now ≡ bytes = ap (λ s. bytes_in (all_bytes_of s.position)) (sym view) ∙ ap bytes_in parsed.after_seek.all_bytes in
+    let all = file_bytes bytes file it parsed in
     let start = parsed.at_first_record.offset in
     let at : cursor_position it.source ≡ cursor_position it.source + it.offset = omega (arith, start) in
     ap (λ s. s.bytes) view ∙ ap (λ l. Some (drop (cursor_position it.source) l)) all ∙ ap (λ n. Some (drop n bytes)) at

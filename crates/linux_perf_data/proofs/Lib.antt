@@ -53,3 +53,4 @@ pub mod InMemoryCalls
 pub mod InMemoryPlaces
 pub mod InMemoryReadings
 pub mod WholeRecordsTaken
+pub mod FilePositions

@@ -40,3 +40,4 @@ pub mod PipeReading
 pub mod InMemory
 pub mod InMemoryReading
 pub mod InMemoryWholeRecords
+pub mod InMemoryPositions

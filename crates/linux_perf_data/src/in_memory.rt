@@ -39,6 +39,7 @@ use std::io::Cursor;
 pub(crate) mod framing;
 pub(crate) mod iter;
 pub mod laws;
+pub mod position;
 pub(crate) mod whole_record;
 
 /// Returns the records of an input in memory one by one, in the order of the input.
