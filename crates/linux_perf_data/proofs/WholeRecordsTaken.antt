@@ -12,7 +12,7 @@ use Rattle.perfdata_sections.specs.RecordTypes.{finished_round}
 use Rattle.linux_perf_data.specs.BufferedRecord.{WholeRecordLength}
 use Rattle.linux_perf_data.specs.Input.{HasNoPendingHeader, input_source_state, section_size_in}
 use Rattle.linux_perf_data.specs.InMemory.{memory_state, MemoryIter}
-use Rattle.linux_perf_data.specs.Iter.{RawRecordRead}
+use Rattle.linux_perf_data.specs.IterSteps.{RawRecordRead}
 use Rattle.linux_perf_data.specs.Layout.{misc_of}
 use Rattle.linux_perf_data.proofs.BufferedRecords.{front_record_type}
 use Rattle.linux_perf_data.proofs.RecordHeaders.{misc_front, record_least}
