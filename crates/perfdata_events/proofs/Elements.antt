@@ -1,7 +1,8 @@
 -- Numbers of eight bytes each, and blocks one after another.
 use Rattle.perfdata_events.specs.Fields.{u64_at}
 use Rattle.std.proofs.Common.{◌≡◌, ℕ, zero, suc, ◌+◌, ◌*◌, ◌/◌, List, ◌∷◌, ◌++◌, length, take, drop, refl, sym, ap, subst, ◌∙◌, arith, length-drop, ◌<◌, ◌≤◌, []}
-use Rattle.std.proofs.Math.Nat.{mul_assoc, mul_comm, mul-add-div}
+use Rattle.std.proofs.Math.Nat.{mul_assoc, mul_comm, mul-add-div, mul-div-le, mul-le-mul_left, mul-suc}
+use Rattle.std.specs.Prelude.{◌-◌, slice_index, slice_range}
 use Rattle.std.proofs.Math.Seq.{take-add}
 use Rattle.std.proofs.lemmas.Nat.{div-mul-add}
 use Rattle.std.proofs.lemmas.List.{drop-take, drop-drop, length-take-le}
@@ -75,3 +76,40 @@ split_first order xs rest value is =
 -- Fewer bytes are left after a number.
 pub shorter_rest : (order : Endianness) (xs rest : List ℕ) (value : ℕ) → IsFixed 8 (u64_at (number_in order) 0) xs value rest → length rest < length xs
 shorter_rest order xs rest value is = omega (arith, is.enough, ap length is.rest_is, length-drop 8 xs)
+
+-- As many numbers as are counted.
+pub u64s_length : (number : ℕ → List ℕ → ℕ) (n : ℕ) (xs : List ℕ) → length (u64s_of number n xs) ≡ n
+u64s_length number zero xs = refl
+u64s_length number (suc n) xs = ap suc (u64s_length number n (drop 8 xs))
+
+-- The number at an index is in the eight bytes at eight times this offset.
+pub u64_at_index : (number : ℕ → List ℕ → ℕ) (n i : ℕ) (xs : List ℕ) → i < n → slice_index (u64s_of number n xs) i ≡ number 8 (drop (8 * i) xs)
+u64_at_index number zero i xs lt = absurd (omega (arith, lt))
+u64_at_index number (suc n) zero xs lt = refl
+u64_at_index number (suc n) (suc i) xs lt =
+    u64_at_index number n i (drop 8 xs) (omega (arith, lt)) ∙ ap (number 8) (drop-drop (8 * i) 8 xs ∙ ap (λ k. drop k xs) (omega arith))
+
+-- The element of w numbers at an index is completely among n numbers.
+pub element_within : (n w i : ℕ) → i < n / w → w * i + w ≤ n
+element_within n w i lt =
+    let all : w * (n / w) ≤ n = mul-div-le n w in
+    let part : w * suc i ≤ w * (n / w) = mul-le-mul_left w (omega (arith, lt)) in
+    let split : w * suc i ≡ w * i + w = mul-suc w i in
+    omega (arith, all, part, split)
+
+-- The eight bytes of the number at an index.
+pub eight_bytes : (i : ℕ) (xs part : List ℕ) → part ≡ slice_range xs (8 * i) (8 * i + 8) → part ≡ take 8 (drop (8 * i) xs)
+eight_bytes i xs part is = let size : (8 * i + 8) - 8 * i ≡ 8 = omega arith in is ∙ ap (λ n. take n (drop (8 * i) xs)) size
+
+-- The number in these bytes is the one at the index.
+pub u64_of_slice : (order : Endianness) (i : ℕ) (xs part rest : List ℕ) (value : ℕ) → i < length xs / 8 → part ≡ slice_range xs (8 * i) (8 * i + 8)
+    → IsFixed 8 (u64_at (number_in order) 0) part value rest → value ≡ slice_index (u64s_of (number_in order) (length xs / 8) xs) i
+u64_of_slice order i xs part rest value lt is read =
+    read.value_is ∙ number_take order 8 8 part (omega arith) ∙ ap (number_in order 8) (eight_bytes i xs part is)
+    ∙ number_take order 8 8 (drop (8 * i) xs) (omega arith) ∙ sym (u64_at_index (number_in order) (length xs / 8) i xs lt)
+
+-- The eight bytes are complete.
+pub slice_complete : (i : ℕ) (xs part : List ℕ) → i < length xs / 8 → part ≡ slice_range xs (8 * i) (8 * i + 8) → length part ≡ 8
+slice_complete i xs part lt is =
+    let within : 8 * i + 8 ≤ length xs = element_within (length xs) 8 i lt in
+    ap length (eight_bytes i xs part is) ∙ length-take-le 8 (drop (8 * i) xs) (omega (arith, within, length-drop (8 * i) xs))

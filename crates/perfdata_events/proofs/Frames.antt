@@ -1,5 +1,5 @@
 -- The frames of a call chain.
-use Rattle.std.proofs.Common.{◌≡◌, ℕ, Bool, true, false, not, cond, List, [], ◌∷◌, ◌++◌, refl, ap, ◌∙◌}
+use Rattle.std.proofs.Common.{◌≡◌, ℕ, true, false, not, cond, List, [], ◌∷◌, ◌++◌, refl, ap, ◌∙◌}
 use Rattle.std.specs.Prelude.{map, filter}
 use Rattle.perfdata_events.specs.declared.call_chain.Frame.{Frame}
 use Rattle.perfdata_events.specs.CallChain.{is_context_change, context_of, frames_of, last_context}

@@ -1,10 +1,10 @@
 -- Each format consumes a prefix of the bytes.
-use Rattle.std.proofs.Common.{◌≡◌, ℕ, ◌++◌, ◌∷◌, [], Bool, true, List, take, drop, refl, sym, ap, ◌∙◌, append_assoc}
+use Rattle.std.proofs.Common.{◌≡◌, ℕ, ◌++◌, ◌∷◌, [], Bool, List, take, drop, refl, sym, ap, ◌∙◌, append_assoc}
 use Rattle.std.specs.Prelude.{None, Some}
 use Rattle.std.proofs.lemmas.List.{take-append-drop}
 use Rattle.perfdata_base.specs.ParseInfo.{is_set}
 use Rattle.perfdata_events.specs.Prefix.{ConsumesPrefix}
-use Rattle.perfdata_events.specs.Format.{Outcome, spells, block, text, fixed, fixed_and_text, fixed_and_block, both, led, optional}
+use Rattle.perfdata_events.specs.Format.{Outcome, block, text, fixed, fixed_and_text, fixed_and_block, both, led, optional}
 use Rattle.perfdata_events.specs.Fields.{u32_at, u64_at}
 use Rattle.perfdata_events.specs.Words.{u64s, word, word_size, after, fixed_and_u64s}
 use Rattle.perfdata_events.specs.SampleId.{task_at, sample_id}

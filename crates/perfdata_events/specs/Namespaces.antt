@@ -1,8 +1,9 @@
 -- PERF_RECORD_NAMESPACES of Linux's `perf_event.h`: { u32 pid; u32 tid; u64 nr_namespaces; { u64 dev, inode; } [nr_namespaces]; }
-use Rattle.std.specs.Prelude.{ℕ, ℤ, ◌*◌, List}
+use Rattle.std.specs.Prelude.{ℕ, ℤ, ◌+◌, ◌*◌, ◌/◌, List, length, slice_index}
 use Rattle.perfdata_events.specs.Format.{Outcome}
 use Rattle.perfdata_events.specs.Fields.{i32_at, u64_at}
 use Rattle.perfdata_events.specs.Words.{fixed_and_u64s, u64s_in}
+use Rattle.perfdata_events.specs.declared.task.Namespace.{Namespace}
 use Rattle.perfdata_events.specs.declared.task.NamespacesRecord.{NamespacesRecord}
 
 -- A process and a thread.
@@ -13,6 +14,13 @@ pub record TaskIds : Type 0 where
 -- The task of a record, and the numbers of its namespaces: of each the device and the inode.
 abbrev pub namespaces_of : NamespacesRecord → TaskIds × List ℕ
 namespaces_of v = (record { pid = v.pid; tid = v.tid }, u64s_in v.namespaces)
+
+-- The number of namespaces, and the namespace at an index.
+abbrev pub namespace_count : NamespacesRecord → ℕ
+namespace_count v = length (u64s_in v.namespaces) / 2
+
+abbrev pub namespace_at : NamespacesRecord → ℕ → Namespace
+namespace_at v index = record { device = slice_index (u64s_in v.namespaces) (2 * index); inode = slice_index (u64s_in v.namespaces) (2 * index + 1) }
 
 module _ (number : ℕ → List ℕ → ℕ) where
   abbrev pub task_ids_at : List ℕ → TaskIds

@@ -2,11 +2,12 @@
 -- && PERF_FORMAT_TOTAL_TIME_ENABLED (0) { u64 time_running; } && PERF_FORMAT_TOTAL_TIME_RUNNING (1) { u64 id; } && PERF_FORMAT_ID (2)
 -- { u64 lost; } && PERF_FORMAT_LOST (4) }. With it: { u64 nr; { u64 time_enabled; } && (0) { u64 time_running; } && (1) { u64 value;
 -- { u64 id; } && (2) { u64 lost; } && (4) } cntr[nr]; }.
-use Rattle.std.specs.Prelude.{◌≡◌, ℕ, ◌+◌, ◌*◌, ◌≤◌, ◌⊎◌, Bool, true, false, List, [], ◌∷◌, length, if◌then◌else◌}
+use Rattle.std.specs.Prelude.{◌≡◌, ℕ, ◌+◌, ◌-◌, ◌*◌, ◌/◌, ◌≤◌, ◌⊎◌, Bool, true, false, List, [], ◌∷◌, length, slice_index, Some, None, if◌then◌else◌}
 use Rattle.perfdata_base.specs.ParseInfo.{is_set}
 use Rattle.perfdata_events.specs.Fields.{u64_at}
 use Rattle.perfdata_events.specs.Format.{Outcome, spells, fails, IsTruncated, fixed, both, led}
 use Rattle.perfdata_events.specs.Words.{u64s, u64s_in, words_size, after, word_after}
+use Rattle.perfdata_events.specs.declared.read_values.CounterValue.{CounterValue}
 use Rattle.perfdata_events.specs.declared.read_values.Details.{Details}
 use Rattle.perfdata_events.specs.declared.read_values.Times.{Times}
 use Rattle.perfdata_events.specs.declared.read_values.SingleValues.{SingleValues}
@@ -33,6 +34,18 @@ values_of (Group v) = group (group_of v)
 -- How many numbers a counter of a group has: the value, the id (bit 2), the lost count (bit 4).
 abbrev pub counter_width : Bool → Bool → ℕ
 counter_width has_id has_lost = 1 + (if has_id then 1 else 0) + (if has_lost then 1 else 0)
+
+-- The number of counters of a group, and the counter at an index: the value is its first number, then the id, and the lost count is its
+-- last number.
+abbrev pub counter_count : GroupValues → ℕ
+counter_count v = length (u64s_in v.numbers) / counter_width v.has_id v.has_lost
+
+abbrev pub counter_at : GroupValues → ℕ → CounterValue
+counter_at v index = record {
+  value = slice_index (u64s_in v.numbers) (counter_width v.has_id v.has_lost * index);
+  id = if v.has_id then Some (slice_index (u64s_in v.numbers) (counter_width v.has_id v.has_lost * index + 1)) else None;
+  lost = if v.has_lost then Some (slice_index (u64s_in v.numbers) (counter_width v.has_id v.has_lost * index + (counter_width v.has_id v.has_lost - 1))) else None;
+}
 
 module _ (number : ℕ → List ℕ → ℕ) (format : ℕ) where
   -- The words with the bits 0, 1, 2, 4.

@@ -3,7 +3,7 @@
 -- BRANCH_STACK 11, REGS_USER 12, STACK_USER 13, WEIGHT 14 or WEIGHT_STRUCT 24, DATA_SRC 15, TRANSACTION 17, REGS_INTR 18,
 -- PHYS_ADDR 19, CGROUP 21, DATA_PAGE_SIZE 22, CODE_PAGE_SIZE 23, AUX 20. The kernel writes them in this order
 -- (`perf_output_sample`); a comment in `perf_event.h` puts AUX before the page sizes.
-use Rattle.std.specs.Prelude.{◌≡◌, ℕ, ◌*◌, ◌≤◌, ◌==◌, ◌||◌, not, List, [], ◌∷◌, length, Option, if◌then◌else◌, count_ones}
+use Rattle.std.specs.Prelude.{◌≡◌, ℕ, ◌+◌, ◌*◌, ◌/◌, ◌≤◌, ◌==◌, ◌||◌, not, List, [], ◌∷◌, length, slice_index, Option, if◌then◌else◌, count_ones}
 use Rattle.std.specs.Option.{option_map}
 use Rattle.perfdata_base.specs.Raw.{bytes_of}
 use Rattle.perfdata_base.specs.ParseInfo.{is_set}
@@ -14,6 +14,7 @@ use Rattle.perfdata_events.specs.SampleId.{task_at}
 use Rattle.perfdata_events.specs.ReadValues.{Values, values_of, read_values}
 use Rattle.perfdata_events.specs.declared.format.EventFormat.{EventFormat}
 use Rattle.perfdata_events.specs.declared.call_chain.CallChain.{CallChain}
+use Rattle.perfdata_events.specs.declared.sample_parts.BranchEntry.{BranchEntry}
 use Rattle.perfdata_events.specs.declared.sample_parts.BranchStack.{BranchStack}
 use Rattle.perfdata_events.specs.declared.sample_parts.Registers.{Registers}
 use Rattle.perfdata_events.specs.declared.sample_parts.UserStack.{UserStack}
@@ -37,6 +38,17 @@ registers_of v = (v.abi, u64s_in v.values)
 -- The hardware index, the numbers of the entries (three each: from, to, flags), and the counters.
 abbrev pub branches_of : BranchStack → Option ℕ × (List ℕ × Option (List ℕ))
 branches_of v = (v.hw_index, (u64s_in v.entries, option_map u64s_in v.counters))
+
+-- The number of branches, and the branch at an index.
+abbrev pub branch_count : BranchStack → ℕ
+branch_count v = length (u64s_in v.entries) / 3
+
+abbrev pub branch_at : BranchStack → ℕ → BranchEntry
+branch_at v index = record {
+  from = slice_index (u64s_in v.entries) (3 * index);
+  to = slice_index (u64s_in v.entries) (3 * index + 1);
+  flags = slice_index (u64s_in v.entries) (3 * index + 2);
+}
 
 -- The bytes of a stack, and their dynamic size.
 abbrev pub stack_of : UserStack → List ℕ × Option ℕ

@@ -5,6 +5,7 @@ use Rattle.perfdata_base.specs.Endian.{number_in}
 use Rattle.perfdata_base.specs.ParseInfo.{is_set}
 use Rattle.perfdata_events.specs.Format.{Outcome, spells, fails, IsTruncated, IsTruncatedAfter}
 use Rattle.perfdata_events.specs.declared.u64s.RawDataU64.{RawDataU64}
+use Rattle.perfdata_events.specs.declared.u64s.RawDataU64Iter.{RawDataU64Iter}
 
 module _ (number : ℕ → List ℕ → ℕ) where
   -- The first n numbers.
@@ -35,6 +36,10 @@ module _ (number : ℕ → List ℕ → ℕ) where
 -- The numbers of a value.
 abbrev pub u64s_in : RawDataU64 → List ℕ
 u64s_in v = u64s_of (number_in v.endian) (length (bytes_of v.bytes) / 8) (bytes_of v.bytes)
+
+-- The numbers that an iterator still returns.
+abbrev pub remaining_u64s : RawDataU64Iter → List ℕ
+remaining_u64s it = u64s_in it.rest
 
 -- Optional words of eight bytes each.
 

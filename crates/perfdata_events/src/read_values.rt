@@ -56,6 +56,17 @@ pub struct GroupValues<'a> {
     pub numbers: RawDataU64<'a>,
 }
 
+/// The value of a counter of a group. A field is `None` if the read format doesn't select it.
+#[derive(Clone, Copy, Debug, PartialEq, Eq)]
+pub struct CounterValue {
+    /// The value.
+    pub value: u64,
+    /// The identifier of the event.
+    pub id: Option<u64>,
+    /// The number of lost samples.
+    pub lost: Option<u64>,
+}
+
 /// The values of counters.
 #[derive(Clone, Copy, Debug)]
 pub enum ReadValues<'a> {
@@ -160,9 +171,9 @@ impl SingleValues {
 }
 
 impl<'a> GroupValues<'a> {
-    ghost use Rattle.std.specs.Prelude.{◌≡◌};
+    ghost use Rattle.std.specs.Prelude.{◌≡◌, ◌≤◌, ◌<◌, IfSome, IfNone};
     ghost use Rattle.perfdata_base.specs.ParseInfo.{is_set};
-    ghost use Rattle.perfdata_events.specs.ReadValues.{group_values, group_of, counter_width};
+    ghost use Rattle.perfdata_events.specs.ReadValues.{group_values, group_of, counter_width, counter_count, counter_at};
 
     // The number of numbers of a counter.
     fn width(format: u64) -> u64
@@ -171,6 +182,47 @@ impl<'a> GroupValues<'a> {
         let ids = if has_bits(format, FORMAT_ID) { 1 } else { 0 };
         let losts = if has_bits(format, FORMAT_LOST) { 1 } else { 0 };
         1 + ids + losts
+    }
+
+    // The number of numbers of each counter.
+    fn counter_width(&self) -> usize
+        ensures { result ≡ counter_width self.now.has_id self.now.has_lost }
+    {
+        let ids = if self.has_id { 1 } else { 0 };
+        let losts = if self.has_lost { 1 } else { 0 };
+        1 + ids + losts
+    }
+
+    /// Returns the number of counters.
+    pub fn len(&self) -> usize
+        ensures { result ≡ counter_count self.now }
+    {
+        self.numbers.len() / self.counter_width()
+    }
+
+    /// Returns the value of the counter at an index, or `None` if there are no more counters than `index`.
+    pub fn get(&self, index: usize) -> Option<CounterValue>
+        ensures none { IfNone result (counter_count self.now ≤ index) }
+        ensures within { IfSome result (λ _. index < counter_count self.now) }
+        ensures counter { IfSome result (λ counter. counter ≡ counter_at self.now index) }
+    {
+        let width = self.counter_width();
+        if index >= self.numbers.len() / width {
+            return None;
+        }
+        let start = width * index;
+        let value = self.numbers.get(start)?;
+        let id = if self.has_id {
+            self.numbers.get(start + 1)
+        } else {
+            None
+        };
+        let lost = if self.has_lost {
+            self.numbers.get(start + (width - 1))
+        } else {
+            None
+        };
+        Some(CounterValue { value, id, lost })
     }
 
     // Removes the values of the counters of a group.

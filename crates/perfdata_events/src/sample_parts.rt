@@ -28,6 +28,17 @@ pub struct BranchStack<'a> {
     pub counters: Option<RawDataU64<'a>>,
 }
 
+/// A branch that the processor took.
+#[derive(Clone, Copy, Debug, PartialEq, Eq)]
+pub struct BranchEntry {
+    /// The address that it came from.
+    pub from: u64,
+    /// The address of its target.
+    pub to: u64,
+    /// Its flags, as bits.
+    pub flags: u64,
+}
+
 /// The registers of a program or at an interrupt.
 #[derive(Clone, Copy, Debug)]
 pub struct Registers<'a> {
@@ -47,7 +58,32 @@ pub struct UserStack<'a> {
 }
 
 impl<'a> BranchStack<'a> {
-    ghost use Rattle.perfdata_events.specs.Sample.{branch_stack, branches_of};
+    ghost use Rattle.std.specs.Prelude.{◌≤◌, ◌<◌, IfSome, IfNone};
+    ghost use Rattle.perfdata_events.specs.Sample.{branch_stack, branches_of, branch_count, branch_at};
+
+    /// Returns the number of branches.
+    pub fn len(&self) -> usize
+        ensures { result ≡ branch_count self.now }
+    {
+        self.entries.len() / 3
+    }
+
+    /// Returns the branch at an index, the latest first, or `None` if there are no more branches than `index`.
+    pub fn get(&self, index: usize) -> Option<BranchEntry>
+        ensures none { IfNone result (branch_count self.now ≤ index) }
+        ensures within { IfSome result (λ _. index < branch_count self.now) }
+        ensures branch { IfSome result (λ branch. branch ≡ branch_at self.now index) }
+    {
+        if index >= self.entries.len() / 3 {
+            return None;
+        }
+        let start = 3 * index;
+        Some(BranchEntry {
+            from: self.entries.get(start)?,
+            to: self.entries.get(start + 1)?,
+            flags: self.entries.get(start + 2)?,
+        })
+    }
 
     // Removes a branch stack.
     pub(crate) fn parse(

@@ -58,6 +58,15 @@ pub struct NamespacesRecord<'a> {
     pub namespaces: RawDataU64<'a>,
 }
 
+/// A namespace of a task.
+#[derive(Clone, Copy, Debug, PartialEq, Eq)]
+pub struct Namespace {
+    /// The device of its file.
+    pub device: u64,
+    /// The inode of its file.
+    pub inode: u64,
+}
+
 /// The bit of a record header's `misc` that marks a name set by an exec (`PERF_RECORD_MISC_COMM_EXEC`).
 const MISC_COMM_EXEC: u64 = 1 << 13;
 
@@ -127,7 +136,31 @@ impl<'a> CgroupRecord<'a> {
 }
 
 impl<'a> NamespacesRecord<'a> {
-    ghost use Rattle.perfdata_events.specs.Namespaces.{namespaces, namespaces_of};
+    ghost use Rattle.std.specs.Prelude.{◌≡◌, ◌≤◌, ◌<◌, IfSome, IfNone};
+    ghost use Rattle.perfdata_events.specs.Namespaces.{namespaces, namespaces_of, namespace_count, namespace_at};
+
+    /// Returns the number of namespaces.
+    pub fn len(&self) -> usize
+        ensures { result ≡ namespace_count self.now }
+    {
+        self.namespaces.len() / 2
+    }
+
+    /// Returns the namespace at an index, or `None` if there are no more namespaces than `index`.
+    pub fn get(&self, index: usize) -> Option<Namespace>
+        ensures none { IfNone result (namespace_count self.now ≤ index) }
+        ensures within { IfSome result (λ _. index < namespace_count self.now) }
+        ensures namespace { IfSome result (λ value. value ≡ namespace_at self.now index) }
+    {
+        if index >= self.namespaces.len() / 2 {
+            return None;
+        }
+        let start = 2 * index;
+        Some(Namespace {
+            device: self.namespaces.get(start)?,
+            inode: self.namespaces.get(start + 1)?,
+        })
+    }
 
     /// Parses the fields at the start of `fields`, and removes them.
     ///

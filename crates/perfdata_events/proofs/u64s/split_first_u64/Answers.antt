@@ -1,5 +1,5 @@
 use Rattle.perfdata_base.specs.Raw.{bytes_of}
-use Rattle.perfdata_events.proofs.Elements.{split_first, shorter_rest}
+use Rattle.perfdata_events.proofs.Elements.{split_first}
 use Rattle.perfdata_events.proofs.u64s.split_first_u64.Goals as goal
 
 pub returns-clause-some : goal.returns-clause-some
