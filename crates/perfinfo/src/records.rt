@@ -2,8 +2,10 @@
 ghost use Rattle.std.specs.Prelude.{◌≡◌, ◌≢◌, ◌+◌, ◌-◌, ◌^◌, ◌<◌, ◌↔◌, IsOk, IsNone, IfSome, IfNone};
 ghost use Rattle.perfinfo.specs.Times.{IsEarliest, IsLatest};
 
+use crate::contents::Contents;
 use crate::error::InfoError;
 use crate::names::record_type_name;
+use crate::progress::Progress;
 use crate::report::Report;
 use linux_perf_data::event::{PerfEventHeader, RecordType};
 use linux_perf_data::source::Source;
@@ -11,6 +13,7 @@ use linux_perf_data::{
     Error, PerfFile, PerfFileReader, PerfFileRecord, PerfRecordIter, RawUserRecord, UserRecord,
     UserRecordType,
 };
+use perfdata_events::format::EventFormat;
 use std::alloc::{AllocError, Global};
 use std::collections::BTreeMap;
 use std::io::Write;
@@ -78,6 +81,8 @@ pub struct RecordCounts {
     rounds: u64,
     aux_bytes: u64,
     end: u64,
+    /// What the bodies of kernel records contain.
+    pub contents: Contents,
 }
 
 impl RecordCounts {
@@ -89,6 +94,7 @@ impl RecordCounts {
             rounds: 0,
             aux_bytes: 0,
             end: 0,
+            contents: Contents::new(alloc),
         }
     }
 
@@ -138,19 +144,42 @@ fn aux_data_size(alloc: Global, user: &RawUserRecord<'_>) -> Result<u64, Error> 
     }
 }
 
-/// Reads the next record and returns its summary, or `None` at the end.
+/// Returns the format of the records of an event.
+fn event_format(file: &PerfFile, index: usize) -> Option<EventFormat> {
+    let event = file.event_attributes().get(index)?;
+    Some(EventFormat::new(event.attributes(), file.endian()))
+}
+
+/// Adds the body of a record to the counts. Returns the size in bytes of the aux data of an auxtrace record, or 0 for other
+/// records.
+fn count_body(
+    alloc: Global,
+    file: &PerfFile,
+    file_record: &PerfFileRecord<'_>,
+    contents: &mut Contents,
+) -> Result<u64, Error> {
+    match file_record {
+        PerfFileRecord::UserRecord(user) => aux_data_size(alloc, user),
+        PerfFileRecord::EventRecord { attr_index, event } => {
+            if let Some(format) = event_format(file, *attr_index) {
+                contents.add(alloc, &format, event)?;
+            }
+            Ok(0)
+        }
+    }
+}
+
+/// Reads the next record, adds its body to the counts and returns its summary, or `None` at the end.
 fn next_summary<R: Source>(
     alloc: Global,
     records: &mut PerfRecordIter<R>,
     file: &mut PerfFile,
+    contents: &mut Contents,
 ) -> Result<Option<RecordSummary>, Error> {
     let Some((place, record)) = records.next_record(file)? else {
         return Ok(None);
     };
-    let aux_size = match record {
-        PerfFileRecord::UserRecord(user) => aux_data_size(alloc, &user)?,
-        PerfFileRecord::EventRecord { .. } => 0,
-    };
+    let aux_size = count_body(alloc, file, &record, contents)?;
     Ok(Some(RecordSummary {
         record_type: record.record_type().0,
         attr_index: record.attr_index(),
@@ -176,11 +205,16 @@ pub struct Recording {
 
 impl Recording {
     /// Reads records until the end or the first error.
-    pub(crate) fn read<R: Source + Drop>(alloc: Global, reader: PerfFileReader<R>) -> Recording {
+    pub(crate) fn read<R: Source + Drop>(
+        alloc: Global,
+        reader: PerfFileReader<R>,
+        progress: &mut Progress<'_>,
+    ) -> Recording {
         let mut file = reader.perf_file;
         let mut records = reader.record_iter;
         let mut counts = RecordCounts::new(alloc);
-        let error = count_records(alloc, &mut records, &mut file, &mut counts).err();
+        let error = count_records(alloc, &mut records, &mut file, &mut counts, progress).err();
+        progress.finish();
         Recording {
             file,
             counts,
@@ -209,12 +243,14 @@ fn count_records<R: Source>(
     records: &mut PerfRecordIter<R>,
     file: &mut PerfFile,
     counts: &mut RecordCounts,
+    progress: &mut Progress<'_>,
 ) -> Result<(), Error> {
     for _ in 0..u64::MAX {
-        let Some(summary) = next_summary(alloc, records, file)? else {
+        let Some(summary) = next_summary(alloc, records, file, &mut counts.contents)? else {
             break;
         };
         counts.add(summary)?;
+        progress.add_record(summary.end);
     }
     Ok(())
 }

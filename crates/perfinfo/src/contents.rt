@@ -1,0 +1,353 @@
+//! Counts what the bodies of kernel records contain: processes and threads, processors, mappings, lost records, switches.
+use crate::escape::{Escaped, Hex};
+use crate::report::Report;
+use linux_perf_data::Error;
+use linux_perf_data::event::RawEventRecord;
+use linux_perf_data::raw::RawData;
+use perfdata_events::call_chain::CallChain;
+use perfdata_events::context_switch::ContextSwitchRecord;
+use perfdata_events::event::EventRecord;
+use perfdata_events::format::EventFormat;
+use perfdata_events::mmap2::{Mmap2FileId, Mmap2Record};
+use perfdata_events::read_values::ReadValues;
+use perfdata_events::sample::SampleRecord;
+use perfdata_events::task::{CommOrExecRecord, ForkOrExitRecord};
+use std::alloc::{AllocError, Global};
+use std::cmp::Reverse;
+use std::collections::BTreeMap;
+use std::io::Write;
+
+/// Maximum number of mapped files in the report.
+const MAX_FILES: usize = 20;
+
+/// A thread of a process.
+#[derive(Drop)]
+struct Thread {
+    /// The last name, which a FORK copies from the parent and a COMM changes; empty if neither was read.
+    name: Vec<u8>,
+    samples: u64,
+}
+
+/// A process.
+#[derive(Drop)]
+struct Process {
+    samples: u64,
+    threads: BTreeMap<i32, Thread>,
+}
+
+impl Process {
+    /// Creates a process without threads.
+    fn new(alloc: Global) -> Process {
+        Process {
+            samples: 0,
+            threads: BTreeMap::new(alloc),
+        }
+    }
+
+    /// Returns the name of a thread, or an empty one.
+    fn name_of(&self, tid: i32) -> &[u8] {
+        match self.threads.get(&tid) {
+            Some(thread) => thread.name.as_slice(),
+            None => &[],
+        }
+    }
+}
+
+/// Counts of context switches.
+#[derive(Clone, Copy)]
+struct SwitchCounts {
+    into: u64,
+    out: u64,
+    preempted: u64,
+}
+
+/// What the bodies of kernel records contain.
+#[derive(Drop)]
+pub struct Contents {
+    processes: BTreeMap<i32, Process>,
+    samples_by_cpu: BTreeMap<u32, u64>,
+    frames: u64,
+    /// Number of counter values in samples.
+    counter_values: u64,
+    /// Number of bytes that the kernel copied from stacks into samples.
+    stack_bytes: u64,
+    mappings: u64,
+    /// Number of mappings of each path.
+    files: BTreeMap<Vec<u8>, u64>,
+    /// The path of each build id of a mapping.
+    build_ids: BTreeMap<Vec<u8>, Vec<u8>>,
+    lost_records: u64,
+    lost_samples: u64,
+    switches: SwitchCounts,
+    /// Number of records whose body can't be parsed.
+    unparsed: u64,
+}
+
+/// Copies the bytes to a `Vec`.
+fn to_vec(alloc: Global, bytes: RawData<'_>) -> Result<Vec<u8>, AllocError> {
+    bytes.as_slice(alloc)?.into_owned(alloc)
+}
+
+impl Contents {
+    /// Creates counts with no records.
+    pub(crate) fn new(alloc: Global) -> Contents {
+        Contents {
+            processes: BTreeMap::new(alloc),
+            samples_by_cpu: BTreeMap::new(alloc),
+            frames: 0,
+            counter_values: 0,
+            stack_bytes: 0,
+            mappings: 0,
+            files: BTreeMap::new(alloc),
+            build_ids: BTreeMap::new(alloc),
+            lost_records: 0,
+            lost_samples: 0,
+            switches: SwitchCounts {
+                into: 0,
+                out: 0,
+                preempted: 0,
+            },
+            unparsed: 0,
+        }
+    }
+
+    /// Adds a kernel record, whose body has this format.
+    pub(crate) fn add(
+        &mut self,
+        alloc: Global,
+        format: &EventFormat,
+        record: &RawEventRecord<'_>,
+    ) -> Result<(), AllocError> {
+        match format.parse(record) {
+            Ok(event) => self.add_event(alloc, &event),
+            Err(_) => {
+                self.unparsed = self.unparsed.saturating_add(1);
+                Ok(())
+            }
+        }
+    }
+
+    /// Adds a record by its type.
+    fn add_event(&mut self, alloc: Global, event: &EventRecord<'_>) -> Result<(), AllocError> {
+        match event {
+            EventRecord::Sample(sample) => self.add_sample(alloc, sample),
+            EventRecord::Comm(comm) => self.set_name(alloc, comm),
+            EventRecord::Fork(fork) => self.copy_name(alloc, fork),
+            EventRecord::Mmap(mapping) => self.add_mapping(alloc, mapping.path),
+            EventRecord::Mmap2(mapping) => self.add_mapping2(alloc, mapping),
+            EventRecord::Lost(lost) => {
+                self.lost_records = self.lost_records.saturating_add(lost.count);
+                Ok(())
+            }
+            EventRecord::LostSamples(lost) => {
+                self.lost_samples = self.lost_samples.saturating_add(lost.count);
+                Ok(())
+            }
+            EventRecord::ContextSwitch(switch) => {
+                self.switches.add(switch);
+                Ok(())
+            }
+            _ => Ok(()),
+        }
+    }
+
+    /// Adds a sample to the counts of its thread and its processor.
+    fn add_sample(&mut self, alloc: Global, sample: &SampleRecord<'_>) -> Result<(), AllocError> {
+        if let Some(task) = sample.task {
+            self.add_task_sample(alloc, task.pid, task.tid)?;
+        }
+        if let Some(cpu) = sample.cpu {
+            let count = self.samples_by_cpu.entry(cpu)?.or_insert(0);
+            *count = count.saturating_add(1);
+        }
+        self.add_sizes(sample);
+        Ok(())
+    }
+
+    /// Adds the sizes of the parts of a sample.
+    fn add_sizes(&mut self, sample: &SampleRecord<'_>) {
+        if let Some(chain) = &sample.call_chain {
+            self.frames = self.frames.saturating_add(frame_count(chain));
+        }
+        if let Some(values) = &sample.values {
+            self.counter_values = self.counter_values.saturating_add(value_count(values));
+        }
+        if let Some(stack) = &sample.user_stack {
+            let size = stack.dynamic_size.unwrap_or(0);
+            self.stack_bytes = self.stack_bytes.saturating_add(size);
+        }
+    }
+
+    /// Adds a sample to the counts of a thread.
+    fn add_task_sample(&mut self, alloc: Global, pid: i32, tid: i32) -> Result<(), AllocError> {
+        let process = self.processes.entry(pid)?.or_insert(Process::new(alloc));
+        process.samples = process.samples.saturating_add(1);
+        let thread = process.threads.entry(tid)?.or_insert(Thread {
+            name: Vec::new(alloc),
+            samples: 0,
+        });
+        thread.samples = thread.samples.saturating_add(1);
+        Ok(())
+    }
+
+    /// Names a thread.
+    fn name_thread(
+        &mut self,
+        alloc: Global,
+        pid: i32,
+        tid: i32,
+        name: Vec<u8>,
+    ) -> Result<(), AllocError> {
+        let process = self.processes.entry(pid)?.or_insert(Process::new(alloc));
+        let thread = process.threads.entry(tid)?.or_insert(Thread {
+            name: Vec::new(alloc),
+            samples: 0,
+        });
+        thread.name = name;
+        Ok(())
+    }
+
+    /// Names a thread as a COMM record does.
+    fn set_name(&mut self, alloc: Global, comm: &CommOrExecRecord<'_>) -> Result<(), AllocError> {
+        let name = to_vec(alloc, comm.name)?;
+        self.name_thread(alloc, comm.pid, comm.tid, name)
+    }
+
+    /// Returns the name of a thread, or an empty one.
+    fn name_of(&self, pid: i32, tid: i32) -> &[u8] {
+        match self.processes.get(&pid) {
+            Some(process) => process.name_of(tid),
+            None => &[],
+        }
+    }
+
+    /// Names a new thread as its parent, unless it has a name.
+    fn copy_name(&mut self, alloc: Global, fork: &ForkOrExitRecord) -> Result<(), AllocError> {
+        if !self.name_of(fork.pid, fork.tid).is_empty() {
+            return Ok(());
+        }
+        let name = Vec::from_slice(alloc, self.name_of(fork.ppid, fork.ptid))?;
+        self.name_thread(alloc, fork.pid, fork.tid, name)
+    }
+
+    /// Adds a mapping of a file.
+    fn add_mapping(&mut self, alloc: Global, path: RawData<'_>) -> Result<(), AllocError> {
+        self.mappings = self.mappings.saturating_add(1);
+        let path = to_vec(alloc, path)?;
+        let count = self.files.entry(path)?.or_insert(0);
+        *count = count.saturating_add(1);
+        Ok(())
+    }
+
+    /// Adds a mapping of a file, and the file's build id if the record has it.
+    fn add_mapping2(&mut self, alloc: Global, mapping: &Mmap2Record<'_>) -> Result<(), AllocError> {
+        self.add_mapping(alloc, mapping.path)?;
+        if let Mmap2FileId::BuildId(id) = mapping.file_id {
+            let (id, path) = (to_vec(alloc, id)?, to_vec(alloc, mapping.path)?);
+            self.build_ids.entry(id)?.or_insert(path);
+        }
+        Ok(())
+    }
+}
+
+/// Returns the number of frames of a call chain.
+fn frame_count(chain: &CallChain<'_>) -> u64 {
+    let mut count = 0u64;
+    for _ in chain.iter() {
+        count = count.saturating_add(1);
+    }
+    count
+}
+
+/// Returns the number of counters whose values are given.
+fn value_count(values: &ReadValues<'_>) -> u64 {
+    match values {
+        ReadValues::Single(_) => 1,
+        ReadValues::Group(group) => group.len() as u64,
+    }
+}
+
+impl SwitchCounts {
+    /// Adds a context switch.
+    fn add(&mut self, switch: &ContextSwitchRecord) {
+        if switch.is_out {
+            self.out = self.out.saturating_add(1);
+        } else {
+            self.into = self.into.saturating_add(1);
+        }
+        if switch.preempted {
+            self.preempted = self.preempted.saturating_add(1);
+        }
+    }
+}
+
+/// A path, and the number of its mappings.
+type FileEntry<'a> = (&'a Vec<u8>, &'a u64);
+
+/// Returns the mapped files, ordered by decreasing number of mappings and then by path.
+fn files_by_count(
+    alloc: Global,
+    files: &BTreeMap<Vec<u8>, u64>,
+) -> Result<Option<Vec<FileEntry<'_>>>, Error> {
+    let mut entries = Vec::with_capacity(alloc, files.len())?;
+    for entry in files.iter() {
+        entries.push(entry)?;
+    }
+    entries.sort_by_key(|entry: &FileEntry<'_>| Reverse(*entry.1))?;
+    entries.truncate(MAX_FILES);
+    Ok(Some(entries))
+}
+
+/// Writes each process: its name, its samples and its threads.
+fn show_processes<W: Write>(contents: &Contents, report: &mut Report<W>) {
+    report.line("processes", contents.processes.len());
+    for (pid, process) in contents.processes.iter() {
+        report.item(
+            format_args!("process {pid}"),
+            Escaped(process.name_of(*pid)),
+        );
+        report.detail("samples", process.samples);
+        for (tid, thread) in process.threads.iter() {
+            let (name, samples) = (Escaped(thread.name.as_slice()), thread.samples);
+            report.detail(
+                format_args!("thread {tid}"),
+                format_args!("{samples} {name}"),
+            );
+        }
+    }
+}
+
+/// Writes the number of mappings and the files that have most of them.
+fn show_mappings<W: Write>(alloc: Global, contents: &Contents, report: &mut Report<W>) {
+    report.line("mappings", contents.mappings);
+    report.line("mapped files", contents.files.len());
+    let by_count = report.value_or_note("mapped files", files_by_count(alloc, &contents.files));
+    if let Some(entries) = by_count {
+        for (path, count) in entries.iter() {
+            report.item(Escaped(path.as_slice()), **count);
+        }
+    }
+    report.line("build ids of mappings", contents.build_ids.len());
+    for (id, path) in contents.build_ids.iter() {
+        report.item(Hex(id.as_slice()), Escaped(path.as_slice()));
+    }
+}
+
+/// Writes the counts.
+pub(crate) fn show<W: Write>(alloc: Global, contents: &Contents, report: &mut Report<W>) {
+    show_processes(contents, report);
+    report.line("samples by CPU", contents.samples_by_cpu.len());
+    for (cpu, count) in contents.samples_by_cpu.iter() {
+        report.item(format_args!("CPU {cpu}"), *count);
+    }
+    report.line("frames of call chains", contents.frames);
+    report.line("counter values in samples", contents.counter_values);
+    report.line("bytes of user stacks", contents.stack_bytes);
+    show_mappings(alloc, contents, report);
+    report.line("lost records", contents.lost_records);
+    report.line("lost samples", contents.lost_samples);
+    report.line("switches to a task", contents.switches.into);
+    report.line("switches from a task", contents.switches.out);
+    report.line("switches by preemption", contents.switches.preempted);
+    report.line("bodies that can't be parsed", contents.unparsed);
+}
