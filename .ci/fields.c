@@ -140,18 +140,24 @@ static void put_file(void)
 
 static void check_file(void)
 {
+    struct dewikura_cursor cursor = {0, 0};
     struct dewikura_record records[3];
     struct dewikura_attr attrs[2];
     struct dewikura_attr_totals totals;
     struct dewikura_feature_set set;
     char names[32] = {0};
-    uint64_t ids[8] = {0}, total = 0, feature_size = 0;
+    uint64_t ids[8] = {0}, count = 0, feature_size = 0;
     uint8_t is_present = 0;
     memset(records, 0xab, sizeof records);
     put_file();
     CHECK(dewikura_is_big_endian(input, size), 0);
-    CHECK(dewikura_read_file_records(input, size, 1, records, 3, &total), DEWIKURA_OK);
-    CHECK(total, 2);
+    CHECK(dewikura_read_file_records(input, size, &cursor, records, 1, &count), DEWIKURA_OK);
+    CHECK(count, 1);
+    CHECK(cursor.offset, 40);
+    CHECK(cursor.round, 2);
+    memset(records, 0xab, sizeof records);
+    CHECK(dewikura_read_file_records(input, size, &cursor, records, 3, &count), DEWIKURA_OK);
+    CHECK(count, 1);
     CHECK(records[1].type, 0xabababab);
     CHECK(records[0].offset, 40);
     CHECK(records[0].body_offset, 256 + 40 + 8);
@@ -163,7 +169,7 @@ static void check_file(void)
     CHECK(records[0].misc, 0x4001);
     CHECK(records[0].has_timestamp, 1);
     CHECK(records[0].has_attr, 1);
-    CHECK(dewikura_read_file_records(input, size, 0, records, 1, NULL), DEWIKURA_OK);
+    CHECK(dewikura_read_file_records(input, size, NULL, records, 1, NULL), DEWIKURA_OK);
     CHECK(records[0].timestamp, 0);
     CHECK(records[0].attr_index, 0);
     CHECK(records[0].has_timestamp, 0);
@@ -353,7 +359,7 @@ static void check_empty(void)
     struct dewikura_jit_load load;
     CHECK(dewikura_status_text(DEWIKURA_OK, NULL, 0), 8);
     CHECK(dewikura_is_big_endian(NULL, 0), 0);
-    CHECK(dewikura_read_file_records(NULL, 0, 0, NULL, 0, NULL), DEWIKURA_TRUNCATED);
+    CHECK(dewikura_read_file_records(NULL, 0, NULL, NULL, 0, NULL), DEWIKURA_TRUNCATED);
     CHECK(dewikura_read_pipe_records(NULL, 0, 0, NULL, 0, NULL), DEWIKURA_TRUNCATED);
     CHECK(dewikura_read_file_attrs(NULL, 0, NULL, 0, NULL, 0, NULL, 0, NULL), DEWIKURA_TRUNCATED);
     CHECK(dewikura_read_pipe_attrs(NULL, 0, NULL, 0, NULL, 0, NULL, 0, NULL), DEWIKURA_TRUNCATED);

@@ -1,5 +1,6 @@
-// A walk over a mapped perf.data file with little-endian numbers: `walk library PATH` fills an array by the library, `walk own PATH` by
-// a simple loop over the record headers, which determines neither time nor attribute. Both print the number of records.
+// A walk over a mapped perf.data file with little-endian numbers: `walk library PATH` fills an array by the library, `walk pages PATH` one
+// of 4,096 records again and again, and `walk own PATH` an array by a simple loop over the record headers, which determines neither time
+// nor attribute. All print the number of records.
 #include "dewikura.h"
 #include <fcntl.h>
 #include <inttypes.h>
@@ -39,6 +40,16 @@ static uint64_t own(const uint8_t *bytes, struct dewikura_record *records) {
     return count;
 }
 
+static uint64_t pages(const uint8_t *bytes, size_t size, struct dewikura_record *records) {
+    struct dewikura_cursor cursor = {0, 0};
+    uint64_t count, total = 0;
+    do {
+        if (dewikura_read_file_records(bytes, size, &cursor, records, 4096, &count)) exit(2);
+        total += count;
+    } while (count == 4096);
+    return total;
+}
+
 int main(int argc, char **argv) {
     struct stat file_stat;
     int file = argc == 3 ? open(argv[2], O_RDONLY) : -1;
@@ -50,7 +61,8 @@ int main(int argc, char **argv) {
     uint64_t total = 0;
     if (bytes == MAP_FAILED || records == MAP_FAILED) return 1;
     if (!strcmp(argv[1], "own")) total = own(bytes, records);
-    else if (dewikura_read_file_records(bytes, size, 0, records, capacity, &total)) return 2;
+    else if (!strcmp(argv[1], "pages")) total = pages(bytes, size, records);
+    else if (dewikura_read_file_records(bytes, size, NULL, records, capacity, &total)) return 2;
     printf("%" PRIu64 "\n", total);
     return 0;
 }

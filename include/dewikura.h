@@ -1,7 +1,7 @@
 /*
  * Dewikura reads recordings of Linux perf and Android simpleperf (perf.data files and pipes), and jitdumps, from memory into arrays of
- * plain structs. A call reads its input from the start, fills the caller's arrays and keeps nothing: there is nothing to open or free.
- * A call that is given capacity 0 counts.
+ * plain structs. A call fills the caller's arrays and keeps nothing: there is nothing to open or free. A call that is given capacity 0
+ * counts, except dewikura_read_file_records, which continues where a cursor points.
  *
  * The library is formally verified. No input makes a call read outside the input or write outside the arrays. The written elements are
  * exactly what the format says, in order. The elements after them are unchanged. The status is the first error in the input.
@@ -53,7 +53,7 @@ uint32_t dewikura_version(void);
 typedef uint32_t dewikura_status;
 
 enum dewikura_status_code {
-    DEWIKURA_OK = 0,                      // the whole input was read
+    DEWIKURA_OK = 0,                      // no error in what was read
     DEWIKURA_OUT_OF_MEMORY = 1,           // an allocation failed; what was written is valid, and may be incomplete
     DEWIKURA_TRUNCATED = 2,               // the input ends inside a header, a section or an entry
     DEWIKURA_INVALID_DATA = 3,            // a metadata record of a pipe has an attribute size of 1 to 63
@@ -80,6 +80,12 @@ enum dewikura_status_code {
 };
 
 // ---- structs: numbers are in the machine's byte order, whatever the byte order of the input is
+
+// Where the records of a file continue. Zeros are the first record. Any numbers are safe.
+struct dewikura_cursor {
+    uint64_t offset; // of the next record header, in bytes from the first record
+    uint64_t round;  // FINISHED_ROUND records before it
+};
 
 // A record of a file or pipe.
 struct dewikura_record {
@@ -219,6 +225,7 @@ struct dewikura_jit_unwinding {
 #else
 #define DEWIKURA_CHECK_SIZE(name, size) typedef char name##_has_size[sizeof(struct name) == size ? 1 : -1]
 #endif
+DEWIKURA_CHECK_SIZE(dewikura_cursor, 16);
 DEWIKURA_CHECK_SIZE(dewikura_record, 56);
 DEWIKURA_CHECK_SIZE(dewikura_attr, 168);
 DEWIKURA_CHECK_SIZE(dewikura_attr_totals, 24);
@@ -445,8 +452,8 @@ enum dewikura_jit_record_type {
 
 DEWIKURA_NONNULL size_t dewikura_status_text_raw(dewikura_status status, char *buffer, size_t capacity);
 DEWIKURA_NONNULL uint32_t dewikura_is_big_endian_raw(const void *data, size_t size);
-DEWIKURA_NONNULL dewikura_status dewikura_read_file_records_raw(const void *data, size_t size, uint64_t start,
-    struct dewikura_record *records, size_t capacity, uint64_t *total);
+DEWIKURA_NONNULL dewikura_status dewikura_read_file_records_raw(const void *data, size_t size, struct dewikura_cursor *cursor,
+    struct dewikura_record *records, size_t capacity, uint64_t *count);
 DEWIKURA_NONNULL dewikura_status dewikura_read_pipe_records_raw(const void *data, size_t size, uint64_t start,
     struct dewikura_record *records, size_t capacity, uint64_t *total);
 DEWIKURA_NONNULL dewikura_status dewikura_sort_records_raw(struct dewikura_record *records, size_t count);
@@ -489,24 +496,33 @@ static inline uint32_t dewikura_is_big_endian(const void *data, size_t size)
     return dewikura_is_big_endian_raw(data ? data : &no_data, size);
 }
 
-// Writes the records of a perf.data file from index `start` on, in the order of the file, up to `capacity`. `data` is the whole file.
+// Writes the records of a perf.data file from *cursor on, in the order of the file, up to `capacity`, and moves *cursor past the last of
+// them. `data` is the whole file. The first call has a cursor of zeros. With NULL for `cursor`, a call starts at the first record.
 //
-// *total counts all records of the file; after an error those before it, and 0 if the file doesn't open. `total` may be NULL.
-// FINISHED_ROUND records aren't returned; they are counted in `round`.
+// *count is the number of written records; `count` may be NULL. If it is `capacity` and the status is DEWIKURA_OK, the next call writes
+// the records that follow. If it is smaller and the status is DEWIKURA_OK, there are no more records. Calls with arrays of any capacity
+// write the same records as one call with an array for all of them. FINISHED_ROUND records aren't returned; they are counted in `round`.
 //
-// Each call reads the whole file. With an array large enough for all records, one call reads them all.
-DEWIKURA_NODISCARD static inline dewikura_status dewikura_read_file_records(const void *data, size_t size, uint64_t start,
-    struct dewikura_record *records, size_t capacity, uint64_t *total)
+// A call reads the metadata that open the file, and the records that it writes. It allocates no memory for records. After an error,
+// *cursor is at the record in error: the next call returns the same status, and *count is 0. If the file doesn't open, *cursor is
+// unchanged.
+DEWIKURA_NODISCARD static inline dewikura_status dewikura_read_file_records(const void *data, size_t size, struct dewikura_cursor *cursor,
+    struct dewikura_record *records, size_t capacity, uint64_t *count)
 {
     const char no_data = 0;
+    struct dewikura_cursor first = {0, 0};
     struct dewikura_record no_record;
     uint64_t unused;
-    return dewikura_read_file_records_raw(data ? data : &no_data, size, start, records ? records : &no_record, capacity,
-        total ? total : &unused);
+    return dewikura_read_file_records_raw(data ? data : &no_data, size, cursor ? cursor : &first, records ? records : &no_record, capacity,
+        count ? count : &unused);
 }
 
-// Does the same for a pipe. `data` is the whole pipe. The records are those after the metadata records that open the pipe, and offsets
-// count from the first of them. A truncated record ends a pipe without an error.
+// Writes the records of a pipe from index `start` on, in the order of the pipe, up to `capacity`. `data` is the whole pipe. The records
+// are those after the metadata records that open the pipe, and offsets count from the first of them. A truncated record ends a pipe
+// without an error.
+//
+// *total counts all records of the pipe; after an error those before it, and 0 if the pipe doesn't open. `total` may be NULL. Each call
+// reads the whole pipe: late metadata determine what the records after them belong to. Pass an array large enough for all records.
 DEWIKURA_NODISCARD static inline dewikura_status dewikura_read_pipe_records(const void *data, size_t size, uint64_t start,
     struct dewikura_record *records, size_t capacity, uint64_t *total)
 {

@@ -82,15 +82,29 @@ static int end_listing(int is_complete, uint64_t count)
     return 0;
 }
 
-typedef dewikura_status (*read_records)(const void *, size_t, uint64_t, struct dewikura_record *, size_t, uint64_t *);
+/* Lists a file, up to 4,096 records a call. */
+static int list_file(const struct input *input)
+{
+    static struct dewikura_record records[4096];
+    struct dewikura_cursor cursor = {0, 0};
+    uint64_t count = 0, total = 0, i;
+    dewikura_status status;
+    do {
+        status = dewikura_read_file_records(input->data, input->size, &cursor, records, 4096, &count);
+        for (i = 0; i < count; i++)
+            print_record(&records[i]);
+        total += count;
+    } while (status == DEWIKURA_OK && count == 4096);
+    return end_listing(status == DEWIKURA_OK, total);
+}
 
-/* Lists a file or a pipe. The first array fits records of 32 bytes on average. If there are more, a second call fills a larger array. */
-static int list_records(read_records read, const struct input *input)
+/* Lists a pipe. The first array fits records of 32 bytes on average. If there are more, a second call fills a larger array. */
+static int list_pipe(const struct input *input)
 {
     size_t capacity = input->size / 32 + 1;
     struct dewikura_record *records = (struct dewikura_record *)calloc(capacity, sizeof *records);
     uint64_t total = 0;
-    dewikura_status status = read(input->data, input->size, 0, records, records ? capacity : 0, &total);
+    dewikura_status status = dewikura_read_pipe_records(input->data, input->size, 0, records, records ? capacity : 0, &total);
     size_t i;
     if (total > capacity || (!records && total > 0)) {
         free(records);
@@ -98,7 +112,7 @@ static int list_records(read_records read, const struct input *input)
         records = (struct dewikura_record *)calloc(capacity, sizeof *records);
         if (!records)
             return end_listing(0, 0);
-        status = read(input->data, input->size, 0, records, capacity, &total);
+        status = dewikura_read_pipe_records(input->data, input->size, 0, records, capacity, &total);
     }
     for (i = 0; i < total; i++)
         print_record(&records[i]);
@@ -130,9 +144,9 @@ int main(int argc, char **argv)
     struct input input = {NULL, 0};
     int status = 1;
     if (argc == 3 && !strcmp(argv[1], "file"))
-        status = read_file(argv[2], &input) ? list_records(dewikura_read_file_records, &input) : end_listing(0, 0);
+        status = read_file(argv[2], &input) ? list_file(&input) : end_listing(0, 0);
     else if (argc == 2 && !strcmp(argv[1], "pipe"))
-        status = read_all(stdin, &input) ? list_records(dewikura_read_pipe_records, &input) : end_listing(0, 0);
+        status = read_all(stdin, &input) ? list_pipe(&input) : end_listing(0, 0);
     else if (argc == 3 && !strcmp(argv[1], "jit"))
         status = read_file(argv[2], &input) ? list_jit(&input) : end_listing(0, 0);
     else

@@ -16,13 +16,15 @@ ghost use Rattle.perfdata_arrays.specs.Features.{ReadsFileFeature, ReadsPipeFeat
 ghost use Rattle.perfdata_arrays.specs.Jit.{ReadsJitHeader, ReadsJitRecords, ReadsJitLoad};
 ghost use Rattle.perfdata_arrays.specs.JitBodies.{ReadsJitMove, ReadsJitUnwinding};
 ghost use Rattle.perfdata_arrays.specs.Overwrites.{with_prefix};
-ghost use Rattle.perfdata_arrays.specs.Records.{ReadsFileRecords, ReadsPipeRecords};
+ghost use Rattle.perfdata_arrays.specs.Pages.{ReadsFilePage};
+ghost use Rattle.perfdata_arrays.specs.Records.{ReadsPipeRecords};
 ghost use Rattle.perfdata_arrays.specs.Sorting.{SortsByTime};
 ghost use Rattle.perfdata_arrays.specs.Status.{IsCodeOf, code_text};
 ghost use Rattle.perfdata_arrays.specs.Strings.{ReadsString};
 ghost use Rattle.dewikura.specs.Numbers.{endian_from, number_of_bool};
 
 use linux_perf_data::Endianness;
+use linux_perf_data::in_memory::position::RecordPosition;
 use perfdata_arrays::attrs::{Attr, AttrTotals};
 use perfdata_arrays::build_ids::BuildId;
 use perfdata_arrays::feature_set::FeatureBits;
@@ -75,18 +77,18 @@ pub extern "C" fn dewikura_is_big_endian_raw(input: &[u8]) -> u32
     byte_order::is_big_endian(input) as u32
 }
 
-/// Reads the records of a perf.data file, as `records::file_records` does.
+/// Reads the records of a perf.data file from a cursor on, as `records::file_records` does.
 #[unsafe(no_mangle)]
 pub extern "C" fn dewikura_read_file_records_raw(
     alloc: Global,
     input: &[u8],
-    start: u64,
+    cursor: &mut RecordPosition,
     entries: &mut [Record],
     count: &mut u64,
 ) -> u32
-    ensures { IsCodeOf result (λ s. ReadsFileRecords input.now start entries.old (record { count = count.new; status = s }) entries.new) }
+    ensures { IsCodeOf result (λ s. ReadsFilePage input.now cursor.old entries.old (record { count = count.new; status = s }) cursor.new entries.new) }
 {
-    let outcome = records::file_records(alloc, input, start, entries);
+    let outcome = records::file_records(alloc, input, cursor, entries);
     *count = outcome.count;
     outcome.status.code()
 }

@@ -1,7 +1,9 @@
 -- The modules that proofs of goals use.
 pub mod OverwriteLemmas
 pub mod WalkLemmas
-pub mod FileRecordsLemmas
+pub mod FileErrors
+pub mod PageLemmas
+pub mod PageUniqueness
 pub mod PipeRecordsLemmas
 pub mod JitLemmas
 pub mod JitBodiesLemmas

@@ -1,14 +1,11 @@
 -- A walk over records in memory, as the walk of a streaming iterator over the same bytes.
-use Rattle.std.proofs.Common.{◌≡◌, ℕ, ◌+◌, ◌≤◌, ◌++◌, ◌⊎◌, List, [], ◌∷◌, length, take, drop, refl, sym, ap, ◌∙◌, subst, arith, inl, inr, length-append, length-drop, Option, None, Some, Result, Ok, Err}
+use Rattle.std.proofs.Common.{◌≡◌, ℕ, ◌+◌, ◌≤◌, ◌++◌, ◌⊎◌, List, [], ◌∷◌, length, refl, sym, ap, ◌∙◌, subst, arith, inl, inr, length-append, Option, None, Some, Result, Ok, Err}
 use Rattle.std.specs.Prelude.{Vec}
 use Rattle.std.specs.declared.alloc.Global.{Global}
-use Rattle.std.proofs.Math.Seq.{take-append_seam}
 use Rattle.perfdata_base.specs.Source.{prepend}
-use Rattle.perfdata_base.specs.Raw.{bytes_of}
 use Rattle.perfdata_sections.specs.declared.error.Error.{Error}
 use Rattle.perfdata_records.specs.declared.record.PerfFileRecord.{PerfFileRecord}
 use Rattle.perfdata_records.specs.declared.record.PerfFileRecord.TheVariants.{EventRecord, UserRecord}
-use Rattle.perfdata_records.specs.FileRecord.{file_record_body}
 use Rattle.linux_perf_data.specs.declared.in_memory.InMemoryRecords.{InMemoryRecords}
 use Rattle.linux_perf_data.specs.declared.perf_file.PerfFile.{PerfFile}
 use Rattle.linux_perf_data.specs.declared.records.iter.RecordPlace.{RecordPlace}
@@ -64,10 +61,6 @@ writes_at bytes first base start records before after total (inr same) count wri
   written = written ∙ ap (λ n. with_prefix_from start (record_entries_at n records) before) same;
   body_bytes_at = subst (λ n. HasBodiesAt bytes n records) same bodies;
 }
-
--- if bytes start at two offsets of an input, and they aren't empty, the offsets are equal
-pub same_offset : (bytes : List ℕ) (a b : ℕ) → drop a bytes ≡ drop b bytes → 1 ≤ length (drop a bytes) → a ≡ b
-same_offset bytes a b same some = omega (arith, ap length same, length-drop a bytes, length-drop b bytes, some)
 
 -- ---- the streaming iterator
 

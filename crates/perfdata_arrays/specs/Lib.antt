@@ -11,3 +11,4 @@ pub mod Features
 pub mod FeatureSets
 pub mod Attrs
 pub mod BuildIds
+pub mod Pages

@@ -1,16 +1,11 @@
 -- The entries of records, and the result for the records of a whole input.
-use Rattle.std.specs.Prelude.{◌≡◌, ◌≢◌, ◌⊎◌, ℕ, ◌+◌, ◌<◌, ◌≤◌, List, [], ◌∷◌, length, take, drop, map, Option, None, Some}
-use Rattle.perfdata_base.specs.Source.{at_start}
+use Rattle.std.specs.Prelude.{◌≡◌, ◌≢◌, ◌⊎◌, ℕ, ◌+◌, List, [], ◌∷◌, length, take, drop, map, Option, None, Some}
 use Rattle.perfdata_base.specs.declared.raw.Endianness.{Endianness}
-use Rattle.perfdata_base.specs.declared.header.PerfHeader.{PerfHeader}
 use Rattle.perfdata_sections.specs.declared.error.Error.{Error}
 use Rattle.perfdata_sections.specs.declared.error.Error.TheVariants.{Memory}
 use Rattle.linux_perf_data.specs.declared.perf_file.PerfFile.{PerfFile}
 use Rattle.linux_perf_data.specs.Attribute.{EventRef}
 use Rattle.linux_perf_data.specs.Layout.{RecordView, LayoutEnd, ends_complete, ends_with_error, LayoutError, RemainingRecords, attributes_in_records}
-use Rattle.linux_perf_data.specs.FileOpening.{IsFileError}
-use Rattle.linux_perf_data.specs.OpenedFile.{DescribesFile, FileRecords}
-use Rattle.linux_perf_data.specs.PerfFile.{endian_of_file, attributes_of_file}
 use Rattle.linux_perf_data.specs.RecordFraming.{IsErrorFor}
 use Rattle.linux_perf_data.specs.PipeOpening.{EndsMetadata, IsPipeError}
 use Rattle.linux_perf_data.specs.PipeReading.{BeginsPipe, HoldsAllMetadata}
@@ -80,15 +75,7 @@ EndsWithStatus Come records status =
     ((status ≡ Success) × Come records ends_complete)
     ⊎ (AreFirstRecords Come records × FailsWithStatus status (λ e. (f : LayoutError) × Come records (ends_with_error f) × IsErrorFor f e))
 
--- ---- a file
-
--- The bytes are a file whose data section is at offset `base`.
-pub record IsFileWithRecords (bytes : List ℕ) (base : ℕ) (records : List RecordView) (status : Status) : Type 0 where
-  pub file : PerfFile
-  pub header : PerfHeader
-  pub describes : DescribesFile (at_start bytes) header file
-  pub first_record_at : base ≡ header.data_section.offset
-  pub ends : EndsWithStatus (FileRecords (at_start bytes) (endian_of_file file) header (attributes_of_file file)) records status
+-- ---- the arrays
 
 -- The entries of the records from index `first` on are written, up to the capacity of the array. `count` is the number of all
 -- records. Their bodies are at the offsets in their entries.
@@ -96,14 +83,6 @@ pub record WritesRecords (bytes : List ℕ) (base start : ℕ) (records : List R
   pub count : total.count ≡ length records
   pub written : new ≡ with_prefix_from start (record_entries_at base records) old
   pub body_bytes_at : HasBodiesAt bytes base records
-
--- The result for a file's records: all of them, or those before the error that the status reports. If the file doesn't open,
--- there are no records.
-pub record ReadsFileRecords (bytes : List ℕ) (start : ℕ) (old : List Record) (total : RecordsResult) (new : List Record) : Type 0 where
-  pub records : List RecordView
-  pub base : ℕ
-  pub writes : WritesRecords bytes base start records old total new
-  pub ends : ((records ≡ []) × FailsWithStatus total.status (IsFileError (at_start bytes))) ⊎ IsFileWithRecords bytes base records total.status
 
 -- ---- a pipe
 

@@ -1,7 +1,7 @@
 //! Parses recordings in memory into tables of plain numbers, which a caller in any language can read from an array.
 //!
-//! Each call parses its bytes from the start and keeps no state. It fills arrays that the caller passes, and returns the total
-//! counts. A slice in memory never fails and never pauses: the entries are exactly those of the records of the input's layout.
+//! Each call keeps no state. It fills arrays that the caller passes, and returns counts. A slice in memory never fails and never
+//! pauses: the entries are exactly those of the records of the input's layout.
 #![tactic(auto)]
 
 mod array;
@@ -12,6 +12,7 @@ pub mod feature_set;
 pub mod features;
 pub mod jit;
 pub mod jit_bodies;
+pub mod laws;
 pub mod record;
 pub mod records;
 pub mod sort;

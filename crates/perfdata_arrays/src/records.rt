@@ -1,11 +1,13 @@
 //! The records of a perf.data file or pipe, as entries.
 ghost use Rattle.std.specs.Prelude.{◌≡◌};
-ghost use Rattle.perfdata_arrays.specs.Records.{ReadsFileRecords, ReadsPipeRecords};
+ghost use Rattle.perfdata_arrays.specs.Pages.{ReadsFilePage, WalksPage};
+ghost use Rattle.perfdata_arrays.specs.Records.{ReadsPipeRecords};
 ghost use Rattle.perfdata_arrays.specs.Walk.{WalksRecords, walk_status};
 
 use crate::array::write_entry;
 use crate::record::{Record, record_entry};
 use crate::status::{Status, status_of_error};
+use linux_perf_data::in_memory::position::RecordPosition;
 use linux_perf_data::in_memory::{InMemoryReader, InMemoryRecords};
 use linux_perf_data::{Error, PerfFile};
 use std::alloc::Global;
@@ -13,9 +15,9 @@ use std::alloc::Global;
 /// The number of records and the status of the call.
 #[derive(Clone, Copy, Debug, PartialEq, Eq)]
 pub struct RecordsResult {
-    /// The number of records in the layout, or before its first error.
+    /// The number of records that were read.
     pub count: u64,
-    /// Success if the layout is complete, otherwise the status of the first error.
+    /// Success if no error follows them, otherwise the status of the first error.
     pub status: Status,
 }
 
@@ -67,23 +69,75 @@ pub(crate) fn walk_result_status(end: &Result<(), Error>) -> Status
     }
 }
 
-/// Writes the entries of a perf.data file's records, starting with the record of index `start`.
+// The number of records that a walk over a page reads, the position after them, and how it ends.
+#[derive(Drop)]
+pub(crate) struct PageWalk {
+    pub(crate) count: u64,
+    pub(crate) next: RecordPosition,
+    pub(crate) end: Result<(), Error>,
+}
+
+// Writes the entries of the next records, up to the capacity of `entries`.
+pub(crate) fn walk_page(
+    input: &mut InMemoryRecords<'_>,
+    file: &mut PerfFile,
+    entries: &mut [Record],
+) -> PageWalk
+    ensures { WalksPage input.old file.old entries.old result input.new file.new entries.new }
+{
+    let first_record_offset = input.first_record_offset();
+    let mut next = input.position();
+    let mut count = 0;
+    'records: while count < entries.len() {
+        match input.next_record(file) {
+            Ok(Some((place, record))) => {
+                entries[count] = record_entry(first_record_offset, place, &record);
+                next = input.position();
+                count += 1;
+            }
+            Ok(None) => {
+                return PageWalk {
+                    count: count as u64,
+                    next,
+                    end: Ok(()),
+                };
+            }
+            Err(error) => {
+                return PageWalk {
+                    count: count as u64,
+                    next,
+                    end: Err(error),
+                };
+            }
+        }
+    }
+    PageWalk {
+        count: count as u64,
+        next,
+        end: Ok(()),
+    }
+}
+
+/// Writes the entries of a perf.data file's records from a position on, and moves the position past the last of them.
 ///
-/// Writes as many entries as `entries` has capacity for. The elements after the last written entry are unchanged. `count`
-/// includes the records that aren't written. FINISHED_ROUND markers aren't records.
+/// Writes at most as many entries as `entries` has capacity for, and reads no record after them. The elements after the last
+/// written entry are unchanged. `count` is the number of written entries. FINISHED_ROUND markers aren't records.
+///
+/// If `count` is the capacity and the status is `Success`, a call with the moved position writes the records that follow. If
+/// `count` is smaller and the status is `Success`, the file has no more records.
 ///
 /// The errors are those of `InMemoryReader::parse_file` and of `InMemoryRecords::next_record`. If the file doesn't open, `count`
-/// is 0. If the layout has an error, `count` is the number of records before it. If memory runs out, the counted records are a
-/// prefix of the layout's records.
+/// is 0 and the position is unchanged. At an error, the position is that of the record in error or of the markers before it:
+/// the next call returns the same status, and `count` is 0.
 pub fn file_records(
     alloc: Global,
     bytes: &[u8],
-    start: u64,
+    position: &mut RecordPosition,
     entries: &mut [Record],
 ) -> RecordsResult
-    ensures { ReadsFileRecords bytes.now start entries.old result entries.new }
+    ensures { ReadsFilePage bytes.now position.old entries.old result position.new entries.new }
 {
-    let reader = match InMemoryReader::parse_file(alloc, bytes) {
+    let reader = match InMemoryReader::parse_file_at(alloc, bytes, *position) {
         Ok(reader) => reader,
         Err(error) => {
             let status = status_of_error(&error);
@@ -92,7 +146,8 @@ pub fn file_records(
     };
     let mut file = reader.perf_file;
     let mut input = reader.records;
-    let walked = walk(&mut input, &mut file, start, entries);
+    let walked = walk_page(&mut input, &mut file, entries);
+    *position = walked.next;
     RecordsResult {
         count: walked.count,
         status: walk_result_status(&walked.end),
@@ -101,8 +156,11 @@ pub fn file_records(
 
 /// Writes the entries of a perf.data pipe's records, starting with the record of index `start`.
 ///
-/// The entries, the count and the status are those of [`file_records`], for the records after the metadata records that open the
-/// pipe. Offsets count from the first of these records.
+/// The records are those after the metadata records that open the pipe. Offsets count from the first of them. Writes as many
+/// entries as `entries` has capacity for. The elements after the last written entry are unchanged. `count` includes the records
+/// that aren't written. If the pipe doesn't open, `count` is 0. At an error, `count` is the number of records before it.
+///
+/// A pipe is read in one call, because late metadata determine what the records after them belong to.
 ///
 /// A truncated record ends a pipe without an error. The errors are those of `InMemoryReader::parse_pipe` and of
 /// `InMemoryRecords::next_record`.

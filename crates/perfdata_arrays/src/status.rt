@@ -11,7 +11,7 @@ use std::io::ErrorKind;
 /// The status of a call: success, or the first error in its input.
 #[derive(Clone, Copy, Debug, PartialEq, Eq)]
 pub enum Status {
-    /// The whole input was read.
+    /// No error in what was read.
     Success,
 
     /// An allocation failed. What was written is valid, and may be incomplete.

@@ -36,6 +36,14 @@ impl Record {
     }
 }
 
+/// Where the records of a file continue (`struct dewikura_cursor`). The default is the first record.
+#[repr(C)]
+#[derive(Clone, Copy, Debug, Default, PartialEq, Eq)]
+pub struct Cursor {
+    pub offset: u64,
+    pub round: u64,
+}
+
 /// A record of a jitdump (`struct dewikura_jit_record`).
 #[repr(C)]
 #[derive(Clone, Copy, Debug, Default, PartialEq, Eq)]
@@ -50,7 +58,7 @@ const _: () = assert!(size_of::<Record>() == 56 && size_of::<JitRecord>() == 24)
 
 extern "C" {
     fn dewikura_status_text_raw(status: u32, buffer: *mut u8, capacity: usize) -> usize;
-    fn dewikura_read_file_records_raw(data: *const u8, size: usize, start: u64, records: *mut Record, capacity: usize, total: *mut u64) -> u32;
+    fn dewikura_read_file_records_raw(data: *const u8, size: usize, cursor: *mut Cursor, records: *mut Record, capacity: usize, count: *mut u64) -> u32;
     fn dewikura_read_pipe_records_raw(data: *const u8, size: usize, start: u64, records: *mut Record, capacity: usize, total: *mut u64) -> u32;
     fn dewikura_read_jit_records_raw(data: *const u8, size: usize, start_offset: u64, records: *mut JitRecord, capacity: usize, count: *mut u64, next_offset: *mut u64) -> u32;
 }
@@ -78,31 +86,42 @@ fn result_of(status: u32) -> Result<(), Error> {
     }
 }
 
-type ReadRecords = unsafe extern "C" fn(*const u8, usize, u64, *mut Record, usize, *mut u64) -> u32;
+/// Writes the records of a perf.data file from a cursor on into `records`, and moves the cursor past them. Returns their number, and
+/// the error after them. Fewer records than fit, without an error, are the last ones.
+pub fn read_file_records(input: &[u8], cursor: &mut Cursor, records: &mut [Record]) -> (usize, Result<(), Error>) {
+    let mut count = 0;
+    // SAFETY: the pointers are those of slices, with their lengths; the array is initialized.
+    let status = unsafe { dewikura_read_file_records_raw(input.as_ptr(), input.len(), cursor, records.as_mut_ptr(), records.len(), &mut count) };
+    (count as usize, result_of(status))
+}
 
-// Fills an array of the records. If there are more than 32 bytes a record allow, a second call fills a larger array.
-fn all_records(read: ReadRecords, input: &[u8]) -> (Vec<Record>, Result<(), Error>) {
+/// Returns the records of a perf.data file, and the error after them.
+pub fn file_records(input: &[u8]) -> (Vec<Record>, Result<(), Error>) {
+    let (mut records, mut cursor) = (Vec::new(), Cursor::default());
+    let mut page = [Record::default(); 1024];
+    loop {
+        let (count, outcome) = read_file_records(input, &mut cursor, &mut page);
+        records.extend_from_slice(&page[..count]);
+        if outcome.is_err() || count < page.len() {
+            return (records, outcome);
+        }
+    }
+}
+
+/// Returns the records of a perf.data pipe, and the error after them. If there are more than 32 bytes a record allow, a second call
+/// fills a larger array.
+pub fn pipe_records(input: &[u8]) -> (Vec<Record>, Result<(), Error>) {
     let mut records = vec![Record::default(); input.len() / 32 + 1];
     loop {
         let mut total = 0;
         // SAFETY: the pointers are those of slices, with their lengths; the array is initialized.
-        let status = unsafe { read(input.as_ptr(), input.len(), 0, records.as_mut_ptr(), records.len(), &mut total) };
+        let status = unsafe { dewikura_read_pipe_records_raw(input.as_ptr(), input.len(), 0, records.as_mut_ptr(), records.len(), &mut total) };
         let is_complete = total as usize <= records.len();
         records.resize(total as usize, Record::default());
         if is_complete {
             return (records, result_of(status));
         }
     }
-}
-
-/// Returns the records of a perf.data file, and the error after them.
-pub fn file_records(input: &[u8]) -> (Vec<Record>, Result<(), Error>) {
-    all_records(dewikura_read_file_records_raw, input)
-}
-
-/// Returns the records of a perf.data pipe, and the error after them.
-pub fn pipe_records(input: &[u8]) -> (Vec<Record>, Result<(), Error>) {
-    all_records(dewikura_read_pipe_records_raw, input)
 }
 
 /// Returns the complete records of a jitdump from an offset on, the offset after them, and the error there.

@@ -15,6 +15,12 @@ def known(kind, number):
         return number
 
 
+class Cursor(ctypes.Structure):
+    """Where the records of a file continue."""
+
+    _fields_ = [("offset", u64), ("round", u64)]
+
+
 class Record(ctypes.Structure):
     """A record of a perf.data file or pipe."""
 

@@ -253,16 +253,39 @@ class Recording(ContextManager["Recording"]):
         return tuple(itertools.islice(self.strings(Feature.CMDLINE, 4), int.from_bytes(section[:4], self.byteorder)))
 
     def _read_records(self, data: memoryview) -> Tuple[Records, Optional[Exception]]:
+        read = self._read_file_records if self.kind is Kind.FILE else self._read_pipe_records
+        array, count, status = read(data)
+        error = None if status == Status.OK else error_of(status, count)
+        return Records(array, range(count)), error
+
+    @staticmethod
+    def _read_file_records(data: memoryview) -> Tuple[Any, int, int]:
+        """Fills an array, which grows while the file has more records."""
+        cursor, count, total, capacity = _structs.Cursor(), u64(), 0, len(data) // 32 + 1
+        array = (Record * capacity)()
+        with _native.Input(data) as (address, size):
+            while True:
+                rest = (Record * (capacity - total)).from_buffer(array, total * ctypes.sizeof(Record))
+                status = _native.read_file_records(address, size, cursor, rest, capacity - total, count)
+                total += count.value
+                if status != Status.OK or total < capacity:
+                    return array, total, status
+                capacity *= 2
+                larger = (Record * capacity)()
+                ctypes.memmove(larger, array, ctypes.sizeof(array))
+                array = larger
+
+    @staticmethod
+    def _read_pipe_records(data: memoryview) -> Tuple[Any, int, int]:
+        """Fills an array, and then a larger one if the pipe has more records."""
         total, capacity = u64(), len(data) // 32 + 1
         while True:
             array = (Record * capacity)()
             with _native.Input(data) as (address, size):
-                status = _native.read_records[self.kind.value](address, size, 0, array, capacity, total)
+                status = _native.read_pipe_records(address, size, 0, array, capacity, total)
             if total.value <= capacity:
-                break
+                return array, total.value, status
             capacity = total.value
-        error = None if status == Status.OK else error_of(status, total.value)
-        return Records(array, range(total.value)), error
 
     @staticmethod
     def _sorted(records: Records) -> Records:

@@ -2,7 +2,7 @@ use Rattle.std.proofs.Common.{subst}
 use Rattle.perfdata_arrays.specs.Attrs.{WritesAttrsOrPrefix}
 use Rattle.perfdata_arrays.specs.declared.status.Status.TheVariants.{Success}
 use Rattle.perfdata_arrays.proofs.AttrsLemmas.{reads_file_attrs, file_attrs_error}
-use Rattle.perfdata_arrays.proofs.FileRecordsLemmas.{file_open_error}
+use Rattle.perfdata_arrays.proofs.FileErrors.{file_open_error}
 use Rattle.perfdata_arrays.proofs.attrs.file_attrs.Goals as goal
 
 pub returns-in-Ok : goal.returns-in-Ok

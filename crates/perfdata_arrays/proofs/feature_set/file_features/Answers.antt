@@ -1,7 +1,7 @@
 use Rattle.std.proofs.Common.{refl, subst}
 use Rattle.perfdata_arrays.specs.FeatureSets.{AreBitsOf}
 use Rattle.perfdata_arrays.proofs.FeatureSetsLemmas.{reads_file_features, file_features_error}
-use Rattle.perfdata_arrays.proofs.FileRecordsLemmas.{file_open_error}
+use Rattle.perfdata_arrays.proofs.FileErrors.{file_open_error}
 use Rattle.perfdata_arrays.proofs.feature_set.file_features.Goals as goal
 
 pub returns-in-Ok : goal.returns-in-Ok

@@ -1,6 +1,6 @@
 use Rattle.std.proofs.Common.{refl}
 use Rattle.perfdata_arrays.proofs.FeaturesLemmas.{reads_file_feature, file_feature_error}
-use Rattle.perfdata_arrays.proofs.FileRecordsLemmas.{file_open_error}
+use Rattle.perfdata_arrays.proofs.FileErrors.{file_open_error}
 use Rattle.perfdata_arrays.proofs.features.file_feature.Goals as goal
 
 pub returns-in-Ok : goal.returns-in-Ok
