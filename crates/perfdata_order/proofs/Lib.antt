@@ -1,0 +1,4 @@
+pub mod Sorting
+pub mod SorterCalls
+pub mod AscendingRuns
+pub mod RoundRule

@@ -1,0 +1,23 @@
+use Rattle.std.proofs.Common.{◌∙◌, sym, rules, subst, refl}
+use Rattle.std.specs.List.Sorted.{IsPermutation, IsStableByKey}
+use Rattle.std.proofs.lemmas.List.Sorted.{answers_always}
+use Rattle.perfdata_order.specs.Order.{Ascends}
+use Rattle.perfdata_order.proofs.Sorting.{ascends_from_sort}
+use Rattle.perfdata_order.proofs.sorter.Sorter.sort_held.Goals as goal
+
+pub returns-in-Ok : goal.returns-in-Ok
+returns-in-Ok g c =
+    let same = c.make_contiguous-held.ensures.value in
+    let sorted = c.sort_by_key.new.self in
+    let cmp = g.K.Ord.cmp in
+    let back = c.make_contiguous-held.ensures.writes_back sorted (c.sort_by_key.ensures.len ∙ c.make_contiguous-held.ensures.len) in
+    record {
+      sorts = record {
+        each_once = subst (λ zs. IsPermutation c.args.self.now.held.items zs) (sym back) (subst (λ zs. IsPermutation zs sorted) same c.sort_by_key.ensures.permutation);
+        ascends = subst (λ zs. Ascends cmp zs) (sym back) (ascends_from_sort g.met.K.Ord.total sorted (c.in-Ok.ensures.sorted (λ e. e.0) (answers_always _ _ _ (λ f a r h q. search rules))));
+        stable = subst (λ zs. IsStableByKey (λ e. e.0) cmp c.args.self.now.held.items zs) (sym back)
+            (subst (λ zs. IsStableByKey (λ e. e.0) cmp zs sorted) same (c.sort_by_key.ensures.stable (λ e. e.0) (answers_always _ _ _ (λ f a r h q. search rules))));
+      };
+      limit = refl;
+      greatest = refl;
+    }

@@ -1,0 +1,100 @@
+-- A sorter: the entries that are available, those that are not yet, and the greatest keys. What each call does to them.
+use Rattle.std.specs.Prelude.{◌≡◌, ◌<◌, Bool, true, false, List, [], ◌∷◌, ◌++◌, length, take, drop, Option, None, Some, Result, Ok, Err, All}
+use Rattle.std.specs.declared.cmp.Ordering.{Ordering}
+use Rattle.std.specs.declared.alloc.AllocFailed.{AllocFailed}
+use Rattle.std.specs.declared.alloc.AllocError.{AllocError}
+use Rattle.perfdata_order.specs.declared.sorter.Sorter.{Sorter}
+use Rattle.perfdata_order.specs.Order.{is_within, greatest_with, SortsEntries}
+
+module _ {K V : Type 0} where
+  -- All entries that the sorter contains.
+  abbrev pub held_of : Sorter K V → List (K × V)
+  held_of s = s.held.items
+
+  -- The first of them, which are available.
+  abbrev pub available_of : Sorter K V → List (K × V)
+  available_of s = take s.available s.held.items
+
+  -- The others.
+  abbrev pub pending_of : Sorter K V → List (K × V)
+  pending_of s = drop s.available s.held.items
+
+  -- The greatest key of all rounds that ended.
+  abbrev pub limit_of : Sorter K V → Option K
+  limit_of s = s.limit
+
+  -- The greatest key of all rounds.
+  abbrev pub greatest_of : Sorter K V → Option K
+  greatest_of s = s.greatest
+
+  pub record IsNew (s : Sorter K V) : Type 0 where
+    pub empty : held_of s ≡ []
+    pub limit : limit_of s ≡ None
+    pub greatest : greatest_of s ≡ None
+
+  pub record IsUnchanged (old new : Sorter K V) : Type 0 where
+    pub available : available_of new ≡ available_of old
+    pub pending : pending_of new ≡ pending_of old
+    pub held : held_of new ≡ held_of old
+    pub limit : limit_of new ≡ limit_of old
+    pub greatest : greatest_of new ≡ greatest_of old
+
+  abbrev pub TestsAvailable : Sorter K V → Bool → Type 0
+  TestsAvailable s true = 0 < length (available_of s)
+  TestsAvailable s false = available_of s ≡ []
+
+  -- The next available value was returned.
+  pub record Returned (old : Sorter K V) (key : K) (value : V) (new : Sorter K V) : Type 0 where
+    pub available : available_of old ≡ (key, value) ∷ available_of new
+    pub pending : pending_of new ≡ pending_of old
+    pub limit : limit_of new ≡ limit_of old
+    pub greatest : greatest_of new ≡ greatest_of old
+
+  abbrev pub TakesNext : Sorter K V → Option V → Sorter K V → Type 0
+  TakesNext old None new = (available_of old ≡ []) × IsUnchanged old new
+  TakesNext old (Some value) new = (key : K) × Returned old key value new
+
+  module _ (cmp : K → K → Ordering) where
+    -- The entry is the last of those that are pending.
+    pub record Inserted (old : Sorter K V) (key : K) (value : V) (new : Sorter K V) : Type 0 where
+      pub available : available_of new ≡ available_of old
+      pub pending : pending_of new ≡ pending_of old ++ (key, value) ∷ []
+      pub limit : limit_of new ≡ limit_of old
+      pub greatest : greatest_of new ≡ Some (greatest_with cmp (greatest_of old) key)
+
+    abbrev pub InsertsEntry : Sorter K V → K → V → Result (Unit {0}) (AllocFailed (K × V)) → Sorter K V → Type 0
+    InsertsEntry old key value (Ok done) new = Inserted old key value new
+    InsertsEntry old key value (Err e) new = (e.value ≡ (key, value)) × IsUnchanged old new
+
+    -- The entries that the sorter contains were sorted, and the rest is unchanged.
+    pub record HeldSorted (old new : Sorter K V) : Type 0 where
+      pub sorts : SortsEntries cmp (held_of old) (held_of new)
+      pub limit : limit_of new ≡ limit_of old
+      pub greatest : greatest_of new ≡ greatest_of old
+
+    abbrev pub SortsHeld : Sorter K V → Result (Unit {0}) AllocError → Sorter K V → Type 0
+    SortsHeld old (Ok done) new = HeldSorted old new
+    SortsHeld old (Err e) new = IsUnchanged old new
+
+    -- A round ended: the entries within the greatest key of the rounds before it are available.
+    pub record RoundEnded (old new : Sorter K V) : Type 0 where
+      pub sorts : SortsEntries cmp (held_of old) (held_of new)
+      pub available : All (λ e. is_within cmp (limit_of old) e ≡ true) (available_of new)
+      pub pending : All (λ e. is_within cmp (limit_of old) e ≡ false) (pending_of new)
+      pub limit : limit_of new ≡ greatest_of old
+      pub greatest : greatest_of new ≡ greatest_of old
+
+    abbrev pub EndsRound : Sorter K V → Result (Unit {0}) AllocError → Sorter K V → Type 0
+    EndsRound old (Ok done) new = RoundEnded old new
+    EndsRound old (Err e) new = IsUnchanged old new
+
+    -- All rounds ended: all entries are available.
+    pub record AllRoundsEnded (old new : Sorter K V) : Type 0 where
+      pub sorts : SortsEntries cmp (held_of old) (held_of new)
+      pub pending : pending_of new ≡ []
+      pub limit : limit_of new ≡ greatest_of old
+      pub greatest : greatest_of new ≡ greatest_of old
+
+    abbrev pub EndsAllRounds : Sorter K V → Result (Unit {0}) AllocError → Sorter K V → Type 0
+    EndsAllRounds old (Ok done) new = AllRoundsEnded old new
+    EndsAllRounds old (Err e) new = IsUnchanged old new

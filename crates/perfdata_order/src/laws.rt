@@ -1,0 +1,13 @@
+//! Laws of values in order.
+ghost use Rattle.perfdata_order.specs.SorterLaws.{AscendsUnderRule, KeepsInsertionOrder, ReturnsEachOnce, RunsAscend};
+
+/// A [`Sorter`](crate::sorter::Sorter) returns each inserted value once. Equal keys keep the order of insertion, and consecutive
+/// calls of `get_next` ascend.
+///
+/// All returned values ascend if no key of round n + 2 or later is smaller than a key of round n.
+pub fn sorter<K: Ord, V>()
+    ensures each_once { ReturnsEachOnce V K.cmp }
+    ensures insertion_order { KeepsInsertionOrder V K.cmp }
+    ensures runs_ascend { RunsAscend V K.cmp }
+    ensures ascends_under_rule { AscendsUnderRule V K.cmp }
+{}

@@ -1,0 +1,151 @@
+//! Values in order of their keys, made available as rounds end.
+ghost use Rattle.std.specs.Prelude.{◌≡◌, ◌≤◌, length, take, drop, All, true, false};
+ghost use Rattle.std.specs.VecDeque.{deque_len};
+ghost use Rattle.perfdata_order.specs.Order.{Ascends, greatest_with, is_within};
+
+use std::alloc::{AllocError, AllocFailed, Global};
+use std::collections::VecDeque;
+
+/// Sorts values that are inserted in rounds.
+///
+/// Once a round ends, the values whose keys are at most the greatest key of the rounds before it are available, in ascending
+/// order of their keys. Values with equal keys are returned in the order in which they were inserted.
+#[derive(Drop)]
+pub struct Sorter<K, V> {
+    alloc: Global,
+    held: VecDeque<(K, V)>,
+    available: usize,
+    limit: Option<K>,
+    greatest: Option<K>,
+    ghost in_range: { available ≤ deque_len held },
+}
+
+impl<K, V> Sorter<K, V> {
+    ghost use Rattle.perfdata_order.specs.Sorter.{IsNew, TestsAvailable};
+
+    /// Returns a sorter without values, which allocates with `alloc`.
+    pub fn new(alloc: Global) -> Sorter<K, V>
+        ensures { IsNew result }
+    {
+        Sorter {
+            alloc,
+            held: VecDeque::new(alloc),
+            available: 0,
+            limit: None,
+            greatest: None,
+        }
+    }
+
+    /// Returns whether `get_next` returns a value.
+    pub fn has_more(&self) -> bool
+        ensures { TestsAvailable self.now result }
+    {
+        self.available > 0
+    }
+}
+
+// The greater of the greatest key so far and one more key.
+fn greatest_key<K: Ord + Copy>(greatest: Option<K>, key: K) -> K
+    ensures { result ≡ greatest_with K.cmp greatest key }
+{
+    match greatest {
+        Some(greatest) => {
+            if greatest.cmp(&key).is_le() {
+                key
+            } else {
+                greatest
+            }
+        }
+        None => key,
+    }
+}
+
+impl<K: Ord + Copy, V> Sorter<K, V> {
+    ghost use Rattle.perfdata_order.specs.Sorter.{held_of, limit_of, InsertsEntry, SortsHeld, EndsRound, EndsAllRounds, TakesNext};
+
+    /// Inserts a value into the current round.
+    ///
+    /// # Errors
+    ///
+    /// If memory runs out, the error contains the key and the value, and the sorter is unchanged.
+    pub fn insert_unordered(&mut self, key: K, value: V) -> Result<(), AllocFailed<(K, V)>>
+        ensures { InsertsEntry K.cmp self.old key value result self.new }
+    {
+        match self.held.push_back((key, value)) {
+            Ok(()) => {
+                self.greatest = Some(greatest_key(self.greatest, key));
+                Ok(())
+            }
+            Err(error) => Err(error),
+        }
+    }
+
+    // Sorts all values by their keys. Equal keys keep their order.
+    fn sort_held(&mut self) -> Result<(), AllocError>
+        ensures { SortsHeld K.cmp self.old result self.new }
+    {
+        let alloc = self.alloc;
+        let held = self.held.make_contiguous();
+        match held.sort_by_key(alloc, |entry| entry.0) {
+            Ok(()) => Ok(()),
+            Err(error) => Err(error),
+        }
+    }
+
+    // The number of values, from the first, whose keys are at most the limit.
+    fn count_within_limit(&self) -> usize
+        requires { Ascends K.cmp (held_of self.now) }
+        ensures in_range { result ≤ length (held_of self.now) }
+        ensures within { All (λ e. is_within K.cmp (limit_of self.now) e ≡ true) (take result (held_of self.now)) }
+        ensures beyond { All (λ e. is_within K.cmp (limit_of self.now) e ≡ false) (drop result (held_of self.now)) }
+    {
+        match self.limit {
+            Some(limit) => self
+                .held
+                .partition_point(|entry| entry.0.cmp(&limit).is_le()),
+            None => 0,
+        }
+    }
+
+    /// Ends the current round: the values whose keys are at most the greatest key of the rounds before it are available.
+    ///
+    /// All values that the sorter contains are sorted, so take the available ones before the next round ends.
+    ///
+    /// # Errors
+    ///
+    /// If memory runs out, the sorter is unchanged, and the call can be repeated.
+    pub fn finish_round(&mut self) -> Result<(), AllocError>
+        ensures { EndsRound K.cmp self.old result self.new }
+    {
+        self.sort_held()?;
+        self.available = self.count_within_limit();
+        self.limit = self.greatest;
+        Ok(())
+    }
+
+    /// Ends all rounds: all values are available.
+    ///
+    /// # Errors
+    ///
+    /// If memory runs out, the sorter is unchanged, and the call can be repeated.
+    pub fn finish(&mut self) -> Result<(), AllocError>
+        ensures { EndsAllRounds K.cmp self.old result self.new }
+    {
+        self.sort_held()?;
+        self.available = self.held.len();
+        self.limit = self.greatest;
+        Ok(())
+    }
+
+    /// Removes and returns the next available value.
+    pub fn get_next(&mut self) -> Option<V>
+        ensures { TakesNext self.old result self.new }
+    {
+        if self.available == 0 {
+            return None;
+        }
+        let (_key, value) = self.held.pop_front()?;
+        self.available -= 1;
+        Some(value)
+    }
+}
