@@ -7,7 +7,7 @@ use Rattle.perfdata_order.specs.declared.sorter.Sorter.{Sorter}
 use Rattle.perfdata_order.specs.Order.{IsAtMost, Ascends}
 use Rattle.perfdata_order.specs.Sorter.{held_of, available_of, IsNew}
 use Rattle.perfdata_order.specs.SorterLaws.{Call, returns_each, MakesCalls, RunsAscend}
-use Rattle.perfdata_order.specs.SorterLaws.Call.{inserts, ends_round, ends_all, returns}
+use Rattle.perfdata_order.specs.SorterLaws.Call.{inserts, ends_round, ends_all, returns, keeps}
 
 pub all_prefix : {X : Type 0} (P : X → Type 0) (xs ys : List X) → All P (xs ++ ys) → All P xs
 all_prefix P [] ys all = All-nil P
@@ -57,6 +57,8 @@ module _ {K V : Type 0} (cmp : K → K → Ordering) where
   available_ascends (returns k v ∷ calls) first last up (next, call, made) =
       let whole = subst (λ es. Ascends cmp es) call.available up in
       available_ascends calls next last whole.1 made
+  available_ascends (keeps ∷ calls) first last up (next, call, made) =
+      available_ascends calls next last (subst (λ es. Ascends cmp es) (sym call.available) up) made
 
   run_is_available : (run : List (K × V)) (first last : Sorter K V) → MakesCalls cmp (returns_each run) first last → available_of first ≡ run ++ available_of last
   run_is_available [] first last made = ap (λ s. available_of s) (sym made)

@@ -10,9 +10,9 @@ use Rattle.std.proofs.lemmas.List.Elements.{All-nil, All-head, All-tail, All-app
 use Rattle.std.proofs.lemmas.List.Sorted.{All-permutation}
 use Rattle.perfdata_order.specs.declared.sorter.Sorter.{Sorter}
 use Rattle.perfdata_order.specs.Order.{IsAtMost, Ascends, is_within, greatest_with, SortsEntries}
-use Rattle.perfdata_order.specs.Sorter.{held_of, available_of, pending_of, limit_of, greatest_of, IsNew, Returned, Inserted, RoundEnded, AllRoundsEnded}
+use Rattle.perfdata_order.specs.Sorter.{held_of, available_of, pending_of, limit_of, greatest_of, IsNew, IsUnchanged, Returned, Inserted, RoundEnded, AllRoundsEnded}
 use Rattle.perfdata_order.specs.SorterLaws.{Call, returned_by, inserted_in_rounds, MakesCalls, KeepsRoundRule, AscendsUnderRule}
-use Rattle.perfdata_order.specs.SorterLaws.Call.{inserts, ends_round, ends_all, returns}
+use Rattle.perfdata_order.specs.SorterLaws.Call.{inserts, ends_round, ends_all, returns, keeps}
 use Rattle.perfdata_order.proofs.Sorting.{le_trans}
 use Rattle.perfdata_order.proofs.AscendingRuns.{all_prefix, all_suffix, if_some_weaker, AllAtMost, ascends_prefix, ascends_between, ascends_append}
 
@@ -154,6 +154,19 @@ module _ {K V : Type 0} {cmp : K → K → Ordering} (o : IsTotalOrder cmp) wher
         rule = h.rule;
       }
 
+  kept_in_order : (n : ℕ) (outs : List (K × V)) (s next : Sorter K V) (future : List (ℕ × (K × V))) → IsUnchanged s next → InOrder n outs s future → InOrder n outs next future
+  kept_in_order n outs s next future call h =
+      let same : outs ++ available_of s ≡ outs ++ available_of next = ap (λ a. outs ++ a) (sym call.available) in
+      record {
+        ascends = subst (λ es. Ascends cmp es) same h.ascends;
+        before_pending = subst (λ es. AllAtMost cmp es (pending_of next)) same (subst (λ es. AllAtMost cmp (outs ++ available_of s) es) (sym call.pending) h.before_pending);
+        before_future = subst (λ es. All (λ x. AtMostFrom n x.0 future) es) same h.before_future;
+        pending_rule = subst (λ es. All (λ x. AtMostFrom (n + 2) x.0 future) es) (sym call.pending) h.pending_rule;
+        limit_rule = subst (λ l. IfSome l (λ l. AtMostFrom (n + 1) l future)) (sym call.limit) h.limit_rule;
+        greatest_rule = subst (λ l. IfSome l (λ l. AtMostFrom (n + 2) l future)) (sym call.greatest) h.greatest_rule;
+        rule = h.rule;
+      }
+
   ascends_from : (n : ℕ) (outs : List (K × V)) (calls : List (Call K V)) (first last : Sorter K V) → MakesCalls cmp calls first last →
       InOrder n outs first (inserted_in_rounds n calls) → Ascends cmp (outs ++ returned_by calls)
   ascends_from n outs [] first last made h = subst (λ es. Ascends cmp es) (sym (append-nil outs)) (ascends_prefix cmp outs (available_of first) h.ascends)
@@ -166,6 +179,8 @@ module _ {K V : Type 0} {cmp : K → K → Ordering} (o : IsTotalOrder cmp) wher
   ascends_from n outs (returns k v ∷ calls) first last (next, call, made) h =
       subst (λ es. Ascends cmp es) (append_assoc outs ((k, v) ∷ []) (returned_by calls))
       (ascends_from n (outs ++ (k, v) ∷ []) calls next last made (returned_in_order n outs first next k v (inserted_in_rounds n calls) call h))
+  ascends_from n outs (keeps ∷ calls) first last (next, call, made) h =
+      ascends_from n outs calls next last made (kept_in_order n outs first next (inserted_in_rounds n calls) call h)
 
   new_in_order : (s : Sorter K V) (future : List (ℕ × (K × V))) → IsNew s → KeepsRoundRule cmp future → InOrder 0 [] s future
   new_in_order s future new rule =

@@ -10,18 +10,18 @@ use Rattle.std.proofs.lemmas.List.Sorted.{IsPermutation-refl, IsPermutation-tran
 use Rattle.perfdata_order.specs.declared.sorter.Sorter.{Sorter}
 use Rattle.perfdata_order.specs.Sorter.{held_of, available_of, pending_of, Returned, Inserted}
 use Rattle.perfdata_order.specs.SorterLaws.{Call, inserted_by, returned_by, MakesCalls, ReturnsEachOnce, KeepsInsertionOrder}
-use Rattle.perfdata_order.specs.SorterLaws.Call.{inserts, ends_round, ends_all, returns}
+use Rattle.perfdata_order.specs.SorterLaws.Call.{inserts, ends_round, ends_all, returns, keeps}
 
 module _ {K V : Type 0} where
   held_split : (s : Sorter K V) → available_of s ++ pending_of s ≡ held_of s
   held_split s = take-append-drop s.available s.held.items
 
-  held_after_insert : {cmp : K → K → Ordering} (old new : Sorter K V) (k : K) (v : V) → Inserted cmp old k v new → held_of new ≡ held_of old ++ (k, v) ∷ []
+  pub held_after_insert : {cmp : K → K → Ordering} (old new : Sorter K V) (k : K) (v : V) → Inserted cmp old k v new → held_of new ≡ held_of old ++ (k, v) ∷ []
   held_after_insert old new k v done =
       sym (held_split new) ∙ ap (λ a. a ++ pending_of new) done.available ∙ ap (λ p. available_of old ++ p) done.pending
       ∙ sym (append_assoc (available_of old) (pending_of old) ((k, v) ∷ [])) ∙ ap (λ h. h ++ (k, v) ∷ []) (held_split old)
 
-  held_before_return : (old new : Sorter K V) (k : K) (v : V) → Returned old k v new → held_of old ≡ (k, v) ∷ held_of new
+  pub held_before_return : (old new : Sorter K V) (k : K) (v : V) → Returned old k v new → held_of old ≡ (k, v) ∷ held_of new
   held_before_return old new k v done =
       sym (held_split old) ∙ ap (λ a. a ++ pending_of old) done.available ∙ ap (λ p. ((k, v) ∷ available_of new) ++ p) (sym done.pending)
       ∙ ap (λ h. (k, v) ∷ h) (held_split new)
@@ -49,6 +49,8 @@ module _ {K V : Type 0} where
     each_once_from (returns k v ∷ calls) first last (next, call, made) =
         subst (λ h. IsPermutation (h ++ inserted_by calls) ((k, v) ∷ (returned_by calls ++ held_of last))) (sym (held_before_return first next k v call))
         (IsPermutation-cons (k, v) (held_of next ++ inserted_by calls) (returned_by calls ++ held_of last) (each_once_from calls next last made))
+    each_once_from (keeps ∷ calls) first last (next, call, made) =
+        subst (λ h. IsPermutation (h ++ inserted_by calls) (returned_by calls ++ held_of last)) call.held (each_once_from calls next last made)
 
     -- Whether the keys are equal.
     abbrev same_key : K × V → K × V → Bool
@@ -70,6 +72,8 @@ module _ {K V : Type 0} where
     same_order_from e (returns k v ∷ calls) first last (next, call, made) =
         subst (λ h. filter (same_key e) ((k, v) ∷ (returned_by calls ++ held_of last)) ≡ filter (same_key e) (h ++ inserted_by calls)) (sym (held_before_return first next k v call))
         (ap (λ zs. cond (same_key e (k, v)) ((k, v) ∷ zs) zs) (same_order_from e calls next last made))
+    same_order_from e (keeps ∷ calls) first last (next, call, made) =
+        subst (λ h. filter (same_key e) (returned_by calls ++ held_of last) ≡ filter (same_key e) (h ++ inserted_by calls)) call.held (same_order_from e calls next last made)
 
 pub returns_each_once : {K : Type 0} (V : Type 0) (cmp : K → K → Ordering) → ReturnsEachOnce V cmp
 returns_each_once V cmp first last calls new made =

@@ -5,14 +5,15 @@ use Rattle.std.specs.Ordering.{is_lt}
 use Rattle.std.specs.List.Sorted.{IsPermutation, ties}
 use Rattle.perfdata_order.specs.declared.sorter.Sorter.{Sorter}
 use Rattle.perfdata_order.specs.Order.{IsAtMost, Ascends}
-use Rattle.perfdata_order.specs.Sorter.{held_of, IsNew, Returned, Inserted, RoundEnded, AllRoundsEnded}
+use Rattle.perfdata_order.specs.Sorter.{held_of, IsNew, IsUnchanged, Returned, Inserted, RoundEnded, AllRoundsEnded}
 
--- A call that succeeded. A failed call leaves the sorter unchanged.
+-- The effect of a call. `keeps` is a call that failed, or that found no value available.
 pub data Call (K V : Type 0) : Type 0 where
   inserts : K → V → Call K V
   ends_round : Call K V
   ends_all : Call K V
   returns : K → V → Call K V
+  keeps : Call K V
 
 module _ {K V : Type 0} where
   -- The inserted entries, in the order of the calls.
@@ -22,6 +23,7 @@ module _ {K V : Type 0} where
   inserted_by (ends_round ∷ calls) = inserted_by calls
   inserted_by (ends_all ∷ calls) = inserted_by calls
   inserted_by (returns k v ∷ calls) = inserted_by calls
+  inserted_by (keeps ∷ calls) = inserted_by calls
 
   -- The returned entries, in the order of the calls.
   abbrev pub returned_by : List (Call K V) → List (K × V)
@@ -30,6 +32,7 @@ module _ {K V : Type 0} where
   returned_by (ends_round ∷ calls) = returned_by calls
   returned_by (ends_all ∷ calls) = returned_by calls
   returned_by (returns k v ∷ calls) = (k, v) ∷ returned_by calls
+  returned_by (keeps ∷ calls) = returned_by calls
 
   -- The inserted entries with the number of rounds that ended before each, from the given number on. The end of all rounds
   -- counts as two.
@@ -39,6 +42,7 @@ module _ {K V : Type 0} where
   inserted_in_rounds n (ends_round ∷ calls) = inserted_in_rounds (n + 1) calls
   inserted_in_rounds n (ends_all ∷ calls) = inserted_in_rounds (n + 2) calls
   inserted_in_rounds n (returns k v ∷ calls) = inserted_in_rounds n calls
+  inserted_in_rounds n (keeps ∷ calls) = inserted_in_rounds n calls
 
   -- Consecutive calls that return these entries.
   abbrev pub returns_each : List (K × V) → List (Call K V)
@@ -50,6 +54,7 @@ module _ {K V : Type 0} where
     MakesCall ends_round old new = RoundEnded cmp old new
     MakesCall ends_all old new = AllRoundsEnded cmp old new
     MakesCall (returns k v) old new = Returned old k v new
+    MakesCall keeps old new = IsUnchanged old new
 
     -- Consecutive calls led from one state to the other.
     abbrev pub MakesCalls : List (Call K V) → Sorter K V → Sorter K V → Type 0

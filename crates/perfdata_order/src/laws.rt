@@ -1,4 +1,5 @@
-//! Laws of values in order.
+//! Laws of values and of records in order.
+ghost use Rattle.perfdata_order.specs.InMemoryLaws.{CallsSorterInTurn, ReadsRecordsOfInput, ReturnsEachRecordOnce, TimesAscendUnderRule};
 ghost use Rattle.perfdata_order.specs.SorterLaws.{AscendsUnderRule, KeepsInsertionOrder, ReturnsEachOnce, RunsAscend};
 
 /// A [`Sorter`](crate::sorter::Sorter) returns each inserted value once. Equal keys keep the order of insertion, and consecutive
@@ -10,4 +11,13 @@ pub fn sorter<K: Ord, V>()
     ensures insertion_order { KeepsInsertionOrder V K.cmp }
     ensures runs_ascend { RunsAscend V K.cmp }
     ensures ascends_under_rule { AscendsUnderRule V K.cmp }
+{}
+
+/// Over an input in memory, each record that the iterator over the input returns is returned once, or is still held. The timed
+/// records are those of a sorter, so its laws apply to them.
+pub fn in_memory()
+    ensures each_once { ReturnsEachRecordOnce }
+    ensures of_input { ReadsRecordsOfInput }
+    ensures sorter_calls { CallsSorterInTurn }
+    ensures times_ascend { TimesAscendUnderRule }
 {}

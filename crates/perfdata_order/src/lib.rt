@@ -4,5 +4,6 @@
 //! end one after another.
 #![tactic(auto)]
 
+pub mod in_memory;
 pub mod laws;
 pub mod sorter;

@@ -1,0 +1,9 @@
+use Rattle.std.proofs.Common.{◌+◌, ◌-◌, ◌*◌, ◌^◌}
+use Rattle.perfdata_order.specs.InMemoryOrder.{Progress, pending_records}
+use Rattle.perfdata_order.proofs.in_memory.InMemoryOrderedRecords.next_record.Given as goal
+
+abbrev pub invariant-reads : goal.invariant-reads
+invariant-reads l = Progress l.fn.self l.fn.perf_file l.self l.perf_file
+
+abbrev pub decreases-reads : goal.decreases-reads
+decreases-reads l = 2 * (2 ^ 64 - l.self.records.iter.offset) + pending_records l.self.pending

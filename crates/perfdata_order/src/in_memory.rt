@@ -1,0 +1,200 @@
+//! The records of an input in memory, in order of time.
+ghost use Rattle.std.specs.Prelude.{◌≡◌};
+ghost use Rattle.perfdata_order.specs.Times.{time_key_of};
+
+use crate::sorter::Sorter;
+use linux_perf_data::in_memory::InMemoryRecords;
+use linux_perf_data::{Error, PerfFile, PerfFileRecord, RecordPlace};
+use std::alloc::{AllocError, Global};
+use std::mem::replace;
+
+// What was read from the input, and isn't in the sorter.
+#[derive(Drop)]
+pub(crate) enum Pending<'a> {
+    Nothing,
+    Record(u64, RecordPlace, PerfFileRecord<'a>),
+    End,
+    Failure(Error),
+}
+
+/// Returns the records of an input in memory in order of time. No byte of a record is copied.
+///
+/// A record is timed if its timestamp is neither missing, nor 0, nor 2^64 - 1, which stand for no time. Records without a time
+/// are returned as soon as they are read, before all timed records that were read before them.
+///
+/// The timed records ascend as long as the recording keeps perf's rule: no record of round n + 2 or of a later round is older
+/// than a record of round n. The records of two rounds are held, as references into the input. If the recording has no rounds,
+/// all timed records are held. Equal timestamps keep the order of the input.
+#[derive(Drop)]
+pub struct InMemoryOrderedRecords<'a> {
+    records: InMemoryRecords<'a>,
+    sorter: Sorter<u64, (RecordPlace, PerfFileRecord<'a>)>,
+    round: u64,
+    pending: Pending<'a>,
+}
+
+// The time that a record is sorted by. 0 and 2^64 - 1 stand for no time.
+fn time_key(place: RecordPlace) -> Option<u64>
+    ensures { result ≡ time_key_of place }
+{
+    match place.timestamp {
+        Some(time) => {
+            if time == 0 || time == u64::MAX {
+                None
+            } else {
+                Some(time)
+            }
+        }
+        None => None,
+    }
+}
+
+impl<'a> InMemoryOrderedRecords<'a> {
+    ghost use Rattle.perfdata_order.specs.InMemoryOrder.{EndsRoundsBefore, IsNewOrder, PlacesPending, ReadsNext, ReturnsInOrder, TakesEnd};
+
+    /// Returns the records of `records` in order of time. The order allocates with `alloc`.
+    pub fn new(alloc: Global, records: InMemoryRecords<'a>) -> InMemoryOrderedRecords<'a>
+        ensures { IsNewOrder records.entry result }
+    {
+        InMemoryOrderedRecords {
+            records,
+            sorter: Sorter::new(alloc),
+            round: 0,
+            pending: Pending::Nothing,
+        }
+    }
+
+    // Reads the next record, unless something is pending. Returns it if it has no time.
+    fn read(&mut self, perf_file: &mut PerfFile) -> Option<(RecordPlace, PerfFileRecord<'a>)>
+        ensures { ReadsNext self.old perf_file.old result self.new perf_file.new }
+    {
+        match self.pending {
+            Pending::Nothing => {}
+            _ => return None,
+        }
+        match self.records.next_record(perf_file) {
+            Ok(Some((place, record))) => match time_key(place) {
+                Some(key) => {
+                    self.pending = Pending::Record(key, place, record);
+                    None
+                }
+                None => Some((place, record)),
+            },
+            Ok(None) => {
+                self.pending = Pending::End;
+                None
+            }
+            Err(error) => {
+                self.pending = Pending::Failure(error);
+                None
+            }
+        }
+    }
+
+    // Ends the rounds before the round of the pending record.
+    fn end_rounds(&mut self, round: u64) -> Result<(), AllocError>
+        ensures { EndsRoundsBefore self.old round result self.new }
+    {
+        let ended = round.saturating_sub(self.round);
+        if ended == 0 {
+            return Ok(());
+        }
+        if ended == 1 {
+            self.sorter.finish_round()?;
+        } else {
+            self.sorter.finish()?;
+        }
+        self.round = round;
+        Ok(())
+    }
+
+    // Inserts the pending record into the sorter, after the rounds before its own ended.
+    fn place_record(
+        &mut self,
+        key: u64,
+        place: RecordPlace,
+        found: PerfFileRecord<'a>,
+    ) -> Result<(), AllocError>
+        requires { self.old.pending ≡ Pending.Record key place found }
+        ensures { PlacesPending self.old result self.new }
+    {
+        match self.end_rounds(place.round) {
+            Ok(()) => {}
+            Err(error) => return Err(error),
+        }
+        match self.sorter.insert_unordered(key, (place, found)) {
+            Ok(()) => {
+                self.pending = Pending::Nothing;
+                Ok(())
+            }
+            Err(_) => Err(AllocError),
+        }
+    }
+
+    // Puts what is pending into the sorter. At the end of the input, all rounds end.
+    fn place_pending(&mut self) -> Result<(), AllocError>
+        ensures { PlacesPending self.old result self.new }
+    {
+        match self.pending {
+            Pending::Nothing => Ok(()),
+            Pending::Record(key, place, record) => self.place_record(key, place, record),
+            Pending::End => self.sorter.finish(),
+            Pending::Failure(_) => self.sorter.finish(),
+        }
+    }
+
+    // Returns the end of the input or its error, if it is pending. The error is then no longer pending.
+    fn take_end(&mut self) -> Option<Result<(), Error>>
+        ensures { TakesEnd self.old result self.new }
+    {
+        match self.pending {
+            Pending::Nothing => None,
+            Pending::Record(_, _, _) => None,
+            Pending::End => Some(Ok(())),
+            Pending::Failure(_) => match replace(&mut self.pending, Pending::Nothing) {
+                Pending::Failure(error) => Some(Err(error)),
+                _ => None,
+            },
+        }
+    }
+
+    /// Returns the next record in order of time with its [`RecordPlace`], or `Ok(None)` at the end of the records.
+    ///
+    /// The attribute and the timestamp of a record are determined as it is read. `perf_file` contains the metadata of all
+    /// records that were read, which may come after the returned record.
+    ///
+    /// # Errors
+    ///
+    /// An error of the input is returned after all records before it, once. Each later call returns [`Error::Failed`].
+    /// [`Error::Memory`] is also returned if memory runs out for the order. Then nothing is lost, and the call can be repeated.
+    pub fn next_record(
+        &mut self,
+        perf_file: &mut PerfFile,
+    ) -> Result<Option<(RecordPlace, PerfFileRecord<'a>)>, Error>
+        ensures { ReturnsInOrder self.old perf_file.old result self.new perf_file.new }
+    {
+        match self.sorter.get_next() {
+            Some(next) => return Ok(Some(next)),
+            None => {}
+        }
+        'reads: loop {
+            match self.read(perf_file) {
+                Some(untimed) => return Ok(Some(untimed)),
+                None => {}
+            }
+            match self.place_pending() {
+                Ok(()) => {}
+                Err(error) => return Err(Error::from(error)),
+            }
+            match self.sorter.get_next() {
+                Some(next) => return Ok(Some(next)),
+                None => {}
+            }
+            match self.take_end() {
+                Some(Ok(())) => return Ok(None),
+                Some(Err(error)) => return Err(error),
+                None => {}
+            }
+        }
+    }
+}
