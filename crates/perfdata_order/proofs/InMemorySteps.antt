@@ -10,7 +10,7 @@ use Rattle.linux_perf_data.specs.declared.records.iter.Stage.{Stage}
 use Rattle.linux_perf_data.specs.declared.records.iter.Stage.TheVariants.{Running, Failed, Ended}
 use Rattle.linux_perf_data.specs.Layout.{RecordView}
 use Rattle.linux_perf_data.specs.declared.in_memory.InMemoryRecords.{InMemoryRecords}
-use Rattle.linux_perf_data.specs.Iter.{record_view_of}
+use Rattle.linux_perf_data.specs.RecordViews.{record_view_of}
 use Rattle.linux_perf_data.specs.InMemoryReading.{ReturnsRecordsInMemory}
 use Rattle.perfdata_order.specs.declared.in_memory.Pending.TheVariants.{Nothing, Record, End, Failure}
 use Rattle.perfdata_order.specs.declared.in_memory.InMemoryOrderedRecords.{InMemoryOrderedRecords}
