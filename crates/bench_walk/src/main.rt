@@ -1,13 +1,17 @@
 //! Counts records without printing them, for `bench/run`. `bench_walk file PATH`, `bench_walk pipe` and `bench_walk jit PATH`
-//! read an input as perflist does. `bench_walk paused PATH PAUSES` reads a jitdump that arrives in parts, with a pause after
-//! each.
+//! read an input as perflist does. `bench_walk decode PATH` also parses the samples of a file and adds up their fields.
+//! `bench_walk paused PATH PAUSES` reads a jitdump that arrives in parts, with a pause after each.
 #![tactic(auto)]
 
+use linux_perf_data::event::RecordType;
 use linux_perf_data::jitdump::JitDumpReader;
 use linux_perf_data::source::{Script, Source, Step};
-use linux_perf_data::{Error, PerfFileReader};
+use linux_perf_data::{Error, PerfFile, PerfFileReader, PerfFileRecord};
 use perfdata_cli::args::{Command, parse_args};
 use perfdata_cli::input::{open_file, open_stdin};
+use perfdata_events::event::EventRecord;
+use perfdata_events::format::EventFormat;
+use perfdata_events::sample::SampleRecord;
 use std::alloc::{AllocError, Global};
 use std::{env, fs, io};
 
@@ -23,6 +27,75 @@ fn count_records<R: Source + Drop>(reader: PerfFileReader<R>) -> Result<u64, Err
         count = count.saturating_add(1);
     }
     Ok(count)
+}
+
+/// The number of samples, and the sum of their fields.
+#[derive(Clone, Copy)]
+struct SampleSum {
+    count: u64,
+    sum: u64,
+}
+
+/// Returns the sum of a sample's fields of one number each.
+fn sum_of(sample: &SampleRecord<'_>) -> u64 {
+    let task = match sample.task {
+        Some(task) => (task.pid.cast_unsigned() as u64).wrapping_add(
+            task.tid.cast_unsigned() as u64,
+        ),
+        None => 0,
+    };
+    sample
+        .identifier
+        .unwrap_or(0)
+        .wrapping_add(sample.ip.unwrap_or(0))
+        .wrapping_add(task)
+        .wrapping_add(sample.timestamp.unwrap_or(0))
+        .wrapping_add(sample.cpu.unwrap_or(0) as u64)
+        .wrapping_add(sample.period.unwrap_or(0))
+}
+
+/// Returns the format of each event.
+fn event_formats(alloc: Global, file: &PerfFile) -> Result<Vec<EventFormat>, AllocError> {
+    let mut formats = Vec::new(alloc);
+    for event in file.event_attributes() {
+        formats.push(EventFormat::new(event.attributes(), file.endian()))?;
+    }
+    Ok(formats)
+}
+
+/// Parses a record if it is a sample, and adds up its fields.
+fn add_sample(sums: &mut SampleSum, formats: &[EventFormat], record: &PerfFileRecord<'_>) {
+    let PerfFileRecord::EventRecord { attr_index, event } = record else {
+        return;
+    };
+    if event.record_type != RecordType::SAMPLE {
+        return;
+    }
+    let Some(format) = formats.get(*attr_index) else {
+        return;
+    };
+    if let Ok(EventRecord::Sample(sample)) = format.parse(event) {
+        sums.count = sums.count.wrapping_add(1);
+        sums.sum = sums.sum.wrapping_add(sum_of(&sample));
+    }
+}
+
+/// Parses the samples of a file, and adds up their fields.
+fn sum_samples<R: Source + Drop>(
+    alloc: Global,
+    reader: PerfFileReader<R>,
+) -> Result<SampleSum, Error> {
+    let mut perf_file = reader.perf_file;
+    let mut records = reader.record_iter;
+    let formats = event_formats(alloc, &perf_file)?;
+    let mut sums = SampleSum { count: 0, sum: 0 };
+    for _ in 0..u64::MAX {
+        let Some((_, record)) = records.next_record(&mut perf_file)? else {
+            break;
+        };
+        add_sample(&mut sums, &formats, &record);
+    }
+    Ok(sums)
 }
 
 /// Counts the records of a jitdump. Counting continues after the first `pauses` results of `Ok(None)`.
@@ -67,7 +140,28 @@ fn count_paused(rt: &HostRuntime) -> anyhow::Result<u64> {
     Ok(count_jit_records(JitDumpReader::new(rt.alloc(), source)?, pauses)?)
 }
 
+/// Parses the samples of the file of the arguments `decode PATH`; `None` if these aren't the arguments.
+fn decode(rt: &HostRuntime) -> anyhow::Result<Option<SampleSum>> {
+    let mut args = env::args(rt)?.skip(1);
+    let Some(verb) = args.next() else {
+        return Ok(None);
+    };
+    let Some(path) = args.next() else {
+        return Ok(None);
+    };
+    if verb.as_str() != "decode" {
+        return Ok(None);
+    }
+    let file = open_file(rt, path.as_str())?;
+    let reader = PerfFileReader::parse_file(rt.alloc(), file)?;
+    Ok(Some(sum_samples(rt.alloc(), reader)?))
+}
+
 fn main(rt: HostRuntime) -> anyhow::Result<()> {
+    if let Some(sums) = decode(&rt)? {
+        println!(rt; "{} samples, sum {}", sums.count, sums.sum)?;
+        return Ok(());
+    }
     let alloc = rt.alloc();
     let count = match parse_args(&rt) {
         Ok(Command::File(path)) => {
