@@ -77,6 +77,7 @@ impl<'a> InMemoryRecords<'a> {
     ///
     /// The errors are those of `PerfRecordIter::next_record`. A record needs no memory: [`Error::Memory`] is returned for a
     /// pipe only, if memory runs out for the metadata in a record.
+    #[inline(always)]
     pub fn next_record(
         &mut self,
         perf_file: &mut PerfFile,

@@ -37,6 +37,7 @@ const _: () = prove!(size_of::<Record>() == 56);
 /// Returns the entry of a record.
 ///
 /// `first_record_offset` is the offset of the first record in the input, in bytes.
+#[inline(always)]
 pub(crate) fn record_entry(
     first_record_offset: u64,
     place: RecordPlace,

@@ -33,6 +33,8 @@ fn end_or_error<'a>(input: Input, error: Error) -> Result<RawRecord<'a>, Error>
 }
 
 // Takes the next raw record part by part, up to the part that is truncated or has an error.
+#[cold]
+#[inline(never)]
 fn take_record_parts<'a>(
     iter: &mut PerfRecordIter<Cursor<&'a [u8]>>,
 ) -> Result<RawRecord<'a>, Error>
@@ -64,6 +66,7 @@ fn take_record_parts<'a>(
 }
 
 // Takes the next raw record.
+#[inline(always)]
 fn take_raw_record<'a>(iter: &mut PerfRecordIter<Cursor<&'a [u8]>>) -> Result<RawRecord<'a>, Error>
     requires { iter.old.body.items ≡ [] }
     ensures raw_record { TakesRawRecord iter.old result iter.new }
@@ -76,6 +79,7 @@ fn take_raw_record<'a>(iter: &mut PerfRecordIter<Cursor<&'a [u8]>>) -> Result<Ra
 }
 
 // Identifies the record with this body by the attributes before it, and then applies its metadata.
+#[inline(always)]
 fn process_record(
     iter: &mut PerfRecordIter<Cursor<&[u8]>>,
     file: &mut PerfFile,
@@ -100,6 +104,7 @@ fn process_record(
 }
 
 // Takes the next record, with its body.
+#[inline(always)]
 pub(crate) fn take_record<'a>(
     iter: &mut PerfRecordIter<Cursor<&'a [u8]>>,
     file: &mut PerfFile,

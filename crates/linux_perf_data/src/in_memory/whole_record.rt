@@ -12,6 +12,7 @@ use perfdata_parts::constants::PERF_RECORD_FINISHED_ROUND;
 use std::io::Cursor;
 
 // Takes the next raw record if the remaining bytes start with a whole one, and no header is pending. Otherwise takes nothing.
+#[inline(always)]
 pub(crate) fn take_whole_record<'a>(
     iter: &mut PerfRecordIter<Cursor<&'a [u8]>>,
 ) -> Option<RawRecord<'a>>

@@ -229,6 +229,7 @@ fn apply_feature(
 // Applies a metadata record of a pipe. Any other record changes nothing. What the accessors of the `PerfFile` return is
 // unchanged after an error: an `IoError` of kind `InvalidInput` if the number of attributes isn't that of the input, an error
 // of the body, of the EVENT_DESC that names the attributes, or of attribute consistency, or `Memory`.
+#[inline(never)]
 pub(crate) fn apply_metadata(
     alloc: Global,
     endian: Endianness,
