@@ -12,10 +12,9 @@ use Rattle.linux_perf_data.specs.Layout.{RecordView}
 use Rattle.linux_perf_data.specs.declared.in_memory.InMemoryRecords.{InMemoryRecords}
 use Rattle.linux_perf_data.specs.RecordViews.{record_view_of}
 use Rattle.linux_perf_data.specs.InMemoryReading.{ReturnsRecordsInMemory}
-use Rattle.perfdata_order.specs.declared.in_memory.Pending.TheVariants.{Nothing, Record, End, Failure}
 use Rattle.perfdata_order.specs.declared.in_memory.InMemoryOrderedRecords.{InMemoryOrderedRecords}
 use Rattle.perfdata_order.specs.Sorter.{held_of}
-use Rattle.perfdata_order.specs.SorterLaws.{Call, MakesCalls}
+use Rattle.perfdata_order.specs.SorterLaws.{MakesCalls}
 use Rattle.perfdata_order.specs.SorterLaws.Call.{inserts, ends_round, ends_all, returns, keeps}
 use Rattle.perfdata_order.specs.InMemoryOrder.{Entry, Step, TakesSteps, returned_in}
 use Rattle.perfdata_order.specs.InMemoryOrder.Step.{reads, passes, reads_end, reads_error, sorts, reports}

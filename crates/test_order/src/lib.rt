@@ -1,0 +1,7 @@
+//! The tests of records in order of time.
+#![tactic(auto)]
+
+#[cfg(test)]
+mod in_memory;
+#[cfg(test)]
+mod sorter;
