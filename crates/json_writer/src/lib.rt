@@ -1,0 +1,8 @@
+//! A writer of JSON (RFC 8259) whose types keep their text valid.
+//!
+//! [`members::Members`] contains members of an object, [`members::Elements`] elements of an array.
+#![tactic(auto)]
+
+pub mod members;
+pub mod scalar;
+mod text;
