@@ -13,11 +13,11 @@ use Rattle.std.proofs.lemmas.Slice.Eq.{bytes_eq-Decides}
 use Rattle.json_writer.specs.Json.{IsJson, IsJsonChars, IsJsonInteger, is_digit, is_hex_digit, is_escape_letter, true_literal, false_literal, end, unescaped, escaped, escaped_unit, first_member, next_member, first_element, next_element, object, empty_object, array, empty_array, string, number, positive, negative, value, members, elements, quoted}
 use Rattle.json_writer.specs.Writing.{is_plain_byte, is_plain, is_member_start, member_start, key_in, AreMembers, no_members, some_members, AreElements, no_elements, some_elements, IsMember, IsElement}
 
-both_first : (a b : Bool) → (a && b) ≡ true → a ≡ true
+pub both_first : (a b : Bool) → (a && b) ≡ true → a ≡ true
 both_first true b h = refl
 both_first false b h = h
 
-both_second : (a b : Bool) → (a && b) ≡ true → b ≡ true
+pub both_second : (a b : Bool) → (a && b) ≡ true → b ≡ true
 both_second true b h = h
 both_second false b h = absurd (false≢true h)
 
@@ -149,3 +149,16 @@ bytes_object count text n h =
     let first = first_member (codes "length") count (plain_chars (codes "length") refl) n in
     let both = next_member (codes "\"length\":" ++ count) (codes "hex") text first (plain_chars (codes "hex") refl) h in
     subst (λ l. IsJson value (123 ∷ l)) (append_assoc (codes "\"length\":" ++ count) (codes ",\"hex\":" ++ text) (125 ∷ []) ∙ append_assoc (codes "\"length\":") count (codes ",\"hex\":" ++ (text ++ (125 ∷ [])))) (object ((codes "\"length\":" ++ count) ++ (codes ",\"hex\":" ++ text)) both)
+
+-- members after members
+pub members_then : (before : List ℕ) {text : List ℕ} → IsJson members before → IsJson members text → IsJson members (before ++ (44 ∷ text))
+members_then before are (first_member key content k v) = next_member before key content are k v
+members_then before are (next_member text key content more k v) = subst (IsJson members) (append_assoc before (44 ∷ text) (44 ∷ (quoted key ++ (58 ∷ content)))) (next_member (before ++ (44 ∷ text)) key content (members_then before are more) k v)
+
+pub members_append : (before : List ℕ) {more : List ℕ} → IsJson members before → AreMembers more → IsJson members (before ++ more)
+members_append before are no_members = subst (IsJson members) (sym (append-nil before)) are
+members_append before are (some_members text more) = members_then before are more
+
+pub are_members_append : {a b : List ℕ} → AreMembers a → AreMembers b → AreMembers (a ++ b)
+are_members_append no_members more = more
+are_members_append (some_members text are) more = some_members _ (members_append text are more)
