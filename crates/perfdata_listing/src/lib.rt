@@ -8,5 +8,8 @@ pub mod list;
 pub mod output;
 
 pub use jit::{list_jit, list_live_jit};
-pub use list::{ListCause, ListFault, flush_listing, list_file, list_live_pipe, list_pipe};
+pub use list::{
+    ListCause, ListFault, flush_before_blocking, flush_listing, list_file, list_live_pipe,
+    list_pipe,
+};
 pub use output::{CountingBufWriter, FlushPending, finish, write_line};

@@ -133,8 +133,9 @@ fn list_records<R: Source, W: Write>(
     }
 }
 
-/// Flushes the pending lines unless the next record is buffered. No line is pending while the input blocks.
-fn flush_before_blocking<R: Source, W: FlushPending>(
+/// Flushes the pending lines unless the next record is buffered. No line is pending while the input blocks. Fails if the flush
+/// fails.
+pub fn flush_before_blocking<R: Source, W: FlushPending>(
     iter: &PerfRecordIter<R>,
     out: &mut W,
 ) -> io::Result<()>

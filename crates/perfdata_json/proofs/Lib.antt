@@ -1,0 +1,4 @@
+pub mod ListingLemmas
+pub mod PipeListingLemmas
+pub mod LineLemmas
+pub mod NewlineLemmas

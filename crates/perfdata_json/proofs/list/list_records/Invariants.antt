@@ -1,0 +1,13 @@
+use Rattle.std.proofs.Common.{◌-◌, ◌^◌, ◌<◌, ◌≤◌}
+use Rattle.perfdata_json.proofs.ListingLemmas.{SoFar}
+use Rattle.perfdata_json.proofs.list.list_records.Given as goal
+
+abbrev pub invariant-records : goal.invariant-records
+invariant-records g l = record {
+  offset_in_range : l.iter.offset < 2 ^ 64;
+  count_below_offset : l.lines ≤ l.iter.offset;
+  listed : SoFar g.R.Source.state l.initial.iter l.initial.file (g.W.Write.contents l.initial.out) l.lines (g.W.Write.contents l.out) l.iter l.file;
+}
+
+abbrev pub decreases-records : goal.decreases-records
+decreases-records g l = 2 ^ 64 - l.iter.offset

@@ -1,0 +1,218 @@
+//! The fields of kernel records.
+use crate::body::{Body, count_of, next_u64};
+use perfdata_base::event::{RawEventRecord, RecordType};
+use perfdata_events::aux_area::{AuxOutputHwIdRecord, AuxRecord, ItraceStartRecord};
+use perfdata_events::context_switch::ContextSwitchRecord;
+use perfdata_events::event::EventRecord;
+use perfdata_events::format::EventFormat;
+use perfdata_events::kernel::{BpfEventRecord, KsymbolRecord, TextPokeRecord};
+use perfdata_events::lost::{LostRecord, LostSamplesRecord, ThrottleRecord};
+use perfdata_events::mmap::MmapRecord;
+use perfdata_events::mmap2::{Mmap2FileId, Mmap2Record};
+use perfdata_events::sample_id::SampleId;
+use perfdata_events::task::{CgroupRecord, CommOrExecRecord, ForkOrExitRecord, NamespacesRecord};
+use std::alloc::AllocError;
+
+impl Body {
+    fn mmap(&mut self, mmap: &MmapRecord<'_>) -> Result<(), AllocError> {
+        self.members.signed(br#","pid":"#, mmap.pid)?;
+        self.members.signed(br#","tid":"#, mmap.tid)?;
+        self.members.address(br#","address":"#, mmap.address)?;
+        self.members.number(br#","length":"#, mmap.length)?;
+        self.members
+            .address(br#","page_offset":"#, mmap.page_offset)?;
+        self.text(br#","path":"#, mmap.path)
+    }
+
+    fn file_id(&mut self, file_id: &Mmap2FileId<'_>) -> Result<(), AllocError> {
+        match file_id {
+            Mmap2FileId::InodeAndVersion(file) => {
+                self.members.number(br#","major":"#, file.major as u64)?;
+                self.members.number(br#","minor":"#, file.minor as u64)?;
+                self.members.number(br#","inode":"#, file.inode)?;
+                self.members
+                    .number(br#","inode_generation":"#, file.inode_generation)
+            }
+            Mmap2FileId::BuildId(build_id) => self.hex(br#","build_id":"#, *build_id),
+        }
+    }
+
+    fn mmap2(&mut self, mmap: &Mmap2Record<'_>) -> Result<(), AllocError> {
+        self.members.signed(br#","pid":"#, mmap.pid)?;
+        self.members.signed(br#","tid":"#, mmap.tid)?;
+        self.members.address(br#","address":"#, mmap.address)?;
+        self.members.number(br#","length":"#, mmap.length)?;
+        self.members
+            .address(br#","page_offset":"#, mmap.page_offset)?;
+        self.file_id(&mmap.file_id)?;
+        self.members
+            .number(br#","protection":"#, mmap.protection as u64)?;
+        self.members.address(br#","flags":"#, mmap.flags as u64)?;
+        self.text(br#","path":"#, mmap.path)
+    }
+
+    fn lost(&mut self, lost: &LostRecord) -> Result<(), AllocError> {
+        self.members.number(br#","id":"#, lost.id)?;
+        self.members.number(br#","count":"#, lost.count)
+    }
+
+    fn comm(&mut self, comm: &CommOrExecRecord<'_>) -> Result<(), AllocError> {
+        self.members.signed(br#","pid":"#, comm.pid)?;
+        self.members.signed(br#","tid":"#, comm.tid)?;
+        self.text(br#","name":"#, comm.name)?;
+        self.members.boolean(br#","is_execve":"#, comm.is_execve)
+    }
+
+    fn fork_or_exit(&mut self, task: &ForkOrExitRecord) -> Result<(), AllocError> {
+        self.members.signed(br#","pid":"#, task.pid)?;
+        self.members.signed(br#","ppid":"#, task.ppid)?;
+        self.members.signed(br#","tid":"#, task.tid)?;
+        self.members.signed(br#","ptid":"#, task.ptid)?;
+        self.members.number(br#","timestamp":"#, task.timestamp)
+    }
+
+    fn throttle(&mut self, throttle: &ThrottleRecord) -> Result<(), AllocError> {
+        self.members
+            .number(br#","timestamp":"#, throttle.timestamp)?;
+        self.members.number(br#","id":"#, throttle.id)?;
+        self.members.number(br#","stream_id":"#, throttle.stream_id)
+    }
+
+    fn aux(&mut self, aux: &AuxRecord) -> Result<(), AllocError> {
+        self.members.number(br#","aux_offset":"#, aux.offset)?;
+        self.members.number(br#","aux_size":"#, aux.size)?;
+        self.members.address(br#","aux_flags":"#, aux.flags)
+    }
+
+    fn itrace_start(&mut self, start: &ItraceStartRecord) -> Result<(), AllocError> {
+        self.members.signed(br#","pid":"#, start.pid)?;
+        self.members.signed(br#","tid":"#, start.tid)
+    }
+
+    fn lost_samples(&mut self, lost: &LostSamplesRecord) -> Result<(), AllocError> {
+        self.members.number(br#","count":"#, lost.count)
+    }
+
+    fn context_switch(&mut self, switch: &ContextSwitchRecord) -> Result<(), AllocError> {
+        self.members.boolean(br#","is_out":"#, switch.is_out)?;
+        self.members.boolean(br#","preempted":"#, switch.preempted)?;
+        match switch.other_task {
+            Some(task) => {
+                self.members.signed(br#","other_pid":"#, task.pid)?;
+                self.members.signed(br#","other_tid":"#, task.tid)
+            }
+            None => Ok(()),
+        }
+    }
+
+    fn namespaces(&mut self, record: &NamespacesRecord<'_>) -> Result<(), AllocError> {
+        self.members.signed(br#","pid":"#, record.pid)?;
+        self.members.signed(br#","tid":"#, record.tid)?;
+        self.elements.clear();
+        let mut rest = record.namespaces;
+        for _ in 0..count_of(&record.namespaces) / 2 {
+            self.item.clear();
+            self.item.number_if(br#","device":"#, next_u64(&mut rest))?;
+            self.item.number_if(br#","inode":"#, next_u64(&mut rest))?;
+            self.elements.object(&self.item)?;
+        }
+        self.members.array(br#","namespaces":"#, &self.elements)
+    }
+
+    fn ksymbol(&mut self, symbol: &KsymbolRecord<'_>) -> Result<(), AllocError> {
+        self.members.address(br#","address":"#, symbol.address)?;
+        self.members.number(br#","length":"#, symbol.length as u64)?;
+        self.members
+            .number(br#","ksym_type":"#, symbol.symbol_type as u64)?;
+        self.members
+            .address(br#","ksym_flags":"#, symbol.flags as u64)?;
+        self.text(br#","name":"#, symbol.name)
+    }
+
+    fn bpf_event(&mut self, event: &BpfEventRecord<'_>) -> Result<(), AllocError> {
+        self.members
+            .number(br#","bpf_type":"#, event.event_type as u64)?;
+        self.members
+            .address(br#","bpf_flags":"#, event.flags as u64)?;
+        self.members.number(br#","id":"#, event.id as u64)?;
+        self.hex(br#","tag":"#, event.tag)
+    }
+
+    fn control_group(&mut self, group: &CgroupRecord<'_>) -> Result<(), AllocError> {
+        self.members.number(br#","id":"#, group.id)?;
+        self.text(br#","path":"#, group.path)
+    }
+
+    fn text_poke(&mut self, poke: &TextPokeRecord<'_>) -> Result<(), AllocError> {
+        self.members.address(br#","address":"#, poke.address)?;
+        self.bytes(br#","old_bytes":"#, poke.old_bytes)?;
+        self.bytes(br#","new_bytes":"#, poke.new_bytes)
+    }
+
+    fn hw_id(&mut self, record: &AuxOutputHwIdRecord) -> Result<(), AllocError> {
+        self.members.number(br#","hw_id":"#, record.hw_id)
+    }
+
+    fn event(&mut self, event: &EventRecord<'_>, format: &EventFormat) -> Result<(), AllocError> {
+        match event {
+            EventRecord::Sample(sample) => self.sample(sample, format),
+            EventRecord::Mmap(mmap) => self.mmap(mmap),
+            EventRecord::Mmap2(mmap) => self.mmap2(mmap),
+            EventRecord::Lost(lost) => self.lost(lost),
+            EventRecord::Comm(comm) => self.comm(comm),
+            EventRecord::Exit(task) => self.fork_or_exit(task),
+            EventRecord::Fork(task) => self.fork_or_exit(task),
+            EventRecord::Throttle(throttle) => self.throttle(throttle),
+            EventRecord::Unthrottle(throttle) => self.throttle(throttle),
+            EventRecord::Read(read) => self.read(read),
+            EventRecord::Aux(aux) => self.aux(aux),
+            EventRecord::ItraceStart(start) => self.itrace_start(start),
+            EventRecord::LostSamples(lost) => self.lost_samples(lost),
+            EventRecord::ContextSwitch(switch) => self.context_switch(switch),
+            EventRecord::Namespaces(namespaces) => self.namespaces(namespaces),
+            EventRecord::Ksymbol(symbol) => self.ksymbol(symbol),
+            EventRecord::BpfEvent(event) => self.bpf_event(event),
+            EventRecord::Cgroup(group) => self.control_group(group),
+            EventRecord::TextPoke(poke) => self.text_poke(poke),
+            EventRecord::AuxOutputHwId(record) => self.hw_id(record),
+            EventRecord::Raw(_) => Ok(()),
+        }
+    }
+
+    fn sample_id(&mut self, id: &SampleId) -> Result<(), AllocError> {
+        self.nested.clear();
+        if let Some(task) = id.task {
+            self.nested.signed(br#","pid":"#, task.pid)?;
+            self.nested.signed(br#","tid":"#, task.tid)?;
+        }
+        self.nested.number_if(br#","timestamp":"#, id.timestamp)?;
+        self.nested.number_if(br#","id":"#, id.id)?;
+        self.nested.number_if(br#","stream_id":"#, id.stream_id)?;
+        self.nested
+            .number_if(br#","cpu":"#, id.cpu.map(|cpu| cpu as u64))?;
+        self.nested.number_if(br#","identifier":"#, id.identifier)?;
+        if self.nested.is_empty() {
+            return Ok(());
+        }
+        self.members.object(br#","sample_id":"#, &self.nested)
+    }
+
+    /// Appends the fields of a kernel record, or the error of its parser, and its sample_id fields unless it is a sample.
+    pub(crate) fn kernel_record(
+        &mut self,
+        format: &EventFormat,
+        raw: &RawEventRecord<'_>,
+    ) -> Result<(), AllocError> {
+        match format.parse(raw) {
+            Ok(event) => self.event(&event, format)?,
+            Err(error) => self.error(error.kind())?,
+        }
+        if raw.record_type.0 == RecordType::SAMPLE.0 {
+            return Ok(());
+        }
+        match format.sample_id(raw) {
+            Ok(id) => self.sample_id(&id),
+            Err(_) => Ok(()),
+        }
+    }
+}

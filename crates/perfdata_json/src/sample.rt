@@ -1,0 +1,195 @@
+//! The fields of samples.
+use crate::body::{Body, count_of, next_u64};
+use crate::names::context_name;
+use json_writer::scalar::Scalar;
+use perfdata_events::call_chain::CallChain;
+use perfdata_events::format::EventFormat;
+use perfdata_events::read_values::{GroupValues, ReadRecord, ReadValues, SingleValues};
+use perfdata_events::sample::SampleRecord;
+use perfdata_events::sample_parts::{BranchStack, Registers, UserStack};
+use perfdata_events::u64s::RawDataU64;
+use std::alloc::AllocError;
+
+impl Body {
+    fn single_values(&mut self, values: &SingleValues) -> Result<(), AllocError> {
+        self.nested.clear();
+        self.nested.number(br#","value":"#, values.value)?;
+        self.nested
+            .number_if(br#","time_enabled":"#, values.time_enabled)?;
+        self.nested
+            .number_if(br#","time_running":"#, values.time_running)?;
+        self.nested.number_if(br#","id":"#, values.id)?;
+        self.nested.number_if(br#","lost":"#, values.lost)
+    }
+
+    /// Appends the counter at the start of the numbers, and removes it.
+    fn counter(
+        &mut self,
+        group: &GroupValues<'_>,
+        rest: &mut RawDataU64<'_>,
+    ) -> Result<(), AllocError> {
+        self.item.clear();
+        self.item.number_if(br#","value":"#, next_u64(rest))?;
+        if group.has_id {
+            self.item.number_if(br#","id":"#, next_u64(rest))?;
+        }
+        if group.has_lost {
+            self.item.number_if(br#","lost":"#, next_u64(rest))?;
+        }
+        self.elements.object(&self.item)
+    }
+
+    fn group_values(&mut self, group: &GroupValues<'_>) -> Result<(), AllocError> {
+        self.nested.clear();
+        self.nested
+            .number_if(br#","time_enabled":"#, group.time_enabled)?;
+        self.nested
+            .number_if(br#","time_running":"#, group.time_running)?;
+        self.elements.clear();
+        let mut rest = group.numbers;
+        let width = 1 + group.has_id as usize + group.has_lost as usize;
+        for _ in 0..count_of(&group.numbers) / width {
+            self.counter(group, &mut rest)?;
+        }
+        self.nested.array(br#","counters":"#, &self.elements)
+    }
+
+    fn values(&mut self, values: &ReadValues<'_>) -> Result<(), AllocError> {
+        match values {
+            ReadValues::Single(single) => self.single_values(single)?,
+            ReadValues::Group(group) => self.group_values(group)?,
+        }
+        self.members.object(br#","values":"#, &self.nested)
+    }
+
+    pub(crate) fn read(&mut self, read: &ReadRecord<'_>) -> Result<(), AllocError> {
+        self.task(read.task)?;
+        self.values(&read.values)
+    }
+
+    fn call_chain(&mut self, chain: &CallChain<'_>) -> Result<(), AllocError> {
+        self.elements.clear();
+        for frame in chain.iter() {
+            self.pair.clear();
+            self.pair.text(context_name(frame.context))?;
+            self.pair.scalar(&Scalar::address(frame.address))?;
+            self.elements.array(&self.pair)?;
+        }
+        self.members.array(br#","call_chain":"#, &self.elements)
+    }
+
+    fn branch_stack(&mut self, stack: &BranchStack<'_>) -> Result<(), AllocError> {
+        self.nested.clear();
+        self.nested.number_if(br#","hw_index":"#, stack.hw_index)?;
+        self.elements.clear();
+        let mut rest = stack.entries;
+        for _ in 0..count_of(&stack.entries) / 3 {
+            self.item.clear();
+            self.item.address_if(br#","from":"#, next_u64(&mut rest))?;
+            self.item.address_if(br#","to":"#, next_u64(&mut rest))?;
+            self.item.address_if(br#","flags":"#, next_u64(&mut rest))?;
+            self.elements.object(&self.item)?;
+        }
+        self.nested.array(br#","entries":"#, &self.elements)?;
+        if let Some(counters) = stack.counters {
+            self.set_addresses(counters)?;
+            self.nested.array(br#","counters":"#, &self.elements)?;
+        }
+        self.members.object(br#","branch_stack":"#, &self.nested)
+    }
+
+    /// Sets the nested object to registers.
+    fn set_registers(&mut self, mask: u64, registers: &Registers<'_>) -> Result<(), AllocError> {
+        self.nested.clear();
+        self.nested.number(br#","abi":"#, registers.abi)?;
+        self.nested.address(br#","mask":"#, mask)?;
+        self.set_addresses(registers.values)?;
+        self.nested.array(br#","values":"#, &self.elements)
+    }
+
+    fn user_stack(&mut self, stack: &UserStack<'_>) -> Result<(), AllocError> {
+        self.bytes(br#","user_stack":"#, stack.bytes)?;
+        self.members
+            .number_if(br#","dynamic_size":"#, stack.dynamic_size)
+    }
+
+    /// Appends the words of a sample up to its period.
+    fn sample_words(&mut self, sample: &SampleRecord<'_>) -> Result<(), AllocError> {
+        self.members
+            .number_if(br#","identifier":"#, sample.identifier)?;
+        self.members.address_if(br#","ip":"#, sample.ip)?;
+        self.task_if(sample.task)?;
+        self.members
+            .number_if(br#","timestamp":"#, sample.timestamp)?;
+        self.members.address_if(br#","address":"#, sample.address)?;
+        self.members.number_if(br#","id":"#, sample.id)?;
+        self.members
+            .number_if(br#","stream_id":"#, sample.stream_id)?;
+        if let Some(cpu) = sample.cpu {
+            self.members.number(br#","cpu":"#, cpu as u64)?;
+        }
+        self.members.number_if(br#","period":"#, sample.period)
+    }
+
+    /// Appends the parts of a sample from its counter values to its stack.
+    fn sample_parts(
+        &mut self,
+        sample: &SampleRecord<'_>,
+        format: &EventFormat,
+    ) -> Result<(), AllocError> {
+        if let Some(values) = &sample.values {
+            self.values(values)?;
+        }
+        if let Some(chain) = &sample.call_chain {
+            self.call_chain(chain)?;
+        }
+        self.bytes_if(br#","raw":"#, sample.raw)?;
+        if let Some(stack) = &sample.branch_stack {
+            self.branch_stack(stack)?;
+        }
+        if let Some(registers) = &sample.user_registers {
+            self.set_registers(format.sample_regs_user, registers)?;
+            self.members.object(br#","user_registers":"#, &self.nested)?;
+        }
+        match &sample.user_stack {
+            Some(stack) => self.user_stack(stack),
+            None => Ok(()),
+        }
+    }
+
+    /// Appends the parts of a sample from its weight on.
+    fn sample_end(
+        &mut self,
+        sample: &SampleRecord<'_>,
+        format: &EventFormat,
+    ) -> Result<(), AllocError> {
+        self.members.number_if(br#","weight":"#, sample.weight)?;
+        self.members
+            .address_if(br#","data_source":"#, sample.data_source)?;
+        self.members
+            .address_if(br#","transaction":"#, sample.transaction)?;
+        if let Some(registers) = &sample.interrupt_registers {
+            self.set_registers(format.sample_regs_intr, registers)?;
+            self.members
+                .object(br#","interrupt_registers":"#, &self.nested)?;
+        }
+        self.members
+            .address_if(br#","physical_address":"#, sample.physical_address)?;
+        self.members.number_if(br#","cgroup":"#, sample.cgroup)?;
+        self.members
+            .number_if(br#","data_page_size":"#, sample.data_page_size)?;
+        self.members
+            .number_if(br#","code_page_size":"#, sample.code_page_size)?;
+        self.bytes_if(br#","aux_data":"#, sample.aux_data)
+    }
+
+    pub(crate) fn sample(
+        &mut self,
+        sample: &SampleRecord<'_>,
+        format: &EventFormat,
+    ) -> Result<(), AllocError> {
+        self.sample_words(sample)?;
+        self.sample_parts(sample, format)?;
+        self.sample_end(sample, format)
+    }
+}
