@@ -23,7 +23,8 @@ use Rattle.linux_perf_data.specs.RecordFraming.{IsErrorFor}
 use Rattle.linux_perf_data.specs.OpenedFile.{FileParsed, FileOpensAt, FileParseError}
 use Rattle.linux_perf_data.specs.PerfFile.{attributes_of_file}
 use Rattle.linux_perf_data.specs.declared.perf_file.PerfFile.{PerfFile}
-use Rattle.linux_perf_data.specs.FileReading.{AreFirstRecords, ReturnsRecords, HasMatchingFile, HasNotFailed, HoldsForFile}
+use Rattle.linux_perf_data.specs.Reading.{AreFirstRecords, ReturnsRecords, HasMatchingFile, HasNotFailed}
+use Rattle.linux_perf_data.specs.FileReading.{HoldsForFile}
 use Rattle.linux_perf_data.proofs.FileReadings.{error_in_file, file_source_error, first_in_file, first_of, returns_records_more, holds_of, if_some_each, none_of, stops_of, whole_in_file, whole_of}
 use Rattle.perfdata_json.specs.Listing.{no_lines, next_line, WritesLines, WritesRecord, WrotePrefix, ListedAll, ListedUntilError, ListedPartOfNext, ListedUntilFlushError, ListsNext, ListsRecords, ListedFileUntilError, ListsFile, ListingFails, FileListingFails}
 

@@ -11,7 +11,7 @@ use Rattle.linux_perf_data.specs.Iter.{iter_source_state}
 use Rattle.linux_perf_data.specs.OpenedPipe.{EndsInOpening, KeepsPendingHeader, PipeParsed, PipeParseError}
 use Rattle.linux_perf_data.specs.PerfFile.{attributes_of_file}
 use Rattle.linux_perf_data.specs.PipeReading.{HoldsForPipeRest, IsCompletePipe}
-use Rattle.linux_perf_data.specs.FileReading.{AreFirstRecords}
+use Rattle.linux_perf_data.specs.Reading.{AreFirstRecords}
 use Rattle.linux_perf_data.proofs.PipeReadings.{error_there, first_after, first_none, first_there, opening_prefix, holds_all, parsed_none, parsed_there, source_error_there, pauses, whole_none, whole_there}
 use Rattle.perfdata_json.specs.Listing.{ListedAll, ListedUntilFlushError, ListsLiveRecords, ListingFails}
 use Rattle.perfdata_json.specs.PipeListing.{ListedPipeUntilFlushError, ListedPipe, ListsLivePipe, ListedPipeUntilError, PipeListingFails}

@@ -13,7 +13,8 @@ use Rattle.linux_perf_data.specs.RecordFraming.{IsErrorFor}
 use Rattle.perfdata_listing.specs.Listing.{IsWrite}
 use Rattle.linux_perf_data.specs.Iter.{iter_source_state, section_size_of, ReturnsRecord, ReturnsEnd, ReturnsError}
 use Rattle.linux_perf_data.specs.FileOpening.{IsFileError, SourceErrorInOpening}
-use Rattle.linux_perf_data.specs.FileReading.{AreFirstRemaining, AreFirstRecords, EndsWithError, EndsComplete, HoldsForFile, SourceErrorInFile, SourceErrorInSomeRecord}
+use Rattle.linux_perf_data.specs.Reading.{AreFirstRemaining, AreFirstRecords, EndsWithError, EndsComplete, SourceErrorInSomeRecord}
+use Rattle.linux_perf_data.specs.FileReading.{HoldsForFile, SourceErrorInFile}
 use Rattle.perfdata_json.specs.Line.{IsLineOf}
 use Rattle.perfdata_listing.specs.Output.{AppendsPrefix}
 use Rattle.perfdata_listing.specs.declared.list.ListFault.{ListFault}

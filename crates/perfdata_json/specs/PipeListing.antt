@@ -10,7 +10,7 @@ use Rattle.linux_perf_data.specs.OpenedPipe.{without_position}
 use Rattle.linux_perf_data.specs.RecordFraming.{IsErrorFor}
 use Rattle.linux_perf_data.specs.PipeOpening.{FailsBy, IsPipeError}
 use Rattle.linux_perf_data.specs.PipeReading.{HoldsForPipeRest, HoldsAllMetadata, IsCompletePipe, HoldsForPipe, OpensWith}
-use Rattle.linux_perf_data.specs.FileReading.{AreFirstRecords, SourceErrorInSomeRecord}
+use Rattle.linux_perf_data.specs.Reading.{AreFirstRecords, SourceErrorInSomeRecord}
 use Rattle.perfdata_listing.specs.Listing.{IsWrite}
 use Rattle.perfdata_json.specs.Listing.{WrotePrefix, WritesLines}
 use Rattle.perfdata_listing.specs.declared.list.ListFault.{ListFault}

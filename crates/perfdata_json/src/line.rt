@@ -1,7 +1,7 @@
 //! The line of a record.
 ghost use Rattle.std.specs.Prelude.{◌≡◌, ◌<◌, ◌^◌, ◌++◌, [], ◌∷◌, decimal, IfSome, OnOk};
 ghost use Rattle.json_writer.specs.Writing.{AreMembers};
-ghost use Rattle.linux_perf_data.specs.Iter.{record_view_of};
+ghost use Rattle.linux_perf_data.specs.RecordViews.{record_view_of};
 ghost use Rattle.perfdata_json.specs.Line.{IsLineOf, optional_number, record_start};
 ghost use Rattle.perfdata_json.specs.LineText.{start_text, StartFits};
 

@@ -1,6 +1,6 @@
 //! Listing the records of a perf.data file or of a pipe as JSON, one line a record.
-ghost use Rattle.linux_perf_data.specs.Iter.{record_view_of};
-ghost use Rattle.linux_perf_data.specs.FileReading.{HasMatchingFile, HasNotFailed};
+ghost use Rattle.linux_perf_data.specs.RecordViews.{record_view_of};
+ghost use Rattle.linux_perf_data.specs.Reading.{HasMatchingFile, HasNotFailed};
 ghost use Rattle.perfdata_listing.specs.Listing.{MayBlock};
 ghost use Rattle.perfdata_json.specs.Listing.{WritesRecord, ListsNext, ListsRecords, ListsLiveRecords, ListsFile};
 ghost use Rattle.perfdata_json.specs.PipeListing.{ListsPipe, ListsLivePipe, ListsPipeWithFile};

@@ -1,6 +1,7 @@
 use Rattle.std.proofs.Common.{Ok, ap, ◌∙◌, subst, inl, inr}
 use Rattle.std.proofs.KnownBytes.{Keeps-refl}
-use Rattle.linux_perf_data.specs.Iter.{NextRecord, record_view_of}
+use Rattle.linux_perf_data.specs.RecordViews.{record_view_of}
+use Rattle.linux_perf_data.specs.Iter.{NextRecord}
 use Rattle.perfdata_json.proofs.list.list_next.Goals as goal
 
 pub returns-in-Ok : goal.returns-in-Ok

@@ -1,4 +1,4 @@
-use Rattle.linux_perf_data.specs.Iter.{record_view_of}
+use Rattle.linux_perf_data.specs.RecordViews.{record_view_of}
 use Rattle.perfdata_json.proofs.LineLemmas.{line_set}
 use Rattle.perfdata_json.proofs.line.JsonLine.set_record.Goals as goal
 
