@@ -15,7 +15,7 @@ try: ## lists FILE before any proof: make try FILE=perf.data
 check: ## the gate: every proof, must-fail edit and test, the programs and the C library
 	.ci/run
 
-programs: ## proves and builds perflist and perfinfo
+programs: ## proves and builds perflist, perfinfo and perfjson
 	packaging/build_programs
 
 lib: ## proves and builds libdewikura.a and libdewikura.so in crates/dewikura/out
