@@ -123,17 +123,17 @@ returns_each_record_once records first last file file' steps new taken =
 
 -- ---- what is read is what the iterator over the input returns
 
-ended_runs : (stage : Stage) → stage ≡ Ended → stage ≡ Running → ⊥
+pub ended_runs : (stage : Stage) → stage ≡ Ended → stage ≡ Running → ⊥
 ended_runs stage ended running = cc
 
-failed_runs : (stage : Stage) → stage ≡ Failed → stage ≡ Running → ⊥
+pub failed_runs : (stage : Stage) → stage ≡ Failed → stage ≡ Running → ⊥
 failed_runs stage failed running = cc
 
-still_stopped : (first next : InMemoryOrderedRecords) → next.records ≡ first.records → first.records.iter.stage ≢ Running → next.records.iter.stage ≢ Running
+pub still_stopped : (first next : InMemoryOrderedRecords) → next.records ≡ first.records → first.records.iter.stage ≢ Running → next.records.iter.stage ≢ Running
 still_stopped first next same stopped running = stopped (sym (ap (λ r. r.iter.stage) same) ∙ running)
 
 -- Nothing is read after the end or an error.
-nothing_read : (steps : List Step) (first last : InMemoryOrderedRecords) (file file' : PerfFile) → first.records.iter.stage ≢ Running → TakesSteps steps first file last file' → read_in steps ≡ []
+pub nothing_read : (steps : List Step) (first last : InMemoryOrderedRecords) (file file' : PerfFile) → first.records.iter.stage ≢ Running → TakesSteps steps first file last file' → read_in steps ≡ []
 nothing_read [] first last file file' stopped taken = refl
 nothing_read (reads key place r ∷ steps) first last file file' stopped (next, (next_file, step, rest)) = absurd (stopped step.returned.returns.was_running)
 nothing_read (passes place r ∷ steps) first last file file' stopped (next, (next_file, step, rest)) = absurd (stopped step.returned.returns.was_running)

@@ -4,3 +4,4 @@ pub mod AscendingRuns
 pub mod RoundRule
 pub mod Steps
 pub mod InMemorySteps
+pub mod PerfRule

@@ -1,5 +1,5 @@
 //! Laws of values and of records in order.
-ghost use Rattle.perfdata_order.specs.InMemoryLaws.{CallsSorterInTurn, ReadsRecordsOfInput, ReturnsEachRecordOnce, TimesAscendUnderRule};
+ghost use Rattle.perfdata_order.specs.InMemoryLaws.{CallsSorterInTurn, ReadsRecordsOfInput, ReturnsEachRecordOnce, TimesAscendUnderPerfRule};
 ghost use Rattle.perfdata_order.specs.SorterLaws.{AscendsUnderRule, KeepsInsertionOrder, ReturnsEachOnce, RunsAscend};
 
 /// A [`Sorter`](crate::sorter::Sorter) returns each inserted value once. Equal keys keep the order of insertion, and consecutive
@@ -19,5 +19,5 @@ pub fn in_memory()
     ensures each_once { ReturnsEachRecordOnce }
     ensures of_input { ReadsRecordsOfInput }
     ensures sorter_calls { CallsSorterInTurn }
-    ensures times_ascend { TimesAscendUnderRule }
+    ensures times_ascend { TimesAscendUnderPerfRule }
 {}

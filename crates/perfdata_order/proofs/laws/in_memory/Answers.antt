@@ -1,4 +1,5 @@
-use Rattle.perfdata_order.proofs.InMemorySteps.{returns_each_record_once, reads_records_of_input, calls_sorter_in_turn, times_ascend_under_rule}
+use Rattle.perfdata_order.proofs.InMemorySteps.{returns_each_record_once, reads_records_of_input, calls_sorter_in_turn}
+use Rattle.perfdata_order.proofs.PerfRule.{times_ascend_under_perf_rule}
 use Rattle.perfdata_order.proofs.laws.in_memory.Goals as goal
 
 pub returns-clause-each_once : goal.returns-clause-each_once
@@ -11,4 +12,4 @@ pub returns-clause-sorter_calls : goal.returns-clause-sorter_calls
 returns-clause-sorter_calls c = calls_sorter_in_turn
 
 pub returns-clause-times_ascend : goal.returns-clause-times_ascend
-returns-clause-times_ascend c = times_ascend_under_rule
+returns-clause-times_ascend c = times_ascend_under_perf_rule
