@@ -1,4 +1,4 @@
-//! The command-line arguments `[--bytes N] file PATH | pipe`.
+//! The command-line arguments `[--by-time] [--bytes N] file PATH | pipe`.
 use perfdata_cli::args::{ArgsError, Command, command_from_args};
 use std::env;
 use std::env::Args;
@@ -13,8 +13,19 @@ const DEFAULT_BYTE_LIMIT: usize = 64;
 pub struct Options {
     /// Number of bytes that are written of bytes that are no text.
     pub byte_limit: usize,
+    /// Whether the records are listed in order of time.
+    pub is_by_time: bool,
     /// The input.
     pub command: Command,
+}
+
+/// The options before the command.
+#[derive(Clone, Copy)]
+struct Leading {
+    byte_limit: usize,
+    is_by_time: bool,
+    /// Number of arguments that they take.
+    count: u64,
 }
 
 /// Returns the arguments. Arguments that aren't UTF-8 are invalid.
@@ -26,34 +37,52 @@ fn arguments<R: Env + AllocGlobal>(rt: &R) -> Result<Args, ArgsError> {
     }
 }
 
-/// Returns the value of `--bytes`, or `None` if the first argument is another one.
-fn byte_limit_in(mut args: Args) -> Result<Option<usize>, ArgsError> {
-    let _program = args.next();
-    match args.next() {
-        Some(name) if name.as_str() == "--bytes" => {
-            let Some(value) = args.next() else {
-                return Err(ArgsError::Usage);
-            };
-            match value.as_str().parse::<usize>() {
-                Ok(limit) => Ok(Some(limit)),
-                Err(_) => Err(ArgsError::Usage),
-            }
-        }
-        _ => Ok(None),
+/// Returns the value of `--bytes`.
+fn byte_limit_in(args: &mut Args) -> Result<usize, ArgsError> {
+    let Some(value) = args.next() else {
+        return Err(ArgsError::Usage);
+    };
+    match value.as_str().parse::<usize>() {
+        Ok(limit) => Ok(limit),
+        Err(_) => Err(ArgsError::Usage),
     }
+}
+
+/// Returns the options before the command, each at most once.
+fn leading_options(mut args: Args) -> Result<Leading, ArgsError> {
+    let _program = args.next();
+    let mut leading = Leading {
+        byte_limit: DEFAULT_BYTE_LIMIT,
+        is_by_time: false,
+        count: 0,
+    };
+    for _ in 0..2u64 {
+        match args.next() {
+            Some(name) if name.as_str() == "--bytes" => {
+                leading.byte_limit = byte_limit_in(&mut args)?;
+                leading.count = leading.count.saturating_add(2);
+            }
+            Some(name) if name.as_str() == "--by-time" => {
+                leading.is_by_time = true;
+                leading.count = leading.count.saturating_add(1);
+            }
+            _ => break,
+        }
+    }
+    Ok(leading)
 }
 
 /// Parses the command-line arguments.
 pub fn parse_options<R: Env + AllocGlobal>(rt: &R) -> Result<Options, ArgsError> {
-    let limit = byte_limit_in(arguments(rt)?)?;
+    let leading = leading_options(arguments(rt)?)?;
     let mut args = arguments(rt)?;
-    if limit.is_some() {
-        // the program's name and `--bytes`; the value then stands where the name is expected
-        let _program = args.next();
-        let _name = args.next();
+    // The last of the options then stands where the program's name is expected.
+    for _ in 0..leading.count {
+        let _argument = args.next();
     }
     Ok(Options {
-        byte_limit: limit.unwrap_or(DEFAULT_BYTE_LIMIT),
+        byte_limit: leading.byte_limit,
+        is_by_time: leading.is_by_time,
         command: command_from_args(args)?,
     })
 }
