@@ -12,7 +12,7 @@ mod records;
 use accessors::run_accessors;
 use jitdump::run_jit;
 use parsers::run_parsers;
-use records::{run_file, run_pipe};
+use records::{run_file, run_file_in_memory, run_pipe};
 use std::process::ExitCode;
 use std::{env, io};
 
@@ -25,6 +25,7 @@ fn run(rt: &HostRuntime) -> io::Result<()> {
     };
     match scenario.as_str() {
         "file" => run_file(rt, path.as_str()),
+        "memory" => run_file_in_memory(rt, path.as_str()),
         "pipe" => run_pipe(rt, path.as_str()),
         "jit40" => run_jit(rt, path.as_str(), 40),
         "jit64" => run_jit(rt, path.as_str(), 64),
