@@ -1,7 +1,7 @@
 //! Records in order of time.
 //!
-//! The records of a recording stand in the order in which buffers were drained. [`sorter::Sorter`] sorts values whose rounds
-//! end one after another.
+//! The records of a recording stand in the order in which the buffers of the kernel were read. [`in_memory`] returns those of an
+//! input in memory in order of time. [`sorter::Sorter`] sorts any values whose rounds end one after another.
 #![tactic(auto)]
 
 pub mod in_memory;
