@@ -1,0 +1,5 @@
+//! The tests of the lines that perfjson writes.
+#![tactic(auto)]
+
+#[cfg(test)]
+mod lines;
