@@ -1,7 +1,10 @@
 //! Counts records without printing them, for `bench/run`. `bench_walk file PATH`, `bench_walk pipe` and `bench_walk jit PATH`
 //! read an input as perflist does. `bench_walk decode PATH` also parses the samples of a file and adds up their fields.
+//! `bench_walk memory PATH` and `bench_walk by-time PATH` read a file in memory, in the order of the file and in order of time.
 //! `bench_walk paused PATH PAUSES` reads a jitdump that arrives in parts, with a pause after each.
 #![tactic(auto)]
+
+mod memory;
 
 use linux_perf_data::event::RecordType;
 use linux_perf_data::jitdump::JitDumpReader;
@@ -160,6 +163,10 @@ fn decode(rt: &HostRuntime) -> anyhow::Result<Option<SampleSum>> {
 fn main(rt: HostRuntime) -> anyhow::Result<()> {
     if let Some(sums) = decode(&rt)? {
         println!(rt; "{} samples, sum {}", sums.count, sums.sum)?;
+        return Ok(());
+    }
+    if let Some(count) = memory::count_of_args(&rt)? {
+        println!(rt; "{count} records")?;
         return Ok(());
     }
     let alloc = rt.alloc();
