@@ -1,6 +1,6 @@
 -- Lemmas on what the writer appends.
 use Rattle.std.proofs.Common.{◌≡◌, ℕ, Bool, true, false, List, [], ◌∷◌, ◌++◌, ap, ◌∙◌, append_assoc, subst, sym, refl, Result, Ok, Err}
-use Rattle.std.specs.Prelude.{if◌then◌else◌, is_ok, is_err, codes}
+use Rattle.std.specs.Prelude.{if◌then◌else◌, is_ok, is_err, codes, OnOk}
 use Rattle.std.proofs.lemmas.Bool.{false≢true}
 use Rattle.std.proofs.Math.Logic.{∥∥₁_elim}
 use Rattle.json_writer.specs.Writing.{Appended, Appends, AreMembers, no_members, no_elements, AreElements, IsMember, IsElement}
@@ -34,6 +34,16 @@ elements_more old more = ∥∥₁_elim old squash₁ (λ o. ∥∥₁_elim more
 
 abbrev pub Same : List ℕ → List ℕ → Type 0
 Same text other = other ≡ text
+
+-- these bytes are appended
+pub appended_when : {T E : Type 0} (a : List ℕ) {b bytes text : List ℕ} (r : Result T E) → bytes ≡ text → b ≡ (if is_ok r then a ++ bytes else a) → OnOk r (b ≡ a ++ text)
+appended_when a (Ok x) same is = is ∙ ap (λ l. a ++ l) same
+appended_when a (Err e) same is = tt
+
+-- text of a kind after bytes
+pub prefixed_text : {T E : Type 0} (S : List ℕ → Type 0) (a : List ℕ) {b : List ℕ} (c : List ℕ) (before text : List ℕ) (r : Result T E) → S (before ++ text) → b ≡ a ++ before → OnOk r (c ≡ b ++ text) → Appends S a r c
+prefixed_text S a c before text (Ok x) valid is second = ∣ record { text = before ++ text; valid = valid; joined = second ∙ ap (λ l. l ++ text) is ∙ append_assoc a before text } ∣₁
+prefixed_text S a c before text (Err e) valid is second = tt
 
 -- bytes of a kind are appended
 pub extended : {T E : Type 0} (P : List ℕ → Type 0) (a : List ℕ) {b : List ℕ} (bytes : List ℕ) (r : Result T E) → ∥ P bytes ∥₁ → b ≡ (if is_ok r then a ++ bytes else a) → Appends P a r b

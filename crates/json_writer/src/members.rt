@@ -3,7 +3,7 @@ ghost use Rattle.std.specs.Prelude.{◌≡◌, ℕ, ◌+◌, ◌<◌, ◌≤◌,
 ghost use Rattle.json_writer.specs.Json.{IsJson, value};
 ghost use Rattle.json_writer.specs.Writing.{is_member_start, AreMembers, AreElements, Appends, Appended, IsMember, IsElement};
 
-use crate::scalar::Scalar;
+use crate::scalar::{append_address, append_boolean, append_number, append_signed};
 use crate::text::{append_bytes, append_hex_string, append_text};
 use std::alloc::{AllocError, Global};
 
@@ -19,14 +19,6 @@ pub struct Members {
 pub struct Elements {
     bytes: Vec<u8>,
     ghost valid: { ∥ AreElements bytes.items ∥₁ },
-}
-
-/// Appends a value.
-#[inline]
-fn append_scalar(out: &mut Vec<u8>, scalar: &Scalar) -> Result<(), AllocError>
-    ensures { Appends (IsJson value) out.old.items result out.new.items }
-{
-    out.extend_from_slice(scalar.as_bytes())
 }
 
 /// The bytes after the first one.
@@ -58,14 +50,43 @@ fn append_array(out: &mut Vec<u8>, elements: &Elements) -> Result<(), AllocError
     out.extend_from_slice(b"]")
 }
 
-/// Appends a member whose value is a scalar.
-#[inline]
-fn append_scalar_member(out: &mut Vec<u8>, key: &[u8], scalar: &Scalar) -> Result<(), AllocError>
+/// Appends a member whose value is a number.
+#[inline(always)]
+fn append_number_member(out: &mut Vec<u8>, key: &[u8], n: u64) -> Result<(), AllocError>
     requires { IsTrue (is_member_start key.now) }
     ensures { Appends IsMember out.old.items result out.new.items }
 {
     out.extend_from_slice(key)?;
-    append_scalar(out, scalar)
+    append_number(out, n)
+}
+
+/// Appends a member whose value is a signed number.
+#[inline(always)]
+fn append_signed_member(out: &mut Vec<u8>, key: &[u8], n: i32) -> Result<(), AllocError>
+    requires { IsTrue (is_member_start key.now) }
+    ensures { Appends IsMember out.old.items result out.new.items }
+{
+    out.extend_from_slice(key)?;
+    append_signed(out, n)
+}
+
+/// Appends a member whose value is a number in hexadecimal.
+#[inline(always)]
+fn append_address_member(out: &mut Vec<u8>, key: &[u8], n: u64) -> Result<(), AllocError>
+    requires { IsTrue (is_member_start key.now) }
+    ensures { Appends IsMember out.old.items result out.new.items }
+{
+    out.extend_from_slice(key)?;
+    append_address(out, n)
+}
+
+/// Appends a member whose value is a boolean.
+fn append_boolean_member(out: &mut Vec<u8>, key: &[u8], b: bool) -> Result<(), AllocError>
+    requires { IsTrue (is_member_start key.now) }
+    ensures { Appends IsMember out.old.items result out.new.items }
+{
+    out.extend_from_slice(key)?;
+    append_boolean(out, b)
 }
 
 /// Appends a member whose value is a text.
@@ -143,51 +164,55 @@ impl Members {
         self.bytes.as_slice()
     }
 
-    /// Appends a number, an address or a boolean. A key has its comma, quotation marks and colon.
-    #[inline]
-    pub fn scalar(&mut self, key: &[u8], scalar: &Scalar) -> Result<(), AllocError>
+    /// Appends a number. A key has its comma, quotation marks and colon.
+    #[inline(always)]
+    pub fn number(&mut self, key: &[u8], n: u64) -> Result<(), AllocError>
         requires { IsTrue (is_member_start key.now) }
     {
-        let written = append_scalar_member(&mut self.bytes, key, scalar);
+        let written = append_number_member(&mut self.bytes, key, n);
         if written.is_err() {
             self.bytes.clear();
         }
         written
     }
 
-    /// Appends a number.
-    #[inline]
-    pub fn number(&mut self, key: &[u8], n: u64) -> Result<(), AllocError>
-        requires { IsTrue (is_member_start key.now) }
-    {
-        self.scalar(key, &Scalar::number(n))
-    }
-
     /// Appends a signed number.
-    #[inline]
+    #[inline(always)]
     pub fn signed(&mut self, key: &[u8], n: i32) -> Result<(), AllocError>
         requires { IsTrue (is_member_start key.now) }
     {
-        self.scalar(key, &Scalar::signed(n))
+        let written = append_signed_member(&mut self.bytes, key, n);
+        if written.is_err() {
+            self.bytes.clear();
+        }
+        written
     }
 
     /// Appends a number as text in hexadecimal, as for an address or for bits.
-    #[inline]
+    #[inline(always)]
     pub fn address(&mut self, key: &[u8], n: u64) -> Result<(), AllocError>
         requires { IsTrue (is_member_start key.now) }
     {
-        self.scalar(key, &Scalar::address(n))
+        let written = append_address_member(&mut self.bytes, key, n);
+        if written.is_err() {
+            self.bytes.clear();
+        }
+        written
     }
 
     /// Appends a boolean.
     pub fn boolean(&mut self, key: &[u8], b: bool) -> Result<(), AllocError>
         requires { IsTrue (is_member_start key.now) }
     {
-        self.scalar(key, &Scalar::boolean(b))
+        let written = append_boolean_member(&mut self.bytes, key, b);
+        if written.is_err() {
+            self.bytes.clear();
+        }
+        written
     }
 
     /// Appends a number if there is one.
-    #[inline]
+    #[inline(always)]
     pub fn number_if(&mut self, key: &[u8], n: Option<u64>) -> Result<(), AllocError>
         requires { IsTrue (is_member_start key.now) }
     {
@@ -198,7 +223,7 @@ impl Members {
     }
 
     /// Appends a number as text in hexadecimal if there is one.
-    #[inline]
+    #[inline(always)]
     pub fn address_if(&mut self, key: &[u8], n: Option<u64>) -> Result<(), AllocError>
         requires { IsTrue (is_member_start key.now) }
     {
@@ -264,12 +289,20 @@ impl Members {
     }
 }
 
-/// Appends an element that is a scalar.
-fn append_scalar_element(out: &mut Vec<u8>, scalar: &Scalar) -> Result<(), AllocError>
+/// Appends an element that is a number.
+fn append_number_element(out: &mut Vec<u8>, n: u64) -> Result<(), AllocError>
     ensures { Appends IsElement out.old.items result out.new.items }
 {
     out.extend_from_slice(b",")?;
-    append_scalar(out, scalar)
+    append_number(out, n)
+}
+
+/// Appends an element that is a number in hexadecimal.
+fn append_address_element(out: &mut Vec<u8>, n: u64) -> Result<(), AllocError>
+    ensures { Appends IsElement out.old.items result out.new.items }
+{
+    out.extend_from_slice(b",")?;
+    append_address(out, n)
 }
 
 /// Appends an element that is a text.
@@ -316,9 +349,18 @@ impl Elements {
         self.bytes.as_slice()
     }
 
-    /// Appends a number, an address or a boolean.
-    pub fn scalar(&mut self, scalar: &Scalar) -> Result<(), AllocError> {
-        let written = append_scalar_element(&mut self.bytes, scalar);
+    /// Appends a number.
+    pub fn number(&mut self, n: u64) -> Result<(), AllocError> {
+        let written = append_number_element(&mut self.bytes, n);
+        if written.is_err() {
+            self.bytes.clear();
+        }
+        written
+    }
+
+    /// Appends a number as text in hexadecimal.
+    pub fn address(&mut self, n: u64) -> Result<(), AllocError> {
+        let written = append_address_element(&mut self.bytes, n);
         if written.is_err() {
             self.bytes.clear();
         }

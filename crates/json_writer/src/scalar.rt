@@ -1,21 +1,13 @@
 //! Numbers, addresses and booleans as JSON text.
-ghost use Rattle.std.specs.Prelude.{◌≡◌, ℕ, ◌+◌, ◌<◌, ◌≤◌, List, ◌∷◌, ◌++◌, length, drop, decimal, IsTrue};
+ghost use Rattle.std.specs.Prelude.{◌≡◌, ℕ, ◌+◌, ◌<◌, ◌≤◌, List, ◌∷◌, ◌++◌, length, drop, decimal, IsTrue, OnOk};
 ghost use Rattle.json_writer.specs.Json.{IsJson, value, is_hex_digit};
-ghost use Rattle.json_writer.specs.Writing.{is_plain_byte, is_plain};
+ghost use Rattle.json_writer.specs.Writing.{is_plain_byte, is_plain, Appends};
 
 use itoa::write_digits;
+use std::alloc::AllocError;
 
-/// The capacity of a scalar in bytes. The longest one has 20: a number of 20 digits, or an address of 16 in quotation marks.
+/// The size of an array for a number in bytes. The longest text has 20: 20 digits, or `0x` and 16 digits in quotation marks.
 const CAPACITY: usize = 24;
-
-/// A number, an address or a boolean as JSON text, at the end of an array.
-#[derive(Drop)]
-pub struct Scalar {
-    bytes: [u8; CAPACITY],
-    start: usize,
-    ghost in_range: { start ≤ 24 },
-    ghost valid: { ∥ IsJson value (drop start bytes) ∥₁ },
-}
 
 /// Writes one byte before index `end`, and returns its index.
 #[inline]
@@ -90,70 +82,49 @@ fn format_address(buf: &mut [u8; CAPACITY], n: u64) -> usize
     prepend_byte(buf, zero, b'"')
 }
 
-/// Writes the text before index `end`, and returns the index of its first byte.
-fn prepend_bytes(buf: &mut [u8], end: usize, text: &[u8]) -> usize
-    requires { (length text.now ≤ end) × (end ≤ length buf.old) }
-    ensures start { result + length text.now ≡ end }
-    ensures written { drop result buf.new ≡ text.now ++ drop end buf.old }
+/// The bytes from an index on.
+#[inline]
+fn bytes_from(buf: &[u8; CAPACITY], start: usize) -> &[u8]
+    requires { start ≤ 24 }
+    ensures { result.now ≡ drop start buf.now }
 {
-    let start = end - text.len();
-    buf[start..end].copy_from_slice(text);
-    start
+    &buf[start..]
 }
 
-/// Writes a boolean at the end of the array, and returns the index of its first byte.
-fn format_boolean(buf: &mut [u8; CAPACITY], b: bool) -> usize
-    ensures start { result ≤ 24 }
-    ensures valid { IsJson value (drop result buf.new) }
+/// Appends a number as decimal digits.
+pub fn append_number(out: &mut Vec<u8>, n: u64) -> Result<(), AllocError>
+    ensures text { OnOk result (out.new.items ≡ out.old.items ++ decimal n) }
+    ensures valid { IsJson value (decimal n) }
+{
+    let mut buf = [0; CAPACITY];
+    let start = format_number(&mut buf, n);
+    out.extend_from_slice(bytes_from(&buf, start))
+}
+
+/// Appends a signed number.
+pub(crate) fn append_signed(out: &mut Vec<u8>, n: i32) -> Result<(), AllocError>
+    ensures { Appends (IsJson value) out.old.items result out.new.items }
+{
+    let mut buf = [0; CAPACITY];
+    let start = format_signed(&mut buf, n);
+    out.extend_from_slice(bytes_from(&buf, start))
+}
+
+/// Appends a number as text, in hexadecimal digits after `0x`.
+pub(crate) fn append_address(out: &mut Vec<u8>, n: u64) -> Result<(), AllocError>
+    ensures { Appends (IsJson value) out.old.items result out.new.items }
+{
+    let mut buf = [0; CAPACITY];
+    let start = format_address(&mut buf, n);
+    out.extend_from_slice(bytes_from(&buf, start))
+}
+
+/// Appends a boolean.
+pub(crate) fn append_boolean(out: &mut Vec<u8>, b: bool) -> Result<(), AllocError>
+    ensures { Appends (IsJson value) out.old.items result out.new.items }
 {
     if b {
-        return prepend_bytes(buf, CAPACITY, b"true");
+        return out.extend_from_slice(b"true");
     }
-    prepend_bytes(buf, CAPACITY, b"false")
-}
-
-impl Scalar {
-    ghost use Rattle.json_writer.specs.ScalarText.{scalar_text};
-
-    /// A number.
-    #[inline]
-    pub fn number(n: u64) -> Scalar
-        ensures { scalar_text result ≡ decimal n }
-    {
-        let mut bytes = [0; CAPACITY];
-        let start = format_number(&mut bytes, n);
-        Scalar { bytes, start }
-    }
-
-    /// A signed number.
-    #[inline]
-    pub fn signed(n: i32) -> Scalar {
-        let mut bytes = [0; CAPACITY];
-        let start = format_signed(&mut bytes, n);
-        Scalar { bytes, start }
-    }
-
-    /// A number as text, in hexadecimal digits after `0x`.
-    #[inline]
-    pub fn address(n: u64) -> Scalar {
-        let mut bytes = [0; CAPACITY];
-        let start = format_address(&mut bytes, n);
-        Scalar { bytes, start }
-    }
-
-    /// A boolean.
-    pub fn boolean(b: bool) -> Scalar {
-        let mut bytes = [0; CAPACITY];
-        let start = format_boolean(&mut bytes, b);
-        Scalar { bytes, start }
-    }
-
-    /// The text.
-    #[inline]
-    pub fn as_bytes(&self) -> &[u8]
-        ensures text { result.now ≡ scalar_text self.now }
-        ensures valid { ∥ IsJson value result.now ∥₁ }
-    {
-        &self.bytes[self.start..]
-    }
+    out.extend_from_slice(b"false")
 }

@@ -3,7 +3,7 @@ ghost use Rattle.std.specs.Prelude.{◌≡◌, ◌≢◌, ◌<◌, ◌≤◌, Is
 ghost use Rattle.json_writer.specs.Json.{IsJson, value, IsJsonChars, is_escape_letter};
 ghost use Rattle.json_writer.specs.Writing.{is_plain_byte, is_plain, Appends};
 
-use crate::scalar::{Scalar, hex_digit};
+use crate::scalar::{append_number, hex_digit};
 use std::alloc::AllocError;
 use std::str;
 
@@ -145,7 +145,7 @@ pub(crate) fn append_bytes(out: &mut Vec<u8>, length: usize, first: &[u8]) -> Re
     ensures { Appends (IsJson value) out.old.items result out.new.items }
 {
     out.extend_from_slice(b"{\"length\":")?;
-    out.extend_from_slice(Scalar::number(length as u64).as_bytes())?;
+    append_number(out, length as u64)?;
     out.extend_from_slice(b",\"hex\":")?;
     append_hex_string(out, first)?;
     out.extend_from_slice(b"}")

@@ -4,7 +4,6 @@ ghost use Rattle.json_writer.specs.Writing.{is_member_start};
 
 use crate::names::error_name;
 use json_writer::members::{Elements, Members};
-use json_writer::scalar::Scalar;
 use perfdata_base::endian::read_u64;
 use perfdata_base::raw::RawData;
 use perfdata_events::sample_id::Task;
@@ -142,7 +141,7 @@ impl Body {
         let mut rest = values;
         for _ in 0..count_of(&values) {
             if let Some(value) = next_u64(&mut rest) {
-                self.elements.scalar(&Scalar::address(value))?;
+                self.elements.address(value)?;
             }
         }
         Ok(())

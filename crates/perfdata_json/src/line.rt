@@ -7,7 +7,7 @@ ghost use Rattle.perfdata_json.specs.LineText.{start_text, StartFits};
 
 use crate::body::Body;
 use crate::names::record_type_name;
-use json_writer::scalar::Scalar;
+use json_writer::scalar;
 use linux_perf_data::{PerfFile, PerfFileRecord, RecordPlace};
 use perfdata_events::format::EventFormat;
 use std::alloc::{AllocError, Global};
@@ -30,17 +30,17 @@ pub struct JsonLine {
 }
 
 /// Appends a key and a number.
-#[inline]
+#[inline(always)]
 fn append_number(out: &mut Vec<u8>, key: &[u8], n: u64) -> Result<(), AllocError>
     ensures text { OnOk result (out.new.items ≡ (out.old.items ++ key.now) ++ decimal n) }
     ensures fits { n < 2 ^ 64 }
 {
     out.extend_from_slice(key)?;
-    out.extend_from_slice(Scalar::number(n).as_bytes())
+    scalar::append_number(out, n)
 }
 
 /// Appends a key and a number if there is one.
-#[inline]
+#[inline(always)]
 fn append_optional(out: &mut Vec<u8>, key: &[u8], n: Option<u64>) -> Result<(), AllocError>
     ensures text { OnOk result (out.new.items ≡ out.old.items ++ optional_number key.now n) }
     ensures fits { IfSome n (λ number. number < 2 ^ 64) }

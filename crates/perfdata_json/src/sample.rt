@@ -1,7 +1,6 @@
 //! The fields of samples.
 use crate::body::{Body, count_of, next_u64};
 use crate::names::context_name;
-use json_writer::scalar::Scalar;
 use perfdata_events::call_chain::CallChain;
 use perfdata_events::format::EventFormat;
 use perfdata_events::read_values::{GroupValues, ReadRecord, ReadValues, SingleValues};
@@ -72,7 +71,7 @@ impl Body {
         for frame in chain.iter() {
             self.pair.clear();
             self.pair.text(context_name(frame.context))?;
-            self.pair.scalar(&Scalar::address(frame.address))?;
+            self.pair.address(frame.address)?;
             self.elements.array(&self.pair)?;
         }
         self.members.array(br#","call_chain":"#, &self.elements)

@@ -1,6 +1,5 @@
 //! The fields of records that tools wrote.
 use crate::body::Body;
-use json_writer::scalar::Scalar;
 use perfdata_base::attr::PerfEventAttr;
 use perfdata_records::auxtrace::Auxtrace;
 use perfdata_records::record::UserRecordType;
@@ -74,7 +73,7 @@ impl Body {
         self.members.object(br#","attribute":"#, &self.nested)?;
         self.elements.clear();
         for id in &header.ids {
-            self.elements.scalar(&Scalar::number(*id))?;
+            self.elements.number(*id)?;
         }
         self.members.array(br#","ids":"#, &self.elements)
     }
