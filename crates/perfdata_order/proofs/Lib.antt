@@ -5,3 +5,6 @@ pub mod RoundRule
 pub mod Steps
 pub mod InMemorySteps
 pub mod PerfRule
+pub mod StreamingCalls
+pub mod StreamingSteps
+pub mod StreamingRule

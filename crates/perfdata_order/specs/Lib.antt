@@ -3,4 +3,7 @@ pub mod Sorter
 pub mod SorterLaws
 pub mod InMemoryOrder
 pub mod Times
+pub mod HeldRecord
+pub mod StreamingOrder
+pub mod StreamingLaws
 pub mod InMemoryLaws

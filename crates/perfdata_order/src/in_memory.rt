@@ -34,7 +34,7 @@ pub struct InMemoryOrderedRecords<'a> {
 }
 
 // The time that a record is sorted by. 0 and 2^64 - 1 stand for no time.
-fn time_key(place: RecordPlace) -> Option<u64>
+pub(crate) fn time_key(place: RecordPlace) -> Option<u64>
     ensures { result ≡ time_key_of place }
 {
     match place.timestamp {

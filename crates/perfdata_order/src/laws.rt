@@ -1,6 +1,9 @@
 //! Laws of values and of records in order.
 ghost use Rattle.perfdata_order.specs.InMemoryLaws.{CallsSorterInTurn, ReadsRecordsOfInput, ReturnsEachRecordOnce, TimesAscendUnderPerfRule};
+ghost use Rattle.perfdata_order.specs.StreamingLaws.{ReadsRecordsOfSource, ReturnsEachRecordOnce as ReturnsEachRecordOnceOf, CallsSorterInTurn as CallsSorterInTurnOf, TimesAscendUnderPerfRule as TimesAscendUnderPerfRuleOf};
 ghost use Rattle.perfdata_order.specs.SorterLaws.{AscendsUnderRule, KeepsInsertionOrder, ReturnsEachOnce, RunsAscend};
+
+use linux_perf_data::source::Source;
 
 /// A [`Sorter`](crate::sorter::Sorter) returns each inserted value once. Equal keys keep the order of insertion, and consecutive
 /// calls of `get_next` ascend.
@@ -20,4 +23,13 @@ pub fn in_memory()
     ensures of_input { ReadsRecordsOfInput }
     ensures sorter_calls { CallsSorterInTurn }
     ensures times_ascend { TimesAscendUnderPerfRule }
+{}
+
+/// Over a source, each record that the iterator over the source returns is returned once, or is still held. The timed records
+/// are those of a sorter, so its laws apply to them.
+pub fn streaming<R: Source>()
+    ensures each_once { ReturnsEachRecordOnceOf R.state }
+    ensures of_source { ReadsRecordsOfSource R.state }
+    ensures sorter_calls { CallsSorterInTurnOf R.state }
+    ensures times_ascend { TimesAscendUnderPerfRuleOf R.state }
 {}

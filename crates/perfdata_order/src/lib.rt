@@ -1,9 +1,12 @@
 //! Records in order of time.
 //!
-//! The records of a recording stand in the order in which the buffers of the kernel were read. [`in_memory`] returns those of an
-//! input in memory in order of time. [`sorter::Sorter`] sorts any values whose rounds end one after another.
+//! The records of a recording stand in the order in which the buffers of the kernel were read. [`streaming`] returns those of
+//! a source in order of time, and [`in_memory`] those of an input in memory. [`sorter::Sorter`] sorts any values whose rounds end
+//! one after another.
 #![tactic(auto)]
 
+mod held_record;
 pub mod in_memory;
 pub mod laws;
 pub mod sorter;
+pub mod streaming;

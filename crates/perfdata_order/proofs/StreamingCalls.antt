@@ -1,0 +1,335 @@
+-- The steps of a call over a source.
+use Rattle.std.proofs.Common.{◌≡◌, ℕ, ◌+◌, ◌-◌, ◌*◌, ◌^◌, ◌<◌, ◌≤◌, List, [], ◌∷◌, ◌++◌, Some, Result, Ok, Err, refl, sym, ap, ◌∙◌, subst, inl, inr, arith}
+use Rattle.std.specs.Prelude.{Vec}
+use Rattle.std.specs.declared.alloc.Global.{Global}
+use Rattle.std.specs.Ordering.{nat_cmp}
+use Rattle.std.specs.declared.alloc.AllocError.{AllocError}
+use Rattle.std.proofs.lemmas.List.{take-append-drop}
+use Rattle.perfdata_base.specs.Source.{State}
+use Rattle.perfdata_sections.specs.declared.error.Error.{Error}
+use Rattle.linux_perf_data.specs.declared.records.iter.PerfRecordIter.{PerfRecordIter}
+use Rattle.linux_perf_data.specs.declared.perf_file.PerfFile.{PerfFile}
+use Rattle.linux_perf_data.specs.Iter.{ReturnsRecord}
+use Rattle.linux_perf_data.specs.Layout.{RecordView}
+use Rattle.perfdata_order.specs.declared.held_record.RecordInfo.{RecordInfo}
+use Rattle.perfdata_order.specs.declared.held_record.HeldRecord.{HeldRecord}
+use Rattle.perfdata_order.specs.declared.sorter.Sorter.{Sorter}
+use Rattle.perfdata_order.specs.declared.streaming.Pending.{Pending}
+use Rattle.perfdata_order.specs.declared.streaming.Pending.TheVariants as variant
+use Rattle.perfdata_order.specs.declared.streaming.OrderedRecords.{OrderedRecords}
+use Rattle.perfdata_order.specs.HeldRecord.{view_with, held_view}
+use Rattle.perfdata_order.specs.Sorter.{held_of, available_of, pending_of, limit_of, greatest_of, IsUnchanged, Inserted, EndsAllRounds}
+use Rattle.perfdata_order.specs.SorterLaws.Call.{inserts, ends_round, ends_all, returns, keeps}
+use Rattle.perfdata_order.specs.StreamingOrder.{Unplaced, unplaced_by, unplaced_of, AfterPlacing, PlacesPending, IsUnplaced, IsOngoing, pending_records, EndReturned, RecordReturned, Step, returned_in, TakesStep, TakesSteps, Progress, Places, ReadsPending, ReadsUntimed, EndsRoundsBefore, KeepsSorter, EndsRounds, InsertsPending, ReturnsSorted, TakesEnd, FailsInOrder, IsOneRoundLater, IsLaterOrLast}
+use Rattle.perfdata_order.specs.StreamingOrder.Unplaced.{nothing, timed, ending, failing, failed}
+use Rattle.perfdata_order.specs.StreamingOrder.Step.{reads, passes, reads_end, reads_error, sorts, reports}
+
+pub none_append : (ss ts : List Step) → returned_in ss ≡ [] → returned_in ts ≡ [] → returned_in (ss ++ ts) ≡ []
+none_append [] ts none more = more
+none_append (reads key h ∷ ss) ts none more = none_append ss ts none more
+none_append (passes h ∷ ss) ts none more = cc
+none_append (reads_end ∷ ss) ts none more = none_append ss ts none more
+none_append (reads_error e ∷ ss) ts none more = none_append ss ts none more
+none_append (sorts (inserts key held) ∷ ss) ts none more = none_append ss ts none more
+none_append (sorts ends_round ∷ ss) ts none more = none_append ss ts none more
+none_append (sorts ends_all ∷ ss) ts none more = none_append ss ts none more
+none_append (sorts (returns key held) ∷ ss) ts none more = cc
+none_append (sorts keeps ∷ ss) ts none more = none_append ss ts none more
+none_append (reports e ∷ ss) ts none more = none_append ss ts none more
+
+-- After the end of the source, or after an error.
+abbrev pub IsLast : Unplaced → Type 0
+IsLast nothing = ⊥
+IsLast (timed key h) = ⊥
+IsLast ending = Unit {0}
+IsLast (failing e) = Unit {0}
+IsLast failed = Unit {0}
+
+-- The body of a pending record.
+abbrev unplaced_body : Unplaced → List ℕ
+unplaced_body nothing = []
+unplaced_body (timed key h) = h.body
+unplaced_body ending = []
+unplaced_body (failing e) = []
+unplaced_body failed = []
+
+body_read : (p : Pending) (body : List ℕ) (key : ℕ) (h : RecordView) → unplaced_by p body ≡ timed key h → body ≡ h.body
+body_read variant.Nothing body key h is = cc
+body_read (variant.Record key' info) body key h is = ap unplaced_body is
+body_read variant.End body key h is = cc
+body_read (variant.Failure e) body key h is = cc
+body_read variant.Failed body key h is = cc
+
+abbrev pub with_parts : {R : Type 0} → OrderedRecords R → Sorter ℕ HeldRecord → Pending → Vec (Vec ℕ Global) Global → OrderedRecords R
+with_parts s sorter pending spare = record { alloc = s.alloc; records = s.records; sorter = sorter; round = s.round; pending = pending; body = s.body; returned = s.returned; spare = spare }
+
+abbrev pub with_sorter : {R : Type 0} → OrderedRecords R → Sorter ℕ HeldRecord → OrderedRecords R
+with_sorter s sorter = with_parts s sorter s.pending s.spare
+
+module _ {R : Type 0} (state : R → State) where
+  pub steps_append : (ss ts : List Step) (a b c : OrderedRecords R) (f g h : PerfFile) → TakesSteps state ss a f b g → TakesSteps state ts b g c h → TakesSteps state (ss ++ ts) a f c h
+  steps_append [] ts a b c f g h (same, same_file) more = subst (λ s. TakesSteps state ts s f c h) same (subst (λ q. TakesSteps state ts b q c h) same_file more)
+  steps_append (s ∷ ss) ts a b c f g h (next, (next_file, step, rest)) more = (next, (next_file, step, steps_append ss ts next b c next_file g h rest more))
+
+  one_step : (step : Step) (a b : OrderedRecords R) (f g : PerfFile) → TakesStep state step a f b g → TakesSteps state (step ∷ []) a f b g
+  one_step step a b f g taken = (b, (g, taken, (refl, refl)))
+
+  -- ---- steps that return nothing
+
+  -- Only buffers changed.
+  pub kept_order : (a b : OrderedRecords R) → b.sorter ≡ a.sorter → unplaced_of b ≡ unplaced_of a → b.records ≡ a.records → b.round ≡ a.round → KeepsSorter a b
+  kept_order a b sorter pending same_records same_round = record {
+    unchanged = record {
+      available = ap available_of sorter;
+      pending = ap pending_of sorter;
+      held = ap held_of sorter;
+      limit = ap limit_of sorter;
+      greatest = ap greatest_of sorter;
+    };
+    pending = pending;
+    same_records = same_records;
+    round = same_round;
+  }
+
+  pub no_progress : (a : OrderedRecords R) (f : PerfFile) → Progress state a f a f
+  no_progress a f = record { steps = []; none_returned = refl; taken = (refl, refl) }
+
+  pub progress_more : (a b c : OrderedRecords R) (f g h : PerfFile) → Progress state a f b g → (step : Step) → returned_in (step ∷ []) ≡ [] → TakesStep state step b g c h → Progress state a f c h
+  progress_more a b c f g h p step none taken = record {
+    steps = p.steps ++ step ∷ [];
+    none_returned = none_append p.steps (step ∷ []) p.none_returned none;
+    taken = steps_append p.steps (step ∷ []) a b c f g h p.taken (one_step step b c g h taken);
+  }
+
+  pub progress_places : (a b c : OrderedRecords R) (f g : PerfFile) → Progress state a f b g → Places state b c → Progress state a f c g
+  progress_places a b c f g p q = record {
+    steps = p.steps ++ q.steps;
+    none_returned = none_append p.steps q.steps p.none_returned q.none_returned;
+    taken = steps_append p.steps q.steps a b c f g g p.taken (q.taken g);
+  }
+
+  pub progress_read : (a b c : OrderedRecords R) (f g h : PerfFile) → Progress state a f b g → ReadsPending state b g c h → Progress state a f c h
+  progress_read a b c f g h p (inl (pending, same, same_file)) = subst (λ s. Progress state a f s h) (sym same) (subst (λ q. Progress state a f b q) (sym same_file) p)
+  progress_read a b c f g h p (inr (inl (key, (view, read)))) = progress_more a b c f g h p (reads key view) refl read
+  progress_read a b c f g h p (inr (inr (inl read))) = progress_more a b c f g h p reads_end refl read
+  progress_read a b c f g h p (inr (inr (inr (e, read)))) = progress_more a b c f g h p (reads_error e) refl read
+
+  pub progress_kept : (a b c : OrderedRecords R) (f g : PerfFile) → Progress state a f b g → KeepsSorter b c → Progress state a f c g
+  progress_kept a b c f g p kept = progress_more a b c f g g p (sorts keeps) refl (kept, refl)
+
+  -- Nothing was read, and the file is the same.
+  pub progress_unread : (a b c : OrderedRecords R) (f g h : PerfFile) → Progress state a f b g → KeepsSorter b c → h ≡ g → Progress state a f c h
+  progress_unread a b c f g h p kept same_file = subst (λ q. Progress state a f c q) (sym same_file) (progress_kept a b c f g p kept)
+
+  pub sorted_returned : (a b c : OrderedRecords R) (f g : PerfFile) (key : ℕ) (held : HeldRecord) (h : RecordView) → Progress state a f b g → ReturnsSorted b key held c → h ≡ held_view held → RecordReturned state a f h c g
+  sorted_returned a b c f g key held h p returned is = record {
+    middle = b;
+    middle_file = g;
+    before = p;
+    step = sorts (returns key held);
+    returns_record = ap (λ x. x ∷ []) (sym is);
+    taken = (returned, refl);
+  }
+
+  pub untimed_returned : (a b c : OrderedRecords R) (f g h : PerfFile) (view : RecordView) → Progress state a f b g → ReadsUntimed state b g view c h → RecordReturned state a f view c h
+  untimed_returned a b c f g h view p read = record {
+    middle = b;
+    middle_file = g;
+    before = p;
+    step = passes view;
+    returns_record = refl;
+    taken = read;
+  }
+
+  -- ---- placing what is pending
+
+  pub places_none : (a b : OrderedRecords R) → b ≡ a → Places state a b
+  places_none a b same = record { steps = []; none_returned = refl; taken = λ file. (same, refl) }
+
+  pub places_more : (a b c : OrderedRecords R) → Places state a b → (step : Step) → returned_in (step ∷ []) ≡ [] → ((file : PerfFile) → TakesStep state step b file c file) → Places state a c
+  places_more a b c p step none taken = record {
+    steps = p.steps ++ step ∷ [];
+    none_returned = none_append p.steps (step ∷ []) p.none_returned none;
+    taken = λ file. steps_append p.steps (step ∷ []) a b c file file file (p.taken file) (one_step step b c file file (taken file));
+  }
+
+  pub places_kept : (a b c : OrderedRecords R) → Places state a b → KeepsSorter b c → Places state a c
+  places_kept a b c p kept = places_more a b c p (sorts keeps) refl (λ file. (kept, refl))
+
+  pub places_ended : (a b c : OrderedRecords R) → Places state a b → EndsRounds b c → Places state a c
+  places_ended a b c p ended = places_more a b c p (sorts ends_all) refl (λ file. (ended, refl))
+
+  pub places_inserted : (a b c : OrderedRecords R) (key : ℕ) (held : HeldRecord) → Places state a b → InsertsPending b key held c → Places state a c
+  places_inserted a b c key held p inserted = places_more a b c p (sorts (inserts key held)) refl (λ file. (inserted, refl))
+
+  -- What the end of the rounds before a pending record leaves.
+  pub record RoundsPlaced (a : OrderedRecords R) (h : RecordView) (b : OrderedRecords R) : Type 0 where
+    pub places : Places state a b
+    pub pending : unplaced_of b ≡ unplaced_of a
+    pub same_records : b.records ≡ a.records
+    pub in_round : h.round ≤ b.round
+
+  pub rounds_placed : (a b : OrderedRecords R) (key : ℕ) (h : RecordView) → unplaced_of a ≡ timed key h → EndsRoundsBefore a h.round (Ok tt) b → RoundsPlaced a h b
+  rounds_placed a b key h was (inl (le, same)) = record {
+    places = places_none a b same;
+    pending = ap (λ s. unplaced_of s) same;
+    same_records = ap (λ s. s.records) same;
+    in_round = subst (λ s. h.round ≤ s.round) (sym same) le;
+  }
+  rounds_placed a b key h was (inr (inl one)) = record {
+    places = places_more a a b (places_none a a refl) (sorts ends_round) refl (λ file. (
+      record {
+        round = subst (λ p. IsOneRoundLater p a.round b.round) (sym was) (one.is_next, one.round);
+        ended = one.ended;
+        pending = one.pending;
+        same_records = one.same_records;
+      },
+      refl,
+    ));
+    pending = one.pending;
+    same_records = one.same_records;
+    in_round = subst (λ n. h.round ≤ n) (sym one.round) (omega arith);
+  }
+  rounds_placed a b key h was (inr (inr all)) = record {
+    places = places_more a a b (places_none a a refl) (sorts ends_all) refl (λ file. (
+      record {
+        round = subst (λ p. IsLaterOrLast p a.round b.round) (sym was) (all.is_later, all.round);
+        ended = all.ended;
+        pending = all.pending;
+        same_records = all.same_records;
+      },
+      refl,
+    ));
+    pending = all.pending;
+    same_records = all.same_records;
+    in_round = subst (λ n. h.round ≤ n) (sym all.round) (omega arith);
+  }
+
+  -- ---- what a record that was read shows of the offset
+
+  pub offset_rises : (old new : PerfRecordIter R) (file file' : PerfFile) (h : RecordView) → ReturnsRecord state old file h new file' → (old.offset + 8 ≤ new.offset) × (new.offset < 2 ^ 64)
+  offset_rises old new file file' h returned =
+      let at = returned.record_offset in
+      let offset = returned.offset in
+      (omega (arith, at, offset), returned.offset_fits)
+
+  -- ---- what placing leaves
+
+  pub record_placed : (a b c : OrderedRecords R) (key : ℕ) (info : RecordInfo) (held : HeldRecord) → unplaced_of a ≡ timed key (view_with info a.body.items) → RoundsPlaced a (view_with info a.body.items) b
+      → held_view held ≡ view_with info b.body.items → Inserted nat_cmp b.sorter key held c.sorter
+      → unplaced_of c ≡ nothing → c.records ≡ b.records → c.round ≡ b.round → Places state a c × AfterPlacing state (unplaced_of a) c × (c.records ≡ a.records)
+  record_placed a b c key info held was placed copied inserted none same_records same_round =
+      let now = placed.pending ∙ was in
+      let is = copied ∙ ap (λ body. view_with info body) (body_read b.pending b.body.items key (view_with info a.body.items) now) in (
+        places_inserted a b c key held placed.places (record {
+          was_pending = now ∙ ap (λ h. timed key h) (sym is);
+          in_round = subst (λ h. h.round ≤ b.round) (sym is) placed.in_round;
+          inserted = inserted;
+          pending = none;
+          same_records = same_records;
+          round = same_round;
+        }),
+        subst (λ q. AfterPlacing state q c) (sym was) none,
+        same_records ∙ placed.same_records,
+      )
+
+  ended : (a c : OrderedRecords R) → Places state a c → (q : Unplaced) → unplaced_of a ≡ q → AfterPlacing state q c → c.records ≡ a.records → Places state a c × AfterPlacing state (unplaced_of a) c × (c.records ≡ a.records)
+  ended a c places q is after same_records = (places, subst (λ q. AfterPlacing state q c) (sym is) after, same_records)
+
+  last_round : (q : Unplaced) (old new : ℕ) → IsLast q → new ≡ old → IsLaterOrLast q old new
+  last_round nothing old new last same = absurd last
+  last_round (timed key h) old new last same = absurd last
+  last_round ending old new last same = same
+  last_round (failing e) old new last same = same
+  last_round failed old new last same = same
+
+  last_after : (q : Unplaced) (c : OrderedRecords R) → IsLast q → unplaced_of c ≡ q → pending_of c.sorter ≡ [] → AfterPlacing state q c
+  last_after nothing c last same none = absurd last
+  last_after (timed key h) c last same none = absurd last
+  last_after ending c last same none = (same, none)
+  last_after (failing e) c last same none = (same, none)
+  last_after failed c last same none = (same, none)
+
+  pub last_placed : (a c : OrderedRecords R) (result : Result (Unit {0}) AllocError) (q : Unplaced) → IsLast q → unplaced_of a ≡ q → EndsAllRounds nat_cmp a.sorter result c.sorter → unplaced_of c ≡ unplaced_of a → c.records ≡ a.records → c.round ≡ a.round → PlacesPending state a result c
+  last_placed a c (Ok done) q last is all pending same_records same_round =
+      ended a c (places_ended a a c (places_none a a refl) (record { round = subst (λ p. IsLaterOrLast p a.round c.round) (sym is) (last_round q a.round c.round last same_round); ended = all; pending = pending; same_records = same_records }))
+      q is (last_after q c last (pending ∙ is) all.pending) same_records
+  last_placed a c (Err e) q last is unchanged pending same_records same_round =
+      places_kept a a c (places_none a a refl) (record { unchanged = unchanged; pending = pending; same_records = same_records; round = same_round })
+
+  pub none_pending_at : (q p : Unplaced) (b : OrderedRecords R) → AfterPlacing state q b → IsLast p → unplaced_of b ≡ p → pending_of b.sorter ≡ []
+  none_pending_at nothing p b after last is = absurd (subst (λ x. IsLast x) (sym is ∙ after) last)
+  none_pending_at (timed key h) p b after last is = absurd (subst (λ x. IsLast x) (sym is ∙ after) last)
+  none_pending_at ending p b after last is = after.1
+  none_pending_at (failing e) p b after last is = after.1
+  none_pending_at failed p b after last is = after.1
+
+  pub none_held : (s : Sorter ℕ HeldRecord) → available_of s ≡ [] → pending_of s ≡ [] → held_of s ≡ []
+  none_held s available pending = sym (take-append-drop s.available s.held.items) ∙ ap (λ xs. xs ++ pending_of s) available ∙ pending
+
+  -- After a call that changed nothing, with nothing available.
+  pub none_held_after : (s t : Sorter ℕ HeldRecord) → available_of s ≡ [] → IsUnchanged s t → pending_of s ≡ [] → held_of t ≡ []
+  none_held_after s t available unchanged pending = unchanged.held ∙ none_held s available pending
+
+  pub end_returned : (a b c : OrderedRecords R) (f g : PerfFile) → Progress state a f b g → c ≡ b → unplaced_of b ≡ ending → held_of b.sorter ≡ [] → EndReturned state a f c g
+  end_returned a b c f g p same is held = record {
+    before = subst (λ s. Progress state a f s g) (sym same) p;
+    at_end = ap (λ s. unplaced_of s) same ∙ is;
+    all_returned = ap (λ s. held_of s.sorter) same ∙ held;
+  }
+
+  -- The error is returned. `q` was pending before `placed`, and nothing was available then.
+  pub error_returned : (a placed kept c : OrderedRecords R) (f g : PerfFile) (q : Unplaced) (e : Error) → Progress state a f kept g → AfterPlacing state q placed → available_of placed.sorter ≡ [] → KeepsSorter placed kept
+      → TakesEnd kept (Some (Err e)) c → FailsInOrder state a f e c g
+  error_returned a placed kept c f g q e p after available unchanged (inl (was, now, same_records, same_order)) = inl (record {
+    middle = kept;
+    before = p;
+    reported = record {
+      was_pending = was;
+      all_returned = none_held_after placed.sorter kept.sorter available unchanged.unchanged (none_pending_at q (failing e) placed after tt (sym unchanged.pending ∙ was));
+      pending = now;
+      same_records = same_records;
+      same_order = same_order;
+    };
+  })
+  error_returned a placed kept c f g q e p after available unchanged (inr (is, same, was)) = inr (inl (record {
+    is_failed = is;
+    before = subst (λ s. Progress state a f s g) (sym same) p;
+    has_failed = ap (λ s. unplaced_of s) same ∙ was;
+    all_returned = ap (λ s. held_of s.sorter) same ∙ none_held_after placed.sorter kept.sorter available unchanged.unchanged (none_pending_at q failed placed after tt (sym unchanged.pending ∙ was));
+  }))
+
+  -- ---- a call ends
+
+  -- What is left to do: bytes to read, and a record to place.
+  abbrev pub work_of : OrderedRecords R → ℕ
+  work_of s = 2 * (2 ^ 64 - s.records.offset) + pending_records (unplaced_of s)
+
+  placed_record : (q : Unplaced) (p : OrderedRecords R) → IsUnplaced q → AfterPlacing state q p → IsOngoing (unplaced_of p) → (pending_records q ≡ 1) × (unplaced_of p ≡ nothing)
+  placed_record nothing p pending after ongoing = absurd pending
+  placed_record (timed key h) p pending after ongoing = (refl, after)
+  placed_record ending p pending after ongoing = absurd (subst (λ x. IsOngoing x) after.0 ongoing)
+  placed_record (failing e) p pending after ongoing = absurd (subst (λ x. IsOngoing x) after.0 ongoing)
+  placed_record failed p pending after ongoing = absurd (subst (λ x. IsOngoing x) after.0 ongoing)
+
+  falls_by_record : (old new n m : ℕ) → old ≡ new → n ≡ 1 → m ≡ 0 → 2 * (2 ^ 64 - new) + m < 2 * (2 ^ 64 - old) + n
+  falls_by_record old new n m same one none = omega arith
+
+  falls_by_read : (old new n m : ℕ) → old + 8 ≤ new → new < 2 ^ 64 → m ≡ 0 → 2 * (2 ^ 64 - new) + m < 2 * (2 ^ 64 - old) + n
+  falls_by_read old new n m rises fits none = omega arith
+
+  pub work_falls : (s b p kept : OrderedRecords R) (f g : PerfFile) → ReadsPending state s f b g → AfterPlacing state (unplaced_of b) p → p.records ≡ b.records → KeepsSorter p kept → IsOngoing (unplaced_of kept) → work_of kept < work_of s
+  work_falls s b p kept f g (inl (pending, same, same_file)) after same_records unchanged ongoing =
+      let placed = placed_record (unplaced_of s) p pending (subst (λ q. AfterPlacing state (unplaced_of q) p) same after) (subst (λ x. IsOngoing x) unchanged.pending ongoing) in
+      falls_by_record s.records.offset kept.records.offset (pending_records (unplaced_of s)) (pending_records (unplaced_of kept))
+      (sym (ap (λ r. r.offset) unchanged.same_records ∙ ap (λ r. r.offset) same_records ∙ ap (λ q. q.records.offset) same)) placed.0 (ap pending_records (unchanged.pending ∙ placed.1))
+  work_falls s b p kept f g (inr (inl (key, (h, read)))) after same_records unchanged ongoing =
+      let rises = offset_rises s.records b.records f g h read.returned in
+      let none = subst (λ q. AfterPlacing state q p) read.pending after in
+      let same = ap (λ r. r.offset) unchanged.same_records ∙ ap (λ r. r.offset) same_records in
+      falls_by_read s.records.offset kept.records.offset (pending_records (unplaced_of s)) (pending_records (unplaced_of kept))
+      (subst (λ n. s.records.offset + 8 ≤ n) (sym same) rises.0) (subst (λ n. n < 2 ^ 64) (sym same) rises.1) (ap pending_records (unchanged.pending ∙ none))
+  work_falls s b p kept f g (inr (inr (inl read))) after same_records unchanged ongoing =
+      let placed = subst (λ q. AfterPlacing state q p) read.pending after in absurd (subst (λ x. IsOngoing x) (unchanged.pending ∙ placed.0) ongoing)
+  work_falls s b p kept f g (inr (inr (inr (e, read)))) after same_records unchanged ongoing =
+      let placed = subst (λ q. AfterPlacing state q p) read.pending after in absurd (subst (λ x. IsOngoing x) (unchanged.pending ∙ placed.0) ongoing)

@@ -1,0 +1,239 @@
+-- The times that are returned ascend where the records of the source keep perf's rule.
+use Rattle.std.proofs.Common.{◌≡◌, ℕ, ◌+◌, ◌≤◌, List, [], ◌∷◌, ◌++◌, get_or, map, All, refl, sym, ap, ◌∙◌, subst, inl, inr, arith}
+use Rattle.std.specs.Prelude.{◌⊎◌}
+use Rattle.std.specs.Ordering.{nat_cmp}
+use Rattle.std.specs.Cmp.{nat_cmp_total}
+use Rattle.std.proofs.lemmas.List.Elements.{All-nil, All-cons, All-head, All-tail}
+use Rattle.perfdata_base.specs.Source.{State}
+use Rattle.linux_perf_data.specs.declared.perf_file.PerfFile.{PerfFile}
+use Rattle.linux_perf_data.specs.Layout.{RecordView}
+use Rattle.perfdata_order.specs.declared.held_record.HeldRecord.{HeldRecord}
+use Rattle.perfdata_order.specs.declared.streaming.OrderedRecords.{OrderedRecords}
+use Rattle.perfdata_order.specs.HeldRecord.{held_view}
+use Rattle.perfdata_order.specs.Order.{IsAtMost}
+use Rattle.perfdata_order.specs.SorterLaws.{inserted_in_rounds, KeepsRoundRule}
+use Rattle.perfdata_order.specs.SorterLaws.Call.{inserts, ends_round, ends_all, returns, keeps}
+use Rattle.perfdata_order.specs.StreamingOrder.{Unplaced, unplaced_of, Step, TakesSteps, IsOneRoundLater, IsLaterOrLast}
+use Rattle.perfdata_order.specs.StreamingOrder.Unplaced.{nothing, timed, ending, failing, failed}
+use Rattle.perfdata_order.specs.StreamingOrder.Step.{reads, passes, reads_end, reads_error, sorts, reports}
+use Rattle.perfdata_order.specs.StreamingLaws.{read_in, calls_in, timed_by, timed_of, RoundsRise, TimesAscendUnderPerfRule}
+use Rattle.perfdata_order.specs.Times.{key_of_time}
+use Rattle.perfdata_order.proofs.AscendingRuns.{all_prefix}
+use Rattle.perfdata_order.proofs.RoundRule.{ascends_under_rule}
+use Rattle.perfdata_order.proofs.StreamingCalls.{IsLast}
+use Rattle.perfdata_order.proofs.StreamingSteps.{nothing_read, calls_sorter_in_turn}
+
+abbrev Timed : Type 0
+Timed = ℕ × (ℕ × RecordView)
+
+abbrev Placed : Type 0
+Placed = ℕ × (ℕ × HeldRecord)
+
+abbrev pending_timed : Unplaced → List Timed
+pending_timed nothing = []
+pending_timed (timed key h) = (h.round, (key, h)) ∷ []
+pending_timed ending = []
+pending_timed (failing e) = []
+pending_timed failed = []
+
+-- An inserted entry with the round of its record.
+abbrev as_timed : Placed → Timed
+as_timed y = ((held_view y.1.1).round, (y.1.0, held_view y.1.1))
+
+-- The records of two rounds later are two rounds later in the sorter too.
+abbrev IsInRounds : ℕ → ℕ → Placed → Type 0
+IsInRounds n round y = (n + 1 ≤ y.0 → round + 1 ≤ (held_view y.1.1).round) × (n + 2 ≤ y.0 → round + 2 ≤ (held_view y.1.1).round)
+
+record Follows (n round : ℕ) (inserted : List Placed) (times : List Timed) : Type 0 where
+  rest : List Timed
+  prefix : map as_timed inserted ++ rest ≡ times
+  bounds : All (IsInRounds n round) inserted
+  rule : KeepsRoundRule nat_cmp inserted
+
+from_map : (P : Timed → Type 0) (ys : List Placed) → All P (map as_timed ys) → All (λ y. P (as_timed y)) ys
+from_map P [] all = All-nil (λ y. P (as_timed y))
+from_map P (y ∷ ys) all = All-cons (λ y. P (as_timed y)) y ys (All-head P (as_timed y) (map as_timed ys) all) (from_map P ys (All-tail P (as_timed y) (map as_timed ys) all))
+
+-- What holds of the timed records also holds of the inserted ones.
+transfer : (P : Timed → Type 0) (ys : List Placed) (rest times : List Timed) → map as_timed ys ++ rest ≡ times → All P times → All (λ y. P (as_timed y)) ys
+transfer P ys rest times prefix all = from_map P ys (all_prefix P (map as_timed ys) rest (subst (λ es. All P es) (sym prefix) all))
+
+follows_none : (n round : ℕ) (times : List Timed) → Follows n round [] times
+follows_none n round times = record { rest = times; prefix = refl; bounds = All-nil (IsInRounds n round); rule = tt }
+
+two_rounds : (n round first : ℕ) (y : Placed) → first ≤ round → (n + 2 ≤ y.0 → round + 2 ≤ (held_view y.1.1).round) → n + 2 ≤ y.0 → first + 2 ≤ (held_view y.1.1).round
+two_rounds n round first y in_round bound le = let far = bound le in omega arith
+
+follows_insert : (n round key : ℕ) (held : HeldRecord) (ys : List Placed) (times : List Timed) → (held_view held).round ≤ round → All (λ later. (held_view held).round + 2 ≤ later.0 → IsAtMost nat_cmp (key, held_view held) later.1) times
+    → Follows n round ys times → Follows n round ((n, (key, held)) ∷ ys) (((held_view held).round, (key, held_view held)) ∷ times)
+follows_insert n round key held ys times in_round all f =
+    let known = transfer (λ later. (held_view held).round + 2 ≤ later.0 → IsAtMost nat_cmp (key, held_view held) later.1) ys f.rest times f.prefix all in
+    record {
+      rest = f.rest;
+      prefix = ap (λ es. ((held_view held).round, (key, held_view held)) ∷ es) f.prefix;
+      bounds = All-cons (IsInRounds n round) (n, (key, held)) ys (λ le. absurd (omega arith), λ le. absurd (omega arith)) f.bounds;
+      rule = (λ i d lt le. known i d lt (two_rounds n round (held_view held).round (get_or ys i d) in_round (f.bounds i d lt).1 le), f.rule);
+    }
+
+one_more : (n round : ℕ) (y : Placed) → (n + 1 + 1 ≤ y.0 → round + 1 + 1 ≤ (held_view y.1.1).round) → n + 2 ≤ y.0 → round + 2 ≤ (held_view y.1.1).round
+one_more n round y bound le = let far = bound (omega arith) in omega arith
+
+follows_round : (n round : ℕ) (ys : List Placed) (times : List Timed) → All (λ y. round + 1 ≤ y.0) times → Follows (n + 1) (round + 1) ys times → Follows n round ys times
+follows_round n round ys times all f =
+    let known = transfer (λ y. round + 1 ≤ y.0) ys f.rest times f.prefix all in
+    record {
+      rest = f.rest;
+      prefix = f.prefix;
+      bounds = λ i d lt. (λ le. known i d lt, λ le. one_more n round (get_or ys i d) (f.bounds i d lt).0 le);
+      rule = f.rule;
+    }
+
+follows_rounds : (n round to : ℕ) (ys : List Placed) (times : List Timed) → round + 2 ≤ to → All (λ y. to ≤ y.0) times → Follows (n + 2) to ys times → Follows n round ys times
+follows_rounds n round to ys times later all f =
+    let known = transfer (λ y. to ≤ y.0) ys f.rest times f.prefix all in
+    record {
+      rest = f.rest;
+      prefix = f.prefix;
+      bounds = λ i d lt. let far = known i d lt in (λ le. omega (arith, far, later), λ le. omega (arith, far, later));
+      rule = f.rule;
+    }
+
+follows_end : (n m round : ℕ) (ys : List Placed) (times : List Timed) → times ≡ [] → Follows m round ys times → Follows n round ys times
+follows_end n m round ys times none f =
+    let known = transfer (λ y. ⊥) ys f.rest times f.prefix (subst (λ es. All (λ y. ⊥) es) (sym none) (All-nil (λ (y : Timed). ⊥))) in
+    record { rest = f.rest; prefix = f.prefix; bounds = λ i d lt. absurd (known i d lt); rule = f.rule }
+
+-- The end of rounds before the pending record.
+one_round : (q : Unplaced) (ahead : List Timed) (old new : ℕ) → IsOneRoundLater q old new → RoundsRise (pending_timed q ++ ahead) → (new ≡ old + 1) × All (λ y. new ≤ y.0) (pending_timed q ++ ahead)
+one_round nothing after old new one rise = absurd one
+one_round (timed key h) after old new one rise =
+    (one.1 ∙ one.0, subst (λ k. All (λ y. k ≤ y.0) ((h.round, (key, h)) ∷ after)) (sym one.1) (All-cons (λ y. h.round ≤ y.0) (h.round, (key, h)) after (omega arith) rise.0))
+one_round ending after old new one rise = absurd one
+one_round (failing e) after old new one rise = absurd one
+one_round failed after old new one rise = absurd one
+
+later_rounds : (q : Unplaced) (ahead : List Timed) (old new : ℕ) → IsLaterOrLast q old new → RoundsRise (pending_timed q ++ ahead) → ((old + 2 ≤ new) × All (λ y. new ≤ y.0) (pending_timed q ++ ahead)) ⊎ ((new ≡ old) × IsLast q)
+later_rounds nothing after old new later rise = absurd later
+later_rounds (timed key h) after old new later rise =
+    inl (subst (λ k. old + 2 ≤ k) (sym later.1) later.0, subst (λ k. All (λ y. k ≤ y.0) ((h.round, (key, h)) ∷ after)) (sym later.1) (All-cons (λ y. h.round ≤ y.0) (h.round, (key, h)) after (omega arith) rise.0))
+later_rounds ending after old new later rise = inr (later, tt)
+later_rounds (failing e) after old new later rise = inr (later, tt)
+later_rounds failed after old new later rise = inr (later, tt)
+
+none_pending : (q : Unplaced) → IsLast q → pending_timed q ≡ []
+none_pending nothing final = absurd final
+none_pending (timed key h) final = absurd final
+none_pending ending final = refl
+none_pending (failing e) final = refl
+none_pending failed final = refl
+
+module _ {R : Type 0} (state : R → State) where
+  -- The timed records that are still to be inserted.
+  abbrev ahead : OrderedRecords R → List Step → List Timed
+  ahead s steps = pending_timed (unplaced_of s) ++ timed_of (read_in steps)
+
+  -- What is known of the records ahead.
+  record Ahead (s : OrderedRecords R) (times : List Timed) : Type 0 where
+    from_round : All (λ y. s.round ≤ y.0) times
+    rise : RoundsRise times
+    rule : KeepsRoundRule nat_cmp times
+
+  -- The same records are ahead after the step.
+  same_ahead : (s t : OrderedRecords R) (before after : List Timed) → t.round ≡ s.round → before ≡ after → Ahead s before → Ahead t after
+  same_ahead s t before after same_round same h = record {
+    from_round = subst (λ k. All (λ y. k ≤ y.0) after) (sym same_round) (subst (λ es. All (λ y. s.round ≤ y.0) es) same h.from_round);
+    rise = subst (λ es. RoundsRise es) same h.rise;
+    rule = subst (λ es. KeepsRoundRule nat_cmp es) same h.rule;
+  }
+
+  same_follows : (n : ℕ) (s t : OrderedRecords R) (ys : List Placed) (before after : List Timed) → t.round ≡ s.round → before ≡ after → Follows n t.round ys after → Follows n s.round ys before
+  same_follows n s t ys before after same_round same f = subst (λ k. Follows n k ys before) same_round (subst (λ es. Follows n t.round ys es) (sym same) f)
+
+  all_ended : (n : ℕ) (steps : List Step) (s next : OrderedRecords R) → ahead s steps ≡ ahead next steps → Ahead s (ahead s steps)
+      → ((s.round + 2 ≤ next.round) × All (λ y. next.round ≤ y.0) (ahead s steps)) ⊎ ((next.round ≡ s.round) × IsLast (unplaced_of s)) → (IsLast (unplaced_of s) → read_in steps ≡ [])
+      → (Ahead next (ahead next steps) → Follows (n + 2) next.round (inserted_in_rounds (n + 2) (calls_in steps)) (ahead next steps)) → Follows n s.round (inserted_in_rounds (n + 2) (calls_in steps)) (ahead s steps)
+  all_ended n steps s next same given (inl (later, all)) none more =
+      let after : Ahead next (ahead s steps) = record { from_round = all; rise = given.rise; rule = given.rule } in
+      let f = more (same_ahead next next (ahead s steps) (ahead next steps) refl same after) in
+      follows_rounds n s.round next.round (inserted_in_rounds (n + 2) (calls_in steps)) (ahead s steps) later all
+      (subst (λ es. Follows (n + 2) next.round (inserted_in_rounds (n + 2) (calls_in steps)) es) (sym same) f)
+  all_ended n steps s next same given (inr (same_round, final)) none more =
+      let f = more (same_ahead s next (ahead s steps) (ahead next steps) same_round same given) in
+      let empty : ahead s steps ≡ [] = ap (λ p. p ++ timed_of (read_in steps)) (none_pending (unplaced_of s) final) ∙ ap (λ es. timed_of es) (none final) in
+      follows_end n (n + 2) s.round (inserted_in_rounds (n + 2) (calls_in steps)) (ahead s steps) empty
+      (same_follows (n + 2) s next (inserted_in_rounds (n + 2) (calls_in steps)) (ahead s steps) (ahead next steps) same_round same f)
+
+  follows : (n : ℕ) (steps : List Step) (s t : OrderedRecords R) (f g : PerfFile) → TakesSteps state steps s f t g → Ahead s (ahead s steps) → Follows n s.round (inserted_in_rounds n (calls_in steps)) (ahead s steps)
+  follows n [] s t f g taken given = follows_none n s.round (ahead s [])
+  follows n (reads key h ∷ steps) s t f g (next, (next_file, step, rest)) given =
+      let same : ahead s (reads key h ∷ steps) ≡ ahead next steps =
+      ap (λ p. pending_timed p ++ (timed_by (key_of_time h.timestamp) h ++ timed_of (read_in steps))) step.nothing_pending ∙ ap (λ k. timed_by k h ++ timed_of (read_in steps)) step.has_time
+      ∙ ap (λ p. pending_timed p ++ timed_of (read_in steps)) (sym step.pending) in
+      let after = same_ahead s next (ahead s (reads key h ∷ steps)) (ahead next steps) step.same_order.round same given in
+      same_follows n s next (inserted_in_rounds n (calls_in steps)) (ahead s (reads key h ∷ steps)) (ahead next steps) step.same_order.round same (follows n steps next t next_file g rest after)
+  follows n (passes h ∷ steps) s t f g (next, (next_file, step, rest)) given =
+      let same : ahead s (passes h ∷ steps) ≡ ahead next steps =
+      ap (λ p. pending_timed p ++ (timed_by (key_of_time h.timestamp) h ++ timed_of (read_in steps))) step.nothing_pending ∙ ap (λ k. timed_by k h ++ timed_of (read_in steps)) step.untimed
+      ∙ ap (λ p. pending_timed p ++ timed_of (read_in steps)) (sym step.pending) in
+      let after = same_ahead s next (ahead s (passes h ∷ steps)) (ahead next steps) step.same_order.round same given in
+      same_follows n s next (inserted_in_rounds n (calls_in steps)) (ahead s (passes h ∷ steps)) (ahead next steps) step.same_order.round same (follows n steps next t next_file g rest after)
+  follows n (reads_end ∷ steps) s t f g (next, (next_file, step, rest)) given =
+      let same : ahead s (reads_end ∷ steps) ≡ ahead next steps =
+      ap (λ p. pending_timed p ++ timed_of (read_in steps)) step.nothing_pending ∙ ap (λ p. pending_timed p ++ timed_of (read_in steps)) (sym step.pending) in
+      let after = same_ahead s next (ahead s (reads_end ∷ steps)) (ahead next steps) step.same_order.round same given in
+      same_follows n s next (inserted_in_rounds n (calls_in steps)) (ahead s (reads_end ∷ steps)) (ahead next steps) step.same_order.round same (follows n steps next t next_file g rest after)
+  follows n (reads_error e ∷ steps) s t f g (next, (next_file, step, rest)) given =
+      let same : ahead s (reads_error e ∷ steps) ≡ ahead next steps =
+      ap (λ p. pending_timed p ++ timed_of (read_in steps)) step.nothing_pending ∙ ap (λ p. pending_timed p ++ timed_of (read_in steps)) (sym step.pending) in
+      let after = same_ahead s next (ahead s (reads_error e ∷ steps)) (ahead next steps) step.same_order.round same given in
+      same_follows n s next (inserted_in_rounds n (calls_in steps)) (ahead s (reads_error e ∷ steps)) (ahead next steps) step.same_order.round same (follows n steps next t next_file g rest after)
+  follows n (sorts (inserts key held) ∷ steps) s t f g (next, (next_file, step, rest)) given =
+      let more : ahead s (sorts (inserts key held) ∷ steps) ≡ ((held_view held).round, (key, held_view held)) ∷ timed_of (read_in steps) = ap (λ p. pending_timed p ++ timed_of (read_in steps)) step.0.was_pending in
+      let left : ahead next steps ≡ timed_of (read_in steps) = ap (λ p. pending_timed p ++ timed_of (read_in steps)) step.0.pending in
+      let here = same_ahead s s (ahead s (sorts (inserts key held) ∷ steps)) (((held_view held).round, (key, held_view held)) ∷ timed_of (read_in steps)) refl more given in
+      let after : Ahead next (timed_of (read_in steps)) = record {
+        from_round = subst (λ k. All (λ y. k ≤ y.0) (timed_of (read_in steps))) (sym step.0.round) (All-tail (λ y. s.round ≤ y.0) ((held_view held).round, (key, held_view held)) (timed_of (read_in steps)) here.from_round);
+        rise = here.rise.1;
+        rule = here.rule.1;
+      } in
+      let tail = follows n steps next t next_file g rest (same_ahead next next (timed_of (read_in steps)) (ahead next steps) refl (sym left) after) in
+      let tail' = same_follows n s next (inserted_in_rounds n (calls_in steps)) (timed_of (read_in steps)) (ahead next steps) step.0.round (sym left) tail in
+      subst (λ es. Follows n s.round ((n, (key, held)) ∷ inserted_in_rounds n (calls_in steps)) es) (sym more)
+      (follows_insert n s.round key held (inserted_in_rounds n (calls_in steps)) (timed_of (read_in steps)) step.0.in_round here.rule.0 tail')
+  follows n (sorts ends_round ∷ steps) s t f g (next, (next_file, step, rest)) given =
+      let same : ahead s (sorts ends_round ∷ steps) ≡ ahead next steps = ap (λ p. pending_timed p ++ timed_of (read_in steps)) (sym step.0.pending) in
+      let ended = one_round (unplaced_of s) (timed_of (read_in steps)) s.round next.round step.0.round given.rise in
+      let after : Ahead next (ahead s steps) = record { from_round = ended.1; rise = given.rise; rule = given.rule } in
+      let later = follows (n + 1) steps next t next_file g rest (same_ahead next next (ahead s steps) (ahead next steps) refl same after) in
+      let later' = subst (λ k. Follows (n + 1) k (inserted_in_rounds (n + 1) (calls_in steps)) (ahead s steps)) ended.0 (subst (λ es. Follows (n + 1) next.round (inserted_in_rounds (n + 1) (calls_in steps)) es) (sym same) later) in
+      follows_round n s.round (inserted_in_rounds (n + 1) (calls_in steps)) (ahead s steps) (subst (λ k. All (λ y. k ≤ y.0) (ahead s steps)) ended.0 ended.1) later'
+  follows n (sorts ends_all ∷ steps) s t f g (next, (next_file, step, rest)) given =
+      let same : ahead s (sorts ends_all ∷ steps) ≡ ahead next steps = ap (λ p. pending_timed p ++ timed_of (read_in steps)) (sym step.0.pending) in
+      all_ended n steps s next same given (later_rounds (unplaced_of s) (timed_of (read_in steps)) s.round next.round step.0.round given.rise)
+      (λ final. nothing_read state steps next t next_file g (subst (λ q. IsLast q) (sym step.0.pending) final) rest) (λ after. follows (n + 2) steps next t next_file g rest after)
+  follows n (sorts (returns key held) ∷ steps) s t f g (next, (next_file, step, rest)) given =
+      let same : ahead s (sorts (returns key held) ∷ steps) ≡ ahead next steps = ap (λ p. pending_timed p ++ timed_of (read_in steps)) (sym step.0.pending) in
+      let after = same_ahead s next (ahead s steps) (ahead next steps) step.0.round same given in
+      same_follows n s next (inserted_in_rounds n (calls_in steps)) (ahead s steps) (ahead next steps) step.0.round same (follows n steps next t next_file g rest after)
+  follows n (sorts keeps ∷ steps) s t f g (next, (next_file, step, rest)) given =
+      let same : ahead s (sorts keeps ∷ steps) ≡ ahead next steps = ap (λ p. pending_timed p ++ timed_of (read_in steps)) (sym step.0.pending) in
+      let after = same_ahead s next (ahead s steps) (ahead next steps) step.0.round same given in
+      same_follows n s next (inserted_in_rounds n (calls_in steps)) (ahead s steps) (ahead next steps) step.0.round same (follows n steps next t next_file g rest after)
+  follows n (reports e ∷ steps) s t f g (next, (next_file, step, rest)) given =
+      let same : ahead s (reports e ∷ steps) ≡ ahead next steps =
+      ap (λ p. pending_timed p ++ timed_of (read_in steps)) step.0.was_pending ∙ ap (λ p. pending_timed p ++ timed_of (read_in steps)) (sym step.0.pending) in
+      let after = same_ahead s next (ahead s steps) (ahead next steps) step.0.same_order.round same given in
+      same_follows n s next (inserted_in_rounds n (calls_in steps)) (ahead s steps) (ahead next steps) step.0.same_order.round same (follows n steps next t next_file g rest after)
+
+  pub times_ascend_under_perf_rule : TimesAscendUnderPerfRule state
+  times_ascend_under_perf_rule records first last file file' steps new taken rise rule =
+      let times = timed_of (read_in steps) in
+      let none : ahead first steps ≡ times = ap (λ p. pending_timed p ++ times) new.pending in
+      let all : All (λ y. 0 ≤ y.0) times = λ i d lt. omega arith in
+      let start : Ahead first times = record {
+        from_round = subst (λ k. All (λ y. k ≤ y.0) times) (sym new.round) all;
+        rise = rise;
+        rule = rule;
+      } in
+      ascends_under_rule HeldRecord nat_cmp_total first.sorter last.sorter (calls_in steps) new.empty (calls_sorter_in_turn state first last file file' steps taken)
+      (follows 0 steps first last file file' taken (same_ahead first first times (ahead first steps) refl (sym none) start)).rule

@@ -1,0 +1,165 @@
+-- Laws of the steps over a source.
+use Rattle.std.proofs.Common.{◌≡◌, ℕ, List, [], ◌∷◌, ◌++◌, map, refl, sym, ap, ◌∙◌, subst, append_assoc, append-nil}
+use Rattle.std.specs.Ordering.{nat_cmp}
+use Rattle.std.specs.List.Sorted.{IsPermutation}
+use Rattle.std.proofs.lemmas.List.Sorted.{IsPermutation-refl, IsPermutation-trans, IsPermutation-cons, IsPermutation-middle, IsPermutation-map, IsPermutation-append_left}
+use Rattle.perfdata_base.specs.Source.{State}
+use Rattle.linux_perf_data.specs.declared.perf_file.PerfFile.{PerfFile}
+use Rattle.linux_perf_data.specs.declared.records.iter.PerfRecordIter.{PerfRecordIter}
+use Rattle.linux_perf_data.specs.Layout.{RecordView}
+use Rattle.linux_perf_data.specs.Reading.{ReturnsRecords}
+use Rattle.perfdata_order.specs.declared.held_record.HeldRecord.{HeldRecord}
+use Rattle.perfdata_order.specs.declared.streaming.OrderedRecords.{OrderedRecords}
+use Rattle.perfdata_order.specs.HeldRecord.{held_view}
+use Rattle.perfdata_order.specs.Sorter.{held_of}
+use Rattle.perfdata_order.specs.SorterLaws.{MakesCalls}
+use Rattle.perfdata_order.specs.SorterLaws.Call.{inserts, ends_round, ends_all, returns, keeps}
+use Rattle.perfdata_order.specs.StreamingOrder.{unplaced_of, Step, TakesSteps, returned_in}
+use Rattle.perfdata_order.specs.StreamingOrder.Step.{reads, passes, reads_end, reads_error, sorts, reports}
+use Rattle.perfdata_order.specs.StreamingLaws.{read_in, calls_in, unplaced_records, held_records, ReturnsEachRecordOnce, ReadsRecordsOfSource, CallsSorterInTurn}
+use Rattle.perfdata_order.proofs.SorterCalls.{held_after_insert, held_before_return}
+use Rattle.perfdata_order.proofs.StreamingCalls.{IsLast}
+
+module _ {R : Type 0} (state : R → State) where
+  pub calls_sorter_in_turn : CallsSorterInTurn state
+  calls_sorter_in_turn first last file file' [] (same, same_file) = ap (λ s. s.sorter) same
+  calls_sorter_in_turn first last file file' (reads key h ∷ steps) (next, (next_file, step, rest)) =
+      subst (λ s. MakesCalls nat_cmp (calls_in steps) s last.sorter) step.same_order.sorter (calls_sorter_in_turn next last next_file file' steps rest)
+  calls_sorter_in_turn first last file file' (passes h ∷ steps) (next, (next_file, step, rest)) =
+      subst (λ s. MakesCalls nat_cmp (calls_in steps) s last.sorter) step.same_order.sorter (calls_sorter_in_turn next last next_file file' steps rest)
+  calls_sorter_in_turn first last file file' (reads_end ∷ steps) (next, (next_file, step, rest)) =
+      subst (λ s. MakesCalls nat_cmp (calls_in steps) s last.sorter) step.same_order.sorter (calls_sorter_in_turn next last next_file file' steps rest)
+  calls_sorter_in_turn first last file file' (reads_error e ∷ steps) (next, (next_file, step, rest)) =
+      subst (λ s. MakesCalls nat_cmp (calls_in steps) s last.sorter) step.same_order.sorter (calls_sorter_in_turn next last next_file file' steps rest)
+  calls_sorter_in_turn first last file file' (sorts (inserts key held) ∷ steps) (next, (next_file, step, rest)) =
+      (next.sorter, step.0.inserted, calls_sorter_in_turn next last next_file file' steps rest)
+  calls_sorter_in_turn first last file file' (sorts ends_round ∷ steps) (next, (next_file, step, rest)) =
+      (next.sorter, step.0.ended, calls_sorter_in_turn next last next_file file' steps rest)
+  calls_sorter_in_turn first last file file' (sorts ends_all ∷ steps) (next, (next_file, step, rest)) =
+      (next.sorter, step.0.ended, calls_sorter_in_turn next last next_file file' steps rest)
+  calls_sorter_in_turn first last file file' (sorts (returns key held) ∷ steps) (next, (next_file, step, rest)) =
+      (next.sorter, step.0.returned, calls_sorter_in_turn next last next_file file' steps rest)
+  calls_sorter_in_turn first last file file' (sorts keeps ∷ steps) (next, (next_file, step, rest)) =
+      (next.sorter, step.0.unchanged, calls_sorter_in_turn next last next_file file' steps rest)
+  calls_sorter_in_turn first last file file' (reports e ∷ steps) (next, (next_file, step, rest)) =
+      subst (λ s. MakesCalls nat_cmp (calls_in steps) s last.sorter) step.0.same_order.sorter (calls_sorter_in_turn next last next_file file' steps rest)
+
+  -- ---- each record once
+
+  abbrev entries : List (ℕ × HeldRecord) → List RecordView
+  entries = map (λ (e : ℕ × HeldRecord). held_view e.1)
+
+  entries_append : (xs ys : List (ℕ × HeldRecord)) → entries (xs ++ ys) ≡ entries xs ++ entries ys
+  entries_append [] ys = refl
+  entries_append (x ∷ xs) ys = ap (λ zs. held_view x.1 ∷ zs) (entries_append xs ys)
+
+  -- The held records follow from the parts of the state.
+  held_as : (s t : OrderedRecords R) (xs : List (ℕ × HeldRecord)) (ys : List RecordView) → held_of s.sorter ≡ xs → unplaced_records (unplaced_of s) ≡ ys → held_records state s ≡ entries xs ++ ys
+  held_as s t xs ys held pending = ap (λ h. entries h ++ unplaced_records (unplaced_of s)) held ∙ ap (λ p. entries xs ++ p) pending
+
+  -- A step that neither reads nor returns a record, and after which the same records are held.
+  once_kept : (steps : List Step) (first next last : OrderedRecords R) (file file' : PerfFile) → held_records state next ≡ held_records state first → IsPermutation (held_records state next ++ read_in steps) (returned_in steps ++ held_records state last)
+      → IsPermutation (held_records state first ++ read_in steps) (returned_in steps ++ held_records state last)
+  once_kept steps first next last file file' same once = subst (λ h. IsPermutation (h ++ read_in steps) (returned_in steps ++ held_records state last)) same once
+
+  once_from : (steps : List Step) (first last : OrderedRecords R) (file file' : PerfFile) → TakesSteps state steps first file last file' → IsPermutation (held_records state first ++ read_in steps) (returned_in steps ++ held_records state last)
+  once_from [] first last file file' (same, same_file) =
+      subst (λ s. IsPermutation (held_records state first ++ []) (held_records state s)) (sym same) (subst (λ h. IsPermutation h (held_records state first)) (sym (append-nil (held_records state first))) (IsPermutation-refl (held_records state first)))
+  once_from (reads key h ∷ steps) first last file file' (next, (next_file, step, rest)) =
+      let before : held_records state first ≡ entries (held_of first.sorter) ++ [] = held_as first first (held_of first.sorter) [] refl (ap unplaced_records step.nothing_pending) in
+      let after : held_records state next ≡ entries (held_of first.sorter) ++ h ∷ [] = held_as next next (held_of first.sorter) (h ∷ []) (ap held_of step.same_order.sorter) (ap unplaced_records step.pending) in
+      let plain = before ∙ append-nil (entries (held_of first.sorter)) in
+      let regrouped : held_records state next ++ read_in steps ≡ held_records state first ++ h ∷ read_in steps =
+      ap (λ h. h ++ read_in steps) after ∙ append_assoc (entries (held_of first.sorter)) (h ∷ []) (read_in steps) ∙ ap (λ hs. hs ++ h ∷ read_in steps) (sym plain) in
+      subst (λ h. IsPermutation h (returned_in steps ++ held_records state last)) regrouped (once_from steps next last next_file file' rest)
+  once_from (passes h ∷ steps) first last file file' (next, (next_file, step, rest)) =
+      let same : held_records state next ≡ held_records state first =
+      held_as next next (held_of first.sorter) [] (ap held_of step.same_order.sorter) (ap unplaced_records step.pending) ∙ sym (held_as first first (held_of first.sorter) [] refl (ap unplaced_records step.nothing_pending)) in
+      let once = once_kept steps first next last file file' same (once_from steps next last next_file file' rest) in
+      IsPermutation-trans _ _ _ (IsPermutation-middle (held_records state first) h (read_in steps)) (IsPermutation-cons h _ _ once)
+  once_from (reads_end ∷ steps) first last file file' (next, (next_file, step, rest)) =
+      let same : held_records state next ≡ held_records state first =
+      held_as next next (held_of first.sorter) [] (ap held_of step.same_order.sorter) (ap unplaced_records step.pending) ∙ sym (held_as first first (held_of first.sorter) [] refl (ap unplaced_records step.nothing_pending)) in
+      once_kept steps first next last file file' same (once_from steps next last next_file file' rest)
+  once_from (reads_error e ∷ steps) first last file file' (next, (next_file, step, rest)) =
+      let same : held_records state next ≡ held_records state first =
+      held_as next next (held_of first.sorter) [] (ap held_of step.same_order.sorter) (ap unplaced_records step.pending) ∙ sym (held_as first first (held_of first.sorter) [] refl (ap unplaced_records step.nothing_pending)) in
+      once_kept steps first next last file file' same (once_from steps next last next_file file' rest)
+  once_from (sorts (inserts key held) ∷ steps) first last file file' (next, (next_file, step, rest)) =
+      let all = held_after_insert first.sorter next.sorter key held step.0.inserted in
+      let after : held_records state next ≡ entries (held_of first.sorter ++ (key, held) ∷ []) ++ [] = held_as next next (held_of first.sorter ++ (key, held) ∷ []) [] all (ap unplaced_records step.0.pending) in
+      let before : held_records state first ≡ entries (held_of first.sorter) ++ held_view held ∷ [] = held_as first first (held_of first.sorter) (held_view held ∷ []) refl (ap unplaced_records step.0.was_pending) in
+      let same : held_records state next ≡ held_records state first = after ∙ append-nil (entries (held_of first.sorter ++ (key, held) ∷ [])) ∙ entries_append (held_of first.sorter) ((key, held) ∷ []) ∙ sym before in
+      once_kept steps first next last file file' same (once_from steps next last next_file file' rest)
+  once_from (sorts ends_round ∷ steps) first last file file' (next, (next_file, step, rest)) =
+      let sorted = IsPermutation-map (λ (e : ℕ × HeldRecord). held_view e.1) (held_of first.sorter) (held_of next.sorter) step.0.ended.sorts.each_once in
+      let same = subst (λ p. IsPermutation (held_records state first) (entries (held_of next.sorter) ++ unplaced_records p)) (sym step.0.pending) (IsPermutation-append_left (unplaced_records (unplaced_of first)) (entries (held_of first.sorter)) (entries (held_of next.sorter)) sorted) in
+      IsPermutation-trans _ _ _ (IsPermutation-append_left (read_in steps) (held_records state first) (held_records state next) same) (once_from steps next last next_file file' rest)
+  once_from (sorts ends_all ∷ steps) first last file file' (next, (next_file, step, rest)) =
+      let sorted = IsPermutation-map (λ (e : ℕ × HeldRecord). held_view e.1) (held_of first.sorter) (held_of next.sorter) step.0.ended.sorts.each_once in
+      let same = subst (λ p. IsPermutation (held_records state first) (entries (held_of next.sorter) ++ unplaced_records p)) (sym step.0.pending) (IsPermutation-append_left (unplaced_records (unplaced_of first)) (entries (held_of first.sorter)) (entries (held_of next.sorter)) sorted) in
+      IsPermutation-trans _ _ _ (IsPermutation-append_left (read_in steps) (held_records state first) (held_records state next) same) (once_from steps next last next_file file' rest)
+  once_from (sorts (returns key held) ∷ steps) first last file file' (next, (next_file, step, rest)) =
+      let all = held_before_return first.sorter next.sorter key held step.0.returned in
+      let before : held_records state first ≡ held_view held ∷ held_records state next = held_as first first ((key, held) ∷ held_of next.sorter) (unplaced_records (unplaced_of next)) all (ap unplaced_records (sym step.0.pending)) in
+      subst (λ h. IsPermutation (h ++ read_in steps) (held_view held ∷ (returned_in steps ++ held_records state last))) (sym before)
+      (IsPermutation-cons (held_view held) (held_records state next ++ read_in steps) (returned_in steps ++ held_records state last) (once_from steps next last next_file file' rest))
+  once_from (sorts keeps ∷ steps) first last file file' (next, (next_file, step, rest)) =
+      once_kept steps first next last file file' (held_as next next (held_of first.sorter) (unplaced_records (unplaced_of first)) step.0.unchanged.held (ap unplaced_records step.0.pending)) (once_from steps next last next_file file' rest)
+  once_from (reports e ∷ steps) first last file file' (next, (next_file, step, rest)) =
+      let same : held_records state next ≡ held_records state first =
+      held_as next next (held_of first.sorter) [] (ap held_of step.0.same_order.sorter) (ap unplaced_records step.0.pending) ∙ sym (held_as first first (held_of first.sorter) [] refl (ap unplaced_records step.0.was_pending)) in
+      once_kept steps first next last file file' same (once_from steps next last next_file file' rest)
+
+  pub returns_each_record_once : ReturnsEachRecordOnce state
+  returns_each_record_once records first last file file' steps new taken =
+      let none : held_records state first ≡ [] = held_as first first [] [] new.empty.empty (ap unplaced_records new.pending) in
+      subst (λ h. IsPermutation (h ++ read_in steps) (returned_in steps ++ held_records state last)) none (once_from steps first last file file' taken)
+
+  -- ---- what is read is what the iterator over the source returns
+
+  -- Nothing is read after the end or an error.
+  pub nothing_read : (steps : List Step) (first last : OrderedRecords R) (file file' : PerfFile) → IsLast (unplaced_of first) → TakesSteps state steps first file last file' → read_in steps ≡ []
+  nothing_read [] first last file file' final taken = refl
+  nothing_read (reads key h ∷ steps) first last file file' final (next, (next_file, step, rest)) = absurd (subst (λ q. IsLast q) step.nothing_pending final)
+  nothing_read (passes h ∷ steps) first last file file' final (next, (next_file, step, rest)) = absurd (subst (λ q. IsLast q) step.nothing_pending final)
+  nothing_read (reads_end ∷ steps) first last file file' final (next, (next_file, step, rest)) = absurd (subst (λ q. IsLast q) step.nothing_pending final)
+  nothing_read (reads_error e ∷ steps) first last file file' final (next, (next_file, step, rest)) = absurd (subst (λ q. IsLast q) step.nothing_pending final)
+  nothing_read (sorts (inserts key held) ∷ steps) first last file file' final (next, (next_file, step, rest)) = absurd (subst (λ q. IsLast q) step.0.was_pending final)
+  nothing_read (sorts ends_round ∷ steps) first last file file' final (next, (next_file, step, rest)) = nothing_read steps next last next_file file' (subst (λ q. IsLast q) (sym step.0.pending) final) rest
+  nothing_read (sorts ends_all ∷ steps) first last file file' final (next, (next_file, step, rest)) = nothing_read steps next last next_file file' (subst (λ q. IsLast q) (sym step.0.pending) final) rest
+  nothing_read (sorts (returns key held) ∷ steps) first last file file' final (next, (next_file, step, rest)) = nothing_read steps next last next_file file' (subst (λ q. IsLast q) (sym step.0.pending) final) rest
+  nothing_read (sorts keeps ∷ steps) first last file file' final (next, (next_file, step, rest)) = nothing_read steps next last next_file file' (subst (λ q. IsLast q) (sym step.0.pending) final) rest
+  nothing_read (reports e ∷ steps) first last file file' final (next, (next_file, step, rest)) = nothing_read steps next last next_file file' (subst (λ q. IsLast q) (sym step.0.pending) tt) rest
+
+  abbrev ReturnedFrom : PerfRecordIter R → PerfFile → List RecordView → Type 0
+  ReturnedFrom records file read = (now : PerfRecordIter R) × ((now_file : PerfFile) × ReturnsRecords state records file read now now_file)
+
+  none_from : (records : PerfRecordIter R) (file : PerfFile) (read : List RecordView) → read ≡ [] → ReturnedFrom records file read
+  none_from records file read none = subst (λ hs. ReturnedFrom records file hs) (sym none) (records, (file, (refl, refl)))
+
+  from_same : (first next : OrderedRecords R) (file next_file : PerfFile) (read : List RecordView) → next.records ≡ first.records → next_file ≡ file → ReturnedFrom next.records next_file read → ReturnedFrom first.records file read
+  from_same first next file next_file read same same_file from = subst (λ s. ReturnedFrom s file read) same (subst (λ q. ReturnedFrom next.records q read) same_file from)
+
+  read_from : (steps : List Step) (first last : OrderedRecords R) (file file' : PerfFile) → TakesSteps state steps first file last file' → ReturnedFrom first.records file (read_in steps)
+  read_from [] first last file file' taken = (first.records, (file, (refl, refl)))
+  read_from (reads key h ∷ steps) first last file file' (next, (next_file, step, rest)) =
+      let more = read_from steps next last next_file file' rest in
+      (more.0, (more.1.0, (next.records, (next_file, step.returned, more.1.1))))
+  read_from (passes h ∷ steps) first last file file' (next, (next_file, step, rest)) =
+      let more = read_from steps next last next_file file' rest in
+      (more.0, (more.1.0, (next.records, (next_file, step.returned, more.1.1))))
+  read_from (reads_end ∷ steps) first last file file' (next, (next_file, step, rest)) =
+      none_from first.records file (read_in steps) (nothing_read steps next last next_file file' (subst (λ q. IsLast q) (sym step.pending) tt) rest)
+  read_from (reads_error e ∷ steps) first last file file' (next, (next_file, step, rest)) =
+      none_from first.records file (read_in steps) (nothing_read steps next last next_file file' (subst (λ q. IsLast q) (sym step.pending) tt) rest)
+  read_from (sorts (inserts key held) ∷ steps) first last file file' (next, (next_file, step, rest)) = from_same first next file next_file (read_in steps) step.0.same_records step.1 (read_from steps next last next_file file' rest)
+  read_from (sorts ends_round ∷ steps) first last file file' (next, (next_file, step, rest)) = from_same first next file next_file (read_in steps) step.0.same_records step.1 (read_from steps next last next_file file' rest)
+  read_from (sorts ends_all ∷ steps) first last file file' (next, (next_file, step, rest)) = from_same first next file next_file (read_in steps) step.0.same_records step.1 (read_from steps next last next_file file' rest)
+  read_from (sorts (returns key held) ∷ steps) first last file file' (next, (next_file, step, rest)) = from_same first next file next_file (read_in steps) step.0.same_records step.1 (read_from steps next last next_file file' rest)
+  read_from (sorts keeps ∷ steps) first last file file' (next, (next_file, step, rest)) = from_same first next file next_file (read_in steps) step.0.same_records step.1 (read_from steps next last next_file file' rest)
+  read_from (reports e ∷ steps) first last file file' (next, (next_file, step, rest)) = from_same first next file next_file (read_in steps) step.0.same_records step.1 (read_from steps next last next_file file' rest)
+
+  pub reads_records_of_source : ReadsRecordsOfSource state
+  reads_records_of_source records first last file file' steps new taken =
+      subst (λ s. ReturnedFrom s file (read_in steps)) new.same_records (read_from steps first last file file' taken)

@@ -1,0 +1,15 @@
+use Rattle.perfdata_order.proofs.StreamingSteps.{returns_each_record_once, reads_records_of_source, calls_sorter_in_turn}
+use Rattle.perfdata_order.proofs.StreamingRule.{times_ascend_under_perf_rule}
+use Rattle.perfdata_order.proofs.laws.streaming.Goals as goal
+
+pub returns-clause-each_once : goal.returns-clause-each_once
+returns-clause-each_once g c = returns_each_record_once g.R.Source.state
+
+pub returns-clause-of_source : goal.returns-clause-of_source
+returns-clause-of_source g c = reads_records_of_source g.R.Source.state
+
+pub returns-clause-sorter_calls : goal.returns-clause-sorter_calls
+returns-clause-sorter_calls g c = calls_sorter_in_turn g.R.Source.state
+
+pub returns-clause-times_ascend : goal.returns-clause-times_ascend
+returns-clause-times_ascend g c = times_ascend_under_perf_rule g.R.Source.state

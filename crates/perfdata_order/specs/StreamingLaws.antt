@@ -1,0 +1,88 @@
+-- Laws of the records of a source in order of time.
+use Rattle.std.specs.Prelude.{ℕ, ◌≤◌, List, [], ◌∷◌, ◌++◌, map, All, Option, None, Some}
+use Rattle.std.specs.Ordering.{nat_cmp}
+use Rattle.std.specs.List.Sorted.{IsPermutation}
+use Rattle.perfdata_base.specs.Source.{State}
+use Rattle.linux_perf_data.specs.declared.records.iter.PerfRecordIter.{PerfRecordIter}
+use Rattle.linux_perf_data.specs.declared.perf_file.PerfFile.{PerfFile}
+use Rattle.linux_perf_data.specs.Layout.{RecordView}
+use Rattle.linux_perf_data.specs.Reading.{ReturnsRecords}
+use Rattle.perfdata_order.specs.declared.held_record.HeldRecord.{HeldRecord}
+use Rattle.perfdata_order.specs.declared.streaming.OrderedRecords.{OrderedRecords}
+use Rattle.perfdata_order.specs.HeldRecord.{held_view}
+use Rattle.perfdata_order.specs.Order.{Ascends}
+use Rattle.perfdata_order.specs.Sorter.{held_of}
+use Rattle.perfdata_order.specs.SorterLaws.{Call, MakesCalls, returned_by, KeepsRoundRule}
+use Rattle.perfdata_order.specs.Times.{key_of_time}
+use Rattle.perfdata_order.specs.StreamingOrder.{Unplaced, unplaced_of, Step, TakesSteps, returned_in, IsNewOrder}
+use Rattle.perfdata_order.specs.StreamingOrder.Unplaced.{nothing, timed, ending, failing, failed}
+use Rattle.perfdata_order.specs.StreamingOrder.Step.{reads, passes, reads_end, reads_error, sorts, reports}
+
+-- The records that the steps read, in the order of the source.
+abbrev pub read_in : List Step → List RecordView
+read_in [] = []
+read_in (reads key h ∷ steps) = h ∷ read_in steps
+read_in (passes h ∷ steps) = h ∷ read_in steps
+read_in (reads_end ∷ steps) = read_in steps
+read_in (reads_error e ∷ steps) = read_in steps
+read_in (sorts call ∷ steps) = read_in steps
+read_in (reports e ∷ steps) = read_in steps
+
+-- The calls of the sorter.
+abbrev pub calls_in : List Step → List (Call ℕ HeldRecord)
+calls_in [] = []
+calls_in (reads key h ∷ steps) = calls_in steps
+calls_in (passes h ∷ steps) = calls_in steps
+calls_in (reads_end ∷ steps) = calls_in steps
+calls_in (reads_error e ∷ steps) = calls_in steps
+calls_in (sorts call ∷ steps) = call ∷ calls_in steps
+calls_in (reports e ∷ steps) = calls_in steps
+
+abbrev pub unplaced_records : Unplaced → List RecordView
+unplaced_records nothing = []
+unplaced_records (timed key h) = h ∷ []
+unplaced_records ending = []
+unplaced_records (failing e) = []
+unplaced_records failed = []
+
+abbrev pub timed_by : Option ℕ → RecordView → List (ℕ × (ℕ × RecordView))
+timed_by None h = []
+timed_by (Some time) h = (h.round, (time, h)) ∷ []
+
+-- The timed ones of these records, each with its round and its time.
+abbrev pub timed_of : List RecordView → List (ℕ × (ℕ × RecordView))
+timed_of [] = []
+timed_of (h ∷ hs) = timed_by (key_of_time h.timestamp) h ++ timed_of hs
+
+-- The rounds don't fall.
+abbrev pub RoundsRise : List (ℕ × (ℕ × RecordView)) → Type 0
+RoundsRise [] = Unit {0}
+RoundsRise (e ∷ es) = All (λ later. e.0 ≤ later.0) es × RoundsRise es
+
+module _ {R : Type 0} (state : R → State) where
+  -- The records that were read and not yet returned.
+  abbrev pub held_records : OrderedRecords R → List RecordView
+  held_records s = map (λ (e : ℕ × HeldRecord). held_view e.1) (held_of s.sorter) ++ unplaced_records (unplaced_of s)
+
+  -- Each record that was read was returned once, or is held.
+  abbrev pub ReturnsEachRecordOnce : Type 0
+  ReturnsEachRecordOnce = (records : PerfRecordIter R) (first last : OrderedRecords R) (file file' : PerfFile) (steps : List Step) →
+      IsNewOrder records first → TakesSteps state steps first file last file' → IsPermutation (read_in steps) (returned_in steps ++ held_records last)
+
+  -- The records that were read are those that consecutive calls of the iterator over the source return.
+  abbrev pub ReadsRecordsOfSource : Type 0
+  ReadsRecordsOfSource = (records : PerfRecordIter R) (first last : OrderedRecords R) (file file' : PerfFile) (steps : List Step) →
+      IsNewOrder records first → TakesSteps state steps first file last file' →
+      (now : PerfRecordIter R) × ((now_file : PerfFile) × ReturnsRecords state records file (read_in steps) now now_file)
+
+  -- The calls of the sorter are consecutive, so its laws hold for the timed records.
+  abbrev pub CallsSorterInTurn : Type 0
+  CallsSorterInTurn = (first last : OrderedRecords R) (file file' : PerfFile) (steps : List Step) →
+      TakesSteps state steps first file last file' → MakesCalls nat_cmp (calls_in steps) first.sorter last.sorter
+
+  -- The timed records that were returned ascend if those that were read keep perf's rule: no record of round n + 2 or later is older
+  -- than one of round n.
+  abbrev pub TimesAscendUnderPerfRule : Type 0
+  TimesAscendUnderPerfRule = (records : PerfRecordIter R) (first last : OrderedRecords R) (file file' : PerfFile) (steps : List Step) →
+      IsNewOrder records first → TakesSteps state steps first file last file' → RoundsRise (timed_of (read_in steps)) → KeepsRoundRule nat_cmp (timed_of (read_in steps)) →
+      Ascends nat_cmp (returned_by (calls_in steps))

@@ -1,0 +1,349 @@
+-- The records of a source in order of time: the steps of which a call consists.
+use Rattle.std.specs.Prelude.{◌≡◌, ℕ, ◌+◌, ◌<◌, ◌≤◌, ◌⊎◌, List, [], ◌∷◌, length, Option, None, Some, Result, Ok, Err}
+use Rattle.std.specs.Ordering.{nat_cmp}
+use Rattle.std.specs.declared.alloc.AllocError.{AllocError}
+use Rattle.perfdata_base.specs.Source.{State}
+use Rattle.perfdata_sections.specs.declared.error.Error.{Error}
+use Rattle.perfdata_sections.specs.declared.error.Error.TheVariants as error
+use Rattle.perfdata_records.specs.declared.record.PerfFileRecord.{PerfFileRecord}
+use Rattle.linux_perf_data.specs.declared.records.iter.RecordPlace.{RecordPlace}
+use Rattle.linux_perf_data.specs.declared.records.iter.PerfRecordIter.{PerfRecordIter}
+use Rattle.linux_perf_data.specs.declared.perf_file.PerfFile.{PerfFile}
+use Rattle.linux_perf_data.specs.Iter.{ReturnsRecord, ReturnsEnd, ReturnsError}
+use Rattle.linux_perf_data.specs.Layout.{RecordView}
+use Rattle.linux_perf_data.specs.RecordViews.{record_view_of}
+use Rattle.perfdata_order.specs.declared.held_record.RecordInfo.{RecordInfo}
+use Rattle.perfdata_order.specs.declared.held_record.HeldRecord.{HeldRecord}
+use Rattle.perfdata_order.specs.declared.streaming.Pending.{Pending}
+use Rattle.perfdata_order.specs.declared.streaming.Pending.TheVariants as variant
+use Rattle.perfdata_order.specs.declared.streaming.BodyBuffer.{BodyBuffer}
+use Rattle.perfdata_order.specs.declared.streaming.BodyBuffer.TheVariants.{Read, Sorted}
+use Rattle.perfdata_order.specs.declared.streaming.OrderedRecords.{OrderedRecords}
+use Rattle.perfdata_order.specs.HeldRecord.{view_with, held_view}
+use Rattle.perfdata_order.specs.Sorter.{held_of, available_of, pending_of, IsNew, IsUnchanged, Inserted, RoundEnded, AllRoundsEnded, Returned}
+use Rattle.perfdata_order.specs.Times.{key_of_time}
+use Rattle.perfdata_order.specs.SorterLaws.{Call}
+use Rattle.perfdata_order.specs.SorterLaws.Call.{inserts, ends_round, ends_all, returns, keeps}
+
+-- What was read from the source and isn't in the sorter: nothing, a timed record with its key, the end, an error that is not yet
+-- returned, or one that was.
+pub data Unplaced : Type 0 where
+  nothing : Unplaced
+  timed : ℕ → RecordView → Unplaced
+  ending : Unplaced
+  failing : Error → Unplaced
+  failed : Unplaced
+
+abbrev pub unplaced_by : Pending → List ℕ → Unplaced
+unplaced_by variant.Nothing body = nothing
+unplaced_by (variant.Record key info) body = timed key (view_with info body)
+unplaced_by variant.End body = ending
+unplaced_by (variant.Failure e) body = failing e
+unplaced_by variant.Failed body = failed
+
+abbrev pub IsUnplaced : Unplaced → Type 0
+IsUnplaced nothing = ⊥
+IsUnplaced (timed key h) = Unit {0}
+IsUnplaced ending = Unit {0}
+IsUnplaced (failing e) = Unit {0}
+IsUnplaced failed = Unit {0}
+
+-- Neither the end nor an error was read.
+abbrev pub IsOngoing : Unplaced → Type 0
+IsOngoing nothing = Unit {0}
+IsOngoing (timed key h) = Unit {0}
+IsOngoing ending = ⊥
+IsOngoing (failing e) = ⊥
+IsOngoing failed = ⊥
+
+-- A step of a call. A record was read: a timed one, or one without a time, which is returned at once. The end or an error was
+-- read. The sorter was called. The error was returned.
+pub data Step : Type 0 where
+  reads : ℕ → RecordView → Step
+  passes : RecordView → Step
+  reads_end : Step
+  reads_error : Error → Step
+  sorts : Call ℕ HeldRecord → Step
+  reports : Error → Step
+
+-- The records that the steps returned.
+abbrev pub returned_in : List Step → List RecordView
+returned_in [] = []
+returned_in (reads key h ∷ steps) = returned_in steps
+returned_in (passes h ∷ steps) = h ∷ returned_in steps
+returned_in (reads_end ∷ steps) = returned_in steps
+returned_in (reads_error e ∷ steps) = returned_in steps
+returned_in (sorts (inserts key held) ∷ steps) = returned_in steps
+returned_in (sorts ends_round ∷ steps) = returned_in steps
+returned_in (sorts ends_all ∷ steps) = returned_in steps
+returned_in (sorts (returns key held) ∷ steps) = held_view held ∷ returned_in steps
+returned_in (sorts keeps ∷ steps) = returned_in steps
+returned_in (reports e ∷ steps) = returned_in steps
+
+-- The pending record is of the next round.
+abbrev pub IsOneRoundLater : Unplaced → ℕ → ℕ → Type 0
+IsOneRoundLater nothing old new = ⊥
+IsOneRoundLater (timed key h) old new = (h.round ≡ old + 1) × (new ≡ h.round)
+IsOneRoundLater ending old new = ⊥
+IsOneRoundLater (failing e) old new = ⊥
+IsOneRoundLater failed old new = ⊥
+
+-- The pending record is of a round after the next one, or nothing more is read.
+abbrev pub IsLaterOrLast : Unplaced → ℕ → ℕ → Type 0
+IsLaterOrLast nothing old new = ⊥
+IsLaterOrLast (timed key h) old new = (old + 2 ≤ h.round) × (new ≡ h.round)
+IsLaterOrLast ending old new = new ≡ old
+IsLaterOrLast (failing e) old new = new ≡ old
+IsLaterOrLast failed old new = new ≡ old
+
+module _ {R : Type 0} where
+  abbrev pub unplaced_of : OrderedRecords R → Unplaced
+  unplaced_of s = unplaced_by s.pending s.body.items
+
+  -- The sorter and the current round are unchanged.
+  pub record SameOrder (old new : OrderedRecords R) : Type 0 where
+    pub sorter : new.sorter ≡ old.sorter
+    pub round : new.round ≡ old.round
+
+  -- The pending record was inserted into the sorter. The rounds before its own had ended.
+  pub record InsertsPending (old : OrderedRecords R) (key : ℕ) (held : HeldRecord) (new : OrderedRecords R) : Type 0 where
+    pub was_pending : unplaced_of old ≡ timed key (held_view held)
+    pub in_round : (held_view held).round ≤ old.round
+    pub inserted : Inserted nat_cmp old.sorter key held new.sorter
+    pub pending : unplaced_of new ≡ nothing
+    pub same_records : new.records ≡ old.records
+    pub round : new.round ≡ old.round
+
+  pub record EndsOneRound (old new : OrderedRecords R) : Type 0 where
+    pub round : IsOneRoundLater (unplaced_of old) old.round new.round
+    pub ended : RoundEnded nat_cmp old.sorter new.sorter
+    pub pending : unplaced_of new ≡ unplaced_of old
+    pub same_records : new.records ≡ old.records
+
+  pub record EndsRounds (old new : OrderedRecords R) : Type 0 where
+    pub round : IsLaterOrLast (unplaced_of old) old.round new.round
+    pub ended : AllRoundsEnded nat_cmp old.sorter new.sorter
+    pub pending : unplaced_of new ≡ unplaced_of old
+    pub same_records : new.records ≡ old.records
+
+  -- The next available record was returned.
+  pub record ReturnsSorted (old : OrderedRecords R) (key : ℕ) (held : HeldRecord) (new : OrderedRecords R) : Type 0 where
+    pub returned : Returned old.sorter key held new.sorter
+    pub pending : unplaced_of new ≡ unplaced_of old
+    pub same_records : new.records ≡ old.records
+    pub round : new.round ≡ old.round
+
+  -- A call of the sorter changed nothing.
+  pub record KeepsSorter (old new : OrderedRecords R) : Type 0 where
+    pub unchanged : IsUnchanged old.sorter new.sorter
+    pub pending : unplaced_of new ≡ unplaced_of old
+    pub same_records : new.records ≡ old.records
+    pub round : new.round ≡ old.round
+
+  -- The error that was read was returned. All records before it had been returned.
+  pub record ReportsError (old : OrderedRecords R) (e : Error) (new : OrderedRecords R) : Type 0 where
+    pub was_pending : unplaced_of old ≡ failing e
+    pub all_returned : held_of old.sorter ≡ []
+    pub pending : unplaced_of new ≡ failed
+    pub same_records : new.records ≡ old.records
+    pub same_order : SameOrder old new
+
+  abbrev pub CallsSorter : Call ℕ HeldRecord → OrderedRecords R → OrderedRecords R → Type 0
+  CallsSorter (inserts key held) old new = InsertsPending old key held new
+  CallsSorter ends_round old new = EndsOneRound old new
+  CallsSorter ends_all old new = EndsRounds old new
+  CallsSorter (returns key held) old new = ReturnsSorted old key held new
+  CallsSorter keeps old new = KeepsSorter old new
+
+  -- The rounds before this round ended, and the rest is unchanged.
+  pub record OneRoundEnded (old : OrderedRecords R) (to : ℕ) (new : OrderedRecords R) : Type 0 where
+    pub is_next : to ≡ old.round + 1
+    pub round : new.round ≡ to
+    pub ended : RoundEnded nat_cmp old.sorter new.sorter
+    pub pending : unplaced_of new ≡ unplaced_of old
+    pub same_records : new.records ≡ old.records
+
+  pub record RoundsEnded (old : OrderedRecords R) (to : ℕ) (new : OrderedRecords R) : Type 0 where
+    pub is_later : old.round + 2 ≤ to
+    pub round : new.round ≡ to
+    pub ended : AllRoundsEnded nat_cmp old.sorter new.sorter
+    pub pending : unplaced_of new ≡ unplaced_of old
+    pub same_records : new.records ≡ old.records
+
+  abbrev pub EndsRoundsBefore : OrderedRecords R → ℕ → Result (Unit {0}) AllocError → OrderedRecords R → Type 0
+  EndsRoundsBefore old to (Ok done) new = ((to ≤ old.round) × (new ≡ old)) ⊎ (OneRoundEnded old to new ⊎ RoundsEnded old to new)
+  EndsRoundsBefore old to (Err e) new = KeepsSorter old new
+
+  -- A new order has an empty sorter, and nothing was read.
+  pub record IsNewOrder (records : PerfRecordIter R) (new : OrderedRecords R) : Type 0 where
+    pub same_records : new.records ≡ records
+    pub empty : IsNew new.sorter
+    pub round : new.round ≡ 0
+    pub pending : unplaced_of new ≡ nothing
+
+  -- The end or the error was taken, if one is pending. After an error, each call fails.
+  abbrev pub TakesEnd : OrderedRecords R → Option (Result (Unit {0}) Error) → OrderedRecords R → Type 0
+  TakesEnd old None new = (new ≡ old) × IsOngoing (unplaced_of old)
+  TakesEnd old (Some (Ok done)) new = (new ≡ old) × (unplaced_of old ≡ ending)
+  TakesEnd old (Some (Err e)) new = ((unplaced_of old ≡ failing e) × (unplaced_of new ≡ failed) × (new.records ≡ old.records) × SameOrder old new)
+      ⊎ ((e ≡ error.Failed) × (new ≡ old) × (unplaced_of old ≡ failed))
+
+  -- The buffer that contains the body of a record to be returned.
+  abbrev pub body_in : BodyBuffer → OrderedRecords R → List ℕ
+  body_in Read s = s.body.items
+  body_in Sorted s = s.returned.items
+
+  -- The next available record was taken from the sorter. Its body is in a buffer.
+  abbrev pub TakesSorted : OrderedRecords R → Option RecordInfo → OrderedRecords R → Type 0
+  TakesSorted old None new = (available_of old.sorter ≡ []) × KeepsSorter old new
+  TakesSorted old (Some info) new = (key : ℕ) × ((held : HeldRecord) × ReturnsSorted old key held new × (view_with info (body_in Sorted new) ≡ held_view held))
+
+  module _ (state : R → State) where
+    -- A body of more than 65,536 bytes was read, and memory ran out for its copy.
+    pub record CopyFailed (old : PerfRecordIter R) (file : PerfFile) (e : Error) (new : PerfRecordIter R) (file' : PerfFile) : Type 0 where
+      pub out_of_memory : e ≡ error.Memory
+      pub h : RecordView
+      pub returned : ReturnsRecord state old file h new file'
+      pub is_large : 65536 < length h.body
+
+    -- The error of the source, or of the copy of a large body.
+    abbrev pub FailsToRead : PerfRecordIter R → PerfFile → Error → PerfRecordIter R → PerfFile → Type 0
+    FailsToRead old file e new file' = ReturnsError state old file e new file' ⊎ CopyFailed old file e new file'
+
+    -- Reading a record, whose body is then `body`.
+    abbrev pub ReadsRecord : PerfRecordIter R → PerfFile → Result (Option RecordInfo) Error → List ℕ → PerfRecordIter R → PerfFile → Type 0
+    ReadsRecord old file (Ok (Some info)) body new file' = ReturnsRecord state old file (view_with info body) new file'
+    ReadsRecord old file (Ok None) body new file' = ReturnsEnd state old file new file'
+    ReadsRecord old file (Err e) body new file' = FailsToRead old file e new file'
+
+    -- A timed record was read, and is pending.
+    pub record ReadsTimed (old : OrderedRecords R) (file : PerfFile) (key : ℕ) (h : RecordView) (new : OrderedRecords R) (file' : PerfFile) : Type 0 where
+      pub nothing_pending : unplaced_of old ≡ nothing
+      pub returned : ReturnsRecord state old.records file h new.records file'
+      pub has_time : key_of_time h.timestamp ≡ Some key
+      pub pending : unplaced_of new ≡ timed key h
+      pub same_order : SameOrder old new
+
+    -- A record without a time was read.
+    pub record ReadsUntimed (old : OrderedRecords R) (file : PerfFile) (h : RecordView) (new : OrderedRecords R) (file' : PerfFile) : Type 0 where
+      pub nothing_pending : unplaced_of old ≡ nothing
+      pub returned : ReturnsRecord state old.records file h new.records file'
+      pub untimed : key_of_time h.timestamp ≡ None
+      pub pending : unplaced_of new ≡ nothing
+      pub same_order : SameOrder old new
+
+    -- The end of the records was read.
+    pub record ReadsEnd (old : OrderedRecords R) (file : PerfFile) (new : OrderedRecords R) (file' : PerfFile) : Type 0 where
+      pub nothing_pending : unplaced_of old ≡ nothing
+      pub ended : ReturnsEnd state old.records file new.records file'
+      pub pending : unplaced_of new ≡ ending
+      pub same_order : SameOrder old new
+
+    -- An error was read.
+    pub record ReadsError (old : OrderedRecords R) (file : PerfFile) (e : Error) (new : OrderedRecords R) (file' : PerfFile) : Type 0 where
+      pub nothing_pending : unplaced_of old ≡ nothing
+      pub fails : FailsToRead old.records file e new.records file'
+      pub pending : unplaced_of new ≡ failing e
+      pub same_order : SameOrder old new
+
+    abbrev pub TakesStep : Step → OrderedRecords R → PerfFile → OrderedRecords R → PerfFile → Type 0
+    TakesStep (reads key h) old file new file' = ReadsTimed old file key h new file'
+    TakesStep (passes h) old file new file' = ReadsUntimed old file h new file'
+    TakesStep reads_end old file new file' = ReadsEnd old file new file'
+    TakesStep (reads_error e) old file new file' = ReadsError old file e new file'
+    TakesStep (sorts call) old file new file' = CallsSorter call old new × (file' ≡ file)
+    TakesStep (reports e) old file new file' = ReportsError old e new × (file' ≡ file)
+
+    -- Consecutive steps led from one state to the other.
+    abbrev pub TakesSteps : List Step → OrderedRecords R → PerfFile → OrderedRecords R → PerfFile → Type 0
+    TakesSteps [] old file new file' = (new ≡ old) × (file' ≡ file)
+    TakesSteps (step ∷ steps) old file new file' = (next : OrderedRecords R) × ((next_file : PerfFile) × TakesStep step old file next next_file × TakesSteps steps next next_file new file')
+
+    -- Steps that returned nothing.
+    pub record Progress (old : OrderedRecords R) (file : PerfFile) (new : OrderedRecords R) (file' : PerfFile) : Type 0 where
+      pub steps : List Step
+      pub none_returned : returned_in steps ≡ []
+      pub taken : TakesSteps steps old file new file'
+
+    -- Steps that returned nothing, and then one that returned this record.
+    pub record RecordReturned (old : OrderedRecords R) (file : PerfFile) (h : RecordView) (new : OrderedRecords R) (file' : PerfFile) : Type 0 where
+      pub middle : OrderedRecords R
+      pub middle_file : PerfFile
+      pub before : Progress old file middle middle_file
+      pub step : Step
+      pub returns_record : returned_in (step ∷ []) ≡ h ∷ []
+      pub taken : TakesStep step middle middle_file new file'
+
+    -- The end was returned, and all records before it had been.
+    pub record EndReturned (old : OrderedRecords R) (file : PerfFile) (new : OrderedRecords R) (file' : PerfFile) : Type 0 where
+      pub before : Progress old file new file'
+      pub at_end : unplaced_of new ≡ ending
+      pub all_returned : held_of new.sorter ≡ []
+
+    -- The error was returned, and all records before it had been.
+    pub record ErrorReturned (old : OrderedRecords R) (file : PerfFile) (e : Error) (new : OrderedRecords R) (file' : PerfFile) : Type 0 where
+      pub middle : OrderedRecords R
+      pub before : Progress old file middle file'
+      pub reported : ReportsError middle e new
+
+    -- An earlier call returned the error, and no record is left.
+    pub record StillFailed (old : OrderedRecords R) (file : PerfFile) (e : Error) (new : OrderedRecords R) (file' : PerfFile) : Type 0 where
+      pub is_failed : e ≡ error.Failed
+      pub before : Progress old file new file'
+      pub has_failed : unplaced_of new ≡ failed
+      pub all_returned : held_of new.sorter ≡ []
+
+    abbrev pub FailsInOrder : OrderedRecords R → PerfFile → Error → OrderedRecords R → PerfFile → Type 0
+    FailsInOrder old file e new file' = ErrorReturned old file e new file' ⊎ (StillFailed old file e new file' ⊎ ((e ≡ error.Memory) × Progress old file new file'))
+
+    -- The result of a call whose record has its body in a buffer. If memory runs out for the order, nothing is lost.
+    abbrev pub AdvancesInOrder : OrderedRecords R → PerfFile → Result (Option (RecordInfo × BodyBuffer)) Error → OrderedRecords R → PerfFile → Type 0
+    AdvancesInOrder old file (Ok (Some found)) new file' = RecordReturned old file (view_with found.0 (body_in found.1 new)) new file'
+    AdvancesInOrder old file (Ok None) new file' = EndReturned old file new file'
+    AdvancesInOrder old file (Err e) new file' = FailsInOrder old file e new file'
+
+    -- The result of a call. If memory runs out for the order, nothing is lost.
+    abbrev pub ReturnsInOrder : OrderedRecords R → PerfFile → Result (Option (RecordPlace × PerfFileRecord)) Error → OrderedRecords R → PerfFile → Type 0
+    ReturnsInOrder old file (Ok (Some r)) new file' = RecordReturned old file (record_view_of r.0 r.1) new file'
+    ReturnsInOrder old file (Ok None) new file' = EndReturned old file new file'
+    ReturnsInOrder old file (Err e) new file' = FailsInOrder old file e new file'
+
+    -- ---- the parts of a call
+
+    -- Something was pending before, or it was read.
+    abbrev pub ReadsPending : OrderedRecords R → PerfFile → OrderedRecords R → PerfFile → Type 0
+    ReadsPending old file new file' = (IsUnplaced (unplaced_of old) × (new ≡ old) × (file' ≡ file))
+        ⊎ (((key : ℕ) × ((h : RecordView) × ReadsTimed old file key h new file'))
+        ⊎ (ReadsEnd old file new file' ⊎ ((e : Error) × ReadsError old file e new file')))
+
+    -- Reading, if nothing is pending. A record without a time is returned. If memory runs out, nothing was read.
+    abbrev pub ReadsNext : OrderedRecords R → PerfFile → Result (Option RecordInfo) AllocError → OrderedRecords R → PerfFile → Type 0
+    ReadsNext old file (Ok (Some info)) new file' = ReadsUntimed old file (view_with info (body_in Read new)) new file'
+    ReadsNext old file (Ok None) new file' = ReadsPending old file new file'
+    ReadsNext old file (Err e) new file' = KeepsSorter old new × (file' ≡ file)
+
+    -- Steps that read and returned nothing.
+    pub record Places (old new : OrderedRecords R) : Type 0 where
+      pub steps : List Step
+      pub none_returned : returned_in steps ≡ []
+      pub taken : (file : PerfFile) → TakesSteps steps old file new file
+
+    -- What was pending is in the sorter. At the end of the input, all rounds ended.
+    abbrev pub AfterPlacing : Unplaced → OrderedRecords R → Type 0
+    AfterPlacing nothing new = unplaced_of new ≡ nothing
+    AfterPlacing (timed key h) new = unplaced_of new ≡ nothing
+    AfterPlacing ending new = (unplaced_of new ≡ ending) × (pending_of new.sorter ≡ [])
+    AfterPlacing (failing e) new = (unplaced_of new ≡ failing e) × (pending_of new.sorter ≡ [])
+    AfterPlacing failed new = (unplaced_of new ≡ failed) × (pending_of new.sorter ≡ [])
+
+    abbrev pub PlacesPending : OrderedRecords R → Result (Unit {0}) AllocError → OrderedRecords R → Type 0
+    PlacesPending old (Ok done) new = Places old new × AfterPlacing (unplaced_of old) new × (new.records ≡ old.records)
+    PlacesPending old (Err e) new = Places old new
+
+-- 1 if a record is pending.
+abbrev pub pending_records : Unplaced → ℕ
+pending_records nothing = 0
+pending_records (timed key h) = 1
+pending_records ending = 0
+pending_records (failing e) = 0
+pending_records failed = 0

@@ -1,0 +1,122 @@
+//! Records whose bodies are in buffers of their own.
+ghost use Rattle.std.specs.Prelude.{◌≡◌, ◌<◌, [], length, IfOk, OnErr, vec_capacity};
+ghost use Rattle.perfdata_base.specs.Raw.{bytes_of};
+ghost use Rattle.perfdata_records.specs.FileRecord.{file_record_body};
+ghost use Rattle.linux_perf_data.specs.RecordViews.{record_view_of};
+
+use linux_perf_data::event::{RawEventRecord, RecordType};
+use linux_perf_data::place::RecordParseInfo;
+use linux_perf_data::raw::RawData;
+use linux_perf_data::{Endianness, PerfFileRecord, RawUserRecord, RecordPlace, UserRecordType};
+use std::alloc::{AllocError, Global};
+
+// The writer of a record: the kernel, for the attribute with this index, or a tool.
+#[derive(Clone, Copy)]
+pub(crate) enum Writer {
+    Kernel(usize, RecordType, RecordParseInfo),
+    Tool(UserRecordType, Endianness),
+}
+
+// A record without its body.
+#[derive(Clone, Copy)]
+pub(crate) struct RecordInfo {
+    pub(crate) place: RecordPlace,
+    pub(crate) misc: u16,
+    pub(crate) writer: Writer,
+}
+
+impl RecordInfo {
+    ghost use Rattle.perfdata_order.specs.HeldRecord.{view_with};
+
+    pub(crate) fn of(place: RecordPlace, found: &PerfFileRecord<'_>) -> RecordInfo
+        ensures { view_with result (bytes_of (file_record_body found.now)) ≡ record_view_of place found.now }
+    {
+        match found {
+            PerfFileRecord::EventRecord { attr_index, event } => RecordInfo {
+                place,
+                misc: event.misc,
+                writer: Writer::Kernel(*attr_index, event.record_type, event.parse_info),
+            },
+            PerfFileRecord::UserRecord(user) => RecordInfo {
+                place,
+                misc: user.misc,
+                writer: Writer::Tool(user.record_type, user.endian),
+            },
+        }
+    }
+
+    pub(crate) fn with_body<'a>(self, body: &'a [u8]) -> PerfFileRecord<'a>
+        ensures { record_view_of self.place result ≡ view_with self body.now }
+    {
+        match self.writer {
+            Writer::Kernel(attr_index, record_type, parse_info) => PerfFileRecord::EventRecord {
+                attr_index,
+                event: RawEventRecord {
+                    record_type,
+                    misc: self.misc,
+                    body: RawData::Single(body),
+                    parse_info,
+                },
+            },
+            Writer::Tool(record_type, endian) => PerfFileRecord::UserRecord(RawUserRecord {
+                record_type,
+                endian,
+                misc: self.misc,
+                body: RawData::Single(body),
+            }),
+        }
+    }
+}
+
+// A record with its body.
+#[derive(Drop)]
+pub(crate) struct HeldRecord {
+    pub(crate) info: RecordInfo,
+    pub(crate) body: Vec<u8>,
+}
+
+impl HeldRecord {
+    ghost use Rattle.perfdata_order.specs.HeldRecord.{view_with, held_view};
+
+    // Copies the body into one of the spare buffers, or into a new one.
+    pub(crate) fn copy_from(
+        alloc: Global,
+        spare: &mut Vec<Vec<u8>>,
+        info: RecordInfo,
+        body: &[u8],
+    ) -> Result<HeldRecord, AllocError>
+        ensures { IfOk result (λ held. held_view held ≡ view_with info body.now) }
+    {
+        let mut buffer = match spare.pop() {
+            Some(buffer) => buffer,
+            None => Vec::new(alloc),
+        };
+        buffer.clear();
+        match buffer.extend_from_slice(body) {
+            Ok(()) => Ok(HeldRecord { info, body: buffer }),
+            Err(error) => Err(error),
+        }
+    }
+}
+
+// Copies the bytes of a body into an empty buffer.
+pub(crate) fn copy_body(buffer: &mut Vec<u8>, body: RawData<'_>) -> Result<(), AllocError>
+    requires { buffer.old.items ≡ [] }
+    ensures items { IfOk result (λ _. buffer.new.items ≡ bytes_of body.entry) }
+    ensures full { OnErr result (vec_capacity buffer.old < length (bytes_of body.entry)) }
+{
+    match body {
+        RawData::Single(bytes) => buffer.extend_from_slice(bytes),
+        RawData::Split(first, second) => {
+            match buffer.try_reserve(first.len() + second.len()) {
+                Ok(()) => {}
+                Err(error) => return Err(error),
+            }
+            match buffer.extend_from_slice(first) {
+                Ok(()) => {}
+                Err(error) => return Err(error),
+            }
+            buffer.extend_from_slice(second)
+        }
+    }
+}
