@@ -5,3 +5,5 @@
 mod in_memory;
 #[cfg(test)]
 mod sorter;
+#[cfg(test)]
+mod streaming;
