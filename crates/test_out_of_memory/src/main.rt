@@ -1,5 +1,5 @@
 //! Makes the library's calls one by one on an input, and prints a line for each result. The gate runs it once for each of its
-//! allocations, and makes that allocation fail (`.ci/refused_calls`). The exit status is 3 if there is no memory for its own
+//! allocations, and makes that allocation fail (`.ci/failing_calls`). The exit status is 3 if there is no memory for its own
 //! strings.
 #![tactic(auto)]
 
