@@ -21,18 +21,18 @@ added_append order bound (h ∷ hs) later =
 pub added_one : (order : Endianness) (bound : SectionSize) (hs : List RecordView) (h : RecordView) → attributes_in_views order bound (hs ++ h ∷ []) ≡ attributes_in_views order bound hs ++ attributes_in_record order bound h.record_type h.body
 added_one order bound hs h = added_append order bound hs (h ∷ []) ∙ ap (λ l. attributes_in_views order bound hs ++ l) (append-nil (attributes_in_record order bound h.record_type h.body))
 
-step : (order : Endianness) (bound : SectionSize) (b : Bool) (h : RecordView) (brings more : List Attribute) (marked plain : List RecordView) → brings ≡ attributes_in_record order bound h.record_type h.body → (b ≡ true → brings ≡ [])
-    → attributes_in_views order bound marked ≡ more → attributes_in_views order bound plain ≡ more → attributes_in_views order bound (if b then marked else h ∷ plain) ≡ brings ++ more
-step order bound true h brings more marked plain is empty same same' = same ∙ ap (λ l. l ++ more) (sym (empty refl))
-step order bound false h brings more marked plain is empty same same' = ap (λ l. l ++ attributes_in_views order bound plain) (sym is) ∙ ap (λ l. brings ++ l) same'
+step : (order : Endianness) (bound : SectionSize) (b : Bool) (h : RecordView) (adds more : List Attribute) (marked plain : List RecordView) → adds ≡ attributes_in_record order bound h.record_type h.body → (b ≡ true → adds ≡ [])
+    → attributes_in_views order bound marked ≡ more → attributes_in_views order bound plain ≡ more → attributes_in_views order bound (if b then marked else h ∷ plain) ≡ adds ++ more
+step order bound true h adds more marked plain is empty same same' = same ∙ ap (λ l. l ++ more) (sym (empty refl))
+step order bound false h adds more marked plain is empty same same' = ap (λ l. l ++ attributes_in_views order bound plain) (sym is) ∙ ap (λ l. adds ++ l) same'
 
 -- Markers add no attributes: the raw records and the returned records add the same.
 pub attributes_in_views_of_records : (order : Endianness) (bound : SectionSize) (offset round : ℕ) (attrs : List Attribute) (ps : List (List ℕ)) → attributes_in_views order bound (record_views order bound offset round attrs ps) ≡ attributes_in_records order bound ps
 attributes_in_views_of_records order bound offset round attrs [] = refl
 attributes_in_views_of_records order bound offset round attrs (p ∷ ps) =
-    let brings = attributes_in_record order bound (record_type_of order p) (drop 8 p) in
-    let next = attrs ++ brings in
-    step order bound (record_type_of order p == 68) (record_view_in order offset round attrs p) brings (attributes_in_records order bound ps)
+    let adds = attributes_in_record order bound (record_type_of order p) (drop 8 p) in
+    let next = attrs ++ adds in
+    step order bound (record_type_of order p == 68) (record_view_in order offset round attrs p) adds (attributes_in_records order bound ps)
     (record_views order bound (offset + length p) (round + 1) next ps) (record_views order bound (offset + length p) round next ps) refl
     (λ marker. adds_none order bound (record_type_of order p) (drop 8 p) (λ attribute. let kind = eqb-true (record_type_of order p) 68 marker in omega (arith, attribute, kind)))
     (attributes_in_views_of_records order bound (offset + length p) (round + 1) next ps) (attributes_in_views_of_records order bound (offset + length p) round next ps)

@@ -18,7 +18,7 @@ use Rattle.linux_perf_data.specs.Iter.{TestsMayStart, section_size_of}
 use Rattle.linux_perf_data.specs.declared.records.iter.PerfRecordIter.{PerfRecordIter}
 use Rattle.linux_perf_data.specs.declared.records.iter.Stage.TheVariants.{Running}
 use Rattle.linux_perf_data.specs.Layout.{ConsistsOfMarkers, MayStartAt, SectionSize, IsCompressed, IsRecord, AreMarkerRecords, total_size_of, record_type_of, record_size_of, aux_size_of}
-use Rattle.linux_perf_data.proofs.RecordHeaders.{total_size_plain, total_size_auxtrace, record_type_front, record_least, record_length, same_front, size_front, aux_size_front}
+use Rattle.linux_perf_data.proofs.RecordHeaders.{total_size_plain, total_size_auxtrace, record_type_front, record_least, record_length, same_prefix, size_first_part, aux_size_front}
 
 module _ (order : Endianness) where
   -- the facts about bytes that begin with a record
@@ -34,27 +34,27 @@ module _ (order : Endianness) where
     least = least;
     within = omega (arith, ap length cut, length-append p r);
     kind = ap (record_type_of order) cut ∙ record_type_front order p r least;
-    size = ap (record_size_of order) cut ∙ size_front order p r least;
+    size = ap (record_size_of order) cut ∙ size_first_part order p r least;
     extent = ap (total_size_of order) cut ∙ record_length order p r is;
   }
 
   -- a prefix whose length is the size in its record header is a record
-  pub whole_front : (bytes : List ℕ) (n : ℕ) → 8 ≤ n → n ≤ length bytes → 8 ≤ record_size_of order bytes → ¬ IsCompressed (record_type_of order bytes)
+  pub whole_first_part : (bytes : List ℕ) (n : ℕ) → 8 ≤ n → n ≤ length bytes → 8 ≤ record_size_of order bytes → ¬ IsCompressed (record_type_of order bytes)
       → (record_type_of order bytes ≡ 71 → 48 ≤ record_size_of order bytes) → (record_type_of order bytes ≡ 71 → 16 ≤ n) → n ≡ total_size_of order bytes → IsRecord order (take n bytes)
-  whole_front bytes n least within sized plain traced longer is =
+  whole_first_part bytes n least within sized plain traced longer is =
       let p = take n bytes in
       let r = drop n bytes in
       let cut : bytes ≡ p ++ r = sym (take-append-drop n bytes) in
       let long : length p ≡ n = length-take-le n bytes within in
       let room : 8 ≤ length p = omega arith in
       let kind : record_type_of order bytes ≡ record_type_of order p = ap (record_type_of order) cut ∙ record_type_front order p r room in
-      let size : record_size_of order bytes ≡ record_size_of order p = ap (record_size_of order) cut ∙ size_front order p r room in
+      let size : record_size_of order bytes ≡ record_size_of order p = ap (record_size_of order) cut ∙ size_first_part order p r room in
       let extent : total_size_of order p ≡ n = elim (cases_eq (record_type_of order p) 71) [
         | inl t ↦
             let k = kind ∙ t in
             let more = longer k in
-            let trace : aux_size_of order bytes ≡ aux_size_of order p = ap (aux_size_of order) cut ∙ aux_size_front order p r (omega arith) in
-            omega (arith, total_size_auxtrace order p t, total_size_auxtrace order bytes k, size, trace, is)
+            let aux : aux_size_of order bytes ≡ aux_size_of order p = ap (aux_size_of order) cut ∙ aux_size_front order p r (omega arith) in
+            omega (arith, total_size_auxtrace order p t, total_size_auxtrace order bytes k, size, aux, is)
         | inr other ↦ omega (arith, total_size_plain order p other, total_size_plain order bytes (λ e. other (sym kind ∙ e)), size, is)
       ] in
       record {
@@ -90,28 +90,28 @@ module _ (order : Endianness) where
     -- the bytes begin with a record at an offset where a record may start
     pub record Starts (offset : ℕ) (bytes : List ℕ) : Type 0 where
       pub begins : MayStartAt bound offset
-      pub front : List ℕ
-      pub behind : List ℕ
-      pub is_record : IsRecord order front
-      pub cut : bytes ≡ front ++ behind
+      pub first_part : List ℕ
+      pub suffix : List ℕ
+      pub is_record : IsRecord order first_part
+      pub cut : bytes ≡ first_part ++ suffix
 
     starts_by : (offset : ℕ) (bytes : List ℕ) (ps : List (List ℕ)) (p r : List ℕ) → AreMarkerRecords order bound offset ps → MayStartAt bound (offset + length (concat ps)) → IsRecord order p → bytes ≡ concat ps ++ (p ++ r) → Starts offset bytes
     starts_by offset bytes [] p r are begins is cut =
         let z : offset + length (concat []) ≡ offset = omega arith in
-        record { begins = subst (MayStartAt bound) z begins; front = p; behind = r; is_record = is; cut = cut }
+        record { begins = subst (MayStartAt bound) z begins; first_part = p; suffix = r; is_record = is; cut = cut }
     starts_by offset bytes (q ∷ qs) p r are begins is cut =
-        record { begins = are.0; front = q; behind = concat qs ++ (p ++ r); is_record = are.1; cut = cut ∙ append_assoc q (concat qs) (p ++ r) }
+        record { begins = are.0; first_part = q; suffix = concat qs ++ (p ++ r); is_record = are.1; cut = cut ∙ append_assoc q (concat qs) (p ++ r) }
 
     pub starts : (offset : ℕ) (bytes : List ℕ) → ContainsNextRecord order bound offset bytes → Starts offset bytes
     starts offset bytes s = starts_by offset bytes s.markers s.raw_record s.rest s.valid_markers s.may_start s.is_record s.split
 
-    behind_by : (offset : ℕ) (bytes q b : List ℕ) (ps : List (List ℕ)) (p r : List ℕ) → AreMarkerRecords order bound offset ps → MayStartAt bound (offset + length (concat ps)) → IsRecord order p → record_type_of order p ≢ 68 → bytes ≡ concat ps ++ (p ++ r)
+    rest_by : (offset : ℕ) (bytes q b : List ℕ) (ps : List (List ℕ)) (p r : List ℕ) → AreMarkerRecords order bound offset ps → MayStartAt bound (offset + length (concat ps)) → IsRecord order p → record_type_of order p ≢ 68 → bytes ≡ concat ps ++ (p ++ r)
         → IsRecord order q → record_type_of order q ≡ 68 → bytes ≡ q ++ b → ContainsNextRecord order bound (offset + length q) b
-    behind_by offset bytes q b [] p r are begins is other cut marker kind front =
-        let same = same_front order q p b r marker is (sym front ∙ cut) in
+    rest_by offset bytes q b [] p r are begins is other cut marker kind first_part =
+        let same = same_prefix order q p b r marker is (sym first_part ∙ cut) in
         absurd (other (ap (record_type_of order) (sym same.0) ∙ kind))
-    behind_by offset bytes q b (m ∷ ms) p r are begins is other cut marker kind front =
-        let same = same_front order q m b (concat ms ++ (p ++ r)) marker are.1 (sym front ∙ cut ∙ append_assoc m (concat ms) (p ++ r)) in
+    rest_by offset bytes q b (m ∷ ms) p r are begins is other cut marker kind first_part =
+        let same = same_prefix order q m b (concat ms ++ (p ++ r)) marker are.1 (sym first_part ∙ cut ∙ append_assoc m (concat ms) (p ++ r)) in
         let long : length q ≡ length m = ap length same.0 in
         let z : offset + length (m ++ concat ms) ≡ offset + length q + length (concat ms) = omega (arith, long, length-append m (concat ms)) in
         record {
@@ -135,11 +135,11 @@ module _ (order : Endianness) where
         let long : length q ≡ n = length-take-le n rest w.1 in
         let z : offset + at + length q ≡ offset + (at + n) = omega (arith, long) in
         subst (λ b. ContainsNextRecord order bound (offset + (at + n)) b) same (subst (λ k. ContainsNextRecord order bound k (drop n rest)) z
-        (behind_by (offset + at) rest q (drop n rest) s.markers s.raw_record s.rest s.valid_markers s.may_start s.is_record s.not_marker s.split w.2 is (sym (take-append-drop n rest))))
+        (rest_by (offset + at) rest q (drop n rest) s.markers s.raw_record s.rest s.valid_markers s.may_start s.is_record s.not_marker s.split w.2 is (sym (take-append-drop n rest))))
 
     -- if more bytes follow, the next record is the same
     pub shows_more : (offset : ℕ) (bytes hand : List ℕ) → take (length hand) bytes ≡ hand → ContainsNextRecord order bound offset hand → ContainsNextRecord order bound offset bytes
-    shows_more offset bytes hand front s =
+    shows_more offset bytes hand first_part s =
         let all = concat s.markers in
         let more = drop (length hand) bytes in
         record {
@@ -150,22 +150,22 @@ module _ (order : Endianness) where
           is_record = s.is_record;
           not_marker = s.not_marker;
           rest = s.rest ++ more;
-          split = sym (take-append-drop (length hand) bytes) ∙ ap (λ l. l ++ more) (front ∙ s.split) ∙ append_assoc all (s.raw_record ++ s.rest) more ∙ ap (λ l. all ++ l) (append_assoc s.raw_record s.rest more);
+          split = sym (take-append-drop (length hand) bytes) ∙ ap (λ l. l ++ more) (first_part ∙ s.split) ∙ append_assoc all (s.raw_record ++ s.rest) more ∙ ap (λ l. all ++ l) (append_assoc s.raw_record s.rest more);
         }
 
-    shown_where : (offset : ℕ) (told : Option (List ℕ)) (hand : List ℕ) → IfSome told (λ bytes. StartsWith bytes hand) → ContainsNextRecord order bound offset hand → IfSome told (ContainsNextRecord order bound offset)
-    shown_where offset None hand front s = _
-    shown_where offset (Some bytes) hand front s = shows_more offset bytes hand front s
+    visible_where : (offset : ℕ) (described : Option (List ℕ)) (hand : List ℕ) → IfSome described (λ bytes. StartsWith bytes hand) → ContainsNextRecord order bound offset hand → IfSome described (ContainsNextRecord order bound offset)
+    visible_where offset None hand first_part s = _
+    visible_where offset (Some bytes) hand first_part s = shows_more offset bytes hand first_part s
 
-behind_none : (told : Option (List ℕ)) (P : List ℕ → Type 0) → IfSome told P → IfSome (prepend [] told) P
-behind_none None P p = _
-behind_none (Some bytes) P p = p
+rest_none : (described : Option (List ℕ)) (P : List ℕ → Type 0) → IfSome described P → IfSome (prepend [] described) P
+rest_none None P p = _
+rest_none (Some bytes) P p = p
 
 -- the source's buffered bytes are a prefix of the iterator's remaining bytes
-pub shown_in : (order : Endianness) (input : Input) (offset : ℕ) (s : State) (hand : List ℕ) → HasNoPendingHeader input → IsPrefixOfRemaining s hand → ContainsNextRecord order (section_size_in input) offset hand → IfSome (input_source_state input s).bytes (ContainsNextRecord order (section_size_in input) offset)
-shown_in order (Section size) offset s hand none front shows = shown_where order (Some size) offset s.bytes hand front shows
-shown_in order (Pipe None) offset s hand none front shows = behind_none s.bytes (ContainsNextRecord order None offset) (shown_where order None offset s.bytes hand front shows)
-shown_in order (Pipe (Some head)) offset s hand none front shows = absurd cc
+pub visible_in : (order : Endianness) (input : Input) (offset : ℕ) (s : State) (hand : List ℕ) → HasNoPendingHeader input → IsPrefixOfRemaining s hand → ContainsNextRecord order (section_size_in input) offset hand → IfSome (input_source_state input s).bytes (ContainsNextRecord order (section_size_in input) offset)
+visible_in order (Section size) offset s hand none first_part shows = visible_where order (Some size) offset s.bytes hand first_part shows
+visible_in order (Pipe None) offset s hand none first_part shows = rest_none s.bytes (ContainsNextRecord order None offset) (visible_where order None offset s.bytes hand first_part shows)
+visible_in order (Pipe (Some header)) offset s hand none first_part shows = absurd cc
 
 no_begin : (bound : SectionSize) (offset : ℕ) → TestsMayStart bound offset false → ¬ MayStartAt bound offset
 no_begin None offset ends = λ _. ends.0 refl
@@ -179,17 +179,17 @@ module _ {R : Type 0} (state : R → State) (it : PerfRecordIter R) where
   pub not_over : it.stage ≡ Running → TestsMayStart (section_size_of state it) it.offset true → ¬ IsFinished state it
   not_over runs begins = λ over. elim over [ inl stopped ↦ stopped runs | inr ends ↦ ends begins ]
 
-  module _ (hand : List ℕ) (front : IsPrefixOfRemaining (state it.source) hand) where
+  module _ (hand : List ℕ) (first_part : IsPrefixOfRemaining (state it.source) hand) where
     pub tests_finished : IsFinished state it → TestsNextBuffered state it true
-    tests_finished over = record { buffered_bytes = hand; is_prefix = front; if_finished = λ _. refl; if_not_finished = λ runs. absurd (runs over) }
+    tests_finished over = record { buffered_bytes = hand; is_prefix = first_part; if_finished = λ _. refl; if_not_finished = λ runs. absurd (runs over) }
 
     pub tests_pending : ¬ IsFinished state it → ¬ HasNoPendingHeader it.input → TestsNextBuffered state it false
-    tests_pending runs kept = record { buffered_bytes = hand; is_prefix = front; if_finished = λ over. absurd (runs over); if_not_finished = λ _. (λ is. absurd (false≢true is), λ next. absurd (kept next.no_pending_header)) }
+    tests_pending runs kept = record { buffered_bytes = hand; is_prefix = first_part; if_finished = λ over. absurd (runs over); if_not_finished = λ _. (λ is. absurd (false≢true is), λ next. absurd (kept next.no_pending_header)) }
 
     pub tests_next : (answer : Bool) → ¬ IsFinished state it → HasNoPendingHeader it.input → IsTrue answer ↔ ContainsNextRecord it.endian (section_size_of state it) it.offset hand → TestsNextBuffered state it answer
     tests_next answer runs none shows = record {
       buffered_bytes = hand;
-      is_prefix = front;
+      is_prefix = first_part;
       if_finished = λ over. absurd (runs over);
       if_not_finished = λ _. (λ is. record { no_pending_header = none; contains_next = shows.0 is }, λ next. shows.1 next.contains_next);
     }

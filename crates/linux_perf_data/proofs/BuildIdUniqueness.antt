@@ -8,7 +8,7 @@ use Rattle.std.proofs.lemmas.Slice.Eq.{ends_is}
 use Rattle.std.proofs.Math.Seq.{take-append_seam}
 use Rattle.perfdata_base.specs.Endian.{number_in}
 use Rattle.perfdata_base.specs.ParseInfo.{is_set}
-use Rattle.perfdata_base.proofs.Numbers.{number_drop_front}
+use Rattle.perfdata_base.proofs.Numbers.{number_drop_prefix}
 use Rattle.perfdata_base.specs.declared.raw.Endianness.{Endianness}
 use Rattle.perfdata_records.specs.BuildIdEvent.{BuildIdEntry, zero_group, zero_groups, IsBuildIdIn, IsBuildIdEntry, IsTruncatedBuildIdEntry, entry_size}
 use Rattle.linux_perf_data.specs.BuildIds.{BeginsWithEntries, AreBuildIdEntries}
@@ -53,22 +53,22 @@ module _ (order : Endianness) where
   -- the bytes of an entry determine its size, whatever follows it
   size_by_header : (xs first after : List ℕ) (e : BuildIdEntry) → xs ≡ first ++ after → IsBuildIdEntry (number_in order) first e → length first ≡ entry_size (number_in order) xs
   size_by_header xs first after e split is =
-      is.exact_len ∙ ap (λ n. 36 + (n - 36)) (sym (number_drop_front order 2 6 first after (let has_header = is.has_fixed_part in omega arith)) ∙ ap (λ l. number_in order 2 (drop 6 l)) (sym split))
+      is.exact_len ∙ ap (λ n. 36 + (n - 36)) (sym (number_drop_prefix order 2 6 first after (let has_header = is.has_fixed_part in omega arith)) ∙ ap (λ l. number_in order 2 (drop 6 l)) (sym split))
 
   -- two entries at the start of the same bytes have the same bytes
-  front_once : (xs first after one rest : List ℕ) (e f : BuildIdEntry) → xs ≡ first ++ after → IsBuildIdEntry (number_in order) first e → xs ≡ one ++ rest → IsBuildIdEntry (number_in order) one f → (first ≡ one) × (after ≡ rest)
-  front_once xs first after one rest e f split is split' is' =
+  prefix_once : (xs first after one rest : List ℕ) (e f : BuildIdEntry) → xs ≡ first ++ after → IsBuildIdEntry (number_in order) first e → xs ≡ one ++ rest → IsBuildIdEntry (number_in order) one f → (first ≡ one) × (after ≡ rest)
+  prefix_once xs first after one rest e f split is split' is' =
       let long : length first ≡ length one = size_by_header xs first after e split is ∙ sym (size_by_header xs one rest f split' is') in
       let same : first ≡ one = sym (take-append_seam first after) ∙ ap (take (length first)) (sym split ∙ split') ∙ ap (λ n. take n (one ++ rest)) long ∙ take-append_seam one rest in
       (same, append_cancel_left first after rest (sym split ∙ split' ∙ ap (λ l. l ++ rest) (sym same)))
 
   -- an entry isn't a truncated entry
   not_truncated : (xs first after : List ℕ) (e : BuildIdEntry) → xs ≡ first ++ after → IsBuildIdEntry (number_in order) first e → IsTruncatedBuildIdEntry (number_in order) xs → ⊥
-  not_truncated xs first after e split is few =
+  not_truncated xs first after e split is too_few =
       let long = size_by_header xs first after e split is in
       let has_header = is.has_fixed_part in
       let all : length xs ≡ length first + length after = ap length split ∙ length-append first after in
-      let less : length xs < entry_size (number_in order) xs = few (omega (arith, all, has_header)) in
+      let less : length xs < entry_size (number_in order) xs = too_few (omega (arith, all, has_header)) in
       omega (arith, less, long, all)
 
   begins_once : (xs : List ℕ) (es fs : List BuildIdEntry) (r s : List ℕ) → BeginsWithEntries order xs es r → IsTruncatedBuildIdEntry (number_in order) r → BeginsWithEntries order xs fs s → IsTruncatedBuildIdEntry (number_in order) s → es ≡ fs
@@ -76,7 +76,7 @@ module _ (order : Endianness) where
   begins_once xs [] (f ∷ fs) r s p split (first, after, is, entry, more) split' = absurd (not_truncated xs first after f is entry (subst (IsTruncatedBuildIdEntry (number_in order)) (sym p) split))
   begins_once xs (e ∷ es) [] r s (first, after, is, entry, more) split q split' = absurd (not_truncated xs first after e is entry (subst (IsTruncatedBuildIdEntry (number_in order)) (sym q) split'))
   begins_once xs (e ∷ es) (f ∷ fs) r s (first, after, is, entry, more) split (one, rest, is', entry', more') split' =
-      let same = front_once xs first after one rest e f is entry is' entry' in
+      let same = prefix_once xs first after one rest e f is entry is' entry' in
       let has_header : e ≡ f = entry_once one e f (subst (λ l. IsBuildIdEntry (number_in order) l e) same.0 entry) entry' in
       let tail : es ≡ fs = begins_once rest es fs r s (subst (λ l. BeginsWithEntries order l es r) same.1 more) split more' split' in
       ap (λ d. d ∷ es) has_header ∙ ap (λ l. f ∷ l) tail

@@ -71,8 +71,8 @@ disagreeing_is_inconsistent {A = A} (x ∷ ds) d (Err e) some is apart each =
     let here = subst (λ y. ChecksEach {A = A} (described_attribute y) (described_attributes (x ∷ ds)) (Err e)) is each in
     (here.0, ((λ same_offsets. apart (subst (λ y. SameIdOffsets (described_attribute y) (described_attributes (x ∷ ds))) (sym is) (all_agree x ds same_offsets))), here.1), here.2)
 
-pub all_taken : (P : Attribute → Type 0) (ds : List AttributeDescription) (i : ℕ) → length ds ≤ i → All P (described_attributes (take i ds)) → All P (described_attributes ds)
-all_taken P ds i done all = subst (λ l. All P (described_attributes l)) (take_past ds i done) all
+pub all_consumed : (P : Attribute → Type 0) (ds : List AttributeDescription) (i : ℕ) → length ds ≤ i → All P (described_attributes (take i ds)) → All P (described_attributes ds)
+all_consumed P ds i done all = subst (λ l. All P (described_attributes l)) (take_past ds i done) all
 
 -- A successful comparison of two offsets makes them equal.
 

@@ -46,26 +46,26 @@ breaks_one first attrs i j V W v w x y =
     let r = first_one (ConformsTo first) x.earlier y.earlier x.later y.later x.attribute y.attribute (sym x.elements ∙ y.elements) x.earlier_conform y.earlier_conform (v x.attribute x.cause) (w y.attribute y.cause) in
     (sym x.index_matches ∙ r.0 ∙ y.index_matches, r.1)
 
-abbrev Lacks : Attribute → Type 0
-Lacks a = has_identifier a ≡ false
+abbrev Misses : Attribute → Type 0
+Misses a = has_identifier a ≡ false
 
 abbrev Differs : Attribute → Attribute → Type 0
 Differs first a = (has_identifier a ≡ true) × (has_sample_id_all a ≢ has_sample_id_all first)
 
-lacks_not : (first a : Attribute) → Lacks a → ¬ ConformsTo first a
-lacks_not first a lacks conforms = true≢false (sym conforms.0 ∙ lacks)
+missing_not : (first a : Attribute) → Misses a → ¬ ConformsTo first a
+missing_not first a is_missing conforms = true≢false (sym conforms.0 ∙ is_missing)
 
 differs_not : (first a : Attribute) → Differs first a → ¬ ConformsTo first a
 differs_not first a differs conforms = differs.1 conforms.1
 
 breach_of_one : (first : Attribute) (attrs : List Attribute) (b c : Inconsistency) → FirstInconsistency first attrs b → FirstInconsistency first attrs c → b ≡ c
 breach_of_one first attrs (missing_identifier i) (missing_identifier j) x y =
-    ap missing_identifier (breaks_one first attrs i j Lacks Lacks (lacks_not first) (lacks_not first) x y).0
+    ap missing_identifier (breaks_one first attrs i j Misses Misses (missing_not first) (missing_not first) x y).0
 breach_of_one first attrs (missing_identifier i) (sample_id_all_differs j) x y =
-    let r = breaks_one first attrs i j Lacks (Differs first) (lacks_not first) (differs_not first) x y in
+    let r = breaks_one first attrs i j Misses (Differs first) (missing_not first) (differs_not first) x y in
     absurd (true≢false (sym (y.cause.0) ∙ ap has_identifier (sym r.1) ∙ x.cause))
 breach_of_one first attrs (sample_id_all_differs i) (missing_identifier j) x y =
-    let r = breaks_one first attrs i j (Differs first) Lacks (differs_not first) (lacks_not first) x y in
+    let r = breaks_one first attrs i j (Differs first) Misses (differs_not first) (missing_not first) x y in
     absurd (true≢false (sym (x.cause.0) ∙ ap has_identifier r.1 ∙ y.cause))
 breach_of_one first attrs (sample_id_all_differs i) (sample_id_all_differs j) x y =
     ap sample_id_all_differs (breaks_one first attrs i j (Differs first) (Differs first) (differs_not first) (differs_not first) x y).0
@@ -78,8 +78,8 @@ inconsistency_is_unique (a ∷ more) b c x y = breach_of_one a (a ∷ more) b c 
 -- If all records have IDENTIFIER, their identifiers are at the start of the body, and eight bytes before its end if the sample_id
 -- fields are present.
 
-abbrev TellsEight : List ℕ → Type 0
-TellsEight words = offset_from_end words 16 ≡ Some 8
+abbrev DescribesEight : List ℕ → Type 0
+DescribesEight words = offset_from_end words 16 ≡ Some 8
 
 none_or_some : (n : ℕ) → ◌≡◌ {A = Option ℕ} None (Some n) → ⊥
 none_or_some n e = cc
@@ -96,23 +96,23 @@ one_more i j m next is_eight = elim (cases_lt i m) [
       absurd (none_or_some 8 (sym (ap (option_map (λ x. 8 * (m - x))) (cond-false (nat_lt i m) (Some i) None (le-ltb i m outside))) ∙ is_eight))
 ]
 
-more_words : (w : ℕ) (words : List ℕ) → (w == 16) ≡ false → TellsEight words → TellsEight (w ∷ words)
+more_words : (w : ℕ) (words : List ℕ) → (w == 16) ≡ false → DescribesEight words → DescribesEight (w ∷ words)
 more_words w words other is_eight =
     let n = position_or_len (λ x. x == 16) words in
     one_more n (cond (not (w == 16)) (1 + n) 0) (length words) (ap (λ b. cond (not b) (1 + n) 0) other) is_eight
 
-kept_word : (b : Bool) (w : ℕ) (words : List ℕ) → (w == 16) ≡ false → TellsEight words → TellsEight (cond b (w ∷ words) words)
+kept_word : (b : Bool) (w : ℕ) (words : List ℕ) → (w == 16) ≡ false → DescribesEight words → DescribesEight (cond b (w ∷ words) words)
 kept_word true w words other is_eight = more_words w words other is_eight
 kept_word false w words other is_eight = is_eight
 
-last_word : (b : Bool) → b ≡ true → TellsEight (cond b (16 ∷ []) [])
-last_word b is = subst (λ c. TellsEight (cond c (16 ∷ []) [])) (sym is) refl
+last_word : (b : Bool) → b ≡ true → DescribesEight (cond b (16 ∷ []) [])
+last_word b is = subst (λ c. DescribesEight (cond c (16 ∷ []) [])) (sym is) refl
 
-trailing_is_eight : (format : ℕ) → is_set format 16 ≡ true → TellsEight (filter (is_set format) (1 ∷ 2 ∷ 6 ∷ 9 ∷ 7 ∷ 16 ∷ []))
+trailing_is_eight : (format : ℕ) → is_set format 16 ≡ true → DescribesEight (filter (is_set format) (1 ∷ 2 ∷ 6 ∷ 9 ∷ 7 ∷ 16 ∷ []))
 trailing_is_eight format is =
     kept_word (is_set format 1) 1 _ refl (kept_word (is_set format 2) 2 _ refl (kept_word (is_set format 6) 6 _ refl (kept_word (is_set format 9) 9 _ refl (kept_word (is_set format 7) 7 _ refl (last_word (is_set format 16) is)))))
 
-end_is_eight : (t : Bool) (words : List ℕ) → TellsEight words → offset_from_end (if t then words else []) 16 ≡ (if t then Some 8 else None)
+end_is_eight : (t : Bool) (words : List ℕ) → DescribesEight words → offset_from_end (if t then words else []) 16 ≡ (if t then Some 8 else None)
 end_is_eight true words is_eight = is_eight
 end_is_eight false words is_eight = refl
 
@@ -187,9 +187,9 @@ same_bits true false = inr true≢false
 same_bits false true = inr false≢true
 same_bits false false = inl refl
 
-conforms_or : (first a : Attribute) → ConformsTo first a ⊎ (Lacks a ⊎ Differs first a)
+conforms_or : (first a : Attribute) → ConformsTo first a ⊎ (Misses a ⊎ Differs first a)
 conforms_or first a = elim (cases_Bool (has_identifier a)) [
-  | inr lacks ↦ inr (inl lacks)
+  | inr is_missing ↦ inr (inl is_missing)
   | inl has ↦ elim (same_bits (has_sample_id_all a) (has_sample_id_all first)) [ inl same ↦ inl (has, same) | inr differs ↦ inr (inr (has, differs)) ]
 ]
 
@@ -208,13 +208,13 @@ first_breach : (first a : Attribute) (attrs : List Attribute) (W : Attribute →
 first_breach first a attrs W reason = record { earlier = []; attribute = a; later = attrs; elements = refl; index_matches = refl; earlier_conform = All-nil (ConformsTo first); cause = reason }
 
 later : (first a : Attribute) (attrs : List Attribute) (b : Inconsistency) → ConformsTo first a → FirstInconsistency first attrs b → (c : Inconsistency) × FirstInconsistency first (a ∷ attrs) c
-later first a attrs (missing_identifier i) conforms breaks = (missing_identifier (suc i), later_breach first a attrs i Lacks conforms breaks)
+later first a attrs (missing_identifier i) conforms breaks = (missing_identifier (suc i), later_breach first a attrs i Misses conforms breaks)
 later first a attrs (sample_id_all_differs i) conforms breaks = (sample_id_all_differs (suc i), later_breach first a attrs i (Differs first) conforms breaks)
 
 find_breach : (first : Attribute) (attrs : List Attribute) → All (ConformsTo first) attrs ⊎ ((b : Inconsistency) × FirstInconsistency first attrs b)
 find_breach first [] = inl (All-nil (ConformsTo first))
 find_breach first (a ∷ attrs) = elim (conforms_or first a) [
-  | inr (inl lacks) ↦ inr (missing_identifier 0, first_breach first a attrs Lacks lacks)
+  | inr (inl is_missing) ↦ inr (missing_identifier 0, first_breach first a attrs Misses is_missing)
   | inr (inr differs) ↦ inr (sample_id_all_differs 0, first_breach first a attrs (Differs first) differs)
   | inl conforms ↦ elim (find_breach first attrs) [
     | inl all ↦ inl (All-cons (ConformsTo first) a attrs conforms all)

@@ -39,22 +39,22 @@ use Rattle.linux_perf_data.proofs.PipeOpeningUniqueness.{same_order}
 use Rattle.linux_perf_data.proofs.ConsistencyLemmas.{consistent_not_inconsistent}
 
 -- an entry of the attribute section
-abbrev pub Told : {E : Type 0} → (List ℕ → E → Type 0) → Type 0
-Told {E} IsOne = E
+abbrev pub Described : {E : Type 0} → (List ℕ → E → Type 0) → Type 0
+Described {E} IsOne = E
 
 abbrev pub Entry : Type 0
-Entry = Told (IsEventTypeEntry (number_in LittleEndian) 0)
+Entry = Described (IsEventTypeEntry (number_in LittleEndian) 0)
 
 -- ---- consecutive items
 
 module _ {D : Type 0} (IsOne : List ℕ → D → Type 0) (step : ℕ) (all : List ℕ) where
   pub run_at : (n at : ℕ) (ds : List D) → ItemsAt IsOne step all at ds → n < length ds → (d : D) × IsOne (drop (at + n * step) all) d
-  run_at n at [] run few = absurd (omega (arith, few))
-  run_at zero at (d ∷ ds) (is, more) few =
+  run_at n at [] run fewer = absurd (omega (arith, fewer))
+  run_at zero at (d ∷ ds) (is, more) fewer =
       let here : at ≡ at + 0 * step = omega arith in
       (d, subst (λ k. IsOne (drop k all) d) here is)
-  run_at (suc n) at (d ∷ ds) (is, more) few =
-      let there = run_at n (at + step) ds more (omega (arith, few)) in
+  run_at (suc n) at (d ∷ ds) (is, more) fewer =
+      let there = run_at n (at + step) ds more (omega (arith, fewer)) in
       let here : at + step + n * step ≡ at + suc n * step = omega arith in
       (there.0, subst (λ k. IsOne (drop k all) there.0) here there.1)
 
@@ -104,11 +104,11 @@ module _ (number : ℕ → List ℕ → ℕ) where
 
   pub entry_no_error : (size : ℕ) (e : Error) (xs : List ℕ) (d : Entry) → IsEventTypeEntry number size xs d → IsEventTypeEntryError number size e xs → ⊥
   entry_no_error size e xs d is (inl none) = frame_no_error size e xs d.attr is.attr_in_frame none
-  entry_no_error size e xs d is (inr (framed, truncated, few)) = let there = is.ids.0 in omega (arith, few, there)
+  entry_no_error size e xs d is (inr (framed, truncated, fewer)) = let there = is.ids.0 in omega (arith, fewer, there)
 
   pub ids_no_error : (e : Error) (s : PerfFileSection) (all ids : List ℕ) → AreSectionIds number (Some all) s ids → IsSectionIdsError number e s all → ⊥
-  ids_no_error e s all ids is (inl (far, read)) = let near = is.end_fits in omega (arith, far, near)
-  ids_no_error e s all ids is (inr (near, truncated, few)) = let there = is.elements.0 in omega (arith, few, there)
+  ids_no_error e s all ids is (inl (far, read)) = let end_fits_u64 = is.end_fits in omega (arith, far, end_fits_u64)
+  ids_no_error e s all ids is (inr (end_fits_u64, truncated, fewer)) = let there = is.elements.0 in omega (arith, fewer, there)
 
   module _ (all : List ℕ) where
     given_long : (names : ℕ → Option (List ℕ)) (i : ℕ) (entries : List Entry) (ds : List AttributeDescription) → AreEntryDescriptions number (Some all) names i entries ds → length ds ≡ length entries
@@ -143,9 +143,9 @@ module _ (number : ℕ → List ℕ → ℕ) where
 
       entries_stand : (names others : ℕ → Option (List ℕ)) (e : Error) (ds : List AttributeDescription) → DescribesByEntries number size names section all ds → IsEntriesError number size others section e all → ⊥
       entries_stand names others e ds x (inl stops) =
-          let few = stops.too_few in
+          let fewer = stops.too_few in
           let count = x.entries_match.count in
-          let here = run_at (IsEventTypeEntry number size) (size + 16) all (length stops.before) section.offset x.entries x.entries_match.items_match (omega (arith, few, count)) in
+          let here = run_at (IsEventTypeEntry number size) (size + 16) all (length stops.before) section.offset x.entries x.entries_match.items_match (omega (arith, fewer, count)) in
           entry_no_error size e (drop (section.offset + length stops.before * (size + 16)) all) here.0 here.1 stops.error_here
       entries_stand names others e ds x (inr stops) =
           let same = run_one (IsEventTypeEntry number size) (size + 16) all (entry_one size) section.offset x.entries stops.entries (x.entries_match.count ∙ sym stops.entries_match.count) x.entries_match.items_match stops.entries_match.items_match in
@@ -193,15 +193,15 @@ module _ (order : Endianness) (h : PerfHeader) (all : List ℕ) where
 
   section_no_error : (info : Option (List ℕ)) (e : Error) (ds : List AttributeDescription) → DescribesByAttrs order h info all ds → IsAttrSectionError order h info all e → ⊥
   section_no_error (Some info) e ds x (inl none) = names_no_error info e x.types x.names_types none
-  section_no_error (Some info) e ds x (inr (types, names, inl (few, read))) = let size_fits = x.attr_size_fits in omega (arith, few, size_fits)
+  section_no_error (Some info) e ds x (inr (types, names, inl (fewer, read))) = let size_fits = x.attr_size_fits in omega (arith, fewer, size_fits)
   section_no_error (Some info) e ds x (inr (types, names, inr (size_fits, inl (far, read)))) = x.section_valid far
   section_no_error (Some info) e ds x (inr (types, names, inr (size_fits, inr (can, stops)))) =
       entries_stand (number_in order) all (h.attr_size - 16) h.attr_section (type_name_at x.types) (type_name_at types) e ds x.attributes_match stops
   section_no_error None e ds (can, x) (inl (far, read)) = can far
   section_no_error None e ds (can, x) (inr (can', stops)) =
-      let few = stops.too_few in
+      let fewer = stops.too_few in
       let count = x.count in
-      let here = run_at (IsPlainDescription (number_in order) h.attr_size) h.attr_size all (length stops.before) h.attr_section.offset ds x.items_match (omega (arith, few, count)) in
+      let here = run_at (IsPlainDescription (number_in order) h.attr_size) h.attr_size all (length stops.before) h.attr_section.offset ds x.items_match (omega (arith, fewer, count)) in
       frame_no_error (number_in order) h.attr_size e (drop (h.attr_section.offset + length stops.before * h.attr_size) all) (attr_in here.0) here.1.attr_in_frame stops.error_here
 
   sections_no_error : (info : Option (List ℕ)) (e : Error) (ds : List AttributeDescription) → DescribesBySections order h info all ds → IsSectionsError order h info all e → ⊥
@@ -228,18 +228,18 @@ module _ (order : Endianness) (h : PerfHeader) (all : List ℕ) where
       let same = with_alike (section_data order h all event_desc) (section_data order h all simpleperf_meta_info) ds inconsistent.descriptions is inconsistent.attributes_match in
       consistent_not_inconsistent (described_attributes inconsistent.descriptions) inconsistent.inconsistency (subst AreConsistent same all_consistent) inconsistent.is_inconsistent
 
-  lacks_none : (before : List TableEntry) (entry : TableEntry) (later : List TableEntry) → All (λ e. HoldsSection all e.1) (before ++ entry ∷ later) → SectionTruncated all entry.1 → ⊥
-  lacks_none [] entry later holds lacks = let here = All-head (λ (e : TableEntry). HoldsSection all e.1) entry later holds in omega (arith, here, lacks)
-  lacks_none (b ∷ bs) entry later holds lacks = lacks_none bs entry later (All-tail (λ (e : TableEntry). HoldsSection all e.1) b (bs ++ entry ∷ later) holds) lacks
+  missing_none : (before : List TableEntry) (entry : TableEntry) (later : List TableEntry) → All (λ e. HoldsSection all e.1) (before ++ entry ∷ later) → SectionTruncated all entry.1 → ⊥
+  missing_none [] entry later holds is_missing = let here = All-head (λ (e : TableEntry). HoldsSection all e.1) entry later holds in omega (arith, here, is_missing)
+  missing_none (b ∷ bs) entry later holds is_missing = missing_none bs entry later (All-tail (λ (e : TableEntry). HoldsSection all e.1) b (bs ++ entry ∷ later) holds) is_missing
 
-  pub holds_or_lacks : HoldsSections order h all → SectionsTruncated order all (table_offset h) (features_of h.features) → ⊥
-  holds_or_lacks (table, holds) (inl few) = omega (arith, table, few)
-  holds_or_lacks (table, holds) (inr (table', one)) = lacks_none one.before one.entry one.later (subst (All (λ e. HoldsSection all e.1)) one.matches holds) one.is_truncated_here
+  pub holds_or_missing : HoldsSections order h all → SectionsTruncated order all (table_offset h) (features_of h.features) → ⊥
+  holds_or_missing (table, holds) (inl fewer) = omega (arith, table, fewer)
+  holds_or_missing (table, holds) (inr (table', one)) = missing_none one.before one.entry one.later (subst (All (λ e. HoldsSection all e.1)) one.matches holds) one.is_truncated_here
 
   after_header_no_error : (e : Error) (ds : List AttributeDescription) → EndFitsU64 h.data_section → HoldsSections order h all → 0 < length ds → AreConsistent (described_attributes ds) → DescribesAttributes order h all ds → IsErrorAfterHeader order h all e → ⊥
-  after_header_no_error e ds near holds some all_consistent is (inl (read, far)) = omega (arith, near, far)
-  after_header_no_error e ds near holds some all_consistent is (inr (inl (truncated, near', lacks))) = holds_or_lacks holds lacks
-  after_header_no_error e ds near holds some all_consistent is (inr (inr (near', holds', stops))) = attributes_no_error e ds some all_consistent is stops
+  after_header_no_error e ds end_fits_u64 holds some all_consistent is (inl (read, far)) = omega (arith, end_fits_u64, far)
+  after_header_no_error e ds end_fits_u64 holds some all_consistent is (inr (inl (truncated, end_fits', is_missing))) = holds_or_missing holds is_missing
+  after_header_no_error e ds end_fits_u64 holds some all_consistent is (inr (inr (end_fits', holds', stops))) = attributes_no_error e ds some all_consistent is stops
 
 -- ---- the file
 
@@ -248,12 +248,12 @@ header_one p h i x y = x.matches ∙ sym y.matches
 
 -- a file that opens has no error
 pub described_file_opens : (p : Position) (h : PerfHeader) (file : PerfFile) (e : Error) → DescribesFile p h file → IsFileError p e → ⊥
-described_file_opens p h file e d (inl (truncated, few)) = let there = d.matches.has_header.complete in omega (arith, few, there)
+described_file_opens p h file e d (inl (truncated, fewer)) = let there = d.matches.has_header.complete in omega (arith, fewer, there)
 described_file_opens p h file e d (inr (inl (other, has, (far, invalid)))) =
     let same = ap (λ x. x.header_size) (header_one p other h has d.matches.has_header) in
     let passes = d.matches.can_skip_extra in
     omega (arith, same, far, passes)
-described_file_opens p h file e d (inr (inr (inl (other, (has, near, unknown, is))))) =
+described_file_opens p h file e d (inr (inr (inl (other, (has, end_fits_u64, unknown, is))))) =
     unknown (endian_of_file file) (ap (λ x. x.magic) (header_one p other h has d.matches.has_header) ∙ d.matches.magic)
 described_file_opens p h file e d (inr (inr (inr (order, (other, is, stops))))) =
     let same = header_one p other h is.has_header d.matches.has_header in
@@ -266,14 +266,14 @@ described_file_opens p h file e d (inr (inr (inr (order, (other, is, stops))))) 
 -- ---- errors before the bytes after a header
 
 pub truncated_header_fails : TruncatedHeaderFails
-truncated_header_fails p few = (
+truncated_header_fails p fewer = (
   (λ e stops. elim stops as (λ _. IsUnexpectedEof e) [
     | inl truncated ↦ truncated.0
-    | inr (inl (h, has, reason)) ↦ let there = has.complete in absurd (omega (arith, few, there))
-    | inr (inr (inl (h, none))) ↦ let there = none.0.complete in absurd (omega (arith, few, there))
-    | inr (inr (inr (order, (h, is, stops)))) ↦ let there = is.has_header.complete in absurd (omega (arith, few, there))
+    | inr (inl (h, has, reason)) ↦ let there = has.complete in absurd (omega (arith, fewer, there))
+    | inr (inr (inl (h, none))) ↦ let there = none.0.complete in absurd (omega (arith, fewer, there))
+    | inr (inr (inr (order, (h, is, stops)))) ↦ let there = is.has_header.complete in absurd (omega (arith, fewer, there))
   ]),
-  λ h file d. let there = d.matches.has_header.complete in omega (arith, few, there),
+  λ h file d. let there = d.matches.has_header.complete in omega (arith, fewer, there),
 )
 
 same_size : (p : Position) (h i : PerfHeader) → HasHeader p h → HasHeader p i → h.header_size ≡ i.header_size
@@ -282,19 +282,19 @@ same_size p h i x y = ap (λ x. x.header_size) (header_one p h i x y)
 pub far_header_fails : FarHeaderFails
 far_header_fails p h has far = (
   (λ e stops. elim stops as (λ _. IsInvalidInput e) [
-    | inl (truncated, few) ↦ let there = has.complete in absurd (omega (arith, few, there))
+    | inl (truncated, fewer) ↦ let there = has.complete in absurd (omega (arith, fewer, there))
     | inr (inl (i, has', (far', invalid))) ↦ invalid
-    | inr (inr (inl (i, none))) ↦ let same = same_size p i h none.0 has in let near = none.1 in absurd (omega (arith, same, far, near))
-    | inr (inr (inr (order, (i, is, stops)))) ↦ let same = same_size p i h is.has_header has in let near = is.can_skip_extra in absurd (omega (arith, same, far, near))
+    | inr (inr (inl (i, none))) ↦ let same = same_size p i h none.0 has in let end_fits_u64 = none.1 in absurd (omega (arith, same, far, end_fits_u64))
+    | inr (inr (inr (order, (i, is, stops)))) ↦ let same = same_size p i h is.has_header has in let end_fits_u64 = is.can_skip_extra in absurd (omega (arith, same, far, end_fits_u64))
   ]),
-  λ i file d. let same = same_size p i h d.matches.has_header has in let near = d.matches.can_skip_extra in omega (arith, same, far, near),
+  λ i file d. let same = same_size p i h d.matches.has_header has in let end_fits_u64 = d.matches.can_skip_extra in omega (arith, same, far, end_fits_u64),
 )
 
 pub unknown_magic_fails : UnknownMagicFails
-unknown_magic_fails p h has near unknown = (
+unknown_magic_fails p h has end_fits_u64 unknown = (
   (λ e stops. elim stops as (λ _. e ≡ UnrecognizedMagicValue h.magic) [
-    | inl (truncated, few) ↦ let there = has.complete in absurd (omega (arith, few, there))
-    | inr (inl (i, has', (far, invalid))) ↦ let same = same_size p i h has' has in absurd (omega (arith, same, far, near))
+    | inl (truncated, fewer) ↦ let there = has.complete in absurd (omega (arith, fewer, there))
+    | inr (inl (i, has', (far, invalid))) ↦ let same = same_size p i h has' has in absurd (omega (arith, same, far, end_fits_u64))
     | inr (inr (inl (i, none))) ↦ none.3 ∙ ap (λ x. UnrecognizedMagicValue x.magic) (header_one p i h none.0 has)
     | inr (inr (inr (order, (i, is, stops)))) ↦ absurd (unknown order (ap (λ x. x.magic) (header_one p h i has is.has_header) ∙ is.magic))
   ]),

@@ -19,7 +19,7 @@ use Rattle.perfdata_base.specs.declared.source.AppendError.{AppendError}
 use Rattle.perfdata_base.specs.declared.source.AppendError.TheVariants.{Memory, Source}
 use Rattle.perfdata_base.proofs.ConsumedLemmas.{consumed_none, consumed_more, consumed_none_later, failed_later}
 use Rattle.perfdata_base.proofs.ReadErrors.{none_or_paused, all_read, consumed-after_seek, after_seek_none, after_seek_more, failed_after_seek, paused_after_seek}
-use Rattle.perfdata_base.proofs.Numbers.{number_front, number_drop_front}
+use Rattle.perfdata_base.proofs.Numbers.{number_prefix, number_drop_prefix}
 use Rattle.perfdata_sections.specs.ParsedPart.{ReadsBytes, file_error_of}
 use Rattle.perfdata_sections.specs.Error.{IsUnexpectedEof}
 use Rattle.perfdata_sections.specs.declared.error.Error.{Error}
@@ -42,8 +42,8 @@ earlier_source_error : (a b c : State) (e : Error) → AfterSeek a b → SourceE
 earlier_source_error a b c e seek (inl (is, failed)) = inl (is, failed_after_seek a b c seek failed)
 earlier_source_error a b c e seek (inr (is, paused)) = inr (is, paused_after_seek a b c seek paused)
 
-shown_before : (a b : State) (P : List ℕ → Type 0) → AfterSeek a b → IfSome (all_bytes_of b.position) P → IfSome (all_bytes_of a.position) P
-shown_before a b P seek shown = subst (λ o. IfSome o P) seek.all_bytes shown
+is_visible_before : (a b : State) (P : List ℕ → Type 0) → AfterSeek a b → IfSome (all_bytes_of b.position) P → IfSome (all_bytes_of a.position) P
+is_visible_before a b P seek seen_here = subst (λ o. IfSome o P) seek.all_bytes seen_here
 
 if_more : (o : Option (List ℕ)) (P Q : List ℕ → Type 0) → ((x : List ℕ) → P x → Q x) → IfSome o P → IfSome o Q
 if_more None P Q more is = tt
@@ -65,9 +65,9 @@ section_truncated s a b c e seek at truncated = elim truncated.cause [
       eof,
       remaining_there a.position b.position b.bytes s.offset (λ all'. SectionTruncated all' s) at seek.from_position (λ all' is.
           let same : Some (drop s.offset all') ≡ Some truncated.consumed_bytes = sym is ∙ all_read b c truncated.consumed_bytes truncated.consumes all in
-          let few : length (drop s.offset all') ≡ length truncated.consumed_bytes = cc in
+          let fewer : length (drop s.offset all') ≡ length truncated.consumed_bytes = cc in
           let less = truncated.too_few in
-          omega (arith, few, less)),
+          omega (arith, fewer, less)),
     )
     | inr paused ↦ inr (inr (eof, paused_after_seek a b c seek paused))
   ]
@@ -89,7 +89,7 @@ section_error s a b c (Source own) e seek at truncated is = (
 
 module _ (order : Endianness) where
   section_of_prefix : (prefix rest : List ℕ) → 16 ≤ length prefix → section_entry_of (number_in order) (prefix ++ rest) ≡ section_entry_of (number_in order) prefix
-  section_of_prefix prefix rest long = rw (number_front order 8 prefix rest (omega arith), number_drop_front order 8 8 prefix rest (omega arith)) refl
+  section_of_prefix prefix rest long = rw (number_prefix order 8 prefix rest (omega arith), number_drop_prefix order 8 8 prefix rest (omega arith)) refl
 
   entries_of_prefix : (prefix rest : List ℕ) (ns : List ℕ) → length prefix ≡ 16 * length ns → feature_entries_in order (prefix ++ rest) ns ≡ feature_entries_in order prefix ns
   entries_of_prefix prefix rest [] long = refl
@@ -163,7 +163,7 @@ module _ (order : Endianness) where
 -- the bytes of these entries' sections are read
 pub record DataSoFar {S : Type 0} (es : List FeatureEntry) (old : State) (m : IndexMap Feature (Vec ℕ Global) S) (new : State) : Type 0 where
   pub seek : AfterSeek old new
-  pub shown : IfSome (all_bytes_of old.position) (λ all. All (λ e. HoldsSection all e.1) es × ((n : ℕ) → feature_data_of m n ≡ feature_data_by all es n))
+  pub seen_here : IfSome (all_bytes_of old.position) (λ all. All (λ e. HoldsSection all e.1) es × ((n : ℕ) → feature_data_of m n ≡ feature_data_by all es n))
 
 -- the bytes of one more feature
 data_push : (all : List ℕ) (es : List FeatureEntry) (k : ℕ) (s : PerfFileSection) (n : ℕ) → feature_data_by all (es ++ (k, s) ∷ []) n ≡ cond (nat_eq k n) (Some (section_bytes all s)) (feature_data_by all es n)
@@ -179,7 +179,7 @@ module _ {S : Type 0} (a b c : State) (m new : IndexMap Feature (Vec ℕ Global)
       let all_entries : feature_entries_of (take (i + 1) table) ≡ feature_entries_of (take i table) ++ (f.0, s) ∷ [] = ap feature_entries_of grown ∙ map_push (λ e. (e.0.0, e.1)) (take i table) (f, s) in
       subst (λ es. DataSoFar es a new c) (sym all_entries) (record {
         seek = after_seek_more a b c so.seek one.0;
-        shown = if_both (all_bytes_of a.position) (λ all. All (λ e. HoldsSection all e.1) (feature_entries_of (take i table)) × ((n : ℕ) → feature_data_of m n ≡ feature_data_by all (feature_entries_of (take i table)) n)) (λ all. HoldsSection all s × (v.items ≡ section_bytes all s))
+        seen_here = if_both (all_bytes_of a.position) (λ all. All (λ e. HoldsSection all e.1) (feature_entries_of (take i table)) × ((n : ℕ) → feature_data_of m n ≡ feature_data_by all (feature_entries_of (take i table)) n)) (λ all. HoldsSection all s × (v.items ≡ section_bytes all s))
             (λ all. All (λ e. HoldsSection all e.1) (feature_entries_of (take i table) ++ (f.0, s) ∷ []) × ((n : ℕ) → feature_data_of new n ≡ feature_data_by all (feature_entries_of (take i table) ++ (f.0, s) ∷ []) n))
             (λ all complete here. (
               All-push (λ e. HoldsSection all e.1) (feature_entries_of (take i table)) (f.0, s) complete.0 here.0,
@@ -187,7 +187,7 @@ module _ {S : Type 0} (a b c : State) (m new : IndexMap Feature (Vec ℕ Global)
                   ∙ elim (nat_eq f.0 n) as (λ t. cond t (Some v.items) (feature_data_of m n) ≡ cond t (Some (section_bytes all s)) (feature_data_by all (feature_entries_of (take i table)) n)) [ true ↦ ap (λ l. Some l) here.1 | false ↦ complete.1 n ]
                   ∙ sym (data_push all (feature_entries_of (take i table)) f.0 s n),
             ))
-            so.shown (shown_before a b (λ all. HoldsSection all s × (v.items ≡ section_bytes all s)) so.seek one.1);
+            so.seen_here (is_visible_before a b (λ all. HoldsSection all s × (v.items ≡ section_bytes all s)) so.seek one.1);
       })
 
   -- reading the next section fails
@@ -196,8 +196,8 @@ module _ {S : Type 0} (a b c : State) (m new : IndexMap Feature (Vec ℕ Global)
   data_error e remaining_from so split one = (
     after_seek_more a b c so.seek one.0,
     λ other. elim (one.1 other) [
-      | inl lacks ↦ inl (
-        lacks.0,
+      | inl is_missing ↦ inl (
+        is_missing.0,
         if_both (all_bytes_of a.position) (λ all. All (λ e'. HoldsSection all e'.1) (feature_entries_of (take i table)) × ((n : ℕ) → feature_data_of m n ≡ feature_data_by all (feature_entries_of (take i table)) n)) (λ all. SectionTruncated all s) (λ all. FirstTruncatedSection all (feature_entries_of table))
             (λ all complete here. record {
               before = feature_entries_of (take i table);
@@ -207,7 +207,7 @@ module _ {S : Type 0} (a b c : State) (m new : IndexMap Feature (Vec ℕ Global)
               complete_before = complete.0;
               is_truncated_here = here;
             })
-            so.shown (shown_before a b (λ all. SectionTruncated all s) so.seek lacks.1),
+            so.seen_here (is_visible_before a b (λ all. SectionTruncated all s) so.seek is_missing.1),
       )
       | inr source_error ↦ inr (earlier_source_error a b c e so.seek source_error)
     ],
@@ -220,7 +220,7 @@ module _ {S : Type 0} (a b c : State) (m new : IndexMap Feature (Vec ℕ Global)
 pub data_none : {S : Type 0} (a : State) (m : IndexMap Feature (Vec ℕ Global) S) (table : List (Feature × PerfFileSection)) → RemainsFromPosition a → m.entries ≡ [] → DataSoFar (feature_entries_of (take 0 table)) a m a
 data_none a m table placed none = record {
   seek = after_seek_none a placed;
-  shown = if_each (all_bytes_of a.position) (λ all. All (λ e. HoldsSection all e.1) (feature_entries_of (take 0 table)) × ((n : ℕ) → feature_data_of m n ≡ feature_data_by all (feature_entries_of (take 0 table)) n))
+  seen_here = if_each (all_bytes_of a.position) (λ all. All (λ e. HoldsSection all e.1) (feature_entries_of (take 0 table)) × ((n : ℕ) → feature_data_of m n ≡ feature_data_by all (feature_entries_of (take 0 table)) n))
       (λ all. (All-nil (λ e. HoldsSection all e.1), λ n. ap (λ es. option_map (λ v. v.items) (lookup (λ f. nat_eq n f.0) es)) none));
 }
 
@@ -229,14 +229,14 @@ pub data_done : {S : Type 0} (a b : State) (m : IndexMap Feature (Vec ℕ Global
 data_done a b m table i so all =
     let whole : take i table ≡ table = take_all i table all in
     let whole_table = subst (λ t. DataSoFar (feature_entries_of t) a m b) whole so in
-    (whole_table.seek, whole_table.shown)
+    (whole_table.seek, whole_table.seen_here)
 
 -- ---- the whole table
 
 -- the parsed table is the table at the offset
 table_there : (order : Endianness) (at : ℕ) (features : List ℕ) (a b c : State) (es : List FeatureEntry) → b.position ≡ at_offset at a.position → AfterSeek a b → TableRead order features b es c
     → IfSome (all_bytes_of a.position) (λ all. HoldsFeatureTable order all at features × (es ≡ feature_table_of order all at features))
-table_there order at features a b c es sought seek table_read = remaining_there a.position b.position b.bytes at (λ all. HoldsFeatureTable order all at features × (es ≡ feature_table_of order all at features)) sought seek.from_position (λ all is.
+table_there order at features a b c es seek_succeeded seek table_read = remaining_there a.position b.position b.bytes at (λ all. HoldsFeatureTable order all at features × (es ≡ feature_table_of order all at features)) seek_succeeded seek.from_position (λ all is.
     let truncated = prefix_there c.bytes (drop at all) table_read.bytes (sym is ∙ table_read.consumes.bytes) in
     let long = table_read.exact_len in (
       omega (arith, ap length truncated.1, length-append table_read.bytes truncated.0, long),
@@ -246,16 +246,16 @@ table_there order at features a b c es sought seek table_read = remaining_there 
 -- reading the table fails
 pub table_error : (S : Type 0) (order : Endianness) (at : ℕ) (features : List ℕ) (a b c : State) (e : Error) → b.position ≡ at_offset at a.position → AfterSeek a b → TableReadError (16 * length features) b e c
     → ReadsFeatures {S = S} order at features a (Err e) c
-table_error S order at features a b c e sought seek stopped = (
+table_error S order at features a b c e seek_succeeded seek stopped = (
   after_seek_more a b c seek (consumed-after_seek b c stopped.bytes seek.from_position stopped.consumes),
   λ other. let reason = stopped.cause other in elim reason.1 [
     | inl (eof, none) ↦ elim (none_or_paused b c none) [
       | inl all ↦ inl (
         eof,
-        remaining_there a.position b.position b.bytes at (λ all'. SectionsTruncated order all' at features) sought seek.from_position (λ all' is.
+        remaining_there a.position b.position b.bytes at (λ all'. SectionsTruncated order all' at features) seek_succeeded seek.from_position (λ all' is.
             let same : Some (drop at all') ≡ Some stopped.bytes = sym is ∙ all_read b c stopped.bytes stopped.consumes all in
-            let few : length (drop at all') ≡ length stopped.bytes = cc in
-            inl (omega (arith, few, reason.0))),
+            let fewer : length (drop at all') ≡ length stopped.bytes = cc in
+            inl (omega (arith, fewer, reason.0))),
       )
       | inr paused ↦ inr (inr (eof, paused_after_seek a b c seek paused))
     ]
@@ -266,7 +266,7 @@ table_error S order at features a b c e sought seek stopped = (
 -- the sections of the table are read, or reading them fails
 pub sections_read : {S : Type 0} (order : Endianness) (at : ℕ) (features : List ℕ) (a b c d : State) (es : List FeatureEntry) (r : Result (IndexMap Feature (Vec ℕ Global) S) Error) → b.position ≡ at_offset at a.position → AfterSeek a b
     → TableRead order features b es c → ReadsFeatureData es c r d → ReadsFeatures order at features a r d
-sections_read order at features a b c d es (Ok m) sought seek table_read reads =
+sections_read order at features a b c d es (Ok m) seek_succeeded seek table_read reads =
     let seek_c = after_seek_more a b c seek (consumed-after_seek b c table_read.bytes seek.from_position table_read.consumes) in (
       after_seek_more a c d seek_c reads.0,
       if_both (all_bytes_of a.position) (λ all. HoldsFeatureTable order all at features × (es ≡ feature_table_of order all at features)) (λ all. All (λ e. HoldsSection all e.1) es × ((n : ℕ) → feature_data_of m n ≡ feature_data_by all es n))
@@ -275,17 +275,17 @@ sections_read order at features a b c d es (Ok m) sought seek table_read reads =
             (there.0, subst (λ l. All (λ e. HoldsSection all e.1) l) there.1 complete.0),
             λ n. complete.1 n ∙ ap (λ l. feature_data_by all l n) there.1,
           ))
-          (table_there order at features a b c es sought seek table_read) (shown_before a c (λ all. All (λ e. HoldsSection all e.1) es × ((n : ℕ) → feature_data_of m n ≡ feature_data_by all es n)) seek_c reads.1),
+          (table_there order at features a b c es seek_succeeded seek table_read) (is_visible_before a c (λ all. All (λ e. HoldsSection all e.1) es × ((n : ℕ) → feature_data_of m n ≡ feature_data_by all es n)) seek_c reads.1),
     )
-sections_read order at features a b c d es (Err e) sought seek table_read reads =
+sections_read order at features a b c d es (Err e) seek_succeeded seek table_read reads =
     let seek_c = after_seek_more a b c seek (consumed-after_seek b c table_read.bytes seek.from_position table_read.consumes) in (
       after_seek_more a c d seek_c reads.0,
       λ other. elim (reads.1 other) [
-        | inl lacks ↦ inl (
-          lacks.0,
+        | inl is_missing ↦ inl (
+          is_missing.0,
           if_both (all_bytes_of a.position) (λ all. HoldsFeatureTable order all at features × (es ≡ feature_table_of order all at features)) (λ all. FirstTruncatedSection all es) (λ all. SectionsTruncated order all at features)
               (λ all there one. inr (there.0, subst (FirstTruncatedSection all) there.1 one))
-              (table_there order at features a b c es sought seek table_read) (shown_before a c (λ all. FirstTruncatedSection all es) seek_c lacks.1),
+              (table_there order at features a b c es seek_succeeded seek table_read) (is_visible_before a c (λ all. FirstTruncatedSection all es) seek_c is_missing.1),
         )
         | inr source_error ↦ inr (earlier_source_error a c d e seek_c source_error)
       ],

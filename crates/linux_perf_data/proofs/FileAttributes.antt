@@ -47,7 +47,7 @@ event_desc_read order desc a b (Ok v) is parsed =
 event_desc_read order desc a b (Err e) is error = λ m.
     let placed : RemainsFromPosition a = subst RemainsFromPosition (sym is) refl in
     elim (event_desc_source_error (number_in order) (in_reads_first order) a e b placed (error.1 m)) [
-      | inl shown ↦ subst (λ s. IfSome s.bytes (IsEventDescError (number_in order) e)) is shown
+      | inl seen_here ↦ subst (λ s. IfSome s.bytes (IsEventDescError (number_in order) e)) is seen_here
       | inr source_error ↦ absurd (steady_no_source_error a b e (subst (λ s. IsTrue s.steady) (sym is) refl) source_error)
     ]
 
@@ -64,7 +64,7 @@ module _ (order : Endianness) (h : PerfHeader) (a : State) (placed : RemainsFrom
   types_read info c (Err e) some (inr (can, error)) = (
     error.0,
     λ m. elim (entries_source_error (number_in order) h.attr_size (type_name_at []) h.event_types_section a e c (error.1 m)) [
-      | inl shown ↦ inl (if_more (all_bytes_of a.position) (IsEventTypesError (number_in order) h.attr_size h.event_types_section e) (λ all. IsSourcesError order h (known_sections None info) all e) (λ all here. inl (some, inr (can, here))) shown)
+      | inl seen_here ↦ inl (if_more (all_bytes_of a.position) (IsEventTypesError (number_in order) h.attr_size h.event_types_section e) (λ all. IsSourcesError order h (known_sections None info) all e) (λ all here. inl (some, inr (can, here))) seen_here)
       | inr source_error ↦ inr source_error
     ],
   )
@@ -82,8 +82,8 @@ module _ (order : Endianness) (h : PerfHeader) (a : State) (placed : RemainsFrom
   named_entries info types c (Err e) none names size_fits (inr (can, error)) = (
     error.0,
     λ m. elim (entries_source_error (number_in order) (h.attr_size - 16) (type_name_at types) h.attr_section a e c (error.1 m)) [
-      | inl shown ↦ inl (if_more (all_bytes_of a.position) (IsSimpleperfAttrsError (number_in order) h.attr_size h.attr_section types e) (λ all. IsSourcesError order h (known_sections None (Some info)) all e)
-          (λ all here. inr (none, inr (types, names, inr (size_fits, inr (can, here))))) shown)
+      | inl seen_here ↦ inl (if_more (all_bytes_of a.position) (IsSimpleperfAttrsError (number_in order) h.attr_size h.attr_section types e) (λ all. IsSourcesError order h (known_sections None (Some info)) all e)
+          (λ all here. inr (none, inr (types, names, inr (size_fits, inr (can, here))))) seen_here)
       | inr source_error ↦ inr source_error
     ],
   )

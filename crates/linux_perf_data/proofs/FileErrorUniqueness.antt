@@ -21,7 +21,7 @@ use Rattle.linux_perf_data.specs.Laws.{SameCause, FileErrorIsUnique}
 use Rattle.linux_perf_data.specs.FileOpening.{section_data, IsAttributesError, IsErrorAfterHeader}
 use Rattle.linux_perf_data.specs.FeatureNumbers.{event_desc, simpleperf_meta_info}
 use Rattle.linux_perf_data.specs.Consistency.{error_of_inconsistency}
-use Rattle.linux_perf_data.proofs.DescribedFiles.{Entry, run_at, run_one, frame_no_error, entry_one, entry_no_error, ids_no_error, names_no_error, with_alike, sources_no_error, holds_or_lacks, header_one, truncated_header_fails, far_header_fails, unknown_magic_fails}
+use Rattle.linux_perf_data.proofs.DescribedFiles.{Entry, run_at, run_one, frame_no_error, entry_one, entry_no_error, ids_no_error, names_no_error, with_alike, sources_no_error, holds_or_missing, header_one, truncated_header_fails, far_header_fails, unknown_magic_fails}
 use Rattle.linux_perf_data.proofs.PipeOpeningUniqueness.{same_order}
 use Rattle.linux_perf_data.proofs.ConsistencyLemmas.{inconsistency_is_unique, first_same, tail_same}
 
@@ -30,14 +30,14 @@ use Rattle.linux_perf_data.proofs.ConsistencyLemmas.{inconsistency_is_unique, fi
 -- If no item follows either of two runs, the runs have the same length and end at the same offset.
 module _ {D : Type 0} (IsOne : List ℕ → D → Type 0) (step : ℕ) (all : List ℕ) (IsNot : Error → List ℕ → Type 0) (apart : (e : Error) (xs : List ℕ) (d : D) → IsOne xs d → IsNot e xs → ⊥) where
   run_goes_on : (e : Error) (at n : ℕ) (ds : List D) → ItemsAt IsOne step all at ds → n < length ds → IsNot e (drop (at + n * step) all) → ⊥
-  run_goes_on e at n ds run few none = let here = run_at IsOne step all n at ds run few in apart e (drop (at + n * step) all) here.0 here.1 none
+  run_goes_on e at n ds run fewer none = let here = run_at IsOne step all n at ds run fewer in apart e (drop (at + n * step) all) here.0 here.1 none
 
   run_errors_alike : (e f : Error) (at : ℕ) (ds es : List D) → ItemsAt IsOne step all at ds → ItemsAt IsOne step all at es → IsNot e (drop (at + length ds * step) all) → IsNot f (drop (at + length es * step) all)
       → ((xs : List ℕ) → IsNot e xs → IsNot f xs → Alike e f) → Alike e f
   run_errors_alike e f at ds es x y none none' alike = elim (cases_lt (length ds) (length es)) [
-    | inl few ↦ absurd (run_goes_on e at (length ds) es y few none)
+    | inl fewer ↦ absurd (run_goes_on e at (length ds) es y fewer none)
     | inr most ↦ elim (cases_lt (length es) (length ds)) [
-      | inl few ↦ absurd (run_goes_on f at (length es) ds x few none')
+      | inl fewer ↦ absurd (run_goes_on f at (length es) ds x fewer none')
       | inr least ↦
           let long : length ds ≡ length es = omega (arith, most, least) in
           alike (drop (at + length es * step) all) (subst (λ n. IsNot e (drop (at + n * step) all)) long none) none'
@@ -49,15 +49,15 @@ module _ (number : ℕ → List ℕ → ℕ) where
 
   entry_errors_alike : (size : ℕ) (e f : Error) (xs : List ℕ) → IsEventTypeEntryError number size e xs → IsEventTypeEntryError number size f xs → Alike e f
   entry_errors_alike size e f xs (inl x) (inl y) = inl (frame_error number size e f xs x y)
-  entry_errors_alike size e f xs (inl x) (inr (framed, eof, few)) = absurd (frame_no_error number size e xs framed.0 framed.1 x)
-  entry_errors_alike size e f xs (inr (framed, eof, few)) (inl y) = absurd (frame_no_error number size f xs framed.0 framed.1 y)
-  entry_errors_alike size e f xs (inr (framed, eof, few)) (inr (framed', eof', few')) = inr (eof, eof')
+  entry_errors_alike size e f xs (inl x) (inr (framed, eof, fewer)) = absurd (frame_no_error number size e xs framed.0 framed.1 x)
+  entry_errors_alike size e f xs (inr (framed, eof, fewer)) (inl y) = absurd (frame_no_error number size f xs framed.0 framed.1 y)
+  entry_errors_alike size e f xs (inr (framed, eof, fewer)) (inr (framed', eof', too_few')) = inr (eof, eof')
 
   ids_errors_alike : (e f : Error) (s : PerfFileSection) (all : List ℕ) → IsSectionIdsError number e s all → IsSectionIdsError number f s all → Alike e f
   ids_errors_alike e f s all (inl (far, read)) (inl (far', read')) = inl (read ∙ sym read')
-  ids_errors_alike e f s all (inl (far, read)) (inr (near, eof, few)) = absurd (omega (arith, far, near))
-  ids_errors_alike e f s all (inr (near, eof, few)) (inl (far, read)) = absurd (omega (arith, far, near))
-  ids_errors_alike e f s all (inr (near, eof, few)) (inr (near', eof', few')) = inr (eof, eof')
+  ids_errors_alike e f s all (inl (far, read)) (inr (end_fits_u64, eof, fewer)) = absurd (omega (arith, far, end_fits_u64))
+  ids_errors_alike e f s all (inr (end_fits_u64, eof, fewer)) (inl (far, read)) = absurd (omega (arith, far, end_fits_u64))
+  ids_errors_alike e f s all (inr (end_fits_u64, eof, fewer)) (inr (end_fits', eof', too_few')) = inr (eof, eof')
 
   module _ (all : List ℕ) (names others : ℕ → Option (List ℕ)) where
     -- The first entry whose IDs are out of bounds is unique.
@@ -80,9 +80,9 @@ module _ (number : ℕ → List ℕ → ℕ) where
     -- an error at the IDs of entries excludes an error at an entry, because all entries are complete
     entries_or_truncated : (names others : ℕ → Option (List ℕ)) (e f : Error) → ErrorAtEntry number size names section e all → ErrorAtIds number size others section f all → ⊥
     entries_or_truncated names others e f s t =
-        let few = s.too_few in
+        let fewer = s.too_few in
         let count = t.entries_match.count in
-        let here = run_at (IsEventTypeEntry number size) (size + 16) all (length s.before) section.offset t.entries t.entries_match.items_match (omega (arith, few, count)) in
+        let here = run_at (IsEventTypeEntry number size) (size + 16) all (length s.before) section.offset t.entries t.entries_match.items_match (omega (arith, fewer, count)) in
         entry_no_error number size e (drop (section.offset + length s.before * (size + 16)) all) here.0 here.1 s.error_here
 
     entries_errors_alike : (names others : ℕ → Option (List ℕ)) (e f : Error) → IsEntriesError number size names section e all → IsEntriesError number size others section f all → Alike e f
@@ -119,9 +119,9 @@ module _ (order : Endianness) (h : PerfHeader) (all : List ℕ) where
   section_errors_alike (Some info) e f (inl x) (inl y) = inl (names_errors_alike info e f x y)
   section_errors_alike (Some info) e f (inl x) (inr (types, names, y)) = absurd (names_no_error info e types names x)
   section_errors_alike (Some info) e f (inr (types, names, x)) (inl y) = absurd (names_no_error info f types names y)
-  section_errors_alike (Some info) e f (inr (types, names, inl (few, read))) (inr (others, names', inl (few', read'))) = inl (read ∙ sym read')
-  section_errors_alike (Some info) e f (inr (types, names, inl (few, read))) (inr (others, names', inr (size_fits, y))) = absurd (omega (arith, few, size_fits))
-  section_errors_alike (Some info) e f (inr (types, names, inr (size_fits, x))) (inr (others, names', inl (few, read))) = absurd (omega (arith, few, size_fits))
+  section_errors_alike (Some info) e f (inr (types, names, inl (fewer, read))) (inr (others, names', inl (too_few', read'))) = inl (read ∙ sym read')
+  section_errors_alike (Some info) e f (inr (types, names, inl (fewer, read))) (inr (others, names', inr (size_fits, y))) = absurd (omega (arith, fewer, size_fits))
+  section_errors_alike (Some info) e f (inr (types, names, inr (size_fits, x))) (inr (others, names', inl (fewer, read))) = absurd (omega (arith, fewer, size_fits))
   section_errors_alike (Some info) e f (inr (types, names, inr (size_fits, inl (far, read)))) (inr (others, names', inr (size_fits', inl (far', read')))) = inl (read ∙ sym read')
   section_errors_alike (Some info) e f (inr (types, names, inr (size_fits, inl (far, read)))) (inr (others, names', inr (size_fits', inr (can, y)))) = absurd (can far)
   section_errors_alike (Some info) e f (inr (types, names, inr (size_fits, inr (can, x)))) (inr (others, names', inr (size_fits', inl (far, read)))) = absurd (can far)
@@ -169,14 +169,14 @@ module _ (order : Endianness) (h : PerfHeader) (all : List ℕ) where
 
   after_header_errors_alike : (e f : Error) → IsErrorAfterHeader order h all e → IsErrorAfterHeader order h all f → Alike e f
   after_header_errors_alike e f (inl (read, far)) (inl (read', far')) = inl (read ∙ sym read')
-  after_header_errors_alike e f (inl (read, far)) (inr (inl (eof, near, lacks))) = absurd (omega (arith, far, near))
-  after_header_errors_alike e f (inl (read, far)) (inr (inr (near, holds, y))) = absurd (omega (arith, far, near))
-  after_header_errors_alike e f (inr (inl (eof, near, lacks))) (inl (read, far)) = absurd (omega (arith, far, near))
-  after_header_errors_alike e f (inr (inl (eof, near, lacks))) (inr (inl (eof', near', lacks'))) = inr (eof, eof')
-  after_header_errors_alike e f (inr (inl (eof, near, lacks))) (inr (inr (near', holds, y))) = absurd (holds_or_lacks order h all holds lacks)
-  after_header_errors_alike e f (inr (inr (near, holds, x))) (inl (read, far)) = absurd (omega (arith, far, near))
-  after_header_errors_alike e f (inr (inr (near, holds, x))) (inr (inl (eof, near', lacks))) = absurd (holds_or_lacks order h all holds lacks)
-  after_header_errors_alike e f (inr (inr (near, holds, x))) (inr (inr (near', holds', y))) = attributes_errors_alike e f x y
+  after_header_errors_alike e f (inl (read, far)) (inr (inl (eof, end_fits_u64, is_missing))) = absurd (omega (arith, far, end_fits_u64))
+  after_header_errors_alike e f (inl (read, far)) (inr (inr (end_fits_u64, holds, y))) = absurd (omega (arith, far, end_fits_u64))
+  after_header_errors_alike e f (inr (inl (eof, end_fits_u64, is_missing))) (inl (read, far)) = absurd (omega (arith, far, end_fits_u64))
+  after_header_errors_alike e f (inr (inl (eof, end_fits_u64, is_missing))) (inr (inl (eof', end_fits', missing'))) = inr (eof, eof')
+  after_header_errors_alike e f (inr (inl (eof, end_fits_u64, is_missing))) (inr (inr (end_fits', holds, y))) = absurd (holds_or_missing order h all holds is_missing)
+  after_header_errors_alike e f (inr (inr (end_fits_u64, holds, x))) (inl (read, far)) = absurd (omega (arith, far, end_fits_u64))
+  after_header_errors_alike e f (inr (inr (end_fits_u64, holds, x))) (inr (inl (eof, end_fits', is_missing))) = absurd (holds_or_missing order h all holds is_missing)
+  after_header_errors_alike e f (inr (inr (end_fits_u64, holds, x))) (inr (inr (end_fits', holds', y))) = attributes_errors_alike e f x y
 
 -- ---- the file
 
@@ -185,12 +185,12 @@ same_cause e f (inl same) = inl same
 same_cause e f (inr eof) = inr (inl eof)
 
 pub opening_error_is_unique : FileErrorIsUnique
-opening_error_is_unique p e f (inl (eof, few)) y = inr (inl (eof, (truncated_header_fails p few).0 f y))
+opening_error_is_unique p e f (inl (eof, fewer)) y = inr (inl (eof, (truncated_header_fails p fewer).0 f y))
 opening_error_is_unique p e f (inr (inl (h, has, (far, invalid)))) y = inr (inr (inl (invalid, (far_header_fails p h has far).0 f y)))
-opening_error_is_unique p e f (inr (inr (inl (h, (has, near, unknown, is))))) y = inl (is ∙ sym ((unknown_magic_fails p h has near unknown).0 f y))
-opening_error_is_unique p e f (inr (inr (inr x))) (inl (eof, few)) = inr (inl ((truncated_header_fails p few).0 e (inr (inr (inr x))), eof))
+opening_error_is_unique p e f (inr (inr (inl (h, (has, end_fits_u64, unknown, is))))) y = inl (is ∙ sym ((unknown_magic_fails p h has end_fits_u64 unknown).0 f y))
+opening_error_is_unique p e f (inr (inr (inr x))) (inl (eof, fewer)) = inr (inl ((truncated_header_fails p fewer).0 e (inr (inr (inr x))), eof))
 opening_error_is_unique p e f (inr (inr (inr x))) (inr (inl (h, has, (far, invalid)))) = inr (inr (inl ((far_header_fails p h has far).0 e (inr (inr (inr x))), invalid)))
-opening_error_is_unique p e f (inr (inr (inr x))) (inr (inr (inl (h, (has, near, unknown, is))))) = inl ((unknown_magic_fails p h has near unknown).0 e (inr (inr (inr x))) ∙ sym is)
+opening_error_is_unique p e f (inr (inr (inr x))) (inr (inr (inl (h, (has, end_fits_u64, unknown, is))))) = inl ((unknown_magic_fails p h has end_fits_u64 unknown).0 e (inr (inr (inr x))) ∙ sym is)
 opening_error_is_unique p e f (inr (inr (inr (order, (h, is, x))))) (inr (inr (inr (order', (i, is', y))))) =
     let same = header_one p h i is.has_header is'.has_header in
     let orders : order ≡ order' = same_order order order' (sym is.magic ∙ ap (λ k. k.magic) same ∙ is'.magic) in

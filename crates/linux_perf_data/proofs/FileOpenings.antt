@@ -30,8 +30,8 @@ use Rattle.linux_perf_data.specs.NamedErrors.{IsFileOpeningError}
 use Rattle.linux_perf_data.proofs.NamedErrors.{file_bytes, file_inconsistency, file_io}
 
 -- a property of all bytes holds before a seek if it holds after
-shown_before : (a b : State) (P : List ℕ → Type 0) → AfterSeek a b → IfSome (all_bytes_of b.position) P → IfSome (all_bytes_of a.position) P
-shown_before a b P seek shown = subst (λ o. IfSome o P) seek.all_bytes shown
+is_visible_before : (a b : State) (P : List ℕ → Type 0) → AfterSeek a b → IfSome (all_bytes_of b.position) P → IfSome (all_bytes_of a.position) P
+is_visible_before a b P seek seen_here = subst (λ o. IfSome o P) seek.all_bytes seen_here
 
 earlier_source_error : (a b c : State) (e : Error) → AfterSeek a b → SourceErrorInOpening b e c → SourceErrorInOpening a e c
 earlier_source_error a b c e seek (inl (is, failed)) = inl (is, failed_after_seek a b c seek failed)
@@ -46,11 +46,11 @@ bytes_source_error a b e (inr paused) = inr (inl paused)
 -- reading the feature sections fails
 pub sections_error : (order : Endianness) (h : PerfHeader) (a b : State) (S : Type 0) (e : Error) → EndFitsU64 h.data_section
     → ReadsFeatures {S = S} order (table_offset h) (features_of h.features) a (Err e) b → OpenAfterHeaderError order h a e b
-sections_error order h a b S e near error = record {
+sections_error order h a b S e end_fits_u64 error = record {
   after_seek = error.0;
-  named_error = file_bytes a b e (λ m. elim (error.1 m) [ inl lacks ↦ inl lacks.0 | inr source_error ↦ inr source_error ]);
+  named_error = file_bytes a b e (λ m. elim (error.1 m) [ inl is_missing ↦ inl is_missing.0 | inr source_error ↦ inr source_error ]);
   cause = λ m. elim (error.1 m) [
-    | inl lacks ↦ inl (if_more (all_bytes_of a.position) (λ all. SectionsTruncated order all (table_offset h) (features_of h.features)) (λ all. IsErrorAfterHeader order h all e) (λ all here. inr (inl (lacks.0, near, here))) lacks.1)
+    | inl is_missing ↦ inl (if_more (all_bytes_of a.position) (λ all. SectionsTruncated order all (table_offset h) (features_of h.features)) (λ all. IsErrorAfterHeader order h all e) (λ all here. inr (inl (is_missing.0, end_fits_u64, here))) is_missing.1)
     | inr source_error ↦ inr (bytes_source_error a b e source_error)
   ];
 }
@@ -73,17 +73,17 @@ has_read order h a b m sources is read = record {
 -- an error after the sections is an error after the header
 at_attributes : (order : Endianness) (h : PerfHeader) (a b : State) (sources : KnownSections) (e : Error) (P : KnownSections → List ℕ → Type 0) → EndFitsU64 h.data_section → HasRead order h a b sources → ((all : List ℕ) → P (attribute_sources_of order h all) all → IsAttributesError order h all e)
     → IfSome (all_bytes_of b.position) (P sources) → IfSome (all_bytes_of a.position) (λ all. IsErrorAfterHeader order h all e)
-at_attributes order h a b sources e P near read stops shown =
+at_attributes order h a b sources e P end_fits_u64 read stops seen_here =
     if_both (all_bytes_of a.position) (λ all. HoldsSections order h all × (sources ≡ attribute_sources_of order h all)) (P sources) (λ all. IsErrorAfterHeader order h all e)
-    (λ all has here. inr (inr (near, has.0, stops all (subst (λ d. P d all) has.1 here)))) read.holds (shown_before a b (P sources) read.seek shown)
+    (λ all has here. inr (inr (end_fits_u64, has.0, stops all (subst (λ d. P d all) has.1 here)))) read.holds (is_visible_before a b (P sources) read.seek seen_here)
 
 -- reading the attributes fails
 pub attributes_error : (order : Endianness) (h : PerfHeader) (a b c : State) (sources : KnownSections) (e : Error) → EndFitsU64 h.data_section → HasRead order h a b sources → ReadsAttributes order h sources b (Err e) c → IsFileOpeningError e → OpenAfterHeaderError order h a e c
-attributes_error order h a b c sources e near read (seek, reason) named = record {
+attributes_error order h a b c sources e end_fits_u64 read (seek, reason) named = record {
   after_seek = after_seek_more a b c read.seek seek;
   named_error = named;
   cause = λ m. elim (reason m) [
-    | inl shown ↦ inl (at_attributes order h a b sources e (λ d all. IsSourcesError order h d all e) near read (λ all stops. inl stops) shown)
+    | inl seen_here ↦ inl (at_attributes order h a b sources e (λ d all. IsSourcesError order h d all e) end_fits_u64 read (λ all stops. inl stops) seen_here)
     | inr source_error ↦ inr (earlier_source_error a b c e read.seek source_error)
   ];
 }
@@ -95,20 +95,20 @@ items_none (x ∷ xs) none = absurd (omega (arith, none))
 -- the file has no attributes
 pub attributes_none : (order : Endianness) (h : PerfHeader) (a b c : State) (sources : KnownSections) (v : Vec AttributeDescription Global) → EndFitsU64 h.data_section → HasRead order h a b sources → ReadsAttributes order h sources b (Ok v) c → length v.items ≡ 0
     → OpenAfterHeaderError order h a NoAttributes c
-attributes_none order h a b c sources v near read (seek, is) none = record {
+attributes_none order h a b c sources v end_fits_u64 read (seek, is) none = record {
   after_seek = after_seek_more a b c read.seek seek;
   named_error = tt;
-  cause = λ _. inl (at_attributes order h a b sources NoAttributes (λ d all. DescribesFrom order h d all v.items) near read
+  cause = λ _. inl (at_attributes order h a b sources NoAttributes (λ d all. DescribesFrom order h d all v.items) end_fits_u64 read
       (λ all described. inr (inl (refl, subst (DescribesFrom order h (attribute_sources_of order h all) all) (items_none v.items none) described))) is);
 }
 
 -- the attributes are inconsistent
 pub attributes_inconsistent : (order : Endianness) (h : PerfHeader) (a b c : State) (sources : KnownSections) (v : Vec AttributeDescription Global) (e : Error) → EndFitsU64 h.data_section → HasRead order h a b sources → ReadsAttributes order h sources b (Ok v) c
     → (breach : Inconsistency) × AreInconsistent (described_attributes v.items) breach × (e ≡ error_of_inconsistency breach) → OpenAfterHeaderError order h a e c
-attributes_inconsistent order h a b c sources v e near read (seek, is) (breach, breaks, error_is) = record {
+attributes_inconsistent order h a b c sources v e end_fits_u64 read (seek, is) (breach, breaks, error_is) = record {
   after_seek = after_seek_more a b c read.seek seek;
   named_error = file_inconsistency e breach error_is;
-  cause = λ _. inl (at_attributes order h a b sources e (λ d all. DescribesFrom order h d all v.items) near read
+  cause = λ _. inl (at_attributes order h a b sources e (λ d all. DescribesFrom order h d all v.items) end_fits_u64 read
       (λ all described. inr (inr (record { descriptions = v.items; attributes_match = described; inconsistency = breach; is_inconsistent = breaks; matches = error_is }))) is);
 }
 
@@ -137,10 +137,10 @@ records_error order h a b c d sources v e read (seek_b, described) (seek, io, fa
 pub after_read : (order : Endianness) (h : PerfHeader) (a b c d : State) (sources : KnownSections) (opening : FileOpening) → EndFitsU64 h.data_section → opening.endian ≡ order → opening.features ≡ h.features → opening.data_size ≡ h.data_section.size
     → HasRead order h a b sources → ReadsFeatures order (table_offset h) (features_of h.features) a (Ok opening.sections) b → ReadsAttributes order h sources b (Ok opening.attributes) c → length opening.attributes.items ≢ 0
     → AreConsistent (described_attributes opening.attributes.items) → AfterSeek c d × (d.position ≡ at_offset h.data_section.offset c.position) → OpenedAfterHeader order h a opening d
-after_read order h a b c d sources opening near endian features size read sections (seek_b, described) some all_consistent (seek, seek_position) =
+after_read order h a b c d sources opening end_fits_u64 endian features size read sections (seek_b, described) some all_consistent (seek, seek_position) =
     let seek_c = after_seek_more a b c sections.0 seek_b in record {
       endian = endian;
-      end_fits = near;
+      end_fits = end_fits_u64;
       features = features;
       data_size = size;
       nonempty = some_length opening.attributes.items some;
@@ -149,7 +149,7 @@ after_read order h a b c d sources opening near endian features size read sectio
       position = seek_position ∙ put_same h.data_section.offset a.position c.position seek_c.all_bytes;
       sections = sections.1;
       attributes = if_both (all_bytes_of a.position) (λ all. HoldsSections order h all × (sources ≡ attribute_sources_of order h all)) (λ all. DescribesFrom order h sources all opening.attributes.items) (λ all. DescribesAttributes order h all opening.attributes.items)
-          (λ all has is. subst (λ o. DescribesFrom order h o all opening.attributes.items) has.1 is) read.holds (shown_before a b (λ all. DescribesFrom order h sources all opening.attributes.items) sections.0 described);
+          (λ all has is. subst (λ o. DescribesFrom order h o all opening.attributes.items) has.1 is) read.holds (is_visible_before a b (λ all. DescribesFrom order h sources all opening.attributes.items) sections.0 described);
     }
 
 -- the first 104 bytes from a position on are the bytes read there
@@ -178,9 +178,9 @@ header_truncated a b e placed truncated = elim truncated.cause [
   | inl (eof, none) ↦ elim (none_or_paused a b none) [
     | inl all ↦ inl (position_shows a (λ p. IsFileError p (IoError e)) (λ p is.
         let same : Some (drop p.offset p.all_bytes) ≡ Some truncated.consumed_bytes = sym (ap remaining_from is) ∙ sym placed ∙ all_read a b truncated.consumed_bytes truncated.consumes all in
-        let few : length (drop p.offset p.all_bytes) ≡ length truncated.consumed_bytes = cc in
+        let fewer : length (drop p.offset p.all_bytes) ≡ length truncated.consumed_bytes = cc in
         let less = truncated.too_few in
-        inl (eof, omega (arith, few, less))))
+        inl (eof, omega (arith, fewer, less))))
     | inr paused ↦ inr (inr (inl (eof, paused)))
   ]
   | inr failed ↦ inr (inl (tt, failed))
@@ -190,7 +190,7 @@ header_truncated a b e placed truncated = elim truncated.cause [
 header_not_skipped : (a b : State) (e : IoErrorValue) → RemainsFromPosition a → ExtraSkipError a e b → IfSome a.position (λ p. IsFileError p (IoError e)) ⊎ SourceErrorInOpening a (IoError e) b
 header_not_skipped a b e placed not_skipped = elim not_skipped.cause [
   | inl (far, eof, unmoved) ↦ inl (position_shows a (λ p. IsFileError p (IoError e)) (λ p is. inr (inl (not_skipped.header, has_header a p not_skipped.header placed is not_skipped.file_header, (far, eof)))))
-  | inr (near, failed) ↦ inr (inl (tt, failed))
+  | inr (end_fits_u64, failed) ↦ inr (inl (tt, failed))
 ]
 
 -- parsing the header fails
@@ -224,7 +224,7 @@ after_header a b c order h opening placed parsed magic read = record {
   after_seek = after_seek_more a b c parsed.after_seek read.after_seek;
   file_opened = position_shows a (λ p. OpenedFileAt p opening c) (λ p is.
       let there = all_there a b p parsed.after_seek is in
-      let shown_at : HoldsSections order h p.all_bytes × ((n : ℕ) → feature_data_of opening.sections n ≡ section_data order h p.all_bytes n) =
+      let visible_at : HoldsSections order h p.all_bytes × ((n : ℕ) → feature_data_of opening.sections n ≡ section_data order h p.all_bytes n) =
       subst (λ o. IfSome o (λ all. HoldsSections order h all × ((n : ℕ) → feature_data_of opening.sections n ≡ section_data order h all n))) there read.sections in
       record {
         header = h;
@@ -232,8 +232,8 @@ after_header a b c order h opening placed parsed magic read = record {
         end_fits = read.end_fits;
         features = read.features;
         data_size = read.data_size;
-        sections_complete = subst (λ o. HoldsSections o h p.all_bytes) (sym read.endian) (shown_at.0);
-        sections = subst (λ o. (n : ℕ) → feature_data_of opening.sections n ≡ section_data o h p.all_bytes n) (sym read.endian) shown_at.1;
+        sections_complete = subst (λ o. HoldsSections o h p.all_bytes) (sym read.endian) (visible_at.0);
+        sections = subst (λ o. (n : ℕ) → feature_data_of opening.sections n ≡ section_data o h p.all_bytes n) (sym read.endian) visible_at.1;
         attributes = subst (λ o. IfSome o (λ all. DescribesAttributes opening.endian h all opening.attributes.items)) there
             (subst (λ o. IfSome (all_bytes_of b.position) (λ all. DescribesAttributes o h all opening.attributes.items)) (sym read.endian) read.attributes);
         position = read.position ∙ position_put h.data_section.offset b.position p there;
@@ -245,8 +245,8 @@ after_error a b c order h e placed parsed magic error = record {
   after_seek = after_seek_more a b c parsed.after_seek error.after_seek;
   named_error = error.named_error;
   cause = λ m. elim (error.cause m) [
-    | inl shown ↦ inl (position_shows a (λ p. IsFileError p e) (λ p is.
-        let stops : IfSome (Some p.all_bytes) (λ all. IsErrorAfterHeader order h all e) = subst (λ o. IfSome o (λ all. IsErrorAfterHeader order h all e)) (all_there a b p parsed.after_seek is) shown in
+    | inl seen_here ↦ inl (position_shows a (λ p. IsFileError p e) (λ p is.
+        let stops : IfSome (Some p.all_bytes) (λ all. IsErrorAfterHeader order h all e) = subst (λ o. IfSome o (λ all. IsErrorAfterHeader order h all e)) (all_there a b p parsed.after_seek is) seen_here in
         inr (inr (inr (order, (h, record { has_header = has_header a p h placed is parsed.file_header; can_skip_extra = parsed.extra_fits; magic = magic }, stops))))))
     | inr source_error ↦ inr (earlier_source_error a b c e parsed.after_seek source_error)
   ];

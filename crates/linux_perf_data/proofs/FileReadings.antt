@@ -45,15 +45,15 @@ if_some_each (Some x) P Q each p = each x p
 
 -- a source error is also one since an earlier state, if failures and pauses are
 pub source_error_since : (order : Endianness) (bound : SectionSize) (a b c : State) (e : Error) → (SourceFailed b c → SourceFailed a c) → (SourcePaused b c → SourcePaused a c) → SourceErrorInSomeRecord order bound b e c → SourceErrorInSomeRecord order bound a e c
-source_error_since order bound a b c e fails pauses (bytes_read, inl (few, inl (is, failed))) = (bytes_read, inl (few, inl (is, fails failed)))
-source_error_since order bound a b c e fails pauses (bytes_read, inl (few, inr (is, file, paused))) = (bytes_read, inl (few, inr (is, file, pauses paused)))
+source_error_since order bound a b c e fails pauses (bytes_read, inl (too_few, inl (is, failed))) = (bytes_read, inl (too_few, inl (is, fails failed)))
+source_error_since order bound a b c e fails pauses (bytes_read, inl (too_few, inr (is, file, paused))) = (bytes_read, inl (too_few, inr (is, file, pauses paused)))
 source_error_since order bound a b c e fails pauses (bytes_read, inr (many, is, inl failed)) = (bytes_read, inr (many, is, inl (fails failed)))
 source_error_since order bound a b c e fails pauses (bytes_read, inr (many, is, inr paused)) = (bytes_read, inr (many, is, inr (paused.0, pauses paused.1)))
 
 -- an infallible source has no source error
 pub source_error_none : (order : Endianness) (bound : SectionSize) (a c : State) (e : Error) → IsTrue a.steady → SourceErrorInSomeRecord order bound a e c → ⊥
-source_error_none order bound a c e steady (bytes_read, inl (few, inl (is, failed))) = failed.not_steady steady
-source_error_none order bound a c e steady (bytes_read, inl (few, inr (is, file, paused))) = paused.not_steady steady
+source_error_none order bound a c e steady (bytes_read, inl (too_few, inl (is, failed))) = failed.not_steady steady
+source_error_none order bound a c e steady (bytes_read, inl (too_few, inr (is, file, paused))) = paused.not_steady steady
 source_error_none order bound a c e steady (bytes_read, inr (many, is, inl failed)) = failed.not_steady steady
 source_error_none order bound a c e steady (bytes_read, inr (many, is, inr paused)) = paused.1.not_steady steady
 
@@ -353,7 +353,7 @@ module _ {R : Type 0} (state : R → State) where
           markers = out.markers;
           valid_markers = subst (λ n. ConsistsOfMarkers (endian_of_file file) (Some o.header.data_section.size) n out.markers) offset_now
               (subst (λ b. ConsistsOfMarkers (endian_of_file file) b now.offset out.markers) bound (subst (λ e. ConsistsOfMarkers e (section_size_of state now) now.offset out.markers) order out.valid_markers));
-          section_passed = (let a = out.offset in omega (arith, past, a, offset_now));
+          section_skipped = (let a = out.offset in omega (arith, past, a, offset_now));
           remaining = unread_after p file it new o (bytes_read.prefix ++ out.markers) (end_after 0 records + length out.markers) consumed (out.section_size ∙ h.same_input.section_size) (let l = bytes_read.long in omega (arith, l, offset_now, start, length-append bytes_read.prefix out.markers));
         },
         ended.file_unchanged ∙ untouched_of it now file now_file records (is_section old file it opened) all,

@@ -65,8 +65,8 @@ rank_of_pair_le id p q same less = elim (cases_eq p.0 id) [
 ]
 
 -- A pair that precedes another of the same identifier, whose index isn't lower, leaves the rank unchanged.
-pub rank_passed : (id : ℕ) (prefix rest : Pairs) (p q : ℕ × ℕ) → p.0 ≡ q.0 → p.1 ≤ q.1 → rank_of_id id (prefix ++ p ∷ q ∷ rest) ≡ rank_of_id id (prefix ++ q ∷ rest)
-rank_passed id prefix rest p q same less =
+pub rank_skipped : (id : ℕ) (prefix rest : Pairs) (p q : ℕ × ℕ) → p.0 ≡ q.0 → p.1 ≤ q.1 → rank_of_id id (prefix ++ p ∷ q ∷ rest) ≡ rank_of_id id (prefix ++ q ∷ rest)
+rank_skipped id prefix rest p q same less =
     omega (arith, rank_append id prefix (p ∷ q ∷ rest), rank_append id prefix (q ∷ rest), rank_of_pair_le id p q same less)
 
 -- If each identifier occurs once in the pairs, its rank determines its index.
@@ -79,8 +79,8 @@ ascend_rest p ps up = λ i j d before inside. up (suc i) (suc j) d (omega (arith
 
 rank_none : (id : ℕ) (ps : Pairs) → All (λ q. q.0 ≢ id) ps → rank_of_id id ps ≡ 0
 rank_none id ps others =
-    let few : rank_of_id id ps ≤ 0 = all_bound id 0 ps (All-weaker (λ q. q.0 ≢ id) (λ q. rank_of_pair id q ≤ 0) (λ q other. omega (arith, rank_of_other_id id q other)) ps others) in
-    omega (arith, few)
+    let too_few : rank_of_id id ps ≤ 0 = all_bound id 0 ps (All-weaker (λ q. q.0 ≢ id) (λ q. rank_of_pair id q ≤ 0) (λ q other. omega (arith, rank_of_other_id id q other)) ps others) in
+    omega (arith, too_few)
 
 pub index_ranked : (id : ℕ) (ps : Pairs) → AreAscending ps → index_of_id id ps ≡ index_by (rank_of_id id ps)
 index_ranked id [] up = refl
@@ -102,11 +102,11 @@ rank_ids id i (x ∷ xs) = elim (cases_eq x id) [
   | inl is ↦
       let own = rank_of_same_id id (x, i) is in
       let rest = rank_ids id i xs in
-      let few : rank_of_id id (map (λ x. (x, i)) xs) ≤ i + 1 = elim (cases_Bool (lists_id id xs)) [
+      let too_few : rank_of_id id (map (λ x. (x, i)) xs) ≤ i + 1 = elim (cases_Bool (lists_id id xs)) [
         | inl listed ↦ omega (arith, rest, ap (λ b. if b then i + 1 else 0) listed)
         | inr unlisted ↦ omega (arith, rest, ap (λ b. if b then i + 1 else 0) unlisted)
       ] in
-      let all : rank_of_id id (map (λ x. (x, i)) (x ∷ xs)) ≡ i + 1 = omega (arith, own, few) in
+      let all : rank_of_id id (map (λ x. (x, i)) (x ∷ xs)) ≡ i + 1 = omega (arith, own, too_few) in
       all ∙ sym (ap (λ b. if (if b then true else lists_id id xs) then i + 1 else 0) (eq-eqb x id is))
   | inr other ↦
       let all : rank_of_id id (map (λ x. (x, i)) (x ∷ xs)) ≡ rank_of_id id (map (λ x. (x, i)) xs) = omega (arith, rank_of_other_id id (x, i) other) in
@@ -179,8 +179,8 @@ pub record LastSoFar (ordered last : Pairs) (at : ℕ) : Type 0 where
 pub last_none : (ordered : Pairs) → LastSoFar ordered [] 0
 last_none ordered = record { ranks = λ id. refl; up = λ i j d before inside. absurd (omega (arith, inside)); below = λ more k d inside. absurd (omega (arith, inside)) }
 
-pub last_passed : (ordered last : Pairs) (at : ℕ) → AreOrdered ordered → at < length ordered → (at + 1 < length ordered) × (key_at ordered at ≡ key_at ordered (at + 1)) → LastSoFar ordered last at → LastSoFar ordered last (at + 1)
-last_passed ordered last at kept more (next, same) so =
+pub last_skipped : (ordered last : Pairs) (at : ℕ) → AreOrdered ordered → at < length ordered → (at + 1 < length ordered) × (key_at ordered at ≡ key_at ordered (at + 1)) → LastSoFar ordered last at → LastSoFar ordered last (at + 1)
+last_skipped ordered last at kept more (next, same) so =
     let p = get_or ordered at (0, 0) in
     let q = get_or ordered (at + 1) (0, 0) in
     let split : drop at ordered ≡ p ∷ drop (at + 1) ordered = drop_next ordered at more in
@@ -188,7 +188,7 @@ last_passed ordered last at kept more (next, same) so =
     let less = (kept at (0, 0) next).1 same in
     record {
       ranks = λ id.
-          ap (λ l. rank_of_id id (last ++ l)) split' ∙ sym (rank_passed id last (drop (at + 1 + 1) ordered) p q same less)
+          ap (λ l. rank_of_id id (last ++ l)) split' ∙ sym (rank_skipped id last (drop (at + 1 + 1) ordered) p q same less)
           ∙ sym (ap (λ l. rank_of_id id (last ++ l)) (split ∙ ap (λ l. p ∷ l) split')) ∙ so.ranks id;
       up = so.up;
       below = λ _ k d inside. let low = so.below more k d inside in omega (arith, low, same);

@@ -36,26 +36,26 @@ pub io_not_memory : (e : Error) → IsIoError e → e ≢ Memory
 io_not_memory e io is = subst IsIoError is io
 
 -- a truncated record is the end of a pipe, or an error
-pub truncated_taken : (old new : MemoryIter) (e : Error) (r : Result RawRecord Error) → EndsOrFails new.input e r → e ≢ Memory → SameInput memory_state old new → new.offset ≡ old.offset → new.round ≡ old.round → new.attribute_lookup ≡ old.attribute_lookup → HasNoPendingHeader new.input
+pub truncated_consumed : (old new : MemoryIter) (e : Error) (r : Result RawRecord Error) → EndsOrFails new.input e r → e ≢ Memory → SameInput memory_state old new → new.offset ≡ old.offset → new.round ≡ old.round → new.attribute_lookup ≡ old.attribute_lookup → HasNoPendingHeader new.input
     → (section_size_of memory_state old ≡ None → RecordTruncatedAt old.endian (iter_source_state memory_state old) old.offset (length new.body.items) (iter_source_state memory_state new))
     → (section_size_of memory_state old ≢ None → RecordErrorAt old.endian (iter_source_state memory_state old) (section_size_of memory_state old) old.offset e (length new.body.items) (iter_source_state memory_state new)) → TakesRawRecord old r new
-truncated_taken old new e (Ok (Marker header)) answers other same offset round known unread pipe file = absurd answers
-truncated_taken old new e (Ok (Record header body)) answers other same offset round known unread pipe file = absurd answers
-truncated_taken old new e (Ok End) answers other same offset round known unread pipe file = record_truncated memory_state old new e (Ok None) answers same offset round known unread pipe file
-truncated_taken old new e (Err e') answers other same offset round known unread pipe file = (λ m. other (sym answers.1 ∙ m), record_truncated memory_state old new e (Err e') answers same offset round known unread pipe file)
+truncated_consumed old new e (Ok (Marker header)) answers other same offset round known unread pipe file = absurd answers
+truncated_consumed old new e (Ok (Record header body)) answers other same offset round known unread pipe file = absurd answers
+truncated_consumed old new e (Ok End) answers other same offset round known unread pipe file = record_truncated memory_state old new e (Ok None) answers same offset round known unread pipe file
+truncated_consumed old new e (Err e') answers other same offset round known unread pipe file = (λ m. other (sym answers.1 ∙ m), record_truncated memory_state old new e (Err e') answers same offset round known unread pipe file)
 
 -- A record whose body is in a buffer is processed. `new` is `old` with another lookup.
-pub body_processed : (old new : MemoryIter) (buffer : Vec ℕ Global) → new.body ≡ old.body → (file file' : PerfFile) (offset round : ℕ) (head : PerfEventHeader) (found : RecordInfo) (known : AttributeLookup) (body : List ℕ) → buffer.items ≡ body → section_size_of memory_state old ≡ None
-    → IdentifiesRecord old.attribute_lookup offset round head body found known → KeepsAttributes old.attribute_lookup known → MetadataApplied old.endian known file head.type_ body new.attribute_lookup file' → ((¬ IsMetadataType head.type_) → (new.attribute_lookup ≡ known) × (file' ≡ file))
-    → SameButLookup memory_state (with_buffer old buffer) (with_buffer new buffer) → new.stage ≡ old.stage → RecordProcessed memory_state (with_buffer old buffer) file offset round head found (with_buffer new buffer) file'
-body_processed old new buffer same file file' offset round head found known body held pipe finds learns took others after running =
-    record_processed memory_state (with_buffer old buffer) (with_buffer new buffer) file file' offset round head found known body (sym held) pipe finds learns took others after running
+pub body_processed : (old new : MemoryIter) (buffer : Vec ℕ Global) → new.body ≡ old.body → (file file' : PerfFile) (offset round : ℕ) (header_bytes : PerfEventHeader) (found : RecordInfo) (known : AttributeLookup) (body : List ℕ) → buffer.items ≡ body → section_size_of memory_state old ≡ None
+    → IdentifiesRecord old.attribute_lookup offset round header_bytes body found known → KeepsAttributes old.attribute_lookup known → MetadataApplied old.endian known file header_bytes.type_ body new.attribute_lookup file' → ((¬ IsMetadataType header_bytes.type_) → (new.attribute_lookup ≡ known) × (file' ≡ file))
+    → SameButLookup memory_state (with_buffer old buffer) (with_buffer new buffer) → new.stage ≡ old.stage → RecordProcessed memory_state (with_buffer old buffer) file offset round header_bytes found (with_buffer new buffer) file'
+body_processed old new buffer same file file' offset round header_bytes found known body buffered pipe finds learns step others after running =
+    record_processed memory_state (with_buffer old buffer) (with_buffer new buffer) file file' offset round header_bytes found known body (sym buffered) pipe finds learns step others after running
 
 -- the same for a record that is rejected
-pub body_rejected : (old new : MemoryIter) (buffer : Vec ℕ Global) → new.body ≡ old.body → (file file' : PerfFile) (head : PerfEventHeader) (e : Error) (known : AttributeLookup) (body : List ℕ) → buffer.items ≡ body → section_size_of memory_state old ≡ None
-    → KeepsAttributes old.attribute_lookup known → MetadataRejected old.endian known file head.type_ body e file' → SameButLookup memory_state (with_buffer old buffer) (with_buffer new buffer) → RecordRejected memory_state (with_buffer old buffer) file head e (with_buffer new buffer) file'
-body_rejected old new buffer same file file' head e known body held pipe learns declined after =
-    record_rejected memory_state (with_buffer old buffer) (with_buffer new buffer) file file' head e known body (sym held) pipe learns declined after
+pub body_rejected : (old new : MemoryIter) (buffer : Vec ℕ Global) → new.body ≡ old.body → (file file' : PerfFile) (header_bytes : PerfEventHeader) (e : Error) (known : AttributeLookup) (body : List ℕ) → buffer.items ≡ body → section_size_of memory_state old ≡ None
+    → KeepsAttributes old.attribute_lookup known → MetadataRejected old.endian known file header_bytes.type_ body e file' → SameButLookup memory_state (with_buffer old buffer) (with_buffer new buffer) → RecordRejected memory_state (with_buffer old buffer) file header_bytes e (with_buffer new buffer) file'
+body_rejected old new buffer same file file' header_bytes e known body buffered pipe learns declined after =
+    record_rejected memory_state (with_buffer old buffer) (with_buffer new buffer) file file' header_bytes e known body (sym buffered) pipe learns declined after
 
 -- after an error, an iterator with an empty buffer has stopped as one with the body in its buffer
 pub stops_unbuffered : (old new : MemoryIter) (file : PerfFile) (e : Error) (buffer : Vec ℕ Global) → new.body.items ≡ [] → StopsAtError memory_state old file e (with_buffer new buffer) → StopsAtError memory_state old file e new
@@ -76,8 +76,8 @@ stops_unbuffered old new file e buffer empty stopped =
     }
 
 -- the metadata of a complete record isn't applied
-pub rejected_stops : (old now piece new final : MemoryIter) (buffer : Vec ℕ Global) (file file' : PerfFile) (head : PerfEventHeader) (e : Error) → Idles memory_state old now → RawRecordRead memory_state now head (with_buffer piece buffer) → head.type_ ≢ 68 → MayStartAt (section_size_of memory_state now) now.offset
-    → RecordRejected memory_state (with_buffer piece buffer) file head e (with_buffer new buffer) file' → final.source ≡ new.source → final.input ≡ new.input → final.offset ≡ now.offset → final.body.items ≡ [] → StopsAtError memory_state old file e final
-rejected_stops old now piece new final buffer file file' head e idles read other more rejected source input offset empty =
+pub rejected_stops : (old now piece new final : MemoryIter) (buffer : Vec ℕ Global) (file file' : PerfFile) (header_bytes : PerfEventHeader) (e : Error) → Idles memory_state old now → RawRecordRead memory_state now header_bytes (with_buffer piece buffer) → header_bytes.type_ ≢ 68 → MayStartAt (section_size_of memory_state now) now.offset
+    → RecordRejected memory_state (with_buffer piece buffer) file header_bytes e (with_buffer new buffer) file' → final.source ≡ new.source → final.input ≡ new.input → final.offset ≡ now.offset → final.body.items ≡ [] → StopsAtError memory_state old file e final
+rejected_stops old now piece new final buffer file file' header_bytes e idles read other more rejected source input offset empty =
     stops_unbuffered old final file e buffer empty
-    (late_stops memory_state old now (with_buffer piece buffer) (with_buffer new buffer) (with_buffer final buffer) file file' head e idles read other more rejected (record { source = source; input = input; body = refl }) offset)
+    (late_stops memory_state old now (with_buffer piece buffer) (with_buffer new buffer) (with_buffer final buffer) file file' header_bytes e idles read other more rejected (record { source = source; input = input; body = refl }) offset)

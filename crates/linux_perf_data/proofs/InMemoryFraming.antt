@@ -35,7 +35,7 @@ prefix_is bytes x (Some rest) is =
 
 -- the consumed bytes are the first of the remaining bytes
 pub consumed_prefix : (bytes x : List ℕ) (a b : State) → a.bytes ≡ Some bytes → Consumed a x b → (take (length x) bytes ≡ x) × (length x ≤ length bytes)
-consumed_prefix bytes x a b known gave = prefix_is bytes x b.bytes (sym known ∙ gave.bytes)
+consumed_prefix bytes x a b known consumption = prefix_is bytes x b.bytes (sym known ∙ consumption.bytes)
 
 -- the first bytes of the remaining bytes are read
 pub prefix_read : (bytes : List ℕ) (a b : State) (count : ℕ) → a.bytes ≡ Some bytes → SkippedExactly a count b → BytesRead a count (take count bytes) b
@@ -48,14 +48,14 @@ appended : (bytes : List ℕ) (a b : State) (count : ℕ) → BytesRead a count 
 appended bytes a b count read = record { bytes = bytes; exact_len = read.exact_len; buffer_content = refl; consumes = read.consumes }
 
 -- a body with aux data
-pub body_with_aux_taken : (order : Endianness) (bytes now : List ℕ) (a b c : State) (header : PerfEventHeader) (end record_end count size : ℕ) → length bytes < 2 ^ 63 → a.bytes ≡ Some bytes → 8 ≤ header.size → count ≡ header.size - 8 → ¬ IsCompressed header.type_ → header.type_ ≡ 71
+pub body_with_aux_consumed : (order : Endianness) (bytes now : List ℕ) (a b c : State) (header : PerfEventHeader) (end record_end count size : ℕ) → length bytes < 2 ^ 63 → a.bytes ≡ Some bytes → 8 ≤ header.size → count ≡ header.size - 8 → ¬ IsCompressed header.type_ → header.type_ ≡ 71
     → SkippedExactly a count b → size ≡ length now → AuxDataRead order b (take count bytes) end record_end now c → (length (take size bytes) < 2 ^ 63) × BodyRead order a header end record_end (take size bytes) c
-body_with_aux_taken order bytes now a b c header end record_end count size small known least is plain traced skipped long aux =
+body_with_aux_consumed order bytes now a b c header end record_end count size small known least is plain traced skipped long aux =
     let read = subst (λ n. BytesRead a n (take count bytes) b) is (prefix_read bytes a b count known skipped) in
     let whole = content_auxtrace order a b c header [] (take count bytes) now end record_end refl least plain traced (appended (take count bytes) a b (header.size - 8) read) aux in
-    let front = consumed_prefix bytes now a c known whole.consumes in
-    let same : take size bytes ≡ now = ap (λ n. take n bytes) long ∙ front.0 in
-    let within = front.1 in (
+    let first_part = consumed_prefix bytes now a c known whole.consumes in
+    let same : take size bytes ≡ now = ap (λ n. take n bytes) long ∙ first_part.0 in
+    let within = first_part.1 in (
       omega (arith, ap length same, within, small),
       subst (λ l. BodyRead order a header end record_end l c) (sym same) whole,
     )

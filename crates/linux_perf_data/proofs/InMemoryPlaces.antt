@@ -30,20 +30,20 @@ split_is bytes x (Some rest) is = (rest, cc)
 -- the remaining bytes after these bytes of the input
 pub rest_in_place : (old new : MemoryIter) (input x : List ℕ) (first : ℕ) → (iter_source_state memory_state old).bytes ≡ Some (drop (first + old.offset) input) → Consumed (iter_source_state memory_state old) x (iter_source_state memory_state new) → new.offset ≡ old.offset + length x
     → (iter_source_state memory_state new).bytes ≡ Some (drop (first + new.offset) input)
-rest_in_place old new input x first known gave offset =
+rest_in_place old new input x first known consumption offset =
     let total : first + old.offset + length x ≡ first + new.offset = omega (arith, offset) in
-    rest_is (drop (first + old.offset) input) x (iter_source_state memory_state new).bytes (sym known ∙ gave.bytes) ∙ ap (λ l. Some l) (drop-drop (length x) (first + old.offset) input ∙ ap (λ n. drop n input) total)
+    rest_is (drop (first + old.offset) input) x (iter_source_state memory_state new).bytes (sym known ∙ consumption.bytes) ∙ ap (λ l. Some l) (drop-drop (length x) (first + old.offset) input ∙ ap (λ n. drop n input) total)
 
 -- the body after markers and a record header
 body_at : (input markers header body rest : List ℕ) (first offset at : ℕ) → drop (first + offset) input ≡ (markers ++ (header ++ body)) ++ rest → length header ≡ 8 → at ≡ offset + length markers
     → body ≡ take (length body) (drop (first + at + 8) input)
 body_at input markers header body rest first offset at is eight place =
-    let front = markers ++ header in
-    let long : length front ≡ length markers + 8 = length-append markers header ∙ ap (λ n. length markers + n) eight in
-    let split : drop (first + offset) input ≡ front ++ (body ++ rest) = is ∙ ap (λ l. l ++ rest) (sym (append_assoc markers header body)) ∙ append_assoc front body rest in
-    let behind : drop (length front) (drop (first + offset) input) ≡ body ++ rest = ap (drop (length front)) split ∙ drop-append_seam front (body ++ rest) in
-    let total : first + offset + length front ≡ first + at + 8 = omega (arith, long, place) in
-    let there : drop (first + at + 8) input ≡ body ++ rest = ap (λ n. drop n input) (sym total) ∙ sym (drop-drop (length front) (first + offset) input) ∙ behind in
+    let first_part = markers ++ header in
+    let long : length first_part ≡ length markers + 8 = length-append markers header ∙ ap (λ n. length markers + n) eight in
+    let split : drop (first + offset) input ≡ first_part ++ (body ++ rest) = is ∙ ap (λ l. l ++ rest) (sym (append_assoc markers header body)) ∙ append_assoc first_part body rest in
+    let suffix : drop (length first_part) (drop (first + offset) input) ≡ body ++ rest = ap (drop (length first_part)) split ∙ drop-append_seam first_part (body ++ rest) in
+    let total : first + offset + length first_part ≡ first + at + 8 = omega (arith, long, place) in
+    let there : drop (first + at + 8) input ≡ body ++ rest = ap (λ n. drop n input) (sym total) ∙ sym (drop-drop (length first_part) (first + offset) input) ∙ suffix in
     sym (ap (take (length body)) there ∙ take-append_seam body rest)
 
 -- the iterator after a returned record is in place
@@ -74,10 +74,10 @@ body_ends_in_place old new file file' h input first placed returned =
     omega (arith, long, length-drop (first + old.offset) input, length-append x split.0, length-append returned.markers body, length-append returned.header_bytes h.body, eight, at)
 
 -- the iterator after any call is in place
-pub taken_in_place : (old new : MemoryIter) (file file' : PerfFile) (r : Result (Option (RecordInfo × Bor (List ℕ))) Error) (input : List ℕ) (first : ℕ) → IsInPlace old input first → TakesRecord old file r new file' → IsInPlace new input first
-taken_in_place old new file file' (Ok (Some found)) input first placed taken = returned_in_place old (with_buffer new taken.buffer) file file' _ input first placed taken.returns
-taken_in_place old new file file' (Ok None) input first placed ended = λ runs. let stage = ended.stage_ended in absurd cc
-taken_in_place old new file file' (Err e) input first placed failed = λ runs. let stage = failed.0.stage_failed in absurd cc
+pub consumed_in_place : (old new : MemoryIter) (file file' : PerfFile) (r : Result (Option (RecordInfo × Bor (List ℕ))) Error) (input : List ℕ) (first : ℕ) → IsInPlace old input first → TakesRecord old file r new file' → IsInPlace new input first
+consumed_in_place old new file file' (Ok (Some found)) input first placed consumed_bytes = returned_in_place old (with_buffer new consumed_bytes.buffer) file file' _ input first placed consumed_bytes.returns
+consumed_in_place old new file file' (Ok None) input first placed ended = λ runs. let stage = ended.stage_ended in absurd cc
+consumed_in_place old new file file' (Err e) input first placed failed = λ runs. let stage = failed.0.stage_failed in absurd cc
 
 -- in a section, the iterator reads the source itself
 pub section_view : (i : Input) (size : ℕ) (s : State) → section_size_in i ≡ Some size → input_source_state i s ≡ s

@@ -32,26 +32,26 @@ use Rattle.linux_perf_data.specs.IterSteps.{RawRecordExceedsBuffer, RawRecordRea
 use Rattle.linux_perf_data.specs.Reading.{ReadSoFar}
 use Rattle.linux_perf_data.proofs.AddedAttributes.{adds_none, added_one}
 use Rattle.linux_perf_data.proofs.RecordHeaders.{record_least, total_size_plain}
-use Rattle.linux_perf_data.proofs.ProcessedRecords.{LateFault, Foreign, consumed_record, marker_record, late_why, wants_memory}
+use Rattle.linux_perf_data.proofs.ProcessedRecords.{LateFault, Foreign, consumed_record, marker_record, late_cause, needs_memory}
 use Rattle.linux_perf_data.proofs.LayoutSteps.{nothing_more, error_next, remaining_more}
 
 -- a property of the remaining bytes after a read gives one of the remaining bytes before it
-lift : (a b : Option (List ℕ)) (front : List ℕ) (P Q : List ℕ → Type 0) → a ≡ prepend front b → ((x y : List ℕ) → a ≡ Some x → b ≡ Some y → Q y → P x) → IfSome b Q → IfSome a P
-lift None b front P Q is more h = _
-lift (Some x) None front P Q is more h = absurd cc
-lift (Some x) (Some y) front P Q is more h = more x y refl refl h
+lift : (a b : Option (List ℕ)) (first_part : List ℕ) (P Q : List ℕ → Type 0) → a ≡ prepend first_part b → ((x y : List ℕ) → a ≡ Some x → b ≡ Some y → Q y → P x) → IfSome b Q → IfSome a P
+lift None b first_part P Q is more h = _
+lift (Some x) None first_part P Q is more h = absurd cc
+lift (Some x) (Some y) first_part P Q is more h = more x y refl refl h
 
-lift_on : (a b : Option (List ℕ)) (front : List ℕ) (P Q : List ℕ → Type 0) → a ≡ prepend front b → ((rest : List ℕ) → Q rest → P (front ++ rest)) → IfSome b Q → IfSome a P
-lift_on a b front P Q is more h = lift a b front P Q is (λ x y e f q. let same : x ≡ front ++ y = cc (is, e, ap (prepend front) f) in subst P (sym same) (more y q)) h
+lift_on : (a b : Option (List ℕ)) (first_part : List ℕ) (P Q : List ℕ → Type 0) → a ≡ prepend first_part b → ((rest : List ℕ) → Q rest → P (first_part ++ rest)) → IfSome b Q → IfSome a P
+lift_on a b first_part P Q is more h = lift a b first_part P Q is (λ x y e f q. let same : x ≡ first_part ++ y = cc (is, e, ap (prepend first_part) f) in subst P (sym same) (more y q)) h
 
-holds_in_all : (a b : Option (List ℕ)) (front : List ℕ) (P : List ℕ → Type 0) → a ≡ prepend front b → ((rest : List ℕ) → P (front ++ rest)) → IfSome a P
-holds_in_all a None front P is more = subst (λ o. IfSome o P) (sym is) _
-holds_in_all a (Some rest) front P is more = subst (λ o. IfSome o P) (sym is) (more rest)
+holds_in_all : (a b : Option (List ℕ)) (first_part : List ℕ) (P : List ℕ → Type 0) → a ≡ prepend first_part b → ((rest : List ℕ) → P (first_part ++ rest)) → IfSome a P
+holds_in_all a None first_part P is more = subst (λ o. IfSome o P) (sym is) _
+holds_in_all a (Some rest) first_part P is more = subst (λ o. IfSome o P) (sym is) (more rest)
 
 -- what consumed bytes show holds for all bytes, if these are known
-shown_in_all : (a b : State) (consumed : List ℕ) (P : List ℕ → Type 0) → Consumed a consumed b → ShownBy P consumed b → IfSome a.bytes P
-shown_in_all a b consumed P gave (inl each) = holds_in_all a.bytes b.bytes consumed P gave.bytes each
-shown_in_all a b consumed P gave (inr (none, here)) = subst (λ o. IfSome o P) (sym (all_read a b consumed gave none)) here
+visible_in_all : (a b : State) (consumed : List ℕ) (P : List ℕ → Type 0) → Consumed a consumed b → ShownBy P consumed b → IfSome a.bytes P
+visible_in_all a b consumed P consumption (inl each) = holds_in_all a.bytes b.bytes consumed P consumption.bytes each
+visible_in_all a b consumed P consumption (inr (none, here)) = subst (λ o. IfSome o P) (sym (all_read a b consumed consumption none)) here
 
 represented_consistent : (order : Endianness) (k : AttributeLookup) (attrs : List Attribute) → Represents order k attrs → AreConsistent attrs
 represented_consistent order k attrs knows = knows.consistent
@@ -59,7 +59,7 @@ represented_consistent order k attrs knows = knows.consistent
 -- exactly one complete record is read
 record_within : (order : Endianness) (p : List ℕ) → IsRecord order p → StaysWithinRecord order p
 record_within order p is = elim (cases_eq (record_type_of order p) 71) [
-  | inl trace ↦ inr (inr (trace, is.aux_min_size trace, (let long = is.exact_len in omega (arith, long))))
+  | inl aux ↦ inr (inr (aux, is.aux_min_size aux, (let long = is.exact_len in omega (arith, long))))
   | inr other ↦ inr (inl (let long = is.exact_len in let extent = total_size_plain order p other in omega (arith, long, extent)))
 ]
 
@@ -113,15 +113,15 @@ module _ {R : Type 0} (state : R → State) where
   still_represents old new attrs same known k = subst (λ o. Represents o new.attribute_lookup attrs) (sym same.same_endian) (subst (λ n. Represents old.endian n attrs) (sym known) k)
 
   -- the attributes that a raw record adds
-  abbrev added_by : (old new : PerfRecordIter R) (head : PerfEventHeader) → RawRecordRead state old head new → List Attribute
-  added_by old new head t = attributes_in_record old.endian (section_size_of state old) (record_type_of old.endian t.raw_record) (drop 8 t.raw_record)
+  abbrev added_by : (old new : PerfRecordIter R) (header : PerfEventHeader) → RawRecordRead state old header new → List Attribute
+  added_by old new header t = attributes_in_record old.endian (section_size_of state old) (record_type_of old.endian t.raw_record) (drop 8 t.raw_record)
 
-  piece_next : (old new : PerfRecordIter R) (head : PerfEventHeader) (t : RawRecordRead state old head new) → IsValidRecord old.endian (section_size_of state old) t.raw_record → MayStartAt (section_size_of state old) old.offset → (rest : List ℕ) (attrs : List Attribute) (rs : List RecordView) (e : LayoutEnd)
-      → RemainingIn new rest (attrs ++ added_by old new head t) rs e → RemainingIn old (t.raw_record ++ rest) attrs (if head.type_ == 68 then rs else record_view_in old.endian old.offset old.round attrs t.raw_record ∷ rs) e
-  piece_next old new head t is more rest attrs rs e come =
+  piece_next : (old new : PerfRecordIter R) (header : PerfEventHeader) (t : RawRecordRead state old header new) → IsValidRecord old.endian (section_size_of state old) t.raw_record → MayStartAt (section_size_of state old) old.offset → (rest : List ℕ) (attrs : List Attribute) (rs : List RecordView) (e : LayoutEnd)
+      → RemainingIn new rest (attrs ++ added_by old new header t) rs e → RemainingIn old (t.raw_record ++ rest) attrs (if header.type_ == 68 then rs else record_view_in old.endian old.offset old.round attrs t.raw_record ∷ rs) e
+  piece_next old new header t is more rest attrs rs e come =
       let p = t.raw_record in
       let b = section_size_of state old in
-      let all = attrs ++ added_by old new head t in
+      let all = attrs ++ added_by old new header t in
       let c1 : RemainingRecords new.endian rest (section_size_of state new) (old.offset + length p) new.round all rs e = subst (λ o. RemainingRecords new.endian rest (section_size_of state new) o new.round all rs e) t.offset come in
       let c2 : RemainingRecords new.endian rest b (old.offset + length p) new.round all rs e = subst (λ s. RemainingRecords new.endian rest s (old.offset + length p) new.round all rs e) t.same_input.section_size c1 in
       let c3 : RemainingRecords old.endian rest b (old.offset + length p) new.round all rs e = subst (λ o. RemainingRecords o rest b (old.offset + length p) new.round all rs e) t.same_input.same_endian c2 in
@@ -129,30 +129,30 @@ module _ {R : Type 0} (state : R → State) where
       subst (λ k. RemainingIn old (p ++ rest) attrs (if k == 68 then rs else record_view_in old.endian old.offset old.round attrs p ∷ rs) e) t.record_type
       (remaining_more old.endian (p ++ rest) rest p b old.offset old.round new.round attrs rs e is refl more turn c3)
 
-  marker_next : (old new : PerfRecordIter R) (head : PerfEventHeader) (t : RawRecordRead state old head new) → head.type_ ≡ 68 → MayStartAt (section_size_of state old) old.offset → (rest : List ℕ) (attrs : List Attribute) (rs : List RecordView) (e : LayoutEnd)
+  marker_next : (old new : PerfRecordIter R) (header : PerfEventHeader) (t : RawRecordRead state old header new) → header.type_ ≡ 68 → MayStartAt (section_size_of state old) old.offset → (rest : List ℕ) (attrs : List Attribute) (rs : List RecordView) (e : LayoutEnd)
       → RemainingIn new rest attrs rs e → RemainingIn old (t.raw_record ++ rest) attrs rs e
-  marker_next old new head t is more rest attrs rs e come =
+  marker_next old new header t is more rest attrs rs e come =
       let kind = t.record_type ∙ is in
-      let none : added_by old new head t ≡ [] = adds_none old.endian (section_size_of state old) (record_type_of old.endian t.raw_record) (drop 8 t.raw_record) (λ k. omega (arith, k, kind)) in
-      let same : attrs ≡ attrs ++ added_by old new head t = sym (append-nil attrs) ∙ ap (λ l. attrs ++ l) (sym none) in
-      subst (λ b. RemainingIn old (t.raw_record ++ rest) attrs (if b then rs else record_view_in old.endian old.offset old.round attrs t.raw_record ∷ rs) e) (eq-eqb head.type_ 68 is)
-      (piece_next old new head t (marker_record old.endian (section_size_of state old) t.raw_record t.is_record kind) more rest attrs rs e (subst (λ a. RemainingIn new rest a rs e) same come))
+      let none : added_by old new header t ≡ [] = adds_none old.endian (section_size_of state old) (record_type_of old.endian t.raw_record) (drop 8 t.raw_record) (λ k. omega (arith, k, kind)) in
+      let same : attrs ≡ attrs ++ added_by old new header t = sym (append-nil attrs) ∙ ap (λ l. attrs ++ l) (sym none) in
+      subst (λ b. RemainingIn old (t.raw_record ++ rest) attrs (if b then rs else record_view_in old.endian old.offset old.round attrs t.raw_record ∷ rs) e) (eq-eqb header.type_ 68 is)
+      (piece_next old new header t (marker_record old.endian (section_size_of state old) t.raw_record t.is_record kind) more rest attrs rs e (subst (λ a. RemainingIn new rest a rs e) same come))
 
   -- the record in the layout is the record in the code
-  same_record : (old new : PerfRecordIter R) (head : PerfEventHeader) (found : RecordInfo) (known : AttributeLookup) (t : RawRecordRead state old head new) → head.type_ ≢ 68 → IdentifiesRecord new.attribute_lookup old.offset old.round head new.body.items found known → (attrs : List Attribute)
+  same_record : (old new : PerfRecordIter R) (header : PerfEventHeader) (found : RecordInfo) (known : AttributeLookup) (t : RawRecordRead state old header new) → header.type_ ≢ 68 → IdentifiesRecord new.attribute_lookup old.offset old.round header new.body.items found known → (attrs : List Attribute)
       → Represents new.endian new.attribute_lookup attrs → record_view_in old.endian old.offset old.round attrs t.raw_record ≡ record_view_with known found new.endian new.body.items
-  same_record old new head found known t other finds attrs k =
+  same_record old new header found known t other finds attrs k =
       let with' : Endianness → ℕ → ℕ → List ℕ → RecordView = λ o kind misc body. record_view o old.offset old.round attrs kind misc body in
       let p = t.raw_record in
-      ap (λ n. with' old.endian n (misc_of old.endian p) (drop 8 p)) t.record_type ∙ ap (λ m. with' old.endian head.type_ m (drop 8 p)) t.misc ∙ ap (λ b. with' old.endian head.type_ head.misc b) (sym (t.buffered_body other))
-      ∙ ap (λ o. with' o head.type_ head.misc new.body.items) (sym t.same_input.same_endian) ∙ sym (finds.matches new.endian attrs k)
+      ap (λ n. with' old.endian n (misc_of old.endian p) (drop 8 p)) t.record_type ∙ ap (λ m. with' old.endian header.type_ m (drop 8 p)) t.misc ∙ ap (λ b. with' old.endian header.type_ header.misc b) (sym (t.buffered_body other))
+      ∙ ap (λ o. with' o header.type_ header.misc new.body.items) (sym t.same_input.same_endian) ∙ sym (finds.matches new.endian attrs k)
 
-  record_next : (old new : PerfRecordIter R) (head : PerfEventHeader) (found : RecordInfo) (known : AttributeLookup) (t : RawRecordRead state old head new) → IsValidRecord old.endian (section_size_of state old) t.raw_record → head.type_ ≢ 68 → IdentifiesRecord new.attribute_lookup old.offset old.round head new.body.items found known
-      → MayStartAt (section_size_of state old) old.offset → (rest : List ℕ) (attrs : List Attribute) → Represents new.endian new.attribute_lookup attrs → (rs : List RecordView) (e : LayoutEnd) → RemainingIn new rest (attrs ++ added_by old new head t) rs e
+  record_next : (old new : PerfRecordIter R) (header : PerfEventHeader) (found : RecordInfo) (known : AttributeLookup) (t : RawRecordRead state old header new) → IsValidRecord old.endian (section_size_of state old) t.raw_record → header.type_ ≢ 68 → IdentifiesRecord new.attribute_lookup old.offset old.round header new.body.items found known
+      → MayStartAt (section_size_of state old) old.offset → (rest : List ℕ) (attrs : List Attribute) → Represents new.endian new.attribute_lookup attrs → (rs : List RecordView) (e : LayoutEnd) → RemainingIn new rest (attrs ++ added_by old new header t) rs e
       → RemainingIn old (t.raw_record ++ rest) attrs (record_view_with known found new.endian new.body.items ∷ rs) e
-  record_next old new head found known t is other finds more rest attrs k rs e come =
-      subst (λ h. RemainingIn old (t.raw_record ++ rest) attrs (h ∷ rs) e) (same_record old new head found known t other finds attrs k)
-      (subst (λ b. RemainingIn old (t.raw_record ++ rest) attrs (if b then rs else record_view_in old.endian old.offset old.round attrs t.raw_record ∷ rs) e) (ne_eqb head.type_ 68 other) (piece_next old new head t is more rest attrs rs e come))
+  record_next old new header found known t is other finds more rest attrs k rs e come =
+      subst (λ h. RemainingIn old (t.raw_record ++ rest) attrs (h ∷ rs) e) (same_record old new header found known t other finds attrs k)
+      (subst (λ b. RemainingIn old (t.raw_record ++ rest) attrs (if b then rs else record_view_in old.endian old.offset old.round attrs t.raw_record ∷ rs) e) (ne_eqb header.type_ 68 other) (piece_next old new header t is more rest attrs rs e come))
 
   come_after : (piece new : PerfRecordIter R) → SameButLookup state piece new → (bytes : List ℕ) (attrs : List Attribute) (rs : List RecordView) (e : LayoutEnd) → RemainingIn new bytes attrs rs e → RemainingIn piece bytes attrs rs e
   come_after piece new after bytes attrs rs e come =
@@ -175,16 +175,16 @@ module _ {R : Type 0} (state : R → State) where
     pub fits : now.offset < 2 ^ 64
     pub markers : List ℕ
     pub offset : now.offset ≡ old.offset + length markers
-    pub passed : ConsistsOfMarkers old.endian (section_size_of state old) old.offset markers
-    pub gave : Consumed (iter_source_state state old) markers (iter_source_state state now)
+    pub skipped_markers : ConsistsOfMarkers old.endian (section_size_of state old) old.offset markers
+    pub consumption : Consumed (iter_source_state state old) markers (iter_source_state state now)
     pub before : (rest : List ℕ) (attrs : List Attribute) (rs : List RecordView) (e : LayoutEnd) → RemainingIn now rest attrs rs e → RemainingIn old (markers ++ rest) attrs rs e
 
   -- a record may start after the markers
   begun : (old now : PerfRecordIter R) → Idles old now → MayStartAt (section_size_of state now) now.offset → MayStartAt (section_size_of state old) now.offset
   begun old now i more = subst (λ b. MayStartAt b now.offset) i.same.section_size more
 
-  pub idles_on : (old now new : PerfRecordIter R) (head : PerfEventHeader) → Idles old now → RawRecordRead state now head new → head.type_ ≡ 68 → MayStartAt (section_size_of state now) now.offset → Idles old new
-  idles_on old now new head i t is more = record {
+  pub idles_on : (old now new : PerfRecordIter R) (header : PerfEventHeader) → Idles old now → RawRecordRead state now header new → header.type_ ≡ 68 → MayStartAt (section_size_of state now) now.offset → Idles old new
+  idles_on old now new header i t is more = record {
     ran = i.ran;
     runs = t.stage ∙ i.runs;
     same = same_more old now new i.same t.same_input;
@@ -193,94 +193,94 @@ module _ {R : Type 0} (state : R → State) where
     fits = t.offset_fits;
     markers = i.markers ++ t.raw_record;
     offset = (let a = i.offset in let b = t.offset in omega (arith, length-append i.markers t.raw_record));
-    passed = markers_more old.endian (section_size_of state old) old.offset i.markers t.raw_record i.passed (subst (MayStartAt (section_size_of state old)) i.offset (begun old now i more)) (subst (λ o. IsRecord o t.raw_record) i.same.same_endian t.is_record)
+    skipped_markers = markers_more old.endian (section_size_of state old) old.offset i.markers t.raw_record i.skipped_markers (subst (MayStartAt (section_size_of state old)) i.offset (begun old now i more)) (subst (λ o. IsRecord o t.raw_record) i.same.same_endian t.is_record)
         (sym (ap (λ o. record_type_of o t.raw_record) i.same.same_endian) ∙ t.record_type ∙ is);
-    gave = consumed_more _ _ _ i.markers t.raw_record i.gave t.consumes;
+    consumption = consumed_more _ _ _ i.markers t.raw_record i.consumption t.consumes;
     before = λ rest attrs rs e come. subst (λ l. RemainingIn old l attrs rs e) (sym (append_assoc i.markers t.raw_record rest))
-        (i.before (t.raw_record ++ rest) attrs rs e (marker_next now new head t is more rest attrs rs e come));
+        (i.before (t.raw_record ++ rest) attrs rs e (marker_next now new header t is more rest attrs rs e come));
   }
 
   -- the attributes that a record adds are the same for the bytes read, the raw record and the returned record
-  same_added : (old now piece : PerfRecordIter R) (head : PerfEventHeader) → Idles old now → (t : RawRecordRead state now head piece) → head.type_ ≢ 68 → (kind : ℕ) (body : List ℕ) → kind ≡ head.type_ → body ≡ piece.body.items
-      → attributes_in_record old.endian (section_size_of state old) kind body ≡ added_by now piece head t
-  same_added old now piece head i t other kind body is held =
+  same_added : (old now piece : PerfRecordIter R) (header : PerfEventHeader) → Idles old now → (t : RawRecordRead state now header piece) → header.type_ ≢ 68 → (kind : ℕ) (body : List ℕ) → kind ≡ header.type_ → body ≡ piece.body.items
+      → attributes_in_record old.endian (section_size_of state old) kind body ≡ added_by now piece header t
+  same_added old now piece header i t other kind body is buffered =
       ap (λ o. attributes_in_record o (section_size_of state old) kind body) (sym i.same.same_endian) ∙ ap (λ b. attributes_in_record now.endian b kind body) (sym i.same.section_size)
-      ∙ ap (λ k. attributes_in_record now.endian (section_size_of state now) k body) (is ∙ sym t.record_type) ∙ ap (λ l. attributes_in_record now.endian (section_size_of state now) (record_type_of now.endian t.raw_record) l) (held ∙ t.buffered_body other)
+      ∙ ap (λ k. attributes_in_record now.endian (section_size_of state now) k body) (is ∙ sym t.record_type) ∙ ap (λ l. attributes_in_record now.endian (section_size_of state now) (record_type_of now.endian t.raw_record) l) (buffered ∙ t.buffered_body other)
 
-  same_taken : (old piece : PerfRecordIter R) → SameInput state old piece → (kind kind' : ℕ) (body body' : List ℕ) → kind' ≡ kind → body' ≡ body
+  same_consumed : (old piece : PerfRecordIter R) → SameInput state old piece → (kind kind' : ℕ) (body body' : List ℕ) → kind' ≡ kind → body' ≡ body
       → attributes_in_record old.endian (section_size_of state old) kind' body' ≡ attributes_in_record piece.endian (section_size_of state piece) kind body
-  same_taken old piece same kind kind' body body' is held =
+  same_consumed old piece same kind kind' body body' is buffered =
       ap (λ o. attributes_in_record o (section_size_of state old) kind' body') (sym same.same_endian) ∙ ap (λ b. attributes_in_record piece.endian b kind' body') (sym same.section_size)
-      ∙ ap (λ k. attributes_in_record piece.endian (section_size_of state piece) k body') is ∙ ap (λ l. attributes_in_record piece.endian (section_size_of state piece) kind l) held
+      ∙ ap (λ k. attributes_in_record piece.endian (section_size_of state piece) k body') is ∙ ap (λ l. attributes_in_record piece.endian (section_size_of state piece) kind l) buffered
 
   -- the record's raw record is valid in the layout
-  record_piece : (now piece new : PerfRecordIter R) (file file' : PerfFile) (offset round : ℕ) (head : PerfEventHeader) (found : RecordInfo) → (t : RawRecordRead state now head piece) → head.type_ ≢ 68 → RecordProcessed state piece file offset round head found new file'
+  record_piece : (now piece new : PerfRecordIter R) (file file' : PerfFile) (offset round : ℕ) (header : PerfEventHeader) (found : RecordInfo) → (t : RawRecordRead state now header piece) → header.type_ ≢ 68 → RecordProcessed state piece file offset round header found new file'
       → IsValidRecord now.endian (section_size_of state now) t.raw_record
-  record_piece now piece new file file' offset round head found t other took =
+  record_piece now piece new file file' offset round header found t other processed =
       subst (λ o. IsValidRecord o (section_size_of state now) t.raw_record) t.same_input.same_endian
       (subst (λ b. IsValidRecord piece.endian b t.raw_record) t.same_input.section_size
-      (consumed_record piece.endian (section_size_of state piece) head.type_ t.raw_record piece.body.items file file' (subst (λ o. IsRecord o t.raw_record) (sym t.same_input.same_endian) t.is_record) (ap (λ o. record_type_of o t.raw_record) t.same_input.same_endian ∙ t.record_type) (t.buffered_body other)
-      took.valid_attribute took.valid_feature took.file_updates))
+      (consumed_record piece.endian (section_size_of state piece) header.type_ t.raw_record piece.body.items file file' (subst (λ o. IsRecord o t.raw_record) (sym t.same_input.same_endian) t.is_record) (ap (λ o. record_type_of o t.raw_record) t.same_input.same_endian ∙ t.record_type) (t.buffered_body other)
+      processed.valid_attribute processed.valid_feature processed.file_updates))
 
-  took_same : (o o' : Endianness) (b b' : SectionSize) (k k' : ℕ) (l l' : List ℕ) (file file' : PerfFile) → o ≡ o' → b ≡ b' → k ≡ k' → l ≡ l' → UpdatesPerfFile o b k l file file' → UpdatesPerfFile o' b' k' l' file file'
-  took_same o o' b b' k k' l l' file file' po pb pk pl took =
-      subst (λ x. UpdatesPerfFile x b' k' l' file file') po (subst (λ x. UpdatesPerfFile o x k' l' file file') pb (subst (λ x. UpdatesPerfFile o b x l' file file') pk (subst (λ x. UpdatesPerfFile o b k x file file') pl took)))
+  step_same : (o o' : Endianness) (b b' : SectionSize) (k k' : ℕ) (l l' : List ℕ) (file file' : PerfFile) → o ≡ o' → b ≡ b' → k ≡ k' → l ≡ l' → UpdatesPerfFile o b k l file file' → UpdatesPerfFile o' b' k' l' file file'
+  step_same o o' b b' k k' l l' file file' po pb pk pl processed =
+      subst (λ x. UpdatesPerfFile x b' k' l' file file') po (subst (λ x. UpdatesPerfFile o x k' l' file file') pb (subst (λ x. UpdatesPerfFile o b x l' file file') pk (subst (λ x. UpdatesPerfFile o b k x file file') pl processed)))
 
   -- `piece` is the iterator after the raw record is read; `new` is the iterator after the record is identified and its metadata
   -- applied.
-  pub returns_record : (old now piece new : PerfRecordIter R) (file file' : PerfFile) (head : PerfEventHeader) (found : RecordInfo) → Idles old now → RawRecordRead state now head piece → head.type_ ≢ 68 → MayStartAt (section_size_of state now) now.offset
-      → RecordProcessed state piece file now.offset now.round head found new file' → ReturnsRecord state old file (record_view_with new.attribute_lookup found new.endian new.body.items) new file'
-  returns_record old now piece new file file' head found i t other more took =
-      let after = took.same_but_lookup in
-      let finds = took.record_identified in
-      let held = after.body ∙ t.buffered_body other in
+  pub returns_record : (old now piece new : PerfRecordIter R) (file file' : PerfFile) (header : PerfEventHeader) (found : RecordInfo) → Idles old now → RawRecordRead state now header piece → header.type_ ≢ 68 → MayStartAt (section_size_of state now) now.offset
+      → RecordProcessed state piece file now.offset now.round header found new file' → ReturnsRecord state old file (record_view_with new.attribute_lookup found new.endian new.body.items) new file'
+  returns_record old now piece new file file' header found i t other more processed =
+      let after = processed.same_but_lookup in
+      let finds = processed.record_identified in
+      let buffered = after.body ∙ t.buffered_body other in
       let same_piece : SameInput state old piece = same_more old now piece i.same t.same_input in
       let same : SameInput state old new = record { same_endian = after.same_endian ∙ same_piece.same_endian; section_size = ap section_size_in after.input ∙ same_piece.section_size } in
       let least = record_least now.endian t.raw_record t.is_record in
-      let split : take 8 t.raw_record ++ new.body.items ≡ t.raw_record = ap (λ b. take 8 t.raw_record ++ b) held ∙ take-append-drop 8 t.raw_record in
+      let split : take 8 t.raw_record ++ new.body.items ≡ t.raw_record = ap (λ b. take 8 t.raw_record ++ b) buffered ∙ take-append-drop 8 t.raw_record in
       let h = record_view_with new.attribute_lookup found new.endian new.body.items in
-      let brings : attributes_in_record old.endian (section_size_of state old) h.record_type h.body ≡ added_by now piece head t = same_added old now piece head i t other h.record_type h.body finds.record_type after.body in
+      let adds : attributes_in_record old.endian (section_size_of state old) h.record_type h.body ≡ added_by now piece header t = same_added old now piece header i t other h.record_type h.body finds.record_type after.body in
       let knows_piece = λ (attrs : List Attribute) (k : Represents old.endian old.attribute_lookup attrs). still_represents old piece attrs same_piece (t.attribute_lookup ∙ i.known) k in
-      let all : Consumed (iter_source_state state old) (i.markers ++ t.raw_record) (iter_source_state state new) = subst (λ s. Consumed (iter_source_state state old) (i.markers ++ t.raw_record) s) (sym (view_after piece new after)) (consumed_more _ _ _ i.markers t.raw_record i.gave t.consumes) in
+      let all : Consumed (iter_source_state state old) (i.markers ++ t.raw_record) (iter_source_state state new) = subst (λ s. Consumed (iter_source_state state old) (i.markers ++ t.raw_record) s) (sym (view_after piece new after)) (consumed_more _ _ _ i.markers t.raw_record i.consumption t.consumes) in
       let same_found : record_view_with new.attribute_lookup found piece.endian piece.body.items ≡ h = ap (λ o. record_view_with new.attribute_lookup found o piece.body.items) (sym after.same_endian) ∙ ap (record_view_with new.attribute_lookup found new.endian) (sym after.body) in
       record {
         was_running = i.ran;
-        stage_running = took.stage ∙ t.stage ∙ i.runs;
+        stage_running = processed.stage ∙ t.stage ∙ i.runs;
         same_input = same;
         represents = λ attrs k. subst (λ o. Represents o new.attribute_lookup (attrs ++ attributes_in_record old.endian (section_size_of state old) h.record_type h.body)) (sym after.same_endian)
-            (subst (λ l. Represents piece.endian new.attribute_lookup (attrs ++ l)) (sym (same_taken old piece same_piece head.type_ h.record_type piece.body.items h.body finds.record_type after.body)) (took.represents attrs (knows_piece attrs k)));
+            (subst (λ l. Represents piece.endian new.attribute_lookup (attrs ++ l)) (sym (same_consumed old piece same_piece header.type_ h.record_type piece.body.items h.body finds.record_type after.body)) (processed.represents attrs (knows_piece attrs k)));
         extends_remaining = λ attrs k rs e come.
             lift_on (iter_source_state state old).bytes (iter_source_state state new).bytes (i.markers ++ t.raw_record) (λ l. RemainingIn old l attrs (h ∷ rs) e) (λ l. RemainingIn new l (attrs ++ attributes_in_record old.endian (section_size_of state old) h.record_type h.body) rs e)
             all.bytes
             (λ rest c. subst (λ l. RemainingIn old l attrs (h ∷ rs) e) (sym (append_assoc i.markers t.raw_record rest))
             (i.before (t.raw_record ++ rest) attrs (h ∷ rs) e
             (subst (λ x. RemainingIn now (t.raw_record ++ rest) attrs (x ∷ rs) e) same_found
-            (record_next now piece head found new.attribute_lookup t (record_piece now piece new file file' now.offset now.round head found t other took) other finds more rest attrs (knows_piece attrs k) rs e
-            (come_after piece new after rest (attrs ++ added_by now piece head t) rs e (subst (λ l. RemainingIn new rest (attrs ++ l) rs e) brings c))))))
+            (record_next now piece header found new.attribute_lookup t (record_piece now piece new file file' now.offset now.round header found t other processed) other finds more rest attrs (knows_piece attrs k) rs e
+            (come_after piece new after rest (attrs ++ added_by now piece header t) rs e (subst (λ l. RemainingIn new rest (attrs ++ l) rs e) adds c))))))
             come;
         same_attribute_count = λ pipe metadata attrs k.
-            took.same_attribute_count (same_piece.section_size ∙ pipe) (subst IsMetadataType finds.record_type metadata) attrs
+            processed.same_attribute_count (same_piece.section_size ∙ pipe) (subst IsMetadataType finds.record_type metadata) attrs
             (subst (λ e. Represents e piece.attribute_lookup attrs) (sym same_piece.same_endian) (subst (λ n. Represents old.endian n attrs) (sym (t.attribute_lookup ∙ i.known)) k));
-        file_updates = took_same piece.endian old.endian (section_size_of state piece) (section_size_of state old) head.type_ h.record_type piece.body.items h.body file file' same_piece.same_endian same_piece.section_size (sym finds.record_type) (sym after.body) took.file_updates;
-        file_unchanged_otherwise = λ why. took.file_unchanged_otherwise (elim why [ inl file ↦ inl (λ none. file (sym same_piece.section_size ∙ none)) | inr isnt ↦ inr (λ is. isnt (subst IsMetadataType (sym finds.record_type) is)) ]);
+        file_updates = step_same piece.endian old.endian (section_size_of state piece) (section_size_of state old) header.type_ h.record_type piece.body.items h.body file file' same_piece.same_endian same_piece.section_size (sym finds.record_type) (sym after.body) processed.file_updates;
+        file_unchanged_otherwise = λ cause_of. processed.file_unchanged_otherwise (elim cause_of [ inl file ↦ inl (λ none. file (sym same_piece.section_size ∙ none)) | inr isnt ↦ inr (λ is. isnt (subst IsMetadataType (sym finds.record_type) is)) ]);
         buffered_body = refl;
         markers = i.markers;
-        valid_markers = i.passed;
+        valid_markers = i.skipped_markers;
         may_start = subst (MayStartAt (section_size_of state old)) (sym finds.offset_matches) (begun old now i more);
         header_bytes = take 8 t.raw_record;
         header_len = length-take-le 8 t.raw_record least;
         record_offset = finds.offset_matches ∙ i.offset;
         consumes = subst (λ p. Consumed (iter_source_state state old) (i.markers ++ p) (iter_source_state state new)) (sym split) all;
         no_pending_header = subst HasNoPendingHeader (sym after.input) t.no_pending_header;
-        offset = (let o = t.offset in let a = after.offset in let l = ap length held in let at = finds.offset_matches in omega (arith, length-drop 8 t.raw_record, l, at, a, o, least));
+        offset = (let o = t.offset in let a = after.offset in let l = ap length buffered in let at = finds.offset_matches in omega (arith, length-drop 8 t.raw_record, l, at, a, o, least));
         offset_fits = (let f = t.offset_fits in let a = after.offset in omega (arith, f, a));
       }
 
-  source_error_later : (order : Endianness) (bound : SectionSize) (a b c : State) (front consumed_bytes : List ℕ) (e : Error) → Consumed a front b → SourceErrorInRecord order bound b consumed_bytes e c → SourceErrorInRecord order bound a consumed_bytes e c
-  source_error_later order bound a b c front consumed_bytes e before (inl (short, inl (is, failed))) = inl (short, inl (is, failed_later a b c front before failed))
-  source_error_later order bound a b c front consumed_bytes e before (inl (short, inr (is, file, paused))) = inl (short, inr (is, file, paused_later a b c front before paused))
-  source_error_later order bound a b c front consumed_bytes e before (inr (long, is, inl failed)) = inr (long, is, inl (failed_later a b c front before failed))
-  source_error_later order bound a b c front consumed_bytes e before (inr (long, is, inr (within, paused))) = inr (long, is, inr (within, paused_later a b c front before paused))
+  source_error_later : (order : Endianness) (bound : SectionSize) (a b c : State) (first_part consumed_bytes : List ℕ) (e : Error) → Consumed a first_part b → SourceErrorInRecord order bound b consumed_bytes e c → SourceErrorInRecord order bound a consumed_bytes e c
+  source_error_later order bound a b c first_part consumed_bytes e before (inl (short, inl (is, failed))) = inl (short, inl (is, failed_later a b c first_part before failed))
+  source_error_later order bound a b c first_part consumed_bytes e before (inl (short, inr (is, file, paused))) = inl (short, inr (is, file, paused_later a b c first_part before paused))
+  source_error_later order bound a b c first_part consumed_bytes e before (inr (long, is, inl failed)) = inr (long, is, inl (failed_later a b c first_part before failed))
+  source_error_later order bound a b c first_part consumed_bytes e before (inr (long, is, inr (within, paused))) = inr (long, is, inr (within, paused_later a b c first_part before paused))
 
   source_error_same : (o o' : Endianness) (b b' : SectionSize) (a c : State) (consumed_bytes : List ℕ) (e : Error) → o ≡ o' → b ≡ b' → SourceErrorInRecord o b a consumed_bytes e c → SourceErrorInRecord o' b' a consumed_bytes e c
   source_error_same o o' b b' a c consumed_bytes e po pb source_error = subst (λ x. SourceErrorInRecord x b' a consumed_bytes e c) po (subst (λ x. SourceErrorInRecord o x a consumed_bytes e c) pb source_error)
@@ -309,7 +309,7 @@ module _ {R : Type 0} (state : R → State) where
   error_cause old now new file consumed_bytes e i more (inl (inr (none, here))) = inl (inr (none, fails_after old now file e i more consumed_bytes here))
   error_cause old now new file consumed_bytes e i more (inr source) =
       inr (inl (source_error_same now.endian old.endian (section_size_of state now) (section_size_of state old) (iter_source_state state old) (iter_source_state state new) consumed_bytes e i.same.same_endian i.same.section_size
-      (source_error_later now.endian (section_size_of state now) (iter_source_state state old) (iter_source_state state now) (iter_source_state state new) i.markers consumed_bytes e i.gave source)))
+      (source_error_later now.endian (section_size_of state now) (iter_source_state state old) (iter_source_state state now) (iter_source_state state new) i.markers consumed_bytes e i.consumption source)))
 
   -- the same iterator except for its stage
   pub record IsStopped (new new' : PerfRecordIter R) : Type 0 where
@@ -330,16 +330,16 @@ module _ {R : Type 0} (state : R → State) where
       record {
         markers = i.markers;
         consumed_bytes = error_there.consumed_bytes;
-        valid_markers = i.passed;
+        valid_markers = i.skipped_markers;
         offset = offset ∙ r.offset ∙ i.offset;
         may_start = subst (MayStartAt (section_size_of state old)) (sym (offset ∙ r.offset)) (begun old now i more);
-        consumes = subst (λ s. Consumed (iter_source_state state old) (i.markers ++ error_there.consumed_bytes) s) (sym same) (consumed_more _ _ _ i.markers error_there.consumed_bytes i.gave error_there.consumes);
+        consumes = subst (λ s. Consumed (iter_source_state state old) (i.markers ++ error_there.consumed_bytes) s) (sym same) (consumed_more _ _ _ i.markers error_there.consumed_bytes i.consumption error_there.consumes);
         no_pending_header = subst HasNoPendingHeader (sym stopped.input) r.no_pending_header;
         within_record = subst (λ o. StaysWithinRecord o error_there.consumed_bytes) i.same.same_endian error_there.within_record;
-        buffer_bound = (let few = error_there.buffer_bound in let b = ap (λ v. length v.items) stopped.body in omega (arith, few, b));
-        if_out_of_memory = λ m. let wants = error_there.if_out_of_memory m in (subst (λ o. MayNeedMemory o error_there.consumed_bytes) i.same.same_endian wants.0, inl (subst (λ o. IsTruncatedAfterHeader o error_there.consumed_bytes) i.same.same_endian wants.1));
+        buffer_bound = (let too_few = error_there.buffer_bound in let b = ap (λ v. length v.items) stopped.body in omega (arith, too_few, b));
+        if_out_of_memory = λ m. let needs = error_there.if_out_of_memory m in (subst (λ o. MayNeedMemory o error_there.consumed_bytes) i.same.same_endian needs.0, inl (subst (λ o. IsTruncatedAfterHeader o error_there.consumed_bytes) i.same.same_endian needs.1));
         cause = λ m. error_cause old now new' file error_there.consumed_bytes e i more (elim (error_there.cause m) [
-          | inl shown ↦ inl (subst (ShownBy (HasErrorAt now e) error_there.consumed_bytes) (sym same) shown)
+          | inl seen_here ↦ inl (subst (ShownBy (HasErrorAt now e) error_there.consumed_bytes) (sym same) seen_here)
           | inr source_error ↦ inr (subst (λ s. SourceErrorInRecord now.endian (section_size_of state now) (iter_source_state state now) error_there.consumed_bytes e s) (sym same) source_error)
         ]);
       }
@@ -353,16 +353,16 @@ module _ {R : Type 0} (state : R → State) where
   pub larger_buffer : (old now new new' : PerfRecordIter R) → Idles old now → vec_capacity old.body ≤ vec_capacity now.body → RawRecordExceedsBuffer state now new → IsStopped new new' → NeedsLargerBuffer state old new'
   larger_buffer old now new new' i kept x stopped = record {
     markers = i.markers;
-    valid_markers = i.passed;
+    valid_markers = i.skipped_markers;
     consumed_bytes = x.consumed_bytes;
-    consumes = subst (λ s. Consumed (iter_source_state state old) (i.markers ++ x.consumed_bytes) s) (sym (view_stopped new new' stopped)) (consumed_more _ _ _ i.markers x.consumed_bytes i.gave x.consumes);
+    consumes = subst (λ s. Consumed (iter_source_state state old) (i.markers ++ x.consumed_bytes) s) (sym (view_stopped new new' stopped)) (consumed_more _ _ _ i.markers x.consumed_bytes i.consumption x.consumes);
     exceeds = subst (λ o. ExceedsCapacity o (vec_capacity old.body) x.consumed_bytes) i.same.same_endian (smaller_exceeds now.endian (vec_capacity old.body) (vec_capacity now.body) x.consumed_bytes kept x.exceeds);
   }
 
   -- memory runs out for the metadata of the record in the buffer
-  pub buffers_metadata : (old now piece new : PerfRecordIter R) (file file' : PerfFile) (head : PerfEventHeader) (e : Error) → Idles old now → RawRecordRead state now head piece → head.type_ ≢ 68
-      → RecordRejected state piece file head e new file' → BuffersMetadata state old new
-  buffers_metadata old now piece new file file' head e i t other d = (
+  pub buffers_metadata : (old now piece new : PerfRecordIter R) (file file' : PerfFile) (header : PerfEventHeader) (e : Error) → Idles old now → RawRecordRead state now header piece → header.type_ ≢ 68
+      → RecordRejected state piece file header e new file' → BuffersMetadata state old new
+  buffers_metadata old now piece new file file' header e i t other d = (
     sym i.same.section_size ∙ sym t.same_input.section_size ∙ d.in_pipe,
     (
       t.raw_record,
@@ -373,91 +373,91 @@ module _ {R : Type 0} (state : R → State) where
   )
 
   -- a layout error in a metadata record
-  metadata_layout_error : (old now piece new : PerfRecordIter R) (file : PerfFile) (head : PerfEventHeader) (e : Error) (i : Idles old now) (t : RawRecordRead state now head piece) → MayStartAt (section_size_of state now) now.offset → section_size_of state now ≡ None → iter_source_state state new ≡ iter_source_state state piece
+  metadata_layout_error : (old now piece new : PerfRecordIter R) (file : PerfFile) (header : PerfEventHeader) (e : Error) (i : Idles old now) (t : RawRecordRead state now header piece) → MayStartAt (section_size_of state now) now.offset → section_size_of state now ≡ None → iter_source_state state new ≡ iter_source_state state piece
       → LateFault now.endian old.attribute_lookup file now.offset t.raw_record e → IsErrorCause state old file i.markers t.raw_record e new
-  metadata_layout_error old now piece new file head e i t more pipe same (f, at, passed, answers) = inl (inl (λ rest. (
+  metadata_layout_error old now piece new file header e i t more pipe same (f, at, skipped_markers, answers) = inl (inl (λ rest. (
     f,
     (λ attrs k. subst (λ l. RemainingIn old l attrs [] (ends_with_error f)) (sym (append_assoc i.markers t.raw_record rest))
         (i.before (t.raw_record ++ rest) attrs [] (ends_with_error f)
         (error_next now.endian (t.raw_record ++ rest) (section_size_of state now) now.offset now.round attrs f i.fits (represented_consistent old.endian old.attribute_lookup attrs k) more
         (subst (λ b. ErrorAt now.endian b now.offset attrs (t.raw_record ++ rest) f) (sym pipe) (at rest attrs (subst (λ o. Represents o old.attribute_lookup attrs) (sym i.same.same_endian) k)))))),
-    subst (λ o. PassesEarlierChecks o old.attribute_lookup file f) i.same.same_endian passed,
+    subst (λ o. PassesEarlierChecks o old.attribute_lookup file f) i.same.same_endian skipped_markers,
     answers,
   )))
 
-  metadata_error_cause : (old now piece new : PerfRecordIter R) (file : PerfFile) (head : PerfEventHeader) (e : Error) (i : Idles old now) (t : RawRecordRead state now head piece) → MayStartAt (section_size_of state now) now.offset → section_size_of state now ≡ None
-      → new.offset ≡ now.offset → IsMetadataType head.type_ → iter_source_state state new ≡ iter_source_state state piece → LateFault now.endian old.attribute_lookup file now.offset t.raw_record e ⊎ Foreign now.endian old.attribute_lookup file t.raw_record e → IsErrorCause state old file i.markers t.raw_record e new
-  metadata_error_cause old now piece new file head e i t more pipe stays metadata same (inl shown) = metadata_layout_error old now piece new file head e i t more pipe same shown
-  metadata_error_cause old now piece new file head e i t more pipe stays metadata same (inr mismatch) = inr (inr (
+  metadata_error_cause : (old now piece new : PerfRecordIter R) (file : PerfFile) (header : PerfEventHeader) (e : Error) (i : Idles old now) (t : RawRecordRead state now header piece) → MayStartAt (section_size_of state now) now.offset → section_size_of state now ≡ None
+      → new.offset ≡ now.offset → IsMetadataType header.type_ → iter_source_state state new ≡ iter_source_state state piece → LateFault now.endian old.attribute_lookup file now.offset t.raw_record e ⊎ Foreign now.endian old.attribute_lookup file t.raw_record e → IsErrorCause state old file i.markers t.raw_record e new
+  metadata_error_cause old now piece new file header e i t more pipe remains metadata same (inl seen_here) = metadata_layout_error old now piece new file header e i t more pipe same seen_here
+  metadata_error_cause old now piece new file header e i t more pipe remains metadata same (inr mismatch) = inr (inr (
     record {
       in_pipe = sym i.same.section_size ∙ pipe;
       is_record = subst (λ o. IsRecord o t.raw_record) i.same.same_endian t.is_record;
       metadata_type = subst IsMetadataType (sym t.record_type ∙ ap (λ o. record_type_of o t.raw_record) i.same.same_endian) metadata;
       cause = subst (λ o. Foreign o old.attribute_lookup file t.raw_record e) i.same.same_endian mismatch;
     },
-    (let o = t.offset in let f = t.offset_fits in omega (arith, o, f, stays)),
+    (let o = t.offset in let f = t.offset_fits in omega (arith, o, f, remains)),
   ))
 
   -- the metadata of a complete record isn't applied
-  pub late_stops : (old now piece new new' : PerfRecordIter R) (file file' : PerfFile) (head : PerfEventHeader) (e : Error) → Idles old now → RawRecordRead state now head piece → head.type_ ≢ 68 → MayStartAt (section_size_of state now) now.offset
-      → RecordRejected state piece file head e new file' → IsStopped new new' → new'.offset ≡ now.offset → StopsAtError state old file e new'
-  late_stops old now piece new new' file file' head e i t other more d stopped offset =
+  pub late_stops : (old now piece new new' : PerfRecordIter R) (file file' : PerfFile) (header : PerfEventHeader) (e : Error) → Idles old now → RawRecordRead state now header piece → header.type_ ≢ 68 → MayStartAt (section_size_of state now) now.offset
+      → RecordRejected state piece file header e new file' → IsStopped new new' → new'.offset ≡ now.offset → StopsAtError state old file e new'
+  late_stops old now piece new new' file file' header e i t other more d stopped offset =
       let pipe : section_size_of state now ≡ None = sym t.same_input.section_size ∙ d.in_pipe in
       let same : iter_source_state state new' ≡ iter_source_state state piece = view_stopped new new' stopped ∙ view_after piece new d.same_but_lookup in
-      let held = ap (λ v. length v.items) stopped.body ∙ ap length (d.same_but_lookup.body ∙ t.buffered_body other) in
+      let buffered = ap (λ v. length v.items) stopped.body ∙ ap length (d.same_but_lookup.body ∙ t.buffered_body other) in
       let order : piece.endian ≡ now.endian = t.same_input.same_endian in
       let fits : now.offset + length t.raw_record < 2 ^ 64 = (let o = t.offset in let f = t.offset_fits in omega (arith, o, f)) in
       record {
         markers = i.markers;
-        valid_markers = i.passed;
+        valid_markers = i.skipped_markers;
         consumed_bytes = t.raw_record;
         offset = offset ∙ i.offset;
         may_start = subst (MayStartAt (section_size_of state old)) (sym offset) (begun old now i more);
-        consumes = subst (λ s. Consumed (iter_source_state state old) (i.markers ++ t.raw_record) s) (sym same) (consumed_more _ _ _ i.markers t.raw_record i.gave t.consumes);
+        consumes = subst (λ s. Consumed (iter_source_state state old) (i.markers ++ t.raw_record) s) (sym same) (consumed_more _ _ _ i.markers t.raw_record i.consumption t.consumes);
         no_pending_header = subst HasNoPendingHeader (sym (stopped.input ∙ d.same_but_lookup.input)) t.no_pending_header;
         within_record = subst (λ o. StaysWithinRecord o t.raw_record) i.same.same_endian (record_within now.endian t.raw_record t.is_record);
-        buffer_bound = omega (arith, held);
+        buffer_bound = omega (arith, buffered);
         if_out_of_memory = λ m.
-            let contents : HasValidMetadata now.endian head.type_ piece.body.items = subst (λ o. HasValidMetadata o head.type_ piece.body.items) order (d.if_out_of_memory m).1 in
-            let held : HasValidMetadata now.endian head.type_ (drop 8 t.raw_record) = subst (HasValidMetadata now.endian head.type_) (t.buffered_body other) contents in
+            let contents : HasValidMetadata now.endian header.type_ piece.body.items = subst (λ o. HasValidMetadata o header.type_ piece.body.items) order (d.if_out_of_memory m).1 in
+            let buffered : HasValidMetadata now.endian header.type_ (drop 8 t.raw_record) = subst (HasValidMetadata now.endian header.type_) (t.buffered_body other) contents in
             let count : SameAttributeCount old.endian old.attribute_lookup file = subst (λ o. SameAttributeCount o old.attribute_lookup file) (order ∙ i.same.same_endian) (subst (λ k. SameAttributeCount piece.endian k file) (t.attribute_lookup ∙ i.known) (d.if_out_of_memory m).0) in (
-              subst (λ o. MayNeedMemory o t.raw_record) i.same.same_endian (wants_memory now.endian head.type_ t.raw_record t.is_record t.record_type held),
+              subst (λ o. MayNeedMemory o t.raw_record) i.same.same_endian (needs_memory now.endian header.type_ t.raw_record t.is_record t.record_type buffered),
               inr (
                 sym i.same.section_size ∙ pipe,
                 subst (λ o. IsRecord o t.raw_record) i.same.same_endian t.is_record,
                 count,
-                subst (λ o. HasValidMetadata o (record_type_of o t.raw_record) (drop 8 t.raw_record)) i.same.same_endian (subst (λ k. HasValidMetadata now.endian k (drop 8 t.raw_record)) (sym t.record_type) held),
+                subst (λ o. HasValidMetadata o (record_type_of o t.raw_record) (drop 8 t.raw_record)) i.same.same_endian (subst (λ k. HasValidMetadata now.endian k (drop 8 t.raw_record)) (sym t.record_type) buffered),
               ),
             );
-        cause = λ m. metadata_error_cause old now piece new' file head e i t more pipe offset d.metadata_type same
-            (late_why now.endian old.attribute_lookup file now.offset t.raw_record e t.is_record fits
+        cause = λ m. metadata_error_cause old now piece new' file header e i t more pipe offset d.metadata_type same
+            (late_cause now.endian old.attribute_lookup file now.offset t.raw_record e t.is_record fits
             (subst (λ k. RejectsMetadata now.endian old.attribute_lookup file k (drop 8 t.raw_record) e) (sym t.record_type)
-            (subst (λ b. RejectsMetadata now.endian old.attribute_lookup file head.type_ b e) (t.buffered_body other)
-            (subst (λ n. RejectsMetadata now.endian n file head.type_ piece.body.items e) (t.attribute_lookup ∙ i.known)
-            (subst (λ o. RejectsMetadata o piece.attribute_lookup file head.type_ piece.body.items e) order (d.cause m))))));
+            (subst (λ b. RejectsMetadata now.endian old.attribute_lookup file header.type_ b e) (t.buffered_body other)
+            (subst (λ n. RejectsMetadata now.endian n file header.type_ piece.body.items e) (t.attribute_lookup ∙ i.known)
+            (subst (λ o. RejectsMetadata o piece.attribute_lookup file header.type_ piece.body.items e) order (d.cause m))))));
       }
 
   -- the section has ended
   pub at_end : (old now : PerfRecordIter R) → Idles old now → TestsMayStart (section_size_of state now) now.offset false → (attrs : List Attribute) → Represents old.endian old.attribute_lookup attrs → HasRemainingRecords state old attrs [] ends_complete
   at_end old now i done attrs k =
-      holds_in_all (iter_source_state state old).bytes (iter_source_state state now).bytes i.markers (λ l. RemainingIn old l attrs [] ends_complete) i.gave.bytes
+      holds_in_all (iter_source_state state old).bytes (iter_source_state state now).bytes i.markers (λ l. RemainingIn old l attrs [] ends_complete) i.consumption.bytes
       (λ rest. i.before rest attrs [] ends_complete (nothing_more now.endian rest (section_size_of state now) now.offset now.round attrs i.fits (represented_consistent old.endian old.attribute_lookup attrs k) (done.1 now.endian rest)))
 
   pub section_ends : (old now new : PerfRecordIter R) → Idles old now → TestsMayStart (section_size_of state now) now.offset false → IsStopped now new → new.offset ≡ now.offset → ReachesEnd state old new
   section_ends old now new i done stopped offset =
       let empty = ap (λ v. v.items) stopped.body ∙ i.empty in
-      let few = ap length empty in
+      let too_few = ap length empty in
       let file : section_size_of state old ≢ None = λ none. done.0 (i.same.section_size ∙ none) in
       record {
         no_records_left = inl (λ attrs k. at_end old now i done attrs k);
         markers = i.markers;
-        valid_markers = i.passed;
+        valid_markers = i.skipped_markers;
         consumed_bytes = [];
         offset = offset ∙ i.offset;
-        consumes = subst (λ l. Consumed (iter_source_state state old) l (iter_source_state state new)) (sym (append-nil i.markers)) (subst (λ s. Consumed (iter_source_state state old) i.markers s) (sym (view_stopped now new stopped)) i.gave);
+        consumes = subst (λ l. Consumed (iter_source_state state old) l (iter_source_state state new)) (sym (append-nil i.markers)) (subst (λ s. Consumed (iter_source_state state old) i.markers s) (sym (view_stopped now new stopped)) i.consumption);
         section_end = λ _. (refl, empty);
         pipe_exhausted = λ none. absurd (file none);
-        buffer_bound = omega (arith, few);
+        buffer_bound = omega (arith, too_few);
         at_end = subst (λ b. IsEnd old.endian b new.offset []) i.same.section_size (subst (λ o. IsEnd old.endian (section_size_of state now) o []) (sym offset) (done.1 old.endian []));
         section_size = ap section_size_in stopped.input ∙ i.same.section_size;
         no_pending_header = section_keeps_none new.input (λ none. file (sym i.same.section_size ∙ ap section_size_in (sym stopped.input) ∙ none));
@@ -476,9 +476,9 @@ module _ {R : Type 0} (state : R → State) where
   pipe_ends old now new new' i c stopped offset =
       let truncation = c.is_truncated in
       let same = view_stopped new new' stopped in
-      let all : Consumed (iter_source_state state old) (i.markers ++ truncation.consumed_bytes) (iter_source_state state new) = consumed_more _ _ _ i.markers truncation.consumed_bytes i.gave truncation.consumes in
+      let all : Consumed (iter_source_state state old) (i.markers ++ truncation.consumed_bytes) (iter_source_state state new) = consumed_more _ _ _ i.markers truncation.consumed_bytes i.consumption truncation.consumes in
       let pipe : section_size_of state old ≡ None = sym i.same.section_size ∙ c.in_pipe in
-      let few = truncation.buffer_bound in
+      let too_few = truncation.buffer_bound in
       let body = ap (λ v. length v.items) stopped.body in
       record {
         no_records_left = elim (none_left (iter_source_state state new).bytes) [
@@ -487,22 +487,22 @@ module _ {R : Type 0} (state : R → State) where
             | inl end ↦ absurd (some end)
             | inr paused ↦ inr (
               pipe,
-              subst (SourcePaused (iter_source_state state old)) (sym same) (paused_later (iter_source_state state old) (iter_source_state state now) (iter_source_state state new) i.markers i.gave paused),
+              subst (SourcePaused (iter_source_state state old)) (sym same) (paused_later (iter_source_state state old) (iter_source_state state now) (iter_source_state state new) i.markers i.consumption paused),
               subst (λ s. s.bytes ≢ Some []) (sym same) some,
             )
           ]
         ];
         markers = i.markers;
-        valid_markers = i.passed;
+        valid_markers = i.skipped_markers;
         consumed_bytes = truncation.consumed_bytes;
         offset = offset ∙ c.offset ∙ i.offset;
         consumes = subst (λ s. Consumed (iter_source_state state old) (i.markers ++ truncation.consumed_bytes) s) (sym same) all;
         section_end = λ file. absurd (file pipe);
         pipe_exhausted = λ _. elim (none_or_paused (iter_source_state state now) (iter_source_state state new) truncation.ended_or_paused) [
           | inl end ↦ inl (ap (λ s. s.bytes) same ∙ end)
-          | inr paused ↦ inr (subst (SourcePaused (iter_source_state state old)) (sym same) (paused_later (iter_source_state state old) (iter_source_state state now) (iter_source_state state new) i.markers i.gave paused))
+          | inr paused ↦ inr (subst (SourcePaused (iter_source_state state old)) (sym same) (paused_later (iter_source_state state old) (iter_source_state state now) (iter_source_state state new) i.markers i.consumption paused))
         ];
-        buffer_bound = omega (arith, few, body);
+        buffer_bound = omega (arith, too_few, body);
         at_end = subst (λ b. IsEnd old.endian b new'.offset truncation.consumed_bytes) (sym pipe)
             (subst (λ o. IsTruncated o new'.offset truncation.consumed_bytes) i.same.same_endian (subst (λ n. IsTruncated now.endian n truncation.consumed_bytes) (sym (offset ∙ c.offset)) truncation.is_truncated));
         section_size = ap section_size_in stopped.input ∙ c.same_input.section_size ∙ i.same.section_size;
@@ -524,7 +524,7 @@ module _ {R : Type 0} (state : R → State) where
   read_so_far_more old now new file file' records h before step =
       let b = attributes_in_views old.endian (section_size_of state old) records in
       let one = attributes_in_record now.endian (section_size_of state now) h.record_type h.body in
-      let same_one : attributes_in_record old.endian (section_size_of state old) h.record_type h.body ≡ one = same_taken old now before.same_input h.record_type h.record_type h.body h.body refl refl in
+      let same_one : attributes_in_record old.endian (section_size_of state old) h.record_type h.body ≡ one = same_consumed old now before.same_input h.record_type h.record_type h.body h.body refl refl in
       let all : attributes_in_views old.endian (section_size_of state old) (records ++ h ∷ []) ≡ b ++ one = added_one old.endian (section_size_of state old) records h ∙ ap (λ l. b ++ l) same_one in
       record {
         same_input = same_more old now new before.same_input step.same_input;
@@ -561,7 +561,7 @@ module _ {R : Type 0} (state : R → State) where
   read_so_far_reason old now new file file' records e before runs error_there other =
       let s = error_there.if_running runs in
       elim (s.cause other) [
-        | inl shown ↦ inl (
+        | inl seen_here ↦ inl (
             lift (iter_source_state state old).bytes (iter_source_state state now).bytes before.consumed_bytes
             (λ bytes. (f : LayoutError) × ((attrs : List Attribute) → Represents old.endian old.attribute_lookup attrs → RemainingRecords old.endian bytes (section_size_of state old) old.offset old.round attrs records (ends_with_error f)) × IsErrorFor f e)
             (FailsAt now file e)
@@ -575,8 +575,8 @@ module _ {R : Type 0} (state : R → State) where
                   subst (λ o. IfSome o (λ l. RemainingIn old l attrs records (ends_with_error f.0))) is old'),
               f.3,
             ))
-            (shown_in_all (iter_source_state state now) (iter_source_state state new) (s.markers ++ s.consumed_bytes) (FailsAt now file e) s.consumes shown))
-        | inr why ↦ elim why [
+            (visible_in_all (iter_source_state state now) (iter_source_state state new) (s.markers ++ s.consumed_bytes) (FailsAt now file e) s.consumes seen_here))
+        | inr cause_of ↦ elim cause_of [
           | inl source ↦ inr (inl (s.consumed_bytes, source))
           | inr mismatch ↦ inr (inr (s.consumed_bytes, mismatch.0))
         ]

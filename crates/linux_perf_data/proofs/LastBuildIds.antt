@@ -82,8 +82,8 @@ last_more es e p k is =
     ∙ ap (λ f. f k) (fold_push (λ g q. update keys_equal g q.0 (Some q.1)) (λ _. None) (filter_map keyed_entry es) p)
 
 -- an entry without a key leaves the map unchanged
-pub last_passed : {S : Type 0} (m : HashMap DsoKey DsoInfo S) (es : List BuildIdEntry) (e : BuildIdEntry) → keyed_entry e ≡ None → MapsLastEntries m es → MapsLastEntries m (es ++ e ∷ [])
-last_passed m es e is before k = before k ∙ sym (ap (λ l. update_all keys_equal (λ _. None) l k) (none_more es e is))
+pub last_skipped : {S : Type 0} (m : HashMap DsoKey DsoInfo S) (es : List BuildIdEntry) (e : BuildIdEntry) → keyed_entry e ≡ None → MapsLastEntries m es → MapsLastEntries m (es ++ e ∷ [])
+last_skipped m es e is before k = before k ∙ sym (ap (λ l. update_all keys_equal (λ _. None) l k) (none_more es e is))
 
 -- ---- the map
 

@@ -57,8 +57,8 @@ pub layout_more : (order : Endianness) (bytes later p : List ℕ) (bound : Secti
 layout_more order bytes later p bound offset attrs ps end is cut more layout =
     let sum : offset + length p + length (concat ps) ≡ offset + length (p ++ concat ps) = omega (arith, length-append p (concat ps)) in
     let fits = layout.end_fits in
-    let brings = attributes_in_record order bound (record_type_of order p) (drop 8 p) in
-    let same : (attrs ++ brings) ++ attributes_in_records order bound ps ≡ attrs ++ (brings ++ attributes_in_records order bound ps) = append_assoc attrs brings (attributes_in_records order bound ps) in
+    let adds = attributes_in_record order bound (record_type_of order p) (drop 8 p) in
+    let same : (attrs ++ adds) ++ attributes_in_records order bound ps ≡ attrs ++ (adds ++ attributes_in_records order bound ps) = append_assoc attrs adds (attributes_in_records order bound ps) in
     record {
       rest = layout.rest;
       split = cut ∙ ap (λ l. p ++ l) layout.split ∙ sym (append_assoc p (concat ps) layout.rest);
@@ -66,13 +66,13 @@ layout_more order bytes later p bound offset attrs ps end is cut more layout =
       starts_in_section = λ _. begins p ps bound offset more layout.starts_in_section;
       end_fits = omega (arith, sum, fits);
       consistent = subst AreConsistent same layout.consistent;
-      end_matches = subst (λ a. EndsWith order bound (offset + length (p ++ concat ps)) a layout.rest end) same (subst (λ o. EndsWith order bound o ((attrs ++ brings) ++ attributes_in_records order bound ps) layout.rest end) sum layout.end_matches);
+      end_matches = subst (λ a. EndsWith order bound (offset + length (p ++ concat ps)) a layout.rest end) same (subst (λ o. EndsWith order bound o ((attrs ++ adds) ++ attributes_in_records order bound ps) layout.rest end) sum layout.end_matches);
     }
 
-handed_more : (order : Endianness) (b : Bool) (bound : SectionSize) (offset round later : ℕ) (attrs : List Attribute) (h : RecordView) (ps : List (List ℕ)) (rs : List RecordView) → later ≡ (if b then round + 1 else round) → rs ≡ record_views order bound offset later attrs ps
+returned_more : (order : Endianness) (b : Bool) (bound : SectionSize) (offset round later : ℕ) (attrs : List Attribute) (h : RecordView) (ps : List (List ℕ)) (rs : List RecordView) → later ≡ (if b then round + 1 else round) → rs ≡ record_views order bound offset later attrs ps
     → (if b then rs else h ∷ rs) ≡ (if b then record_views order bound offset (round + 1) attrs ps else h ∷ record_views order bound offset round attrs ps)
-handed_more order true bound offset round later attrs h ps rs is are = are ∙ ap (λ r. record_views order bound offset r attrs ps) is
-handed_more order false bound offset round later attrs h ps rs is are = ap (λ l. h ∷ l) (are ∙ ap (λ r. record_views order bound offset r attrs ps) is)
+returned_more order true bound offset round later attrs h ps rs is are = are ∙ ap (λ r. record_views order bound offset r attrs ps) is
+returned_more order false bound offset round later attrs h ps rs is are = ap (λ l. h ∷ l) (are ∙ ap (λ r. record_views order bound offset r attrs ps) is)
 
 -- A raw record before the remaining records: a marker increments the round, any other raw record is returned.
 pub remaining_more : (order : Endianness) (bytes later p : List ℕ) (bound : SectionSize) (offset round round' : ℕ) (attrs : List Attribute) (rs : List RecordView) (end : LayoutEnd) → IsValidRecord order bound p → bytes ≡ p ++ later → MayStartAt bound offset
@@ -82,5 +82,5 @@ pub remaining_more : (order : Endianness) (bytes later p : List ℕ) (bound : Se
 remaining_more order bytes later p bound offset round round' attrs rs end is cut more turn come = record {
   raw_records = p ∷ come.raw_records;
   layout = layout_more order bytes later p bound offset attrs come.raw_records end is cut more come.layout;
-  elements = handed_more order (record_type_of order p == 68) bound (offset + length p) round round' (attrs ++ attributes_in_record order bound (record_type_of order p) (drop 8 p)) (record_view_in order offset round attrs p) come.raw_records rs turn come.elements;
+  elements = returned_more order (record_type_of order p == 68) bound (offset + length p) round round' (attrs ++ attributes_in_record order bound (record_type_of order p) (drop 8 p)) (record_view_in order offset round attrs p) come.raw_records rs turn come.elements;
 }

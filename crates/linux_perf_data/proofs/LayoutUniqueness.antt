@@ -7,7 +7,7 @@ use Rattle.std.proofs.lemmas.List.Elements.{All-head, All-tail}
 use Rattle.perfdata_base.specs.declared.raw.Endianness.{Endianness}
 use Rattle.linux_perf_data.specs.Attribute.{Attribute, AreConsistent}
 use Rattle.linux_perf_data.specs.Layout.{SectionSize, MayStartAt, IsValidRecord, attributes_in_record, attributes_in_records, all_but_last, LayoutEnd, ends_complete, EndsWith, Layout, RecordView, record_views, RemainingRecords, record_type_of}
-use Rattle.linux_perf_data.proofs.RecordHeaders.{record_least, same_front}
+use Rattle.linux_perf_data.proofs.RecordHeaders.{record_least, same_prefix}
 use Rattle.linux_perf_data.proofs.ConsistencyLemmas.{consistent_prefix}
 use Rattle.linux_perf_data.proofs.LayoutSteps.{layout_stop, layout_more}
 use Rattle.linux_perf_data.proofs.RecordsOrErrors.{Standing, ended, piece, IsRecordOrErrorAt, record_or_error_at, stands_one, ended_or_record}
@@ -36,12 +36,12 @@ ends_here order bytes bound offset attrs e l =
 piece_here : (order : Endianness) (bytes p : List ℕ) (bound : SectionSize) (offset : ℕ) (attrs : List Attribute) (ps : List (List ℕ)) (e : LayoutEnd) → Layout order bytes bound offset attrs (p ∷ ps) e → IsRecordOrErrorAt order bound offset attrs bytes (piece p)
 piece_here order bytes p bound offset attrs ps e l =
     let fits = l.end_fits in
-    let brings = attributes_in_record order bound (record_type_of order p) (drop 8 p) in
+    let adds = attributes_in_record order bound (record_type_of order p) (drop 8 p) in
     let is = All-head (IsValidRecord order bound) p ps l.elements in (
       begins_before bound offset (length (concat (all_but_last (p ∷ ps)))) (l.starts_in_section (λ e. cc)),
       record { is_record = is.is_record; after_record = concat ps ++ l.rest; split = l.split ∙ append_assoc p (concat ps) l.rest; end_fits = omega (arith, fits, length-append p (concat ps)) },
       is,
-      consistent_prefix (attrs ++ brings) (attributes_in_records order bound ps) (subst AreConsistent (sym (append_assoc attrs brings (attributes_in_records order bound ps))) l.consistent),
+      consistent_prefix (attrs ++ adds) (attributes_in_records order bound ps) (subst AreConsistent (sym (append_assoc attrs adds (attributes_in_records order bound ps))) l.consistent),
     )
 
 -- the layout after its first raw record
@@ -50,8 +50,8 @@ layout_tail : (order : Endianness) (bytes p : List ℕ) (bound : SectionSize) (o
 layout_tail order bytes p bound offset attrs ps e l =
     let sum : offset + length (p ++ concat ps) ≡ offset + length p + length (concat ps) = omega (arith, length-append p (concat ps)) in
     let fits = l.end_fits in
-    let brings = attributes_in_record order bound (record_type_of order p) (drop 8 p) in
-    let same : attrs ++ (brings ++ attributes_in_records order bound ps) ≡ (attrs ++ brings) ++ attributes_in_records order bound ps = sym (append_assoc attrs brings (attributes_in_records order bound ps)) in
+    let adds = attributes_in_record order bound (record_type_of order p) (drop 8 p) in
+    let same : attrs ++ (adds ++ attributes_in_records order bound ps) ≡ (attrs ++ adds) ++ attributes_in_records order bound ps = sym (append_assoc attrs adds (attributes_in_records order bound ps)) in
     record {
       rest = l.rest;
       split = refl;
@@ -59,7 +59,7 @@ layout_tail order bytes p bound offset attrs ps e l =
       starts_in_section = begins_tail p ps bound offset (l.starts_in_section (λ e. cc));
       end_fits = omega (arith, sum, fits);
       consistent = subst AreConsistent same l.consistent;
-      end_matches = subst (λ o. EndsWith order bound o ((attrs ++ brings) ++ attributes_in_records order bound ps) l.rest e) sum (subst (λ a. EndsWith order bound (offset + length (p ++ concat ps)) a l.rest e) same l.end_matches);
+      end_matches = subst (λ o. EndsWith order bound o ((attrs ++ adds) ++ attributes_in_records order bound ps) l.rest e) sum (subst (λ a. EndsWith order bound (offset + length (p ++ concat ps)) a l.rest e) same l.end_matches);
     }
 
 pub layout_is_unique : (order : Endianness) (ps qs : List (List ℕ)) (bytes : List ℕ) (bound : SectionSize) (offset : ℕ) (attrs : List Attribute) (e f : LayoutEnd)
@@ -73,7 +73,7 @@ layout_is_unique order (p ∷ ps) [] bytes bound offset attrs e f l m =
 layout_is_unique order (p ∷ ps) (q ∷ qs) bytes bound offset attrs e f l m =
     let is = All-head (IsValidRecord order bound) p ps l.elements in
     let is' = All-head (IsValidRecord order bound) q qs m.elements in
-    let same = same_front order p q (concat ps ++ l.rest) (concat qs ++ m.rest) is.is_record is'.is_record
+    let same = same_prefix order p q (concat ps ++ l.rest) (concat qs ++ m.rest) is.is_record is'.is_record
     (sym (append_assoc p (concat ps) l.rest) ∙ sym l.split ∙ m.split ∙ append_assoc q (concat qs) m.rest) in
     let next = λ (r : List ℕ). attrs ++ attributes_in_record order bound (record_type_of order r) (drop 8 r) in
     let other = layout_tail order bytes q bound offset attrs qs f m in
@@ -104,14 +104,14 @@ layout_from order bytes bound offset attrs (piece p) fits rule is more =
     (p ∷ r.0, (r.1.0, layout_more order bytes fronts.after_record p bound offset attrs r.0 r.1.0 is.2 fronts.split is.0 r.1.1))
 
 some_layout_in : (order : Endianness) (n : ℕ) (bytes : List ℕ) (bound : SectionSize) (offset : ℕ) (attrs : List Attribute) → length bytes ≤ n → offset < 2 ^ 64 → AreConsistent attrs → SomeLayout order bytes bound offset attrs
-some_layout_in order zero bytes bound offset attrs few fits rule =
+some_layout_in order zero bytes bound offset attrs too_few fits rule =
     let s = record_or_error_at order bound offset attrs bytes rule in
-    layout_from order bytes bound offset attrs s.0 fits rule s.1 (λ p later cut long _ _. absurd (let l = ap length cut in omega (arith, l, length-append p later, few, long)))
-some_layout_in order (suc n) bytes bound offset attrs few fits rule =
+    layout_from order bytes bound offset attrs s.0 fits rule s.1 (λ p later cut long _ _. absurd (let l = ap length cut in omega (arith, l, length-append p later, too_few, long)))
+some_layout_in order (suc n) bytes bound offset attrs too_few fits rule =
     let s = record_or_error_at order bound offset attrs bytes rule in
-    layout_from order bytes bound offset attrs s.0 fits rule s.1 (λ p later cut long near kept.
+    layout_from order bytes bound offset attrs s.0 fits rule s.1 (λ p later cut long end_fits_u64 kept.
     let l = ap length cut in
-    some_layout_in order n later bound (offset + length p) (attrs ++ attributes_in_record order bound (record_type_of order p) (drop 8 p)) (omega (arith, l, length-append p later, few, long)) near kept)
+    some_layout_in order n later bound (offset + length p) (attrs ++ attributes_in_record order bound (record_type_of order p) (drop 8 p)) (omega (arith, l, length-append p later, too_few, long)) end_fits_u64 kept)
 
 pub layout_exists : (order : Endianness) (bytes : List ℕ) (bound : SectionSize) (offset : ℕ) (attrs : List Attribute) → offset < 2 ^ 64 → AreConsistent attrs
     → (pieces : List (List ℕ)) × ((end : LayoutEnd) × Layout order bytes bound offset attrs pieces end)

@@ -32,8 +32,8 @@ module _ (order : Endianness) (k : AttributeLookup) (attrs : List Attribute) (kn
   other_first : ¬ of_first → id_parse_info_of a.attr ≢ id_parse_info_of knows.first_attribute.attr
   other_first apart same = apart (same ∙ sym (ap (λ p. p.id_parse_info) knows.first_parse_info))
 
-  lacking_here : (o : Option ℕ) → k.first_without_identifier ≡ o → first_without_identifier 0 (knows.first_attribute ∷ knows.other_attributes) ≡ o
-  lacking_here o is = ap (first_without_identifier 0) (sym knows.elements) ∙ sym knows.first_without_identifier ∙ is
+  missing_here : (o : Option ℕ) → k.first_without_identifier ≡ o → first_without_identifier 0 (knows.first_attribute ∷ knows.other_attributes) ≡ o
+  missing_here o is = ap (first_without_identifier 0) (sym knows.elements) ∙ sym knows.first_without_identifier ∙ is
 
   counted_here : (n : ℕ) → n ≡ length k.parse_infos.items → n ≡ length (knows.first_attribute ∷ knows.other_attributes)
   counted_here n count = count ∙ lookup_counted order k attrs knows ∙ ap length knows.elements
@@ -44,16 +44,16 @@ module _ (order : Endianness) (k : AttributeLookup) (attrs : List Attribute) (kn
   -- the first attribute without IDENTIFIER causes the inconsistency
   pub old_inconsistent : (i : ℕ) → ¬ of_first → k.first_without_identifier ≡ Some i → AreInconsistent (attrs ++ a ∷ []) (missing_identifier i)
   old_inconsistent i apart is =
-      subst (λ l. AreInconsistent (l ++ a ∷ []) (missing_identifier i)) (sym knows.elements) (inconsistent_before knows.first_attribute knows.other_attributes a rule_here i (other_first apart) (lacking_here (Some i) is))
+      subst (λ l. AreInconsistent (l ++ a ∷ []) (missing_identifier i)) (sym knows.elements) (inconsistent_before knows.first_attribute knows.other_attributes a rule_here i (other_first apart) (missing_here (Some i) is))
 
   -- the new attribute causes the inconsistency
-  pub new_lacks : (n : ℕ) → ¬ of_first → k.first_without_identifier ≡ None → n ≡ length k.parse_infos.items → has_identifier a ≡ false → AreInconsistent (attrs ++ a ∷ []) (missing_identifier n)
-  new_lacks n apart is count lacks =
-      subst (λ l. AreInconsistent (l ++ a ∷ []) (missing_identifier n)) (sym knows.elements) (inconsistent_lacking knows.first_attribute knows.other_attributes a rule_here n (other_first apart) (lacking_here None is) (counted_here n count) lacks)
+  pub new_missing : (n : ℕ) → ¬ of_first → k.first_without_identifier ≡ None → n ≡ length k.parse_infos.items → has_identifier a ≡ false → AreInconsistent (attrs ++ a ∷ []) (missing_identifier n)
+  new_missing n apart is count is_missing =
+      subst (λ l. AreInconsistent (l ++ a ∷ []) (missing_identifier n)) (sym knows.elements) (inconsistent_lacking knows.first_attribute knows.other_attributes a rule_here n (other_first apart) (missing_here None is) (counted_here n count) is_missing)
 
   pub new_differs : (n : ℕ) → ¬ of_first → k.first_without_identifier ≡ None → n ≡ length k.parse_infos.items → has_identifier a ≡ true → AreInconsistent (attrs ++ a ∷ []) (sample_id_all_differs n)
   new_differs n apart is count has =
-      subst (λ l. AreInconsistent (l ++ a ∷ []) (sample_id_all_differs n)) (sym knows.elements) (inconsistent_differing knows.first_attribute knows.other_attributes a rule_here n (other_first apart) (lacking_here None is) (counted_here n count) has)
+      subst (λ l. AreInconsistent (l ++ a ∷ []) (sample_id_all_differs n)) (sym knows.elements) (inconsistent_differing knows.first_attribute knows.other_attributes a rule_here n (other_first apart) (missing_here None is) (counted_here n count) has)
 
 -- ---- the new lookup
 
@@ -64,7 +64,7 @@ listed_best false n o = refl
 pub represents_more : (order : Endianness) (old new : AttributeLookup) (attrs : List Attribute) (a : Attribute) (n : ℕ) → Represents order old attrs → AreConsistent (attrs ++ a ∷ []) → n ≡ length old.parse_infos.items → new.first_parse_info ≡ old.first_parse_info
     → new.parse_infos.items ≡ old.parse_infos.items ++ parse_info_of a.attr order ∷ [] → new.first_without_identifier ≡ option_or old.first_without_identifier (if has_identifier a then None else Some n) → MapsIds old.table a.ids n new.table
     → ((id : ℕ) → cached_index new.cache id ≡ None) → Represents order new (attrs ++ a ∷ [])
-represents_more order old new attrs a n k all_consistent count first infos lacking puts cleared =
+represents_more order old new attrs a n k all_consistent count first infos missing puts cleared =
     let counted_before = lookup_counted order old attrs k in
     let counted : n ≡ 0 + length attrs = omega (arith, count, counted_before) in
     record {
@@ -74,7 +74,7 @@ represents_more order old new attrs a n k all_consistent count first infos lacki
       consistent = all_consistent;
       first_parse_info = first ∙ k.first_parse_info;
       parse_infos = infos ∙ ap (λ l. l ++ parse_info_of a.attr order ∷ []) k.parse_infos ∙ sym (map-append (λ (b : Attribute). parse_info_of b.attr order) attrs (a ∷ []));
-      first_without_identifier = lacking ∙ ap (λ o. option_or o (if has_identifier a then None else Some n)) k.first_without_identifier ∙ sym (unidentified_more 0 attrs a n counted);
+      first_without_identifier = missing ∙ ap (λ o. option_or o (if has_identifier a then None else Some n)) k.first_without_identifier ∙ sym (unidentified_more 0 attrs a n counted);
       table = λ id. ap (λ o. unwrap_or o 0) (puts id) ∙ listed_best (lists_id id a.ids) n (id_lookup old.table id) ∙ ap (λ g. if lists_id id a.ids then n else g) (k.table id)
           ∙ ap (λ m. if lists_id id a.ids then m else last_index_listing id 0 0 attrs) counted ∙ sym (greatest_more id 0 0 attrs a);
       cache = λ id i cached. absurd (let none : ◌≡◌ {A = Option ℕ} None (Some i) = sym (cleared id) ∙ cached in cc);

@@ -46,11 +46,11 @@ brought_feature_back order bound n (g ∷ hs) h (inl b) = inl (inl b)
 brought_feature_back order bound n (g ∷ hs) h (inr b) = elim (brought_feature_back order bound n hs h b) [ inl c ↦ inl (inr c) | inr c ↦ inr c ]
 
 -- a record of no feature, or of another feature, leaves EVENT_DESC unchanged
-brings_plain : (order : Endianness) (record_type : ℕ) (body : List ℕ) (f : ℕ → Option (List ℕ)) (n : ℕ) → record_type ≢ 80 → update_all nat_eq f (features_in_record order None record_type body) n ≡ f n
-brings_plain order record_type body f n other = ap (λ fs. update_all nat_eq f fs n) (cond-false (record_type == 80) ((feature_in_body order body, drop 8 body) ∷ []) [] (ne_eqb record_type 80 other))
+adds_plain : (order : Endianness) (record_type : ℕ) (body : List ℕ) (f : ℕ → Option (List ℕ)) (n : ℕ) → record_type ≢ 80 → update_all nat_eq f (features_in_record order None record_type body) n ≡ f n
+adds_plain order record_type body f n other = ap (λ fs. update_all nat_eq f fs n) (cond-false (record_type == 80) ((feature_in_body order body, drop 8 body) ∷ []) [] (ne_eqb record_type 80 other))
 
-brings_other : (order : Endianness) (record_type : ℕ) (body : List ℕ) (f : ℕ → Option (List ℕ)) (n : ℕ) → record_type ≡ 80 → feature_in_body order body ≢ n → update_all nat_eq f (features_in_record order None record_type body) n ≡ f n
-brings_other order record_type body f n is other =
+adds_other : (order : Endianness) (record_type : ℕ) (body : List ℕ) (f : ℕ → Option (List ℕ)) (n : ℕ) → record_type ≡ 80 → feature_in_body order body ≢ n → update_all nat_eq f (features_in_record order None record_type body) n ≡ f n
+adds_other order record_type body f n is other =
     ap (λ fs. update_all nat_eq f fs n) (cond-true (record_type == 80) ((feature_in_body order body, drop 8 body) ∷ []) [] (eq-eqb record_type 80 is))
     ∙ cond-false (nat_eq (feature_in_body order body) n) (Some (drop 8 body)) (f n) (ne_eqb (feature_in_body order body) n other)
 
@@ -61,10 +61,10 @@ settled order (Some size) record_type body f = inr ((λ e. e), refl)
 settled order None record_type body f = elim (cases_eq record_type 64) [
   | inl attribute ↦ inl (inl attribute)
   | inr other ↦ elim (cases_eq record_type 80) [
-    | inr neither ↦ inr ((λ gives. elim gives [ inl a ↦ other a | inr b ↦ neither b.0 ]), brings_plain order record_type body f event_desc neither)
+    | inr neither ↦ inr ((λ gives. elim gives [ inl a ↦ other a | inr b ↦ neither b.0 ]), adds_plain order record_type body f event_desc neither)
     | inl feature ↦ elim (cases_eq (feature_in_body order body) event_desc) [
       | inl desc ↦ inl (inr (feature, desc))
-      | inr another ↦ inr ((λ gives. elim gives [ inl a ↦ other a | inr b ↦ another b.1 ]), brings_other order record_type body f event_desc feature another)
+      | inr another ↦ inr ((λ gives. elim gives [ inl a ↦ other a | inr b ↦ another b.1 ]), adds_other order record_type body f event_desc feature another)
     ]
   ]
 ]

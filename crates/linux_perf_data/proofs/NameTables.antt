@@ -186,15 +186,15 @@ pub table_names : (t : NameTable) (ds : List AttributeDescription) → NamedBy t
 table_names t ds named other same = subst (λ (o : NameTable). NamedBy o.events.items ds) (one t other same) named
 
 -- the table of a `PerfFile` whose EVENT_DESC is unchanged
-module _ (name_table : Option NameTable) (old new : Option (List ℕ)) (stays : (t : NameTable) → name_table ≡ Some t → new ≡ old) where
-  pub stays_none : TableEmptyWithoutEventDesc name_table old → TableEmptyWithoutEventDesc name_table new
-  stays_none before t same none = before t same (sym (stays t same) ∙ none)
+module _ (name_table : Option NameTable) (old new : Option (List ℕ)) (remains : (t : NameTable) → name_table ≡ Some t → new ≡ old) where
+  pub remains_none : TableEmptyWithoutEventDesc name_table old → TableEmptyWithoutEventDesc name_table new
+  remains_none before t same none = before t same (sym (remains t same) ∙ none)
 
-  pub stays_some : TableIsReadable name_table old → TableIsReadable name_table new
-  stays_some before t bytes same there = before t bytes same (sym (stays t same) ∙ there)
+  pub remains_some : TableIsReadable name_table old → TableIsReadable name_table new
+  remains_some before t bytes same there = before t bytes same (sym (remains t same) ∙ there)
 
-  pub stays_events : TableHasEvents name_table old → TableHasEvents name_table new
-  stays_events before t bytes es same there begins = before t bytes es same (sym (stays t same) ∙ there) begins
+  pub remains_events : TableHasEvents name_table old → TableHasEvents name_table new
+  remains_events before t bytes es same there begins = before t bytes es same (sym (remains t same) ∙ there) begins
 
 none_not_some : (t : NameTable) → None ≡ Some t → ⊥
 none_not_some t e = cc
@@ -213,9 +213,9 @@ pub no_events : (desc : Option (List ℕ)) → TableHasEvents None desc
 no_events desc t bytes es same = absurd (none_not_some t same)
 
 -- the data of another feature leave the table valid
-pub put_stays : {S : Type 0} (name_table : Option NameTable) (m new : IndexMap Feature (Vec ℕ Global) S) (k : Feature) (v : Vec ℕ Global) → (k.0 ≡ event_desc → name_table ≡ None)
+pub put_remains : {S : Type 0} (name_table : Option NameTable) (m new : IndexMap Feature (Vec ℕ Global) S) (k : Feature) (v : Vec ℕ Global) → (k.0 ≡ event_desc → name_table ≡ None)
     → ((q : Feature) → index_get (λ f g. nat_eq f.0 g.0) new q ≡ cond (nat_eq k.0 q.0) (Some v) (index_get (λ f g. nat_eq f.0 g.0) m q)) → (t : NameTable) → name_table ≡ Some t → feature_data_of new event_desc ≡ feature_data_of m event_desc
-put_stays name_table m new k v other puts t same = elim (cases_eq k.0 event_desc) [
+put_remains name_table m new k v other puts t same = elim (cases_eq k.0 event_desc) [
   | inl is ↦ absurd (none_not_some t (sym (other is) ∙ same))
   | inr apart ↦ data_put m new k v puts event_desc ∙ ap (λ b. cond b (Some v.items) (feature_data_of m event_desc)) (ne_eqb k.0 event_desc apart)
 ]

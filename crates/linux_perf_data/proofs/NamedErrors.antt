@@ -98,7 +98,7 @@ module _ (P : Error → Type 0) (io : (x : IoErrorValue) → P (IoError x)) wher
     event_in number attr_size e xs (inr after) = eof_in e after.1
 
     pub event_desc_in : (number : ℕ → List ℕ → ℕ) (e : Error) (xs : List ℕ) → IsEventDescError number e xs → P e
-    event_desc_in number e xs (inl few) = eof_in e few.0
+    event_desc_in number e xs (inl too_few) = eof_in e too_few.0
     event_desc_in number e xs (inr at) = event_in number _ e at.rest at.error_here
 
     attr_in : (e : Error) → e ≡ Read PerfEventAttr → P e
@@ -113,7 +113,7 @@ module _ (P : Error → Type 0) (io : (x : IoErrorValue) → P (IoError x)) wher
 
     entries_in : (number : ℕ → List ℕ → ℕ) (attr_size : ℕ) (names : ℕ → Option (List ℕ)) (section : PerfFileSection) (old : State) (e : Error) (new : State) → EntriesReadError number attr_size names section old e new → P e
     entries_in number attr_size names section old e new (inl items) = entry_in number attr_size old _ e new items.error
-    entries_in number attr_size names section old e new (inr ids) = elim ids.error.error_here [ inl far ↦ attr_in e far.1 | inr near ↦ truncation_in _ old _ e new near.1 ]
+    entries_in number attr_size names section old e new (inr ids) = elim ids.error.error_here [ inl far ↦ attr_in e far.1 | inr end_fits_u64 ↦ truncation_in _ old _ e new end_fits_u64.1 ]
 
     pub descriptions_in : P Memory → (number : ℕ → List ℕ → ℕ) (attr_size : ℕ) (names : ℕ → Option (List ℕ)) (section : PerfFileSection) (old : State) (e : Error) (new : State) → ReadsDescriptions number attr_size names section old (Err e) new → P e
     descriptions_in memory number attr_size names section old e new (inl (far, is, same)) = attr_in e is
@@ -195,7 +195,7 @@ pipe_list order pieces e (inr (inl (bytes, some, there, error))) = event_desc_in
 pipe_list order pieces e (inr (inr (b, readable, breaks, is))) = inconsistency_in IsPipeOpeningError (λ _. tt) (λ _. tt) e b is
 
 pipe_bytes : (bytes : List ℕ) (e : Error) → IsPipeError bytes e → IsPipeOpeningError e
-pipe_bytes bytes e (inl few) = eof_in IsPipeOpeningError (λ _. tt) e few.0
+pipe_bytes bytes e (inl too_few) = eof_in IsPipeOpeningError (λ _. tt) e too_few.0
 pipe_bytes bytes e (inr (inl unknown)) = subst IsPipeOpeningError (sym unknown.0) tt
 pipe_bytes bytes e (inr (inr (inl truncated))) = subst IsPipeOpeningError (sym truncated.1) tt
 pipe_bytes bytes e (inr (inr (inr after))) = elim after.metadata_error.cause [
@@ -233,8 +233,8 @@ layout_error (invalid_event_desc order bytes) e is = record_event_desc order e b
 layout_error (inconsistent_attributes b) e is = inconsistency_in IsRecordError (λ _. tt) (λ _. tt) e b is
 
 source_error : (order : Endianness) (bound : SectionSize) (old : State) (consumed : List ℕ) (e : Error) (new : State) → SourceErrorInRecord order bound old consumed e new → IsRecordError e
-source_error order bound old consumed e new (inl (few, inl (is, failed))) = io_in IsRecordError (λ _. tt) e is
-source_error order bound old consumed e new (inl (few, inr (is, file, paused))) = eof_in IsRecordError (λ _. tt) e is
+source_error order bound old consumed e new (inl (too_few, inl (is, failed))) = io_in IsRecordError (λ _. tt) e is
+source_error order bound old consumed e new (inl (too_few, inr (is, file, paused))) = eof_in IsRecordError (λ _. tt) e is
 source_error order bound old consumed e new (inr (truncated, is, source)) = subst IsRecordError (sym is) (inl refl)
 
 module _ {R : Type 0} (state : R → State) (old new : PerfRecordIter R) (file : PerfFile) (e : Error) where
@@ -245,7 +245,7 @@ module _ {R : Type 0} (state : R → State) (old new : PerfRecordIter R) (file :
   ]
 
   cause_in : (markers consumed : List ℕ) → IsErrorCause state old file markers consumed e new → IsRecordError e
-  cause_in markers consumed (inl shown) = elim shown [
+  cause_in markers consumed (inl seen_here) = elim seen_here [
     | inl each ↦ (let here = each [] in layout_error here.0 e here.3)
     | inr whole ↦ layout_error whole.1.0 e whole.1.3
   ]

@@ -17,38 +17,38 @@ use Rattle.linux_perf_data.proofs.ConsistencyLemmas.{offsets_word_list, word_lis
 abbrev Has : Attribute → Type 0
 Has a = has_identifier a ≡ true
 
-pub record LacksFirst (i k : ℕ) (attrs : List Attribute) : Type 0 where
-  pub front : List Attribute
+pub record MissesFirst (i k : ℕ) (attrs : List Attribute) : Type 0 where
+  pub first_part : List Attribute
   pub at : Attribute
   pub back : List Attribute
-  pub are : attrs ≡ front ++ at ∷ back
-  pub place : i + length front ≡ k
-  pub before : All Has front
-  pub lacks : has_identifier at ≡ false
+  pub are : attrs ≡ first_part ++ at ∷ back
+  pub place : i + length first_part ≡ k
+  pub before : All Has first_part
+  pub is_missing : has_identifier at ≡ false
 
-lacks_here : (i k : ℕ) (a : Attribute) (more : List Attribute) → has_identifier a ≡ false → first_without_identifier i (a ∷ more) ≡ Some k → LacksFirst i k (a ∷ more)
-lacks_here i k a more lacks is =
-    let told : Some i ≡ Some k = sym (ap (λ b. if b then first_without_identifier (i + 1) more else Some i) lacks) ∙ is in
+not_there_here : (i k : ℕ) (a : Attribute) (more : List Attribute) → has_identifier a ≡ false → first_without_identifier i (a ∷ more) ≡ Some k → MissesFirst i k (a ∷ more)
+not_there_here i k a more is_missing is =
+    let described : Some i ≡ Some k = sym (ap (λ b. if b then first_without_identifier (i + 1) more else Some i) is_missing) ∙ is in
     let same : i ≡ k = cc in
-    record { front = []; at = a; back = more; are = refl; place = omega (arith, same); before = All-nil Has; lacks = lacks }
+    record { first_part = []; at = a; back = more; are = refl; place = omega (arith, same); before = All-nil Has; is_missing = is_missing }
 
-lacks_later : (i k : ℕ) (a : Attribute) (more : List Attribute) → Has a → LacksFirst (i + 1) k more → LacksFirst i k (a ∷ more)
-lacks_later i k a more has l =
+missing_later : (i k : ℕ) (a : Attribute) (more : List Attribute) → Has a → MissesFirst (i + 1) k more → MissesFirst i k (a ∷ more)
+missing_later i k a more has l =
     let place = l.place in
-    record { front = a ∷ l.front; at = l.at; back = l.back; are = ap (λ xs. a ∷ xs) l.are; place = omega (arith, place); before = All-cons Has a l.front has l.before; lacks = l.lacks }
+    record { first_part = a ∷ l.first_part; at = l.at; back = l.back; are = ap (λ xs. a ∷ xs) l.are; place = omega (arith, place); before = All-cons Has a l.first_part has l.before; is_missing = l.is_missing }
 
-pub lacks_first : (i k : ℕ) (attrs : List Attribute) → first_without_identifier i attrs ≡ Some k → LacksFirst i k attrs
-lacks_first i k [] is = absurd (let off : ◌≡◌ {A = Option ℕ} None (Some k) = is in cc)
-lacks_first i k (a ∷ more) is = elim (cases_Bool (has_identifier a)) [
-  | inl has ↦ lacks_later i k a more has (lacks_first (i + 1) k more (sym (ap (λ b. if b then first_without_identifier (i + 1) more else Some i) has) ∙ is))
-  | inr lacks ↦ lacks_here i k a more lacks is
+pub missing_first : (i k : ℕ) (attrs : List Attribute) → first_without_identifier i attrs ≡ Some k → MissesFirst i k attrs
+missing_first i k [] is = absurd (let off : ◌≡◌ {A = Option ℕ} None (Some k) = is in cc)
+missing_first i k (a ∷ more) is = elim (cases_Bool (has_identifier a)) [
+  | inl has ↦ missing_later i k a more has (missing_first (i + 1) k more (sym (ap (λ b. if b then first_without_identifier (i + 1) more else Some i) has) ∙ is))
+  | inr is_missing ↦ not_there_here i k a more is_missing is
 ]
 
 pub all_have : (i : ℕ) (attrs : List Attribute) → first_without_identifier i attrs ≡ None → All Has attrs
 all_have i [] is = All-nil Has
 all_have i (a ∷ more) is = elim (cases_Bool (has_identifier a)) [
   | inl has ↦ All-cons Has a more has (all_have (i + 1) more (sym (ap (λ b. if b then first_without_identifier (i + 1) more else Some i) has) ∙ is))
-  | inr lacks ↦ absurd (let off : ◌≡◌ {A = Option ℕ} (Some i) None = sym (ap (λ b. if b then first_without_identifier (i + 1) more else Some i) lacks) ∙ is in cc)
+  | inr is_missing ↦ absurd (let off : ◌≡◌ {A = Option ℕ} (Some i) None = sym (ap (λ b. if b then first_without_identifier (i + 1) more else Some i) is_missing) ∙ is in cc)
 ]
 
 -- one more description is checked
@@ -89,25 +89,25 @@ word_list_offsets_unique false true e = absurd (let off : ◌≡◌ {A = Option 
 conforming : (first a : Attribute) → Has first → Has a → Same (id_parse_info_of first.attr) a → ConformsTo first a
 conforming first a firsts has same = (has, word_list_offsets_unique (has_sample_id_all a) (has_sample_id_all first) (sym (offsets_word_list a.attr has) ∙ same ∙ offsets_word_list first.attr firsts))
 
-all_conform : (first : Attribute) (front : List Attribute) → Has first → All Has front → All (Same (id_parse_info_of first.attr)) front → All (ConformsTo first) front
+all_conform : (first : Attribute) (first_part : List Attribute) → Has first → All Has first_part → All (Same (id_parse_info_of first.attr)) first_part → All (ConformsTo first) first_part
 all_conform first [] firsts has same = All-nil (ConformsTo first)
-all_conform first (a ∷ front) firsts has same =
-    All-cons (ConformsTo first) a front (conforming first a firsts (All-head Has a front has) (All-head (Same (id_parse_info_of first.attr)) a front same))
-    (all_conform first front firsts (All-tail Has a front has) (All-tail (Same (id_parse_info_of first.attr)) a front same))
+all_conform first (a ∷ first_part) firsts has same =
+    All-cons (ConformsTo first) a first_part (conforming first a firsts (All-head Has a first_part has) (All-head (Same (id_parse_info_of first.attr)) a first_part same))
+    (all_conform first first_part firsts (All-tail Has a first_part has) (All-tail (Same (id_parse_info_of first.attr)) a first_part same))
 
 -- a prefix of attributes with the same ID offsets
-front_same : (P : Attribute → Type 0) (front back : List Attribute) → All P (front ++ back) → All P front
-front_same P [] back all = All-nil P
-front_same P (a ∷ front) back all = All-cons P a front (All-head P a (front ++ back) all) (front_same P front back (All-tail P a (front ++ back) all))
+first_part_same : (P : Attribute → Type 0) (first_part back : List Attribute) → All P (first_part ++ back) → All P first_part
+first_part_same P [] back all = All-nil P
+first_part_same P (a ∷ first_part) back all = All-cons P a first_part (All-head P a (first_part ++ back) all) (first_part_same P first_part back (All-tail P a (first_part ++ back) all))
 
 -- the attributes before the first without IDENTIFIER conform
-before_conform : (first : Attribute) (more front : List Attribute) (at : Attribute) (back : List Attribute) → AreConsistent (first ∷ more) → first ∷ more ≡ front ++ at ∷ back → All Has front → All (ConformsTo first) front
+before_conform : (first : Attribute) (more first_part : List Attribute) (at : Attribute) (back : List Attribute) → AreConsistent (first ∷ more) → first ∷ more ≡ first_part ++ at ∷ back → All Has first_part → All (ConformsTo first) first_part
 before_conform first more [] at back all_consistent are has = All-nil (ConformsTo first)
-before_conform first more (x ∷ front) at back all_consistent are has =
+before_conform first more (x ∷ first_part) at back all_consistent are has =
     let P = Same (id_parse_info_of first.attr) in
     let is : x ≡ first = sym (ap (λ l. get_or l 0 first) are) in
-    let firsts : Has first = subst Has is (All-head Has x front has) in
-    all_conform first (x ∷ front) firsts has (front_same P (x ∷ front) (at ∷ back) (subst (All P) are (consistent_same first more all_consistent)))
+    let firsts : Has first = subst Has is (All-head Has x first_part has) in
+    all_conform first (x ∷ first_part) firsts has (first_part_same P (x ∷ first_part) (at ∷ back) (subst (All P) are (consistent_same first more all_consistent)))
 
 last_of_all : (P : Attribute → Type 0) (xs : List Attribute) (a : Attribute) → All P (xs ++ a ∷ []) → P a
 last_of_all P [] a all = All-head P a [] all
@@ -125,18 +125,18 @@ module _ (first : Attribute) (more : List Attribute) (a : Attribute) (all_consis
 
   -- if one of them lacks IDENTIFIER, the first such attribute causes the inconsistency
   pub inconsistent_before : (k : ℕ) → id_parse_info_of a.attr ≢ id_parse_info_of first.attr → first_without_identifier 0 (first ∷ more) ≡ Some k → AreInconsistent (first ∷ more ++ a ∷ []) (missing_identifier k)
-  inconsistent_before k apart lacks =
-      let l = lacks_first 0 k (first ∷ more) lacks in
+  inconsistent_before k apart is_missing =
+      let l = missing_first 0 k (first ∷ more) is_missing in
       let place = l.place in (
         not_kept apart,
         record {
-          earlier = l.front;
+          earlier = l.first_part;
           attribute = l.at;
           later = l.back ++ a ∷ [];
-          elements = ap (λ xs. xs ++ a ∷ []) l.are ∙ append_assoc l.front (l.at ∷ l.back) (a ∷ []);
+          elements = ap (λ xs. xs ++ a ∷ []) l.are ∙ append_assoc l.first_part (l.at ∷ l.back) (a ∷ []);
           index_matches = omega (arith, place);
-          earlier_conform = before_conform first more l.front l.at l.back all_consistent l.are l.before;
-          cause = l.lacks;
+          earlier_conform = before_conform first more l.first_part l.at l.back all_consistent l.are l.before;
+          cause = l.is_missing;
         },
       )
 
@@ -147,7 +147,7 @@ module _ (first : Attribute) (more : List Attribute) (a : Attribute) (all_consis
 
   -- if all of them have IDENTIFIER, the new one causes the inconsistency
   pub inconsistent_lacking : (n : ℕ) → id_parse_info_of a.attr ≢ id_parse_info_of first.attr → first_without_identifier 0 (first ∷ more) ≡ None → n ≡ length (first ∷ more) → has_identifier a ≡ false → AreInconsistent (first ∷ more ++ a ∷ []) (missing_identifier n)
-  inconsistent_lacking n apart none count lacks = (not_kept apart, record { earlier = first ∷ more; attribute = a; later = []; elements = refl; index_matches = sym count; earlier_conform = conform none; cause = lacks })
+  inconsistent_lacking n apart none count is_missing = (not_kept apart, record { earlier = first ∷ more; attribute = a; later = []; elements = refl; index_matches = sym count; earlier_conform = conform none; cause = is_missing })
 
   pub inconsistent_differing : (n : ℕ) → id_parse_info_of a.attr ≢ id_parse_info_of first.attr → first_without_identifier 0 (first ∷ more) ≡ None → n ≡ length (first ∷ more) → has_identifier a ≡ true → AreInconsistent (first ∷ more ++ a ∷ []) (sample_id_all_differs n)
   inconsistent_differing n apart none count has =

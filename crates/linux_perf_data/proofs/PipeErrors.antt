@@ -14,14 +14,14 @@ use Rattle.linux_perf_data.specs.RecordFraming.{ChecksRecordEnd, BytesRead}
 use Rattle.linux_perf_data.specs.PipeOpening.{FailsBy}
 
 -- an error after consumed bytes is an error of all bytes
-pub error_later : (Stops Stops' : List ℕ → Error → Type 0) (a b c : State) (front : List ℕ) (e : Error) → Consumed a front b → FailsBy Stops b e c → ((xs : List ℕ) → Stops xs e → Stops' (front ++ xs) e) → FailsBy Stops' a e c
-error_later Stops Stops' a b c front e before r more = record {
-  consumed_bytes = front ++ r.consumed_bytes;
-  consumes = consumed_more a b c front r.consumed_bytes before r.consumes;
+pub error_later : (Stops Stops' : List ℕ → Error → Type 0) (a b c : State) (first_part : List ℕ) (e : Error) → Consumed a first_part b → FailsBy Stops b e c → ((xs : List ℕ) → Stops xs e → Stops' (first_part ++ xs) e) → FailsBy Stops' a e c
+error_later Stops Stops' a b c first_part e before r more = record {
+  consumed_bytes = first_part ++ r.consumed_bytes;
+  consumes = consumed_more a b c first_part r.consumed_bytes before r.consumes;
   cause = λ m. elim (r.cause m) [
-    | inl shows ↦ inl (λ rest. subst (λ l. Stops' l e) (sym (append_assoc front r.consumed_bytes rest)) (more (r.consumed_bytes ++ rest) (shows rest)))
-    | inr (inl (none, stops)) ↦ inr (inl (consumed_none_later a b c front before none, more r.consumed_bytes stops))
-    | inr (inr (io, failed)) ↦ inr (inr (io, failed_later a b c front before failed))
+    | inl shows ↦ inl (λ rest. subst (λ l. Stops' l e) (sym (append_assoc first_part r.consumed_bytes rest)) (more (r.consumed_bytes ++ rest) (shows rest)))
+    | inr (inl (none, stops)) ↦ inr (inl (consumed_none_later a b c first_part before none, more r.consumed_bytes stops))
+    | inr (inr (io, failed)) ↦ inr (inr (io, failed_later a b c first_part before failed))
   ];
 }
 
@@ -29,8 +29,8 @@ pub error_by : (Stops Stops' : List ℕ → Error → Type 0) (a b : State) (e :
 error_by Stops Stops' a b e r more = error_later Stops Stops' a a b [] e (consumed_none a) r more
 
 -- the consumed bytes determine the error
-pub shows : (Stops : List ℕ → Error → Type 0) (a b : State) (came : List ℕ) (e : Error) → Consumed a came b → (e ≢ Memory → (rest : List ℕ) → Stops (came ++ rest) e) → FailsBy Stops a e b
-shows Stops a b came e gave stops = record { consumed_bytes = came; consumes = gave; cause = λ m. inl (stops m) }
+pub shows : (Stops : List ℕ → Error → Type 0) (a b : State) (part_read : List ℕ) (e : Error) → Consumed a part_read b → (e ≢ Memory → (rest : List ℕ) → Stops (part_read ++ rest) e) → FailsBy Stops a e b
+shows Stops a b part_read e consumption stops = record { consumed_bytes = part_read; consumes = consumption; cause = λ m. inl (stops m) }
 
 -- ---- what follows a record header
 
@@ -50,7 +50,7 @@ module _ (order : Endianness) (offset : ℕ) (header : PerfEventHeader) where
   -- its body is truncated
   pub truncated : (a b : State) (e : Error) (end count : ℕ) → ChecksRecordEnd offset header.size (Ok end) → count ≡ header.size - 8 → FailsBy (λ xs e. IsUnexpectedEof e × (length xs < count)) a e b → FailsBy IsContentsError a e b
   truncated a b e end count (ends, fits) is r =
-      error_by (λ xs e. IsUnexpectedEof e × (length xs < count)) IsContentsError a b e r (λ xs stops. inr (inl (stops.0, omega (arith, ends, fits), (let few = stops.1 in omega (arith, few, is)))))
+      error_by (λ xs e. IsUnexpectedEof e × (length xs < count)) IsContentsError a b e r (λ xs stops. inr (inl (stops.0, omega (arith, ends, fits), (let too_few = stops.1 in omega (arith, too_few, is)))))
 
   -- its body has an error
   pub invalid_metadata : (a b : State) (e : Error) (end count : ℕ) (body : List ℕ) → ChecksRecordEnd offset header.size (Ok end) → count ≡ header.size - 8 → BytesRead a count body b → (e ≢ Memory → IsMetadataError order header.type_ body e) → FailsBy IsContentsError a e b

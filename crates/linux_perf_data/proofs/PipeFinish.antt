@@ -13,7 +13,7 @@ use Rattle.perfdata_base.specs.PipeHeader.{PipeHeaderWithExtraParsed, pipe_heade
 use Rattle.perfdata_base.specs.declared.header.pipe.PerfPipeHeader.{PerfPipeHeader}
 use Rattle.perfdata_base.specs.declared.raw.Endianness.{Endianness}
 use Rattle.perfdata_base.specs.declared.raw.Endianness.TheVariants.{LittleEndian, BigEndian}
-use Rattle.perfdata_base.proofs.Numbers.{number_drop_front}
+use Rattle.perfdata_base.proofs.Numbers.{number_drop_prefix}
 use Rattle.perfdata_sections.specs.declared.error.Error.{Error}
 use Rattle.perfdata_sections.specs.declared.error.Error.TheVariants.{Memory, NoAttributes, UnrecognizedMagicValue}
 use Rattle.perfdata_sections.specs.declared.feature_sections.AttributeDescription.{AttributeDescription}
@@ -31,14 +31,14 @@ use Rattle.linux_perf_data.specs.Consistency.{error_of_inconsistency}
 use Rattle.linux_perf_data.specs.FeatureData.{feature_data_of}
 use Rattle.linux_perf_data.specs.declared.pipe.opening.PipeMetadata.{PipeMetadata}
 use Rattle.linux_perf_data.specs.declared.pipe.pipe_opening.PipeOpening.{PipeOpening}
-use Rattle.linux_perf_data.proofs.RecordHeaders.{record_type_front, size_front}
+use Rattle.linux_perf_data.proofs.RecordHeaders.{record_type_front, size_first_part}
 use Rattle.linux_perf_data.proofs.NameTables.{named_can}
 use Rattle.linux_perf_data.proofs.PipeErrors.{error_later, shows}
 use Rattle.linux_perf_data.proofs.PipeMetadataRuns.{ended_later}
 
 -- the names given to the attributes
-pub names_kept : (order : Endianness) (desc told : Option (List ℕ)) (ds named : List AttributeDescription) → desc ≡ told → ds ≡ named → NamedByEventDesc order desc named → NamedByEventDesc order told ds
-names_kept order desc told ds named is same names = subst (λ o. NamedByEventDesc order o ds) is (subst (NamedByEventDesc order desc) (sym same) names)
+pub names_kept : (order : Endianness) (desc described : Option (List ℕ)) (ds named : List AttributeDescription) → desc ≡ described → ds ≡ named → NamedByEventDesc order desc named → NamedByEventDesc order described ds
+names_kept order desc described ds named is same names = subst (λ o. NamedByEventDesc order o ds) is (subst (NamedByEventDesc order desc) (sym same) names)
 
 -- ---- the errors of an opening
 
@@ -51,89 +51,89 @@ some_attributes (d ∷ ds) some none = cc
 
 -- EVENT_DESC isn't readable
 pub names_stop : (order : Endianness) (m : PipeMetadata) (desc : Option (List ℕ)) (e : Error) → length m.attributes.items ≢ 0 → desc ≡ feature_data_of m.sections event_desc → IsNamesError order desc e → e ≢ Memory → IsFinishError order m e
-names_stop order m None e some is refuses other = absurd (other refuses)
-names_stop order m (Some bytes) e some is refuses other = inr (inl (bytes, some_attributes m.attributes.items some, sym is, refuses other))
+names_stop order m None e some is failing other = absurd (other failing)
+names_stop order m (Some bytes) e some is failing other = inr (inl (bytes, some_attributes m.attributes.items some, sym is, failing other))
 
 -- EVENT_DESC is readable, and the attributes are inconsistent
 pub inconsistency_stops : (order : Endianness) (m : PipeMetadata) (desc : Option (List ℕ)) (named : List AttributeDescription) (e : Error) → desc ≡ feature_data_of m.sections event_desc → NamedByEventDesc order desc named → described_attributes named ≡ described_attributes m.attributes.items
     → (b : Inconsistency) × AreInconsistent (described_attributes named) b × (e ≡ error_of_inconsistency b) → IsFinishError order m e
-inconsistency_stops order m desc named e is names same (b, breaks, told) =
+inconsistency_stops order m desc named e is names same (b, breaks, described) =
     let can : (bytes : List ℕ) → feature_data_of m.sections event_desc ≡ Some bytes → IsReadableEventDesc order bytes = λ bytes there. subst (IsReadableOrAbsent order) (is ∙ there) (named_can order desc named names) in
-    inr (inr (b, can, subst (λ l. AreInconsistent l b) same breaks, told))
+    inr (inr (b, can, subst (λ l. AreInconsistent l b) same breaks, described))
 
 -- ---- after a header
 
-module _ (order : Endianness) (a b : State) (m : PipeMetadata) (head : Option (List ℕ)) where
+module _ (order : Endianness) (a b : State) (m : PipeMetadata) (header_bytes : Option (List ℕ)) where
   -- the pipe is opened
-  pub opens_after_header : (opening : PipeOpening) → (pieces : List (List ℕ)) × MetadataRead order pieces head a b × CollectsMetadata order pieces m → OpeningFinished order m head opening
+  pub opens_after_header : (opening : PipeOpening) → (pieces : List (List ℕ)) × MetadataRead order pieces header_bytes a b × CollectsMetadata order pieces m → OpeningFinished order m header_bytes opening
       → (pieces : List (List ℕ)) × MetadataRead order pieces opening.pending_header a b × HoldsPipeMetadata order pieces opening
-  opens_after_header opening (pieces, took, tells) f = (
+  opens_after_header opening (pieces, step, states) f = (
     pieces,
-    subst (λ h. MetadataRead order pieces h a b) (sym f.pending_header) took,
+    subst (λ h. MetadataRead order pieces h a b) (sym f.pending_header) step,
     record {
       endian = f.endian;
       contents = record {
-        attributes = f.attributes ∙ tells.attributes;
-        feature_data = λ n. f.sections n ∙ tells.feature_data n;
+        attributes = f.attributes ∙ states.attributes;
+        feature_data = λ n. f.sections n ∙ states.feature_data n;
         features = λ n. (
-          λ has. (tells.features n).0 (subst (λ s. HasFeature s n) f.features has),
-          λ both. subst (λ s. HasFeature s n) (sym f.features) ((tells.features n).1 both),
+          λ has. (states.features n).0 (subst (λ s. HasFeature s n) f.features has),
+          λ both. subst (λ s. HasFeature s n) (sym f.features) ((states.features n).1 both),
         );
       };
-      names_match = subst (λ d. NamedByEventDesc order d opening.attributes.items) (tells.feature_data event_desc) f.names_match;
+      names_match = subst (λ d. NamedByEventDesc order d opening.attributes.items) (states.feature_data event_desc) f.names_match;
       nonempty = f.nonempty;
       consistent = subst AreConsistent (sym f.attributes) f.consistent;
     },
   )
 
-  told_stops : (pieces : List (List ℕ)) (e : Error) → CollectsMetadata order pieces m → IsFinishError order m e → IsMetadataListError order pieces e
-  told_stops pieces e tells (inl (is, none)) = inl (is, sym tells.attributes ∙ none)
-  told_stops pieces e tells (inr (inl (bytes, some, there, unread))) = inr (inl (bytes, (λ none. some (tells.attributes ∙ none)), sym (tells.feature_data event_desc) ∙ there, unread))
-  told_stops pieces e tells (inr (inr (b, names, breaks, is))) =
-      inr (inr (b, (λ bytes there. names bytes (tells.feature_data event_desc ∙ there)), subst (λ l. AreInconsistent l b) tells.attributes breaks, is))
+  described_stops : (pieces : List (List ℕ)) (e : Error) → CollectsMetadata order pieces m → IsFinishError order m e → IsMetadataListError order pieces e
+  described_stops pieces e states (inl (is, none)) = inl (is, sym states.attributes ∙ none)
+  described_stops pieces e states (inr (inl (bytes, some, there, unread))) = inr (inl (bytes, (λ none. some (states.attributes ∙ none)), sym (states.feature_data event_desc) ∙ there, unread))
+  described_stops pieces e states (inr (inr (b, names, breaks, is))) =
+      inr (inr (b, (λ bytes there. names bytes (states.feature_data event_desc ∙ there)), subst (λ l. AreInconsistent l b) states.attributes breaks, is))
 
 -- what ended the metadata records shows that no more follow
-ended_why : (order : Endianness) (a b : State) (pieces : List (List ℕ)) (head : Option (List ℕ)) (e : Error) (t : MetadataRead order pieces head a b) → MetadataEnded order head a t.last_bytes b → IsMetadataListError order pieces e
+ended_cause : (order : Endianness) (a b : State) (pieces : List (List ℕ)) (header_bytes : Option (List ℕ)) (e : Error) (t : MetadataRead order pieces header_bytes a b) → MetadataEnded order header_bytes a t.last_bytes b → IsMetadataListError order pieces e
     → IsErrorCauseFor (IsMetadataReadError order) a (concat pieces ++ t.last_bytes) e b
-ended_why order a b pieces None e t (less, none) told =
-    inr (inl (none, record { raw_records = pieces; after_records = t.last_bytes; split = refl; elements = t.elements; cause = inr ((λ long. absurd (omega (arith, long, less))), told) }))
-ended_why order a b pieces (Some head) e t (is, eight, least, other) told = inl (λ rest.
+ended_cause order a b pieces None e t (less, none) described =
+    inr (inl (none, record { raw_records = pieces; after_records = t.last_bytes; split = refl; elements = t.elements; cause = inr ((λ long. absurd (omega (arith, long, less))), described) }))
+ended_cause order a b pieces (Some header_bytes) e t (is, eight, least, other) described = inl (λ rest.
     let long : 8 ≤ length t.last_bytes = omega (arith, ap length is, eight) in
-    let size : record_size_of order (t.last_bytes ++ rest) ≡ record_size_of order head = size_front order t.last_bytes rest long ∙ ap (record_size_of order) is in
-    let kind : record_type_of order (t.last_bytes ++ rest) ≡ record_type_of order head = record_type_front order t.last_bytes rest long ∙ ap (record_type_of order) is in
+    let size : record_size_of order (t.last_bytes ++ rest) ≡ record_size_of order header_bytes = size_first_part order t.last_bytes rest long ∙ ap (record_size_of order) is in
+    let kind : record_type_of order (t.last_bytes ++ rest) ≡ record_type_of order header_bytes = record_type_front order t.last_bytes rest long ∙ ap (record_type_of order) is in
     record {
       raw_records = pieces;
       after_records = t.last_bytes ++ rest;
       split = append_assoc (concat pieces) t.last_bytes rest;
       elements = t.elements;
-      cause = inr ((λ _. (omega (arith, size, least), λ meta. other (subst IsMetadataType kind meta))), told);
+      cause = inr ((λ _. (omega (arith, size, least), λ meta. other (subst IsMetadataType kind meta))), described);
     })
 
 -- the opening fails
-pub stops_after : (order : Endianness) (a b : State) (m : PipeMetadata) (head : Option (List ℕ)) (e : Error) → (pieces : List (List ℕ)) × MetadataRead order pieces head a b × CollectsMetadata order pieces m
+pub stops_after : (order : Endianness) (a b : State) (m : PipeMetadata) (header_bytes : Option (List ℕ)) (e : Error) → (pieces : List (List ℕ)) × MetadataRead order pieces header_bytes a b × CollectsMetadata order pieces m
     → (e ≢ Memory → IsFinishError order m e) → FailsBy (IsMetadataReadError order) a e b
-stops_after order a b m head e (pieces, took, tells) stops = record {
-  consumed_bytes = concat pieces ++ took.last_bytes;
-  consumes = took.consumes;
-  cause = λ other. ended_why order a b pieces head e took took.metadata_end (told_stops order a b m head pieces e tells (stops other));
+stops_after order a b m header_bytes e (pieces, step, states) stops = record {
+  consumed_bytes = concat pieces ++ step.last_bytes;
+  consumes = step.consumes;
+  cause = λ other. ended_cause order a b pieces header_bytes e step step.metadata_end (described_stops order a b m header_bytes pieces e states (stops other));
 }
 
 -- ---- the header
 
-front_of : (bytes rest : List ℕ) → length bytes ≡ 16 → take 8 (bytes ++ rest) ≡ take 8 bytes
-front_of bytes rest long = take-append-le 8 bytes rest (omega (arith, long))
+first_part_of : (bytes rest : List ℕ) → length bytes ≡ 16 → take 8 (bytes ++ rest) ≡ take 8 bytes
+first_part_of bytes rest long = take-append-le 8 bytes rest (omega (arith, long))
 
 -- the magic isn't that of a pipe
 pub magic_error : (a b : State) (h : PerfPipeHeader) (e : Error) (whole : Bool) → PipeHeaderWithExtraParsed a h whole b → RecognizesMagic h.magic (Err e) → FailsBy IsPipeError a e b
 magic_error a b h e whole t (is, none) =
     let magic : h.magic ≡ take 8 t.bytes = ap (λ x. x.magic) t.matches in
     shows IsPipeError a b (t.bytes ++ t.extra) e t.consumes (λ m rest.
-    let same : take 8 ((t.bytes ++ t.extra) ++ rest) ≡ take 8 t.bytes = ap (take 8) (append_assoc t.bytes t.extra rest) ∙ front_of t.bytes (t.extra ++ rest) t.exact_len in
+    let same : take 8 ((t.bytes ++ t.extra) ++ rest) ≡ take 8 t.bytes = ap (take 8) (append_assoc t.bytes t.extra rest) ∙ first_part_of t.bytes (t.extra ++ rest) t.exact_len in
     let long = t.exact_len in
     inr (inl (
       is ∙ ap (λ x. UnrecognizedMagicValue x) (magic ∙ sym same),
       omega (arith, length-append (t.bytes ++ t.extra) rest, length-append t.bytes t.extra, long),
-      λ order tells. none order (magic ∙ sym same ∙ tells),
+      λ order states. none order (magic ∙ sym same ∙ states),
     )))
 
 -- the byte order of the magic is the one by which the header size is read
@@ -147,67 +147,67 @@ first_of BigEndian (x ∷ xs) is =
     let first : x ≡ 50 = cc in
     rw first refl
 
-size_told : (order : Endianness) (bytes rest : List ℕ) (h : PerfPipeHeader) → length bytes ≡ 16 → h ≡ pipe_header_of bytes → h.magic ≡ magic_of order → number_in order 8 (drop 8 (bytes ++ rest)) ≡ h.size
-size_told order bytes rest h long is tells =
-    number_drop_front order 8 8 bytes rest (omega (arith, long))
-    ∙ sym (ap (λ o. number_in o 8 (drop 8 bytes)) (first_of order bytes (sym (ap (λ x. x.magic) is) ∙ tells)))
+size_described : (order : Endianness) (bytes rest : List ℕ) (h : PerfPipeHeader) → length bytes ≡ 16 → h ≡ pipe_header_of bytes → h.magic ≡ magic_of order → number_in order 8 (drop 8 (bytes ++ rest)) ≡ h.size
+size_described order bytes rest h long is states =
+    number_drop_prefix order 8 8 bytes rest (omega (arith, long))
+    ∙ sym (ap (λ o. number_in o 8 (drop 8 bytes)) (first_of order bytes (sym (ap (λ x. x.magic) is) ∙ states)))
     ∙ sym (ap (λ x. x.size) is)
 
 -- the header is truncated, and the pipe has no attributes
-pub front_short : (a b : State) (h : PerfPipeHeader) (order : Endianness) → PipeHeaderWithExtraParsed a h false b → RecognizesMagic h.magic (Ok order) → FailsBy IsPipeError a NoAttributes b
-front_short a b h order t tells =
+pub prefix_short : (a b : State) (h : PerfPipeHeader) (order : Endianness) → PipeHeaderWithExtraParsed a h false b → RecognizesMagic h.magic (Ok order) → FailsBy IsPipeError a NoAttributes b
+prefix_short a b h order t states =
     let long = t.exact_len in
-    let few = t.extra_complete.0 in
-    let magic : take 8 (t.bytes ++ t.extra) ≡ magic_of order = front_of t.bytes t.extra t.exact_len ∙ sym (ap (λ x. x.magic) t.matches) ∙ tells in
-    let size : number_in order 8 (drop 8 (t.bytes ++ t.extra)) ≡ h.size = size_told order t.bytes t.extra h t.exact_len t.matches tells in
+    let too_few = t.extra_complete.0 in
+    let magic : take 8 (t.bytes ++ t.extra) ≡ magic_of order = first_part_of t.bytes t.extra t.exact_len ∙ sym (ap (λ x. x.magic) t.matches) ∙ states in
+    let size : number_in order 8 (drop 8 (t.bytes ++ t.extra)) ≡ h.size = size_described order t.bytes t.extra h t.exact_len t.matches states in
     record {
       consumed_bytes = t.bytes ++ t.extra;
       consumes = t.consumes;
-      cause = λ m. inr (inl (t.extra_complete.1, inr (inr (inl (order, refl, omega (arith, length-append t.bytes t.extra, long), magic, omega (arith, length-append t.bytes t.extra, long, few, size))))));
+      cause = λ m. inr (inl (t.extra_complete.1, inr (inr (inl (order, refl, omega (arith, length-append t.bytes t.extra, long), magic, omega (arith, length-append t.bytes t.extra, long, too_few, size))))));
     }
 
 -- the whole header is read
-pub front_whole : (a b : State) (h : PerfPipeHeader) (order : Endianness) (t : PipeHeaderWithExtraParsed a h true b) → RecognizesMagic h.magic (Ok order) → IsPipeHeader order (t.bytes ++ t.extra)
-front_whole a b h order t tells =
+pub prefix_whole : (a b : State) (h : PerfPipeHeader) (order : Endianness) (t : PipeHeaderWithExtraParsed a h true b) → RecognizesMagic h.magic (Ok order) → IsPipeHeader order (t.bytes ++ t.extra)
+prefix_whole a b h order t states =
     let long = t.exact_len in
     let all = t.extra_complete in
-    let size : number_in order 8 (drop 8 (t.bytes ++ t.extra)) ≡ h.size = size_told order t.bytes t.extra h t.exact_len t.matches tells in
+    let size : number_in order 8 (drop 8 (t.bytes ++ t.extra)) ≡ h.size = size_described order t.bytes t.extra h t.exact_len t.matches states in
     record {
-      magic = front_of t.bytes t.extra t.exact_len ∙ sym (ap (λ x. x.magic) t.matches) ∙ tells;
+      magic = first_part_of t.bytes t.extra t.exact_len ∙ sym (ap (λ x. x.magic) t.matches) ∙ states;
       exact_len = omega (arith, length-append t.bytes t.extra, long, all, size);
     }
 
 -- an error after the header is an error of the pipe
 pub after_error : (a b c : State) (h : PerfPipeHeader) (order : Endianness) (e : Error) → PipeHeaderWithExtraParsed a h true b → RecognizesMagic h.magic (Ok order) → FailsBy (IsMetadataReadError order) b e c → FailsBy IsPipeError a e c
-after_error a b c h order e t tells r =
+after_error a b c h order e t states r =
     let header = t.bytes ++ t.extra in
     error_later (IsMetadataReadError order) IsPipeError a b c header e t.consumes r
-    (λ xs stops. inr (inr (inr (record { endian = order; header = header; rest = xs; split = refl; matches = front_whole a b h order t tells; metadata_error = stops }))))
+    (λ xs stops. inr (inr (inr (record { endian = order; header = header; rest = xs; split = refl; matches = prefix_whole a b h order t states; metadata_error = stops }))))
 
 -- the pipe is opened after the header
 pub pipe_opened : (a b c : State) (h : PerfPipeHeader) (order : Endianness) (opening : PipeOpening) → PipeHeaderWithExtraParsed a h true b → RecognizesMagic h.magic (Ok order)
     → (pieces : List (List ℕ)) × MetadataRead order pieces opening.pending_header b c × HoldsPipeMetadata order pieces opening → PipeOpened a opening c
-pipe_opened a b c h order opening t tells (pieces, took, holds) =
+pipe_opened a b c h order opening t states (pieces, step, holds) =
     let header = t.bytes ++ t.extra in record {
       raw_records = pieces;
       opening_read = subst (λ o. OpeningRead o pieces opening.pending_header a c) (sym holds.endian) (record {
         header = header;
-        last_bytes = took.last_bytes;
-        matches = front_whole a b h order t tells;
-        elements = took.elements;
-        consumes = consumed_more a b c header (concat pieces ++ took.last_bytes) t.consumes took.consumes;
-        metadata_end = ended_later order a b c header took.last_bytes opening.pending_header t.consumes took.metadata_end;
+        last_bytes = step.last_bytes;
+        matches = prefix_whole a b h order t states;
+        elements = step.elements;
+        consumes = consumed_more a b c header (concat pieces ++ step.last_bytes) t.consumes step.consumes;
+        metadata_end = ended_later order a b c header step.last_bytes opening.pending_header t.consumes step.metadata_end;
       });
       metadata = subst (λ o. HoldsPipeMetadata o pieces opening) (sym holds.endian) holds;
     }
 
 -- ---- the results of the last calls
 
-pub after_done : (order : Endianness) (a b : State) (m : PipeMetadata) (head : Option (List ℕ)) (r : Result PipeOpening Error) → (pieces : List (List ℕ)) × MetadataRead order pieces head a b × CollectsMetadata order pieces m
-    → FinishesOpening order m head r → OpensAfterPipeHeader order a r b
-after_done order a b m head (Ok opening) told finished = opens_after_header order a b m head opening told finished
-after_done order a b m head (Err e) told stops = stops_after order a b m head e told stops
+pub after_done : (order : Endianness) (a b : State) (m : PipeMetadata) (header_bytes : Option (List ℕ)) (r : Result PipeOpening Error) → (pieces : List (List ℕ)) × MetadataRead order pieces header_bytes a b × CollectsMetadata order pieces m
+    → FinishesOpening order m header_bytes r → OpensAfterPipeHeader order a r b
+after_done order a b m header_bytes (Ok opening) described finished = opens_after_header order a b m header_bytes opening described finished
+after_done order a b m header_bytes (Err e) described stops = stops_after order a b m header_bytes e described stops
 
 pub pipe_done : (a b c : State) (h : PerfPipeHeader) (order : Endianness) (r : Result PipeOpening Error) → PipeHeaderWithExtraParsed a h true b → RecognizesMagic h.magic (Ok order) → OpensAfterPipeHeader order b r c → OpensPerfPipe a r c
-pipe_done a b c h order (Ok opening) t tells opens = pipe_opened a b c h order opening t tells opens
-pipe_done a b c h order (Err e) t tells refused = after_error a b c h order e t tells refused
+pipe_done a b c h order (Ok opening) t states opens = pipe_opened a b c h order opening t states opens
+pipe_done a b c h order (Err e) t states fails = after_error a b c h order e t states fails

@@ -52,8 +52,8 @@ updates_same : (f g : ℕ → Option (List ℕ)) (xs : List (ℕ × List ℕ)) �
 updates_same f g [] same n = same n
 updates_same f g (x ∷ xs) same n = updates_same (update nat_eq f x.0 (Some x.1)) (update nat_eq g x.0 (Some x.1)) xs (λ q. ap (λ o. cond (nat_eq x.0 q) (Some x.1) o) (same q)) n
 
-told_one : (order : Endianness) (ps : List (List ℕ)) (p : List ℕ) (n : ℕ) → feature_data_in order (ps ++ p ∷ []) n ≡ update_all nat_eq (feature_data_in order ps) (features_in_record order None (record_type_of order p) (drop 8 p)) n
-told_one order ps p n =
+described_one : (order : Endianness) (ps : List (List ℕ)) (p : List ℕ) (n : ℕ) → feature_data_in order (ps ++ p ∷ []) n ≡ update_all nat_eq (feature_data_in order ps) (features_in_record order None (record_type_of order p) (drop 8 p)) n
+described_one order ps p n =
     ap (λ l. update_all nat_eq (λ _. None) l n) (features_one order ps p)
     ∙ ap (λ f. f n) (fold-append (λ (g : ℕ → Option (List ℕ)) (q : ℕ × List ℕ). update nat_eq g q.0 (Some q.1)) (λ _. None) (features_in_records order ps) (features_in_record order None (record_type_of order p) (drop 8 p)))
 
@@ -78,21 +78,21 @@ brought_some false f n d g (inl before) = before
 brought_some false f n d g (inr is) = absurd (let e = is.0 in cc)
 
 pub metadata_more : (order : Endianness) (ps : List (List ℕ)) (p : List ℕ) (m m' : PipeMetadata) → CollectsMetadata order ps m → RecordAdded order (record_type_of order p) (drop 8 p) m m' → CollectsMetadata order (ps ++ p ∷ []) m'
-metadata_more order ps p m m' told g =
+metadata_more order ps p m m' described g =
     let kind = record_type_of order p in
     let body = drop 8 p in
-    let more = λ (n : ℕ). told_one order ps p n in record {
-      attributes = g.attributes ∙ ap (λ l. l ++ attributes_in_record order None kind body) told.attributes ∙ sym (attributes_one order ps p);
-      feature_data = λ n. g.feature_data n ∙ updates_same (feature_data_of m.sections) (feature_data_in order ps) (features_in_record order None kind body) told.feature_data n ∙ sym (more n);
+    let more = λ (n : ℕ). described_one order ps p n in record {
+      attributes = g.attributes ∙ ap (λ l. l ++ attributes_in_record order None kind body) described.attributes ∙ sym (attributes_one order ps p);
+      feature_data = λ n. g.feature_data n ∙ updates_same (feature_data_of m.sections) (feature_data_in order ps) (features_in_record order None kind body) described.feature_data n ∙ sym (more n);
       features = λ n. (
         λ has. elim ((g.features n).0 has) [
           | inl before ↦ (
-              let both = (told.features n).0 before in
+              let both = (described.features n).0 before in
               (both.0, subst IsSome (sym (more n)) (brought_some (kind == 80) (feature_in_body order body) n (drop 8 body) (feature_data_in order ps) (inl both.1))))
           | inr put ↦ (put.0, subst IsSome (sym (more n)) (brought_some (kind == 80) (feature_in_body order body) n (drop 8 body) (feature_data_in order ps) (inr (eq-eqb kind 80 put.1.0, eq-eqb (feature_in_body order body) n put.1.1))))
         ],
         λ both. (g.features n).1 (elim (is_brought (kind == 80) (feature_in_body order body) n (drop 8 body) (feature_data_in order ps) (subst IsSome (more n) both.1)) [
-          | inl before ↦ inl ((told.features n).1 (both.0, before))
+          | inl before ↦ inl ((described.features n).1 (both.0, before))
           | inr is ↦ inr (both.0, (eqb-true kind 80 is.0, eqb-true (feature_in_body order body) n is.1))
         ]),
       );

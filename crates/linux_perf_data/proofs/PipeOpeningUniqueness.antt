@@ -9,13 +9,13 @@ use Rattle.std.proofs.lemmas.List.Elements.{All-head, All-tail}
 use Rattle.perfdata_base.specs.Endian.{number_in}
 use Rattle.perfdata_base.specs.declared.raw.Endianness.{Endianness}
 use Rattle.perfdata_base.specs.declared.raw.Endianness.TheVariants.{LittleEndian, BigEndian}
-use Rattle.perfdata_base.proofs.Numbers.{number_drop_front}
+use Rattle.perfdata_base.proofs.Numbers.{number_drop_prefix}
 use Rattle.perfdata_sections.specs.declared.error.Error.{Error}
 use Rattle.linux_perf_data.specs.LateMetadata.{IsMetadataType, IsMetadataError}
 use Rattle.linux_perf_data.specs.Layout.{attributes_in_records, record_type_of}
 use Rattle.linux_perf_data.specs.FileOpening.{magic_of}
 use Rattle.linux_perf_data.specs.PipeOpening.{IsPipeHeader, IsMetadataRecord, AreMetadata, EndsMetadata, IsMetadataRecordError, IsMetadataListError, IsMetadataReadError, IsPipeError, CanOpenPipe}
-use Rattle.linux_perf_data.proofs.RecordHeaders.{record_type_front, size_front, size_in_total_size, record_least, same_front}
+use Rattle.linux_perf_data.proofs.RecordHeaders.{record_type_front, size_first_part, size_in_total_size, record_least, same_prefix}
 use Rattle.linux_perf_data.proofs.EventDescNames.{error_or_readable}
 use Rattle.linux_perf_data.proofs.ConsistencyLemmas.{consistent_not_inconsistent}
 use Rattle.linux_perf_data.proofs.RecordsOrErrors.{truncated_or_complete}
@@ -28,44 +28,44 @@ module _ (order : Endianness) where
       let least = record_least order p is.is_record in
       (ends (omega (arith, least, length-append p after))).1 (subst IsMetadataType (sym (record_type_front order p after least)) is.record_type)
 
-  spoils_none : (p : List ℕ) (e : Error) → IsMetadataRecord order p → IsMetadataError order (record_type_of order p) (drop 8 p) e → ⊥
-  spoils_none p e is (inl (short, inl (kind, cut))) = truncated_or_complete order (drop 8 p) cut (is.valid_attribute kind)
-  spoils_none p e is (inl (short, inr (kind, few))) = let long = is.valid_feature kind in omega (arith, few, long)
-  spoils_none p e is (inr (invalid, kind, small)) = let least = (is.valid_attribute kind).min_size in let below = small.1 in omega (arith, least, below)
+  invalidates_none : (p : List ℕ) (e : Error) → IsMetadataRecord order p → IsMetadataError order (record_type_of order p) (drop 8 p) e → ⊥
+  invalidates_none p e is (inl (short, inl (kind, cut))) = truncated_or_complete order (drop 8 p) cut (is.valid_attribute kind)
+  invalidates_none p e is (inl (short, inr (kind, too_few))) = let long = is.valid_feature kind in omega (arith, too_few, long)
+  invalidates_none p e is (inr (invalid, kind, small)) = let least = (is.valid_attribute kind).min_size in let below = small.1 in omega (arith, least, below)
 
-  spoils_metadata : (kind : ℕ) (body : List ℕ) (e : Error) → IsMetadataError order kind body e → IsMetadataType kind
-  spoils_metadata kind body e (inl (short, inl (is, cut))) = inl is
-  spoils_metadata kind body e (inl (short, inr (is, few))) = inr is
-  spoils_metadata kind body e (inr (invalid, is, small)) = inl is
+  invalidates_metadata : (kind : ℕ) (body : List ℕ) (e : Error) → IsMetadataError order kind body e → IsMetadataType kind
+  invalidates_metadata kind body e (inl (short, inl (is, cut))) = inl is
+  invalidates_metadata kind body e (inl (short, inr (is, too_few))) = inr is
+  invalidates_metadata kind body e (inr (invalid, is, small)) = inl is
 
   -- a metadata record has no error
   record_stands : (offset : ℕ) (p after : List ℕ) (e : Error) → IsMetadataRecord order p → offset + length p < 2 ^ 64 → IsMetadataRecordError order offset (p ++ after) e → ⊥
-  record_stands offset p after e is fits (inl (error, head, small)) =
-      let size = size_front order p after (record_least order p is.is_record) in
+  record_stands offset p after e is fits (inl (error, header_bytes, small)) =
+      let size = size_first_part order p after (record_least order p is.is_record) in
       let least = is.is_record.min_size in
       omega (arith, size, least, small)
-  record_stands offset p after e is fits (inr (inl (error, kind, head, least, far))) =
-      let size = size_front order p after (record_least order p is.is_record) in
+  record_stands offset p after e is fits (inr (inl (error, kind, header_bytes, least, far))) =
+      let size = size_first_part order p after (record_least order p is.is_record) in
       let long = is.is_record.exact_len in
       omega (arith, size, far, fits, long, size_in_total_size order p)
-  record_stands offset p after e is fits (inr (inr (inl (error, kind, head, cut)))) =
-      let size = size_front order p after (record_least order p is.is_record) in
+  record_stands offset p after e is fits (inr (inr (inl (error, kind, header_bytes, cut)))) =
+      let size = size_first_part order p after (record_least order p is.is_record) in
       let long = is.is_record.exact_len in
       omega (arith, size, cut, long, size_in_total_size order p, length-append p after)
-  record_stands offset p after e is fits (inr (inr (inr (q, fronts, spoils)))) =
-      let same = (same_front order q p fronts.after_record after fronts.is_record is.is_record (sym fronts.split)).0 in
-      spoils_none p e is (subst (λ r. IsMetadataError order (record_type_of order r) (drop 8 r) e) same spoils)
+  record_stands offset p after e is fits (inr (inr (inr (q, fronts, invalidates)))) =
+      let same = (same_prefix order q p fronts.after_record after fronts.is_record is.is_record (sym fronts.split)).0 in
+      invalidates_none p e is (subst (λ r. IsMetadataError order (record_type_of order r) (drop 8 r) e) same invalidates)
 
   -- the end of the metadata records has no error
-  pub end_stands : (offset : ℕ) (behind : List ℕ) (e : Error) → EndsMetadata order behind → IsMetadataRecordError order offset behind e → ⊥
-  end_stands offset behind e ends (inl (error, head, small)) = let least = (ends head).0 in omega (arith, least, small)
-  end_stands offset behind e ends (inr (inl (error, kind, head, least, far))) = (ends head).1 kind
-  end_stands offset behind e ends (inr (inr (inl (error, kind, head, cut)))) = (ends head.complete_header).1 kind
-  end_stands offset behind e ends (inr (inr (inr (q, fronts, spoils)))) =
+  pub end_stands : (offset : ℕ) (suffix : List ℕ) (e : Error) → EndsMetadata order suffix → IsMetadataRecordError order offset suffix e → ⊥
+  end_stands offset suffix e ends (inl (error, header_bytes, small)) = let least = (ends header_bytes).0 in omega (arith, least, small)
+  end_stands offset suffix e ends (inr (inl (error, kind, header_bytes, least, far))) = (ends header_bytes).1 kind
+  end_stands offset suffix e ends (inr (inr (inl (error, kind, header_bytes, cut)))) = (ends header_bytes.complete_header).1 kind
+  end_stands offset suffix e ends (inr (inr (inr (q, fronts, invalidates)))) =
       let least = record_least order q fronts.is_record in
       let whole = ap length fronts.split in
-      let kind : record_type_of order behind ≡ record_type_of order q = ap (record_type_of order) fronts.split ∙ record_type_front order q fronts.after_record least in
-      (ends (omega (arith, least, whole, length-append q fronts.after_record))).1 (subst IsMetadataType (sym kind) (spoils_metadata (record_type_of order q) (drop 8 q) e spoils))
+      let kind : record_type_of order suffix ≡ record_type_of order q = ap (record_type_of order) fronts.split ∙ record_type_front order q fronts.after_record least in
+      (ends (omega (arith, least, whole, length-append q fronts.after_record))).1 (subst IsMetadataType (sym kind) (invalidates_metadata (record_type_of order q) (drop 8 q) e invalidates))
 
   -- ---- two runs of metadata records
 
@@ -79,31 +79,31 @@ module _ (order : Endianness) where
 
   -- Two runs and their rests are equal, or a metadata record follows the second run.
   abbrev Same : ℕ → List (List ℕ) → List (List ℕ) → List ℕ → List ℕ → Type 0
-  Same offset ps qs behind later = ((ps ≡ qs) × (behind ≡ later)) ⊎ Next (offset + length (concat qs)) later
+  Same offset ps qs suffix later = ((ps ≡ qs) × (suffix ≡ later)) ⊎ Next (offset + length (concat qs)) later
 
-  runs_agree : (offset : ℕ) (ps qs : List (List ℕ)) (behind later : List ℕ) → All (IsMetadataRecord order) ps → All (IsMetadataRecord order) qs → EndsMetadata order behind → offset + length (concat ps) < 2 ^ 64
-      → concat ps ++ behind ≡ concat qs ++ later → Same offset ps qs behind later
-  runs_agree offset [] [] behind later x y ends fits same = inl (refl, same)
-  runs_agree offset [] (q ∷ qs) behind later x y ends fits same =
-      let whole : behind ≡ q ++ (concat qs ++ later) = same ∙ append_assoc q (concat qs) later in
+  runs_agree : (offset : ℕ) (ps qs : List (List ℕ)) (suffix later : List ℕ) → All (IsMetadataRecord order) ps → All (IsMetadataRecord order) qs → EndsMetadata order suffix → offset + length (concat ps) < 2 ^ 64
+      → concat ps ++ suffix ≡ concat qs ++ later → Same offset ps qs suffix later
+  runs_agree offset [] [] suffix later x y ends fits same = inl (refl, same)
+  runs_agree offset [] (q ∷ qs) suffix later x y ends fits same =
+      let whole : suffix ≡ q ++ (concat qs ++ later) = same ∙ append_assoc q (concat qs) later in
       absurd (metadata_goes_on q (concat qs ++ later) (All-head (IsMetadataRecord order) q qs y) (subst (EndsMetadata order) whole ends))
-  runs_agree offset (p ∷ ps) [] behind later x y ends fits same =
+  runs_agree offset (p ∷ ps) [] suffix later x y ends fits same =
       inr (record {
         first = p;
-        after = concat ps ++ behind;
-        cut = sym same ∙ append_assoc p (concat ps) behind;
+        after = concat ps ++ suffix;
+        cut = sym same ∙ append_assoc p (concat ps) suffix;
         is = All-head (IsMetadataRecord order) p ps x;
         fits = omega (arith, fits, length-append p (concat ps));
       })
-  runs_agree offset (p ∷ ps) (q ∷ qs) behind later x y ends fits same =
+  runs_agree offset (p ∷ ps) (q ∷ qs) suffix later x y ends fits same =
       let is = All-head (IsMetadataRecord order) p ps x in
       let is' = All-head (IsMetadataRecord order) q qs y in
-      let whole : p ++ (concat ps ++ behind) ≡ q ++ (concat qs ++ later) = sym (append_assoc p (concat ps) behind) ∙ same ∙ append_assoc q (concat qs) later in
-      let here = same_front order p q (concat ps ++ behind) (concat qs ++ later) is.is_record is'.is_record whole in
-      let near : offset + length p + length (concat ps) < 2 ^ 64 = omega (arith, fits, length-append p (concat ps)) in
+      let whole : p ++ (concat ps ++ suffix) ≡ q ++ (concat qs ++ later) = sym (append_assoc p (concat ps) suffix) ∙ same ∙ append_assoc q (concat qs) later in
+      let here = same_prefix order p q (concat ps ++ suffix) (concat qs ++ later) is.is_record is'.is_record whole in
+      let end_fits_u64 : offset + length p + length (concat ps) < 2 ^ 64 = omega (arith, fits, length-append p (concat ps)) in
       let long : length p ≡ length q = ap length here.0 in
       let sum : offset + length p + length (concat qs) ≡ offset + length (q ++ concat qs) = omega (arith, long, length-append q (concat qs)) in
-      elim (runs_agree (offset + length p) ps qs behind later (All-tail (IsMetadataRecord order) p ps x) (All-tail (IsMetadataRecord order) q qs y) ends near here.1) [
+      elim (runs_agree (offset + length p) ps qs suffix later (All-tail (IsMetadataRecord order) p ps x) (All-tail (IsMetadataRecord order) q qs y) ends end_fits_u64 here.1) [
         | inl both ↦ inl (ap (λ l. l ∷ ps) here.0 ∙ ap (λ l. q ∷ l) both.0, both.1)
         | inr next ↦ inr (subst (λ o. Next o later) sum next)
       ]
@@ -114,34 +114,34 @@ module _ (order : Endianness) where
   pub next_stands : (offset : ℕ) (rest : List ℕ) (e : Error) → Next offset rest → IsMetadataRecordError order offset rest e → ⊥
   next_stands offset rest e next stops = record_stands offset next.first next.after e next.is next.fits (subst (λ l. IsMetadataRecordError order offset l e) next.cut stops)
 
-  pub pipe_opening_is_unique : (ps qs : List (List ℕ)) (behind later : List ℕ) → AreMetadata order ps → AreMetadata order qs → EndsMetadata order behind → EndsMetadata order later → concat ps ++ behind ≡ concat qs ++ later → (ps ≡ qs) × (behind ≡ later)
-  pipe_opening_is_unique ps qs behind later x y ends ends' same =
+  pub pipe_opening_is_unique : (ps qs : List (List ℕ)) (suffix later : List ℕ) → AreMetadata order ps → AreMetadata order qs → EndsMetadata order suffix → EndsMetadata order later → concat ps ++ suffix ≡ concat qs ++ later → (ps ≡ qs) × (suffix ≡ later)
+  pipe_opening_is_unique ps qs suffix later x y ends ends' same =
       let fits = x.size_fits in
-      elim (runs_agree 0 ps qs behind later x.elements y.elements ends (omega (arith, fits)) same) [
+      elim (runs_agree 0 ps qs suffix later x.elements y.elements ends (omega (arith, fits)) same) [
         | inl both ↦ both
         | inr next ↦ absurd (next_goes_on (0 + length (concat qs)) later next ends')
       ]
 
   -- metadata that can open a pipe has no error
-  told_stands : (ps : List (List ℕ)) (e : Error) → CanOpenPipe order ps → IsMetadataListError order ps e → ⊥
-  told_stands ps e opens (inl (error, none)) = opens.nonempty none
-  told_stands ps e opens (inr (inl (bytes, some, told, refused))) = error_or_readable order e bytes refused (opens.event_desc_readable bytes told)
-  told_stands ps e opens (inr (inr (b, told, breaks, error))) = consistent_not_inconsistent (attributes_in_records order None ps) b opens.consistent breaks
+  described_stands : (ps : List (List ℕ)) (e : Error) → CanOpenPipe order ps → IsMetadataListError order ps e → ⊥
+  described_stands ps e opens (inl (error, none)) = opens.nonempty none
+  described_stands ps e opens (inr (inl (bytes, some, described, fails))) = error_or_readable order e bytes fails (opens.event_desc_readable bytes described)
+  described_stands ps e opens (inr (inr (b, described, breaks, error))) = consistent_not_inconsistent (attributes_in_records order None ps) b opens.consistent breaks
 
-  metadata_stands : (ps : List (List ℕ)) (behind : List ℕ) (e : Error) → AreMetadata order ps → EndsMetadata order behind → CanOpenPipe order ps → IsMetadataReadError order (concat ps ++ behind) e → ⊥
-  metadata_stands ps behind e are ends opens stops =
+  metadata_stands : (ps : List (List ℕ)) (suffix : List ℕ) (e : Error) → AreMetadata order ps → EndsMetadata order suffix → CanOpenPipe order ps → IsMetadataReadError order (concat ps ++ suffix) e → ⊥
+  metadata_stands ps suffix e are ends opens stops =
       let fits = are.size_fits in
-      elim (runs_agree 0 ps stops.raw_records behind stops.after_records are.elements stops.elements.elements ends (omega (arith, fits)) stops.split) as (λ _. ⊥) [
+      elim (runs_agree 0 ps stops.raw_records suffix stops.after_records are.elements stops.elements.elements ends (omega (arith, fits)) stops.split) as (λ _. ⊥) [
         | inl both ↦ elim stops.cause as (λ _. ⊥) [
           | inl here ↦ end_stands (length (concat stops.raw_records)) stops.after_records e (subst (EndsMetadata order) both.1 ends) here
-          | inr told ↦ told_stands stops.raw_records e (subst (CanOpenPipe order) both.0 opens) told.1
+          | inr described ↦ described_stands stops.raw_records e (subst (CanOpenPipe order) both.0 opens) described.1
         ]
         | inr next ↦
             let z : 0 + length (concat stops.raw_records) ≡ length (concat stops.raw_records) = omega arith in
-            let near = subst (λ o. Next o stops.after_records) z next in
+            let end_fits_u64 = subst (λ o. Next o stops.after_records) z next in
             elim stops.cause as (λ _. ⊥) [
-              | inl here ↦ next_stands (length (concat stops.raw_records)) stops.after_records e near here
-              | inr told ↦ next_goes_on (length (concat stops.raw_records)) stops.after_records near told.0
+              | inl here ↦ next_stands (length (concat stops.raw_records)) stops.after_records e end_fits_u64 here
+              | inr described ↦ next_goes_on (length (concat stops.raw_records)) stops.after_records end_fits_u64 described.0
             ]
       ]
 
@@ -164,7 +164,7 @@ pub header_magic : (order : Endianness) (header rest : List ℕ) → IsPipeHeade
 header_magic order header rest is = take-append-le 8 header rest (omega (arith, header_long order header is)) ∙ is.magic
 
 pub header_size : (order : Endianness) (header rest : List ℕ) → IsPipeHeader order header → number_in order 8 (drop 8 (header ++ rest)) ≡ number_in order 8 (drop 8 header)
-header_size order header rest is = number_drop_front order 8 8 header rest (header_long order header is)
+header_size order header rest is = number_drop_prefix order 8 8 header rest (header_long order header is)
 
 pub same_split : (a b c d : List ℕ) → length a ≡ length c → a ++ b ≡ c ++ d → (a ≡ c) × (b ≡ d)
 same_split a b c d long same = (
@@ -173,23 +173,23 @@ same_split a b c d long same = (
 )
 
 -- bytes that open a pipe have no error
-pub described_pipe_opens : (order : Endianness) (header : List ℕ) (ps : List (List ℕ)) (behind : List ℕ) (e : Error) → IsPipeHeader order header → AreMetadata order ps → EndsMetadata order behind → CanOpenPipe order ps
-    → IsPipeError (header ++ (concat ps ++ behind)) e → ⊥
-described_pipe_opens order header ps behind e is are ends opens (inl (short, few)) =
-    omega (arith, few, header_long order header is, length-append header (concat ps ++ behind))
-described_pipe_opens order header ps behind e is are ends opens (inr (inl (error, long, unknown))) = unknown order (header_magic order header (concat ps ++ behind) is)
-described_pipe_opens order header ps behind e is are ends opens (inr (inr (inl (other, error, long, magic, cut)))) =
-    let same : other ≡ order = same_order other order (sym magic ∙ header_magic order header (concat ps ++ behind) is) in
-    let few : length (header ++ (concat ps ++ behind)) < number_in order 8 (drop 8 (header ++ (concat ps ++ behind))) = subst (λ o. length (header ++ (concat ps ++ behind)) < number_in o 8 (drop 8 (header ++ (concat ps ++ behind)))) same cut in
-    let says = header_size order header (concat ps ++ behind) is in
+pub described_pipe_opens : (order : Endianness) (header : List ℕ) (ps : List (List ℕ)) (suffix : List ℕ) (e : Error) → IsPipeHeader order header → AreMetadata order ps → EndsMetadata order suffix → CanOpenPipe order ps
+    → IsPipeError (header ++ (concat ps ++ suffix)) e → ⊥
+described_pipe_opens order header ps suffix e is are ends opens (inl (short, too_few)) =
+    omega (arith, too_few, header_long order header is, length-append header (concat ps ++ suffix))
+described_pipe_opens order header ps suffix e is are ends opens (inr (inl (error, long, unknown))) = unknown order (header_magic order header (concat ps ++ suffix) is)
+described_pipe_opens order header ps suffix e is are ends opens (inr (inr (inl (other, error, long, magic, cut)))) =
+    let same : other ≡ order = same_order other order (sym magic ∙ header_magic order header (concat ps ++ suffix) is) in
+    let too_few : length (header ++ (concat ps ++ suffix)) < number_in order 8 (drop 8 (header ++ (concat ps ++ suffix))) = subst (λ o. length (header ++ (concat ps ++ suffix)) < number_in o 8 (drop 8 (header ++ (concat ps ++ suffix)))) same cut in
+    let says = header_size order header (concat ps ++ suffix) is in
     let all = is.exact_len in
-    omega (arith, few, says, all, length-append header (concat ps ++ behind))
-described_pipe_opens order header ps behind e is are ends opens (inr (inr (inr stops))) =
-    let same : stops.endian ≡ order = same_order stops.endian order (sym (header_magic stops.endian stops.header stops.rest stops.matches) ∙ ap (take 8) (sym stops.split) ∙ header_magic order header (concat ps ++ behind) is) in
+    omega (arith, too_few, says, all, length-append header (concat ps ++ suffix))
+described_pipe_opens order header ps suffix e is are ends opens (inr (inr (inr stops))) =
+    let same : stops.endian ≡ order = same_order stops.endian order (sym (header_magic stops.endian stops.header stops.rest stops.matches) ∙ ap (take 8) (sym stops.split) ∙ header_magic order header (concat ps ++ suffix) is) in
     let other : IsPipeHeader order stops.header = subst (λ o. IsPipeHeader o stops.header) same stops.matches in
     let size : number_in order 8 (drop 8 header) ≡ number_in order 8 (drop 8 stops.header) =
-    sym (header_size order header (concat ps ++ behind) is) ∙ ap (λ l. number_in order 8 (drop 8 l)) stops.split ∙ header_size order stops.header stops.rest other in
+    sym (header_size order header (concat ps ++ suffix) is) ∙ ap (λ l. number_in order 8 (drop 8 l)) stops.split ∙ header_size order stops.header stops.rest other in
     let long : length header ≡ length stops.header = is.exact_len ∙ ap (λ n. 16 + (n - 16)) size ∙ sym other.exact_len in
-    let cut = same_split header (concat ps ++ behind) stops.header stops.rest long stops.split in
+    let cut = same_split header (concat ps ++ suffix) stops.header stops.rest long stops.split in
     let met = subst (λ l. IsMetadataReadError order l e) (sym cut.1) (subst (λ o. IsMetadataReadError o stops.rest e) same stops.metadata_error) in
-    metadata_stands order ps behind e are ends opens met
+    metadata_stands order ps suffix e are ends opens met

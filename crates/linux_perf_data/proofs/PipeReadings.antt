@@ -28,7 +28,7 @@ use Rattle.linux_perf_data.specs.RecordFraming.{IsErrorFor}
 use Rattle.linux_perf_data.specs.PipeOpening.{AreMetadata, CanOpenPipe, EndsMetadata, IsPipeError, feature_data_in}
 use Rattle.linux_perf_data.specs.PipeReading.{HoldsForPipeRest, BeginsPipe, HoldsAllMetadata, IsCompletePipe, HoldsForPipe, OpensWith, ReadingPipeToEnd, ReadingPipeToError, ReadingPipePartly}
 use Rattle.linux_perf_data.specs.Reading.{AreFirstRemaining, AreFirstRecords, EndsWithError, ReturnsRecords, HasMatchingFile, HasNotFailed, SourceErrorInSomeRecord, end_after}
-use Rattle.linux_perf_data.proofs.RecordHeaders.{record_type_front, size_front}
+use Rattle.linux_perf_data.proofs.RecordHeaders.{record_type_front, size_first_part}
 use Rattle.linux_perf_data.proofs.IterCalls.{none_left, read_so_far_whole}
 use Rattle.linux_perf_data.proofs.LayoutSteps.{nothing_more}
 use Rattle.linux_perf_data.proofs.LayoutUniqueness.{layout_exists}
@@ -48,7 +48,7 @@ holds_after_prefix o unread opening_prefix P Q is each p = go unread refl p
 ends_at_header : (order : Endianness) (header_bytes more : List ℕ) → length header_bytes ≡ 8 → 8 ≤ record_size_of order header_bytes → ¬ IsMetadataType (record_type_of order header_bytes) → EndsMetadata order (header_bytes ++ more)
 ends_at_header order header_bytes more long least other = λ there.
     let header_long : 8 ≤ length header_bytes = omega (arith, long) in (
-      subst (λ n. 8 ≤ n) (sym (size_front order header_bytes more header_long)) least,
+      subst (λ n. 8 ≤ n) (sym (size_first_part order header_bytes more header_long)) least,
       λ metadata. other (subst IsMetadataType (record_type_front order header_bytes more header_long) metadata),
     )
 
@@ -237,12 +237,12 @@ module _ {R : Type 0} (state : R → State) (old : State) (file : PerfFile) (it 
     pub whole_none : unread ≡ Some [] → IfSome old.bytes (IsCompletePipe it.endian o.raw_records [])
     whole_none is =
         let split : old.bytes ≡ Some (opening_prefix ++ e.last_bytes) = all_bytes_are ∙ ap (prepend (opening_prefix ++ e.last_bytes)) is ∙ ap Some (append-nil (opening_prefix ++ e.last_bytes)) in
-        let few = e.too_few in
+        let fewer = e.too_few in
         subst (λ x. IfSome x (IsCompletePipe it.endian o.raw_records [])) (sym split) (
           e.last_bytes,
           begins e.last_bytes,
-          (λ long. absurd (omega (arith, few, long))),
-          nothing_more it.endian e.last_bytes None 0 0 (attributes_in_records it.endian None o.raw_records) (omega arith) opening_consistent (λ long. absurd (omega (arith, few, long))),
+          (λ long. absurd (omega (arith, fewer, long))),
+          nothing_more it.endian e.last_bytes None 0 0 (attributes_in_records it.endian None o.raw_records) (omega arith) opening_consistent (λ long. absurd (omega (arith, fewer, long))),
         )
 
 -- without a pending header the view of a pipe's source is the source itself
@@ -351,14 +351,14 @@ module _ {R : Type 0} (state : R → State) where
         let unread_is : (state new.source).bytes ≡ (state it.source).bytes = ap (λ s. (state s).bytes) (idle.source ∙ ap (λ i. i.source) none.1) in
         let metadata = holds_all state old file it o records file' (subst (AccumulatesMetadata it.endian (section_size_of state it) records file) (sym ended.file_unchanged) (holds_of state it now file now_file records all)) in
         elim (none_left (state it.source).bytes) [
-          | inl gave_all ↦ inl (record {
+          | inl consumed_all ↦ inl (record {
             raw_records = o.raw_records;
-            all_records = subst (λ b. IfSome b (IsCompletePipe it.endian o.raw_records records)) bytes_are (subst (λ rs. IfSome old.bytes (IsCompletePipe it.endian o.raw_records rs)) (sym none.0) (whole_none state old file it o e gave_all));
+            all_records = subst (λ b. IfSome b (IsCompletePipe it.endian o.raw_records records)) bytes_are (subst (λ rs. IfSome old.bytes (IsCompletePipe it.endian o.raw_records rs)) (sym none.0) (whole_none state old file it o e consumed_all));
             all_metadata = metadata;
-            remaining = unread_is ∙ gave_all;
+            remaining = unread_is ∙ consumed_all;
           })
           | inr some ↦
-              let paused : SourcePaused old (state it.source) = elim (none_or_paused old (state it.source) e.ended_or_paused) [ inl gave_all ↦ absurd (some gave_all) | inr paused ↦ paused ] in
+              let paused : SourcePaused old (state it.source) = elim (none_or_paused old (state it.source) e.ended_or_paused) [ inl consumed_all ↦ absurd (some consumed_all) | inr paused ↦ paused ] in
               inr (
                 record {
                   raw_records = o.raw_records;

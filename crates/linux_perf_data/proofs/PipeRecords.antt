@@ -15,7 +15,7 @@ use Rattle.linux_perf_data.specs.PipeOpening.{FailsBy, IsMetadataRecordError}
 use Rattle.linux_perf_data.specs.PipeSteps.{RecordAdded, NextRecordRead}
 use Rattle.linux_perf_data.specs.RecordFraming.{BytesRead, ChecksBodySize, ChecksRecordEnd}
 use Rattle.linux_perf_data.specs.declared.pipe.opening.PipeMetadata.{PipeMetadata}
-use Rattle.linux_perf_data.proofs.RecordHeaders.{record_type_front, size_front, total_size_plain}
+use Rattle.linux_perf_data.proofs.RecordHeaders.{record_type_front, size_first_part, total_size_plain}
 use Rattle.linux_perf_data.proofs.RecordReads.{after_header}
 use Rattle.linux_perf_data.proofs.PipeErrors.{IsContentsError, error_later, shows}
 
@@ -35,7 +35,7 @@ module _ (order : Endianness) (bytes : List ℕ) (header : PerfEventHeader) (is 
   kind_with x = record_type_front order bytes x (omega (arith, eight)) ∙ sym (ap (λ h. h.type_) is)
 
   size_with : (x : List ℕ) → record_size_of order (bytes ++ x) ≡ header.size
-  size_with x = size_front order bytes x (omega (arith, eight)) ∙ sym (ap (λ h. h.size) is)
+  size_with x = size_first_part order bytes x (omega (arith, eight)) ∙ sym (ap (λ h. h.size) is)
 
   -- the size in the record header is too small
   pub size_small : (a b : State) (offset : ℕ) (e : Error) → Consumed a bytes b → ChecksBodySize header.size (Err e) → FailsBy (IsMetadataRecordError order offset) a e b
@@ -61,27 +61,27 @@ module _ (order : Endianness) (bytes : List ℕ) (header : PerfEventHeader) (is 
 
     -- an error after a record header is an error of the record
     pub contents_stop : (offset : ℕ) (e : Error) (xs : List ℕ) → IsContentsError order offset header xs e → IsMetadataRecordError order offset (bytes ++ xs) e
-    contents_stop offset e xs (inl (why, far)) =
+    contents_stop offset e xs (inl (cause, far)) =
         let size = size_with xs in
-        inr (inl (why, meta_with xs, omega (arith, length-append bytes xs, eight), omega (arith, size, least), omega (arith, size, far)))
-    contents_stop offset e xs (inr (inl (short, near, few))) =
+        inr (inl (cause, meta_with xs, omega (arith, length-append bytes xs, eight), omega (arith, size, least), omega (arith, size, far)))
+    contents_stop offset e xs (inr (inl (short, end_fits_u64, too_few))) =
         let size = size_with xs in
         inr (inr (inl (
           short,
           meta_with xs,
-          record { complete_header = omega (arith, length-append bytes xs, eight); min_size = omega (arith, size, least); end_fits = omega (arith, size, near) },
-          omega (arith, length-append bytes xs, eight, size, few, least),
+          record { complete_header = omega (arith, length-append bytes xs, eight); min_size = omega (arith, size, least); end_fits = omega (arith, size, end_fits_u64) },
+          omega (arith, length-append bytes xs, eight, size, too_few, least),
         )))
-    contents_stop offset e xs (inr (inr (near, (body, rest, cut, long, spoils)))) =
+    contents_stop offset e xs (inr (inr (end_fits_u64, (body, rest, cut, long, invalidates)))) =
         inr (inr (inr (
           bytes ++ body,
           record {
             is_record = is_whole body long;
             after_record = rest;
             split = ap (λ l. bytes ++ l) cut ∙ sym (append_assoc bytes body rest);
-            end_fits = omega (arith, length-append bytes body, eight, long, least, near);
+            end_fits = omega (arith, length-append bytes body, eight, long, least, end_fits_u64);
           },
-          subst (λ k. IsMetadataError order k (drop 8 (bytes ++ body)) e) (sym (kind_with body)) (subst (λ l. IsMetadataError order header.type_ l e) (sym (after_header bytes body eight)) spoils),
+          subst (λ k. IsMetadataError order k (drop 8 (bytes ++ body)) e) (sym (kind_with body)) (subst (λ l. IsMetadataError order header.type_ l e) (sym (after_header bytes body eight)) invalidates),
         )))
 
     pub record_error : (a b c : State) (offset : ℕ) (e : Error) → Consumed a bytes b → FailsBy (IsContentsError order offset header) b e c → FailsBy (IsMetadataRecordError order offset) a e c

@@ -24,81 +24,81 @@ prepend_append a b None = refl
 prepend_append a b (Some xs) = ap Some (append_assoc a b xs)
 
 -- The bytes consumed before a pending header, in the view of a reader that keeps the header.
-gave_before : (old new : State) (front head : List ℕ) → Consumed old (front ++ head) new → Consumed (without_position old) front (with_leading_bytes head new)
-gave_before old new front head g = record {
-  bytes = g.bytes ∙ prepend_append front head new.bytes;
+consumed_before : (old new : State) (first_part record_header : List ℕ) → Consumed old (first_part ++ record_header) new → Consumed (without_position old) first_part (with_leading_bytes record_header new)
+consumed_before old new first_part record_header g = record {
+  bytes = g.bytes ∙ prepend_append first_part record_header new.bytes;
   position = refl;
   errors = g.errors;
   pauses = g.pauses;
   steady = λ h. let s = g.steady h in record { steady = s.steady; errors = s.errors; pauses = s.pauses };
 }
 
-gave_head : (s : State) (head : List ℕ) → Consumed (with_leading_bytes head s) head (without_position s)
-gave_head s head = record { bytes = refl; position = refl; errors = omega arith; pauses = omega arith; steady = λ h. record { steady = h; errors = refl; pauses = refl } }
+consumed_header : (s : State) (record_header : List ℕ) → Consumed (with_leading_bytes record_header s) record_header (without_position s)
+consumed_header s record_header = record { bytes = refl; position = refl; errors = omega arith; pauses = omega arith; steady = λ h. record { steady = h; errors = refl; pauses = refl } }
 
 module _ {R : Type 0} (state : R → State) (source : R) (opening : PipeOpening) (r : PerfFileReader R) (starts : PipeReaderBuilt state source opening r) where
   holds : (pieces : List (List ℕ)) → HoldsPipeMetadata opening.endian pieces opening → HoldsMetadata opening.endian pieces r.perf_file
-  holds pieces told = record {
+  holds pieces described = record {
     file_endian = starts.file_endian;
     contents = record {
-      attributes = ap described_attributes starts.attributes ∙ told.contents.attributes;
-      feature_data = λ n. starts.sections n ∙ told.contents.feature_data n;
-      features = λ n. subst (λ f. HasFeature f n ↔ ((n < 256) × IsSome (feature_data_in opening.endian pieces n))) (sym starts.features) (told.contents.features n);
+      attributes = ap described_attributes starts.attributes ∙ described.contents.attributes;
+      feature_data = λ n. starts.sections n ∙ described.contents.feature_data n;
+      features = λ n. subst (λ f. HasFeature f n ↔ ((n < 256) × IsSome (feature_data_in opening.endian pieces n))) (sym starts.features) (described.contents.features n);
     };
-    names_match = subst (λ d. NamedByEventDesc opening.endian d (descriptions_of_file r.perf_file)) (sym (starts.sections event_desc ∙ told.contents.feature_data event_desc))
-        (subst (λ ds. NamedByEventDesc opening.endian (feature_data_in opening.endian pieces event_desc) ds) (sym starts.attributes) told.names_match);
+    names_match = subst (λ d. NamedByEventDesc opening.endian d (descriptions_of_file r.perf_file)) (sym (starts.sections event_desc ∙ described.contents.feature_data event_desc))
+        (subst (λ ds. NamedByEventDesc opening.endian (feature_data_in opening.endian pieces event_desc) ds) (sym starts.attributes) described.names_match);
   }
 
-  at_source : (old : State) (front : List ℕ) → Consumed old front (state source) → Consumed old front (state r.record_iter.source)
-  at_source old front g = subst (λ s. Consumed old front (state s)) (sym starts.same_source) g
+  at_source : (old : State) (first_part : List ℕ) → Consumed old first_part (state source) → Consumed old first_part (state r.record_iter.source)
+  at_source old first_part g = subst (λ s. Consumed old first_part (state s)) (sym starts.same_source) g
 
-  keeps : (old : State) (front last head : List ℕ) → opening.pending_header ≡ Some head → Consumed old (front ++ last) (state source) → MetadataEnded opening.endian (Some head) old last (state source)
-      → StageAfterOpening state (Some head) r.record_iter → KeepsPendingHeader state old front r.record_iter
-  keeps old front last head is gave ended runs =
+  keeps : (old : State) (first_part last record_header : List ℕ) → opening.pending_header ≡ Some record_header → Consumed old (first_part ++ last) (state source) → MetadataEnded opening.endian (Some record_header) old last (state source)
+      → StageAfterOpening state (Some record_header) r.record_iter → KeepsPendingHeader state old first_part r.record_iter
+  keeps old first_part last record_header is consumption ended runs =
       let same = ended.0 in
-      let taken : Consumed old (front ++ head) (state source) = subst (λ l. Consumed old (front ++ l) (state source)) same gave in
+      let consumed_all : Consumed old (first_part ++ record_header) (state source) = subst (λ l. Consumed old (first_part ++ l) (state source)) same consumption in
       let input = starts.input ∙ ap Pipe is in record {
         stage_running = runs;
-        header_bytes = head;
+        header_bytes = record_header;
         exact_len = ended.1;
-        min_size = subst (λ o. 8 ≤ record_size_of o head) (sym starts.same_endian) ended.2;
-        not_metadata = λ metadata. ended.3 (subst (λ o. IsMetadataType (record_type_of o head)) starts.same_endian metadata);
-        consumes_all = at_source old (front ++ head) taken;
-        consumes = subst (λ i. Consumed (without_position old) front (input_source_state i (state r.record_iter.source))) (sym input)
-            (subst (λ s. Consumed (without_position old) front (with_leading_bytes head (state s))) (sym starts.same_source) (gave_before old (state source) front head taken));
-        consumes_header = subst (λ i. Consumed (input_source_state i (state r.record_iter.source)) head (without_position (state r.record_iter.source))) (sym input) (gave_head (state r.record_iter.source) head);
+        min_size = subst (λ o. 8 ≤ record_size_of o record_header) (sym starts.same_endian) ended.2;
+        not_metadata = λ metadata. ended.3 (subst (λ o. IsMetadataType (record_type_of o record_header)) starts.same_endian metadata);
+        consumes_all = at_source old (first_part ++ record_header) consumed_all;
+        consumes = subst (λ i. Consumed (without_position old) first_part (input_source_state i (state r.record_iter.source))) (sym input)
+            (subst (λ s. Consumed (without_position old) first_part (with_leading_bytes record_header (state s))) (sym starts.same_source) (consumed_before old (state source) first_part record_header consumed_all));
+        consumes_header = subst (λ i. Consumed (input_source_state i (state r.record_iter.source)) record_header (without_position (state r.record_iter.source))) (sym input) (consumed_header (state r.record_iter.source) record_header);
       }
 
-  ends : (old : State) (front last : List ℕ) → Consumed old (front ++ last) (state source) → MetadataEnded opening.endian None old last (state source) → StageAfterOpening state None r.record_iter → EndsInOpening state old front r.record_iter
-  ends old front last gave ended stage = record {
+  ends : (old : State) (first_part last : List ℕ) → Consumed old (first_part ++ last) (state source) → MetadataEnded opening.endian None old last (state source) → StageAfterOpening state None r.record_iter → EndsInOpening state old first_part r.record_iter
+  ends old first_part last consumption ended stage = record {
     stage_ended = stage;
     last_bytes = last;
     too_few = ended.0;
-    consumes_all = at_source old (front ++ last) gave;
+    consumes_all = at_source old (first_part ++ last) consumption;
     ended_or_paused = subst (λ s. EndedOrPaused old (state s)) (sym starts.same_source) ended.1;
   }
 
-  stands : (old : State) (front last : List ℕ) → Consumed old (front ++ last) (state source) → (head : Option (List ℕ)) → opening.pending_header ≡ head → MetadataEnded opening.endian head old last (state source)
-      → StageAfterOpening state head r.record_iter → KeepsPendingHeader state old front r.record_iter ⊎ EndsInOpening state old front r.record_iter
-  stands old front last gave None is ended stage = inr (ends old front last gave ended stage)
-  stands old front last gave (Some head) is ended stage = inl (keeps old front last head is gave ended stage)
+  stands : (old : State) (first_part last : List ℕ) → Consumed old (first_part ++ last) (state source) → (record_header : Option (List ℕ)) → opening.pending_header ≡ record_header → MetadataEnded opening.endian record_header old last (state source)
+      → StageAfterOpening state record_header r.record_iter → KeepsPendingHeader state old first_part r.record_iter ⊎ EndsInOpening state old first_part r.record_iter
+  stands old first_part last consumption None is ended stage = inr (ends old first_part last consumption ended stage)
+  stands old first_part last consumption (Some record_header) is ended stage = inl (keeps old first_part last record_header is consumption ended stage)
 
   pub builds_pipe_reader : (old : State) → PipeOpened old opening (state source) → PipeParsed state old r.perf_file r.record_iter
   builds_pipe_reader old o =
-      let took = o.opening_read in record {
+      let step = o.opening_read in record {
         offset = starts.offset;
         round = starts.round;
         section_size = ap section_size_in starts.input;
         same_endian = starts.same_endian ∙ sym starts.file_endian;
         represents = subst (λ e. Represents e r.record_iter.attribute_lookup (described_attributes (descriptions_of_file r.perf_file))) (sym starts.same_endian)
             (subst (λ ds. Represents opening.endian r.record_iter.attribute_lookup (described_attributes ds)) (sym starts.attributes) starts.represents);
-        header = took.header;
+        header = step.header;
         raw_records = o.raw_records;
-        matches = subst (λ e. IsPipeHeader e took.header) (sym starts.same_endian) took.matches;
-        elements = subst (λ e. AreMetadata e o.raw_records) (sym starts.same_endian) took.elements;
+        matches = subst (λ e. IsPipeHeader e step.header) (sym starts.same_endian) step.matches;
+        elements = subst (λ e. AreMetadata e o.raw_records) (sym starts.same_endian) step.elements;
         metadata = subst (λ e. HoldsMetadata e o.raw_records r.perf_file) (sym starts.same_endian) (holds o.raw_records o.metadata);
-        end_of_opening = stands old (took.header ++ concat o.raw_records) took.last_bytes (subst (λ b. Consumed old b (state source)) (sym (append_assoc took.header (concat o.raw_records) took.last_bytes)) took.consumes)
-            opening.pending_header refl took.metadata_end starts.stage;
+        end_of_opening = stands old (step.header ++ concat o.raw_records) step.last_bytes (subst (λ b. Consumed old b (state source)) (sym (append_assoc step.header (concat o.raw_records) step.last_bytes)) step.consumes)
+            opening.pending_header refl step.metadata_end starts.stage;
       }
 
 -- the pipe is opened, or memory runs out for the iterator's attribute lookup

@@ -34,28 +34,28 @@ use Rattle.linux_perf_data.specs.IterSteps.{SameButLookup, RecordProcessed, Reco
 use Rattle.linux_perf_data.proofs.RecordHeaders.{total_size_plain}
 
 -- an EVENT_DESC that is applied is readable
-named_told : (order : Endianness) (told : Option (List ℕ)) (bytes : List ℕ) (file : PerfFile) → told ≡ Some bytes → NamedByEventDesc order told (descriptions_of_file file) → IsReadableEventDesc order bytes
-named_told order told bytes file is named = let n : NamedByEventDesc order (Some bytes) (descriptions_of_file file) = subst (λ o. NamedByEventDesc order o (descriptions_of_file file)) is named in (events_in n.0, n.1)
+named_described : (order : Endianness) (described : Option (List ℕ)) (bytes : List ℕ) (file : PerfFile) → described ≡ Some bytes → NamedByEventDesc order described (descriptions_of_file file) → IsReadableEventDesc order bytes
+named_described order described bytes file is named = let n : NamedByEventDesc order (Some bytes) (descriptions_of_file file) = subst (λ o. NamedByEventDesc order o (descriptions_of_file file)) is named in (events_in n.0, n.1)
 
-names_told : (order : Endianness) (kind : ℕ) (body : List ℕ) (file file' : PerfFile) → UpdatesPerfFile order None kind body file file' → kind ≡ 80 → feature_in_body order body ≡ event_desc → IsReadableEventDesc order (drop 8 body)
-names_told order kind body file file' took is desc =
-    let brings : List (ℕ × List ℕ) = (feature_in_body order body, drop 8 body) ∷ [] in
+names_described : (order : Endianness) (kind : ℕ) (body : List ℕ) (file file' : PerfFile) → UpdatesPerfFile order None kind body file file' → kind ≡ 80 → feature_in_body order body ≡ event_desc → IsReadableEventDesc order (drop 8 body)
+names_described order kind body file file' step is desc =
+    let adds : List (ℕ × List ℕ) = (feature_in_body order body, drop 8 body) ∷ [] in
     let there : feature_data_in_file file' event_desc ≡ Some (drop 8 body) =
-    took.feature_data event_desc ∙ ap (λ l. update_all nat_eq (feature_data_in_file file) l event_desc) (cond-true (kind == 80) brings [] (eq-eqb kind 80 is))
+    step.feature_data event_desc ∙ ap (λ l. update_all nat_eq (feature_data_in_file file) l event_desc) (cond-true (kind == 80) adds [] (eq-eqb kind 80 is))
     ∙ ap (λ n. update_all nat_eq (feature_data_in_file file) ((n, drop 8 body) ∷ []) event_desc) desc in
-    named_told order (feature_data_in_file file' event_desc) (drop 8 body) file' there (took.names_match (inr (is, desc)))
+    named_described order (feature_data_in_file file' event_desc) (drop 8 body) file' there (step.names_match (inr (is, desc)))
 
 -- a record whose metadata is applied is a valid raw record
 pub consumed_record : (order : Endianness) (bound : SectionSize) (kind : ℕ) (p body : List ℕ) (file file' : PerfFile) → IsRecord order p → record_type_of order p ≡ kind → body ≡ drop 8 p → (bound ≡ None → kind ≡ 64 → HoldsAttribute order body)
     → (bound ≡ None → kind ≡ 80 → 8 ≤ length body) → UpdatesPerfFile order bound kind body file file' → IsValidRecord order bound p
-consumed_record order bound kind p body file file' is kind_is held attribute feature took = record {
+consumed_record order bound kind p body file file' is kind_is buffered attribute feature step = record {
   is_record = is;
-  valid_attribute = λ pipe k. subst (HoldsAttribute order) held (attribute pipe (sym kind_is ∙ k));
-  valid_feature = λ pipe k. (let long = feature pipe (sym kind_is ∙ k) in let same = ap length held in omega (arith, long, same));
+  valid_attribute = λ pipe k. subst (HoldsAttribute order) buffered (attribute pipe (sym kind_is ∙ k));
+  valid_feature = λ pipe k. (let long = feature pipe (sym kind_is ∙ k) in let same = ap length buffered in omega (arith, long, same));
   valid_event_desc = λ pipe k desc.
-      let took' : UpdatesPerfFile order None kind body file file' = subst (λ b. UpdatesPerfFile order b kind body file file') pipe took in
-      let told : IsReadableEventDesc order (drop 8 body) = names_told order kind body file file' took' (sym kind_is ∙ k) (ap (feature_in_body order) held ∙ desc) in
-      subst (IsReadableEventDesc order) (ap (drop 8) held ∙ drop-drop 8 8 p) told;
+      let step' : UpdatesPerfFile order None kind body file file' = subst (λ b. UpdatesPerfFile order b kind body file file') pipe step in
+      let described : IsReadableEventDesc order (drop 8 body) = names_described order kind body file file' step' (sym kind_is ∙ k) (ap (feature_in_body order) buffered ∙ desc) in
+      subst (IsReadableEventDesc order) (ap (drop 8) buffered ∙ drop-drop 8 8 p) described;
 }
 
 -- a marker is a valid raw record
@@ -89,19 +89,19 @@ fronts order offset p rest is fits = record { is_record = is; after_record = res
 
 -- an EVENT_DESC with an error isn't readable
 unread : (order : Endianness) (e : Error) (bytes : List ℕ) → IsEventDescError (number_in order) e bytes → ¬ IsReadableEventDesc order bytes
-unread order e bytes stops told = event_desc_or_error (number_in order) (in_reads_first order) e bytes told.0 stops told.1
+unread order e bytes stops described = event_desc_or_error (number_in order) (in_reads_first order) e bytes described.0 stops described.1
 
-pub late_why : (order : Endianness) (known : AttributeLookup) (file : PerfFile) (offset : ℕ) (p : List ℕ) (e : Error) → IsRecord order p → offset + length p < 2 ^ 64 → RejectsMetadata order known file (record_type_of order p) (drop 8 p) e
+pub late_cause : (order : Endianness) (known : AttributeLookup) (file : PerfFile) (offset : ℕ) (p : List ℕ) (e : Error) → IsRecord order p → offset + length p < 2 ^ 64 → RejectsMetadata order known file (record_type_of order p) (drop 8 p) e
     → LateFault order known file offset p e ⊎ Foreign order known file p e
-late_why order known file offset p e is fits (inl differ) = inr (inl differ)
-late_why order known file offset p e is fits (inr (count, inl (inl (short, inl (kind, cuts))))) =
+late_cause order known file offset p e is fits (inl differ) = inr (inl differ)
+late_cause order known file offset p e is fits (inr (count, inl (inl (short, inl (kind, cuts))))) =
     inl (invalid_metadata truncated_metadata, (λ rest attrs k. (refl, (p, fronts order offset p rest is fits, inl (kind, cuts)))), (λ _. (count, λ b other. absurd cc)), short)
-late_why order known file offset p e is fits (inr (count, inl (inl (short, inr (kind, few))))) =
-    inl (invalid_metadata truncated_metadata, (λ rest attrs k. (refl, (p, fronts order offset p rest is fits, inr (kind, few)))), (λ _. (count, λ b other. absurd cc)), short)
-late_why order known file offset p e is fits (inr (count, inl (inr (invalid, kind, small)))) =
+late_cause order known file offset p e is fits (inr (count, inl (inl (short, inr (kind, too_few))))) =
+    inl (invalid_metadata truncated_metadata, (λ rest attrs k. (refl, (p, fronts order offset p rest is fits, inr (kind, too_few)))), (λ _. (count, λ b other. absurd cc)), short)
+late_cause order known file offset p e is fits (inr (count, inl (inr (invalid, kind, small)))) =
     inl (invalid_metadata attr_size_too_small, (λ rest attrs k. (refl, (p, fronts order offset p rest is fits, (kind, small)))), (λ _. (count, λ b other. absurd cc)), invalid)
-late_why order known file offset p e is fits (inr (count, inr (inl (bytes, inl (kind, holds, there), stops)))) = inr (inr (count, kind, holds, (bytes, there, stops)))
-late_why order known file offset p e is fits (inr (count, inr (inl (bytes, inr (kind, there, desc, are), stops)))) =
+late_cause order known file offset p e is fits (inr (count, inr (inl (bytes, inl (kind, holds, there), stops)))) = inr (inr (count, kind, holds, (bytes, there, stops)))
+late_cause order known file offset p e is fits (inr (count, inr (inl (bytes, inr (kind, there, desc, are), stops)))) =
     inl (
       invalid_event_desc order bytes,
       (λ rest attrs k. (
@@ -116,7 +116,7 @@ late_why order known file offset p e is fits (inr (count, inr (inl (bytes, inr (
       (λ _. (count, λ b other. absurd cc)),
       stops,
     )
-late_why order known file offset p e is fits (inr (count, inr (inr (b, kind, holds, can, answer, breaks)))) =
+late_cause order known file offset p e is fits (inr (count, inr (inr (b, kind, holds, can, answer, breaks)))) =
     inl (inconsistent_attributes b, (λ rest attrs k. (refl, (p, fronts order offset p rest is fits, attribute_piece order p is kind holds, breaks attrs k))), (λ _. (count, λ _ _. can)), answer)
 
 -- a body with valid metadata has at least eight bytes and is neither that of an auxtrace record nor that of a marker
@@ -125,8 +125,8 @@ contents_there order kind body (inl (is, holds)) = (holds.has_fixed_part, λ k. 
 contents_there order kind body (inr (is, there)) = (there, λ k. absurd (omega (arith, k, is)), λ k. absurd (omega (arith, k, is)))
 
 -- a record with valid metadata has a body, which may need memory
-pub wants_memory : (order : Endianness) (kind : ℕ) (p : List ℕ) → IsRecord order p → record_type_of order p ≡ kind → HasValidMetadata order kind (drop 8 p) → MayNeedMemory order p
-wants_memory order kind p is same contents =
+pub needs_memory : (order : Endianness) (kind : ℕ) (p : List ℕ) → IsRecord order p → record_type_of order p ≡ kind → HasValidMetadata order kind (drop 8 p) → MayNeedMemory order p
+needs_memory order kind p is same contents =
     let there = contents_there order kind (drop 8 p) contents in
     let long = is.exact_len ∙ total_size_plain order p (λ k. there.1 (sym same ∙ k)) in
     let left = length-drop 8 p in
@@ -151,9 +151,9 @@ same_order k k' (Kernel i) order same = ap (λ x. (parse_info_at x i).endian) (s
 same_order k k' (User t) order same = refl
 
 -- an identified record is the same after metadata is applied
-finds_later : (old known new : AttributeLookup) (offset round : ℕ) (head : PerfEventHeader) (body : List ℕ) (found : RecordInfo) → (head.type_ < 64 → new ≡ known) → IdentifiesRecord old offset round head body found known → IdentifiesRecord old offset round head body found new
-finds_later old known new offset round head body found stays finds =
-    let same = λ (i : ℕ) (is : found.writer ≡ Kernel i). stays (finds.kernel_type i is) in
+finds_later : (old known new : AttributeLookup) (offset round : ℕ) (header : PerfEventHeader) (body : List ℕ) (found : RecordInfo) → (header.type_ < 64 → new ≡ known) → IdentifiesRecord old offset round header body found known → IdentifiesRecord old offset round header body found new
+finds_later old known new offset round header body found remains finds =
+    let same = λ (i : ℕ) (is : found.writer ≡ Kernel i). remains (finds.kernel_type i is) in
     let with' : Endianness → Option EventRef → List ℕ → RecordView = λ o e b. record { offset = found.place.offset; round = found.place.round; record_type = record_type_by_writer found.writer found.record_type.0; misc = found.misc; endian = o; body = b; event = e; timestamp = found.place.timestamp } in
     record {
       offset_matches = finds.offset_matches;
@@ -166,21 +166,21 @@ finds_later old known new offset round head body found stays finds =
 
 module _ {R : Type 0} (state : R → State) where
   -- a record of a pipe is processed
-  pub record_processed : (old new : PerfRecordIter R) (file file' : PerfFile) (offset round : ℕ) (head : PerfEventHeader) (found : RecordInfo) (known : AttributeLookup) (body : List ℕ) → body ≡ old.body.items → section_size_of state old ≡ None
-      → IdentifiesRecord old.attribute_lookup offset round head body found known → KeepsAttributes old.attribute_lookup known → MetadataApplied old.endian known file head.type_ body new.attribute_lookup file' → ((¬ IsMetadataType head.type_) → (new.attribute_lookup ≡ known) × (file' ≡ file)) → SameButLookup state old new → new.stage ≡ old.stage
-      → RecordProcessed state old file offset round head found new file'
-  record_processed old new file file' offset round head found known body is pipe finds learns took others after running =
-      let took' : MetadataApplied old.endian known file head.type_ old.body.items new.attribute_lookup file' = subst (λ b. MetadataApplied old.endian known file head.type_ b new.attribute_lookup file') is took in
+  pub record_processed : (old new : PerfRecordIter R) (file file' : PerfFile) (offset round : ℕ) (header : PerfEventHeader) (found : RecordInfo) (known : AttributeLookup) (body : List ℕ) → body ≡ old.body.items → section_size_of state old ≡ None
+      → IdentifiesRecord old.attribute_lookup offset round header body found known → KeepsAttributes old.attribute_lookup known → MetadataApplied old.endian known file header.type_ body new.attribute_lookup file' → ((¬ IsMetadataType header.type_) → (new.attribute_lookup ≡ known) × (file' ≡ file)) → SameButLookup state old new → new.stage ≡ old.stage
+      → RecordProcessed state old file offset round header found new file'
+  record_processed old new file file' offset round header found known body is pipe finds learns step others after running =
+      let step' : MetadataApplied old.endian known file header.type_ old.body.items new.attribute_lookup file' = subst (λ b. MetadataApplied old.endian known file header.type_ b new.attribute_lookup file') is step in
       record {
         same_but_lookup = after;
         stage = running;
-        record_identified = subst (λ b. IdentifiesRecord old.attribute_lookup offset round head b found new.attribute_lookup) is (finds_later old.attribute_lookup known new.attribute_lookup offset round head body found (λ kernel. (others (plain_kernel head.type_ kernel)).0) finds);
-        represents = λ attrs k. subst (λ b. Represents old.endian new.attribute_lookup (attrs ++ attributes_in_record old.endian b head.type_ old.body.items)) (sym pipe) (took'.represents attrs (learns old.endian attrs k));
-        valid_attribute = λ _ kind. took'.valid_attribute kind;
-        valid_feature = λ _ kind. took'.valid_feature kind;
-        same_attribute_count = λ _ metadata attrs k. took'.same_attribute_count metadata attrs (learns old.endian attrs k);
-        file_updates = subst (λ b. UpdatesPerfFile old.endian b head.type_ old.body.items file file') (sym pipe) took'.file_updates;
-        file_unchanged_otherwise = λ why. elim why [ inl file ↦ absurd (file pipe) | inr isnt ↦ (others isnt).1 ];
+        record_identified = subst (λ b. IdentifiesRecord old.attribute_lookup offset round header b found new.attribute_lookup) is (finds_later old.attribute_lookup known new.attribute_lookup offset round header body found (λ kernel. (others (plain_kernel header.type_ kernel)).0) finds);
+        represents = λ attrs k. subst (λ b. Represents old.endian new.attribute_lookup (attrs ++ attributes_in_record old.endian b header.type_ old.body.items)) (sym pipe) (step'.represents attrs (learns old.endian attrs k));
+        valid_attribute = λ _ kind. step'.valid_attribute kind;
+        valid_feature = λ _ kind. step'.valid_feature kind;
+        same_attribute_count = λ _ metadata attrs k. step'.same_attribute_count metadata attrs (learns old.endian attrs k);
+        file_updates = subst (λ b. UpdatesPerfFile old.endian b header.type_ old.body.items file file') (sym pipe) step'.file_updates;
+        file_unchanged_otherwise = λ cause_of. elim cause_of [ inl file ↦ absurd (file pipe) | inr isnt ↦ (others isnt).1 ];
       }
 
   -- a count that doesn't match the new lookup didn't match the old one
@@ -189,19 +189,19 @@ module _ {R : Type 0} (state : R → State) where
 
   learned_not : (order : Endianness) (known known' : AttributeLookup) (file : PerfFile) (kind : ℕ) (body : List ℕ) (e : Error) → KeepsAttributes known known' → RejectsMetadata order known' file kind body e → RejectsMetadata order known file kind body e
   learned_not order known known' file kind body e learns (inl (is, differ)) = inl (is, λ attrs k. differ attrs (learns order attrs k))
-  learned_not order known known' file kind body e learns (inr (count, inl spoils)) = inr (learned_count order known known' file learns count, inl spoils)
+  learned_not order known known' file kind body e learns (inr (count, inl invalidates)) = inr (learned_count order known known' file learns count, inl invalidates)
   learned_not order known known' file kind body e learns (inr (count, inr (inl names))) = inr (learned_count order known known' file learns count, inr (inl names))
   learned_not order known known' file kind body e learns (inr (count, inr (inr (b, is, holds, can, answer, breaks)))) =
       inr (learned_count order known known' file learns count, inr (inr (b, is, holds, can, answer, λ attrs k. breaks attrs (learns order attrs k))))
 
-  pub record_rejected : (old new : PerfRecordIter R) (file file' : PerfFile) (head : PerfEventHeader) (e : Error) (known : AttributeLookup) (body : List ℕ) → body ≡ old.body.items → section_size_of state old ≡ None → KeepsAttributes old.attribute_lookup known
-      → MetadataRejected old.endian known file head.type_ body e file' → SameButLookup state old new → RecordRejected state old file head e new file'
-  record_rejected old new file file' head e known body is pipe learns declined after = record {
+  pub record_rejected : (old new : PerfRecordIter R) (file file' : PerfFile) (header : PerfEventHeader) (e : Error) (known : AttributeLookup) (body : List ℕ) → body ≡ old.body.items → section_size_of state old ≡ None → KeepsAttributes old.attribute_lookup known
+      → MetadataRejected old.endian known file header.type_ body e file' → SameButLookup state old new → RecordRejected state old file header e new file'
+  record_rejected old new file file' header e known body is pipe learns declined after = record {
     same_but_lookup = after;
     in_pipe = pipe;
     metadata_type = declined.metadata_type;
     same_file = declined.same_file;
     not_failed = declined.not_failed;
-    if_out_of_memory = λ m. (learned_count old.endian old.attribute_lookup known file learns (declined.if_out_of_memory m).0, subst (HasValidMetadata old.endian head.type_) is (declined.if_out_of_memory m).1);
-    cause = λ other. subst (λ b. RejectsMetadata old.endian old.attribute_lookup file head.type_ b e) is (learned_not old.endian old.attribute_lookup known file head.type_ body e learns (declined.cause other));
+    if_out_of_memory = λ m. (learned_count old.endian old.attribute_lookup known file learns (declined.if_out_of_memory m).0, subst (HasValidMetadata old.endian header.type_) is (declined.if_out_of_memory m).1);
+    cause = λ other. subst (λ b. RejectsMetadata old.endian old.attribute_lookup file header.type_ b e) is (learned_not old.endian old.attribute_lookup known file header.type_ body e learns (declined.cause other));
   }

@@ -3,21 +3,21 @@ use Rattle.std.proofs.Common.{◌≡◌, ◌≢◌, ◌==◌, ℕ, ◌+◌, ◌�
 use Rattle.std.proofs.Math.Seq.{drop-append_seam, take-append_seam}
 use Rattle.std.proofs.lemmas.Bool.{cases_eq, cond-true, cond-false, eq-eqb, ne_eqb}
 use Rattle.perfdata_base.specs.declared.raw.Endianness.{Endianness}
-use Rattle.perfdata_base.proofs.Numbers.{number_front, number_drop_front}
+use Rattle.perfdata_base.proofs.Numbers.{number_prefix, number_drop_prefix}
 use Rattle.linux_perf_data.specs.Layout.{IsRecord, record_type_of, misc_of, record_size_of, aux_size_of, total_size_of}
 
 -- bytes after the record header don't change its fields
 pub record_type_front : (order : Endianness) (p r : List ℕ) → 8 ≤ length p → record_type_of order (p ++ r) ≡ record_type_of order p
-record_type_front order p r long = number_front order 4 p r (omega (arith, long))
+record_type_front order p r long = number_prefix order 4 p r (omega (arith, long))
 
-pub misc_front : (order : Endianness) (p r : List ℕ) → 8 ≤ length p → misc_of order (p ++ r) ≡ misc_of order p
-misc_front order p r long = number_drop_front order 2 4 p r (omega (arith, long))
+pub misc_prefix : (order : Endianness) (p r : List ℕ) → 8 ≤ length p → misc_of order (p ++ r) ≡ misc_of order p
+misc_prefix order p r long = number_drop_prefix order 2 4 p r (omega (arith, long))
 
-pub size_front : (order : Endianness) (p r : List ℕ) → 8 ≤ length p → record_size_of order (p ++ r) ≡ record_size_of order p
-size_front order p r long = number_drop_front order 2 6 p r (omega (arith, long))
+pub size_first_part : (order : Endianness) (p r : List ℕ) → 8 ≤ length p → record_size_of order (p ++ r) ≡ record_size_of order p
+size_first_part order p r long = number_drop_prefix order 2 6 p r (omega (arith, long))
 
 pub aux_size_front : (order : Endianness) (p r : List ℕ) → 16 ≤ length p → aux_size_of order (p ++ r) ≡ aux_size_of order p
-aux_size_front order p r long = number_drop_front order 8 8 p r (omega (arith, long))
+aux_size_front order p r long = number_drop_prefix order 8 8 p r (omega (arith, long))
 
 -- the total size, by record type
 pub total_size_auxtrace : (order : Endianness) (p : List ℕ) → record_type_of order p ≡ 71 → total_size_of order p ≡ record_size_of order p + aux_size_of order p
@@ -37,13 +37,13 @@ total_size_front order p r long longer = elim (cases_eq (record_type_of order p)
   | inl is ↦
       let left = total_size_auxtrace order (p ++ r) (record_type_front order p r long ∙ is) in
       let right = total_size_auxtrace order p is in
-      let size = size_front order p r long in
-      let trace = aux_size_front order p r (longer is) in
-      omega (arith, left, right, size, trace)
+      let size = size_first_part order p r long in
+      let aux = aux_size_front order p r (longer is) in
+      omega (arith, left, right, size, aux)
   | inr isnt ↦
       let left = total_size_plain order (p ++ r) (λ e. isnt (sym (record_type_front order p r long) ∙ e)) in
       let right = total_size_plain order p isnt in
-      let size = size_front order p r long in
+      let size = size_first_part order p r long in
       omega (arith, left, right, size)
 ]
 
@@ -58,8 +58,8 @@ pub record_length : (order : Endianness) (p r : List ℕ) → IsRecord order p �
 record_length order p r is = total_size_front order p r (record_least order p is) (λ traced. omega (arith, record_aux_size order p is traced)) ∙ sym is.exact_len
 
 -- no record is a proper prefix of another
-pub same_front : (order : Endianness) (p q a b : List ℕ) → IsRecord order p → IsRecord order q → p ++ a ≡ q ++ b → (p ≡ q) × (a ≡ b)
-same_front order p q a b is is' e =
+pub same_prefix : (order : Endianness) (p q a b : List ℕ) → IsRecord order p → IsRecord order q → p ++ a ≡ q ++ b → (p ≡ q) × (a ≡ b)
+same_prefix order p q a b is is' e =
     let long : length p ≡ length q = sym (record_length order p a is) ∙ ap (total_size_of order) e ∙ record_length order q b is' in (
       sym (take-append_seam p a) ∙ ap (take (length p)) e ∙ ap (λ n. take n (q ++ b)) long ∙ take-append_seam q b,
       sym (drop-append_seam p a) ∙ ap (drop (length p)) e ∙ ap (λ n. drop n (q ++ b)) long ∙ drop-append_seam q b,

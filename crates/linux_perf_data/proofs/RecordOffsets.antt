@@ -48,55 +48,55 @@ views_rise order bound offset round attrs (p ∷ ps) are =
 -- The records returned for raw records that follow others. Their offsets and rounds count the earlier ones.
 
 abbrev Tail : Endianness → SectionSize → ℕ → ℕ → List Attribute → List (List ℕ) → List (List ℕ) → List RecordView
-Tail order bound offset round attrs front back = record_views order bound (offset + length (concat front)) (round + marker_count order front) (attrs ++ attributes_in_records order bound front) back
+Tail order bound offset round attrs first_part back = record_views order bound (offset + length (concat first_part)) (round + marker_count order first_part) (attrs ++ attributes_in_records order bound first_part) back
 
 -- the same with one more earlier raw record
-tail_more : (order : Endianness) (bound : SectionSize) (offset round : ℕ) (attrs : List Attribute) (p : List ℕ) (front back : List (List ℕ)) (round' : ℕ) → round' ≡ round + (if record_type_of order p == 68 then 1 else 0)
-    → Tail order bound (offset + length p) round' (attrs ++ attributes_in_record order bound (record_type_of order p) (drop 8 p)) front back ≡ Tail order bound offset round attrs (p ∷ front) back
-tail_more order bound offset round attrs p front back round' turn =
-    let brings = attributes_in_record order bound (record_type_of order p) (drop 8 p) in
-    let sum : offset + length p + length (concat front) ≡ offset + length (p ++ concat front) = omega (arith, length-append p (concat front)) in
-    let count : marker_count order (p ∷ front) ≡ (if record_type_of order p == 68 then 1 else 0) + marker_count order front = sum_by-cons (λ q. if record_type_of order q == 68 then 1 else 0) p front in
-    let turns : round' + marker_count order front ≡ round + marker_count order (p ∷ front) = omega (arith, turn, count) in
-    ap (λ o. record_views order bound o (round' + marker_count order front) ((attrs ++ brings) ++ attributes_in_records order bound front) back) sum
-    ∙ ap (λ r. record_views order bound (offset + length (p ++ concat front)) r ((attrs ++ brings) ++ attributes_in_records order bound front) back) turns
-    ∙ ap (λ a. record_views order bound (offset + length (p ++ concat front)) (round + marker_count order (p ∷ front)) a back) (append_assoc attrs brings (attributes_in_records order bound front))
+tail_more : (order : Endianness) (bound : SectionSize) (offset round : ℕ) (attrs : List Attribute) (p : List ℕ) (first_part back : List (List ℕ)) (round' : ℕ) → round' ≡ round + (if record_type_of order p == 68 then 1 else 0)
+    → Tail order bound (offset + length p) round' (attrs ++ attributes_in_record order bound (record_type_of order p) (drop 8 p)) first_part back ≡ Tail order bound offset round attrs (p ∷ first_part) back
+tail_more order bound offset round attrs p first_part back round' turn =
+    let adds = attributes_in_record order bound (record_type_of order p) (drop 8 p) in
+    let sum : offset + length p + length (concat first_part) ≡ offset + length (p ++ concat first_part) = omega (arith, length-append p (concat first_part)) in
+    let count : marker_count order (p ∷ first_part) ≡ (if record_type_of order p == 68 then 1 else 0) + marker_count order first_part = sum_by-cons (λ q. if record_type_of order q == 68 then 1 else 0) p first_part in
+    let turns : round' + marker_count order first_part ≡ round + marker_count order (p ∷ first_part) = omega (arith, turn, count) in
+    ap (λ o. record_views order bound o (round' + marker_count order first_part) ((attrs ++ adds) ++ attributes_in_records order bound first_part) back) sum
+    ∙ ap (λ r. record_views order bound (offset + length (p ++ concat first_part)) r ((attrs ++ adds) ++ attributes_in_records order bound first_part) back) turns
+    ∙ ap (λ a. record_views order bound (offset + length (p ++ concat first_part)) (round + marker_count order (p ∷ first_part)) a back) (append_assoc attrs adds (attributes_in_records order bound first_part))
 
-joined : (b : Bool) (round : ℕ) (h : RecordView) (both front : ℕ → List RecordView) (back back' later : List RecordView) → both (round + 1) ≡ front (round + 1) ++ back → both round ≡ front round ++ back'
+joined : (b : Bool) (round : ℕ) (h : RecordView) (both first_part : ℕ → List RecordView) (back back' later : List RecordView) → both (round + 1) ≡ first_part (round + 1) ++ back → both round ≡ first_part round ++ back'
     → (b ≡ true → back ≡ later) → (b ≡ false → back' ≡ later)
-    → (if b then both (round + 1) else h ∷ both round) ≡ (if b then front (round + 1) else h ∷ front round) ++ later
-joined true round h both front back back' later is is' same same' = is ∙ ap (λ l. front (round + 1) ++ l) (same refl)
-joined false round h both front back back' later is is' same same' = ap (λ l. h ∷ l) (is' ∙ ap (λ l. front round ++ l) (same' refl))
+    → (if b then both (round + 1) else h ∷ both round) ≡ (if b then first_part (round + 1) else h ∷ first_part round) ++ later
+joined true round h both first_part back back' later is is' same same' = is ∙ ap (λ l. first_part (round + 1) ++ l) (same refl)
+joined false round h both first_part back back' later is is' same same' = ap (λ l. h ∷ l) (is' ∙ ap (λ l. first_part round ++ l) (same' refl))
 
-pub views_append : (order : Endianness) (bound : SectionSize) (offset round : ℕ) (attrs : List Attribute) (front back : List (List ℕ))
-    → record_views order bound offset round attrs (front ++ back) ≡ record_views order bound offset round attrs front ++ Tail order bound offset round attrs front back
+pub views_append : (order : Endianness) (bound : SectionSize) (offset round : ℕ) (attrs : List Attribute) (first_part back : List (List ℕ))
+    → record_views order bound offset round attrs (first_part ++ back) ≡ record_views order bound offset round attrs first_part ++ Tail order bound offset round attrs first_part back
 views_append order bound offset round attrs [] back =
     let z : offset ≡ offset + 0 = omega arith in
     let z' : round ≡ round + 0 = omega arith in
     ap (λ o. record_views order bound o round attrs back) z ∙ ap (λ r. record_views order bound (offset + 0) r attrs back) z' ∙ ap (λ a. record_views order bound (offset + 0) (round + 0) a back) (sym (append-nil attrs))
-views_append order bound offset round attrs (p ∷ front) back =
+views_append order bound offset round attrs (p ∷ first_part) back =
     let next = attrs ++ attributes_in_record order bound (record_type_of order p) (drop 8 p) in
     joined (record_type_of order p == 68) round (record_view_in order offset round attrs p)
-    (λ r. record_views order bound (offset + length p) r next (front ++ back))
-    (λ r. record_views order bound (offset + length p) r next front)
-    (Tail order bound (offset + length p) (round + 1) next front back)
-    (Tail order bound (offset + length p) round next front back)
-    (Tail order bound offset round attrs (p ∷ front) back)
-    (views_append order bound (offset + length p) (round + 1) next front back)
-    (views_append order bound (offset + length p) round next front back)
-    (λ is. tail_more order bound offset round attrs p front back (round + 1) (sym (ap (λ b. round + (if b then 1 else 0)) is)))
-    (λ isnt. tail_more order bound offset round attrs p front back round (let e = ap (λ b. round + (if b then 1 else 0)) isnt in omega (arith, e)))
+    (λ r. record_views order bound (offset + length p) r next (first_part ++ back))
+    (λ r. record_views order bound (offset + length p) r next first_part)
+    (Tail order bound (offset + length p) (round + 1) next first_part back)
+    (Tail order bound (offset + length p) round next first_part back)
+    (Tail order bound offset round attrs (p ∷ first_part) back)
+    (views_append order bound (offset + length p) (round + 1) next first_part back)
+    (views_append order bound (offset + length p) round next first_part back)
+    (λ is. tail_more order bound offset round attrs p first_part back (round + 1) (sym (ap (λ b. round + (if b then 1 else 0)) is)))
+    (λ isnt. tail_more order bound offset round attrs p first_part back round (let e = ap (λ b. round + (if b then 1 else 0)) isnt in omega (arith, e)))
 
-pub record_offset : (order : Endianness) (bound : SectionSize) (offset round : ℕ) (attrs : List Attribute) (front back : List (List ℕ)) (p : List ℕ) → record_type_of order p ≢ 68
-    → record_views order bound offset round attrs (front ++ p ∷ back)
-    ≡ record_views order bound offset round attrs front
-    ++ record_view_after order bound offset round attrs front p ∷ record_views order bound (offset + length (concat front) + length p) (round + marker_count order front)
-    ((attrs ++ attributes_in_records order bound front) ++ attributes_in_record order bound (record_type_of order p) (drop 8 p)) back
-record_offset order bound offset round attrs front back p other =
-    let o = offset + length (concat front) in
-    let r = round + marker_count order front in
-    let a = attrs ++ attributes_in_records order bound front in
+pub record_offset : (order : Endianness) (bound : SectionSize) (offset round : ℕ) (attrs : List Attribute) (first_part back : List (List ℕ)) (p : List ℕ) → record_type_of order p ≢ 68
+    → record_views order bound offset round attrs (first_part ++ p ∷ back)
+    ≡ record_views order bound offset round attrs first_part
+    ++ record_view_after order bound offset round attrs first_part p ∷ record_views order bound (offset + length (concat first_part) + length p) (round + marker_count order first_part)
+    ((attrs ++ attributes_in_records order bound first_part) ++ attributes_in_record order bound (record_type_of order p) (drop 8 p)) back
+record_offset order bound offset round attrs first_part back p other =
+    let o = offset + length (concat first_part) in
+    let r = round + marker_count order first_part in
+    let a = attrs ++ attributes_in_records order bound first_part in
     let next = a ++ attributes_in_record order bound (record_type_of order p) (drop 8 p) in
-    views_append order bound offset round attrs front (p ∷ back)
-    ∙ ap (λ l. record_views order bound offset round attrs front ++ l)
+    views_append order bound offset round attrs first_part (p ∷ back)
+    ∙ ap (λ l. record_views order bound offset round attrs first_part ++ l)
     (cond-false (record_type_of order p == 68) (record_views order bound (o + length p) (r + 1) next back) (record_view_in order o r a p ∷ record_views order bound (o + length p) r next back) (ne_eqb (record_type_of order p) 68 other))

@@ -12,7 +12,7 @@ use Rattle.perfdata_sections.proofs.EventPrefixes.{event_desc_or_not}
 use Rattle.linux_perf_data.specs.FeatureNumbers.{event_desc}
 use Rattle.linux_perf_data.specs.Names.{IsReadableEventDesc, feature_in_body}
 use Rattle.linux_perf_data.specs.Layout.{SectionSize, MayStartAt, IsCompressed, IsRecord, IsValidRecord, IsEnd, HasRecordHeader, HasCompleteBody, HasInvalidMetadata, StartsWithRecord, attributes_in_record, LayoutError, truncated_header, size_below_header, end_overflows, truncated_body, compressed_record, aux_body_too_short, aux_end_overflows, truncated_aux_data, invalid_metadata, MetadataError, truncated_metadata, attr_size_too_small, IsTruncatedAttribute, invalid_event_desc, HasInvalidEventDesc, inconsistent_attributes, ErrorAt, LayoutEnd, ends_complete, ends_with_error, EndsWith, record_type_of, record_size_of, total_size_of}
-use Rattle.linux_perf_data.proofs.RecordHeaders.{record_type_front, size_front, total_size_front, total_size_plain, size_in_total_size, record_least, record_length, same_front}
+use Rattle.linux_perf_data.proofs.RecordHeaders.{record_type_front, size_first_part, total_size_front, total_size_plain, size_in_total_size, record_least, record_length, same_prefix}
 use Rattle.linux_perf_data.proofs.ConsistencyLemmas.{consistent_not_inconsistent, inconsistency_is_unique, consistent_or_not}
 
 pub data Standing : Type 0 where
@@ -40,12 +40,12 @@ over_begins (Some size) offset over begins = omega (arith, over, begins)
 
 -- a truncated attribute isn't complete
 pub truncated_or_complete : (order : Endianness) (body : List ℕ) → IsTruncatedAttribute order body → HoldsAttribute order body → ⊥
-truncated_or_complete order body (inl (inl short)) holds = let head = holds.has_fixed_part in omega (arith, short, head)
+truncated_or_complete order body (inl (inl short)) holds = let header_bytes = holds.has_fixed_part in omega (arith, short, header_bytes)
 truncated_or_complete order body (inl (inr (least, short))) holds = let there = holds.complete in omega (arith, short, there)
 truncated_or_complete order body (inr cut) holds = cut.partial_id holds.whole_ids
 
 pub truncated_or_small : (order : Endianness) (body : List ℕ) → IsTruncatedAttribute order body → IsTooSmall (number_in order) body → ⊥
-truncated_or_small order body (inl (inl short)) small = let head = small.0 in omega (arith, short, head)
+truncated_or_small order body (inl (inl short)) small = let header_bytes = small.0 in omega (arith, short, header_bytes)
 truncated_or_small order body (inl (inr (least, short))) small = let below = small.1 in omega (arith, least, below)
 truncated_or_small order body (inr cut) small = let least = cut.min_size in let below = small.1 in omega (arith, least, below)
 
@@ -62,13 +62,13 @@ test_one s t found P Q X Y apart later (inr x) (inr y) = later x.1 y.1
 -- All tests in their order: those of a record header, those of a body, and those of a complete record.
 module _ (order : Endianness) (bound : SectionSize) (offset : ℕ) (attrs : List Attribute) (rest : List ℕ) where
   -- a complete record whose metadata is invalid for this cause
-  abbrev Refuses : LayoutError → List ℕ → Type 0
-  Refuses (invalid_metadata w) p = HasInvalidMetadata order w p
-  Refuses (invalid_event_desc o bytes) p = (o ≡ order) × HasInvalidEventDesc order bytes p
-  Refuses _ p = ⊥
+  abbrev IsErrorOfContents : LayoutError → List ℕ → Type 0
+  IsErrorOfContents (invalid_metadata w) p = HasInvalidMetadata order w p
+  IsErrorOfContents (invalid_event_desc o bytes) p = (o ≡ order) × HasInvalidEventDesc order bytes p
+  IsErrorOfContents _ p = ⊥
 
   abbrev Bad : Standing → Type 0
-  Bad s = (f : LayoutError) × (s ≡ ended (ends_with_error f)) × (bound ≡ None) × ((p : List ℕ) × StartsWithRecord order offset rest p × Refuses f p)
+  Bad s = (f : LayoutError) × (s ≡ ended (ends_with_error f)) × (bound ≡ None) × ((p : List ℕ) × StartsWithRecord order offset rest p × IsErrorOfContents f p)
 
   abbrev Unruly : Standing → Type 0
   Unruly s = (b : Inconsistency) × (s ≡ ended (ends_with_error (inconsistent_attributes b))) × (bound ≡ None)
@@ -97,37 +97,37 @@ module _ (order : Endianness) (bound : SectionSize) (offset : ℕ) (attrs : List
       Test s (truncated_as bound truncated_body) (length rest < record_size_of order rest) (record_size_of order rest ≤ length rest) (
       OfBody s)))))
 
-  past_head : (s : Standing) → MayStartAt bound offset → HasRecordHeader order offset rest → Test s (truncated_as bound truncated_body) (length rest < record_size_of order rest) (record_size_of order rest ≤ length rest) (OfBody s) → OfAll s
-  past_head s begins head x = inr (begins, inr (head.complete_header, inr (head.min_size, inr (head.end_fits, x))))
+  past_header : (s : Standing) → MayStartAt bound offset → HasRecordHeader order offset rest → Test s (truncated_as bound truncated_body) (length rest < record_size_of order rest) (record_size_of order rest ≤ length rest) (OfBody s) → OfAll s
+  past_header s begins header_bytes x = inr (begins, inr (header_bytes.complete_header, inr (header_bytes.min_size, inr (header_bytes.end_fits, x))))
 
   past_body : (s : Standing) → MayStartAt bound offset → HasCompleteBody order offset rest → OfBody s → OfAll s
-  past_body s begins body x = past_head s begins body.header (inr (body.complete, x))
+  past_body s begins body x = past_header s begins body.header (inr (body.complete, x))
 
   not_compressed : record_type_of order rest ≡ 71 → ¬ IsCompressed (record_type_of order rest)
   not_compressed traced (inl other) = omega (arith, traced, other)
   not_compressed traced (inr other) = omega (arith, traced, other)
 
   -- a first record determines the record type of the bytes
-  front_kind : (p : List ℕ) → StartsWithRecord order offset rest p → record_type_of order rest ≡ record_type_of order p
-  front_kind p fronts = ap (record_type_of order) fronts.split ∙ record_type_front order p fronts.after_record (record_least order p fronts.is_record)
+  prefix_kind : (p : List ℕ) → StartsWithRecord order offset rest p → record_type_of order rest ≡ record_type_of order p
+  prefix_kind p fronts = ap (record_type_of order) fronts.split ∙ record_type_front order p fronts.after_record (record_least order p fronts.is_record)
 
-  front_size : (p : List ℕ) → StartsWithRecord order offset rest p → record_size_of order rest ≡ record_size_of order p
-  front_size p fronts = ap (record_size_of order) fronts.split ∙ size_front order p fronts.after_record (record_least order p fronts.is_record)
+  prefix_size : (p : List ℕ) → StartsWithRecord order offset rest p → record_size_of order rest ≡ record_size_of order p
+  prefix_size p fronts = ap (record_size_of order) fronts.split ∙ size_first_part order p fronts.after_record (record_least order p fronts.is_record)
 
-  front_extent : (p : List ℕ) → StartsWithRecord order offset rest p → total_size_of order rest ≡ length p
-  front_extent p fronts = ap (total_size_of order) fronts.split ∙ record_length order p fronts.after_record fronts.is_record
+  prefix_extent : (p : List ℕ) → StartsWithRecord order offset rest p → total_size_of order rest ≡ length p
+  prefix_extent p fronts = ap (total_size_of order) fronts.split ∙ record_length order p fronts.after_record fronts.is_record
 
-  front_length : (p : List ℕ) → StartsWithRecord order offset rest p → length p ≤ length rest
-  front_length p fronts = let l = ap length fronts.split in omega (arith, l, length-append p fronts.after_record)
+  prefix_length : (p : List ℕ) → StartsWithRecord order offset rest p → length p ≤ length rest
+  prefix_length p fronts = let l = ap length fronts.split in omega (arith, l, length-append p fronts.after_record)
 
-  front_body : (p : List ℕ) → StartsWithRecord order offset rest p → HasCompleteBody order offset rest
-  front_body p fronts =
+  prefix_body : (p : List ℕ) → StartsWithRecord order offset rest p → HasCompleteBody order offset rest
+  prefix_body p fronts =
       let least = fronts.is_record.min_size in
       let fits = fronts.end_fits in
-      let size = front_size p fronts in
-      let extent = front_extent p fronts in
+      let size = prefix_size p fronts in
+      let extent = prefix_extent p fronts in
       let inside = size_in_total_size order rest in
-      let long = front_length p fronts in
+      let long = prefix_length p fronts in
       record {
         header = record { complete_header = omega (arith, long, record_least order p fronts.is_record); min_size = omega (arith, size, least); end_fits = omega (arith, fits, extent, inside) };
         complete = omega (arith, extent, inside, long);
@@ -135,12 +135,12 @@ module _ (order : Endianness) (bound : SectionSize) (offset : ℕ) (attrs : List
 
   past_record : (s : Standing) (p : List ℕ) → MayStartAt bound offset → StartsWithRecord order offset rest p → OfRecord s → OfAll s
   past_record s p begins fronts x =
-      let extent = front_extent p fronts in
+      let extent = prefix_extent p fronts in
       let fits = fronts.end_fits in
-      let long = front_length p fronts in
-      let kind = front_kind p fronts in
-      let size = front_size p fronts in
-      past_body s begins (front_body p fronts) (inr (
+      let long = prefix_length p fronts in
+      let kind = prefix_kind p fronts in
+      let size = prefix_size p fronts in
+      past_body s begins (prefix_body p fronts) (inr (
         (λ packed. fronts.is_record.not_compressed (subst IsCompressed kind packed)),
         inr (
           (λ traced. let least = fronts.is_record.aux_min_size (sym kind ∙ traced) in omega (arith, size, least)),
@@ -155,7 +155,7 @@ module _ (order : Endianness) (bound : SectionSize) (offset : ℕ) (attrs : List
       ))
 
   record_one : (p q : List ℕ) → StartsWithRecord order offset rest p → StartsWithRecord order offset rest q → p ≡ q
-  record_one p q x y = (same_front order p q x.after_record y.after_record x.is_record y.is_record (sym x.split ∙ y.split)).0
+  record_one p q x y = (same_prefix order p q x.after_record y.after_record x.is_record y.is_record (sym x.split ∙ y.split)).0
 
   none_or_piece : (w : MetadataError) (p q : List ℕ) → StartsWithRecord order offset rest p → StartsWithRecord order offset rest q → HasInvalidMetadata order w p → IsValidRecord order None q → ⊥
   none_or_piece truncated_metadata p q x y (inl (kind, bad)) is = let e = sym (record_one p q x y) in truncated_or_complete order (drop 8 p) bad ((subst (IsValidRecord order None) e is).valid_attribute refl kind)
@@ -165,10 +165,10 @@ module _ (order : Endianness) (bound : SectionSize) (offset : ℕ) (attrs : List
   unnamed_or_piece : (bytes p : List ℕ) → HasInvalidEventDesc order bytes p → IsValidRecord order None p → ⊥
   unnamed_or_piece bytes p none is = none.not_readable (subst (IsReadableEventDesc order) (sym none.data_bytes) (is.valid_event_desc refl none.record_type none.matches))
 
-  refused_or_piece : (f : LayoutError) (p q : List ℕ) → StartsWithRecord order offset rest p → StartsWithRecord order offset rest q → Refuses f p → IsValidRecord order None q → ⊥
-  refused_or_piece (invalid_metadata w) p q x y bad is = none_or_piece w p q x y bad is
-  refused_or_piece (invalid_event_desc o bytes) p q x y (same, none) is = unnamed_or_piece bytes p none (subst (IsValidRecord order None) (sym (record_one p q x y)) is)
-  refused_or_piece _ p q x y bad is = absurd bad
+  error_or_piece : (f : LayoutError) (p q : List ℕ) → StartsWithRecord order offset rest p → StartsWithRecord order offset rest q → IsErrorOfContents f p → IsValidRecord order None q → ⊥
+  error_or_piece (invalid_metadata w) p q x y bad is = none_or_piece w p q x y bad is
+  error_or_piece (invalid_event_desc o bytes) p q x y (same, none) is = unnamed_or_piece bytes p none (subst (IsValidRecord order None) (sym (record_one p q x y)) is)
+  error_or_piece _ p q x y bad is = absurd bad
 
   spoilt_same : (v w : MetadataError) (p : List ℕ) → HasInvalidMetadata order v p → HasInvalidMetadata order w p → v ≡ w
   spoilt_same truncated_metadata truncated_metadata p x y = refl
@@ -183,22 +183,22 @@ module _ (order : Endianness) (bound : SectionSize) (offset : ℕ) (attrs : List
   spoilt_or_unnamed truncated_metadata bytes p (inr (kind, short)) none = let there = none.complete in omega (arith, short, there)
   spoilt_or_unnamed attr_size_too_small bytes p (kind, small) none = let other = none.record_type in omega (arith, kind, other)
 
-  refused_same : (f g : LayoutError) (p : List ℕ) → Refuses f p → Refuses g p → f ≡ g
-  refused_same (invalid_metadata v) (invalid_metadata w) p x y = ap invalid_metadata (spoilt_same v w p x y)
-  refused_same (invalid_metadata v) (invalid_event_desc o bytes) p x (same, y) = absurd (spoilt_or_unnamed v bytes p x y)
-  refused_same (invalid_event_desc o bytes) (invalid_metadata w) p (same, x) y = absurd (spoilt_or_unnamed w bytes p y x)
-  refused_same (invalid_event_desc o bytes) (invalid_event_desc r others) p (same, x) (same', y) = ap (λ e. invalid_event_desc e bytes) (same ∙ sym same') ∙ ap (invalid_event_desc r) (x.data_bytes ∙ sym y.data_bytes)
-  refused_same (invalid_metadata v) _ p x y = absurd y
-  refused_same (invalid_event_desc o bytes) _ p x y = absurd y
-  refused_same _ g p x y = absurd x
+  error_same : (f g : LayoutError) (p : List ℕ) → IsErrorOfContents f p → IsErrorOfContents g p → f ≡ g
+  error_same (invalid_metadata v) (invalid_metadata w) p x y = ap invalid_metadata (spoilt_same v w p x y)
+  error_same (invalid_metadata v) (invalid_event_desc o bytes) p x (same, y) = absurd (spoilt_or_unnamed v bytes p x y)
+  error_same (invalid_event_desc o bytes) (invalid_metadata w) p (same, x) y = absurd (spoilt_or_unnamed w bytes p y x)
+  error_same (invalid_event_desc o bytes) (invalid_event_desc r others) p (same, x) (same', y) = ap (λ e. invalid_event_desc e bytes) (same ∙ sym same') ∙ ap (invalid_event_desc r) (x.data_bytes ∙ sym y.data_bytes)
+  error_same (invalid_metadata v) _ p x y = absurd y
+  error_same (invalid_event_desc o bytes) _ p x y = absurd y
+  error_same _ g p x y = absurd x
 
   of_record_one : (s t : Standing) → OfRecord s → OfRecord t → s ≡ t
   of_record_one s t (inl x) (inl y) =
-      let bad = subst (Refuses x.0) (record_one x.3.0 y.3.0 x.3.1 y.3.1) x.3.2 in
-      x.1 ∙ ap (λ f. ended (ends_with_error f)) (refused_same x.0 y.0 y.3.0 bad y.3.2) ∙ sym y.1
-  of_record_one s t (inl x) (inr (inl y)) = absurd (refused_or_piece x.0 x.3.0 y.3.0 x.3.1 y.3.1 x.3.2 y.3.2)
-  of_record_one s t (inl x) (inr (inr y)) = absurd (refused_or_piece x.0 x.3.0 y.0 x.3.1 y.2 x.3.2 (subst (λ b. IsValidRecord order b y.0) x.2 y.3))
-  of_record_one s t (inr (inl x)) (inl y) = absurd (refused_or_piece y.0 y.3.0 x.3.0 y.3.1 x.3.1 y.3.2 x.3.2)
+      let bad = subst (IsErrorOfContents x.0) (record_one x.3.0 y.3.0 x.3.1 y.3.1) x.3.2 in
+      x.1 ∙ ap (λ f. ended (ends_with_error f)) (error_same x.0 y.0 y.3.0 bad y.3.2) ∙ sym y.1
+  of_record_one s t (inl x) (inr (inl y)) = absurd (error_or_piece x.0 x.3.0 y.3.0 x.3.1 y.3.1 x.3.2 y.3.2)
+  of_record_one s t (inl x) (inr (inr y)) = absurd (error_or_piece x.0 x.3.0 y.0 x.3.1 y.2 x.3.2 (subst (λ b. IsValidRecord order b y.0) x.2 y.3))
+  of_record_one s t (inr (inl x)) (inl y) = absurd (error_or_piece y.0 y.3.0 x.3.0 y.3.1 x.3.1 y.3.2 x.3.2)
   of_record_one s t (inr (inl x)) (inr (inl y)) =
       let breaks = subst (λ p. AreInconsistent (attrs ++ attributes_in_record order None (record_type_of order p) (drop 8 p)) x.0) (record_one x.3.0 y.3.0 x.3.1 y.3.1) x.3.3 in
       x.1 ∙ ap (λ b. ended (ends_with_error (inconsistent_attributes b))) (inconsistency_is_unique (attrs ++ attributes_in_record order None (record_type_of order y.3.0) (drop 8 y.3.0)) x.0 y.0 breaks y.3.3) ∙ sym y.1
@@ -206,7 +206,7 @@ module _ (order : Endianness) (bound : SectionSize) (offset : ℕ) (attrs : List
       let breaks = subst (λ p. AreInconsistent (attrs ++ attributes_in_record order None (record_type_of order p) (drop 8 p)) x.0) (record_one x.3.0 y.0 x.3.1 y.2) x.3.3 in
       let rule = subst (λ b. AreConsistent (attrs ++ attributes_in_record order b (record_type_of order y.0) (drop 8 y.0))) x.2 y.4 in
       absurd (consistent_not_inconsistent (attrs ++ attributes_in_record order None (record_type_of order y.0) (drop 8 y.0)) x.0 rule breaks)
-  of_record_one s t (inr (inr x)) (inl y) = absurd (refused_or_piece y.0 y.3.0 x.0 y.3.1 x.2 y.3.2 (subst (λ b. IsValidRecord order b x.0) y.2 x.3))
+  of_record_one s t (inr (inr x)) (inl y) = absurd (error_or_piece y.0 y.3.0 x.0 y.3.1 x.2 y.3.2 (subst (λ b. IsValidRecord order b x.0) y.2 x.3))
   of_record_one s t (inr (inr x)) (inr (inl y)) =
       let breaks = subst (λ p. AreInconsistent (attrs ++ attributes_in_record order None (record_type_of order p) (drop 8 p)) y.0) (record_one y.3.0 x.0 y.3.1 x.2) y.3.3 in
       let rule = subst (λ b. AreConsistent (attrs ++ attributes_in_record order b (record_type_of order x.0) (drop 8 x.0))) y.2 x.4 in
@@ -233,39 +233,39 @@ module _ (order : Endianness) (bound : SectionSize) (offset : ℕ) (attrs : List
 whole_tests : (order : Endianness) (bound : SectionSize) (offset : ℕ) (attrs : List Attribute) (rest : List ℕ) → IsEnd order bound offset rest → OfAll order bound offset attrs rest (ended ends_complete)
 whole_tests order None offset attrs rest is = elim (cases_lt (length rest) 8) [
   | inl short ↦ inr (tt, inl (refl, short))
-  | inr long ↦ past_head order None offset attrs rest (ended ends_complete) tt (is long).0 (inl (refl, (is long).1))
+  | inr long ↦ past_header order None offset attrs rest (ended ends_complete) tt (is long).0 (inl (refl, (is long).1))
 ]
 whole_tests order (Some size) offset attrs rest is = inl (refl, is)
 
-fault_tests : (order : Endianness) (bound : SectionSize) (offset : ℕ) (attrs : List Attribute) (rest : List ℕ) (f : LayoutError) → MayStartAt bound offset → ErrorAt order bound offset attrs rest f
+error_tests : (order : Endianness) (bound : SectionSize) (offset : ℕ) (attrs : List Attribute) (rest : List ℕ) (f : LayoutError) → MayStartAt bound offset → ErrorAt order bound offset attrs rest f
     → OfAll order bound offset attrs rest (ended (ends_with_error f))
-fault_tests order None offset attrs rest truncated_header begins is = absurd (is.0 refl)
-fault_tests order (Some size) offset attrs rest truncated_header begins is = inr (begins, inl (refl, is.1))
-fault_tests order bound offset attrs rest size_below_header begins is = inr (begins, inr (is.0, inl (refl, is.1)))
-fault_tests order bound offset attrs rest end_overflows begins is = inr (begins, inr (is.0, inr (is.1, inl (refl, is.2))))
-fault_tests order None offset attrs rest truncated_body begins is = absurd (is.0 refl)
-fault_tests order (Some size) offset attrs rest truncated_body begins is = past_head order (Some size) offset attrs rest (ended (ends_with_error truncated_body)) begins is.1 (inl (refl, is.2))
-fault_tests order bound offset attrs rest compressed_record begins is = past_body order bound offset attrs rest (ended (ends_with_error compressed_record)) begins is.0 (inl (refl, is.1))
-fault_tests order bound offset attrs rest aux_body_too_short begins is =
+error_tests order None offset attrs rest truncated_header begins is = absurd (is.0 refl)
+error_tests order (Some size) offset attrs rest truncated_header begins is = inr (begins, inl (refl, is.1))
+error_tests order bound offset attrs rest size_below_header begins is = inr (begins, inr (is.0, inl (refl, is.1)))
+error_tests order bound offset attrs rest end_overflows begins is = inr (begins, inr (is.0, inr (is.1, inl (refl, is.2))))
+error_tests order None offset attrs rest truncated_body begins is = absurd (is.0 refl)
+error_tests order (Some size) offset attrs rest truncated_body begins is = past_header order (Some size) offset attrs rest (ended (ends_with_error truncated_body)) begins is.1 (inl (refl, is.2))
+error_tests order bound offset attrs rest compressed_record begins is = past_body order bound offset attrs rest (ended (ends_with_error compressed_record)) begins is.0 (inl (refl, is.1))
+error_tests order bound offset attrs rest aux_body_too_short begins is =
     past_body order bound offset attrs rest (ended (ends_with_error aux_body_too_short)) begins is.0 (inr (not_compressed order bound offset attrs rest is.1, inl (refl, (is.1, is.2))))
-fault_tests order bound offset attrs rest aux_end_overflows begins is =
+error_tests order bound offset attrs rest aux_end_overflows begins is =
     let t = is.0 in
     past_body order bound offset attrs rest (ended (ends_with_error aux_end_overflows)) begins t.complete_body
     (inr (not_compressed order bound offset attrs rest t.record_type, inr ((λ _. t.min_size), inl (refl, (t.record_type, is.1)))))
-fault_tests order bound offset attrs rest truncated_aux_data begins is =
+error_tests order bound offset attrs rest truncated_aux_data begins is =
     let t = is.0 in
     past_body order bound offset attrs rest (ended (ends_with_error truncated_aux_data)) begins t.complete_body
     (inr (not_compressed order bound offset attrs rest t.record_type, inr ((λ _. t.min_size), inr ((λ _. is.1), inl (refl, (t.record_type, is.2))))))
-fault_tests order bound offset attrs rest (invalid_metadata why) begins is =
-    past_record order bound offset attrs rest (ended (ends_with_error (invalid_metadata why))) is.1.0 begins is.1.1 (inl (invalid_metadata why, refl, is.0, is.1))
-fault_tests order bound offset attrs rest (invalid_event_desc o bytes) begins is =
+error_tests order bound offset attrs rest (invalid_metadata cause) begins is =
+    past_record order bound offset attrs rest (ended (ends_with_error (invalid_metadata cause))) is.1.0 begins is.1.1 (inl (invalid_metadata cause, refl, is.0, is.1))
+error_tests order bound offset attrs rest (invalid_event_desc o bytes) begins is =
     past_record order bound offset attrs rest (ended (ends_with_error (invalid_event_desc o bytes))) is.2.0 begins is.2.1 (inl (invalid_event_desc o bytes, refl, is.0, (is.2.0, is.2.1, (is.1, is.2.2))))
-fault_tests order bound offset attrs rest (inconsistent_attributes b) begins is =
+error_tests order bound offset attrs rest (inconsistent_attributes b) begins is =
     past_record order bound offset attrs rest (ended (ends_with_error (inconsistent_attributes b))) is.1.0 begins is.1.1 (inr (inl (b, refl, is.0, is.1)))
 
 tests_of : (order : Endianness) (bound : SectionSize) (offset : ℕ) (attrs : List Attribute) (rest : List ℕ) (s : Standing) → IsRecordOrErrorAt order bound offset attrs rest s → OfAll order bound offset attrs rest s
 tests_of order bound offset attrs rest (ended ends_complete) is = whole_tests order bound offset attrs rest is
-tests_of order bound offset attrs rest (ended (ends_with_error f)) is = fault_tests order bound offset attrs rest f is.0 is.1
+tests_of order bound offset attrs rest (ended (ends_with_error f)) is = error_tests order bound offset attrs rest f is.0 is.1
 tests_of order bound offset attrs rest (piece p) is = past_record order bound offset attrs rest (piece p) p is.0 is.1 (inr (inr (p, refl, is.1, is.2, is.3)))
 
 -- the result at an offset is unique
@@ -290,21 +290,21 @@ found_short : (order : Endianness) (bound : SectionSize) (offset : ℕ) (attrs :
 found_short order None offset attrs rest begins short = (ended ends_complete, λ long. omega (arith, short, long))
 found_short order (Some size) offset attrs rest begins short = (ended (ends_with_error truncated_header), (begins, ((λ e. cc), short)))
 
-found_cut : (order : Endianness) (bound : SectionSize) (offset : ℕ) (attrs : List Attribute) (rest : List ℕ) → MayStartAt bound offset → HasRecordHeader order offset rest → length rest < record_size_of order rest → Found order bound offset attrs rest
-found_cut order None offset attrs rest begins head cut = (ended ends_complete, λ long. (head, cut))
-found_cut order (Some size) offset attrs rest begins head cut = (ended (ends_with_error truncated_body), (begins, ((λ e. cc), head, cut)))
+found_truncated : (order : Endianness) (bound : SectionSize) (offset : ℕ) (attrs : List Attribute) (rest : List ℕ) → MayStartAt bound offset → HasRecordHeader order offset rest → length rest < record_size_of order rest → Found order bound offset attrs rest
+found_truncated order None offset attrs rest begins header_bytes cut = (ended ends_complete, λ long. (header_bytes, cut))
+found_truncated order (Some size) offset attrs rest begins header_bytes cut = (ended (ends_with_error truncated_body), (begins, ((λ e. cc), header_bytes, cut)))
 
 -- a body holds a complete attribute, or is truncated, or its attribute is too small
 pub complete_truncated_or_small : (order : Endianness) (body : List ℕ) → HoldsAttribute order body ⊎ (IsTruncatedAttribute order body ⊎ IsTooSmall (number_in order) body)
 complete_truncated_or_small order body = elim (cases_lt (length body) 8) [
   | inl short ↦ inr (inl (inl (inl short)))
-  | inr head ↦ elim (cases_lt (own_size (number_in order) body) 64) [
-    | inl small ↦ inr (inr (head, small))
+  | inr header_bytes ↦ elim (cases_lt (own_size (number_in order) body) 64) [
+    | inl small ↦ inr (inr (header_bytes, small))
     | inr least ↦ elim (cases_lt (length body) (own_size (number_in order) body)) [
       | inl cut ↦ inr (inl (inl (inr (least, cut))))
       | inr there ↦ elim (cases_eq ((length body - own_size (number_in order) body) % 8) 0) [
-        | inl even ↦ inl (record { has_fixed_part = head; min_size = least; complete = there; whole_ids = even })
-        | inr odd ↦ inr (inl (inr (record { has_fixed_part = head; min_size = least; complete = there; partial_id = odd })))
+        | inl even ↦ inl (record { has_fixed_part = header_bytes; min_size = least; complete = there; whole_ids = even })
+        | inr odd ↦ inr (inl (inr (record { has_fixed_part = header_bytes; min_size = least; complete = there; partial_id = odd })))
       ]
     ]
   ]
@@ -315,15 +315,15 @@ names_or_none : (order : Endianness) (p : List ℕ) → IsRecord order p → rec
 names_or_none order p is kind long = elim (cases_eq (feature_in_body order (drop 8 p)) event_desc) [
   | inr other ↦ inl (record { is_record = is; valid_attribute = λ _ e. absurd (omega (arith, kind, e)); valid_feature = λ _ _. long; valid_event_desc = λ _ _ e. absurd (other e) })
   | inl named ↦ elim (event_desc_or_not (number_in order) (in_reads_first order) (drop 16 p)) [
-    | inl told ↦ inl (record { is_record = is; valid_attribute = λ _ e. absurd (omega (arith, kind, e)); valid_feature = λ _ _. long; valid_event_desc = λ _ _ _. told })
+    | inl described ↦ inl (record { is_record = is; valid_attribute = λ _ e. absurd (omega (arith, kind, e)); valid_feature = λ _ _. long; valid_event_desc = λ _ _ _. described })
     | inr unread ↦ inr (drop 16 p, record { record_type = kind; complete = long; matches = named; data_bytes = refl; not_readable = unread })
   ]
 ]
 
 abbrev PieceOrNone : Endianness → List ℕ → Type 0
-PieceOrNone order p = IsValidRecord order None p ⊎ (((why : MetadataError) × HasInvalidMetadata order why p) ⊎ ((bytes : List ℕ) × HasInvalidEventDesc order bytes p))
+PieceOrNone order p = IsValidRecord order None p ⊎ (((cause : MetadataError) × HasInvalidMetadata order cause p) ⊎ ((bytes : List ℕ) × HasInvalidEventDesc order bytes p))
 
-pub record_or_error : (order : Endianness) (p : List ℕ) → IsRecord order p → IsValidRecord order None p ⊎ (((why : MetadataError) × HasInvalidMetadata order why p) ⊎ ((bytes : List ℕ) × HasInvalidEventDesc order bytes p))
+pub record_or_error : (order : Endianness) (p : List ℕ) → IsRecord order p → IsValidRecord order None p ⊎ (((cause : MetadataError) × HasInvalidMetadata order cause p) ⊎ ((bytes : List ℕ) × HasInvalidEventDesc order bytes p))
 record_or_error order p is = elim (cases_eq (record_type_of order p) 64) as (λ _. PieceOrNone order p) [
   | inl attribute ↦ elim (complete_truncated_or_small order (drop 8 p)) as (λ _. PieceOrNone order p) [
     | inl holds ↦ inl (record { is_record = is; valid_attribute = λ _ _. holds; valid_feature = λ _ other. absurd (omega (arith, attribute, other)); valid_event_desc = λ _ other _. absurd (omega (arith, attribute, other)) })
@@ -354,28 +354,28 @@ found_record order None offset attrs rest p rule begins fronts = elim (record_or
 -- a complete record at the start of the bytes
 pub fronts_of : (order : Endianness) (offset : ℕ) (rest : List ℕ) → HasCompleteBody order offset rest → ¬ IsCompressed (record_type_of order rest) → (record_type_of order rest ≡ 71 → 48 ≤ record_size_of order rest)
     → offset + total_size_of order rest < 2 ^ 64 → total_size_of order rest ≤ length rest → StartsWithRecord order offset rest (take (total_size_of order rest) rest)
-fronts_of order offset rest body plain trace near there =
+fronts_of order offset rest body plain aux end_fits_u64 there =
     let p = take (total_size_of order rest) rest in
-    let behind = drop (total_size_of order rest) rest in
-    let cut : p ++ behind ≡ rest = take-append-drop (total_size_of order rest) rest in
+    let suffix = drop (total_size_of order rest) rest in
+    let cut : p ++ suffix ≡ rest = take-append-drop (total_size_of order rest) rest in
     let long : length p ≡ total_size_of order rest = length-take-le (total_size_of order rest) rest there in
     let inside = size_in_total_size order rest in
     let least = body.header.min_size in
-    let head : 8 ≤ length p = omega (arith, long, inside, least) in
-    let kind : record_type_of order rest ≡ record_type_of order p = ap (record_type_of order) (sym cut) ∙ record_type_front order p behind head in
-    let size : record_size_of order rest ≡ record_size_of order p = ap (record_size_of order) (sym cut) ∙ size_front order p behind head in
+    let header_bytes : 8 ≤ length p = omega (arith, long, inside, least) in
+    let kind : record_type_of order rest ≡ record_type_of order p = ap (record_type_of order) (sym cut) ∙ record_type_front order p suffix header_bytes in
+    let size : record_size_of order rest ≡ record_size_of order p = ap (record_size_of order) (sym cut) ∙ size_first_part order p suffix header_bytes in
     let extent : total_size_of order rest ≡ total_size_of order p =
-    ap (total_size_of order) (sym cut) ∙ total_size_front order p behind head (λ traced. let t = trace (kind ∙ traced) in omega (arith, t, long, inside)) in
+    ap (total_size_of order) (sym cut) ∙ total_size_front order p suffix header_bytes (λ traced. let t = aux (kind ∙ traced) in omega (arith, t, long, inside)) in
     record {
       is_record = record {
         min_size = omega (arith, size, least);
         not_compressed = λ packed. plain (subst IsCompressed (sym kind) packed);
-        aux_min_size = λ traced. (let t = trace (kind ∙ traced) in omega (arith, t, size));
+        aux_min_size = λ traced. (let t = aux (kind ∙ traced) in omega (arith, t, size));
         exact_len = long ∙ extent;
       };
-      after_record = behind;
+      after_record = suffix;
       split = sym cut;
-      end_fits = omega (arith, long, near);
+      end_fits = omega (arith, long, end_fits_u64);
     }
 
 neither : (kind : ℕ) → kind ≢ 81 → kind ≢ 83 → ¬ IsCompressed kind
@@ -388,15 +388,15 @@ packed_or_not kind = elim (cases_eq kind 81) [
   | inr isnt ↦ elim (cases_eq kind 83) [ inl is ↦ inl (inr is) | inr isnt' ↦ inr (neither kind isnt isnt') ]
 ]
 
-found_trace : (order : Endianness) (bound : SectionSize) (offset : ℕ) (attrs : List Attribute) (rest : List ℕ) → AreConsistent attrs → MayStartAt bound offset → HasCompleteBody order offset rest → record_type_of order rest ≡ 71 → Found order bound offset attrs rest
-found_trace order bound offset attrs rest rule begins body traced = elim (cases_lt (record_size_of order rest) 48) [
+found_aux : (order : Endianness) (bound : SectionSize) (offset : ℕ) (attrs : List Attribute) (rest : List ℕ) → AreConsistent attrs → MayStartAt bound offset → HasCompleteBody order offset rest → record_type_of order rest ≡ 71 → Found order bound offset attrs rest
+found_aux order bound offset attrs rest rule begins body traced = elim (cases_lt (record_size_of order rest) 48) [
   | inl short ↦ (ended (ends_with_error aux_body_too_short), (begins, (body, traced, short)))
   | inr least ↦ elim (cases_lt (offset + total_size_of order rest) (2 ^ 64)) [
     | inr far ↦ (ended (ends_with_error aux_end_overflows), (begins, (record { complete_body = body; record_type = traced; min_size = least }, far)))
-    | inl near ↦ elim (cases_lt (length rest) (total_size_of order rest)) [
-      | inl cut ↦ (ended (ends_with_error truncated_aux_data), (begins, (record { complete_body = body; record_type = traced; min_size = least }, near, cut)))
+    | inl end_fits_u64 ↦ elim (cases_lt (length rest) (total_size_of order rest)) [
+      | inl cut ↦ (ended (ends_with_error truncated_aux_data), (begins, (record { complete_body = body; record_type = traced; min_size = least }, end_fits_u64, cut)))
       | inr there ↦ found_record order bound offset attrs rest (take (total_size_of order rest) rest) rule begins
-          (fronts_of order offset rest body (not_compressed order bound offset attrs rest traced) (λ _. least) near there)
+          (fronts_of order offset rest body (not_compressed order bound offset attrs rest traced) (λ _. least) end_fits_u64 there)
     ]
   ]
 ]
@@ -405,13 +405,13 @@ found_body : (order : Endianness) (bound : SectionSize) (offset : ℕ) (attrs : 
 found_body order bound offset attrs rest rule begins body = elim (packed_or_not (record_type_of order rest)) [
   | inl packed ↦ (ended (ends_with_error compressed_record), (begins, (body, packed)))
   | inr plain ↦ elim (cases_eq (record_type_of order rest) 71) [
-    | inl traced ↦ found_trace order bound offset attrs rest rule begins body traced
+    | inl traced ↦ found_aux order bound offset attrs rest rule begins body traced
     | inr untraced ↦
         let extent = total_size_plain order rest untraced in
-        let near = body.header.end_fits in
+        let end_fits_u64 = body.header.end_fits in
         let there = body.complete in
         found_record order bound offset attrs rest (take (total_size_of order rest) rest) rule begins
-        (fronts_of order offset rest body plain (λ traced. absurd (untraced traced)) (omega (arith, extent, near)) (omega (arith, extent, there)))
+        (fronts_of order offset rest body plain (λ traced. absurd (untraced traced)) (omega (arith, extent, end_fits_u64)) (omega (arith, extent, there)))
   ]
 ]
 
@@ -421,13 +421,13 @@ record_or_error_at order bound offset attrs rest rule = elim (begins_or_over bou
   | inr over ↦ found_over order bound offset attrs rest over
   | inl begins ↦ elim (cases_lt (length rest) 8) [
     | inl short ↦ found_short order bound offset attrs rest begins short
-    | inr head ↦ elim (cases_lt (record_size_of order rest) 8) [
-      | inl small ↦ (ended (ends_with_error size_below_header), (begins, (head, small)))
+    | inr header_bytes ↦ elim (cases_lt (record_size_of order rest) 8) [
+      | inl small ↦ (ended (ends_with_error size_below_header), (begins, (header_bytes, small)))
       | inr least ↦ elim (cases_lt (offset + record_size_of order rest) (2 ^ 64)) [
-        | inr far ↦ (ended (ends_with_error end_overflows), (begins, (head, least, far)))
-        | inl near ↦ elim (cases_lt (length rest) (record_size_of order rest)) [
-          | inl cut ↦ found_cut order bound offset attrs rest begins (record { complete_header = head; min_size = least; end_fits = near }) cut
-          | inr there ↦ found_body order bound offset attrs rest rule begins (record { header = record { complete_header = head; min_size = least; end_fits = near }; complete = there })
+        | inr far ↦ (ended (ends_with_error end_overflows), (begins, (header_bytes, least, far)))
+        | inl end_fits_u64 ↦ elim (cases_lt (length rest) (record_size_of order rest)) [
+          | inl cut ↦ found_truncated order bound offset attrs rest begins (record { complete_header = header_bytes; min_size = least; end_fits = end_fits_u64 }) cut
+          | inr there ↦ found_body order bound offset attrs rest rule begins (record { header = record { complete_header = header_bytes; min_size = least; end_fits = end_fits_u64 }; complete = there })
         ]
       ]
     ]
@@ -436,15 +436,15 @@ record_or_error_at order bound offset attrs rest rule = elim (begins_or_over bou
 
 -- The same for errors and raw records.
 
-abbrev fault_of : Standing → LayoutError
-fault_of (ended ends_complete) = truncated_header
-fault_of (ended (ends_with_error f)) = f
-fault_of (piece p) = truncated_header
+abbrev error_of : Standing → LayoutError
+error_of (ended ends_complete) = truncated_header
+error_of (ended (ends_with_error f)) = f
+error_of (piece p) = truncated_header
 
 pub error_one : (order : Endianness) (bound : SectionSize) (offset : ℕ) (attrs : List Attribute) (rest : List ℕ) (f g : LayoutError) → MayStartAt bound offset
     → ErrorAt order bound offset attrs rest f → ErrorAt order bound offset attrs rest g → f ≡ g
 error_one order bound offset attrs rest f g begins x y =
-    ap fault_of (stands_one order bound offset attrs rest (ended (ends_with_error f)) (ended (ends_with_error g)) (begins, x) (begins, y))
+    ap error_of (stands_one order bound offset attrs rest (ended (ends_with_error f)) (ended (ends_with_error g)) (begins, x) (begins, y))
 
 pub ended_or_record : (e : LayoutEnd) (p : List ℕ) → ended e ≡ piece p → ⊥
 ended_or_record e p same = cc

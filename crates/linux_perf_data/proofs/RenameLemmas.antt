@@ -44,7 +44,7 @@ pub record RenamedFrom (ds : List AttributeDescription) (t : NameTable) (id : �
   pub index : ℕ
   pub in_bounds : index ≤ length ds
   pub next_is : next ≡ last_with_first_id (id_lists_of ds) id index
-  pub passed : (k : ℕ) → index ≤ k → k < length ds → IsRenamed k now ⊎ HasOtherFirstId ds id k
+  pub skipped_markers : (k : ℕ) → index ≤ k → k < length ds → IsRenamed k now ⊎ HasOtherFirstId ds id k
   pub keeps : (k : ℕ) → IsRenamed k old → IsRenamed k now
   pub valid : All (IsRename ds t) old → All (IsRename ds t) now
 
@@ -53,7 +53,7 @@ renamed_none ds t x id next old (indexes, all) is = record {
   index = length ds;
   in_bounds = omega arith;
   next_is = is ∙ indexes.last id ∙ ap (last_with_first_id (id_lists_of ds) id) all;
-  passed = λ k from less. absurd (omega (arith, from, less));
+  skipped_markers = λ k from less. absurd (omega (arith, from, less));
   keeps = λ k renamed. renamed;
   valid = λ valid. valid;
 }
@@ -74,11 +74,11 @@ module _ (ds : List AttributeDescription) (t : NameTable) (id at : ℕ) (old now
         index = at;
         in_bounds = omega (arith, low);
         next_is = is;
-        passed = λ k from less. elim (adds.adds k less) [
+        skipped_markers = λ k from less. elim (adds.adds k less) [
           | inl renamed ↦ inl renamed
           | inr apart ↦ elim (cases_lt k r.index) [
             | inl before ↦ inr (f.after k (omega (arith, from, apart)) before)
-            | inr after ↦ elim (r.passed k after less) [ inl renamed ↦ inl (adds.keeps k renamed) | inr other ↦ inr other ]
+            | inr after ↦ elim (r.skipped_markers k after less) [ inl renamed ↦ inl (adds.keeps k renamed) | inr other ↦ inr other ]
           ]
         ];
         keeps = λ k renamed. adds.keeps k (r.keeps k renamed);
@@ -91,7 +91,7 @@ renamed_all ds t id old now r = record {
   valid = r.valid;
   adds = λ k less. elim (cases_lt k r.index) [
     | inl before ↦ inr (last_missed (id_lists_of ds) id r.index (sym r.next_is) k before)
-    | inr after ↦ r.passed k after less
+    | inr after ↦ r.skipped_markers k after less
   ];
 }
 

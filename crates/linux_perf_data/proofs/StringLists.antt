@@ -10,9 +10,9 @@ use Rattle.perfdata_sections.specs.declared.error.Error.TheVariants.{NotEnoughSp
 use Rattle.linux_perf_data.specs.Values.{BeginsWithString, string_text, after_string, BeginsWithStrings, after_strings, IsStringError, IsStringListError}
 
 module _ (order : Endianness) where
-  behind_push : (xs : List ℕ) (ts : List (List ℕ)) (t : List ℕ) → after_strings order xs (ts ++ t ∷ []) ≡ after_string order (after_strings order xs ts)
-  behind_push xs [] t = refl
-  behind_push xs (s ∷ ts) t = behind_push (after_string order xs) ts t
+  rest_push : (xs : List ℕ) (ts : List (List ℕ)) (t : List ℕ) → after_strings order xs (ts ++ t ∷ []) ≡ after_string order (after_strings order xs ts)
+  rest_push xs [] t = refl
+  rest_push xs (s ∷ ts) t = rest_push (after_string order xs) ts t
 
   texts_push : (xs : List ℕ) (ts : List (List ℕ)) (t : List ℕ) → BeginsWithStrings order xs ts → BeginsWithString order (after_strings order xs ts) → t ≡ string_text order (after_strings order xs ts)
       → BeginsWithStrings order xs (ts ++ t ∷ [])
@@ -27,13 +27,13 @@ module _ (order : Endianness) where
       let ts : List (List ℕ) = map (λ b. b.now) items in
       let all : map (λ b. b.now) new ≡ ts ++ s.now ∷ [] = ap (map (λ b. b.now)) grown ∙ map_push (λ b. b.now) items s in (
         subst (BeginsWithStrings order xs) (sym all) (texts_push xs ts s.now are (subst (BeginsWithString order) at one) (is ∙ ap (string_text order) at)),
-        after ∙ ap (after_string order) at ∙ sym (behind_push xs ts s.now) ∙ sym (ap (after_strings order xs) all),
+        after ∙ ap (after_string order) at ∙ sym (rest_push xs ts s.now) ∙ sym (ap (after_strings order xs) all),
       )
 
   -- parsing the next string fails
   pub texts_stop : (xs : List ℕ) (before : List (List ℕ)) (e : Error) → 4 ≤ length xs → length before < number_in order 4 xs → BeginsWithStrings order (drop 4 xs) before
       → IsStringError order (after_strings order (drop 4 xs) before) e → IsStringListError order xs e
-  texts_stop xs before NotEnoughSpaceForStringLen counted few are stops = record { has_count = counted; before = before; too_few = few; elements = are; error_here = stops }
-  texts_stop xs before StringLengthTooLong counted few are stops = record { has_count = counted; before = before; too_few = few; elements = are; error_here = stops }
-  texts_stop xs before StringUtf8 counted few are stops = record { has_count = counted; before = before; too_few = few; elements = are; error_here = stops }
-  texts_stop xs before e counted few are stops = absurd stops
+  texts_stop xs before NotEnoughSpaceForStringLen counted fewer are stops = record { has_count = counted; before = before; too_few = fewer; elements = are; error_here = stops }
+  texts_stop xs before StringLengthTooLong counted fewer are stops = record { has_count = counted; before = before; too_few = fewer; elements = are; error_here = stops }
+  texts_stop xs before StringUtf8 counted fewer are stops = record { has_count = counted; before = before; too_few = fewer; elements = are; error_here = stops }
+  texts_stop xs before e counted fewer are stops = absurd stops

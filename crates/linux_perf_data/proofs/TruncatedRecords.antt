@@ -21,8 +21,8 @@ module _ {R : Type 0} (state : R → State) where
       (λ some. record { error = file (λ none. some (same.section_size ∙ none)); offset = offset; round = round; same_input = same; attribute_lookup = known; no_pending_header = unread })
 
   -- a call that returns a record header has read that raw record
-  pub some_record : (old new : PerfRecordIter R) (r : Option PerfEventHeader) (head : PerfEventHeader) → r ≡ Some head → ReadsRawRecord state old (Ok r) new → RawRecordRead state old head new
-  some_record old new r head is next = subst (λ o. ReadsRawRecord state old (Ok o) new) is next
+  pub some_record : (old new : PerfRecordIter R) (r : Option PerfEventHeader) (header : PerfEventHeader) → r ≡ Some header → ReadsRawRecord state old (Ok r) new → RawRecordRead state old header new
+  some_record old new r header is next = subst (λ o. ReadsRawRecord state old (Ok o) new) is next
 
   pub no_record : (old new : PerfRecordIter R) (r : Option PerfEventHeader) → r ≡ None → ReadsRawRecord state old (Ok r) new → RawRecordTruncated state old new
   no_record old new r is next = subst (λ o. ReadsRawRecord state old (Ok o) new) is next

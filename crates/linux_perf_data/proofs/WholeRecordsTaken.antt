@@ -15,7 +15,7 @@ use Rattle.linux_perf_data.specs.InMemory.{memory_state, MemoryIter}
 use Rattle.linux_perf_data.specs.IterSteps.{RawRecordRead}
 use Rattle.linux_perf_data.specs.Layout.{misc_of}
 use Rattle.linux_perf_data.proofs.BufferedRecords.{front_record_type}
-use Rattle.linux_perf_data.proofs.RecordHeaders.{misc_front, record_least}
+use Rattle.linux_perf_data.proofs.RecordHeaders.{misc_prefix, record_least}
 use Rattle.linux_perf_data.proofs.SourceViews.{consumed_in}
 
 -- the body of the record at the start of the bytes
@@ -34,7 +34,7 @@ whole_record_read old new header bytes n whole is none consumes input endian loo
       consumes = subst (λ i. Consumed (input_source_state old.input (memory_state old.source)) p (input_source_state i (memory_state new.source))) (sym input) (consumed_in old.input none (memory_state old.source) (memory_state new.source) p consumes);
       is_record = whole.2;
       record_type = sym (front_record_type old.endian n bytes whole) ∙ sym (ap (λ h. h.type_) is);
-      misc = sym (ap (misc_of old.endian) (sym (take-append-drop n bytes)) ∙ misc_front old.endian p (drop n bytes) least) ∙ sym (ap (λ h. h.misc) is);
+      misc = sym (ap (misc_of old.endian) (sym (take-append-drop n bytes)) ∙ misc_prefix old.endian p (drop n bytes) least) ∙ sym (ap (λ h. h.misc) is);
       offset = omega (arith, offset, long);
       offset_fits = fits;
       round = round;

@@ -38,7 +38,7 @@ pub record FileRead (p : Position) (file : PerfFile) (records : List RecordView)
   -- Markers fill the rest of the section after the last record.
   pub markers : List ℕ
   pub valid_markers : ConsistsOfMarkers (endian_of_file file) (Some header.data_section.size) (end_after 0 records) markers
-  pub section_passed : header.data_section.size ≤ end_after 0 records + length markers
+  pub section_skipped : header.data_section.size ≤ end_after 0 records + length markers
   pub remaining : unread ≡ Some (drop (header.data_section.offset + (end_after 0 records + length markers)) p.all_bytes)
 
 -- These are all records of the file before its layout error, and `e` reports that error.

@@ -6,4 +6,4 @@ use Rattle.linux_perf_data.specs.InMemory.{MemoryIter, TakesRawRecord}
 -- A raw record is taken, or nothing is.
 abbrev pub TakesWholeRecord : MemoryIter → Option RawRecord → MemoryIter → Type 0
 TakesWholeRecord old None new = new ≡ old
-TakesWholeRecord old (Some record_taken) new = TakesRawRecord old (Ok record_taken) new
+TakesWholeRecord old (Some record_consumed) new = TakesRawRecord old (Ok record_consumed) new

@@ -53,7 +53,7 @@ ConcernsMetadata compressed_record = ⊥
 ConcernsMetadata aux_body_too_short = ⊥
 ConcernsMetadata aux_end_overflows = ⊥
 ConcernsMetadata truncated_aux_data = ⊥
-ConcernsMetadata (invalid_metadata why) = Unit {0}
+ConcernsMetadata (invalid_metadata cause) = Unit {0}
 ConcernsMetadata (invalid_event_desc order bytes) = Unit {0}
 ConcernsMetadata (inconsistent_attributes b) = Unit {0}
 
@@ -185,7 +185,7 @@ module _ (order : Endianness) where
   ErrorAt bound offset attrs rest aux_body_too_short = HasCompleteBody offset rest × (record_type_of rest ≡ auxtrace) × (record_size_of rest < 48)
   ErrorAt bound offset attrs rest aux_end_overflows = HasAuxSize offset rest × (2 ^ 64 ≤ offset + total_size_of rest)
   ErrorAt bound offset attrs rest truncated_aux_data = HasAuxSize offset rest × (offset + total_size_of rest < 2 ^ 64) × (length rest < total_size_of rest)
-  ErrorAt bound offset attrs rest (invalid_metadata why) = (bound ≡ None) × ((p : List ℕ) × StartsWithRecord offset rest p × HasInvalidMetadata why p)
+  ErrorAt bound offset attrs rest (invalid_metadata cause) = (bound ≡ None) × ((p : List ℕ) × StartsWithRecord offset rest p × HasInvalidMetadata cause p)
   ErrorAt bound offset attrs rest (invalid_event_desc o bytes) = (bound ≡ None) × (o ≡ order) × ((p : List ℕ) × StartsWithRecord offset rest p × HasInvalidEventDesc bytes p)
   ErrorAt bound offset attrs rest (inconsistent_attributes b) =
       (bound ≡ None) × ((p : List ℕ) × StartsWithRecord offset rest p × IsValidRecord None p × AreInconsistent (attrs ++ attributes_in_record None (record_type_of p) (drop 8 p)) b)

@@ -30,7 +30,7 @@ PausesOnlyIfTruncated old (Err e) new = AtMostOnePause old new
 -- No pause if the call read a metadata record or a whole record header.
 abbrev pub PausesOnlyWithoutHeader : {E : Type 0} → State → Result NextInOpening E → State → Type 0
 PausesOnlyWithoutHeader old (Ok (Record end)) new = NoPause old new
-PausesOnlyWithoutHeader old (Ok (End head)) new = PausesOnlyAtEnd old head new
+PausesOnlyWithoutHeader old (Ok (End header)) new = PausesOnlyAtEnd old header new
 PausesOnlyWithoutHeader old (Err e) new = AtMostOnePause old new
 
 -- No pause if a record header ends the metadata.

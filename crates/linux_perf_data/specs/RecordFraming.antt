@@ -111,11 +111,11 @@ pub record BodyRead (order : Endianness) (old : State) (header : PerfEventHeader
   pub end_fits : end < 2 ^ 64 → record_end < 2 ^ 64
 
 -- A part of the body was read. `Why` holds for the consumed bytes, and bounds apply to the buffer.
-pub record BodyPartlyRead (old : State) (e : Error) (now : List ℕ) (new : State) (Why : List ℕ → Type 0) : Type 0 where
+pub record BodyPartlyRead (old : State) (e : Error) (now : List ℕ) (new : State) (Cause : List ℕ → Type 0) : Type 0 where
   pub consumed_bytes : List ℕ
   pub consumes : Consumed old consumed_bytes new
   pub buffer_bound : length now ≤ length consumed_bytes + 4096
-  pub cause : Why consumed_bytes
+  pub cause : Cause consumed_bytes
 
 -- The body is truncated: in what the size in the header counts, or after it in the aux data.
 abbrev pub IsTruncatedBody : Endianness → PerfEventHeader → List ℕ → Type 0

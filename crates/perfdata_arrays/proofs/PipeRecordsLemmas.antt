@@ -5,7 +5,7 @@ use Rattle.std.proofs.Math.Seq.{drop-append_seam, drop-nil}
 use Rattle.perfdata_base.specs.Features.{HasFeature}
 use Rattle.perfdata_base.specs.Endian.{number_in}
 use Rattle.perfdata_base.specs.declared.raw.Endianness.{Endianness}
-use Rattle.perfdata_base.proofs.Numbers.{number_drop_front}
+use Rattle.perfdata_base.proofs.Numbers.{number_drop_prefix}
 use Rattle.perfdata_base.specs.Source.{State, memory_source_at}
 use Rattle.perfdata_base.proofs.ReadErrors.{none_or_paused, all_read}
 use Rattle.perfdata_sections.specs.declared.error.Error.{Error}
@@ -75,8 +75,8 @@ opening_is_unique endian metadata_records bytes rest rest' a b =
     let m : List ℕ = concat metadata_records in
     let long_a = a.matches.exact_len in
     let long_b = b.matches.exact_len in
-    let size_a : number_in endian 8 (drop 8 bytes) ≡ number_in endian 8 (drop 8 a.header) = ap (λ l. number_in endian 8 (drop 8 l)) a.split ∙ number_drop_front endian 8 8 a.header (m ++ rest) (omega (arith, long_a)) in
-    let size_b : number_in endian 8 (drop 8 bytes) ≡ number_in endian 8 (drop 8 b.header) = ap (λ l. number_in endian 8 (drop 8 l)) b.split ∙ number_drop_front endian 8 8 b.header (m ++ rest') (omega (arith, long_b)) in
+    let size_a : number_in endian 8 (drop 8 bytes) ≡ number_in endian 8 (drop 8 a.header) = ap (λ l. number_in endian 8 (drop 8 l)) a.split ∙ number_drop_prefix endian 8 8 a.header (m ++ rest) (omega (arith, long_a)) in
+    let size_b : number_in endian 8 (drop 8 bytes) ≡ number_in endian 8 (drop 8 b.header) = ap (λ l. number_in endian 8 (drop 8 l)) b.split ∙ number_drop_prefix endian 8 8 b.header (m ++ rest') (omega (arith, long_b)) in
     let long : length (a.header ++ m) ≡ length (b.header ++ m) = omega (arith, long_a, long_b, size_a, size_b, length-append a.header m, length-append b.header m) in
     sym (drop-append_seam (a.header ++ m) rest) ∙ ap (drop (length (a.header ++ m))) (append_assoc a.header m rest ∙ sym a.split ∙ b.split ∙ sym (append_assoc b.header m rest'))
     ∙ ap (λ n. drop n ((b.header ++ m) ++ rest')) long ∙ drop-append_seam (b.header ++ m) rest'

@@ -16,8 +16,8 @@ use Rattle.perfdata_base.specs.Attr.{own_size, field, attr_of_size, IsAttr, Attr
 use Rattle.perfdata_base.specs.declared.attr.PerfEventAttr.{PerfEventAttr}
 
 -- the prefix of a buffer whose part from index a on was overwritten
-pub part_front : (a k m : ℕ) (xs ys : List ℕ) → a ≤ length xs → a + length ys ≡ m → take m (put_mid a k xs ys) ≡ take a xs ++ ys
-part_front a k m xs ys fits whole =
+pub part_prefix : (a k m : ℕ) (xs ys : List ℕ) → a ≤ length xs → a + length ys ≡ m → take m (put_mid a k xs ys) ≡ take a xs ++ ys
+part_prefix a k m xs ys fits whole =
     let prefix = length-take-le a xs fits in
     let long : length (take a xs ++ ys) ≡ m = omega (arith, length-append (take a xs) ys) in
     ap (λ n. take n (put_mid a k xs ys)) (sym long) ∙ ap (take (length (take a xs ++ ys))) (sym (append_assoc (take a xs) ys (post_of a k xs))) ∙ take-append_seam (take a xs ++ ys) (post_of a k xs)
@@ -27,7 +27,7 @@ part_long a k m xs ys fits whole =
     omega (arith, length-append (take a xs) (ys ++ post_of a k xs), length-append ys (post_of a k xs), length-take-le a xs fits)
 
 pub first_eight_front : (xs ys : List ℕ) → length ys ≡ 8 → take 8 (put_mid 0 8 xs ys) ≡ ys
-first_eight_front xs ys long = part_front 0 8 8 xs ys (omega arith) (omega arith)
+first_eight_front xs ys long = part_prefix 0 8 8 xs ys (omega arith) (omega arith)
 
 -- a property of all lists with this prefix applies to the remaining bytes, if they are known
 pub visible : (a b : Option (List ℕ)) (prefix : List ℕ) (P : List ℕ → Type 0) → a ≡ prepend prefix b → ((rest : List ℕ) → P (prefix ++ rest)) → IfSome a P
@@ -55,68 +55,68 @@ module _ (number : ℕ → List ℕ → ℕ) (first : (n : ℕ) (xs ys : List �
       ap (λ l. number n (drop at l)) (sym (take-append-drop m xs)) ∙ ap (number n) (drop-append-le at (take m xs) (drop m xs) (omega arith))
       ∙ first n (drop at (take m xs)) (drop m xs) (omega (arith, length-drop at (take m xs)))
 
-  pub number_front : (n at m : ℕ) (xs ys : List ℕ) → at + n ≤ m → m ≤ length xs → m ≤ length ys → take m xs ≡ take m ys → number n (drop at xs) ≡ number n (drop at ys)
-  number_front n at m xs ys within fits fits' same =
+  pub number_prefix : (n at m : ℕ) (xs ys : List ℕ) → at + n ≤ m → m ≤ length xs → m ≤ length ys → take m xs ≡ take m ys → number n (drop at xs) ≡ number n (drop at ys)
+  number_prefix n at m xs ys within fits fits' same =
       number_of_prefix n at m xs within fits ∙ ap (λ l. number n (drop at l)) same ∙ sym (number_of_prefix n at m ys within fits')
 
   -- the own size depends on the first eight bytes alone
-  pub own_stays : (h r : List ℕ) → 8 ≤ length h → own_size number (h ++ r) ≡ own_size number h
-  own_stays h r long =
+  pub own_remains : (h r : List ℕ) → 8 ≤ length h → own_size number (h ++ r) ≡ own_size number h
+  own_remains h r long =
       let fits : 8 ≤ length (h ++ r) = omega (arith, length-append h r) in
-      let same = number_front 4 4 8 (h ++ r) h (omega arith) fits long (take-append-le 8 h r long) in
+      let same = number_prefix 4 4 8 (h ++ r) h (omega arith) fits long (take-append-le 8 h r long) in
       ap (λ s. if nat_eq s 0 then 64 else s) same
 
   module _ (own m : ℕ) (xs ys : List ℕ) (known : (k : ℕ) → k ≤ own → k ≤ 136 → k ≤ m) (fits : m ≤ length xs) (fits' : m ≤ length ys) (same : take m xs ≡ take m ys) where
-    field_front : (n at : ℕ) → at + n ≤ 136 → field number own n at xs ≡ field number own n at ys
+    field_prefix : (n at : ℕ) → at + n ≤ 136 → field number own n at xs ≡ field number own n at ys
     unfolding field
-    field_front n at low = if_same (nat_le (at + n) own) (number n (drop at xs)) (number n (drop at ys)) (λ test.
+    field_prefix n at low = if_same (nat_le (at + n) own) (number n (drop at xs)) (number n (drop at ys)) (λ test.
         let within = leb-true (at + n) own test in
-        number_front n at m xs ys (known (at + n) within low) fits fits' same)
+        number_prefix n at m xs ys (known (at + n) within low) fits fits' same)
 
     -- the fields depend on the own bytes and on the known bytes alone
-    pub attr_front : attr_of_size number own xs ≡ attr_of_size number own ys
+    pub attr_prefix : attr_of_size number own xs ≡ attr_of_size number own ys
     unfolding attr_of_size
-    attr_front = λ i. record {
-      type_ = field_front 4 0 (omega arith) i;
+    attr_prefix = λ i. record {
+      type_ = field_prefix 4 0 (omega arith) i;
       size = own;
-      config = field_front 8 8 (omega arith) i;
-      period_or_freq = field_front 8 16 (omega arith) i;
-      sample_format = record { 0 = field_front 8 24 (omega arith) i };
-      read_format = field_front 8 32 (omega arith) i;
-      flags = record { 0 = field_front 8 40 (omega arith) i };
-      wakeup = field_front 4 48 (omega arith) i;
-      bp_type = field_front 4 52 (omega arith) i;
-      config1 = field_front 8 56 (omega arith) i;
-      config2 = field_front 8 64 (omega arith) i;
-      branch_sample_type = field_front 8 72 (omega arith) i;
-      sample_regs_user = field_front 8 80 (omega arith) i;
-      sample_stack_user = field_front 4 88 (omega arith) i;
-      clockid = cast_signed w32 (field_front 4 92 (omega arith) i);
-      sample_regs_intr = field_front 8 96 (omega arith) i;
-      aux_watermark = field_front 4 104 (omega arith) i;
-      sample_max_stack = field_front 2 108 (omega arith) i;
-      aux_sample_size = field_front 4 112 (omega arith) i;
-      sig_data = field_front 8 120 (omega arith) i;
-      config3 = field_front 8 128 (omega arith) i;
+      config = field_prefix 8 8 (omega arith) i;
+      period_or_freq = field_prefix 8 16 (omega arith) i;
+      sample_format = record { 0 = field_prefix 8 24 (omega arith) i };
+      read_format = field_prefix 8 32 (omega arith) i;
+      flags = record { 0 = field_prefix 8 40 (omega arith) i };
+      wakeup = field_prefix 4 48 (omega arith) i;
+      bp_type = field_prefix 4 52 (omega arith) i;
+      config1 = field_prefix 8 56 (omega arith) i;
+      config2 = field_prefix 8 64 (omega arith) i;
+      branch_sample_type = field_prefix 8 72 (omega arith) i;
+      sample_regs_user = field_prefix 8 80 (omega arith) i;
+      sample_stack_user = field_prefix 4 88 (omega arith) i;
+      clockid = cast_signed w32 (field_prefix 4 92 (omega arith) i);
+      sample_regs_intr = field_prefix 8 96 (omega arith) i;
+      aux_watermark = field_prefix 4 104 (omega arith) i;
+      sample_max_stack = field_prefix 2 108 (omega arith) i;
+      aux_sample_size = field_prefix 4 112 (omega arith) i;
+      sig_data = field_prefix 8 120 (omega arith) i;
+      config3 = field_prefix 8 128 (omega arith) i;
     }
 
   -- bytes after an attribute don't change it
-  pub attr_stays : (xs rest : List ℕ) (a : PerfEventAttr) → IsAttr number xs a → IsAttr number (xs ++ rest) a
-  attr_stays xs rest a is =
+  pub attr_remains : (xs rest : List ℕ) (a : PerfEventAttr) → IsAttr number xs a → IsAttr number (xs ++ rest) a
+  attr_remains xs rest a is =
       let least = is.min_size in
       let there = is.complete in
-      let size = own_stays xs rest (omega arith) in
+      let size = own_remains xs rest (omega arith) in
       let all = length-append xs rest in
       record {
         min_size = omega arith;
         complete = omega arith;
-        matches = is.matches ∙ sym (attr_front (own_size number xs) (own_size number xs) (xs ++ rest) xs (λ k low high. low) (omega arith) there (take-append-le (own_size number xs) xs rest there)) ∙ ap (λ own. attr_of_size number own (xs ++ rest)) (sym size);
+        matches = is.matches ∙ sym (attr_prefix (own_size number xs) (own_size number xs) (xs ++ rest) xs (λ k low high. low) (omega arith) there (take-append-le (own_size number xs) xs rest there)) ∙ ap (λ own. attr_of_size number own (xs ++ rest)) (sym size);
       }
 
   -- the first eight bytes and the rest are an attribute
   pub whole_attr : (a b c : State) (header : List ℕ) (own : ℕ) (attr : PerfEventAttr) → length header ≡ 8 → OwnSizeRead number a header own b → AttrRestRead number b header own attr c → AttrParsed number a attr own c
   whole_attr a b c header own attr long step more =
-      let size = own_stays header more.rest (omega arith) in
+      let size = own_remains header more.rest (omega arith) in
       let all = length-append header more.rest in
       let eight = more.exact_len in
       let least = step.min_size in
@@ -132,7 +132,7 @@ module _ (number : ℕ → List ℕ → ℕ) (first : (n : ℕ) (xs ys : List �
   -- the first eight bytes were read, and the rest is truncated
   pub rest_truncated : (a b c : State) (header : List ℕ) (own : ℕ) (e : Error) → length header ≡ 8 → OwnSizeRead number a header own b → ReadExactError b (own - 8) e c → AttrParseError number a e c
   rest_truncated a b c header own e long step truncated =
-      let size : own_size number (header ++ truncated.consumed_bytes) ≡ own = own_stays header truncated.consumed_bytes (omega arith) ∙ sym step.matches in
+      let size : own_size number (header ++ truncated.consumed_bytes) ≡ own = own_remains header truncated.consumed_bytes (omega arith) ∙ sym step.matches in
       let least = step.min_size in
       let less = truncated.too_few in
       record {
@@ -163,12 +163,12 @@ module _ (number : ℕ → List ℕ → ℕ) (first : (n : ℕ) (xs ys : List �
         rest = ys ++ skip.bytes;
         exact_len = omega arith;
         consumes = consumed_more a b c ys skip.bytes consumed skip.consumes;
-        matches = fields ∙ attr_front own m now (header ++ (ys ++ skip.bytes)) known fits (omega arith) prefix;
+        matches = fields ∙ attr_prefix own m now (header ++ (ys ++ skip.bytes)) known fits (omega arith) prefix;
       }
 
-  small_stays : (prefix rest : List ℕ) → length prefix ≡ 8 → own_size number prefix < 64 → IsTooSmall number (prefix ++ rest)
-  small_stays prefix rest long small =
-      let size = own_stays prefix rest (omega arith) in
+  small_remains : (prefix rest : List ℕ) → length prefix ≡ 8 → own_size number prefix < 64 → IsTooSmall number (prefix ++ rest)
+  small_remains prefix rest long small =
+      let size = own_remains prefix rest (omega arith) in
       (omega (arith, length-append prefix rest), omega arith)
 
   excused : (Unfinished : List ℕ → Type 0) (a b : State) (prefix : List ℕ) (e : Error) → Consumed a prefix b → AttrErrorCause number Unfinished a prefix e b → BytesOrSourceExplain a (λ xs. ((error_kind e ≡ UnexpectedEof) × Unfinished xs) ⊎ ((error_kind e ≡ InvalidData) × IsTooSmall number xs)) b
@@ -180,7 +180,7 @@ module _ (number : ℕ → List ℕ → ℕ) (first : (n : ℕ) (xs ys : List �
       ]
       | inr failed ↦ inr (inl failed)
     ]
-    | inr small ↦ inl (visible a.bytes b.bytes prefix (λ xs. ((error_kind e ≡ UnexpectedEof) × Unfinished xs) ⊎ ((error_kind e ≡ InvalidData) × IsTooSmall number xs)) consumed.bytes (λ rest. inr (small.2, small_stays prefix rest small.0 small.1)))
+    | inr small ↦ inl (visible a.bytes b.bytes prefix (λ xs. ((error_kind e ≡ UnexpectedEof) × Unfinished xs) ⊎ ((error_kind e ≡ InvalidData) × IsTooSmall number xs)) consumed.bytes (λ rest. inr (small.2, small_remains prefix rest small.0 small.1)))
   ]
 
   -- if the own size can't be read, the remaining bytes show the cause if they are known, or the source failed or paused

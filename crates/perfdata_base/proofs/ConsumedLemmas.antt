@@ -28,8 +28,8 @@ prepend_more first second (Some rest) = ap (λ l. Some l) (sym (append_assoc fir
 pub consumed_none : (s : State) → Consumed s [] s
 consumed_none s = record { bytes = prepend_none s.bytes; position = moved_none s.position; errors = omega arith; pauses = omega arith; steady = λ h. record { steady = h; errors = refl; pauses = refl } }
 
-stays_on : (a b c : State) → StaysSteady a b → StaysSteady b c → StaysSteady a c
-stays_on a b c x y = record { steady = y.steady; errors = y.errors ∙ x.errors; pauses = y.pauses ∙ x.pauses }
+remains_on : (a b c : State) → StaysSteady a b → StaysSteady b c → StaysSteady a c
+remains_on a b c x y = record { steady = y.steady; errors = y.errors ∙ x.errors; pauses = y.pauses ∙ x.pauses }
 
 pub consumed_more : (a b c : State) (first second : List ℕ) → Consumed a first b → Consumed b second c → Consumed a (first ++ second) c
 consumed_more a b c first second x y = record {
@@ -37,7 +37,7 @@ consumed_more a b c first second x y = record {
   position = y.position ∙ ap (advance_by (length second)) x.position ∙ moved_more (length first) (length second) a.position ∙ ap (λ n. advance_by n a.position) (sym (length-append first second));
   errors = let p = x.errors in let q = y.errors in omega arith;
   pauses = let p = x.pauses in let q = y.pauses in omega arith;
-  steady = λ h. let s = x.steady h in stays_on a b c s (y.steady s.steady);
+  steady = λ h. let s = x.steady h in remains_on a b c s (y.steady s.steady);
 }
 
 pub consumed_no_more : (a b c : State) (prefix : List ℕ) → Consumed a prefix b → Consumed b [] c → Consumed a prefix c
@@ -69,8 +69,8 @@ pub consumed_none_later : (a b c : State) (prefix : List ℕ) → Consumed a pre
 consumed_none_later a b c prefix x y = λ more. paused_later a b c prefix x (y more)
 
 -- the prefix of a buffer whose part from index a on was overwritten
-pub front_and_part : (a k n : ℕ) (xs ys : List ℕ) → a ≤ length xs → n ≤ length ys → take (a + n) (put_mid a k xs ys) ≡ take a xs ++ take n ys
-front_and_part a k n xs ys fits within =
+pub prefix_and_part : (a k n : ℕ) (xs ys : List ℕ) → a ≤ length xs → n ≤ length ys → take (a + n) (put_mid a k xs ys) ≡ take a xs ++ take n ys
+prefix_and_part a k n xs ys fits within =
     let prefix = length-take-le a xs fits in
     ap (λ m. take (m + n) (put_mid a k xs ys)) (sym prefix) ∙ take-append-add (take a xs) (ys ++ post_of a k xs) n
     ∙ ap (λ r. take a xs ++ r) (take-append-le n ys (post_of a k xs) within)
@@ -141,4 +141,4 @@ tail_filled h n len xs ys rest buffered more is long same within whole =
     let fits_in : h + n ≤ length xs = omega (arith, length-take (length xs - h) (drop h xs), length-drop h xs) in
     let prefix : take h xs ≡ buffered = ap (λ l. take h l) is ∙ ap (λ k. take k (buffered ++ more)) (sym long) ∙ take-append_seam buffered more in
     take-take (h + n) len (put_mid h (length xs - h) xs ys ++ rest) (omega arith) ∙ take-append-le (h + n) (put_mid h (length xs - h) xs ys) rest (omega arith)
-    ∙ front_and_part h (length xs - h) n xs ys fits within ∙ ap (λ l. l ++ take n ys) prefix
+    ∙ prefix_and_part h (length xs - h) n xs ys fits within ∙ ap (λ l. l ++ take n ys) prefix

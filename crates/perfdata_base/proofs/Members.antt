@@ -81,16 +81,16 @@ member_has set n member = (
 )
 
 -- a filtered range has no more elements than the range
-few : (p : ℕ → Bool) (a n : ℕ) → length (filter p (range_with_len a n)) ≤ n
-few p a zero = omega arith
-few p a (suc n) =
-    let less = few p (a + 1) n in
+is_too_few : (p : ℕ → Bool) (a n : ℕ) → length (filter p (range_with_len a n)) ≤ n
+is_too_few p a zero = omega arith
+is_too_few p a (suc n) =
+    let less = is_too_few p (a + 1) n in
     elim (p a) as (λ b. length (cond b (a ∷ filter p (range_with_len (a + 1) n)) (filter p (range_with_len (a + 1) n))) ≤ suc n) [
       | true ↦ omega arith
       | false ↦ omega arith
     ]
 
 -- a set has at most 256 features
-pub features_few : (set : FeatureSet) (n : ℕ) → length (features_from set n) ≤ 256
+pub features_too_few : (set : FeatureSet) (n : ℕ) → length (features_from set n) ≤ 256
 unfolding features_from
-features_few set n = omega (arith, few (has_bit set) n (256 - n))
+features_too_few set n = omega (arith, is_too_few (has_bit set) n (256 - n))

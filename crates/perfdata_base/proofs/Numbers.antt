@@ -11,10 +11,10 @@ abbrev pub ReadsFirst : (ℕ → List ℕ → ℕ) → Type 0
 ReadsFirst number = (n : ℕ) (xs ys : List ℕ) → n ≤ length xs → number n (xs ++ ys) ≡ number n xs
 
 -- bytes after the number don't change it
-pub number_front : (order : Endianness) (n : ℕ) (xs ys : List ℕ) → n ≤ length xs
+pub number_prefix : (order : Endianness) (n : ℕ) (xs ys : List ℕ) → n ≤ length xs
     → number_in order n (xs ++ ys) ≡ number_in order n xs
-number_front LittleEndian n xs ys h = little_from-append n xs ys h
-number_front BigEndian n xs ys h = big_from-append n xs ys h
+number_prefix LittleEndian n xs ys h = little_from-append n xs ys h
+number_prefix BigEndian n xs ys h = big_from-append n xs ys h
 
 -- each prefix that contains the number's bytes has the same number
 pub number_take : (order : Endianness) (n m : ℕ) (xs : List ℕ) → n ≤ m
@@ -23,12 +23,12 @@ number_take LittleEndian n m xs h = little_from-take 0 n m xs (omega arith)
 number_take BigEndian n m xs h = big_from-take 0 n m xs (omega arith)
 
 -- bytes after the list don't change the number at offset k
-pub number_drop_front : (order : Endianness) (n k : ℕ) (xs ys : List ℕ) → k + n ≤ length xs
+pub number_drop_prefix : (order : Endianness) (n k : ℕ) (xs ys : List ℕ) → k + n ≤ length xs
     → number_in order n (drop k (xs ++ ys)) ≡ number_in order n (drop k xs)
-number_drop_front order n k xs ys h =
+number_drop_prefix order n k xs ys h =
     let truncated = drop-append-le k xs ys (omega arith) in
     let long_enough : n ≤ length (drop k xs) = omega (arith, length-drop k xs) in
-    ap (number_in order n) truncated ∙ number_front order n (drop k xs) ys long_enough
+    ap (number_in order n) truncated ∙ number_prefix order n (drop k xs) ys long_enough
 
 -- the number in n bytes is below 256 ^ n
 pub number_bound : (order : Endianness) (n : ℕ) (xs : List ℕ) → ((k : ℕ) → slice_index xs k < 256)
@@ -38,7 +38,7 @@ number_bound BigEndian n xs h = big_from-lt 0 n xs h
 
 -- both byte orders depend only on the first bytes
 pub in_reads_first : (order : Endianness) → ReadsFirst (number_in order)
-in_reads_first order = λ n xs ys h. number_front order n xs ys h
+in_reads_first order = λ n xs ys h. number_prefix order n xs ys h
 
 -- `number_take` for each function that depends only on the first bytes
 pub first_take : (number : ℕ → List ℕ → ℕ) → ReadsFirst number → (n m : ℕ) (xs : List ℕ) → n ≤ m → m ≤ length xs
@@ -48,9 +48,9 @@ first_take number first n m xs h long_enough =
     sym (first n (take m xs) (drop m xs) (omega arith)) ∙ ap (number n) (take-append-drop m xs)
 
 -- `number_drop_front` for each function that depends only on the first bytes
-pub first_drop_front : (number : ℕ → List ℕ → ℕ) → ReadsFirst number → (n k : ℕ) (xs ys : List ℕ) → k + n ≤ length xs
+pub first_drop_prefix : (number : ℕ → List ℕ → ℕ) → ReadsFirst number → (n k : ℕ) (xs ys : List ℕ) → k + n ≤ length xs
     → number n (drop k (xs ++ ys)) ≡ number n (drop k xs)
-first_drop_front number first n k xs ys h =
+first_drop_prefix number first n k xs ys h =
     let truncated = drop-append-le k xs ys (omega arith) in
     let long_enough : n ≤ length (drop k xs) = omega (arith, length-drop k xs) in
     ap (number n) truncated ∙ first n (drop k xs) ys long_enough

@@ -14,9 +14,9 @@ complete_or_not a b c bytes extra count n consumed long within less = elim (case
 ]
 
 -- 16 bytes were read, and the extra bytes skipped, all or some of them
-pub whole_front : (a b c : State) (bytes : List ℕ) (h : PerfPipeHeader) (count n : ℕ) (whole : Bool) → length bytes ≡ 16 → h ≡ pipe_header_of bytes → Consumed a bytes b
+pub whole_prefix : (a b c : State) (bytes : List ℕ) (h : PerfPipeHeader) (count n : ℕ) (whole : Bool) → length bytes ≡ 16 → h ≡ pipe_header_of bytes → Consumed a bytes b
     → count ≡ h.size - 16 → SkippedUpTo b count n c → whole ≡ (n == count) → PipeHeaderWithExtraParsed a h whole c
-whole_front a b c bytes h count n whole long is consumed counts skipped shows = record {
+whole_prefix a b c bytes h count n whole long is consumed counts skipped shows = record {
   bytes = bytes;
   exact_len = long;
   matches = is;
@@ -27,24 +27,24 @@ whole_front a b c bytes h count n whole long is consumed counts skipped shows = 
 }
 
 -- a header parsed with its completeness is a parsed header
-pub counted_front : (a b : State) (h : PerfPipeHeader) (whole : Bool) → PipeHeaderWithExtraParsed a h whole b → PipeHeaderParsed a h b
-counted_front a b h true t = record {
+pub counted_prefix : (a b : State) (h : PerfPipeHeader) (whole : Bool) → PipeHeaderWithExtraParsed a h whole b → PipeHeaderParsed a h b
+counted_prefix a b h true t = record {
   bytes = t.bytes;
   exact_len = t.exact_len;
   matches = t.matches;
   extra = t.extra;
   consumes = t.consumes;
   within = let all = t.extra_complete in omega (arith, all);
-  if_incomplete = λ few. let all = t.extra_complete in absurd (omega (arith, all, few));
+  if_incomplete = λ is_too_few. let all = t.extra_complete in absurd (omega (arith, all, is_too_few));
 }
-counted_front a b h false t = record {
+counted_prefix a b h false t = record {
   bytes = t.bytes;
   exact_len = t.exact_len;
   matches = t.matches;
   extra = t.extra;
   consumes = t.consumes;
   within = let less = t.extra_complete.0 in omega (arith, less);
-  if_incomplete = λ few. t.extra_complete.1;
+  if_incomplete = λ is_too_few. t.extra_complete.1;
 }
 
 -- the source failed in the extra bytes

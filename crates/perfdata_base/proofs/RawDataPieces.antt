@@ -24,18 +24,18 @@ pub bytes_eq_seams : (xs bs cs ds header between middle tail : List ℕ)
     → middle ≡ take (length between) bs → tail ≡ drop (length between) bs
     → length xs ≤ length cs → length between ≤ length bs
     → bytes_eq (xs ++ bs) (cs ++ ds) ≡ (bytes_eq xs header && (bytes_eq middle between && bytes_eq tail ds))
-bytes_eq_seams xs bs cs ds header between middle tail is_head is_between is_middle is_tail prefix long_enough =
+bytes_eq_seams xs bs cs ds header between middle tail is_header is_between is_middle is_tail prefix long_enough =
     let left : bs ≡ middle ++ tail =
     sym (take-append-drop (length between) bs) ∙ ap (λ t. t ++ drop (length between) bs) (sym is_middle)
     ∙ ap (λ t. middle ++ t) (sym is_tail) in
     let right : cs ++ ds ≡ header ++ (between ++ ds) =
-    ap (λ t. t ++ ds) (sym (take-append-drop (length xs) cs) ∙ ap (λ t. t ++ drop (length xs) cs) (sym is_head)
+    ap (λ t. t ++ ds) (sym (take-append-drop (length xs) cs) ∙ ap (λ t. t ++ drop (length xs) cs) (sym is_header)
     ∙ ap (λ t. header ++ t) (sym is_between)) ∙ append_assoc header between ds in
-    let long_head : length xs ≡ length header = sym (ap length is_head ∙ length-take-le (length xs) cs prefix) in
+    let long_header : length xs ≡ length header = sym (ap length is_header ∙ length-take-le (length xs) cs prefix) in
     let long_middle : length middle ≡ length between = ap length is_middle ∙ length-take-le (length between) bs long_enough in
     ap (λ t. bytes_eq (xs ++ t) (cs ++ ds)) left
     ∙ ap (bytes_eq (xs ++ (middle ++ tail))) right
-    ∙ bytes_eq_append xs (middle ++ tail) header (between ++ ds) long_head
+    ∙ bytes_eq_append xs (middle ++ tail) header (between ++ ds) long_header
     ∙ ap (λ t. bytes_eq xs header && t) (bytes_eq_append middle tail between ds long_middle)
 
 -- the last test decides if the others are true

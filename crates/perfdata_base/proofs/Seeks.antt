@@ -8,8 +8,8 @@ use Rattle.std.proofs.lemmas.List.{length-take-le, take-append-drop, drop-drop}
 use Rattle.perfdata_base.specs.Buffered.{ConsumedBuffered}
 use Rattle.perfdata_base.specs.Source.{memory_source_at, ReadInto, AfterSeek, VisibleLength, LeadsTo, LeadsNowhere, Seeks}
 
-stood : (all : List ℕ) (at to : ℕ) → AfterSeek (memory_source_at all at) (memory_source_at all to)
-stood all at to = record {
+is_unchanged : (all : List ℕ) (at to : ℕ) → AfterSeek (memory_source_at all at) (memory_source_at all to)
+is_unchanged all at to = record {
   from_position = refl;
   all_bytes = refl;
   errors = omega arith;
@@ -37,13 +37,13 @@ module _ (E : Type 0) (all : List ℕ) (at : ℕ) where
 
 pub seeks_cursor : {E : Type 0} (all : List ℕ) (at at' : ℕ) (to : SeekFrom) (r : Result ℕ E) → IfOk r (λ n. at' ≡ n) → IsSeekResult to at r → IsSeekFromEnd to (length all) r → Seeks (memory_source_at all at) to r (memory_source_at all at')
 seeks_cursor {E} all at at' to (Ok n) is target end = record {
-  after_seek = stood all at at';
+  after_seek = is_unchanged all at at';
   position = ap (λ k. Some (record { all_bytes = all; offset = k })) is;
   target = λ p same.
       let there : record { all_bytes = all; offset = at } ≡ p = cc in
       subst (λ q. LeadsTo true to q n) there (goes E all at n to target end);
 }
-seeks_cursor {E} all at at' to (Err e) is target end = (stood all at at', inr (record { start = record { all_bytes = all; offset = at }; at_start = refl; out_of_range = nowhere E all at e to target end }))
+seeks_cursor {E} all at at' to (Err e) is target end = (is_unchanged all at at', inr (record { start = record { all_bytes = all; offset = at }; at_start = refl; out_of_range = nowhere E all at e to target end }))
 
 -- a read of n bytes from a cursor's position
 pub read_from_cursor : (all buf : List ℕ) (at n : ℕ) → 0 < n → n ≤ length buf → take n buf ≡ take n (drop at all) → at + n ≤ length all → ReadInto (memory_source_at all at) buf n (memory_source_at all (at + n))

@@ -15,8 +15,8 @@ abbrev pub only : ℕ → SampleFormat
 only k = record { 0 = 2 ^ k }
 
 -- whether a format selects a field
-abbrev pub asks_for : ℕ → SampleFormat → Bool
-asks_for format word = bit_and format word.0 == word.0
+abbrev pub requested_for : ℕ → SampleFormat → Bool
+requested_for format word = bit_and format word.0 == word.0
 
 -- powers of two are equal exactly if their exponents are
 pub same_bit : (j k : ℕ) → (2 ^ j == 2 ^ k) ≡ (j == k)
@@ -29,35 +29,35 @@ same_bit j k = elim (cases_order j k) [
 ]
 
 -- a format selects as many fields by their bits as by the numbers of the bits
-pub length-asked : (format : ℕ) (ks : List ℕ) → length (filter (asks_for format) (map only ks)) ≡ length (filter (is_set format) ks)
+pub length-asked : (format : ℕ) (ks : List ℕ) → length (filter (requested_for format) (map only ks)) ≡ length (filter (is_set format) ks)
 length-asked format [] = refl
 length-asked format (k ∷ ks) =
-    elim (is_set format k) as (λ b. length (cond b (only k ∷ filter (asks_for format) (map only ks)) (filter (asks_for format) (map only ks)))
+    elim (is_set format k) as (λ b. length (cond b (only k ∷ filter (requested_for format) (map only ks)) (filter (requested_for format) (map only ks)))
     ≡ length (cond b (k ∷ filter (is_set format) ks) (filter (is_set format) ks)))
     [ true ↦ ap suc (length-asked format ks) | false ↦ length-asked format ks ]
 
 -- as many selected fields are before a field by its bit as by the number of the bit
-pub passed-asked : (format k : ℕ) (ks : List ℕ) → position_or_len (λ w. w.0 == 2 ^ k) (filter (asks_for format) (map only ks)) ≡ position_or_len (λ w. w == k) (filter (is_set format) ks)
+pub passed-asked : (format k : ℕ) (ks : List ℕ) → position_or_len (λ w. w.0 == 2 ^ k) (filter (requested_for format) (map only ks)) ≡ position_or_len (λ w. w == k) (filter (is_set format) ks)
 passed-asked format k [] = refl
 passed-asked format k (j ∷ ks) =
-    elim (is_set format j) as (λ b. position_or_len (λ w. w.0 == 2 ^ k) (cond b (only j ∷ filter (asks_for format) (map only ks)) (filter (asks_for format) (map only ks)))
+    elim (is_set format j) as (λ b. position_or_len (λ w. w.0 == 2 ^ k) (cond b (only j ∷ filter (requested_for format) (map only ks)) (filter (requested_for format) (map only ks)))
     ≡ position_or_len (λ w. w == k) (cond b (j ∷ filter (is_set format) ks) (filter (is_set format) ks)))
     [ true ↦ rw (same_bit j k, passed-asked format k ks) refl | false ↦ passed-asked format k ks ]
 
 -- a field has the same index by its bit and by the number of the bit
-pub position-asked : (format k : ℕ) (ks : List ℕ) → position (λ w. w.0 == 2 ^ k) (filter (asks_for format) (map only ks)) ≡ position (λ w. w == k) (filter (is_set format) ks)
+pub position-asked : (format k : ℕ) (ks : List ℕ) → position (λ w. w.0 == 2 ^ k) (filter (requested_for format) (map only ks)) ≡ position (λ w. w == k) (filter (is_set format) ks)
 position-asked format k ks = rw (length-asked format ks, passed-asked format k ks) refl
 
 -- the index of a field by its bit determines its offset in a sample
 pub from_start-asked : (format word k : ℕ) (ks : List ℕ) (index : Option ℕ) → word ≡ 2 ^ k
-    → index ≡ position (λ w. w.0 == word) (filter (asks_for format) (map only ks))
+    → index ≡ position (λ w. w.0 == word) (filter (requested_for format) (map only ks))
     → option_map (λ i. 8 * i) index ≡ offset_from_start (filter (is_set format) ks) k
 from_start-asked format word k ks index e found = rw (found, e, position-asked format k ks) refl
 
 -- it determines its offset in the trailing fields too
 pub from_end-asked : (format word k : ℕ) (ks : List ℕ) (index : Option ℕ) (count : ℕ) → word ≡ 2 ^ k
-    → index ≡ position (λ w. w.0 == word) (filter (asks_for format) (map only ks))
-    → count ≡ length (filter (asks_for format) (map only ks))
+    → index ≡ position (λ w. w.0 == word) (filter (requested_for format) (map only ks))
+    → count ≡ length (filter (requested_for format) (map only ks))
     → option_map (λ i. 8 * (count - i)) index ≡ offset_from_end (filter (is_set format) ks) k
 from_end-asked format word k ks index count e found counted =
     rw (found, e, position-asked format k ks, counted, length-asked format ks) refl

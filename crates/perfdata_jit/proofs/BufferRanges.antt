@@ -41,9 +41,9 @@ main_grows xs ys s e f n le none same =
     grind (arith, common_steps, kept, grown, empty xs, empty ys)
 
 -- the same for the prefix that wraps around
-pub front_grows : (xs ys : List ℕ) (s e f n : ℕ) → drop s ys ≡ drop s xs → take f ys ≡ take f xs
+pub prefix_grows : (xs ys : List ℕ) (s e f n : ℕ) → drop s ys ≡ drop s xs → take f ys ≡ take f xs
     → slice_range ys s e ++ take (f + n) ys ≡ (slice_range xs s e ++ take f xs) ++ slice_range ys f (f + n)
-front_grows xs ys s e f n rest same =
+prefix_grows xs ys s e f n rest same =
     let grown = range_append ys 0 f n (omega arith) in
     let kept : slice_range ys s e ≡ slice_range xs s e = ap (take (e - s)) rest in
     grind (arith, common_steps, kept, grown, same)
@@ -55,9 +55,9 @@ take_range xs s e n le =
     take-take n (e - s) (drop s xs) (omega arith) ∙ ap (λ k. take k (drop s xs)) (sym width)
 
 -- if the main range ends before the buffer does, no bytes wrap around
-pub no_front : (f e size : ℕ) → (0 < f → e ≡ size) → e < size → f ≡ 0
-no_front zero e size wraps short = refl
-no_front (suc f) e size wraps short = absurd (omega (arith, wraps (omega arith)))
+pub no_prefix : (f e size : ℕ) → (0 < f → e ≡ size) → e < size → f ≡ 0
+no_prefix zero e size wraps short = refl
+no_prefix (suc f) e size wraps short = absurd (omega (arith, wraps (omega arith)))
 
 pub length_range : (xs : List ℕ) (s e : ℕ) → e ≤ length xs → length (slice_range xs s e) ≡ e - s
 length_range xs s e within = length-take-le (e - s) (drop s xs) (omega (arith, length-drop s xs))
@@ -79,8 +79,8 @@ main_drops xs t s e n le within =
     ap (λ l. l ++ t) (sym moved) ∙ sym (drop-append-le n (slice_range xs s e) t fits)
 
 -- the whole main range a is consumed, and k more bytes of the prefix that wraps around
-pub both_taken : (a xs : List ℕ) (f k n : ℕ) → n ≡ length a + k → k ≤ f → a ++ take k xs ≡ take n (a ++ take f xs)
-both_taken a xs f k n at le = ap (λ l. a ++ l) (sym (take-take k f xs le)) ∙ sym (take-append-add a (take f xs) k) ∙ ap (λ m. take m (a ++ take f xs)) (sym at)
+pub both_consumed : (a xs : List ℕ) (f k n : ℕ) → n ≡ length a + k → k ≤ f → a ++ take k xs ≡ take n (a ++ take f xs)
+both_consumed a xs f k n at le = ap (λ l. a ++ l) (sym (take-take k f xs le)) ∙ sym (take-append-add a (take f xs) k) ∙ ap (λ m. take m (a ++ take f xs)) (sym at)
 
 pub both_dropped : (a xs : List ℕ) (f k n : ℕ) → n ≡ length a + k → k ≤ f → slice_range xs k f ++ [] ≡ drop n (a ++ take f xs)
 both_dropped a xs f k n at le =
@@ -88,9 +88,9 @@ both_dropped a xs f k n at le =
     append-nil (slice_range xs k f) ∙ sym (drop-take k (f - k) xs) ∙ ap (λ m. drop k (take m xs)) width ∙ sym (drop-append-add a (take f xs) k) ∙ ap (λ m. drop m (a ++ take f xs)) (sym at)
 
 -- the rest of a list is consumed, and then k bytes of the next list
-pub over_taken : (over part ring : List ℕ) (p size k n : ℕ) → size ≡ length over → n ≡ (size - p) + k → part ≡ take k ring
+pub over_consumed : (over part ring : List ℕ) (p size k n : ℕ) → size ≡ length over → n ≡ (size - p) + k → part ≡ take k ring
     → slice_range over p size ++ part ≡ take n (drop p over ++ ring)
-over_taken over part ring p size k n len at is =
+over_consumed over part ring p size k n len at is =
     let width = length-drop p over in
     let sum : n ≡ length (drop p over) + k = omega arith in
     ap₂ (λ a b. a ++ b) (ap (λ m. slice_range over p m) len ∙ take_rest over p) is
@@ -105,8 +105,8 @@ over_dropped over rest ring p size k n len at is =
     ∙ sym (drop-append-add (drop p over) ring k) ∙ ap (λ m. drop m (drop p over ++ ring)) (sym sum)
 
 -- a part is consumed from the start of the buffered bytes
-pub part_taken : (buffered part after : List ℕ) (rest : Option (List ℕ)) (n : ℕ) → part ≡ take n buffered → after ≡ drop n buffered → prepend buffered rest ≡ prepend part (prepend after rest)
-part_taken buffered part after rest n is over =
+pub part_consumed : (buffered part after : List ℕ) (rest : Option (List ℕ)) (n : ℕ) → part ≡ take n buffered → after ≡ drop n buffered → prepend buffered rest ≡ prepend part (prepend after rest)
+part_consumed buffered part after rest n is over =
     ap (λ l. prepend l rest) (sym (take-append-drop n buffered)) ∙ sym (prepend-append (take n buffered) (drop n buffered) rest) ∙ ap₂ (λ a b. prepend a (prepend b rest)) (sym is) (sym over)
 
 -- bytes of the overflow buffer are consumed

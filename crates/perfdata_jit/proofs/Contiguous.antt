@@ -35,8 +35,8 @@ pub ring_main_left : (n m : ℕ) (old : Ring) → n < old.end - old.start → n 
 ring_main_left n m old less le at = elim at [ inl main ↦ inl (omega (arith, less, le, main)) | inr front ↦ absurd (omega (arith, less, front.0)) ]
 
 -- the main range of a ring is consumed, and then bytes that wrap around
-pub ring_front_left : (n m : ℕ) (old : Ring) → old.end - old.start ≤ n → n ≤ m → DoesNotWrap m old → (m - n ≤ old.front - (n - (old.end - old.start))) ⊎ ((n - (old.end - old.start) ≡ old.front) × (m - n ≤ 0))
-ring_front_left n m old more le at = elim at [ inl main ↦ inl (omega (arith, more, le, main)) | inr front ↦ inl (omega (arith, more, le, front.0, front.1)) ]
+pub ring_prefix_left : (n m : ℕ) (old : Ring) → old.end - old.start ≤ n → n ≤ m → DoesNotWrap m old → (m - n ≤ old.front - (n - (old.end - old.start))) ⊎ ((n - (old.end - old.start) ≡ old.front) × (m - n ≤ 0))
+ring_prefix_left n m old more le at = elim at [ inl main ↦ inl (omega (arith, more, le, main)) | inr front ↦ inl (omega (arith, more, le, front.0, front.1)) ]
 
 pub ring_single : (n : ℕ) (r : Ring) → r.end - r.start ≤ n → DoesNotWrap n r → (r.start ≡ r.end) ⊎ (n - (r.end - r.start) ≡ 0)
 ring_single n r more at = elim at [ inl main ↦ inr (omega (arith, more, main)) | inr front ↦ inl front.0 ]
@@ -64,8 +64,8 @@ span_single n k h p sum some from to ring at = elim at [
 ]
 
 -- a span with bytes that wrap around is single only if it has no bytes before them
-pub front_alone : (p : Span) → 0 < p.ring_front → IsSpanSingle p → p.ring_start ≡ p.ring_end
-front_alone p some one = elim one [ inl main ↦ main.0 | inr over ↦ absurd (omega (arith, some, over.1)) ]
+pub prefix_alone : (p : Span) → 0 < p.ring_front → IsSpanSingle p → p.ring_start ≡ p.ring_end
+prefix_alone p some one = elim one [ inl main ↦ main.0 | inr over ↦ absurd (omega (arith, some, over.1)) ]
 
 -- a range from an index to itself has no items
 pub range_empty : (xs : List ℕ) (s e : ℕ) → s ≡ e → length (slice_range xs s e) ≡ 0

@@ -4,7 +4,7 @@ use Rattle.std.proofs.lemmas.List.{take-append-le, drop-append-le}
 use Rattle.std.specs.IoError.{error_kind}
 use Rattle.std.specs.declared.io.Error.{Error}
 use Rattle.std.specs.declared.io.ErrorKind.TheVariants.{UnexpectedEof}
-use Rattle.perfdata_base.proofs.Numbers.{ReadsFirst, number_drop_front}
+use Rattle.perfdata_base.proofs.Numbers.{ReadsFirst, number_drop_prefix}
 use Rattle.perfdata_base.specs.Endian.{number_in}
 use Rattle.perfdata_base.specs.declared.raw.Endianness.{Endianness}
 use Rattle.perfdata_base.specs.declared.raw.Endianness.TheVariants.{LittleEndian, BigEndian}
@@ -28,7 +28,7 @@ module _ (number : ℕ → List ℕ → ℕ) (first : ReadsFirst number) (magic 
   header_whole there = record { min_len = long; complete = let size = ap (λ h. h.total_size) same in omega (arith, size, there); matches = same }
 
   pub header_truncated : (e : Error) → 4 + length xs < header.total_size → error_kind e ≡ UnexpectedEof → IsTruncatedAfterMagic number xs e
-  header_truncated e few kind = record { cause = inr (long, let size = ap (λ h. h.total_size) same in omega (arith, size, few)); kind = kind }
+  header_truncated e fewer kind = record { cause = inr (long, let size = ap (λ h. h.total_size) same in omega (arith, size, fewer)); kind = kind }
 
 -- the magic is read first, and these are the bytes after it
 module _ (endian : Endianness) (xs magic rest : List ℕ) (long : 4 ≤ length xs) (is_magic : magic ≡ take 4 xs) (is_rest : rest ≡ drop 4 xs) (one : magic ≡ jit_magic_of endian) where
@@ -60,7 +60,7 @@ module _ (endian : Endianness) (xs magic rest : List ℕ) (long : 4 ≤ length x
 
   pub header_missing : (e : Error) → IsTruncatedAfterMagic (number_in endian) rest e → HasTruncatedFixedPart xs ⊎ HasTruncatedHeader xs
   header_missing e truncated = elim truncated.cause [
-    | inl few ↦ inl (record { endian = endian; magic = sym is_magic ∙ one; too_few = omega (arith, rest_long, few) })
+    | inl fewer ↦ inl (record { endian = endian; magic = sym is_magic ∙ one; too_few = omega (arith, rest_long, fewer) })
     | inr whole ↦
         let enough = whole.0 in
         let more = whole.1 in
@@ -81,7 +81,7 @@ header_longer endian prefix rest header is =
     let long_enough : 36 ≤ length (drop 4 prefix) = omega (arith, length-drop 4 prefix) in
     let split = drop-append-le 4 prefix rest (omega arith) in
     let same : (n k : ℕ) → k + n ≤ 36 → number n (drop k (drop 4 (prefix ++ rest))) ≡ number n (drop k (drop 4 prefix)) =
-    λ n k within. ap (λ l. number n (drop k l)) split ∙ number_drop_front endian n k (drop 4 prefix) rest (omega (arith, long_enough, within))
+    λ n k within. ap (λ l. number n (drop k l)) split ∙ number_drop_prefix endian n k (drop 4 prefix) rest (omega (arith, long_enough, within))
     in
     let magic = take-append-le 4 prefix rest (omega arith) in
     let version = same 4 0 (omega arith) in

@@ -4,7 +4,7 @@ use Rattle.perfdata_base.proofs.ConsumedLemmas.{consumed_more, prepend_more}
 use Rattle.perfdata_base.specs.Source.{State, prepend, Consumed}
 use Rattle.std.specs.Prelude.{true, false, Ok}
 use Rattle.std.proofs.lemmas.List.{length-take-le, take-append-drop}
-use Rattle.perfdata_jit.proofs.BufferRanges.{part_taken}
+use Rattle.perfdata_jit.proofs.BufferRanges.{part_consumed}
 use Rattle.perfdata_jit.proofs.Contiguous.{contiguous_buffered}
 use Rattle.perfdata_jit.specs.BufferedReader.{KeepsBytes, EnsuresBuffered, BufferedEnough, BufferedTooFew, PartConsumed, HeaderConsumed, ConsumesBuffered, SkipsBytes, PartSkipped, BytesNotSkipped, reader_source_state, buffered_in, overflow_len_of, overflow_capacity_of, ring_capacity_of, source_of, has_seek_failed}
 use Rattle.perfdata_jit.specs.ReadBuffer.{IsContiguous, IsOverflowConsumed}
@@ -33,18 +33,18 @@ module _ {R : Type 0} (state : R → State) where
 
   -- the bytes are buffered if the result is true
   pub buffered_if : (n : ℕ) (old new : BufferedReader R) (whole : Bool) → whole ≡ true → EnsuresBuffered state n old (Ok whole) new → BufferedEnough state n old new
-  buffered_if n old new true is asks = asks
-  buffered_if n old new false is asks = absurd cc
+  buffered_if n old new true is requested = requested
+  buffered_if n old new false is requested = absurd cc
 
   pub not_buffered_if : (n : ℕ) (old new : BufferedReader R) (whole : Bool) → whole ≡ false → EnsuresBuffered state n old (Ok whole) new → BufferedTooFew state n old new
-  not_buffered_if n old new true is asks = absurd cc
-  not_buffered_if n old new false is asks = asks
+  not_buffered_if n old new true is requested = absurd cc
+  not_buffered_if n old new false is requested = requested
 
-  pub skipped_if : (n : ℕ) (old new : BufferedReader R) (passed : Bool) → passed ≡ true → SkipsBytes state n old (Ok passed) new → PartSkipped state n old new
+  pub skipped_if : (n : ℕ) (old new : BufferedReader R) (skipped : Bool) → skipped ≡ true → SkipsBytes state n old (Ok skipped) new → PartSkipped state n old new
   skipped_if n old new true is skips = skips
   skipped_if n old new false is skips = absurd cc
 
-  pub unskipped_if : (n : ℕ) (old new : BufferedReader R) (passed : Bool) → passed ≡ false → SkipsBytes state n old (Ok passed) new → BytesNotSkipped state n old new
+  pub unskipped_if : (n : ℕ) (old new : BufferedReader R) (skipped : Bool) → skipped ≡ false → SkipsBytes state n old (Ok skipped) new → BytesNotSkipped state n old new
   unskipped_if n old new true is skips = absurd cc
   unskipped_if n old new false is skips = skips
 
@@ -57,7 +57,7 @@ module _ {R : Type 0} (state : R → State) where
       let split : buffered ≡ part ++ buffered_in new = sym (take-append-drop n buffered) ∙ ap₂ (λ a b. a ++ b) (sym value) (sym consumed_state.buffered_bytes) in
       record {
         exact_len = ap length value ∙ length-take-le n buffered asked.is_buffered;
-        unread_bytes = k.unread_bytes ∙ part_taken buffered part (buffered_in new) (reader_source_state state mid).bytes n value consumed_state.buffered_bytes ∙ ap (λ (s : State). prepend part (prepend (buffered_in new) s.bytes)) (sym still);
+        unread_bytes = k.unread_bytes ∙ part_consumed buffered part (buffered_in new) (reader_source_state state mid).bytes n value consumed_state.buffered_bytes ∙ ap (λ (s : State). prepend part (prepend (buffered_in new) s.bytes)) (sym still);
         consumed_bytes = k.consumed_bytes;
         consumes = rw still k.consumes;
         buffer_content = sym k.buffer_content ∙ split;

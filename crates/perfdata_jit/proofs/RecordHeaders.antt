@@ -3,7 +3,7 @@ use Rattle.std.proofs.Common.{◌≡◌, ℕ, ◌+◌, ◌-◌, ◌^◌, ◌<◌
 use Rattle.std.specs.Prelude.{IfSome}
 use Rattle.std.specs.declared.io.Error.{Error}
 use Rattle.perfdata_base.proofs.ConsumedLemmas.{consumed_none, consumed_more, prepend_more, consumed_none_later, failed_later}
-use Rattle.perfdata_base.proofs.Numbers.{number_front, number_drop_front}
+use Rattle.perfdata_base.proofs.Numbers.{number_prefix, number_drop_prefix}
 use Rattle.perfdata_base.specs.Source.{State, prepend, Consumed}
 use Rattle.perfdata_base.specs.declared.raw.Endianness.{Endianness}
 use Rattle.perfdata_jit.proofs.Contiguous.{contiguous_buffered}
@@ -21,21 +21,21 @@ use Rattle.perfdata_jit.specs.declared.record.JitDumpRecordHeader.{JitDumpRecord
 -- a record header depends on the first 16 bytes only
 pub header_front : (endian : Endianness) (header rest : List ℕ) → 16 ≤ length header → record_header_at endian (header ++ rest) ≡ record_header_at endian header
 header_front endian header rest long =
-    let record_type = number_front endian 4 header rest (omega arith) in
-    let size = number_drop_front endian 4 4 header rest (omega arith) in
-    let time = number_drop_front endian 8 8 header rest (omega arith) in
+    let record_type = number_prefix endian 4 header rest (omega arith) in
+    let size = number_drop_prefix endian 4 4 header rest (omega arith) in
+    let time = number_drop_prefix endian 8 8 header rest (omega arith) in
     cc (record_type, size, time)
 
-pub size_front : (endian : Endianness) (header rest : List ℕ) → 16 ≤ length header → record_size_at endian (header ++ rest) ≡ record_size_at endian header
-size_front endian header rest long = number_drop_front endian 4 4 header rest (omega arith)
+pub size_prefix : (endian : Endianness) (header rest : List ℕ) → 16 ≤ length header → record_size_at endian (header ++ rest) ≡ record_size_at endian header
+size_prefix endian header rest long = number_drop_prefix endian 4 4 header rest (omega arith)
 
 module _ {R : Type 0} (state : R → State) where
   -- the unread bytes are those buffered, followed by the remaining bytes of the source
   pub unread_is : (j : JitDumpReader R) → jit_unread_bytes state j ≡ prepend (jit_buffered j) (jit_source_state state j).bytes
   unread_is j = prepend_more (pending_header_bytes j.pending_header) (buffered_in j.reader) (jit_source_state state j).bytes
 
-  pub stays_by : (old new : JitDumpReader R) (read_bytes : List ℕ) → Consumed (jit_source_state state old) read_bytes (jit_source_state state new) → jit_buffered new ≡ jit_buffered old ++ read_bytes → jit_offset new ≡ jit_offset old → SameSetup old new → jit_seek_failed old ≡ false → jit_seek_failed new ≡ false → KeepsPosition state old new
-  stays_by old new read_bytes consumed_by holds offset file found finds = record {
+  pub remains_by : (old new : JitDumpReader R) (read_bytes : List ℕ) → Consumed (jit_source_state state old) read_bytes (jit_source_state state new) → jit_buffered new ≡ jit_buffered old ++ read_bytes → jit_offset new ≡ jit_offset old → SameSetup old new → jit_seek_failed old ≡ false → jit_seek_failed new ≡ false → KeepsPosition state old new
+  remains_by old new read_bytes consumed_by holds offset file found finds = record {
     unread_bytes = unread_is old ∙ unread_kept (jit_source_state state old) (jit_source_state state new) (jit_buffered old) (jit_buffered new) read_bytes consumed_by holds ∙ sym (unread_is new);
     offset = offset;
     consumed_bytes = read_bytes;
@@ -61,7 +61,7 @@ module _ {R : Type 0} (state : R → State) where
       let buffered : jit_buffered j ≡ bytes ++ buffered_in j.reader = ap (λ h. pending_header_bytes h ++ buffered_in j.reader) is in
       let all = ap length buffered ∙ length-append bytes (buffered_in j.reader) in
       record {
-        keeps_position = stays_by j j [] (consumed_none (jit_source_state state j)) (sym (append-nil (jit_buffered j))) refl (same_file j) found found;
+        keeps_position = remains_by j j [] (consumed_none (jit_source_state state j)) (sym (append-nil (jit_buffered j))) refl (same_file j) found found;
         reads_only_needed = record {
           reads_for = record { overflow_bound = λ less. absurd (omega (arith, all, long)); no_growth_if_buffered = λ _. omega arith; no_growth_if_fits = λ _. omega arith };
           source_unchanged = λ _. refl;
@@ -81,19 +81,19 @@ module _ {R : Type 0} (state : R → State) where
   pub header_peeked : (old new : JitDumpReader R) (bytes : List ℕ) → HeaderConsumed state old.reader bytes new.reader → old.pending_header ≡ None → new.pending_header ≡ Some bytes → jit_offset new ≡ jit_offset old → SameSetup old new → HeaderPeeked state old bytes new
   header_peeked old new bytes h none some offset setup =
       let p = h.consumes in
-      let asks = p.reads_only_needed in
+      let requested = p.reads_only_needed in
       let before : jit_buffered old ≡ buffered_in old.reader = ap (λ k. pending_header_bytes k ++ buffered_in old.reader) none in
       let after = buffered_some new bytes some in
       let len = ap length before in
       record {
-        keeps_position = stays_by old new p.consumed_bytes p.consumes (after ∙ sym p.buffer_content ∙ ap (λ l. l ++ p.consumed_bytes) (sym before)) offset setup p.seek_ok_before p.seek_ok_after;
+        keeps_position = remains_by old new p.consumed_bytes p.consumes (after ∙ sym p.buffer_content ∙ ap (λ l. l ++ p.consumed_bytes) (sym before)) offset setup p.seek_ok_before p.seek_ok_after;
         reads_only_needed = record {
           reads_for = record {
-            overflow_bound = λ less. asks.overflow_bound (omega (arith, less, len));
-            no_growth_if_buffered = λ le. asks.no_growth_if_buffered (omega (arith, le, len));
-            no_growth_if_fits = λ le. asks.no_growth_if_fits le;
+            overflow_bound = λ less. requested.overflow_bound (omega (arith, less, len));
+            no_growth_if_buffered = λ le. requested.no_growth_if_buffered (omega (arith, le, len));
+            no_growth_if_fits = λ le. requested.no_growth_if_fits le;
           };
-          source_unchanged = λ le. asks.source_unchanged (omega (arith, le, len));
+          source_unchanged = λ le. requested.source_unchanged (omega (arith, le, len));
           buffer_unchanged = λ le. after ∙ sym (p.if_buffered (omega (arith, le, len))) ∙ sym before;
         };
         overflow_empty = λ less. h.overflow_empty (omega (arith, less, len));
@@ -118,7 +118,7 @@ module _ {R : Type 0} (state : R → State) where
   -- reading the body after the pending header
   for_header_and_body : (old mid new : JitDumpReader R) (header : JitDumpRecordHeader) (c : ValidHeaderPeeked state old header mid) → new.pending_header ≡ mid.pending_header → KeepsBytes state mid.reader new.reader → ReadsOnlyFor state (header.total_size - 16) mid.reader new.reader
       → ReadsForHeaderAndBody (jit_ring_capacity old) (header.total_size - 16) (length (jit_buffered old)) (length (jit_buffered new)) (jit_overflow old) (jit_overflow new)
-  for_header_and_body old mid new header c kept k asks =
+  for_header_and_body old mid new header c kept k requested =
       let s = c.header_peeked.keeps_position in
       let all = ap length (buffered_some mid c.bytes c.header_peeked.pending_header) ∙ length-append c.bytes (buffered_in mid.reader) in
       let long = c.header_peeked.exact_len in
@@ -131,9 +131,9 @@ module _ {R : Type 0} (state : R → State) where
         header_read = c.header_peeked.reads_only_needed.reads_for;
         overflow_empty = c.header_peeked.overflow_empty;
         body_read = record {
-          overflow_bound = λ less. asks.overflow_bound (omega (arith, all, long));
-          no_growth_if_buffered = λ le. asks.no_growth_if_buffered (omega (arith, all, long));
-          no_growth_if_fits = λ le. asks.no_growth_if_fits (omega (arith, le, s.same_setup.ring_capacity));
+          overflow_bound = λ less. requested.overflow_bound (omega (arith, all, long));
+          no_growth_if_buffered = λ le. requested.no_growth_if_buffered (omega (arith, all, long));
+          no_growth_if_fits = λ le. requested.no_growth_if_fits (omega (arith, le, s.same_setup.ring_capacity));
         };
       }
 
@@ -141,7 +141,7 @@ module _ {R : Type 0} (state : R → State) where
   keeps_after_header : (old mid new : JitDumpReader R) (bytes : List ℕ) → HeaderPeeked state old bytes mid → new.pending_header ≡ mid.pending_header → KeepsBytes state mid.reader new.reader → jit_offset new ≡ jit_offset mid → SameSetup mid new → KeepsPosition state old new
   keeps_after_header old mid new bytes peeked still k offset file =
       let s = peeked.keeps_position in
-      stays_by old new (s.consumed_bytes ++ k.consumed_bytes) (consumed_more (jit_source_state state old) (jit_source_state state mid) (jit_source_state state new) s.consumed_bytes k.consumed_bytes s.consumes k.consumes)
+      remains_by old new (s.consumed_bytes ++ k.consumed_bytes) (consumed_more (jit_source_state state old) (jit_source_state state mid) (jit_source_state state new) s.consumed_bytes k.consumed_bytes s.consumes k.consumes)
       (buffered_more mid new still k ∙ ap (λ l. l ++ k.consumed_bytes) s.buffer_content ∙ append_assoc (jit_buffered old) s.consumed_bytes k.consumed_bytes) (offset ∙ s.offset) (file_on old mid new s.same_setup file) s.seek_ok_before (k.seek_state_kept ∙ s.seek_ok_after)
 
   pub holds_next : (old mid new : JitDumpReader R) (header : JitDumpRecordHeader) → ValidHeaderPeeked state old header mid → BufferedEnough state (header.total_size - 16) mid.reader new.reader → new.pending_header ≡ mid.pending_header → jit_offset new ≡ jit_offset mid → SameSetup mid new → RecordBuffered state old header new
@@ -166,7 +166,7 @@ module _ {R : Type 0} (state : R → State) where
             subst (λ (r : BufferedReader R). IsContiguous (header.total_size - 16) r.buffer) (sym (asked.unchanged (contiguous_buffered (header.total_size - 16) mid.reader.buffer there))) there;
         source_unchanged = λ buffered.
             let header_buffered : 16 ≤ length (jit_buffered old) = omega (arith, buffered.min_size, buffered.complete) in
-            let same = size ∙ size_front (jit_endian old) (jit_buffered old) s.consumed_bytes header_buffered in
+            let same = size ∙ size_prefix (jit_endian old) (jit_buffered old) s.consumed_bytes header_buffered in
             asked.reads_only_needed.source_unchanged (omega (arith, buffered.complete, same, all, more, peeked.exact_len)) ∙ peeked.reads_only_needed.source_unchanged header_buffered;
         same_counts = counts_on (jit_source_state state old) (jit_source_state state mid) (jit_source_state state new) peeked.same_counts asked.same_counts;
         reads_for = for_header_and_body old mid new header c still asked.keeps_bytes asked.reads_only_needed;
@@ -174,24 +174,24 @@ module _ {R : Type 0} (state : R → State) where
 
   -- if fewer bytes than the body has follow the pending header, there is no complete record
   pub truncated_body : (old mid new : JitDumpReader R) (header : JitDumpRecordHeader) → ValidHeaderPeeked state old header mid → new.pending_header ≡ mid.pending_header → length (buffered_in new.reader) < header.total_size - 16 → IsTruncatedRecord (jit_endian old) (jit_offset old) (jit_buffered new) × (record_size_at (jit_endian old) (jit_buffered new) ≡ header.total_size)
-  truncated_body old mid new header c still few =
+  truncated_body old mid new header c still fewer =
       let is = buffered_some new c.bytes (still ∙ c.header_peeked.pending_header) in
       let all = ap length is ∙ length-append c.bytes (buffered_in new.reader) in
       let long = c.header_peeked.exact_len in
-      let size : record_size_at (jit_endian old) (jit_buffered new) ≡ header.total_size = ap (record_size_at (jit_endian old)) is ∙ size_front (jit_endian old) c.bytes (buffered_in new.reader) (omega (arith, long)) ∙ ap (λ (h : JitDumpRecordHeader). h.total_size) (sym c.matches) in (
+      let size : record_size_at (jit_endian old) (jit_buffered new) ≡ header.total_size = ap (record_size_at (jit_endian old)) is ∙ size_prefix (jit_endian old) c.bytes (buffered_in new.reader) (omega (arith, long)) ∙ ap (λ (h : JitDumpRecordHeader). h.total_size) (sym c.matches) in (
         record {
           has_header = omega (arith, all, long);
           min_size = omega (arith, size, c.min_size);
           end_fits = omega (arith, size, c.end_fits);
-          too_few = omega (arith, size, all, long, few, c.min_size);
+          too_few = omega (arith, size, all, long, fewer, c.min_size);
         },
         size,
       )
 
   header_and_body_read_only : (old mid new : JitDumpReader R) (header : JitDumpRecordHeader) (c : ValidHeaderPeeked state old header mid) → new.pending_header ≡ mid.pending_header → KeepsBytes state mid.reader new.reader → ReadsOnlyFor state (header.total_size - 16) mid.reader new.reader → IsTruncatedRecord (jit_endian old) (jit_offset old) (jit_buffered new) × (record_size_at (jit_endian old) (jit_buffered new) ≡ header.total_size) → ReadsForRecord (record_size_at (jit_endian old) (jit_buffered new)) old new
-  header_and_body_read_only old mid new header c still k asks truncated = record {
-    header_read = λ few. absurd (omega (arith, truncated.0.has_header));
-    header_and_body_read = λ _. subst (λ n. ReadsForHeaderAndBody (jit_ring_capacity old) (n - 16) (length (jit_buffered old)) (length (jit_buffered new)) (jit_overflow old) (jit_overflow new)) (sym truncated.1) (for_header_and_body old mid new header c still k asks);
+  header_and_body_read_only old mid new header c still k requested truncated = record {
+    header_read = λ fewer. absurd (omega (arith, truncated.0.has_header));
+    header_and_body_read = λ _. subst (λ n. ReadsForHeaderAndBody (jit_ring_capacity old) (n - 16) (length (jit_buffered old)) (length (jit_buffered new)) (jit_overflow old) (jit_overflow new)) (sym truncated.1) (for_header_and_body old mid new header c still k requested);
   }
 
   pub not_ready_for_body : (old mid new : JitDumpReader R) (header : JitDumpRecordHeader) → ValidHeaderPeeked state old header mid → BufferedTooFew state (header.total_size - 16) mid.reader new.reader → new.pending_header ≡ mid.pending_header → jit_offset new ≡ jit_offset mid → SameSetup mid new → RecordNotReady state old new
@@ -222,11 +222,11 @@ module _ {R : Type 0} (state : R → State) where
 
 -- a record of which fewer bytes remain than its size is truncated
 remaining_truncated : (endian : Endianness) (offset size : ℕ) (header buffered : List ℕ) (rest : Option (List ℕ)) → length header ≡ 16 → record_size_at endian header ≡ size → 16 ≤ size → offset + size < 2 ^ 64 → IfSome rest (λ xs. length buffered + length xs < size - 16) → IfSome (prepend (header ++ buffered) rest) (HasNoWholeRecord endian offset)
-remaining_truncated endian offset size header buffered None long is least end few = tt
-remaining_truncated endian offset size header buffered (Some xs) long is least end few =
+remaining_truncated endian offset size header buffered None long is least end fewer = tt
+remaining_truncated endian offset size header buffered (Some xs) long is least end fewer =
     let all : length ((header ++ buffered) ++ xs) ≡ (16 + length buffered) + length xs = omega (arith, length-append (header ++ buffered) xs, length-append header buffered, long) in
-    let same : record_size_at endian ((header ++ buffered) ++ xs) ≡ size = ap (record_size_at endian) (append_assoc header buffered xs) ∙ size_front endian header (buffered ++ xs) (omega (arith, long)) ∙ is in
-    inr (record { has_header = omega (arith, all); min_size = omega (arith, same, least); end_fits = omega (arith, same, end); too_few = omega (arith, same, all, few, least) })
+    let same : record_size_at endian ((header ++ buffered) ++ xs) ≡ size = ap (record_size_at endian) (append_assoc header buffered xs) ∙ size_prefix endian header (buffered ++ xs) (omega (arith, long)) ∙ is in
+    inr (record { has_header = omega (arith, all); min_size = omega (arith, same, least); end_fits = omega (arith, same, end); too_few = omega (arith, same, all, fewer, least) })
 
 module _ {R : Type 0} (state : R → State) where
   -- the body isn't skipped
@@ -234,8 +234,8 @@ module _ {R : Type 0} (state : R → State) where
   not_skipped old mid new header c kept pending offset setup =
       let s = c.header_peeked.keeps_position in
       let reads = c.header_peeked.reads_only_needed.reads_for in
-      let few = kept.too_few in
-      let truncated = truncated_body state old mid new header c pending (omega (arith, few, ap length kept.buffer_content)) in
+      let fewer = kept.too_few in
+      let truncated = truncated_body state old mid new header c pending (omega (arith, fewer, ap length kept.buffer_content)) in
       let size : record_size_at (jit_endian old) c.bytes ≡ header.total_size = ap (λ (h : JitDumpRecordHeader). h.total_size) (sym c.matches) in
       record {
         unread_bytes = s.unread_bytes ∙ ap₂ (λ h u. prepend (pending_header_bytes h) u) (sym pending) kept.unread_bytes;

@@ -8,8 +8,8 @@ use Rattle.perfdata_base.specs.Raw.{IsSingle, bytes_of}
 use Rattle.perfdata_base.specs.Source.{State, prepend, Consumed, BufferFilled}
 use Rattle.perfdata_base.specs.declared.raw.Endianness.{Endianness}
 use Rattle.perfdata_jit.proofs.Seeks.{same_after}
-use Rattle.perfdata_jit.proofs.RecordHeaders.{size_front, header_front, header_there, buffered_some, counts_on, unread_is}
-use Rattle.perfdata_jit.proofs.BufferRanges.{part_taken, prepend-nil}
+use Rattle.perfdata_jit.proofs.RecordHeaders.{size_prefix, header_front, header_there, buffered_some, counts_on, unread_is}
+use Rattle.perfdata_jit.proofs.BufferRanges.{part_consumed, prepend-nil}
 use Rattle.perfdata_jit.specs.RecordBytes.{record_header_at, record_size_at, HasWholeRecord, IsOneRecord}
 use Rattle.perfdata_jit.specs.BufferedReader.{ConsumesBuffered, PartSkipped, buffered_in, unread_bytes}
 use Rattle.perfdata_jit.specs.JitDumpReader.{IsBodyContiguous, pending_header_bytes, jit_header, jit_endian, jit_offset, jit_buffered, jit_overflow, jit_ring_capacity, jit_seek_failed, jit_source_state, jit_unread_bytes, ReadsForHeaderAndBody, ReturnsJitRecord, RecordSkipped, ReadsPrefix, ReaderOpened, OpensReader}
@@ -29,7 +29,7 @@ use Rattle.std.specs.Prelude.{Ok, Err}
 pub one_record : (endian : Endianness) (offset size : ℕ) (header body : List ℕ) → length header ≡ 16 → record_size_at endian header ≡ size → 16 ≤ size → offset + size < 2 ^ 64 → length body ≡ size - 16 → (length (header ++ body) ≡ size) × IsOneRecord endian offset (header ++ body)
 one_record endian offset size header body long is least end rest =
     let all : length (header ++ body) ≡ size = omega (arith, length-append header body) in
-    (all, record { min_size = omega arith; size = size_front endian header body (omega arith) ∙ is ∙ sym all; end_fits = omega arith })
+    (all, record { min_size = omega arith; size = size_prefix endian header body (omega arith) ∙ is ∙ sym all; end_fits = omega arith })
 
 module _ {R : Type 0} (state : R → State) where
   -- a pending header is the prefix of the unread bytes
@@ -46,7 +46,7 @@ module _ {R : Type 0} (state : R → State) where
       let more = ap length s.buffer_content ∙ length-append (jit_buffered old) s.consumed_bytes in
       let there = header_there state old mid c.bytes c.header_peeked in
       let header_buffered : 16 ≤ length (jit_buffered old) = omega (arith, buffered.min_size, buffered.complete) in
-      let size : header.total_size ≡ record_size_at (jit_endian old) (jit_buffered old) = ap (λ (h : JitDumpRecordHeader). h.total_size) (c.matches ∙ there.1) ∙ ap (record_size_at (jit_endian old)) s.buffer_content ∙ size_front (jit_endian old) (jit_buffered old) s.consumed_bytes header_buffered in
+      let size : header.total_size ≡ record_size_at (jit_endian old) (jit_buffered old) = ap (λ (h : JitDumpRecordHeader). h.total_size) (c.matches ∙ there.1) ∙ ap (record_size_at (jit_endian old)) s.buffer_content ∙ size_prefix (jit_endian old) (jit_buffered old) s.consumed_bytes header_buffered in
       (omega (arith, buffered.complete, size, all, more, c.header_peeked.exact_len), header_buffered)
 
   -- a call for a buffered record fails only if a seek has failed before
@@ -56,7 +56,7 @@ module _ {R : Type 0} (state : R → State) where
       elim error [
         | inl size ↦
             let s = size.keeps_position in
-            let same : record_size_at (jit_endian old) (jit_buffered new) ≡ record_size_at (jit_endian old) (jit_buffered old) = ap (record_size_at (jit_endian old)) s.buffer_content ∙ size_front (jit_endian old) (jit_buffered old) s.consumed_bytes header_buffered in
+            let same : record_size_at (jit_endian old) (jit_buffered new) ≡ record_size_at (jit_endian old) (jit_buffered old) = ap (record_size_at (jit_endian old)) s.buffer_content ∙ size_prefix (jit_endian old) (jit_buffered old) s.consumed_bytes header_buffered in
             elim size.invalid_size.cause [ inl small ↦ omega (arith, small, same, buffered.min_size) | inr far ↦ omega (arith, far, same, buffered.end_fits) ]
         | inr other ↦ elim other [
           | inl header ↦ omega (arith, header.too_few, ap length header.keeps_position.buffer_content, length-append (jit_buffered old) header.keeps_position.consumed_bytes, header_buffered)
@@ -96,7 +96,7 @@ module _ {R : Type 0} (state : R → State) where
         single = λ at. single (h.keeps_contiguous (subst (λ k. IsBodyContiguous k old) one.0 at));
         unread_bytes =
             s.unread_bytes ∙ flat_some mid h.bytes h.pending_header
-            ∙ ap (prepend h.bytes) (part_taken buffered part (buffered_in new.reader) (jit_source_state state mid).bytes n body after.buffered_bytes)
+            ∙ ap (prepend h.bytes) (part_consumed buffered part (buffered_in new.reader) (jit_source_state state mid).bytes n body after.buffered_bytes)
             ∙ prepend_more h.bytes part (prepend (buffered_in new.reader) (jit_source_state state mid).bytes)
             ∙ ap (λ (t : State). prepend (h.bytes ++ part) (prepend (buffered_in new.reader) t.bytes)) (sym still)
             ∙ ap (prepend (h.bytes ++ part)) (sym (flat_none new none));
@@ -191,8 +191,8 @@ module _ {R : Type 0} (state : R → State) where
   not_opened_in source size len prefix rest e same reads none = subst (λ k. OpensReader state source k (Err e)) same (not_opened source len prefix rest e reads none)
 
   -- filling the buffer reads a prefix
-  pub reads_front : (source : R) (buf : List ℕ) (n : ℕ) (rest : State) → BufferFilled (state source) buf n rest → CountsFill {E = Error} (state source) buf (Ok n) rest → ReadsPrefix state source (length buf) (take n buf) rest
-  reads_front source buf n rest fills counts =
+  pub reads_prefix : (source : R) (buf : List ℕ) (n : ℕ) (rest : State) → BufferFilled (state source) buf n rest → CountsFill {E = Error} (state source) buf (Ok n) rest → ReadsPrefix state source (length buf) (take n buf) rest
+  reads_prefix source buf n rest fills counts =
       let long : length (take n buf) ≡ n = length-take-le n buf fills.within in
       record {
         consumes = fills.consumes;

@@ -43,7 +43,7 @@ module _ {R : Type 0} (state : R → State) where
         ]
         | inr rest3 ↦ elim rest3 [
           | inl skips ↦ elim skips [
-            | inl lacks ↦ kept_by old new lacks.keeps_position
+            | inl missing ↦ kept_by old new missing.keeps_position
             | inr stands ↦ record { flat = stands.unread_bytes; offset = stands.offset; same_endian = stands.same_setup.same_endian; found = stands.seek_ok_before }
           ]
           | inr fails ↦ elim fails.1 [
@@ -56,8 +56,8 @@ module _ {R : Type 0} (state : R → State) where
   ]
 
   -- bytes are consumed, and then those of the later calls
-  taken_more : (old mid new : JitDumpReader R) (bytes : List ℕ) (more : List ReaderStep) → jit_unread_bytes state old ≡ prepend bytes (jit_unread_bytes state mid) → InOrder state mid more new → jit_unread_bytes state old ≡ prepend (bytes ++ concat (consumed_records more)) (jit_unread_bytes state new)
-  taken_more old mid new bytes more flat rest = flat ∙ ap (prepend bytes) rest.unread_bytes ∙ prepend_more bytes (concat (consumed_records more)) (jit_unread_bytes state new)
+  consumed_bytes_more : (old mid new : JitDumpReader R) (bytes : List ℕ) (more : List ReaderStep) → jit_unread_bytes state old ≡ prepend bytes (jit_unread_bytes state mid) → InOrder state mid more new → jit_unread_bytes state old ≡ prepend (bytes ++ concat (consumed_records more)) (jit_unread_bytes state new)
+  consumed_bytes_more old mid new bytes more flat rest = flat ∙ ap (prepend bytes) rest.unread_bytes ∙ prepend_more bytes (concat (consumed_records more)) (jit_unread_bytes state new)
 
   pub in_order : (old : JitDumpReader R) (steps : List ReaderStep) (new : JitDumpReader R) → Trace state old steps new → jit_seek_failed new ≡ false → InOrder state old steps new × (jit_seek_failed old ≡ false)
   in_order old [] new run found = (
@@ -92,7 +92,7 @@ module _ {R : Type 0} (state : R → State) where
       let offset : jit_offset mid ≡ jit_offset old + length bytes = p.offset ∙ ap (λ l. jit_offset old + length l) run.1.1 in
       let same_endian = p.same_setup.same_endian in (
         record {
-          unread_bytes = taken_more old mid new bytes more flat i;
+          unread_bytes = consumed_bytes_more old mid new bytes more flat i;
           elements = (subst (IsOneRecord (jit_endian old) (jit_offset old)) run.1.1 p.record_bytes_valid, subst (λ o. AreRecords o (jit_offset old + length bytes) (consumed_records more)) same_endian (subst (λ n. AreRecords (jit_endian mid) n (consumed_records more)) offset i.elements));
           returned_in_order = subst (λ o. AreReturned o (jit_offset old + length bytes) more) same_endian (subst (λ n. AreReturned (jit_endian mid) n more) offset i.returned_in_order);
           offset = omega (arith, i.offset, offset, length-append bytes (concat (consumed_records more)));
@@ -109,7 +109,7 @@ module _ {R : Type 0} (state : R → State) where
       let offset : jit_offset mid ≡ jit_offset old + length bytes = h.offset ∙ ap (λ l. jit_offset old + length l) run.1.1 in
       let same_endian = h.same_setup.same_endian in (
         record {
-          unread_bytes = taken_more old mid new bytes more flat i;
+          unread_bytes = consumed_bytes_more old mid new bytes more flat i;
           elements = (subst (IsOneRecord (jit_endian old) (jit_offset old)) run.1.1 h.matches.record_bytes_valid, subst (λ o. AreRecords o (jit_offset old + length bytes) (consumed_records more)) same_endian (subst (λ n. AreRecords (jit_endian mid) n (consumed_records more)) offset i.elements));
           returned_in_order = (subst (λ l. IsRecordOf (jit_endian old) (jit_offset old) l r) run.1.1 h.matches, subst (λ o. AreReturned o (jit_offset old + length bytes) more) same_endian (subst (λ n. AreReturned (jit_endian mid) n more) offset i.returned_in_order));
           offset = omega (arith, i.offset, offset, length-append bytes (concat (consumed_records more)));

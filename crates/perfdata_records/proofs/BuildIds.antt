@@ -11,7 +11,7 @@ use Rattle.perfdata_base.specs.Endian.{number_in}
 use Rattle.perfdata_base.specs.Event.{record_header_of, PeeksRecordHeader}
 use Rattle.perfdata_base.specs.Source.{State, Consumed, ReadExactError, IsIoErrorOf}
 use Rattle.perfdata_base.proofs.ConsumedLemmas.{consumed_more}
-use Rattle.perfdata_base.proofs.Numbers.{ReadsFirst, first_drop_front}
+use Rattle.perfdata_base.proofs.Numbers.{ReadsFirst, first_drop_prefix}
 use Rattle.perfdata_base.specs.declared.event.PerfEventHeader.{PerfEventHeader}
 use Rattle.perfdata_base.specs.declared.raw.Endianness.{Endianness}
 use Rattle.perfdata_base.specs.declared.source.AppendError.{AppendError}
@@ -20,7 +20,7 @@ use Rattle.perfdata_sections.specs.ParsedPart.{PartRead, PartPartlyRead, PartRea
 use Rattle.perfdata_sections.specs.HeaderString.{before_nul}
 use Rattle.perfdata_records.specs.BuildIdEvent.{zero_group, zero_groups, IsBuildIdIn, IsBuildIdEvent, IsTruncatedBuildIdEntry, IsPrefixOfBuildIdEntry, ReadsBuildIdEvent, ParsesBuildIdEvent}
 use Rattle.perfdata_records.specs.declared.build_id_event.BuildIdEvent.{BuildIdEvent}
-use Rattle.perfdata_sections.proofs.PartLemmas.{drop_front, stopped_after, stopped_at_once}
+use Rattle.perfdata_sections.proofs.PartLemmas.{drop_prefix, stopped_after, stopped_at_once}
 
 -- one more group of zeros is removed from the end
 pub group_split : (xs rest : List ℕ) (n : ℕ) → xs ≡ rest ++ zero_groups n → ends_with nat_eq rest zero_group ≡ true → xs ≡ take (length rest - 4) rest ++ zero_groups (suc n)
@@ -52,7 +52,7 @@ module _ (number : ℕ → List ℕ → ℕ) where
 
 module _ (number : ℕ → List ℕ → ℕ) (first : ReadsFirst number) where
   pub entry_header_truncated : (a b : State) (e : Error) → ReadExactError a 36 e b → PartReadError (IsTruncatedBuildIdEntry number) a e b
-  entry_header_truncated a b e read_error = stopped_at_once (IsTruncatedBuildIdEntry number) a b 36 e read_error (λ part few enough. absurd (omega arith))
+  entry_header_truncated a b e read_error = stopped_at_once (IsTruncatedBuildIdEntry number) a b 36 e read_error (λ part fewer enough. absurd (omega arith))
 
   -- the build id can't be allocated
   pub entry_header_some : (a b : State) (fixed : List ℕ) → length fixed ≡ 36 → Consumed a fixed b → PartPartlyRead (IsPrefixOfBuildIdEntry number) a b
@@ -60,7 +60,7 @@ module _ (number : ℕ → List ℕ → ℕ) (first : ReadsFirst number) where
 
   -- the size is in the first 36 bytes
   size_in : (fixed body : List ℕ) → length fixed ≡ 36 → number 2 (drop 6 (fixed ++ body)) ≡ number 2 (drop 6 fixed)
-  size_in fixed body long = first_drop_front number first 2 6 fixed body (omega (arith, long))
+  size_in fixed body long = first_drop_prefix number first 2 6 fixed body (omega (arith, long))
 
   pub entry_path_error : (a b c : State) (fixed : List ℕ) (count : ℕ) (error : AppendError) → length fixed ≡ 36 → count ≡ number 2 (drop 6 fixed) - 36 → Consumed a fixed b → ReadsBytes b count (Err error) c
       → ReadsBuildIdEvent number a (Err error) c
@@ -73,7 +73,7 @@ module _ (number : ℕ → List ℕ → ℕ) (first : ReadsFirst number) where
     consumes = consumed_more a b c fixed partial.consumed_bytes before partial.consumes;
   }
   entry_path_error a b c fixed count (Source e) long says before read_error =
-      stopped_after (IsTruncatedBuildIdEntry number) a b c fixed count e before read_error (λ part few enough. let size = size_in fixed part long in omega (arith, size, few, says, long, length-append fixed part))
+      stopped_after (IsTruncatedBuildIdEntry number) a b c fixed count e before read_error (λ part fewer enough. let size = size_in fixed part long in omega (arith, size, fewer, says, long, length-append fixed part))
 
   id_field_in : (fixed body : List ℕ) → length fixed ≡ 36 → take 24 (drop 12 (fixed ++ body)) ≡ drop 12 fixed
   id_field_in fixed body long =
@@ -83,15 +83,15 @@ module _ (number : ℕ → List ℕ → ℕ) (first : ReadsFirst number) where
   pub entry_read : (a b c : State) (fixed body : List ℕ) (count : ℕ) (e : BuildIdEvent) → length fixed ≡ 36 → count ≡ number 2 (drop 6 fixed) - 36 → length body ≡ count → Consumed a fixed b → Consumed b body c
       → e.header ≡ record_header_of number fixed → e._pid ≡ cast_signed w32 (number 4 (drop 8 fixed)) → IsBuildIdIn (number 2 (drop 4 fixed)) (drop 12 fixed) e.build_id.items → e.file_path.items ≡ before_nul body
       → PartRead (IsBuildIdEvent number) a e c
-  entry_read a b c fixed body count e long says all before body_consumed is_head is_pid is_id is_path = record {
+  entry_read a b c fixed body count e long says all before body_consumed is_header is_pid is_id is_path = record {
     bytes = fixed ++ body;
     consumes = consumed_more a b c fixed body before body_consumed;
-    matches = let misc = first_drop_front number first 2 4 fixed body (omega (arith, long)) in record {
+    matches = let misc = first_drop_prefix number first 2 4 fixed body (omega (arith, long)) in record {
       has_fixed_part = omega (arith, long, length-append fixed body);
       exact_len = let size = size_in fixed body long in omega (arith, size, says, all, long, length-append fixed body);
-      header = is_head ∙ sym (rw (first 4 fixed body (omega (arith, long)), misc, size_in fixed body long) refl);
-      pid = is_pid ∙ ap (cast_signed w32) (sym (first_drop_front number first 4 8 fixed body (omega (arith, long))));
+      header = is_header ∙ sym (rw (first 4 fixed body (omega (arith, long)), misc, size_in fixed body long) refl);
+      pid = is_pid ∙ ap (cast_signed w32) (sym (first_drop_prefix number first 4 8 fixed body (omega (arith, long))));
       build_id = subst (λ n. IsBuildIdIn n (take 24 (drop 12 (fixed ++ body))) e.build_id.items) (sym misc) (subst (λ l. IsBuildIdIn (number 2 (drop 4 fixed)) l e.build_id.items) (sym (id_field_in fixed body long)) is_id);
-      path = is_path ∙ ap before_nul (sym (drop_front 36 fixed body long));
+      path = is_path ∙ ap before_nul (sym (drop_prefix 36 fixed body long));
     };
   }

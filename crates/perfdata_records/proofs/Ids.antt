@@ -9,7 +9,7 @@ use Rattle.std.specs.declared.io.Error.{Error}
 use Rattle.perfdata_base.specs.Source.{State, memory_source}
 use Rattle.perfdata_base.specs.Attr.{own_size, IsAttr, AttrParsed, AttrParseError}
 use Rattle.perfdata_base.proofs.Numbers.{ReadsFirst}
-use Rattle.perfdata_base.proofs.Attrs.{own_stays, attr_stays, attr_explained, size_with}
+use Rattle.perfdata_base.proofs.Attrs.{own_remains, attr_remains, attr_explained, size_with}
 use Rattle.perfdata_base.specs.declared.attr.PerfEventAttr.{PerfEventAttr}
 use Rattle.perfdata_records.specs.HeaderAttr.{Attribute, u64s_of, HoldsAttributeWith, attribute_with, IsIdsError, IsHeaderAttrError}
 
@@ -23,9 +23,9 @@ module _ (number : ℕ → List ℕ → ℕ) where
       ap (λ n. u64s_of number n xs) one
 
   numbers_none : (xs : List ℕ) → length xs < 8 → u64s_of number (length xs / 8) xs ≡ []
-  numbers_none xs few =
+  numbers_none xs too_few =
       let long : length xs ≡ 0 * 8 + length xs = omega arith in
-      ap (λ n. u64s_of number n xs) (ap (λ n. n / 8) long ∙ div-mul-add 0 8 (length xs) few)
+      ap (λ n. u64s_of number n xs) (ap (λ n. n / 8) long ∙ div-mul-add 0 8 (length xs) too_few)
 
   -- the loop invariant: the ids so far and the numbers in the rest are all numbers
   abbrev pub AreSoFar : List ℕ → List ℕ → List ℕ → Type 0
@@ -38,7 +38,7 @@ module _ (number : ℕ → List ℕ → ℕ) where
       ∙ (λ i. (sym pushed i) ++ u64s_of number (length (sym rest_is i) / 8) (sym rest_is i))
 
   pub ids_whole : (bytes ids rest : List ℕ) → AreSoFar bytes ids rest → length rest < 8 → ids ≡ u64s_of number (length bytes / 8) bytes
-  ids_whole bytes ids rest far few = sym (far ∙ ap (λ l. ids ++ l) (numbers_none rest few) ∙ append-nil ids)
+  ids_whole bytes ids rest far too_few = sym (far ∙ ap (λ l. ids ++ l) (numbers_none rest too_few) ∙ append-nil ids)
 
   module _ (first : ReadsFirst number) where
     some_is : (xs ys : List ℕ) → Some xs ≡ Some ys → xs ≡ ys
@@ -48,15 +48,15 @@ module _ (number : ℕ → List ℕ → ℕ) where
     pub attr_read : (xs rest : List ℕ) (attr : PerfEventAttr) (size_read : ℕ) → AttrParsed number (memory_source xs) attr size_read (memory_source rest) → IsAttr number xs attr × (rest ≡ drop (own_size number xs) xs)
     attr_read xs rest attr size_read parsed =
         let whole : xs ≡ parsed.bytes ++ rest = some_is xs (parsed.bytes ++ rest) parsed.consumes.bytes in
-        let stays = attr_stays number first parsed.bytes rest attr parsed.matches in
+        let remains = attr_remains number first parsed.bytes rest attr parsed.matches in
         let size_is : own_size number parsed.bytes ≡ length parsed.bytes =
         sym (size_with number (own_size number parsed.bytes) parsed.bytes) ∙ sym (ap (λ a. a.size) parsed.matches.matches) ∙ parsed.size ∙ sym parsed.exact_len
         in
         let min_size = parsed.matches.min_size in
         let size : own_size number xs ≡ length parsed.bytes =
-        ap (own_size number) whole ∙ own_stays number first parsed.bytes rest (omega arith) ∙ size_is
+        ap (own_size number) whole ∙ own_remains number first parsed.bytes rest (omega arith) ∙ size_is
         in (
-          subst (λ l. IsAttr number l attr) (sym whole) stays,
+          subst (λ l. IsAttr number l attr) (sym whole) remains,
           sym ((λ i. drop (size i) (whole i)) ∙ drop-append_seam parsed.bytes rest),
         )
 

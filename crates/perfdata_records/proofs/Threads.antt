@@ -53,22 +53,22 @@ module _ (number : ℕ → List ℕ → ℕ) where
 
   -- a truncated entry contains no thread
   pub threads_none : (xs : List ℕ) → length xs < 24 → threads_in number (length xs / 24) xs ≡ []
-  threads_none xs few =
+  threads_none xs too_few =
       let long : length xs ≡ 0 * 24 + length xs = omega arith in
-      ap (λ n. threads_in number n xs) (ap (λ n. n / 24) long ∙ div-mul-add 0 24 (length xs) few)
+      ap (λ n. threads_in number n xs) (ap (λ n. n / 24) long ∙ div-mul-add 0 24 (length xs) too_few)
 
   module _ (first : ReadsFirst number) where
     -- bytes after the entries don't change the threads
-    pub threads_front : (n : ℕ) (xs ys : List ℕ) → n * 24 ≤ length xs → threads_in number n (xs ++ ys) ≡ threads_in number n xs
-    threads_front zero xs ys enough = refl
-    threads_front (suc n) xs ys enough =
+    pub threads_prefix : (n : ℕ) (xs ys : List ℕ) → n * 24 ≤ length xs → threads_in number n (xs ++ ys) ≡ threads_in number n xs
+    threads_prefix zero xs ys enough = refl
+    threads_prefix (suc n) xs ys enough =
         let all : 24 + n * 24 ≤ length xs = omega arith in
         let eight = drop-append-le 8 xs ys (omega arith) in
         let name : take 16 (drop 8 (xs ++ ys)) ≡ take 16 (drop 8 xs) =
         ap (take 16) eight ∙ take-append-le 16 (drop 8 xs) ys (omega (arith, length-drop 8 xs))
         in
         let later : threads_in number n (drop 24 (xs ++ ys)) ≡ threads_in number n (drop 24 xs) =
-        ap (threads_in number n) (drop-append-le 24 xs ys (omega arith)) ∙ threads_front n (drop 24 xs) ys (omega (arith, length-drop 24 xs))
+        ap (threads_in number n) (drop-append-le 24 xs ys (omega arith)) ∙ threads_prefix n (drop 24 xs) ys (omega (arith, length-drop 24 xs))
         in
         λ i. record { tid = first 8 xs ys (omega arith) i; name = before_nul (name i) } ∷ later i
 
@@ -85,6 +85,6 @@ module _ (number : ℕ → List ℕ → ℕ) where
           has_fixed_part = has_count;
           complete = omega (arith, length-drop 8 body, ap length rest_is);
           elements = ap (λ f. threads_in f (length entries / 24) entries) same_number ∙ ap (λ n. threads_in number n entries) many ∙ ap (threads_in number count) entries_are
-              ∙ sym (threads_front count (take (count * 24) rest) (drop (count * 24) rest) (omega (arith, length-take-le (count * 24) rest enough)))
+              ∙ sym (threads_prefix count (take (count * 24) rest) (drop (count * 24) rest) (omega (arith, length-take-le (count * 24) rest enough)))
               ∙ ap (threads_in number count) (take-append-drop (count * 24) rest ∙ rest_is);
         }

@@ -23,7 +23,7 @@ use Rattle.perfdata_sections.specs.EventTypes.{HoldsSectionEntry, IsEventTypeEnt
 use Rattle.perfdata_sections.specs.ParsedPart.{PartRead, file_error_of}
 use Rattle.perfdata_sections.specs.Items.{SomeBytes, NextReadError, ReadOrSeekErrorAt, IsTruncationOf, IsReadErrorOf, IsShorterThan, ItemRead, ItemsAt, AreItems, ItemsRead}
 use Rattle.perfdata_sections.proofs.ItemRuns.{if_some_more, if_some_both, error_there, error_later, seek_then_consumed, read_error_carries, truncated_next, read_there}
-use Rattle.perfdata_sections.proofs.Frames.{frame_carries, frame_stays, frame_filled}
+use Rattle.perfdata_sections.proofs.Frames.{frame_carries, frame_remains, frame_filled}
 use Rattle.perfdata_sections.proofs.IdLists.{ids_stay, numbers_long}
 use Rattle.perfdata_sections.specs.declared.feature_sections.AttributeDescription.{AttributeDescription}
 use Rattle.perfdata_sections.specs.declared.feature_sections.event_types.EventTypeEntry.{EventTypeEntry}
@@ -49,7 +49,7 @@ truncated_later_at count a b c at e after_seek read_error = error_later (IsTrunc
 truncated_source_error : (count : ℕ) (a c : State) (at : ℕ) (e : Error) → ReadOrSeekErrorAt (IsTruncationOf (IsShorterThan count)) (IsReadErrorOf (IsShorterThan count)) a at e c → IfSome (all_bytes_of a.position) (λ all. IsUnexpectedEof e × (length (drop at all) < count)) ⊎ IsAttributesSourceError a e c
 truncated_source_error count a c at e read_error = elim read_error [
   | inl there ↦ elim there.cause [
-    | inl shown ↦ inl (if_some_more (all_bytes_of a.position) (λ all. IsTruncationOf (IsShorterThan count) e there.consumed_bytes (drop at all)) (λ all. IsUnexpectedEof e × (length (drop at all) < count)) (λ all truncated. (truncated.0, truncated.1)) shown.1)
+    | inl is_visible ↦ inl (if_some_more (all_bytes_of a.position) (λ all. IsTruncationOf (IsShorterThan count) e there.consumed_bytes (drop at all)) (λ all. IsUnexpectedEof e × (length (drop at all) < count)) (λ all truncated. (truncated.0, truncated.1)) is_visible.1)
     | inr source ↦ elim source.1 [ inl failed ↦ inr (inl failed) | inr paused ↦ inr (inr (inl paused)) ]
   ]
   | inr seek ↦ inr (inl seek)
@@ -81,7 +81,7 @@ module _ (number : ℕ → List ℕ → ℕ) (first : ReadsFirst number) where
         let ids_entry : drop attr_size (filled.0 ++ there.0) ≡ there.0 = ap (λ n. drop n (filled.0 ++ there.0)) (sym filled.1) ∙ drop-append_seam filled.0 there.0 in (
           filled.0 ++ there.0,
           record {
-            attr_in_frame = subst (λ x. IsAttrInFrame number attr_size (filled.0 ++ there.0) x) (sym same_attr) (frame_stays number first attr_size filled.0 there.0 attr filled.2);
+            attr_in_frame = subst (λ x. IsAttrInFrame number attr_size (filled.0 ++ there.0) x) (sym same_attr) (frame_remains number first attr_size filled.0 there.0 attr filled.2);
             ids = subst (λ xs. HoldsSectionEntry number xs e.ids) (sym ids_entry) (subst (λ x. HoldsSectionEntry number there.0 x) (sym same_ids) there.1);
           },
         )
@@ -306,7 +306,7 @@ module _ (number : ℕ → List ℕ → ℕ) (attr_size : ℕ) (names : ℕ → 
   ids_source_error P a c t e read_error = elim read_error [
     | inl overflows ↦ inl (if_some_any (all_bytes_of a.position) (λ all. IsSectionIdsError number e t all) (λ all. inl (overflows.0, overflows.1)))
     | inr end_fits ↦ elim (truncated_source_error (8 * (t.size / 8)) a c t.offset e end_fits.1) [
-      | inl shown ↦ inl (if_some_more (all_bytes_of a.position) (λ all. IsUnexpectedEof e × (length (drop t.offset all) < 8 * (t.size / 8))) (λ all. IsSectionIdsError number e t all) (λ all truncated. inr (end_fits.0, truncated.0, truncated.1)) shown)
+      | inl is_visible ↦ inl (if_some_more (all_bytes_of a.position) (λ all. IsUnexpectedEof e × (length (drop t.offset all) < 8 * (t.size / 8))) (λ all. IsSectionIdsError number e t all) (λ all truncated. inr (end_fits.0, truncated.0, truncated.1)) is_visible)
       | inr source_error ↦ inr source_error
     ]
   ]
@@ -319,15 +319,15 @@ module _ (number : ℕ → List ℕ → ℕ) (attr_size : ℕ) (names : ℕ → 
   entry_source_error a c at e read_error = elim read_error [
     | inl frame ↦ elim frame [
       | inl there ↦ elim there.cause [
-        | inl shown ↦ inl (if_some_more (all_bytes_of a.position) (λ all. ConsumesFrameError number attr_size e there.consumed_bytes (drop at all)) (λ all. IsEventTypeEntryError number attr_size e (drop at all)) (λ all none. inl none.0) shown.1)
+        | inl is_visible ↦ inl (if_some_more (all_bytes_of a.position) (λ all. ConsumesFrameError number attr_size e there.consumed_bytes (drop at all)) (λ all. IsEventTypeEntryError number attr_size e (drop at all)) (λ all none. inl none.0) is_visible.1)
         | inr source ↦ inr (inr (inr (source.0.0, source.1)))
       ]
       | inr seek ↦ inr (inl seek)
     ]
     | inr truncated ↦ elim (truncated_source_error 16 a c (at + attr_size) e truncated.error) [
-      | inl shown ↦ inl (if_some_both (all_bytes_of a.position) (λ all. IsAttrInFrame number attr_size (drop at all) truncated.attr) (λ all. IsUnexpectedEof e × (length (drop (at + attr_size) all) < 16)) (λ all. IsEventTypeEntryError number attr_size e (drop at all))
+      | inl is_visible ↦ inl (if_some_both (all_bytes_of a.position) (λ all. IsAttrInFrame number attr_size (drop at all) truncated.attr) (λ all. IsUnexpectedEof e × (length (drop (at + attr_size) all) < 16)) (λ all. IsEventTypeEntryError number attr_size e (drop at all))
           (λ all framed none. inr ((truncated.attr, framed), none.0, subst (λ l. length l < 16) (sym (drop-drop attr_size at all)) none.1))
-          truncated.matches shown)
+          truncated.matches is_visible)
       | inr source_error ↦ inr source_error
     ]
   ]
@@ -336,13 +336,13 @@ module _ (number : ℕ → List ℕ → ℕ) (attr_size : ℕ) (names : ℕ → 
   pub entries_source_error : (old : State) (e : Error) (new : State) → EntriesReadError number attr_size names s old e new → IfSome (all_bytes_of old.position) (λ all. IsEntriesError number attr_size names s e all) ⊎ IsAttributesSourceError old e new
   entries_source_error old e new stops = elim stops [
     | inl entries_read ↦ elim (entry_source_error old new (s.offset + length entries_read.before * (attr_size + 16)) e entries_read.error) [
-      | inl shown ↦ inl (entry_error_in_bytes (all_bytes_of old.position) e entries_read.before entries_read.too_few entries_read.elements shown)
+      | inl is_visible ↦ inl (entry_error_in_bytes (all_bytes_of old.position) e entries_read.before entries_read.too_few entries_read.elements is_visible)
       | inr source_error ↦ inr source_error
     ]
     | inr ids ↦
         let at = at_offset (s.offset + length ids.entries * (attr_size + 16)) old.position in
         elim (ids_source_error (IsAfterIds old at ids.error.before) old new ids.error.failing_entry.ids e ids.error.error_here) [
-          | inl shown ↦ inl (ids_error_if_known (all_bytes_of old.position) ids.entries e (λ before t. SectionIdsReadError number (IsAfterIds old at before) old t e new) ids.entries_match.matches ids.error shown)
+          | inl is_visible ↦ inl (ids_error_if_known (all_bytes_of old.position) ids.entries e (λ before t. SectionIdsReadError number (IsAfterIds old at before) old t e new) ids.entries_match.matches ids.error is_visible)
           | inr source_error ↦ inr source_error
         ]
   ]

@@ -16,8 +16,8 @@ use Rattle.perfdata_sections.specs.HeaderString.{before_nul, utf8_text}
 use Rattle.perfdata_sections.specs.declared.error.Error.{Error}
 use Rattle.perfdata_sections.specs.declared.error.Error.TheVariants.{Read, InconsistentAttributeSizes}
 use Rattle.perfdata_sections.specs.declared.error.ReadError.TheVariants.{PerfEventAttr as OfAttr}
-use Rattle.perfdata_sections.proofs.Frames.{frame_stays, frame_prefix}
-use Rattle.perfdata_sections.proofs.PartLemmas.{drop_front}
+use Rattle.perfdata_sections.proofs.Frames.{frame_remains, frame_prefix}
+use Rattle.perfdata_sections.proofs.PartLemmas.{drop_prefix}
 
 take_prefix : (n : ℕ) (xs ys : List ℕ) → length xs ≡ n → take n (xs ++ ys) ≡ xs
 take_prefix n xs ys long = ap (λ k. take k (xs ++ ys)) (sym long) ∙ take-append_seam xs ys
@@ -26,7 +26,7 @@ take_prefix n xs ys long = ap (λ k. take k (xs ++ ys)) (sym long) ∙ take-appe
 pub same_split : (a b c d : List ℕ) → length a ≡ length c → a ++ b ≡ c ++ d → (a ≡ c) × (b ≡ d)
 same_split a b c d long same = (
   sym (take-append_seam a b) ∙ ap (take (length a)) same ∙ take_prefix (length a) c d (sym long),
-  sym (drop-append_seam a b) ∙ ap (drop (length a)) same ∙ drop_front (length a) c d (sym long),
+  sym (drop-append_seam a b) ∙ ap (drop (length a)) same ∙ drop_prefix (length a) c d (sym long),
 )
 
 described_same : (d : DescribedEvent) (a : PerfEventAttr) (n : Option (List ℕ)) (i : List ℕ) → d.attr ≡ a → d.name ≡ n → d.ids ≡ i → d ≡ (let e : DescribedEvent = record { attr = a; name = n; ids = i } in e)
@@ -62,7 +62,7 @@ module _ (number : ℕ → List ℕ → ℕ) (first : ReadsFirst number) where
   parts_of xs rest name ids t =
       let long = t.exact_len in
       let split : xs ++ rest ≡ t.count_bytes ++ (t.name_bytes ++ (t.id_bytes ++ rest)) = ap (λ l. l ++ rest) t.matches ∙ append_assoc t.count_bytes (t.name_bytes ++ t.id_bytes) rest ∙ ap (λ l. t.count_bytes ++ l) (append_assoc t.name_bytes t.id_bytes rest) in
-      let later : drop 4 (xs ++ rest) ≡ t.name_bytes ++ (t.id_bytes ++ rest) = ap (drop 4) split ∙ drop_front 4 t.count_bytes (t.name_bytes ++ (t.id_bytes ++ rest)) long in
+      let later : drop 4 (xs ++ rest) ≡ t.name_bytes ++ (t.id_bytes ++ rest) = ap (drop 4) split ∙ drop_prefix 4 t.count_bytes (t.name_bytes ++ (t.id_bytes ++ rest)) long in
       let counted : number 4 (xs ++ rest) ≡ number 4 t.count_bytes = ap (number 4) split ∙ first 4 t.count_bytes (t.name_bytes ++ (t.id_bytes ++ rest)) (omega (arith, long)) in
       let texted : number 4 (drop 4 (xs ++ rest)) ≡ number 4 t.name_bytes = ap (number 4) later ∙ first 4 t.name_bytes (t.id_bytes ++ rest) t.valid_string.0.0 in
       let whole = ap length split in
@@ -103,7 +103,7 @@ module _ (number : ℕ → List ℕ → ℕ) (first : ReadsFirst number) where
   name_and_ids_not_truncated xs rest name ids t (inr (inr c)) =
       let b = parts_of xs rest name ids t in
       let header = c.exact_len in
-      let later : drop 4 (xs ++ rest) ≡ c.name_bytes ++ c.id_bytes = ap (drop 4) c.matches ∙ drop_front 4 c.count_bytes (c.name_bytes ++ c.id_bytes) header in
+      let later : drop 4 (xs ++ rest) ≡ c.name_bytes ++ c.id_bytes = ap (drop 4) c.matches ∙ drop_prefix 4 c.count_bytes (c.name_bytes ++ c.id_bytes) header in
       let counted : number 4 (xs ++ rest) ≡ number 4 c.count_bytes = ap (number 4) c.matches ∙ first 4 c.count_bytes (c.name_bytes ++ c.id_bytes) (omega (arith, header)) in
       let texted : number 4 (drop 4 (xs ++ rest)) ≡ number 4 c.name_bytes = ap (number 4) later ∙ first 4 c.name_bytes c.id_bytes c.valid_string.0 in
       let split = ap length (sym later ∙ b.is) in
@@ -130,7 +130,7 @@ module _ (number : ℕ → List ℕ → ℕ) (first : ReadsFirst number) where
         }
 
     after_event_frame : (xs rest : List ℕ) (d : DescribedEvent) → (e : IsEvent number size xs d) → drop size (xs ++ rest) ≡ e.after_frame ++ rest
-    after_event_frame xs rest d e = ap (λ l. drop size (l ++ rest)) e.matches ∙ ap (drop size) (append_assoc e.frame_bytes e.after_frame rest) ∙ drop_front size e.frame_bytes (e.after_frame ++ rest) e.exact_len
+    after_event_frame xs rest d e = ap (λ l. drop size (l ++ rest)) e.matches ∙ ap (drop size) (append_assoc e.frame_bytes e.after_frame rest) ∙ drop_prefix size e.frame_bytes (e.after_frame ++ rest) e.exact_len
 
     event_frame : (xs rest : List ℕ) (d : DescribedEvent) → (e : IsEvent number size xs d) → take size (xs ++ rest) ≡ e.frame_bytes
     event_frame xs rest d e = ap (λ l. take size (l ++ rest)) e.matches ∙ ap (take size) (append_assoc e.frame_bytes e.after_frame rest) ∙ take_prefix size e.frame_bytes (e.after_frame ++ rest) e.exact_len
@@ -153,7 +153,7 @@ module _ (number : ℕ → List ℕ → ℕ) (first : ReadsFirst number) where
         let b = subst (λ l. NameAndIdsParts l d.name d.ids []) (append-nil (drop size xs)) (parts_of (drop size xs) [] d.name d.ids name_and_ids) in
         let text : take (string_length (drop 4 (drop size xs))) (drop 4 (drop size xs)) ≡ b.text = ap (take (string_length (drop 4 (drop size xs)))) b.is ∙ take_prefix (string_length (drop 4 (drop size xs))) b.text (b.words ++ []) b.long in
         let words : drop (string_length (drop 4 (drop size xs))) (drop 4 (drop size xs)) ≡ b.words =
-        ap (drop (string_length (drop 4 (drop size xs)))) b.is ∙ drop_front (string_length (drop 4 (drop size xs))) b.text (b.words ++ []) b.long ∙ append-nil b.words in
+        ap (drop (string_length (drop 4 (drop size xs)))) b.is ∙ drop_prefix (string_length (drop 4 (drop size xs))) b.text (b.words ++ []) b.long ∙ append-nil b.words in
         described_same d (attr_of number (take size xs)) (utf8_text (before_nul (drop 4 (take (string_length (drop 4 (drop size xs))) (drop 4 (drop size xs)))))) (u64s_of number (number 4 (drop size xs)) (drop (string_length (drop 4 (drop size xs))) (drop 4 (drop size xs))))
         (e.attr_in_frame.matches.matches ∙ ap (attr_of number) (sym frame))
         (b.named ∙ ap (λ t. utf8_text (before_nul (drop 4 t))) (sym text))
@@ -177,7 +177,7 @@ module _ (number : ℕ → List ℕ → ℕ) (first : ReadsFirst number) where
     pub event_has_no_error : (err : Error) (xs rest : List ℕ) (d : DescribedEvent) → IsEvent number size xs d → IsEventError number size err (xs ++ rest) → ⊥
     event_has_no_error err xs rest d e (inl none) =
         let whole : xs ++ rest ≡ e.frame_bytes ++ (e.after_frame ++ rest) = ap (λ l. l ++ rest) e.matches ∙ append_assoc e.frame_bytes e.after_frame rest in
-        frame_has_no_error err (xs ++ rest) d.attr (subst (λ l. IsAttrInFrame number size l d.attr) (sym whole) (frame_stays number first size e.frame_bytes (e.after_frame ++ rest) d.attr e.attr_in_frame)) none
+        frame_has_no_error err (xs ++ rest) d.attr (subst (λ l. IsAttrInFrame number size l d.attr) (sym whole) (frame_remains number first size e.frame_bytes (e.after_frame ++ rest) d.attr e.attr_in_frame)) none
     event_has_no_error err xs rest d e (inr (framed, short, split)) = name_and_ids_not_truncated e.after_frame rest d.name d.ids e.name_and_ids (subst (IsTruncatedNameAndIds number) (after_event_frame xs rest d e) split)
 
     -- ---- consecutive events
@@ -435,7 +435,7 @@ module _ (number : ℕ → List ℕ → ℕ) (first : ReadsFirst number) where
   events_of_desc xs (ds, t) =
       let split = event_desc_split xs ds t in
       let header : take 8 xs ≡ t.3.header = ap (take 8) split ∙ take_prefix 8 t.3.header (t.3.event_bytes ++ t.1) t.3.exact_len in
-      let later : drop 8 xs ≡ t.3.event_bytes ++ t.1 = ap (drop 8) split ∙ drop_front 8 t.3.header (t.3.event_bytes ++ t.1) t.3.exact_len in
+      let later : drop 8 xs ≡ t.3.event_bytes ++ t.1 = ap (drop 8) split ∙ drop_prefix 8 t.3.header (t.3.event_bytes ++ t.1) t.3.exact_len in
       let are = subst (λ h. AreEvents number (frame_size_of number h) t.3.event_bytes ds) (sym header) t.3.elements in
       (ds, t.3.event_bytes, t.1, later, t.3.count ∙ ap (event_count_of number) (sym header), are)
 

@@ -20,10 +20,10 @@ use Rattle.perfdata_sections.specs.EventDesc.{IsNameAndIds, IsTruncatedNameAndId
 use Rattle.perfdata_sections.specs.ParsedPart.{PartRead, PartReadError, file_error_of}
 use Rattle.perfdata_sections.specs.Items.{SomeBytes, IsTruncationOf, IsShorterThan}
 use Rattle.perfdata_sections.specs.HeaderString.{IsHeaderStringOf, IsTruncatedString, ReadsHeaderString}
-use Rattle.perfdata_sections.proofs.Frames.{frame_stays, frame_prefix, frame_filled}
-use Rattle.perfdata_sections.proofs.PartLemmas.{drop_front, stopped_at_once}
+use Rattle.perfdata_sections.proofs.Frames.{frame_remains, frame_prefix, frame_filled}
+use Rattle.perfdata_sections.proofs.PartLemmas.{drop_prefix, stopped_at_once}
 use Rattle.perfdata_sections.proofs.Pmus.{read_error_after}
-use Rattle.perfdata_sections.proofs.ItemRuns.{if_some_more, if_some_both, shown, truncated_next, read_error_next}
+use Rattle.perfdata_sections.proofs.ItemRuns.{if_some_more, if_some_both, is_visible, truncated_next, read_error_next}
 use Rattle.perfdata_sections.specs.declared.feature_sections.AttributeDescription.{AttributeDescription}
 use Rattle.perfdata_sections.specs.declared.feature_sections.event_desc.NameAndIds.{NameAndIds}
 use Rattle.perfdata_sections.specs.declared.error.Error.{Error}
@@ -110,7 +110,7 @@ module _ (number : ℕ → List ℕ → ℕ) (first : ReadsFirst number) where
     consumes = consumed_more a b c header some.bytes before some.consumes;
   }
   name_and_ids_name_error a b c header (Source e) long before truncated = read_error_after (IsTruncatedNameAndIds number) (IsTruncatedString number) a b c header e before truncated (λ part short.
-      inr (inl (omega (arith, length-append header part), subst (IsTruncatedString number) (sym (drop_front 4 header part long)) short)))
+      inr (inl (omega (arith, length-append header part), subst (IsTruncatedString number) (sym (drop_prefix 4 header part long)) short)))
 
   pub name_and_ids_ids_error : (a b c d : State) (header : List ℕ) (name : Option (List ℕ)) (count : ℕ) (error : AppendError) → length header ≡ 4 → count ≡ number 4 header → Consumed a header b → PartRead (IsHeaderStringOf number) b name c
       → ReadsIds number count c (Err error) d → ReadsNameAndIds number a (Err error) d
@@ -159,8 +159,8 @@ module _ (number : ℕ → List ℕ → ℕ) (first : ReadsFirst number) where
   module _ (attr_size : ℕ) where
     -- ---- a padded frame
 
-    frame_shown : (a b : State) (attr : PerfEventAttr) → FrameRead number attr_size a attr b → IfSome a.bytes (λ xs. IsAttrInFrame number attr_size xs attr)
-    frame_shown a b attr was_read = shown a.bytes b.bytes was_read.bytes (λ xs. IsAttrInFrame number attr_size xs attr) was_read.consumes.bytes (λ rest. frame_stays number first attr_size was_read.bytes rest attr was_read.matches)
+    frame_visible : (a b : State) (attr : PerfEventAttr) → FrameRead number attr_size a attr b → IfSome a.bytes (λ xs. IsAttrInFrame number attr_size xs attr)
+    frame_visible a b attr was_read = is_visible a.bytes b.bytes was_read.bytes (λ xs. IsAttrInFrame number attr_size xs attr) was_read.consumes.bytes (λ rest. frame_remains number first attr_size was_read.bytes rest attr was_read.matches)
 
     -- the attribute has the size of its frame
     pub frame_full : (a b : State) (attr : PerfEventAttr) → RemainsFromPosition a → FrameRead number attr_size a attr b → attr_size - attr.size ≡ 0 → PaddedFrameRead number attr_size a attr b
@@ -172,7 +172,7 @@ module _ (number : ℕ → List ℕ → ℕ) (first : ReadsFirst number) where
           after_seek = consumed-after_seek a b was_read.bytes from_position was_read.consumes;
           position = was_read.consumes.position ∙ advanced_by_same a.position (length was_read.bytes) attr_size long;
           is_possible = (was_read.bytes, was_read.matches);
-          matches = frame_shown a b attr was_read;
+          matches = frame_visible a b attr was_read;
         }
 
     -- a seek reached the end of the frame
@@ -186,7 +186,7 @@ module _ (number : ℕ → List ℕ → ℕ) (first : ReadsFirst number) where
           after_seek = after_seek_more a b c (consumed-after_seek a b was_read.bytes from_position was_read.consumes) seek.after_seek;
           position = there ∙ advanced_by_sum a.position (length was_read.bytes) distance n (λ p same. seek.target p (was_read.consumes.position ∙ same)) ∙ advanced_by_same a.position (length was_read.bytes + distance) attr_size long;
           is_possible = (was_read.bytes, was_read.matches);
-          matches = frame_shown a b attr was_read;
+          matches = frame_visible a b attr was_read;
         }
 
     -- the seek to the end of the frame failed: its target is in range, hence the source failed
@@ -220,26 +220,26 @@ module _ (number : ℕ → List ℕ → ℕ) (first : ReadsFirst number) where
     -- a padded frame was consumed, if the source has as many bytes
     frame_consumed : (a b : State) (attr : PerfEventAttr) → RemainsFromPosition a → PaddedFrameRead number attr_size a attr b → IfSome a.bytes (λ xs. attr_size ≤ length xs)
         → (frame : List ℕ) × (length frame ≡ attr_size) × IsAttrInFrame number attr_size frame attr × Consumed a frame b
-    frame_consumed a b attr from_position passed long_enough =
-        let f = frame_in a.bytes b.bytes attr (bytes_advanced a b attr_size from_position passed.after_seek.from_position passed.position) passed.is_possible passed.matches long_enough in (
+    frame_consumed a b attr from_position skipped long_enough =
+        let f = frame_in a.bytes b.bytes attr (bytes_advanced a b attr_size from_position skipped.after_seek.from_position skipped.position) skipped.is_possible skipped.matches long_enough in (
           f.0,
           f.1,
           f.2,
           record {
             bytes = f.3;
-            position = passed.position ∙ advanced_by_same a.position attr_size (length f.0) (sym f.1);
-            errors = passed.after_seek.errors;
-            pauses = passed.after_seek.pauses;
-            steady = passed.after_seek.steady;
+            position = skipped.position ∙ advanced_by_same a.position attr_size (length f.0) (sym f.1);
+            errors = skipped.after_seek.errors;
+            pauses = skipped.after_seek.pauses;
+            steady = skipped.after_seek.steady;
           },
         )
 
     pub event_read : (a b c : State) (attr : PerfEventAttr) (t : NameAndIds) → RemainsFromPosition a → PaddedFrameRead number attr_size a attr b → ReadsNameAndIds number b (Ok t) c
         → (let d : AttributeDescription = record { attr = attr; name = t.name; event_ids = t.event_ids } in PartRead (λ xs d. IsEvent number attr_size xs (event_in d)) a d c)
-    event_read a b c attr t from_position passed name_and_ids =
+    event_read a b c attr t from_position skipped name_and_ids =
         let some = name_and_ids_nonempty name_and_ids.bytes (option_map string_bytes t.name) t.event_ids.items name_and_ids.matches in
-        let long_enough = bytes_before_advance attr_size a.bytes c.bytes name_and_ids.bytes (sym (bytes_advanced a b attr_size from_position passed.after_seek.from_position passed.position) ∙ name_and_ids.consumes.bytes) some in
-        let frame = frame_consumed a b attr from_position passed long_enough in
+        let long_enough = bytes_before_advance attr_size a.bytes c.bytes name_and_ids.bytes (sym (bytes_advanced a b attr_size from_position skipped.after_seek.from_position skipped.position) ∙ name_and_ids.consumes.bytes) some in
+        let frame = frame_consumed a b attr from_position skipped long_enough in
         record {
           bytes = frame.0 ++ name_and_ids.bytes;
           consumes = consumed_more a b c frame.0 name_and_ids.bytes frame.3 name_and_ids.consumes;
@@ -248,11 +248,11 @@ module _ (number : ℕ → List ℕ → ℕ) (first : ReadsFirst number) where
 
     pub event_truncated : (a b c : State) (attr : PerfEventAttr) (error : AppendError) (e : Error) → PaddedFrameRead number attr_size a attr b → ReadsNameAndIds number b (Err error) c → e ≡ file_error_of error
         → AfterSeek a c × (e ≢ Memory → EventReadError number attr_size a e c)
-    event_truncated a b c attr NoMemory e passed some is = (after_seek_more a b c passed.after_seek (consumed-after_seek b c some.bytes passed.after_seek.from_position some.consumes), λ ne. absurd (ne is))
-    event_truncated a b c attr (Source error) e passed truncated is =
+    event_truncated a b c attr NoMemory e skipped some is = (after_seek_more a b c skipped.after_seek (consumed-after_seek b c some.bytes skipped.after_seek.from_position some.consumes), λ ne. absurd (ne is))
+    event_truncated a b c attr (Source error) e skipped truncated is =
         subst (λ e. AfterSeek a c × (e ≢ Memory → EventReadError number attr_size a e c)) (sym is) (
-          after_seek_more a b c passed.after_seek (consumed-after_seek b c truncated.bytes passed.after_seek.from_position truncated.consumes),
-          λ ne. inr (inr (record { attr = attr; mid = b; frame_read = passed; error = read_error_next (IsTruncatedNameAndIds number) b c error truncated })),
+          after_seek_more a b c skipped.after_seek (consumed-after_seek b c truncated.bytes skipped.after_seek.from_position truncated.consumes),
+          λ ne. inr (inr (record { attr = attr; mid = b; frame_read = skipped; error = read_error_next (IsTruncatedNameAndIds number) b c error truncated })),
         )
 
     pub event_frame_error : (a b : State) (e : Error) → ReadsPaddedFrame number attr_size a (Err e) b → AfterSeek a b × (e ≢ Memory → EventReadError number attr_size a e b)
@@ -352,14 +352,14 @@ module _ (number : ℕ → List ℕ → ℕ) (first : ReadsFirst number) where
 
   -- the bytes of the source contain what was read
   pub event_desc_described : (old : State) (ds : List AttributeDescription) (new : State) → PartRead (λ xs ds. IsEventDesc number xs (events_in ds)) old ds new → IfSome old.bytes (λ xs. DescribesByEventDesc number xs ds)
-  event_desc_described old ds new was_read = shown old.bytes new.bytes was_read.bytes (λ xs. DescribesByEventDesc number xs ds) was_read.consumes.bytes (λ rest. (was_read.bytes, rest, refl, was_read.matches))
+  event_desc_described old ds new was_read = is_visible old.bytes new.bytes was_read.bytes (λ xs. DescribesByEventDesc number xs ds) was_read.consumes.bytes (λ rest. (was_read.bytes, rest, refl, was_read.matches))
 
   pub event_desc_after_seek : (old : State) (ds : List AttributeDescription) (new : State) → RemainsFromPosition old → PartRead (λ xs ds. IsEventDesc number xs (events_in ds)) old ds new → AfterSeek old new
   event_desc_after_seek old ds new from_position was_read = consumed-after_seek old new was_read.bytes from_position was_read.consumes
 
-  shown_before : (a b : Option (List ℕ)) (prefix : List ℕ) (P Q : List ℕ → Type 0) → a ≡ prepend prefix b → ((rest : List ℕ) → Q rest → P (prefix ++ rest)) → IfSome b Q → IfSome a P
-  shown_before a None prefix P Q is more h = subst (λ o. IfSome o P) (sym is) tt
-  shown_before a (Some rest) prefix P Q is more h = subst (λ o. IfSome o P) (sym is) (more rest h)
+  visible_before : (a b : Option (List ℕ)) (prefix : List ℕ) (P Q : List ℕ → Type 0) → a ≡ prepend prefix b → ((rest : List ℕ) → Q rest → P (prefix ++ rest)) → IfSome b Q → IfSome a P
+  visible_before a None prefix P Q is more h = subst (λ o. IfSome o P) (sym is) tt
+  visible_before a (Some rest) prefix P Q is more h = subst (λ o. IfSome o P) (sym is) (more rest h)
 
   source_error_later : (a b c : State) (e : Error) (prefix : List ℕ) → Consumed a prefix b → IsAttributesSourceError b e c → IsAttributesSourceError a e c
   source_error_later a b c e prefix consumed source_error = elim source_error [
@@ -382,7 +382,7 @@ module _ (number : ℕ → List ℕ → ℕ) (first : ReadsFirst number) where
         let consumed = consumed_more old remaining_from.mid events.mid remaining_from.header events.bytes_before remaining_from.consumes events.consumes in
         let after_seek = consumed-after_seek old events.mid (remaining_from.header ++ events.bytes_before) from_position consumed in
         elim (event_source_error (frame_size_of number remaining_from.header) events.mid new e after_seek.from_position events.error) [
-          | inl bytes ↦ inl (shown_before old.bytes events.mid.bytes (remaining_from.header ++ events.bytes_before) (IsEventDescError number e) (IsEventError number (frame_size_of number remaining_from.header) e) consumed.bytes (λ rest none. inr (record {
+          | inl bytes ↦ inl (visible_before old.bytes events.mid.bytes (remaining_from.header ++ events.bytes_before) (IsEventDescError number e) (IsEventError number (frame_size_of number remaining_from.header) e) consumed.bytes (λ rest none. inr (record {
             header = remaining_from.header;
             bytes_before = events.bytes_before;
             rest = rest;

@@ -9,7 +9,7 @@ use Rattle.std.specs.declared.io.SeekFrom.TheVariants.{Start}
 use Rattle.perfdata_base.specs.Source.{State, ReadExactError, SeekSucceeded}
 use Rattle.perfdata_base.proofs.ConsumedLemmas.{consumed_more, consumed_none_later, failed_later}
 use Rattle.perfdata_base.specs.Attr.{own_size, attr_of_size, OwnSizeRead, OwnSizeReadError, AttrRestRead}
-use Rattle.perfdata_base.proofs.Attrs.{own_stays, attr_stays, attr_front, number_front, whole_attr, size_with}
+use Rattle.perfdata_base.proofs.Attrs.{own_remains, attr_remains, attr_prefix, number_prefix, whole_attr, size_with}
 use Rattle.perfdata_base.specs.declared.attr.PerfEventAttr.{PerfEventAttr}
 use Rattle.perfdata_base.specs.declared.section.PerfFileSection.{PerfFileSection}
 use Rattle.perfdata_sections.specs.AttributeDescription.{attr_in, name_in, ids_in}
@@ -36,7 +36,7 @@ module _ (number : ℕ → List ℕ → ℕ) (first : (n : ℕ) (xs ys : List �
     cause = elim own.cause [
       | inl short ↦ cause_of_truncation (ConsumesFrameError number attr_size) (IsFrameReadError number attr_size) a b own.consumed_bytes (Read OfAttr) own.consumes (inl (inl short.0), inl (inl short.0, refl)) (λ end. ((refl, inl short.0), end)) (elim short.1 [ inl none ↦ inl none.1 | inr failed ↦ inr failed ])
       | inr small ↦ cause_in_bytes (ConsumesFrameError number attr_size) (IsFrameReadError number attr_size) a b own.consumed_bytes (Read OfAttr) own.consumes (λ rest.
-          let size = own_stays number first own.consumed_bytes rest (omega (arith, small.0)) in
+          let size = own_remains number first own.consumed_bytes rest (omega (arith, small.0)) in
           let long_enough : 8 ≤ length (own.consumed_bytes ++ rest) = omega (arith, length-append own.consumed_bytes rest, small.0) in
           let low : own_size number (own.consumed_bytes ++ rest) < 64 = omega (arith, small.1, size) in
           (inr (long_enough, low), inr (λ truncated. elim truncated [ inl too_few ↦ omega arith | inr part ↦ (let least = part.0 in omega arith) ], first_eight own.consumed_bytes rest small.0)))
@@ -49,7 +49,7 @@ module _ (number : ℕ → List ℕ → ℕ) (first : (n : ℕ) (xs ys : List �
     consumed_bytes = header;
     consumes = was_read.consumes;
     cause = cause_in_bytes (ConsumesFrameError number attr_size) (IsFrameReadError number attr_size) a b header (InconsistentAttributeSizes own attr_size) was_read.consumes (λ rest.
-        let size = own_stays number first header rest (omega arith) in
+        let size = own_remains number first header rest (omega arith) in
         let long_enough : 8 ≤ length (header ++ rest) = omega (arith, length-append header rest) in
         let same : own ≡ own_size number (header ++ rest) = was_read.matches ∙ sym size in
         ((long_enough, same, refl, was_read.min_size, more), inr (λ truncated. elim truncated [ inl too_few ↦ omega arith | inr part ↦ (let within = part.1 in omega arith) ], first_eight header rest long)));
@@ -58,7 +58,7 @@ module _ (number : ℕ → List ℕ → ℕ) (first : (n : ℕ) (xs ys : List �
   -- the bytes after the first 8 are truncated
   pub frame_rest_error : (a b c : State) (header : List ℕ) (own : ℕ) (e : SourceError) → length header ≡ 8 → OwnSizeRead number a header own b → own ≤ attr_size → ReadExactError b (own - 8) e c → NextReadError (ConsumesFrameError number attr_size) (IsFrameReadError number attr_size) a (Read OfAttr) c
   frame_rest_error a b c header own e long was_read within truncated =
-      let size : own_size number (header ++ truncated.consumed_bytes) ≡ own = own_stays number first header truncated.consumed_bytes (omega arith) ∙ sym was_read.matches in
+      let size : own_size number (header ++ truncated.consumed_bytes) ≡ own = own_remains number first header truncated.consumed_bytes (omega arith) ∙ sym was_read.matches in
       let least = was_read.min_size in
       let less = truncated.too_few in
       let too_few : IsTruncatedFrame number attr_size (header ++ truncated.consumed_bytes) = inr (omega arith, omega arith, omega (arith, length-append header truncated.consumed_bytes)) in
@@ -92,10 +92,10 @@ module _ (number : ℕ → List ℕ → ℕ) (first : (n : ℕ) (xs ys : List �
       let there = framed.matches.complete in
       let within = framed.within in
       let size : own_size number ys ≡ own_size number xs =
-      ap (λ s. if nat_eq s 0 then 64 else s) (sym (number_front number first 4 4 (own_size number xs) xs ys (omega arith) there fits same))
+      ap (λ s. if nat_eq s 0 then 64 else s) (sym (number_prefix number first 4 4 (own_size number xs) xs ys (omega arith) there fits same))
       in
       let is : a ≡ attr_of_size number (own_size number xs) ys =
-      framed.matches.matches ∙ attr_front number first (own_size number xs) (own_size number xs) xs ys (λ k low high. low) there fits same
+      framed.matches.matches ∙ attr_prefix number first (own_size number xs) (own_size number xs) xs ys (λ k low high. low) there fits same
       in
       record {
         matches = record { min_size = omega arith; complete = omega arith; matches = is ∙ ap (λ own. attr_of_size number own ys) (sym size) };
@@ -125,13 +125,13 @@ module _ (number : ℕ → List ℕ → ℕ) (first : (n : ℕ) (xs ys : List �
       (take own xs ++ pad.0, all, framed_same xs (take own xs ++ pad.0) a framed (omega (arith, all, within)) same)
 
   -- a frame is unchanged by the bytes after it
-  pub frame_stays : (xs rest : List ℕ) (a : PerfEventAttr) → IsAttrInFrame number attr_size xs a → IsAttrInFrame number attr_size (xs ++ rest) a
-  frame_stays xs rest a framed =
+  pub frame_remains : (xs rest : List ℕ) (a : PerfEventAttr) → IsAttrInFrame number attr_size xs a → IsAttrInFrame number attr_size (xs ++ rest) a
+  frame_remains xs rest a framed =
       let least = framed.matches.min_size in
       let there = framed.matches.complete in
       let within = framed.within in
-      let size = own_stays number first xs rest (omega arith) in
-      record { matches = attr_stays number first xs rest a framed.matches; within = omega arith }
+      let size = own_remains number first xs rest (omega arith) in
+      record { matches = attr_remains number first xs rest a framed.matches; within = omega arith }
 
   -- an I/O error in reading a frame from a later state is also one from the earlier state
   pub frame_carries : Carries (IsFrameReadError number attr_size)
@@ -139,7 +139,7 @@ module _ (number : ℕ → List ℕ → ℕ) (first : (n : ℕ) (xs ys : List �
 
   -- a seek, followed by reading a frame, which succeeds or fails
   pub frame_result : (a b c : State) (at n : ℕ) (r : Result PerfEventAttr Error) → SeekSucceeded a (Start at) n b → ReadsFrame number attr_size b r c → ReadsFrameAt number attr_size a at r c
-  frame_result a b c at n (Ok attr) seek was_read = read_there (IsAttrInFrame number attr_size) a b c at n was_read.bytes attr seek was_read.consumes (λ rest. frame_stays was_read.bytes rest attr was_read.matches)
+  frame_result a b c at n (Ok attr) seek was_read = read_there (IsAttrInFrame number attr_size) a b c at n was_read.bytes attr seek was_read.consumes (λ rest. frame_remains was_read.bytes rest attr was_read.matches)
   frame_result a b c at n (Err e) seek read_error = error_there (ConsumesFrameError number attr_size) (IsFrameReadError number attr_size) frame_carries a b c at n e seek read_error
 
   -- the attribute of a frame is described without a name and without ids

@@ -25,9 +25,9 @@ if_some_is : (o : Option (List ℕ)) (P : List ℕ → Type 0) (xs : List ℕ) �
 if_some_is o P xs is p = subst (λ o. IfSome o P) (sym is) p
 
 -- a fact that holds for all bytes beginning with `prefix` holds for the source that `prefix` was read from
-pub shown : (a b : Option (List ℕ)) (prefix : List ℕ) (P : List ℕ → Type 0) → a ≡ prepend prefix b → ((rest : List ℕ) → P (prefix ++ rest)) → IfSome a P
-shown a None prefix P is more = subst (λ o. IfSome o P) (sym is) tt
-shown a (Some rest) prefix P is more = subst (λ o. IfSome o P) (sym is) (more rest)
+pub is_visible : (a b : Option (List ℕ)) (prefix : List ℕ) (P : List ℕ → Type 0) → a ≡ prepend prefix b → ((rest : List ℕ) → P (prefix ++ rest)) → IfSome a P
+is_visible a None prefix P is more = subst (λ o. IfSome o P) (sym is) tt
+is_visible a (Some rest) prefix P is more = subst (λ o. IfSome o P) (sym is) (more rest)
 
 pub later : (a b c : State) → AfterSeek a b → SourceFailed b c ⊎ SourcePaused b c → SourceFailed a c ⊎ SourcePaused a c
 later a b c after_seek cause = elim cause [
@@ -75,7 +75,7 @@ Carries IsOfRead = (a b c : State) (e : Error) (prefix : List ℕ) → AfterSeek
 module _ (IsNot : Error → List ℕ → List ℕ → Type 0) (IsOfRead : Error → List ℕ → State → State → Type 0) where
   -- these bytes were read, and they begin no valid item, whatever follows
   pub cause_in_bytes : (a b : State) (prefix : List ℕ) (e : Error) → Consumed a prefix b → ((rest : List ℕ) → IsNot e prefix (prefix ++ rest)) → ReadErrorCause IsNot IsOfRead a a.bytes (IsNot e prefix) prefix e b
-  cause_in_bytes a b prefix e consumed none = inl ((prefix ++ [], none []), shown a.bytes b.bytes prefix (IsNot e prefix) consumed.bytes none)
+  cause_in_bytes a b prefix e consumed none = inl ((prefix ++ [], none []), is_visible a.bytes b.bytes prefix (IsNot e prefix) consumed.bytes none)
 
   -- too too_few bytes were read, as the source ended, paused or failed
   pub cause_of_truncation : (a b : State) (prefix : List ℕ) (e : Error) → Consumed a prefix b → IsNot e prefix prefix → (SourceFailed a b ⊎ SourcePaused a b → IsOfRead e prefix a b) → EndedOrPaused a b ⊎ SourceFailed a b → ReadErrorCause IsNot IsOfRead a a.bytes (IsNot e prefix) prefix e b
@@ -95,7 +95,7 @@ module _ (IsNot : Error → List ℕ → List ℕ → Type 0) (IsOfRead : Error 
       consumed_bytes = read_error.consumed_bytes;
       position = seek_then_consumed a b c at n read_error.consumed_bytes seek read_error.consumes;
       at_position = bytes_at_target a.position b.position b.bytes at n (λ xs. take (length read_error.consumed_bytes) xs ≡ read_error.consumed_bytes) seek.position seek.after_seek.from_position seek.target
-          (shown b.bytes c.bytes read_error.consumed_bytes (λ xs. take (length read_error.consumed_bytes) xs ≡ read_error.consumed_bytes) read_error.consumes.bytes (λ rest. take-append_seam read_error.consumed_bytes rest));
+          (is_visible b.bytes c.bytes read_error.consumed_bytes (λ xs. take (length read_error.consumed_bytes) xs ≡ read_error.consumed_bytes) read_error.consumes.bytes (λ rest. take-append_seam read_error.consumed_bytes rest));
       cause = elim read_error.cause [
         | inl bytes ↦ inl (bytes.0, bytes_at_target a.position b.position b.bytes at n (IsNot e read_error.consumed_bytes) seek.position seek.after_seek.from_position seek.target bytes.1)
         | inr source ↦ inr (carries a b c e read_error.consumed_bytes seek.after_seek source)
@@ -165,7 +165,7 @@ module _ {D : Type 0} (IsOne : List ℕ → D → Type 0) where
   read_there a b c at n prefix d seek consumed more = record {
     after_seek = after_seek_more a b c seek.after_seek (consumed-after_seek b c prefix seek.after_seek.from_position consumed);
     is_possible = (prefix ++ [], more []);
-    matches = bytes_at_target a.position b.position b.bytes at n (λ xs. IsOne xs d) seek.position seek.after_seek.from_position seek.target (shown b.bytes c.bytes prefix (λ xs. IsOne xs d) consumed.bytes more);
+    matches = bytes_at_target a.position b.position b.bytes at n (λ xs. IsOne xs d) seek.position seek.after_seek.from_position seek.target (is_visible b.bytes c.bytes prefix (λ xs. IsOne xs d) consumed.bytes more);
   }
 
   module _ (step : ℕ) where

@@ -15,8 +15,8 @@ pub drop_after : (k n : ℕ) (prefix rest : List ℕ) → length prefix ≡ k �
 drop_after k n prefix rest long =
     sym (drop-drop n k (prefix ++ rest)) ∙ ap (λ m. drop n (drop m (prefix ++ rest))) (sym long) ∙ ap (drop n) (drop-append_seam prefix rest)
 
-pub drop_front : (k : ℕ) (prefix rest : List ℕ) → length prefix ≡ k → drop k (prefix ++ rest) ≡ rest
-drop_front k prefix rest long = ap (λ m. drop m (prefix ++ rest)) (sym long) ∙ drop-append_seam prefix rest
+pub drop_prefix : (k : ℕ) (prefix rest : List ℕ) → length prefix ≡ k → drop k (prefix ++ rest) ≡ rest
+drop_prefix k prefix rest long = ap (λ m. drop m (prefix ++ rest)) (sym long) ∙ drop-append_seam prefix rest
 
 -- a prefix was read, and the bytes after it are truncated
 pub stopped_after : (IsTruncated : List ℕ → Type 0) (a b c : State) (prefix : List ℕ) (count : ℕ) (e : Error) → Consumed a prefix b → ReadExactError b count e c
@@ -56,6 +56,6 @@ module _ (number : ℕ → List ℕ → ℕ) (first : ReadsFirst number) where
     matches = (
       omega (arith, length-append version rest),
       first 4 version rest (omega arith) ∙ one,
-      is ∙ sym (rw (drop_front 4 version rest long, drop_after 4 4 version rest long, drop_after 4 12 version rest long) refl),
+      is ∙ sym (rw (drop_prefix 4 version rest long, drop_after 4 4 version rest long, drop_after 4 12 version rest long) refl),
     );
   }

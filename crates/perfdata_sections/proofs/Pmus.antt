@@ -29,7 +29,7 @@ use Rattle.perfdata_base.proofs.Numbers.{ReadsFirst}
 use Rattle.perfdata_sections.specs.ParsedPart.{PartRead, PartPartlyRead, PartReadError}
 use Rattle.perfdata_sections.specs.HeaderString.{IsHeaderStringOf, IsTruncatedString, IsTruncatedText, ReadsHeaderString}
 use Rattle.perfdata_sections.specs.PmuMappings.{PmuUnit, named_units, last_name, collected_name, SortsUnits, IsPmuUnit, IsTruncatedUnit, IsTruncatedName, ArePmuUnits, TruncatedUnits, UnitsOutOfMemory, IsPmuSection, IsPmuSectionOf, IsTruncatedPmuSection, IsPrefixOfPmuSection, ReadsPmuUnit, PmuUnitsRead, ReadsPmuUnits, ReadsPmus}
-use Rattle.perfdata_sections.proofs.PartLemmas.{drop_front, stopped_at_once}
+use Rattle.perfdata_sections.proofs.PartLemmas.{drop_prefix, stopped_at_once}
 
 -- ---- the names in ascending order of their numbers
 
@@ -135,10 +135,10 @@ module _ (number : ℕ → List ℕ → ℕ) (first : ReadsFirst number) where
   unit_header_truncated a b e truncated = stopped_at_once (IsTruncatedUnit number) a b 4 e truncated (λ part too_few enough. absurd (omega arith))
 
   unit_truncated : (header part : List ℕ) → length header ≡ 4 → IsTruncatedString number part → IsTruncatedUnit number (header ++ part)
-  unit_truncated header part long truncated = λ _. subst (IsTruncatedString number) (sym (drop_front 4 header part long)) truncated
+  unit_truncated header part long truncated = λ _. subst (IsTruncatedString number) (sym (drop_prefix 4 header part long)) truncated
 
   pub unit_error : (a b c : State) (header : List ℕ) (error : AppendError) → length header ≡ 4 → Consumed a header b → ReadsHeaderString number b (Err error) c → ReadsPmuUnit number a (Err error) c
-  unit_error a b c header Memory long before some = partly_read_after (IsTruncatedName number) (IsTruncatedText number) a b c header before some (λ part truncated. (omega (arith, long, length-append header part), subst (IsTruncatedText number) (sym (drop_front 4 header part long)) truncated))
+  unit_error a b c header Memory long before some = partly_read_after (IsTruncatedName number) (IsTruncatedText number) a b c header before some (λ part truncated. (omega (arith, long, length-append header part), subst (IsTruncatedText number) (sym (drop_prefix 4 header part long)) truncated))
   unit_error a b c header (Source e) long before truncated = read_error_after (IsTruncatedUnit number) (IsTruncatedString number) a b c header e before truncated (λ part. unit_truncated header part long)
 
   pub unit_read : (a b c : State) (header : List ℕ) (n : ℕ) (name : Option (List ℕ)) → length header ≡ 4 → n ≡ number 4 header → Consumed a header b → PartRead (IsHeaderStringOf number) b name c
@@ -149,7 +149,7 @@ module _ (number : ℕ → List ℕ → ℕ) (first : ReadsFirst number) where
     matches = (
       omega (arith, length-append header was_read.bytes),
       is ∙ sym (first 4 header was_read.bytes (omega arith)),
-      subst (λ l. IsHeaderStringOf number l name) (sym (drop_front 4 header was_read.bytes long)) was_read.matches,
+      subst (λ l. IsHeaderStringOf number l name) (sym (drop_prefix 4 header was_read.bytes long)) was_read.matches,
     );
   }
 
@@ -222,19 +222,19 @@ module _ (number : ℕ → List ℕ → ℕ) (first : ReadsFirst number) where
       let same = first 4 header part (omega arith) in
       let all : count ≡ number 4 (header ++ part) = omega arith in (
         omega (arith, long, length-append header part),
-        subst (UnitsOutOfMemory number (number 4 (header ++ part))) (sym (drop_front 4 header part long)) (subst (λ n. UnitsOutOfMemory number n part) all partial),
+        subst (UnitsOutOfMemory number (number 4 (header ++ part))) (sym (drop_prefix 4 header part long)) (subst (λ n. UnitsOutOfMemory number n part) all partial),
       ))
   section_error a b c header count (Source e) long says before stopped = read_error_after (IsTruncatedPmuSection number) (TruncatedUnits number count) a b c header e before stopped (λ part truncated _.
       let same = first 4 header part (omega arith) in
       let all : count ≡ number 4 (header ++ part) = omega arith in
-      subst (TruncatedUnits number (number 4 (header ++ part))) (sym (drop_front 4 header part long)) (subst (λ n. TruncatedUnits number n part) all truncated))
+      subst (TruncatedUnits number (number 4 (header ++ part))) (sym (drop_prefix 4 header part long)) (subst (λ n. TruncatedUnits number n part) all truncated))
 
   section_is : (header bytes : List ℕ) (count : ℕ) (us : List PmuUnit) → length header ≡ 4 → count ≡ number 4 header → length us ≡ count → ArePmuUnits number bytes us → IsPmuSection number (header ++ bytes) us
   section_is header bytes count us long says all are =
       let same = first 4 header bytes (omega arith) in record {
         has_count = omega (arith, length-append header bytes);
         count = omega arith;
-        elements = subst (λ l. ArePmuUnits number l us) (sym (drop_front 4 header bytes long)) are;
+        elements = subst (λ l. ArePmuUnits number l us) (sym (drop_prefix 4 header bytes long)) are;
       }
 
   -- if the map isn't empty, a unit was read

@@ -16,7 +16,7 @@ use Rattle.perfdata_base.specs.declared.source.AppendError.{AppendError}
 use Rattle.perfdata_base.specs.declared.source.AppendError.TheVariants.{Memory, Source}
 use Rattle.perfdata_sections.specs.ParsedPart.{PartRead, PartPartlyRead, PartReadError, ReadsBytes}
 use Rattle.perfdata_sections.specs.HeaderString.{before_nul, utf8_text, IsTruncatedString, IsTruncatedText, IsHeaderStringOf, ReadsHeaderString}
-use Rattle.perfdata_sections.proofs.PartLemmas.{drop_front, stopped_after, stopped_at_once}
+use Rattle.perfdata_sections.proofs.PartLemmas.{drop_prefix, stopped_after, stopped_at_once}
 
 -- the text ends at the first NUL
 pub text_ends_at_nul : (xs : List ℕ) (nul_index : ℕ) → nul_index < length xs → Nowhere (Passes (is_byte 0) xs) 0 nul_index → Passes (is_byte 0) xs nul_index → take nul_index xs ≡ before_nul xs
@@ -69,7 +69,7 @@ module _ (number : ℕ → List ℕ → ℕ) (first : ReadsFirst number) where
     consumes = consumed_more a b c header body before consumed;
     matches = let same = first 4 header body (omega arith) in (
       (omega (arith, length-append header body), omega (arith, length-append header body)),
-      is ∙ ap (λ l. utf8_text (before_nul l)) (sym (drop_front 4 header body long)),
+      is ∙ ap (λ l. utf8_text (before_nul l)) (sym (drop_prefix 4 header body long)),
     );
   }
 

@@ -207,7 +207,7 @@ plain_some w n open_groups bs plain are = elim (value_some w bs plain are) [
 
 skip_item_some : (w : WireType) (n : ℕ) (open_groups bs : List ℕ) → AreBytes bs → ReadingOrError (List ℕ) (SkipsItem w n open_groups bs) (SkipItemError w n open_groups bs)
 skip_item_some wires.StartGroup n open_groups bs are = elim (cases_lt (length open_groups) 100) [
-  | inl few ↦ inl record { value = open_groups ++ n ∷ []; rest = bs; at = (few, refl, refl); are = are }
+  | inl fewer ↦ inl record { value = open_groups ++ n ∷ []; rest = bs; at = (fewer, refl, refl); are = are }
   | inr deep ↦ inr (errors.Depth, deep)
 ]
 skip_item_some wires.EndGroup n open_groups bs are = elim (ends_some open_groups n) [

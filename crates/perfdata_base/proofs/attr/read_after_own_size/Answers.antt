@@ -2,7 +2,7 @@ use Rattle.std.proofs.Common.{arith, ◌≡◌, ◌+◌, ◌-◌, ◌≤◌, len
 use Rattle.std.proofs.lemmas.Result.{err_from_is_err_and}
 use Rattle.std.proofs.lemmas.List.{length-take-le}
 use Rattle.perfdata_base.proofs.ReadErrors.{truncated_later}
-use Rattle.perfdata_base.proofs.Attrs.{whole_rest, part_front, part_long}
+use Rattle.perfdata_base.proofs.Attrs.{whole_rest, part_prefix, part_long}
 use Rattle.perfdata_base.proofs.attr.read_after_own_size.Goals as goal
 
 pub returns-in_err-skip_exact-clause-reads : goal.returns-in_err-skip_exact-clause-reads
@@ -27,4 +27,4 @@ returns-clause-reads g c =
     omega (arith, length-take (c.min-known_size.result - 8) (drop 8 c.args.bytes.now), length-drop 8 c.args.bytes.now)
     in
     let fits : 8 ≤ length c.args.bytes.now = omega arith in
-    whole_rest g.T.ByteOrder.number_of g.met.T.ByteOrder.reads_first _ (g.R.Source.state c.read_exact.new.source) _ c.args.bytes.now _ c.read_exact.new.buf c.args.own_size c.min-known_size.result _ (omega arith) (omega arith) (λ k low high. omega arith) (part_long 8 _ _ c.args.bytes.now c.read_exact.new.buf fits filled) (length-take-le 8 c.args.bytes.now fits) filled (part_front 8 _ _ c.args.bytes.now c.read_exact.new.buf fits filled) c.in_ok-read_exact.ensures.reads c.in_ok-skip_exact.ensures.skips c.parse_fields.ensures
+    whole_rest g.T.ByteOrder.number_of g.met.T.ByteOrder.reads_first _ (g.R.Source.state c.read_exact.new.source) _ c.args.bytes.now _ c.read_exact.new.buf c.args.own_size c.min-known_size.result _ (omega arith) (omega arith) (λ k low high. omega arith) (part_long 8 _ _ c.args.bytes.now c.read_exact.new.buf fits filled) (length-take-le 8 c.args.bytes.now fits) filled (part_prefix 8 _ _ c.args.bytes.now c.read_exact.new.buf fits filled) c.in_ok-read_exact.ensures.reads c.in_ok-skip_exact.ensures.skips c.parse_fields.ensures

@@ -12,4 +12,4 @@ returns-clause-appends g c = λ some.
     let whole : c.extend_from_slice.new.self.len ≡ length c.as_mut_slice.result.now = search rules in
     let asked : length c.fill.new.buf ≡ c.args.count = let l = grown.len in let o : vec_len c.args.buffer.now ≡ c.len-old_len.result = search rules in let q = length-take (length c.as_mut_slice.result.now - c.len-old_len.result) (drop c.len-old_len.result c.as_mut_slice.result.now) in let d = length-drop c.len-old_len.result c.as_mut_slice.result.now in let p = c.fill.auto.buf in let z = c.zeros.ensures in omega arith in
     let tail = tail_filled c.len-old_len.result c.in_ok-read_count.read_count c.extend_from_slice.new.self.len c.as_mut_slice.result.now c.fill.new.buf _ c.args.buffer.now.items _ is long c.fill.auto.buf read_count.within whole in
-    record { bytes = take c.in_ok-read_count.read_count c.fill.new.buf; exact_len = length-take-le _ _ read_count.within; within = rw (← asked) read_count.within; buffer_content = c.truncate.ensures.items ∙ tail; consumes = read_count.consumes; if_incomplete = λ few. read_count.if_incomplete (rw asked few) }
+    record { bytes = take c.in_ok-read_count.read_count c.fill.new.buf; exact_len = length-take-le _ _ read_count.within; within = rw (← asked) read_count.within; buffer_content = c.truncate.ensures.items ∙ tail; consumes = read_count.consumes; if_incomplete = λ is_too_few. read_count.if_incomplete (rw asked is_too_few) }

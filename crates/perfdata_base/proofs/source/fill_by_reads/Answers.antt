@@ -1,5 +1,5 @@
 use Rattle.std.proofs.Common.{arith, refl, ◌∙◌, ◌-◌, ◌<◌, ◌≤◌, length, take, drop, length-take, length-drop}
-use Rattle.perfdata_base.proofs.ConsumedLemmas.{consumed_none, consumed_more, consumed_no_more, none_read, failed_later, consumed_none_later, front_and_part, length-refilled}
+use Rattle.perfdata_base.proofs.ConsumedLemmas.{consumed_none, consumed_more, consumed_no_more, none_read, failed_later, consumed_none_later, prefix_and_part, length-refilled}
 use Rattle.std.proofs.lemmas.List.{length-take-le}
 use Rattle.std.proofs.lemmas.Slice.{take-put_mid_below}
 use Rattle.perfdata_base.proofs.source.fill_by_reads.Goals as goal
@@ -16,7 +16,7 @@ loop-filled-preserved-in-Ok g c =
     let read = c.in-Ok.ensures.reads asked in
     let same = c.read_front.auto.buf in
     let long = length-refilled c.loop-filled.filled c.loop-filled.buf c.read_front.new.buf within same in
-    let shown = front_and_part c.loop-filled.filled (length c.loop-filled.buf - c.loop-filled.filled) c.in-Ok.count c.loop-filled.buf c.read_front.new.buf within read.within in
+    let shown = prefix_and_part c.loop-filled.filled (length c.loop-filled.buf - c.loop-filled.filled) c.in-Ok.count c.loop-filled.buf c.read_front.new.buf within read.within in
     record {
       within = omega (arith, read.within, long, same, length-take (length c.loop-filled.buf - c.loop-filled.filled) (drop c.loop-filled.filled c.loop-filled.buf), length-drop c.loop-filled.filled c.loop-filled.buf);
       tries = omega arith;

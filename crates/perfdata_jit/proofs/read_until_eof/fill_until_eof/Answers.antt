@@ -1,5 +1,5 @@
 use Rattle.std.proofs.Common.{arith, refl, ◌∙◌, ◌-◌, ◌<◌, ◌≤◌, length, take, drop, length-take, length-drop}
-use Rattle.perfdata_base.proofs.ConsumedLemmas.{consumed_none, consumed_more, consumed_no_more, none_read, failed_later, consumed_none_later, front_and_part, length-refilled}
+use Rattle.perfdata_base.proofs.ConsumedLemmas.{consumed_none, consumed_more, consumed_no_more, none_read, failed_later, consumed_none_later, prefix_and_part, length-refilled}
 use Rattle.std.proofs.lemmas.Result.{err_from_is_err_and}
 use Rattle.std.proofs.lemmas.Slice.{take-put_mid_below}
 use Rattle.perfdata_jit.proofs.read_until_eof.fill_until_eof.Goals as goal
@@ -17,10 +17,10 @@ reads-preserved g c =
     let read = c.in_ok-read_count.ensures.reads asked in
     let same = c.read_front.auto.buf in
     let long = length-refilled at buf c.read_front.new.buf within same in
-    let shown = front_and_part at (length buf - at) c.in_ok-read_count.read_count buf c.read_front.new.buf within read.within in
+    let visible = prefix_and_part at (length buf - at) c.in_ok-read_count.read_count buf c.read_front.new.buf within read.within in
     record {
       within = omega (arith, read.within, long, same, length-take (length buf - at) (drop at buf), length-drop at buf);
-      consumes = rw shown (consumed_more _ _ _ _ _ before.consumes read.consumes);
+      consumes = rw visible (consumed_more _ _ _ _ _ before.consumes read.consumes);
       counts = record { errors = c.in_ok-read_count.ensures.counts.0 ∙ before.counts.errors; pauses = c.in_ok-read_count.ensures.counts.1 (omega (arith, c.if-read_count-eq0.false)) ∙ before.counts.pauses };
       same_loan = c.in_ok-read_count.ensures.same_loan ∙ before.same_loan;
     }

@@ -10,12 +10,12 @@ returns-clause-value g c =
     let xs = bytes_of c.args.bytes.now in
     let fixed = c.read_exact.new.buf in
     let is = c.in_ok-read_exact.ensures.read in
-    let taken = c.in_ok-read_exact.ensures.rest in
-    let long = taken.enough in
+    let consumed_bytes = c.in_ok-read_exact.ensures.rest in
+    let long = consumed_bytes.enough in
     let string = c.in-Some.ensures.string in
     record {
       address = c.read_u64.ensures ∙ number_at number first 8 0 16 xs fixed is long (omega arith);
       line_number = c.read_u32.ensures ∙ number_within number first 4 8 8 16 xs fixed is long (omega arith) (omega arith);
       column_number = c.read_u32-2.ensures ∙ number_within number first 4 12 4 16 xs fixed is long (omega arith) (omega arith);
-      path_text = record { split = sym taken.rest ∙ string.split; no_nul = string.no_nul };
+      path_text = record { split = sym consumed_bytes.rest ∙ string.split; no_nul = string.no_nul };
     }

@@ -11,8 +11,8 @@ returns-then-not-has_identifier c =
     let d = c.attribute-item.result in
     let inside = c.attributes-test.true in
     let here : d ≡ get_or c.args.attributes.now c.attributes.index d = c.attribute-item.is ∙ ap (λ n. get_or c.args.attributes.now n d) (sym i.at) in
-    let lacks : has_identifier (described_attribute d) ≡ false = sym (ap (λ a. is_set a.sample_format.0 16) c.attributes-in-attributes.ensures) ∙ sym c.has_identifier.ensures ∙ c.if-not-has_identifier.true in
-    sym (looked_at c.args.attributes.now c.attributes.index d false (let at = i.at in omega (arith, at, inside)) here lacks) ∙ i.are
+    let is_missing : has_identifier (described_attribute d) ≡ false = sym (ap (λ a. is_set a.sample_format.0 16) c.attributes-in-attributes.ensures) ∙ sym c.has_identifier.ensures ∙ c.if-not-has_identifier.true in
+    sym (looked_at c.args.attributes.now c.attributes.index d false (let at = i.at in omega (arith, at, inside)) here is_missing) ∙ i.are
 
 pub attributes-preserved : goal.attributes-preserved
 attributes-preserved c =

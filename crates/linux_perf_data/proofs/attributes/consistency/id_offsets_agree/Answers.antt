@@ -2,7 +2,7 @@ use Rattle.std.proofs.Common.{◌≡◌, ◌∙◌, ap, sym}
 use Rattle.perfdata_base.specs.ParseInfo.{id_parse_info_of}
 use Rattle.linux_perf_data.specs.Attribute.{Attribute}
 use Rattle.linux_perf_data.specs.Descriptions.{described_attribute}
-use Rattle.linux_perf_data.proofs.ConsistencyChecks.{all_more, one_of_all, all_taken, offsets_equal, offsets_apart}
+use Rattle.linux_perf_data.proofs.ConsistencyChecks.{all_more, one_of_all, all_consumed, offsets_equal, offsets_apart}
 use Rattle.linux_perf_data.proofs.attributes.consistency.id_offsets_agree.Goals as goal
 
 pub returns-then-ne : goal.returns-then-ne
@@ -24,4 +24,4 @@ attributes-preserved c =
 pub returns : goal.returns
 returns c =
     let P = λ (b : Attribute). id_parse_info_of b.attr ≡ id_parse_info_of (described_attribute c.args.first.now).attr in
-    all_taken P c.args.attributes.now c.attributes.attribute-index c.attributes-test.false c.attributes.invariant
+    all_consumed P c.args.attributes.now c.attributes.attribute-index c.attributes-test.false c.attributes.invariant

@@ -15,26 +15,26 @@ returns-in_err-attributes-clause-reads g c =
     let p = err_from_is_err_and c.from_residual-in_err-attributes.result c.from_residual-in_err-attributes.ensures.1 in
     let h = c.args.header.now in
     let at : c.in-Some.table ≡ table_offset h = search rules in
-    let near : EndFitsU64 h.data_section = search rules in
+    let end_fits_u64 : EndFitsU64 h.data_section = search rules in
     let sections = subst (λ t. ReadsFeatures c.args.endian t (features_of h.features) (g.C.Source.state c.args.source.now) (Ok c.in_ok-sections.sections) (g.C.Source.state c.read_features.new.source)) at c.in_ok-sections.ensures.reads in
-    rw (p.1, p.2) (attributes_error c.args.endian h _ _ _ _ _ near (has_read c.args.endian h _ _ c.in_ok-sections.sections _ (sources_both _ _ _ _ c.feature_bytes-event_desc.ensures c.feature_bytes-meta_info.ensures) sections) c.in_err-attributes.ensures.reads c.in_err-attributes.ensures.named_error)
+    rw (p.1, p.2) (attributes_error c.args.endian h _ _ _ _ _ end_fits_u64 (has_read c.args.endian h _ _ c.in_ok-sections.sections _ (sources_both _ _ _ _ c.feature_bytes-event_desc.ensures c.feature_bytes-meta_info.ensures) sections) c.in_err-attributes.ensures.reads c.in_err-attributes.ensures.named_error)
 
 pub returns-then-is_empty-clause-reads : goal.returns-then-is_empty-clause-reads
 returns-then-is_empty-clause-reads g c =
     let h = c.args.header.now in
     let at : c.in-Some.table ≡ table_offset h = search rules in
-    let near : EndFitsU64 h.data_section = search rules in
+    let end_fits_u64 : EndFitsU64 h.data_section = search rules in
     let sections = subst (λ t. ReadsFeatures c.args.endian t (features_of h.features) (g.C.Source.state c.args.source.now) (Ok c.in_ok-sections.sections) (g.C.Source.state c.read_features.new.source)) at c.in_ok-sections.ensures.reads in
-    attributes_none c.args.endian h _ _ _ _ c.in_ok-attributes.attributes near (has_read c.args.endian h _ _ c.in_ok-sections.sections _ (sources_both _ _ _ _ c.feature_bytes-event_desc.ensures c.feature_bytes-meta_info.ensures) sections) c.in_ok-attributes.ensures.reads (search rules)
+    attributes_none c.args.endian h _ _ _ _ c.in_ok-attributes.attributes end_fits_u64 (has_read c.args.endian h _ _ c.in_ok-sections.sections _ (sources_both _ _ _ _ c.feature_bytes-event_desc.ensures c.feature_bytes-meta_info.ensures) sections) c.in_ok-attributes.ensures.reads (search rules)
 
 pub returns-in_err-check_consistency-clause-reads : goal.returns-in_err-check_consistency-clause-reads
 returns-in_err-check_consistency-clause-reads g c =
     let p = err_from_is_err_and c.from_residual-in_err-check_consistency.result c.from_residual-in_err-check_consistency.ensures.1 in
     let h = c.args.header.now in
     let at : c.in-Some.table ≡ table_offset h = search rules in
-    let near : EndFitsU64 h.data_section = search rules in
+    let end_fits_u64 : EndFitsU64 h.data_section = search rules in
     let sections = subst (λ t. ReadsFeatures c.args.endian t (features_of h.features) (g.C.Source.state c.args.source.now) (Ok c.in_ok-sections.sections) (g.C.Source.state c.read_features.new.source)) at c.in_ok-sections.ensures.reads in
-    rw (p.1, p.2) (attributes_inconsistent c.args.endian h _ _ _ _ c.in_ok-attributes.attributes _ near (has_read c.args.endian h _ _ c.in_ok-sections.sections _ (sources_both _ _ _ _ c.feature_bytes-event_desc.ensures c.feature_bytes-meta_info.ensures) sections) c.in_ok-attributes.ensures.reads
+    rw (p.1, p.2) (attributes_inconsistent c.args.endian h _ _ _ _ c.in_ok-attributes.attributes _ end_fits_u64 (has_read c.args.endian h _ _ c.in_ok-sections.sections _ (sources_both _ _ _ _ c.feature_bytes-event_desc.ensures c.feature_bytes-meta_info.ensures) sections) c.in_ok-attributes.ensures.reads
     (subst (λ l. ChecksConsistency {A = Unit {0}} (described_attributes l) (Err c.in_err-check_consistency.field-0.0)) c.deref.ensures.value c.in_err-check_consistency.ensures))
 
 pub returns-in_err-seek_to_offset-clause-reads : goal.returns-in_err-seek_to_offset-clause-reads
@@ -49,8 +49,8 @@ pub returns-clause-reads : goal.returns-clause-reads
 returns-clause-reads g c =
     let h = c.args.header.now in
     let at : c.in-Some.table ≡ table_offset h = search rules in
-    let near : EndFitsU64 h.data_section = search rules in
+    let end_fits_u64 : EndFitsU64 h.data_section = search rules in
     let sections = subst (λ t. ReadsFeatures c.args.endian t (features_of h.features) (g.C.Source.state c.args.source.now) (Ok c.in_ok-sections.sections) (g.C.Source.state c.read_features.new.source)) at c.in_ok-sections.ensures.reads in
     let some : length c.in_ok-attributes.attributes.items ≢ 0 = search rules in
-    after_read c.args.endian h _ _ _ _ _ _ near refl refl refl (has_read c.args.endian h _ _ c.in_ok-sections.sections _ (sources_both _ _ _ _ c.feature_bytes-event_desc.ensures c.feature_bytes-meta_info.ensures) sections) sections c.in_ok-attributes.ensures.reads some
+    after_read c.args.endian h _ _ _ _ _ _ end_fits_u64 refl refl refl (has_read c.args.endian h _ _ c.in_ok-sections.sections _ (sources_both _ _ _ _ c.feature_bytes-event_desc.ensures c.feature_bytes-meta_info.ensures) sections) sections c.in_ok-attributes.ensures.reads some
     (subst (λ l. AreConsistent (described_attributes l)) c.deref.ensures.value c.in_ok-check_consistency.ensures) c.in_ok-seek_to_offset.ensures.seeks

@@ -3,11 +3,11 @@ use Rattle.perfdata_base.specs.Raw.{bytes_of, IsSingle}
 use Rattle.linux_perf_data.specs.RecordViews.{record_view_of, record_view_with}
 use Rattle.linux_perf_data.specs.Iter.{ReturnsRecord}
 use Rattle.linux_perf_data.specs.InMemory.{memory_state, with_buffer}
-use Rattle.linux_perf_data.proofs.InMemoryPlaces.{taken_in_place, body_in_place, body_ends_in_place}
+use Rattle.linux_perf_data.proofs.InMemoryPlaces.{consumed_in_place, body_in_place, body_ends_in_place}
 use Rattle.linux_perf_data.proofs.in_memory.InMemoryRecords.next_record.Goals as goal
 
 pub invariant_of-self : goal.invariant_of-self
-invariant_of-self c = record { in_place = taken_in_place c.args.self.now.iter c.take_record.new.iter c.args.perf_file.now c.take_record.new.file c.take_record.result c.args.self.now.input.now c.args.self.now.first_record_offset c.args.self.now.in_place c.take_record.ensures }
+invariant_of-self c = record { in_place = consumed_in_place c.args.self.now.iter c.take_record.new.iter c.args.perf_file.now c.take_record.new.file c.take_record.result c.args.self.now.input.now c.args.self.now.first_record_offset c.args.self.now.in_place c.take_record.ensures }
 
 pub returns-in-Some-clause-returns_next : goal.returns-in-Some-clause-returns_next
 returns-in-Some-clause-returns_next c =

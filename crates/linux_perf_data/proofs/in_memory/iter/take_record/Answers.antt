@@ -19,8 +19,8 @@ raw_records-init c = record {
     fits = omega arith;
     markers = [];
     offset = omega arith;
-    passed = markers_none c.args.iter.now.endian (section_size_of memory_state c.args.iter.now) c.args.iter.now.offset;
-    gave = consumed_none (iter_source_state memory_state c.args.iter.now);
+    skipped_markers = markers_none c.args.iter.now.endian (section_size_of memory_state c.args.iter.now) c.args.iter.now.offset;
+    consumption = consumed_none (iter_source_state memory_state c.args.iter.now);
     before = λ rest attrs rs e come. come;
   };
   file = refl;
@@ -39,34 +39,34 @@ pub returns-in-Ok : goal.returns-in-Ok
 returns-in-Ok c =
     let i = c.raw_records.invariant in
     let now = c.raw_records.iter in
-    let head = c.in-Ok-Record.header in
+    let header_bytes = c.in-Ok-Record.header in
     let t = rw c.in-Ok-Record.field-0-is at c.in-Ok-Record.ensures.raw_record in
     let piece = with_buffer c.take_raw_record.new.iter t.buffer in
     let new = with_buffer c.process_record.new.iter t.buffer in
-    let took = subst (λ f. RecordProcessed memory_state piece f now.offset now.round head c.in-Ok.found new c.process_record.new.file) i.file (c.in-Ok.ensures.processes t.buffer t.buffered_body) in
+    let step = subst (λ f. RecordProcessed memory_state piece f now.offset now.round header_bytes c.in-Ok.found new c.process_record.new.file) i.file (c.in-Ok.ensures.processes t.buffer t.buffered_body) in
     record {
       buffer = t.buffer;
       returns = subst (λ b. ReturnsRecord memory_state c.args.iter.now c.args.file.now (record_view_with new.attribute_lookup c.in-Ok.found new.endian b) new c.process_record.new.file) t.buffered_body
-          (returns_record memory_state c.args.iter.now now piece new c.args.file.now c.process_record.new.file head c.in-Ok.found i.idles t.raw_record_read t.not_marker c.raw_records-test.ensures took);
+          (returns_record memory_state c.args.iter.now now piece new c.args.file.now c.process_record.new.file header_bytes c.in-Ok.found i.idles t.raw_record_read t.not_marker c.raw_records-test.ensures step);
     }
 
 pub returns-in-Err-process_record : goal.returns-in-Err-process_record
 returns-in-Err-process_record c =
     let i = c.raw_records.invariant in
     let now = c.raw_records.iter in
-    let head = c.in-Ok-Record.header in
+    let header_bytes = c.in-Ok-Record.header in
     let e = c.in-Err-process_record.error in
     let t = rw c.in-Ok-Record.field-0-is at c.in-Ok-Record.ensures.raw_record in
     let piece = with_buffer c.take_raw_record.new.iter t.buffer in
     let new = with_buffer c.process_record.new.iter t.buffer in
-    let d = subst (λ f. RecordRejected memory_state piece f head e new c.process_record.new.file) i.file (c.in-Err-process_record.ensures.processes t.buffer t.buffered_body) in
+    let d = subst (λ f. RecordRejected memory_state piece f header_bytes e new c.process_record.new.file) i.file (c.in-Err-process_record.ensures.processes t.buffer t.buffered_body) in
     let empty = ap (λ v. v.items) (c.in-Err-process_record.ensures.same_buffer ∙ c.in-Ok-Record.ensures.same_buffer) ∙ i.idles.empty in (
       record {
         stage_failed = refl;
         not_ended = λ ended. let ran = i.idles.ran in cc;
         if_failed = λ failed. let ran = i.idles.ran in absurd cc;
         only_if_failed = λ is. absurd (d.not_failed is);
-        if_running = λ _. rejected_stops c.args.iter.now now c.take_raw_record.new.iter c.process_record.new.iter _ t.buffer c.args.file.now c.process_record.new.file head e i.idles t.raw_record_read t.not_marker c.raw_records-test.ensures d refl refl refl empty;
+        if_running = λ _. rejected_stops c.args.iter.now now c.take_raw_record.new.iter c.process_record.new.iter _ t.buffer c.args.file.now c.process_record.new.file header_bytes e i.idles t.raw_record_read t.not_marker c.raw_records-test.ensures d refl refl refl empty;
         same_file = d.same_file;
       },
       λ _. sym i.idles.same.section_size ∙ sym t.raw_record_read.same_input.section_size ∙ d.in_pipe,

@@ -9,7 +9,7 @@ use Rattle.linux_perf_data.specs.RecordFraming.{RecordTruncatedAt, RecordErrorAt
 use Rattle.linux_perf_data.specs.InMemory.{memory_state}
 use Rattle.linux_perf_data.proofs.RecordReads.{EndChecked, header_truncated, header_short, header_failed, size_error, end_error, pass_truncated, pass_short, content_truncated, content_short, content_error, marker_whole, content_whole, after_header}
 use Rattle.linux_perf_data.proofs.SourceViews.{header_some, header_none, pass_true, pass_false, skipped_in, ended_in, content_in, ended_content_in, no_content_in}
-use Rattle.linux_perf_data.proofs.InMemoryCalls.{buffer_of, io_not_memory, unexpected_not_memory, truncated_taken}
+use Rattle.linux_perf_data.proofs.InMemoryCalls.{buffer_of, io_not_memory, unexpected_not_memory, truncated_consumed}
 use Rattle.linux_perf_data.proofs.in_memory.iter.take_record_parts.Goals as goal
 
 pub returns-in_err-header-clause-raw_record : goal.returns-in_err-header-clause-raw_record
@@ -42,7 +42,7 @@ returns-in-None-clause-raw_record c =
     let ended = header_none it.endian a b _ c.in-None.is c.in_ok-header.ensures.header in
     let empty = ap length c.requires in
     let short : IsUnexpectedEof c.from.result = subst IsUnexpectedEof (sym c.from.ensures) c.unexpected_eof.ensures in
-    truncated_taken it _ c.from.result c.end_or_error.result c.end_or_error.ensures (unexpected_not_memory _ short) (record { same_endian = refl; section_size = pending.section_size }) refl refl refl pending.no_pending_header
+    truncated_consumed it _ c.from.result c.end_or_error.result c.end_or_error.ensures (unexpected_not_memory _ short) (record { same_endian = refl; section_size = pending.section_size }) refl refl refl pending.no_pending_header
     (λ pipe. header_truncated it.endian a b it.offset _ empty ended)
     (λ file. header_short it.endian a b (section_size_of memory_state it) it.offset _ c.from.result file empty short ended)
 
@@ -101,7 +101,7 @@ returns-then-not-skip_bytes-clause-raw_record c =
     let truncated = pass_false (memory_state c.read_header.new.source) (memory_state c.skip_bytes.new.source) _ _ c.if-not-skip_bytes.true c.skip_bytes.ensures in
     let ended = ended_in input pending.no_pending_header (memory_state c.read_header.new.source) (memory_state c.skip_bytes.new.source) _ (rw c.in_ok-body_size.ensures.1 at truncated) in
     let empty = ap length c.requires in
-    truncated_taken it _ _ c.end_or_error-then-not-skip_bytes.result c.end_or_error-then-not-skip_bytes.ensures (λ m. cc) (record { same_endian = refl; section_size = pending.section_size }) refl refl refl pending.no_pending_header
+    truncated_consumed it _ _ c.end_or_error-then-not-skip_bytes.result c.end_or_error-then-not-skip_bytes.ensures (λ m. cc) (record { same_endian = refl; section_size = pending.section_size }) refl refl refl pending.no_pending_header
     (λ pipe. pass_truncated it.endian a b d it.offset _ _ c.in-Some.header empty t checks ended)
     (λ file. pass_short it.endian a b d (section_size_of memory_state it) it.offset _ _ c.in-Some.header _ file empty refl t checks ended)
 
@@ -122,7 +122,7 @@ returns-then-header-eq-PERF_RECORD_FINISHED_ROUND-clause-raw_record c =
       marker,
       record {
         raw_record = t.bytes ++ skipped'.bytes;
-        consumes = w.gave;
+        consumes = w.consumption;
         is_record = w.is_record;
         record_type = w.kind;
         misc = w.misc;
@@ -150,15 +150,15 @@ returns-in-Some-2-clause-raw_record c =
     let checks : EndChecked it.offset c.in-Some.header.size _ = (c.in_ok-body_size.ensures.0, c.in_ok-end.ensures) in
     let now = c.in-Some-2.body.now in
     let end = c.in-Some-2.end in
-    let taken = rw c.in-Some-2.is at c.in_ok-body.ensures in
-    let w = content_whole it.endian a b d it.offset _ end c.in-Some.header now t checks (content_in input pending.no_pending_header (memory_state c.read_header.new.source) (memory_state c.take_record_body.new.source) it.endian c.in-Some.header _ end now taken.1) in
+    let consumed_bytes = rw c.in-Some-2.is at c.in_ok-body.ensures in
+    let w = content_whole it.endian a b d it.offset _ end c.in-Some.header now t checks (content_in input pending.no_pending_header (memory_state c.read_header.new.source) (memory_state c.take_record_body.new.source) it.endian c.in-Some.header _ end now consumed_bytes.1) in
     record {
       not_marker = c.if-header-eq-PERF_RECORD_FINISHED_ROUND.false;
-      buffer = buffer_of it.body now taken.0;
+      buffer = buffer_of it.body now consumed_bytes.0;
       buffered_body = refl;
       raw_record_read = record {
         raw_record = t.bytes ++ now;
-        consumes = w.gave;
+        consumes = w.consumption;
         is_record = w.is_record;
         record_type = w.kind;
         misc = w.misc;
@@ -186,7 +186,7 @@ returns-in-None-2-clause-raw_record c =
     let checks : EndChecked it.offset c.in-Some.header.size _ = (c.in_ok-body_size.ensures.0, c.in_ok-end.ensures) in
     let empty = ap length c.requires in
     let ended = ended_content_in input pending.no_pending_header (memory_state c.read_header.new.source) (memory_state c.take_record_body.new.source) c.in-Some.header [] (rw c.in-None-2.is at c.in_ok-body.ensures) in
-    truncated_taken it _ (Read PerfEventData) c.end_or_error-in-None-2.result c.end_or_error-in-None-2.ensures (λ m. cc) (record { same_endian = refl; section_size = pending.section_size }) refl refl refl pending.no_pending_header
+    truncated_consumed it _ (Read PerfEventData) c.end_or_error-in-None-2.result c.end_or_error-in-None-2.ensures (λ m. cc) (record { same_endian = refl; section_size = pending.section_size }) refl refl refl pending.no_pending_header
     (λ pipe. subst (λ n. RecordTruncatedAt it.endian a it.offset n d) (sym empty) (content_truncated it.endian a b d it.offset _ c.in-Some.header [] t checks ended))
     (λ file. subst (λ n. RecordErrorAt it.endian a (section_size_of memory_state it) it.offset (Read PerfEventData) n d) (sym empty) (content_short it.endian a b d (section_size_of memory_state it) it.offset _ c.in-Some.header (Read PerfEventData) [] file refl t checks ended))
 
@@ -202,12 +202,12 @@ returns-in_err-body-clause-raw_record c =
     let t = header_some it.endian a b _ c.in-Some.header c.in-Some.is c.in_ok-header.ensures.header in
     let checks : EndChecked it.offset c.in-Some.header.size _ = (c.in_ok-body_size.ensures.0, c.in_ok-end.ensures) in
     let empty = ap length c.requires in
-    let taken = c.in_err-body.ensures in
+    let consumed_bytes = c.in_err-body.ensures in
     rw (p.1, p.2) (
-      taken.0,
+      consumed_bytes.0,
       record {
         error = subst (λ n. RecordErrorAt it.endian a (section_size_of memory_state it) it.offset c.in_err-body.field-0.0 n d) (sym empty) (content_error it.endian a b d (section_size_of memory_state it) it.offset _ c.in-Some.header _ [] c.if-header-eq-PERF_RECORD_FINISHED_ROUND.false t checks
-            (no_content_in input pending.no_pending_header (memory_state c.read_header.new.source) (memory_state c.take_record_body.new.source) it.endian c.in-Some.header _ _ [] taken.1));
+            (no_content_in input pending.no_pending_header (memory_state c.read_header.new.source) (memory_state c.take_record_body.new.source) it.endian c.in-Some.header _ _ [] consumed_bytes.1));
         offset = refl;
         round = refl;
         same_input = record { same_endian = refl; section_size = pending.section_size };

@@ -27,7 +27,7 @@ invariant_of-result-clause-table_events_match c = table_events c.in_ok-name_tabl
 pub returns-in_err-name_table : goal.returns-in_err-name_table
 returns-in_err-name_table c =
     let p = err_from_is_err_and c.from_residual.result c.from_residual.ensures.1 in
-    rw (p.1, p.2) (λ other. names_stop c.args.endian c.args.metadata _ _ (let few = not_none c.args.metadata.attributes.len (sym c.if-is_empty.false ∙ c.is_empty.ensures) in let long = c.args.metadata.attributes.ok in omega (arith, few, long)) c.feature_bytes-event_desc.ensures c.in_err-name_table.ensures.1 other)
+    rw (p.1, p.2) (λ other. names_stop c.args.endian c.args.metadata _ _ (let too_few = not_none c.args.metadata.attributes.len (sym c.if-is_empty.false ∙ c.is_empty.ensures) in let long = c.args.metadata.attributes.ok in omega (arith, too_few, long)) c.feature_bytes-event_desc.ensures c.in_err-name_table.ensures.1 other)
 
 pub returns-in_err-check_consistency : goal.returns-in_err-check_consistency
 returns-in_err-check_consistency c =
@@ -52,6 +52,6 @@ returns c =
       sections = λ n. refl;
       features = refl;
       names_match = names_kept order _ _ _ new c.feature_bytes-event_desc.ensures items c.in_ok-name_table.ensures.0;
-      nonempty = (let few = not_none c.args.metadata.attributes.len (sym c.if-is_empty.false ∙ c.is_empty.ensures) in let there = m.attributes.ok in omega (arith, few, there, long, ap length items));
+      nonempty = (let too_few = not_none c.args.metadata.attributes.len (sym c.if-is_empty.false ∙ c.is_empty.ensures) in let there = m.attributes.ok in omega (arith, too_few, there, long, ap length items));
       consistent = subst AreConsistent (ap described_attributes (c.deref.ensures.value ∙ items) ∙ same) c.in_ok-check_consistency.ensures;
     }

@@ -72,7 +72,7 @@ returns-in-None c =
     let position = c.records.position in
     let before = c.records.invariant in
     let none : WholeRecordLength order (drop position bytes) None = subst (λ r. WholeRecordLength order r None) c.from_offset-rest.ensures (subst (λ r. WholeRecordLength order c.from_offset-rest.result.now r) c.in-None.is c.record_length.ensures) in
-    (λ h. absurd (false≢true h), λ s. let first = starts order bound (c.args.offset + position) (drop position bytes) (before.remaining s) in absurd (none first.front first.behind first.is_record first.cut))
+    (λ h. absurd (false≢true h), λ s. let first = starts order bound (c.args.offset + position) (drop position bytes) (before.remaining s) in absurd (none first.first_part first.suffix first.is_record first.cut))
 
 pub returns : goal.returns
 returns c =

@@ -5,7 +5,7 @@ use Rattle.perfdata_base.specs.Source.{prepend}
 use Rattle.perfdata_jit.specs.BufferedReader.{buffered_in}
 use Rattle.perfdata_jit.specs.ReadBuffer.{read_buffer_bytes}
 use Rattle.perfdata_jit.proofs.Seeks.{skipped_if}
-use Rattle.perfdata_jit.proofs.BufferRanges.{part_taken, prepend-nil}
+use Rattle.perfdata_jit.proofs.BufferRanges.{part_consumed, prepend-nil}
 use Rattle.perfdata_jit.proofs.buffered_reader.BufferedReader.skip_bytes.Goals as goal
 
 pub returns-then-count-buffered_len-clause-skips : goal.returns-then-count-buffered_len-clause-skips
@@ -18,7 +18,7 @@ returns-then-count-buffered_len-clause-skips g c =
     record {
       skipped_bytes = take n buffered;
       exact_len = length-take-le n buffered (omega arith);
-      unread_bytes = part_taken buffered (take n buffered) _ _ n refl advanced.bytes;
+      unread_bytes = part_consumed buffered (take n buffered) _ _ n refl advanced.bytes;
       if_buffered = λ _. split;
       buffered_prefix = ([], append-nil buffered ∙ split);
       source_unchanged = λ _. refl;

@@ -5,19 +5,19 @@ use Rattle.perfdata_jit.proofs.header.JitDumpHeader.parse.Goals as goal
 
 pub returns-then-header-clause-error : goal.returns-then-header-clause-error
 returns-then-header-clause-error c =
-    let taken = c.in-Ok.ensures.rest in
-    let declares = header_declares c.in-Some.endian (bytes_of c.args.bytes) c.read_exact.new.buf (bytes_of c.read_exact.new.self) taken.enough c.in-Ok.ensures.read taken.rest
+    let consumed_bytes = c.in-Ok.ensures.rest in
+    let declares = header_declares c.in-Some.endian (bytes_of c.args.bytes) c.read_exact.new.buf (bytes_of c.read_exact.new.self) consumed_bytes.enough c.in-Ok.ensures.read consumed_bytes.rest
     c.in-Some.ensures.some c.in-Ok-parse_after_magic_in.header c.in-Ok-parse_after_magic_in.ensures.value
     in (declares, omega (arith, c.if-header.true))
 
 pub returns-else-header-clause-value : goal.returns-else-header-clause-value
 returns-else-header-clause-value c =
-    let taken = c.in-Ok.ensures.rest in
-    header_begins c.in-Some.endian (bytes_of c.args.bytes) c.read_exact.new.buf (bytes_of c.read_exact.new.self) taken.enough c.in-Ok.ensures.read taken.rest
+    let consumed_bytes = c.in-Ok.ensures.rest in
+    header_begins c.in-Some.endian (bytes_of c.args.bytes) c.read_exact.new.buf (bytes_of c.read_exact.new.self) consumed_bytes.enough c.in-Ok.ensures.read consumed_bytes.rest
     c.in-Some.ensures.some c.in-Ok-parse_after_magic_in.header c.in-Ok-parse_after_magic_in.ensures.value (omega (arith, c.if-header.false))
 
 pub returns-in-Err-parse_after_magic_in-clause-error : goal.returns-in-Err-parse_after_magic_in-clause-error
 returns-in-Err-parse_after_magic_in-clause-error c =
-    let taken = c.in-Ok.ensures.rest in
-    inr (header_missing c.in-Some.endian (bytes_of c.args.bytes) c.read_exact.new.buf (bytes_of c.read_exact.new.self) taken.enough c.in-Ok.ensures.read taken.rest
+    let consumed_bytes = c.in-Ok.ensures.rest in
+    inr (header_missing c.in-Some.endian (bytes_of c.args.bytes) c.read_exact.new.buf (bytes_of c.read_exact.new.self) consumed_bytes.enough c.in-Ok.ensures.read consumed_bytes.rest
     c.in-Some.ensures.some c.in-Err-parse_after_magic_in.field-0 c.in-Err-parse_after_magic_in.ensures.error)

@@ -1,6 +1,6 @@
 use Rattle.std.proofs.Common.{◌≡◌, refl, ap, subst, take, length, rules, None, vec_len, ◌∙◌}
 use Rattle.std.proofs.lemmas.Result.{err_from_is_err_and}
-use Rattle.perfdata_jit.proofs.Steps.{opened, not_opened_in, reads_front, header_in}
+use Rattle.perfdata_jit.proofs.Steps.{opened, not_opened_in, reads_prefix, header_in}
 use Rattle.perfdata_jit.specs.JitDumpReader.{ReaderOpened}
 use Rattle.perfdata_jit.specs.declared.jitdump_reader.JitDumpReader.{JitDumpReader}
 use Rattle.perfdata_jit.proofs.jitdump_reader.JitDumpReader.new_with_buffer_size.Goals as goal
@@ -14,7 +14,7 @@ returns-in_err-header-clause-opens g c =
     let new = state c.fill_buffer.new.source in
     let size : length buf ≡ c.args.buffer_size = search rules in
     let error = rw c.deref.ensures.value at c.in_err-header.ensures.error in
-    rw (p.1, p.2) (not_opened_in state c.args.source c.args.buffer_size (length buf) (take count buf) new _ size (reads_front state c.args.source buf count new c.in_ok-read_count.ensures.fills c.in_ok-read_count.ensures.counts) error)
+    rw (p.1, p.2) (not_opened_in state c.args.source c.args.buffer_size (length buf) (take count buf) new _ size (reads_prefix state c.args.source buf count new c.in_ok-read_count.ensures.fills c.in_ok-read_count.ensures.counts) error)
 
 pub returns-clause-opens : goal.returns-clause-opens
 returns-clause-opens g c =

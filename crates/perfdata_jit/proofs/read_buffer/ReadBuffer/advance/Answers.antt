@@ -1,5 +1,5 @@
 use Rattle.std.proofs.Common.{◌-◌, arith, refl, inl, inr}
-use Rattle.perfdata_jit.proofs.BufferRanges.{over_taken, over_dropped, over_drops}
+use Rattle.perfdata_jit.proofs.BufferRanges.{over_consumed, over_dropped, over_drops}
 use Rattle.perfdata_jit.proofs.Contiguous.{overflow_left, ring_left, span_single}
 use Rattle.perfdata_jit.specs.Ring.{ring_bytes}
 use Rattle.perfdata_jit.proofs.read_buffer.ReadBuffer.advance.Goals as goal
@@ -22,7 +22,7 @@ returns-then-n-remaining-clause-consumes_prefix c =
 pub returns-clause-value : goal.returns-clause-value
 returns-clause-value c =
     let h = c.args.self.now in
-    over_taken h.overflow.items _ (ring_bytes h.ring) h.overflow_start c.len-to.result _ c.args.n (omega arith) (omega arith) c.advance-ring_start.ensures.taken_bytes
+    over_consumed h.overflow.items _ (ring_bytes h.ring) h.overflow_start c.len-to.result _ c.args.n (omega arith) (omega arith) c.advance-ring_start.ensures.taken_bytes
 
 pub returns-clause-single : goal.returns-clause-single
 returns-clause-single c = λ at. span_single c.args.n _ c.args.self.now _ (omega arith) (omega arith) refl c.len-to.ensures c.advance-ring_start.ensures.single at

@@ -13,22 +13,22 @@ returns-clause-value g c =
     let xs = bytes_of c.args.bytes in
     let fixed = c.read_exact.new.buf in
     let is = c.in_ok-read_exact.ensures.read in
-    let taken = c.in_ok-read_exact.ensures.rest in
+    let consumed_bytes = c.in_ok-read_exact.ensures.rest in
     let read = c.in_ok-entries.ensures.value in
     let after_body = bytes_of c.read_entries.new.bytes in
     record {
-      min_len = taken.enough;
-      address = c.read_u64-2.ensures ∙ number_at number first 8 0 16 xs fixed is taken.enough (omega arith);
-      count = read.exact_len ∙ c.read_u64.ensures ∙ number_within number first 8 8 8 16 xs fixed is taken.enough (omega arith) (omega arith);
+      min_len = consumed_bytes.enough;
+      address = c.read_u64-2.ensures ∙ number_at number first 8 0 16 xs fixed is consumed_bytes.enough (omega arith);
+      count = read.exact_len ∙ c.read_u64.ensures ∙ number_within number first 8 8 8 16 xs fixed is consumed_bytes.enough (omega arith) (omega arith);
       after_body = after_body;
-      elements = subst (λ l. AreDebugEntries number l c.in_ok-entries.entries.items after_body) taken.rest read.elements;
+      elements = subst (λ l. AreDebugEntries number l c.in_ok-entries.entries.items after_body) consumed_bytes.rest read.elements;
     }
 
 pub returns-in_err-entries-clause-error : goal.returns-in_err-entries-clause-error
 returns-in_err-entries-clause-error g c =
     let number = g.O.ByteOrder.number_of in
     let xs = bytes_of c.args.bytes in
-    let taken = c.in_ok-read_exact.ensures.rest in
+    let consumed_bytes = c.in_ok-read_exact.ensures.rest in
     let p = err_from_is_err_and c.from_residual-in_err-entries.result c.from_residual-in_err-entries.ensures.1 in
-    let count = c.read_u64.ensures ∙ number_within number g.met.O.ByteOrder.reads_first 8 8 8 16 xs c.read_exact.new.buf c.in_ok-read_exact.ensures.read taken.enough (omega arith) (omega arith) in
-    rw (p.1, p.2) (inr (taken.enough, entries_error_at number _ _ _ _ c.in_err-entries.field-0.0 count taken.rest c.in_err-entries.ensures.error))
+    let count = c.read_u64.ensures ∙ number_within number g.met.O.ByteOrder.reads_first 8 8 8 16 xs c.read_exact.new.buf c.in_ok-read_exact.ensures.read consumed_bytes.enough (omega arith) (omega arith) in
+    rw (p.1, p.2) (inr (consumed_bytes.enough, entries_error_at number _ _ _ _ c.in_err-entries.field-0.0 count consumed_bytes.rest c.in_err-entries.ensures.error))

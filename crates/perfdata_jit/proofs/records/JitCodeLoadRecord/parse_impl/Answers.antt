@@ -10,19 +10,19 @@ returns-in_err-code_bytes-clause-error g c =
     let number = g.O.ByteOrder.number_of in
     let first = g.met.O.ByteOrder.reads_first in
     let xs = bytes_of c.args.bytes in
-    let taken = c.in_ok-read_exact.ensures.rest in
+    let consumed_bytes = c.in_ok-read_exact.ensures.rest in
     let string = c.in-Some.ensures.string in
     let short = c.in_err-code_bytes.ensures.too_short in
-    let few = short.too_few in
-    let size = c.read_u64-code_size.ensures ∙ number_within number first 8 24 16 40 xs c.read_exact.new.buf c.in_ok-read_exact.ensures.read taken.enough (omega arith) (omega arith) in
+    let fewer = short.too_few in
+    let size = c.read_u64-code_size.ensures ∙ number_within number first 8 24 16 40 xs c.read_exact.new.buf c.in_ok-read_exact.ensures.read consumed_bytes.enough (omega arith) (omega arith) in
     rw (p.1, p.2) (record {
       cause = inr (inr (
-        taken.enough,
+        consumed_bytes.enough,
         record {
           name = bytes_of c.in-Some.name;
           after_body = bytes_of c.read_string.new.self;
-          name_text = record { split = sym taken.rest ∙ string.split; no_nul = string.no_nul };
-          too_few = omega (arith, size, few);
+          name_text = record { split = sym consumed_bytes.rest ∙ string.split; no_nul = string.no_nul };
+          too_few = omega (arith, size, fewer);
         },
       ));
       kind = short.kind;
@@ -35,8 +35,8 @@ returns-clause-value g c =
     let xs = bytes_of c.args.bytes in
     let fixed = c.read_exact.new.buf in
     let is = c.in_ok-read_exact.ensures.read in
-    let taken = c.in_ok-read_exact.ensures.rest in
-    let long = taken.enough in
+    let consumed_bytes = c.in_ok-read_exact.ensures.rest in
+    let long = consumed_bytes.enough in
     let string = c.in-Some.ensures.string in
     let split = c.in_ok-code_bytes.ensures in
     let code = bytes_of c.in_ok-code_bytes.code_bytes in
@@ -51,7 +51,7 @@ returns-clause-value g c =
       size = truncated_long c.read_u64-code_size.result (bytes_of c.read_string.new.self) code split.rest.enough split.prefix ∙ size;
       after_body = after_body;
       name_text = record {
-        split = sym taken.rest ∙ string.split ∙ ap (λ l. bytes_of c.in-Some.name ++ (0 ∷ l)) (truncated_again c.read_u64-code_size.result (bytes_of c.read_string.new.self) code after_body split.prefix split.rest.rest);
+        split = sym consumed_bytes.rest ∙ string.split ∙ ap (λ l. bytes_of c.in-Some.name ++ (0 ∷ l)) (truncated_again c.read_u64-code_size.result (bytes_of c.read_string.new.self) code after_body split.prefix split.rest.rest);
         no_nul = string.no_nul;
       };
     }

@@ -8,12 +8,12 @@ pub returns-in_err-unwinding-clause-error : goal.returns-in_err-unwinding-clause
 returns-in_err-unwinding-clause-error g c =
     let p = err_from_is_err_and c.from_residual-in_err-unwinding.result c.from_residual-in_err-unwinding.ensures.1 in
     let xs = bytes_of c.args.bytes in
-    let taken = c.in_ok-read_exact.ensures.rest in
-    let size = c.read_u64.ensures ∙ number_at g.O.ByteOrder.number_of g.met.O.ByteOrder.reads_first 8 0 24 xs c.read_exact.new.buf c.in_ok-read_exact.ensures.read taken.enough (omega arith) in
+    let consumed_bytes = c.in_ok-read_exact.ensures.rest in
+    let size = c.read_u64.ensures ∙ number_at g.O.ByteOrder.number_of g.met.O.ByteOrder.reads_first 8 0 24 xs c.read_exact.new.buf c.in_ok-read_exact.ensures.read consumed_bytes.enough (omega arith) in
     let short = c.in_err-unwinding.ensures.too_short in
-    let few = short.too_few in
-    let enough = taken.enough in
-    rw (p.1, p.2) (record { cause = inr (enough, inl (omega (arith, enough, size, few, ap length taken.rest, length-drop 24 xs))); kind = short.kind })
+    let fewer = short.too_few in
+    let enough = consumed_bytes.enough in
+    rw (p.1, p.2) (record { cause = inr (enough, inl (omega (arith, enough, size, fewer, ap length consumed_bytes.rest, length-drop 24 xs))); kind = short.kind })
 
 pub returns-in_err-eh_frame_hdr-clause-error : goal.returns-in_err-eh_frame_hdr-clause-error
 returns-in_err-eh_frame_hdr-clause-error g c =
@@ -29,8 +29,8 @@ returns-in_err-eh_frame_hdr-clause-error g c =
     let outer = c.in_ok-unwinding.ensures in
     let data_size = truncated_long c.read_u64.result (bytes_of c.read_exact.new.self) (bytes_of c.in_ok-unwinding.unwinding) outer.rest.enough outer.prefix in
     let short = c.in_err-eh_frame_hdr.ensures.too_short in
-    let few = short.too_few in
-    rw (p.1, p.2) (record { cause = inr (enough, inr (omega (arith, size, index_size, data_size, few))); kind = short.kind })
+    let fewer = short.too_few in
+    rw (p.1, p.2) (record { cause = inr (enough, inr (omega (arith, size, index_size, data_size, fewer))); kind = short.kind })
 
 pub returns-clause-value : goal.returns-clause-value
 returns-clause-value g c =
@@ -39,8 +39,8 @@ returns-clause-value g c =
     let xs = bytes_of c.args.bytes in
     let fixed = c.read_exact.new.buf in
     let is = c.in_ok-read_exact.ensures.read in
-    let taken = c.in_ok-read_exact.ensures.rest in
-    let long = taken.enough in
+    let consumed_bytes = c.in_ok-read_exact.ensures.rest in
+    let long = consumed_bytes.enough in
     let outer = c.in_ok-unwinding.ensures in
     let inner = c.in_ok-eh_frame_hdr.ensures in
     let data_bytes = bytes_of c.in_ok-unwinding.unwinding in
@@ -57,5 +57,5 @@ returns-clause-value g c =
       index = truncated_long c.read_u64-2.result data_bytes index inner.rest.enough inner.prefix ∙ index_size;
       whole = sym (length-append index frame) ∙ ap length (sym parts) ∙ truncated_long c.read_u64.result (bytes_of c.read_exact.new.self) data_bytes outer.rest.enough outer.prefix ∙ size;
       after_body = after_body;
-      split = sym taken.rest ∙ all ∙ ap (λ l. l ++ after_body) parts ∙ append_assoc index frame after_body;
+      split = sym consumed_bytes.rest ∙ all ∙ ap (λ l. l ++ after_body) parts ∙ append_assoc index frame after_body;
     }

@@ -1,7 +1,7 @@
 use Rattle.std.proofs.Common.{◌≡◌, ◌∙◌, not, length, ap, sym, refl, rules}
 use Rattle.linux_perf_data.specs.Attribute.{missing_identifier, sample_id_all_differs}
 use Rattle.linux_perf_data.proofs.ConsistencyChecks.{offsets_equal, offsets_apart}
-use Rattle.linux_perf_data.proofs.LookupGrowth.{keeps_more, old_inconsistent, new_lacks, new_differs}
+use Rattle.linux_perf_data.proofs.LookupGrowth.{keeps_more, old_inconsistent, new_missing, new_differs}
 use Rattle.linux_perf_data.proofs.attributes.lookup.AttributeLookup.check_next.Goals as goal
 
 pub returns-then-eq : goal.returns-then-eq
@@ -36,5 +36,5 @@ returns-else-has_identifier c =
       missing_identifier n,
       refl,
       λ order ids attrs k.
-          new_lacks order c.args.self.now attrs k (record { attr = c.args.attr.now; ids = ids }) n (λ same. apart (c.new.ensures ∙ same)) c.in-None.is count (sym c.has_identifier.ensures ∙ c.if-has_identifier.false),
+          new_missing order c.args.self.now attrs k (record { attr = c.args.attr.now; ids = ids }) n (λ same. apart (c.new.ensures ∙ same)) c.in-None.is count (sym c.has_identifier.ensures ∙ c.if-has_identifier.false),
     )

@@ -17,7 +17,7 @@ invariant_of-result c =
     record {
       nonempty = some;
       table_indices_below = subst (TableIndicesBelow c.in_ok-table.table) count c.in_ok-table.ensures.in_bounds;
-      cache_indices_below = λ id i told. absurd (none_some i (sym (c.new-2.ensures id) ∙ told));
+      cache_indices_below = λ id i described. absurd (none_some i (sym (c.new-2.ensures id) ∙ described));
     }
 
 pub returns : goal.returns
@@ -33,5 +33,5 @@ returns c =
       parse_infos = c.in_ok-parse_infos.ensures;
       first_without_identifier = search rules;
       table = c.in_ok-table.ensures.resolves;
-      cache = λ id i told. absurd (none_some i (sym (c.new-2.ensures id) ∙ told));
+      cache = λ id i described. absurd (none_some i (sym (c.new-2.ensures id) ∙ described));
     }

@@ -7,9 +7,9 @@ use Rattle.linux_perf_data.proofs.attributes.name_table.NameTable.get.Goals as g
 
 pub returns-then-is_empty : goal.returns-then-is_empty
 returns-then-is_empty c =
-    let told = c.args.self.now.events.items in
+    let described = c.args.self.now.events.items in
     let none : length c.args.ids.now ≡ 0 = search rules in
-    sym (ap (name_by_first_id told) (nil_from_length c.args.ids.now none) ∙ no_ids told)
+    sym (ap (name_by_first_id described) (nil_from_length c.args.ids.now none) ∙ no_ids described)
 
 pub index-requires : goal.index-requires
 index-requires c =

@@ -17,8 +17,8 @@ raw_records-init g c = record {
     fits = omega arith;
     markers = [];
     offset = omega arith;
-    passed = markers_none c.args.self.now.endian (section_size_of g.R.Source.state c.args.self.now) c.args.self.now.offset;
-    gave = consumed_none (iter_source_state g.R.Source.state c.args.self.now);
+    skipped_markers = markers_none c.args.self.now.endian (section_size_of g.R.Source.state c.args.self.now) c.args.self.now.offset;
+    consumption = consumed_none (iter_source_state g.R.Source.state c.args.self.now);
     before = λ rest attrs rs e come. come;
   };
   pauses = refl;
@@ -45,26 +45,26 @@ returns-in-Ok-clause-advances g c =
     let state = g.R.Source.state in
     let i = c.raw_records.invariant in
     let piece = c.next_raw_record.new.self in
-    let head = c.in-Ok-Some.header in
-    let t = some_record state c.raw_records.self piece _ head c.in-Ok-Some.field-0-is c.in-Ok-Some.ensures.raw_record in
-    let took = subst (λ f. RecordProcessed state piece f c.raw_records.self.offset c.raw_records.self.round head c.in-Ok.found c.process_record.new.self c.process_record.new.file) i.file c.in-Ok.ensures.processes in
-    returns_record state c.args.self.now c.raw_records.self piece c.process_record.new.self c.args.file.now c.process_record.new.file head c.in-Ok.found i.idles t c.if-header-ne-PERF_RECORD_FINISHED_ROUND.true c.raw_records-test.ensures took
+    let header_bytes = c.in-Ok-Some.header in
+    let t = some_record state c.raw_records.self piece _ header_bytes c.in-Ok-Some.field-0-is c.in-Ok-Some.ensures.raw_record in
+    let step = subst (λ f. RecordProcessed state piece f c.raw_records.self.offset c.raw_records.self.round header_bytes c.in-Ok.found c.process_record.new.self c.process_record.new.file) i.file c.in-Ok.ensures.processes in
+    returns_record state c.args.self.now c.raw_records.self piece c.process_record.new.self c.args.file.now c.process_record.new.file header_bytes c.in-Ok.found i.idles t c.if-header-ne-PERF_RECORD_FINISHED_ROUND.true c.raw_records-test.ensures step
 
 pub returns-in-Err-process_record-clause-advances : goal.returns-in-Err-process_record-clause-advances
 returns-in-Err-process_record-clause-advances g c =
     let state = g.R.Source.state in
     let i = c.raw_records.invariant in
     let piece = c.next_raw_record.new.self in
-    let head = c.in-Ok-Some.header in
+    let header_bytes = c.in-Ok-Some.header in
     let e = c.in-Err-process_record.error in
-    let t = some_record state c.raw_records.self piece _ head c.in-Ok-Some.field-0-is c.in-Ok-Some.ensures.raw_record in
-    let d = subst (λ f. RecordRejected state piece f head e c.process_record.new.self c.process_record.new.file) i.file c.in-Err-process_record.ensures.processes in
+    let t = some_record state c.raw_records.self piece _ header_bytes c.in-Ok-Some.field-0-is c.in-Ok-Some.ensures.raw_record in
+    let d = subst (λ f. RecordRejected state piece f header_bytes e c.process_record.new.self c.process_record.new.file) i.file c.in-Err-process_record.ensures.processes in
     record {
       stage_failed = refl;
       not_ended = λ ended. let ran = i.idles.ran in cc;
       if_failed = λ failed. let ran = i.idles.ran in absurd cc;
       only_if_failed = λ is. absurd (d.not_failed is);
-      if_running = λ _. late_stops state c.args.self.now c.raw_records.self piece c.process_record.new.self _ c.args.file.now c.process_record.new.file head e i.idles t c.if-header-ne-PERF_RECORD_FINISHED_ROUND.true c.raw_records-test.ensures d
+      if_running = λ _. late_stops state c.args.self.now c.raw_records.self piece c.process_record.new.self _ c.args.file.now c.process_record.new.file header_bytes e i.idles t c.if-header-ne-PERF_RECORD_FINISHED_ROUND.true c.raw_records-test.ensures d
           (record { source = refl; input = refl; body = refl }) refl;
       same_file = d.same_file;
     }
@@ -121,7 +121,7 @@ returns-in-Err-clause-memory_only_to_grow g c = λ m.
 pub returns-in-Err-process_record-clause-memory_only_to_grow : goal.returns-in-Err-process_record-clause-memory_only_to_grow
 returns-in-Err-process_record-clause-memory_only_to_grow g c = λ m.
     let state = g.R.Source.state in
-    let head = c.in-Ok-Some.header in
-    let t = some_record state c.raw_records.self c.next_raw_record.new.self _ head c.in-Ok-Some.field-0-is c.in-Ok-Some.ensures.raw_record in
-    inr (buffers_metadata state c.args.self.now c.raw_records.self c.next_raw_record.new.self c.process_record.new.self c.raw_records.file c.process_record.new.file head c.in-Err-process_record.error c.raw_records.invariant.idles t c.if-header-ne-PERF_RECORD_FINISHED_ROUND.true
+    let header_bytes = c.in-Ok-Some.header in
+    let t = some_record state c.raw_records.self c.next_raw_record.new.self _ header_bytes c.in-Ok-Some.field-0-is c.in-Ok-Some.ensures.raw_record in
+    inr (buffers_metadata state c.args.self.now c.raw_records.self c.next_raw_record.new.self c.process_record.new.self c.raw_records.file c.process_record.new.file header_bytes c.in-Err-process_record.error c.raw_records.invariant.idles t c.if-header-ne-PERF_RECORD_FINISHED_ROUND.true
     c.in-Err-process_record.ensures.processes)

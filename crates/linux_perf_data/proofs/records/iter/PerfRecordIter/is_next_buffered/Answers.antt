@@ -1,7 +1,7 @@
 use Rattle.std.proofs.Common.{rules}
 use Rattle.linux_perf_data.specs.Input.{HasNoPendingHeader}
 use Rattle.linux_perf_data.specs.Iter.{TestsMayStart, section_size_of}
-use Rattle.linux_perf_data.proofs.BufferedRecords.{exact_finished, exact_next, not_over, section_over, shown_in, tests_finished}
+use Rattle.linux_perf_data.proofs.BufferedRecords.{exact_finished, exact_next, not_over, section_over, visible_in, tests_finished}
 use Rattle.std.specs.Prelude.{true, false}
 use Rattle.linux_perf_data.proofs.records.iter.PerfRecordIter.is_next_buffered.Goals as goal
 
@@ -24,7 +24,7 @@ returns-clause-contains_next g c = λ is runs.
     let state = g.R.Source.state in
     let it = c.args.self.now in
     let none : HasNoPendingHeader it.input = search rules in
-    shown_in it.endian it.input it.offset (state it.source) c.buffer-buffered.result.now none c.buffer-buffered.ensures.prefix (c.contains_next_record.ensures.0 is)
+    visible_in it.endian it.input it.offset (state it.source) c.buffer-buffered.result.now none c.buffer-buffered.ensures.prefix (c.contains_next_record.ensures.0 is)
 
 pub returns-then-not-may_start_record-clause-exact : goal.returns-then-not-may_start_record-clause-exact
 returns-then-not-may_start_record-clause-exact g c =

@@ -3,7 +3,7 @@ use Rattle.std.proofs.lemmas.Result.{err_from_is_err_and}
 use Rattle.perfdata_sections.specs.Error.{IsUnexpectedEof}
 use Rattle.linux_perf_data.specs.Input.{input_source_state}
 use Rattle.linux_perf_data.specs.Iter.{section_size_of, iter_source_state}
-use Rattle.linux_perf_data.proofs.RecordReads.{not_io_memory, not_short_memory, exceeds_behind, EndChecked, header_truncated, header_short, size_error, end_error, pass_truncated, pass_short, pass_failed, content_truncated, content_short, content_error, marker_whole, content_whole, after_header}
+use Rattle.linux_perf_data.proofs.RecordReads.{not_io_memory, not_short_memory, exceeds_rest, EndChecked, header_truncated, header_short, size_error, end_error, pass_truncated, pass_short, pass_failed, content_truncated, content_short, content_error, marker_whole, content_whole, after_header}
 use Rattle.linux_perf_data.proofs.TruncatedRecords.{record_truncated}
 use Rattle.linux_perf_data.proofs.SourceViews.{truncation_memory, exceeds_in, header_some, header_none, pass_true, pass_false, content_some, content_none, skipped_in, ended_in, failed_part_in, content_in, ended_content_in, no_content_in}
 use Rattle.linux_perf_data.proofs.records.iter.PerfRecordIter.next_raw_record.Goals as goal
@@ -118,7 +118,7 @@ returns-then-header-eq-PERF_RECORD_FINISHED_ROUND-clause-raw_record g c =
     let w = marker_whole it.endian a b d it.offset _ c.in-Some.header marker t checks skipped' in
     record {
       raw_record = t.bytes ++ skipped'.bytes;
-      consumes = w.gave;
+      consumes = w.consumption;
       is_record = w.is_record;
       record_type = w.kind;
       misc = w.misc;
@@ -150,7 +150,7 @@ returns-in-Some-2-clause-raw_record g c =
     let w = content_whole it.endian a b d it.offset _ end c.in-Some.header now t checks (content_in input pending.no_pending_header (state c.read_header.new.source) (state c.read_record_body.new.source) it.endian c.in-Some.header _ end now content) in
     record {
       raw_record = t.bytes ++ now;
-      consumes = w.gave;
+      consumes = w.consumption;
       is_record = w.is_record;
       record_type = w.kind;
       misc = w.misc;
@@ -245,5 +245,5 @@ returns-in_err-end-2-clause-memory_only_to_grow g c =
     let t = header_some it.endian a b _ c.in-Some.header c.in-Some.is c.in_ok-header.ensures.header in
     rw (p.1, p.2) (λ m.
     let x = exceeds_in input c.read_header.ensures.pending_header.no_pending_header (state c.read_header.new.source) (state c.read_record_body.new.source) it.endian (vec_capacity it.body) c.in-Some.header (c.in_err-end-2.ensures.memory_only_to_grow m) in
-    let exceeds = exceeds_behind it.endian a b d c.in-Some.header (vec_capacity it.body) t x in
+    let exceeds = exceeds_rest it.endian a b d c.in-Some.header (vec_capacity it.body) t x in
     record { consumed_bytes = t.bytes ++ x.consumed_bytes; consumes = exceeds.0; exceeds = exceeds.1 })
