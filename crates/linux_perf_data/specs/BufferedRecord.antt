@@ -3,6 +3,9 @@ use Rattle.std.specs.Prelude.{◌≡◌, ◌≢◌, ◌⊎◌, ◌↔◌, ℕ, �
 use Rattle.std.specs.List.{concat}
 use Rattle.perfdata_base.specs.Source.{State}
 use Rattle.perfdata_base.specs.Buffered.{IsPrefixOfRemaining}
+use Rattle.perfdata_base.specs.Endian.{number_in}
+use Rattle.perfdata_base.specs.Event.{record_header_of}
+use Rattle.perfdata_base.specs.declared.event.PerfEventHeader.{PerfEventHeader}
 use Rattle.perfdata_base.specs.declared.raw.Endianness.{Endianness}
 use Rattle.perfdata_sections.specs.RecordTypes.{finished_round}
 use Rattle.linux_perf_data.specs.declared.records.iter.PerfRecordIter.{PerfRecordIter}
@@ -16,9 +19,10 @@ abbrev pub WholeRecordLength : Endianness → List ℕ → Option ℕ → Type 0
 WholeRecordLength order bytes (Some n) = (8 ≤ n) × (n ≤ length bytes) × IsRecord order (take n bytes)
 WholeRecordLength order bytes None = (p r : List ℕ) → IsRecord order p → bytes ≢ p ++ r
 
--- The bytes start with the header of a marker.
-abbrev pub StartsWithMarker : Endianness → List ℕ → Type 0
-StartsWithMarker order bytes = (8 ≤ length bytes) × (record_type_of order bytes ≡ finished_round)
+-- The header of the whole record at the start of `bytes`, and its total size.
+abbrev pub PeeksWholeRecord : Endianness → List ℕ → Option (PerfEventHeader × ℕ) → Type 0
+PeeksWholeRecord order bytes (Some r) = (r.0 ≡ record_header_of (number_in order) bytes) × WholeRecordLength order bytes (Some r.1)
+PeeksWholeRecord order bytes None = WholeRecordLength order bytes None
 
 -- From `offset` on, the bytes are markers and then a whole record that isn't a marker and starts where a record may. Any bytes
 -- may follow.

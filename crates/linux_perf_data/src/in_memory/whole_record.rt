@@ -5,7 +5,7 @@ ghost use Rattle.linux_perf_data.specs.InMemoryWholeRecords.{TakesWholeRecord};
 use crate::in_memory::framing::remaining;
 use crate::in_memory::iter::RawRecord;
 use crate::records::buffered::has_no_pending_header;
-use crate::records::framing::record_length;
+use crate::records::framing::peek_record;
 use crate::records::iter::PerfRecordIter;
 use perfdata_base::event::PerfEventHeader;
 use perfdata_parts::constants::PERF_RECORD_FINISHED_ROUND;
@@ -24,8 +24,7 @@ pub(crate) fn take_whole_record<'a>(
         return None;
     }
     let bytes = remaining(&iter.source);
-    let length = record_length(iter.endian, bytes)?;
-    let header = PerfEventHeader::peek(iter.endian, bytes)?;
+    let (header, length) = peek_record(iter.endian, bytes)?;
     let end = iter.offset.checked_add(length as u64)?;
     let position = iter.source.position();
     iter.source.set_position(position + length as u64);

@@ -1,12 +1,11 @@
 //! The check whether bytes contain the whole next record.
 ghost use Rattle.std.specs.Prelude.{◌≡◌, ◌↔◌, ◌+◌, ◌≤◌, IsTrue, length, drop};
-ghost use Rattle.linux_perf_data.specs.BufferedRecord.{ContainsNextRecord, StartsWithMarker};
+ghost use Rattle.linux_perf_data.specs.BufferedRecord.{ContainsNextRecord};
 ghost use Rattle.linux_perf_data.specs.Input.{HasNoPendingHeader, section_size_in};
 ghost use Rattle.linux_perf_data.specs.Layout.{MayStartAt};
 
-use crate::records::framing::record_length;
+use crate::records::framing::peek_record;
 use crate::records::input::Input;
-use perfdata_base::event::PerfEventHeader;
 use perfdata_base::raw::Endianness;
 use perfdata_parts::constants::PERF_RECORD_FINISHED_ROUND;
 
@@ -16,16 +15,6 @@ fn from_offset(bytes: &[u8], offset: usize) -> &[u8]
     ensures { result.now ≡ drop offset bytes.now }
 {
     &bytes[offset..]
-}
-
-// Whether the bytes start with the header of a marker.
-fn starts_with_marker(endian: Endianness, bytes: &[u8]) -> bool
-    ensures { IsTrue result ↔ StartsWithMarker endian bytes.now }
-{
-    match PerfEventHeader::peek(endian, bytes) {
-        Some(header) => header.type_ == PERF_RECORD_FINISHED_ROUND,
-        None => false,
-    }
 }
 
 // Whether a record may start `distance` bytes after an offset.
@@ -61,9 +50,9 @@ pub(crate) fn contains_next_record(
     let mut position = 0;
     'records: while may_start_at(input, offset, position) {
         let rest = from_offset(bytes, position);
-        match record_length(endian, rest) {
-            Some(length) => {
-                if !starts_with_marker(endian, rest) {
+        match peek_record(endian, rest) {
+            Some((header, length)) => {
+                if header.type_ != PERF_RECORD_FINISHED_ROUND {
                     return true;
                 }
                 position += length;

@@ -3,7 +3,7 @@ ghost use Rattle.std.specs.Prelude.{◌≡◌, ◌+◌, ◌<◌, ◌≤◌, [], 
 ghost use Rattle.perfdata_base.specs.Endian.{number_in};
 ghost use Rattle.perfdata_sections.specs.declared.error.Error.TheVariants.{Memory};
 ghost use Rattle.perfdata_base.specs.Source.{PausesOnlyOnError};
-ghost use Rattle.linux_perf_data.specs.BufferedRecord.{WholeRecordLength};
+ghost use Rattle.linux_perf_data.specs.BufferedRecord.{PeeksWholeRecord};
 ghost use Rattle.linux_perf_data.specs.Input.{TakesPendingHeader, input_source_state};
 ghost use Rattle.linux_perf_data.specs.Pauses.{PausesOnlyAtEndOrError, PausesOnlyIfTruncated};
 ghost use Rattle.linux_perf_data.specs.RecordFraming.{ChecksBodySize, ChecksRecordEnd, SkipsBody, AppendsBody, BodyExceedsCapacity, ReadsRecordBody, ReadsRecordHeader, ReadsAuxData, TestsCompressed};
@@ -49,9 +49,11 @@ pub(crate) fn is_compressed(record_type: u32) -> bool
     record_type == PERF_RECORD_COMPRESSED || record_type == PERF_RECORD_COMPRESSED2
 }
 
-// The total size of the record at the start of `bytes`, with its aux data. `None` if they don't start with a whole record.
-pub(crate) fn record_length(endian: Endianness, bytes: &[u8]) -> Option<usize>
-    ensures { WholeRecordLength endian bytes.now result }
+// The header of the record at the start of `bytes`, and its total size with aux data. `None` if they don't start with a whole
+// record.
+#[inline(always)]
+pub(crate) fn peek_record(endian: Endianness, bytes: &[u8]) -> Option<(PerfEventHeader, usize)>
+    ensures { PeeksWholeRecord endian bytes.now result }
 {
     let header = PerfEventHeader::peek(endian, bytes)?;
     let body_size = match body_size(header) {
@@ -63,7 +65,7 @@ pub(crate) fn record_length(endian: Endianness, bytes: &[u8]) -> Option<usize>
         return None;
     }
     if header.type_ != PERF_RECORD_AUXTRACE {
-        return Some(size);
+        return Some((header, size));
     }
     if body_size < Auxtrace::FIXED_SIZE {
         return None;
@@ -72,7 +74,7 @@ pub(crate) fn record_length(endian: Endianness, bytes: &[u8]) -> Option<usize>
     if ((bytes.len() - size) as u64) < aux_size {
         return None;
     }
-    Some(size + aux_size as usize)
+    Some((header, size + aux_size as usize))
 }
 
 // The pending header, or the record header at the position of the source. `None` if the source has fewer bytes.

@@ -15,10 +15,10 @@ pub returns-then-header-eq-PERF_RECORD_FINISHED_ROUND-clause-takes : goal.return
 returns-then-header-eq-PERF_RECORD_FINISHED_ROUND-clause-takes c =
     let it = c.args.iter.now in
     let bytes = c.remaining-bytes.result.now in
-    let n = c.in_ok-length.length in
+    let n = c.in_ok-header.length in
     let header = c.in_ok-header.header in
     let marker = c.if-header-eq-PERF_RECORD_FINISHED_ROUND.true in
-    let whole : WholeRecordLength it.endian bytes (Some n) = c.in_ok-length.ensures in
+    let whole : WholeRecordLength it.endian bytes (Some n) = c.in_ok-header.ensures.1 in
     let none : HasNoPendingHeader it.input = search rules in
     let inner : cursor_inner c.set_position.new.self ≡ cursor_inner it.source = search rules in
     let there : cursor_position c.set_position.new.self ≡ cursor_position it.source + n = search rules in
@@ -26,16 +26,16 @@ returns-then-header-eq-PERF_RECORD_FINISHED_ROUND-clause-takes c =
     let end : c.in_ok-end.end ≡ it.offset + n = search rules in
     let fits : c.in_ok-end.end < 2 ^ 64 = search rules in
     let round : it.round + 1 ≡ (if header.type_ == finished_round then it.round + 1 else it.round) = search rules in
-    (marker, whole_record_read it _ header bytes n whole c.in_ok-header.ensures.1 none consumes refl refl refl refl end fits round (λ other. absurd (other marker)) (λ _. c.requires))
+    (marker, whole_record_read it _ header bytes n whole c.in_ok-header.ensures.0 none consumes refl refl refl refl end fits round (λ other. absurd (other marker)) (λ _. c.requires))
 
 pub returns-clause-takes : goal.returns-clause-takes
 returns-clause-takes c =
     let it = c.args.iter.now in
     let bytes = c.remaining-bytes.result.now in
-    let n = c.in_ok-length.length in
+    let n = c.in_ok-header.length in
     let header = c.in_ok-header.header in
     let other = c.if-header-eq-PERF_RECORD_FINISHED_ROUND.false in
-    let whole : WholeRecordLength it.endian bytes (Some n) = c.in_ok-length.ensures in
+    let whole : WholeRecordLength it.endian bytes (Some n) = c.in_ok-header.ensures.1 in
     let none : HasNoPendingHeader it.input = search rules in
     let inner : cursor_inner c.set_position.new.self ≡ cursor_inner it.source = search rules in
     let there : cursor_position c.set_position.new.self ≡ cursor_position it.source + n = search rules in
@@ -50,5 +50,5 @@ returns-clause-takes c =
       not_marker = other;
       buffer = buffer;
       buffered_body = refl;
-      raw_record_read = whole_record_read it _ header bytes n whole c.in_ok-header.ensures.1 none consumes refl refl refl refl end fits round (λ _. body_of_first bytes n whole.0) (λ marker. absurd (other marker));
+      raw_record_read = whole_record_read it _ header bytes n whole c.in_ok-header.ensures.0 none consumes refl refl refl refl end fits round (λ _. body_of_first bytes n whole.0) (λ marker. absurd (other marker));
     }

@@ -1,8 +1,9 @@
-use Rattle.std.proofs.Common.{rules, arith, ◌≡◌, ◌≢◌, ◌+◌, take, drop, refl, sym, ◌∙◌, subst, length-drop, None, Some}
+use Rattle.std.proofs.Common.{rules, arith, ◌≡◌, ◌≢◌, ◌+◌, take, drop, refl, sym, ap, ◌∙◌, subst, length-drop, None, Some}
 use Rattle.std.proofs.Math.Seq.{take-add}
 use Rattle.std.proofs.lemmas.Bool.{false≢true}
 use Rattle.std.proofs.lemmas.List.{drop-drop, length-take-le}
-use Rattle.linux_perf_data.specs.BufferedRecord.{ContainsNextRecord, StartsWithMarker, WholeRecordLength}
+use Rattle.perfdata_sections.specs.RecordTypes.{finished_round}
+use Rattle.linux_perf_data.specs.BufferedRecord.{ContainsNextRecord, PeeksWholeRecord, WholeRecordLength}
 use Rattle.linux_perf_data.specs.Input.{section_size_in}
 use Rattle.linux_perf_data.specs.Layout.{ConsistsOfMarkers, MayStartAt, record_type_of}
 use Rattle.linux_perf_data.proofs.BufferedRecords.{front_record_type, shows_after, shows_here, starts}
@@ -22,10 +23,10 @@ records-preserved c =
     let position = c.records.position in
     let before = c.records.invariant in
     let n = c.in-Some.length in
-    let w : WholeRecordLength order (drop position bytes) (Some n) = subst (λ r. WholeRecordLength order r (Some n)) c.from_offset-rest.ensures (subst (λ r. WholeRecordLength order c.from_offset-rest.result.now r) c.in-Some.is c.record_length.ensures) in
+    let peeked : PeeksWholeRecord order (drop position bytes) (Some (c.in-Some.header, n)) = subst (λ r. PeeksWholeRecord order r (Some (c.in-Some.header, n))) c.from_offset-rest.ensures (subst (λ r. PeeksWholeRecord order c.from_offset-rest.result.now r) c.in-Some.is c.peek_record.ensures) in
+    let w = peeked.1 in
     let begins : MayStartAt bound (c.args.offset + position) = search rules in
-    let marker : StartsWithMarker order (drop position bytes) = subst (StartsWithMarker order) c.from_offset-rest.ensures (c.if-not-starts_with_marker.ensures.0 refl) in
-    let kind = marker.1 in
+    let kind : record_type_of order (drop position bytes) ≡ finished_round = sym (ap (λ h. h.type_) peeked.0) ∙ c.if-header-ne-PERF_RECORD_FINISHED_ROUND.false in
     let here = subst (λ k. MayStartAt bound (c.args.offset + k)) (sym (length-take-le position bytes before.within)) begins in
     record {
       within = (let i = before.within in let k = w.1 in omega (arith, i, k, length-drop position bytes));
@@ -42,26 +43,25 @@ records-smaller c =
     let position = c.records.position in
     let before = c.records.invariant in
     let n = c.in-Some.length in
-    let w : WholeRecordLength order (drop position bytes) (Some n) = subst (λ r. WholeRecordLength order r (Some n)) c.from_offset-rest.ensures (subst (λ r. WholeRecordLength order c.from_offset-rest.result.now r) c.in-Some.is c.record_length.ensures) in
+    let peeked : PeeksWholeRecord order (drop position bytes) (Some (c.in-Some.header, n)) = subst (λ r. PeeksWholeRecord order r (Some (c.in-Some.header, n))) c.from_offset-rest.ensures (subst (λ r. PeeksWholeRecord order c.from_offset-rest.result.now r) c.in-Some.is c.peek_record.ensures) in
+    let w = peeked.1 in
     let i = before.within in
     let k = w.0 in
     let m = w.1 in
     omega (arith, i, k, m, length-drop position bytes)
 
-pub returns-then-not-starts_with_marker : goal.returns-then-not-starts_with_marker
-returns-then-not-starts_with_marker c =
+pub returns-then-header-ne-PERF_RECORD_FINISHED_ROUND : goal.returns-then-header-ne-PERF_RECORD_FINISHED_ROUND
+returns-then-header-ne-PERF_RECORD_FINISHED_ROUND c =
     let order = c.args.endian in
     let bound = section_size_in c.args.input in
     let bytes = c.args.bytes.now in
     let position = c.records.position in
     let before = c.records.invariant in
     let n = c.in-Some.length in
-    let w : WholeRecordLength order (drop position bytes) (Some n) = subst (λ r. WholeRecordLength order r (Some n)) c.from_offset-rest.ensures (subst (λ r. WholeRecordLength order c.from_offset-rest.result.now r) c.in-Some.is c.record_length.ensures) in
+    let peeked : PeeksWholeRecord order (drop position bytes) (Some (c.in-Some.header, n)) = subst (λ r. PeeksWholeRecord order r (Some (c.in-Some.header, n))) c.from_offset-rest.ensures (subst (λ r. PeeksWholeRecord order c.from_offset-rest.result.now r) c.in-Some.is c.peek_record.ensures) in
+    let w = peeked.1 in
     let begins : MayStartAt bound (c.args.offset + position) = search rules in
-    let other : record_type_of order (drop position bytes) ≢ 68 = λ is.
-    let min = w.0 in
-    let within = w.1 in
-    absurd (false≢true (c.if-not-starts_with_marker.ensures.1 (subst (StartsWithMarker order) (sym c.from_offset-rest.ensures) (omega (arith, min, within), is)))) in
+    let other : record_type_of order (drop position bytes) ≢ finished_round = λ is. c.if-header-ne-PERF_RECORD_FINISHED_ROUND.true (ap (λ h. h.type_) peeked.0 ∙ is) in
     (λ _. shows_here order bound c.args.offset position n bytes before.markers before.within begins w other, λ _. refl)
 
 pub returns-in-None : goal.returns-in-None
@@ -71,7 +71,7 @@ returns-in-None c =
     let bytes = c.args.bytes.now in
     let position = c.records.position in
     let before = c.records.invariant in
-    let none : WholeRecordLength order (drop position bytes) None = subst (λ r. WholeRecordLength order r None) c.from_offset-rest.ensures (subst (λ r. WholeRecordLength order c.from_offset-rest.result.now r) c.in-None.is c.record_length.ensures) in
+    let none : WholeRecordLength order (drop position bytes) None = subst (λ r. WholeRecordLength order r None) c.from_offset-rest.ensures (subst (λ r. PeeksWholeRecord order c.from_offset-rest.result.now r) c.in-None.is c.peek_record.ensures) in
     (λ h. absurd (false≢true h), λ s. let first = starts order bound (c.args.offset + position) (drop position bytes) (before.remaining s) in absurd (none first.first_part first.suffix first.is_record first.cut))
 
 pub returns : goal.returns

@@ -4,7 +4,7 @@ use Rattle.perfdata_base.specs.Endian.{number_in}
 use Rattle.linux_perf_data.specs.Layout.{IsCompressed, record_type_of, record_size_of, aux_size_of}
 use Rattle.linux_perf_data.proofs.BufferedRecords.{whole_first_part}
 use Rattle.linux_perf_data.proofs.RecordHeaders.{total_size_plain, total_size_auxtrace}
-use Rattle.linux_perf_data.proofs.records.framing.record_length.Goals as goal
+use Rattle.linux_perf_data.proofs.records.framing.peek_record.Goals as goal
 
 pub returns-then-header-ne-PERF_RECORD_AUXTRACE : goal.returns-then-header-ne-PERF_RECORD_AUXTRACE
 returns-then-header-ne-PERF_RECORD_AUXTRACE c =
@@ -19,7 +19,7 @@ returns-then-header-ne-PERF_RECORD_AUXTRACE c =
     let plain : ¬ IsCompressed header.type_ = search rules in
     let other : header.type_ ≢ 71 = search rules in
     let isnt : record_type_of order bytes ≢ 71 = λ e. other (kind ∙ e) in
-    (least, within, whole_first_part order bytes n least within (omega (arith, size, least)) (λ k. plain (subst IsCompressed (sym kind) k)) (λ t. absurd (isnt t)) (λ t. absurd (isnt t)) (size ∙ sym (total_size_plain order bytes isnt)))
+    (c.in_ok-header.ensures.1, (least, within, whole_first_part order bytes n least within (omega (arith, size, least)) (λ k. plain (subst IsCompressed (sym kind) k)) (λ t. absurd (isnt t)) (λ t. absurd (isnt t)) (size ∙ sym (total_size_plain order bytes isnt))))
 
 pub returns : goal.returns
 returns c =
@@ -37,4 +37,4 @@ returns c =
     let plain : ¬ IsCompressed header.type_ = search rules in
     let is_auxtrace : header.type_ ≡ 71 = search rules in
     let total = total_size_auxtrace order bytes (sym kind ∙ is_auxtrace) in
-    (omega arith, whole, whole_first_part order bytes (n + m) (omega arith) whole (omega (arith, size, least)) (λ k. plain (subst IsCompressed (sym kind) k)) (λ t. omega (arith, size, least)) (λ t. omega arith) (omega (arith, total, size, aux)))
+    (c.in_ok-header.ensures.1, (omega arith, whole, whole_first_part order bytes (n + m) (omega arith) whole (omega (arith, size, least)) (λ k. plain (subst IsCompressed (sym kind) k)) (λ t. omega (arith, size, least)) (λ t. omega arith) (omega (arith, total, size, aux))))
