@@ -142,6 +142,7 @@ impl AttributeLookup {
     }
 
     // The index of the attribute of a kernel record with this body.
+    #[inline(always)]
     pub(crate) fn attr_index_of(&mut self, record_type: RecordType, body: &[u8]) -> usize
         ensures resolves { ResolvesEvent self.old record_type.0 body.now result self.new }
         ensures keeps_attributes { KeepsAttributes self.old self.new }
@@ -157,6 +158,7 @@ impl AttributeLookup {
     }
 
     // The parse info of the records of the attribute with this index, or that of attribute 0 if the index is out of range.
+    #[inline(always)]
     pub(crate) fn parse_info_of(&self, index: usize) -> &RecordParseInfo
         ensures { result.now ≡ parse_info_at self.now index }
     {

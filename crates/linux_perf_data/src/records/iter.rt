@@ -61,6 +61,7 @@ impl RecordInfo {
     ghost use Rattle.linux_perf_data.specs.AttributeLookup.{KeepsAttributes};
 
     // Identifies the record with this record header and body, at this offset and in this round.
+    #[inline(always)]
     pub(crate) fn identify(
         known: &mut AttributeLookup,
         body: &[u8],
@@ -103,6 +104,7 @@ impl RecordInfo {
     }
 
     // The record with the parse info of its attribute, and its body.
+    #[inline(always)]
     pub(crate) fn into_record<'a>(
         self,
         places: RecordParseInfo,
