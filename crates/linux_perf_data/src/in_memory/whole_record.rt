@@ -17,7 +17,7 @@ pub(crate) fn take_whole_record<'a>(
     iter: &mut PerfRecordIter<Cursor<&'a [u8]>>,
 ) -> Option<RawRecord<'a>>
     requires { iter.old.body.items ≡ [] }
-    ensures takes { TakesWholeRecord iter.old result iter.new }
+    ensures whole_record { TakesWholeRecord iter.old result iter.new }
     ensures same_buffer { iter.new.body ≡ iter.old.body }
 {
     if !has_no_pending_header(iter.input) {

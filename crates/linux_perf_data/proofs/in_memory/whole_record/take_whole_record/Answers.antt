@@ -11,8 +11,8 @@ use Rattle.linux_perf_data.proofs.InMemoryCalls.{buffer_of}
 use Rattle.linux_perf_data.proofs.WholeRecordsTaken.{body_of_first, first_consumed, whole_record_read}
 use Rattle.linux_perf_data.proofs.in_memory.whole_record.take_whole_record.Goals as goal
 
-pub returns-then-header-eq-PERF_RECORD_FINISHED_ROUND-clause-takes : goal.returns-then-header-eq-PERF_RECORD_FINISHED_ROUND-clause-takes
-returns-then-header-eq-PERF_RECORD_FINISHED_ROUND-clause-takes c =
+pub returns-then-header-eq-PERF_RECORD_FINISHED_ROUND-clause-whole_record : goal.returns-then-header-eq-PERF_RECORD_FINISHED_ROUND-clause-whole_record
+returns-then-header-eq-PERF_RECORD_FINISHED_ROUND-clause-whole_record c =
     let it = c.args.iter.now in
     let bytes = c.remaining-bytes.result.now in
     let n = c.in_ok-header.length in
@@ -28,8 +28,8 @@ returns-then-header-eq-PERF_RECORD_FINISHED_ROUND-clause-takes c =
     let round : it.round + 1 ≡ (if header.type_ == finished_round then it.round + 1 else it.round) = search rules in
     (marker, whole_record_read it _ header bytes n whole c.in_ok-header.ensures.0 none consumes refl refl refl refl end fits round (λ other. absurd (other marker)) (λ _. c.requires))
 
-pub returns-clause-takes : goal.returns-clause-takes
-returns-clause-takes c =
+pub returns-clause-whole_record : goal.returns-clause-whole_record
+returns-clause-whole_record c =
     let it = c.args.iter.now in
     let bytes = c.remaining-bytes.result.now in
     let n = c.in_ok-header.length in
