@@ -23,7 +23,7 @@ module _ (old : State) (steady : IsTrue old.steady) where
 
   pub file_open_error : (p : Position) (e : Error) → old.position ≡ Some p → FileParseError old e → e ≢ Memory → IsFileError p e
   file_open_error p e at error other = elim (error.cause other) [
-    | inl shown ↦ subst (λ o. IfSome o (λ p. IsFileError p e)) at shown
+    | inl visible ↦ subst (λ o. IfSome o (λ p. IsFileError p e)) at visible
     | inr source ↦ absurd (no_source_error e error.final_state source)
   ]
 
