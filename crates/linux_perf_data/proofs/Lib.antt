@@ -45,6 +45,7 @@ pub mod DescribedFiles
 pub mod FileErrorUniqueness
 pub mod PipeErrorUniqueness
 pub mod FileReadings
+pub mod FileRecordsTaken
 pub mod PipeReadings
 pub mod BufferedRecords
 pub mod NamedErrors

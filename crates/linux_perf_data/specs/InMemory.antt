@@ -81,6 +81,11 @@ pub record RecordTaken (old : MemoryIter) (file : PerfFile) (found : RecordInfo)
   pub buffer : Vec ℕ Global
   pub returns : ReturnsRecord memory_state old file (record_view_with new.attribute_lookup found new.endian body) (with_buffer new buffer) file'
 
+-- The next record is taken, and no `PerfFile` is changed; or nothing is taken.
+abbrev pub TakesFileRecord : MemoryIter → Option (RecordInfo × Bor (List ℕ)) → MemoryIter → Type 0
+TakesFileRecord old None new = new ≡ old
+TakesFileRecord old (Some r) new = (file : PerfFile) → RecordTaken old file r.0 r.1.now new file
+
 abbrev pub TakesRecord : MemoryIter → PerfFile → Result (Option (RecordInfo × Bor (List ℕ))) Error → MemoryIter → PerfFile → Type 0
 TakesRecord old file (Ok (Some r)) new file' = RecordTaken old file r.0 r.1.now new file'
 TakesRecord old file (Ok None) new file' = ReturnsEnd memory_state old file new file'

@@ -1,7 +1,7 @@
 use Rattle.std.proofs.Common.{◌≡◌, ◌-◌, ◌^◌}
 use Rattle.linux_perf_data.specs.InMemory.{memory_state}
 use Rattle.linux_perf_data.proofs.IterCalls.{Idles}
-use Rattle.linux_perf_data.proofs.in_memory.iter.take_record.Given as goal
+use Rattle.linux_perf_data.proofs.in_memory.iter.take_next_record.Given as goal
 
 abbrev pub invariant-raw_records : goal.invariant-raw_records
 invariant-raw_records l = record {
