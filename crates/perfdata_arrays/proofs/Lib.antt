@@ -4,6 +4,7 @@ pub mod WalkLemmas
 pub mod FileErrors
 pub mod PageLemmas
 pub mod PageUniqueness
+pub mod PageChainLemmas
 pub mod PipeRecordsLemmas
 pub mod JitLemmas
 pub mod JitBodiesLemmas

@@ -45,7 +45,7 @@ use Rattle.perfdata_arrays.proofs.WalkLemmas.{length-prefix, writes_at}
 
 -- ---- the status of an error
 
-eof_status : (e : Error) → IsUnexpectedEof e → error_status e ≡ Truncated
+pub eof_status : (e : Error) → IsUnexpectedEof e → error_status e ≡ Truncated
 eof_status (IoError e) is = ap io_kind_status is
 eof_status _ is = absurd is
 

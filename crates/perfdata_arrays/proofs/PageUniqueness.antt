@@ -78,7 +78,7 @@ module _ (bytes : List ℕ) {base capacity : ℕ} {from next : RecordPosition} {
       (rest, (layout.1.0, page.extends_remaining rest layout.1.0 (record { raw_records = layout.0; layout = layout.1.1; elements = refl })))
 
 -- equally many first records of equal lists
-first_equal : (a b x y : List RecordView) → a ++ x ≡ b ++ y → length a ≡ length b → a ≡ b
+pub first_equal : (a b x y : List RecordView) → a ++ x ≡ b ++ y → length a ≡ length b → a ≡ b
 first_equal a b x y is long = sym (take-append_seam a x) ∙ ap (take (length a)) is ∙ ap (λ n. take n (b ++ y)) long ∙ take-append_seam b y
 
 pub page_is_unique : PageIsUnique

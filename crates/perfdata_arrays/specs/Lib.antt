@@ -12,3 +12,4 @@ pub mod FeatureSets
 pub mod Attrs
 pub mod BuildIds
 pub mod Pages
+pub mod PageChains
