@@ -257,6 +257,207 @@ static void check_string(void)
     CHECK(dewikura_read_string(NULL, 0, 0, 0, &string), DEWIKURA_TRUNCATED);
 }
 
+static void check_meta_info(void)
+{
+    struct dewikura_meta_pair pairs[3];
+    uint64_t total = 0;
+    size = 0;
+    put_text("first", 6);
+    put_text("one", 4);
+    put_text("second", 7);
+    put_text("", 1);
+    put_text("no value", 8);
+    memset(pairs, 0xab, sizeof pairs);
+    CHECK(dewikura_read_meta_info(input, size, pairs, 3, &total), DEWIKURA_OK);
+    CHECK(total, 2);
+    CHECK(pairs[0].key_offset, 0);
+    CHECK(pairs[0].key_size, 5);
+    CHECK(pairs[0].value_offset, 6);
+    CHECK(pairs[0].value_size, 3);
+    CHECK(pairs[1].key_offset, 10);
+    CHECK(pairs[1].key_size, 6);
+    CHECK(pairs[1].value_offset, 17);
+    CHECK(pairs[1].value_size, 0);
+    CHECK(pairs[2].key_offset, UINT64_C(0xabababababababab));
+    CHECK(dewikura_read_meta_info(input, 14, pairs, 0, &total), DEWIKURA_OK);
+    CHECK(total, 1);
+    input[18] = 0xff;
+    input[19] = 0;
+    CHECK(dewikura_read_meta_info(input, size, pairs, 1, &total), DEWIKURA_INVALID_UTF8);
+    CHECK(total, 2);
+}
+
+// A symbol of the section SIMPLEPERF_FILE.
+static void put_symbol(uint64_t vaddr, uint32_t length, const char *name)
+{
+    put(vaddr, 8);
+    put(length, 4);
+    put_text(name, strlen(name) + 1);
+}
+
+// The files of both sections: a DEX file with two symbols and two offsets, an ELF file with one symbol, and a kernel module without one.
+static void check_files(uint32_t feature)
+{
+    struct dewikura_symbol_file files[4];
+    struct dewikura_symbol symbols[4];
+    struct dewikura_symbol_totals totals = {0, 0, 0, 0};
+    char names[64] = {0};
+    uint64_t offsets[3] = {0, 0, 3};
+    memset(files, 0xab, sizeof files);
+    memset(symbols, 0xab, sizeof symbols);
+    CHECK(dewikura_read_symbol_tables(input, size, feature, 0, NULL, 0, NULL, 0, NULL, 0, NULL, 0, &totals), DEWIKURA_OK);
+    CHECK(totals.file_count, 3);
+    CHECK(totals.symbol_count, 3);
+    CHECK(totals.names_size, 33);
+    CHECK(totals.dex_offset_count, 2);
+    CHECK(dewikura_read_symbol_tables(input, size, feature, 0, files, 4, symbols, 4, names, sizeof names, offsets, 3, NULL), DEWIKURA_OK);
+    CHECK(strcmp(names, "/a.vdexfirstsecond/lib/c.somain/d"), 0);
+    CHECK(offsets[0], 0x301);
+    CHECK(offsets[1], 0x302);
+    CHECK(offsets[2], 3);
+    CHECK(files[0].path_offset, 0);
+    CHECK(files[0].path_size, 7);
+    CHECK(files[0].min_vaddr, 0x102);
+    CHECK(files[0].symbols_start, 0);
+    CHECK(files[0].symbols_count, 2);
+    CHECK(files[0].min_vaddr_offset, 0);
+    CHECK(files[0].dex_offsets_start, 0);
+    CHECK(files[0].dex_offsets_count, 2);
+    CHECK(files[0].type, DEWIKURA_SYMBOL_FILE_DEX);
+    CHECK(files[0].info_type, DEWIKURA_SYMBOL_FILE_DEX);
+    CHECK(files[1].path_offset, 18);
+    CHECK(files[1].path_size, 9);
+    CHECK(files[1].min_vaddr, 0x103);
+    CHECK(files[1].symbols_start, 2);
+    CHECK(files[1].symbols_count, 1);
+    CHECK(files[1].min_vaddr_offset, 0x303);
+    CHECK(files[1].dex_offsets_start, 2);
+    CHECK(files[1].dex_offsets_count, 0);
+    CHECK(files[1].type, DEWIKURA_SYMBOL_FILE_ELF);
+    CHECK(files[1].info_type, DEWIKURA_SYMBOL_FILE_ELF);
+    CHECK(files[2].path_offset, 31);
+    CHECK(files[2].path_size, 2);
+    CHECK(files[2].symbols_start, 3);
+    CHECK(files[2].symbols_count, 0);
+    CHECK(files[2].min_vaddr_offset, 0x304);
+    CHECK(files[2].type, DEWIKURA_SYMBOL_FILE_KERNEL_MODULE);
+    CHECK(files[2].info_type, DEWIKURA_SYMBOL_FILE_KERNEL_MODULE);
+    CHECK(files[3].type, 0xabababab);
+    CHECK(symbols[0].vaddr, 0x201);
+    CHECK(symbols[0].size, 0x11);
+    CHECK(symbols[0].name_offset, 7);
+    CHECK(symbols[0].name_size, 5);
+    CHECK(symbols[1].vaddr, 0x202);
+    CHECK(symbols[1].size, 0x12);
+    CHECK(symbols[1].name_offset, 12);
+    CHECK(symbols[1].name_size, 6);
+    CHECK(symbols[2].vaddr, 0x203);
+    CHECK(symbols[2].size, 0x13);
+    CHECK(symbols[2].name_offset, 27);
+    CHECK(symbols[2].name_size, 4);
+    CHECK(symbols[3].vaddr, UINT64_C(0xabababababababab));
+    memset(names, 'x', sizeof names);
+    CHECK(dewikura_read_symbol_tables(input, size - 1, feature, 0, files, 4, symbols, 4, names, 64, offsets, 3, &totals), DEWIKURA_TRUNCATED);
+    CHECK(totals.file_count | totals.symbol_count | totals.names_size | totals.dex_offset_count, 0);
+    CHECK(names[0], 'x');
+    CHECK(dewikura_read_symbol_tables(input, size, feature, 0, files, 1, symbols, 1, names, 9, offsets, 1, &totals), DEWIKURA_OK);
+    CHECK(memcmp(names, "/a.vdexfixxx", 12), 0);
+}
+
+static void check_file_section(void)
+{
+    size_t start;
+    size = 0;
+    put(7 + 1 + 4 + 8 + 4 + 18 + 19 + 4 + 16, 4);
+    start = size;
+    put_text("/a.vdex", 8);
+    put(DEWIKURA_SYMBOL_FILE_DEX, 4);
+    put(0x102, 8);
+    put(2, 4);
+    put_symbol(0x201, 0x11, "first");
+    put_symbol(0x202, 0x12, "second");
+    put(2, 4);
+    put(0x301, 8);
+    put(0x302, 8);
+    CHECK(size - start, input[0]);
+    put(9 + 1 + 4 + 8 + 4 + 17 + 8, 4);
+    put_text("/lib/c.so", 10);
+    put(DEWIKURA_SYMBOL_FILE_ELF, 4);
+    put(0x103, 8);
+    put(1, 4);
+    put_symbol(0x203, 0x13, "main");
+    put(0x303, 8);
+    put(2 + 1 + 4 + 8 + 4 + 8, 4);
+    put_text("/d", 3);
+    put(DEWIKURA_SYMBOL_FILE_KERNEL_MODULE, 4);
+    put(0, 8);
+    put(0, 4);
+    put(0x304, 8);
+    check_files(DEWIKURA_FEATURE_SIMPLEPERF_FILE);
+    input[start + 8] = 6; // a type that no file has
+    CHECK(dewikura_read_symbol_tables(input, size, DEWIKURA_FEATURE_SIMPLEPERF_FILE, 0, NULL, 0, NULL, 0, NULL, 0, NULL, 0, NULL), DEWIKURA_BAD_SYMBOL_TABLE);
+}
+
+// The fields of a protobuf message: a number, and bytes.
+static void put_number_field(unsigned field, uint64_t number)
+{
+    put(field << 3, 1);
+    for (; number >= 128; number >>= 7) put(number % 128 + 128, 1);
+    put(number, 1);
+}
+
+static void put_bytes_field(unsigned field, const char *text, size_t bytes)
+{
+    put(field << 3 | 2, 1);
+    put(bytes, 1);
+    put_text(text, bytes);
+}
+
+// A symbol of the section SIMPLEPERF_FILE2.
+static void put_symbol_field(uint64_t vaddr, uint32_t length, const char *name)
+{
+    put_bytes_field(4, "", 5 + 2 + strlen(name));
+    size -= 5 + 2 + strlen(name);
+    put_number_field(1, vaddr);
+    put_number_field(2, length);
+    put_bytes_field(3, name, strlen(name));
+}
+
+static void put_chunk_size(size_t start)
+{
+    put_at(start, size - start - 4, 4);
+}
+
+static void check_file2_section(void)
+{
+    size_t start = 0;
+    size = 4;
+    put_bytes_field(1, "/a.vdex", 7);
+    put_number_field(2, DEWIKURA_SYMBOL_FILE_DEX);
+    put_number_field(3, 0x102);
+    put_symbol_field(0x201, 0x11, "first");
+    put_symbol_field(0x202, 0x12, "second");
+    put_bytes_field(5, "\12\4\x81\6\x82\6", 6);
+    put_chunk_size(start);
+    start = size;
+    size += 4;
+    put_bytes_field(1, "/lib/c.so", 9);
+    put_number_field(2, DEWIKURA_SYMBOL_FILE_ELF);
+    put_number_field(3, 0x103);
+    put_symbol_field(0x203, 0x13, "main");
+    put_bytes_field(6, "\10\x83\6", 3);
+    put_chunk_size(start);
+    start = size;
+    size += 4;
+    put_bytes_field(1, "/d", 2);
+    put_number_field(2, DEWIKURA_SYMBOL_FILE_KERNEL_MODULE);
+    put_bytes_field(7, "\10\x84\6", 3);
+    put_chunk_size(start);
+    check_files(DEWIKURA_FEATURE_SIMPLEPERF_FILE2);
+    input[4] = 8; // the path as a number
+    CHECK(dewikura_read_symbol_tables(input, size, DEWIKURA_FEATURE_SIMPLEPERF_FILE2, 0, NULL, 0, NULL, 0, NULL, 0, NULL, 0, NULL), DEWIKURA_BAD_SYMBOL_TABLE);
+}
+
 static void check_jitdump(void)
 {
     struct dewikura_jit_header header;
@@ -264,7 +465,8 @@ static void check_jitdump(void)
     struct dewikura_jit_load load;
     struct dewikura_jit_move move;
     struct dewikura_jit_unwinding unwinding;
-    uint64_t count = 0, next_offset = 0;
+    struct dewikura_jit_debug_entry entries[3];
+    uint64_t count = 0, next_offset = 0, code_address = 0;
     size = 0;
     put_text("DTiJ", 4);
     put(1, 4);      // version
@@ -306,6 +508,19 @@ static void check_jitdump(void)
     put(4, 8);      // index size
     put(0xb01, 8);  // mapped size
     put_text("hdr.frames.", 11);
+    put(DEWIKURA_JIT_CODE_DEBUG_INFO, 4);
+    put(16 + 16 + 16 + 7 + 16 + 4, 4);
+    put(0x805, 8);
+    put(0xc01, 8);  // code address
+    put(2, 8);      // entries
+    put(0xc02, 8);  // address
+    put(0xc03, 4);  // line
+    put(0xc04, 4);  // column
+    put_text("main.c", 7);
+    put(0xc05, 8);
+    put(0xc06, 4);
+    put(0, 4);
+    put_text("b.c", 4);
     CHECK(dewikura_read_jit_header(input, size, &header), DEWIKURA_OK);
     CHECK(header.timestamp, 0x702);
     CHECK(header.flags, 0x703);
@@ -349,6 +564,27 @@ static void check_jitdump(void)
     CHECK(unwinding.eh_frame_offset, 64 + 70 + 64 + 44);
     CHECK(unwinding.eh_frame_size, 7);
     CHECK(dewikura_read_jit_unwinding(input, size, size, &unwinding), DEWIKURA_TRUNCATED);
+    next_offset = 64 + 70 + 64 + 51;
+    memset(entries, 0xab, sizeof entries);
+    CHECK(dewikura_read_jit_debug_info(input, size, next_offset, &code_address, entries, 3, &count), DEWIKURA_OK);
+    CHECK(code_address, 0xc01);
+    CHECK(count, 2);
+    CHECK(entries[0].code_address, 0xc02);
+    CHECK(entries[0].path_offset, next_offset + 48);
+    CHECK(entries[0].path_size, 6);
+    CHECK(entries[0].line, 0xc03);
+    CHECK(entries[0].column, 0xc04);
+    CHECK(entries[1].code_address, 0xc05);
+    CHECK(entries[1].path_offset, next_offset + 48 + 7 + 16);
+    CHECK(entries[1].path_size, 3);
+    CHECK(entries[1].line, 0xc06);
+    CHECK(entries[1].column, 0);
+    CHECK(entries[2].line, 0xabababab);
+    CHECK(dewikura_read_jit_debug_info(input, size, next_offset, NULL, NULL, 0, NULL), DEWIKURA_OK);
+    CHECK(dewikura_read_jit_debug_info(input, size, 64, &code_address, entries, 3, &count), DEWIKURA_JIT_WRONG_TYPE);
+    CHECK(code_address | count, 0);
+    input[next_offset + 24] = 3; // one entry more than the record contains
+    CHECK(dewikura_read_jit_debug_info(input, size, next_offset, NULL, NULL, 0, NULL), DEWIKURA_JIT_BAD_BODY);
 }
 
 static void check_empty(void)
@@ -369,9 +605,13 @@ static void check_empty(void)
     CHECK(dewikura_read_file_feature(NULL, 0, 1, NULL, 0, NULL, NULL), DEWIKURA_TRUNCATED);
     CHECK(dewikura_read_pipe_feature(NULL, 0, 1, NULL, 0, NULL, NULL), DEWIKURA_TRUNCATED);
     CHECK(dewikura_read_build_id(NULL, 0, 0, 0, &entry), DEWIKURA_TRUNCATED);
+    CHECK(dewikura_read_meta_info(NULL, 0, NULL, 0, NULL), DEWIKURA_OK);
+    CHECK(dewikura_read_symbol_tables(NULL, 0, DEWIKURA_FEATURE_SIMPLEPERF_FILE, 0, NULL, 0, NULL, 0, NULL, 0, NULL, 0, NULL), DEWIKURA_OK);
+    CHECK(dewikura_read_symbol_tables(NULL, 0, DEWIKURA_FEATURE_SIMPLEPERF_FILE2, 0, NULL, 0, NULL, 0, NULL, 0, NULL, 0, NULL), DEWIKURA_OK);
     CHECK(dewikura_read_jit_header(NULL, 0, &header), DEWIKURA_JIT_TRUNCATED_HEADER);
     CHECK(dewikura_read_jit_records(NULL, 0, 0, NULL, 0, NULL, NULL), DEWIKURA_JIT_TRUNCATED_HEADER);
     CHECK(dewikura_read_jit_load(NULL, 0, 0, &load), DEWIKURA_JIT_TRUNCATED_HEADER);
+    CHECK(dewikura_read_jit_debug_info(NULL, 0, 0, NULL, NULL, 0, NULL), DEWIKURA_JIT_TRUNCATED_HEADER);
 }
 
 static void check_sort(void)
@@ -399,8 +639,8 @@ static void check_texts(void)
     dewikura_status status;
     size_t length;
     CHECK(dewikura_version(), DEWIKURA_VERSION);
-    CHECK(dewikura_status_text(DEWIKURA_JIT_BAD_BODY + 1, unknown, sizeof unknown), 14);
-    for (status = DEWIKURA_OK; status <= DEWIKURA_JIT_BAD_BODY; status++) {
+    CHECK(dewikura_status_text(DEWIKURA_BAD_SYMBOL_TABLE + 1, unknown, sizeof unknown), 14);
+    for (status = DEWIKURA_OK; status <= DEWIKURA_BAD_SYMBOL_TABLE; status++) {
         length = dewikura_status_text(status, text, sizeof text);
         CHECK(length, strlen(text));
         CHECK(!strcmp(text, unknown), 0);
@@ -417,6 +657,9 @@ int main(void)
     check_file();
     check_build_id();
     check_string();
+    check_meta_info();
+    check_file_section();
+    check_file2_section();
     check_jitdump();
     check_empty();
     check_sort();

@@ -76,7 +76,8 @@ enum dewikura_status_code {
     DEWIKURA_JIT_BAD_MAGIC = 20,          // not a jitdump
     DEWIKURA_JIT_BAD_RECORD_SIZE = 21,    // a jitdump record gives a size below 16, or ends past 2^64 - 1
     DEWIKURA_JIT_WRONG_TYPE = 22,         // the jitdump record at this offset is of another type
-    DEWIKURA_JIT_BAD_BODY = 23            // the body of the jitdump record is malformed
+    DEWIKURA_JIT_BAD_BODY = 23,           // the body of the jitdump record is malformed
+    DEWIKURA_BAD_SYMBOL_TABLE = 24        // a record of simpleperf's symbol tables is malformed
 };
 
 // ---- structs: numbers are in the machine's byte order, whatever the byte order of the input is
@@ -164,6 +165,44 @@ struct dewikura_string {
     uint64_t next_offset; // of the bytes after the string
 };
 
+// A key and its value in the section SIMPLEPERF_META_INFO. Offsets are in bytes from the start of the section.
+struct dewikura_meta_pair {
+    uint64_t key_offset;   // of the key
+    uint64_t key_size;     // in bytes, without the NUL
+    uint64_t value_offset; // of the value
+    uint64_t value_size;   // in bytes, without the NUL
+};
+
+// A file of simpleperf's symbol tables.
+struct dewikura_symbol_file {
+    uint64_t path_offset;       // of its path in the names buffer
+    uint64_t path_size;         // in bytes, no NUL
+    uint64_t min_vaddr;         // lowest address of its code
+    uint64_t symbols_start;     // index of its first symbol in the symbols array
+    uint64_t symbols_count;     // how many symbols
+    uint64_t min_vaddr_offset;  // where the lowest address is in the ELF file, or in the memory of the kernel module; else 0
+    uint64_t dex_offsets_start; // index of its first DEX offset in the offsets array
+    uint64_t dex_offsets_count; // how many DEX offsets
+    uint32_t type;              // DEWIKURA_SYMBOL_FILE_*
+    uint32_t info_type;         // the type that its offsets are for: KERNEL_MODULE, ELF or DEX; 0 without offsets
+};
+
+// A symbol of a file of simpleperf's symbol tables.
+struct dewikura_symbol {
+    uint64_t vaddr;       // address in the file's own address space
+    uint64_t size;        // in bytes
+    uint64_t name_offset; // of its name in the names buffer
+    uint64_t name_size;   // in bytes, no NUL
+};
+
+// The totals over all files of simpleperf's symbol tables.
+struct dewikura_symbol_totals {
+    uint64_t file_count;       // files
+    uint64_t symbol_count;     // symbols of all files
+    uint64_t names_size;       // bytes of all paths and names
+    uint64_t dex_offset_count; // DEX offsets of all files
+};
+
 // The header of a jitdump.
 struct dewikura_jit_header {
     uint64_t timestamp;     // when the file was created
@@ -217,6 +256,15 @@ struct dewikura_jit_unwinding {
     uint64_t eh_frame_size;       // in bytes
 };
 
+// A source location in a debug info record of a jitdump: of the code from its address up to the address of the next location.
+struct dewikura_jit_debug_entry {
+    uint64_t code_address; // address of the first byte of the code
+    uint64_t path_offset;  // of the path of the source file, in bytes from the start of the file
+    uint64_t path_size;    // in bytes, without the NUL
+    uint32_t line;         // starting at 1
+    uint32_t column;       // starting at 1; 0 if it is unknown
+};
+
 // The library has the same sizes.
 #if defined(__cplusplus)
 #define DEWIKURA_CHECK_SIZE(name, size) static_assert(sizeof(struct name) == size, "size of struct " #name)
@@ -232,11 +280,16 @@ DEWIKURA_CHECK_SIZE(dewikura_attr_totals, 24);
 DEWIKURA_CHECK_SIZE(dewikura_feature_set, 32);
 DEWIKURA_CHECK_SIZE(dewikura_build_id, 48);
 DEWIKURA_CHECK_SIZE(dewikura_string, 24);
+DEWIKURA_CHECK_SIZE(dewikura_meta_pair, 32);
+DEWIKURA_CHECK_SIZE(dewikura_symbol_file, 72);
+DEWIKURA_CHECK_SIZE(dewikura_symbol, 32);
+DEWIKURA_CHECK_SIZE(dewikura_symbol_totals, 32);
 DEWIKURA_CHECK_SIZE(dewikura_jit_header, 40);
 DEWIKURA_CHECK_SIZE(dewikura_jit_record, 24);
 DEWIKURA_CHECK_SIZE(dewikura_jit_load, 64);
 DEWIKURA_CHECK_SIZE(dewikura_jit_move, 48);
 DEWIKURA_CHECK_SIZE(dewikura_jit_unwinding, 40);
+DEWIKURA_CHECK_SIZE(dewikura_jit_debug_entry, 32);
 #undef DEWIKURA_CHECK_SIZE
 typedef char dewikura_has_64_bits[sizeof(size_t) == 8 ? 1 : -1];
 
@@ -329,11 +382,11 @@ enum dewikura_feature {
     DEWIKURA_FEATURE_CLOCK_DATA = 29,                    // version, clock id, wall clock, clock time
     DEWIKURA_FEATURE_HYBRID_TOPOLOGY = 30,
     DEWIKURA_FEATURE_HYBRID_CPU_PMU_CAPS = 31,
-    DEWIKURA_FEATURE_SIMPLEPERF_FILE = 128,
-    DEWIKURA_FEATURE_SIMPLEPERF_META_INFO = 129,
+    DEWIKURA_FEATURE_SIMPLEPERF_FILE = 128,              // files of older simpleperf for dewikura_read_symbol_tables
+    DEWIKURA_FEATURE_SIMPLEPERF_META_INFO = 129,         // pairs for dewikura_read_meta_info
     DEWIKURA_FEATURE_SIMPLEPERF_DEBUG_UNWIND = 130,
     DEWIKURA_FEATURE_SIMPLEPERF_DEBUG_UNWIND_FILE = 131,
-    DEWIKURA_FEATURE_SIMPLEPERF_FILE2 = 132
+    DEWIKURA_FEATURE_SIMPLEPERF_FILE2 = 132              // files for dewikura_read_symbol_tables
 };
 
 // ---- event types (dewikura_attr.type)
@@ -438,12 +491,23 @@ enum dewikura_dso_kind {
     DEWIKURA_DSO_USER = 8           // a file mapped by a program
 };
 
+// ---- types of files in simpleperf's symbol tables (dewikura_symbol_file.type)
+
+enum dewikura_symbol_file_type {
+    DEWIKURA_SYMBOL_FILE_KERNEL = 0,
+    DEWIKURA_SYMBOL_FILE_KERNEL_MODULE = 1,
+    DEWIKURA_SYMBOL_FILE_ELF = 2,
+    DEWIKURA_SYMBOL_FILE_DEX = 3,           // a file with DEX code, such as a .vdex file
+    DEWIKURA_SYMBOL_FILE_SYMBOL_MAP = 4,    // a symbol map, as JIT runtimes write it
+    DEWIKURA_SYMBOL_FILE_UNKNOWN = 5
+};
+
 // ---- jitdump record types (dewikura_jit_record.type)
 
 enum dewikura_jit_record_type {
     DEWIKURA_JIT_CODE_LOAD = 0,           // new code; dewikura_read_jit_load
     DEWIKURA_JIT_CODE_MOVE = 1,           // moved code
-    DEWIKURA_JIT_CODE_DEBUG_INFO = 2,     // source lines
+    DEWIKURA_JIT_CODE_DEBUG_INFO = 2,     // source locations; dewikura_read_jit_debug_info
     DEWIKURA_JIT_CODE_CLOSE = 3,          // end of the file
     DEWIKURA_JIT_CODE_UNWINDING_INFO = 4  // eh_frame data
 };
@@ -471,6 +535,11 @@ DEWIKURA_NONNULL dewikura_status dewikura_read_build_id_raw(const void *section,
     struct dewikura_build_id *entry);
 DEWIKURA_NONNULL dewikura_status dewikura_read_string_raw(const void *section, size_t size, uint32_t is_big_endian, uint64_t offset,
     struct dewikura_string *string);
+DEWIKURA_NONNULL dewikura_status dewikura_read_meta_info_raw(const void *section, size_t size, struct dewikura_meta_pair *pairs,
+    size_t capacity, uint64_t *total);
+DEWIKURA_NONNULL dewikura_status dewikura_read_symbol_tables_raw(const void *section, size_t size, uint32_t feature, uint32_t is_big_endian,
+    struct dewikura_symbol_file *files, size_t files_capacity, struct dewikura_symbol *symbols, size_t symbols_capacity, char *names,
+    size_t names_capacity, uint64_t *dex_offsets, size_t dex_offsets_capacity, struct dewikura_symbol_totals *totals);
 DEWIKURA_NONNULL dewikura_status dewikura_read_jit_header_raw(const void *data, size_t size, struct dewikura_jit_header *header);
 DEWIKURA_NONNULL dewikura_status dewikura_read_jit_records_raw(const void *data, size_t size, uint64_t start_offset,
     struct dewikura_jit_record *records, size_t capacity, uint64_t *count, uint64_t *next_offset);
@@ -478,6 +547,8 @@ DEWIKURA_NONNULL dewikura_status dewikura_read_jit_load_raw(const void *data, si
 DEWIKURA_NONNULL dewikura_status dewikura_read_jit_move_raw(const void *data, size_t size, uint64_t offset, struct dewikura_jit_move *move);
 DEWIKURA_NONNULL dewikura_status dewikura_read_jit_unwinding_raw(const void *data, size_t size, uint64_t offset,
     struct dewikura_jit_unwinding *unwinding);
+DEWIKURA_NONNULL dewikura_status dewikura_read_jit_debug_info_raw(const void *data, size_t size, uint64_t offset, uint64_t *code_address,
+    struct dewikura_jit_debug_entry *entries, size_t capacity, uint64_t *total);
 
 // ---- calls
 
@@ -634,6 +705,44 @@ DEWIKURA_NODISCARD static inline dewikura_status dewikura_read_string(const void
     return dewikura_read_string_raw(section ? section : &no_data, size, is_big_endian, offset, string);
 }
 
+// Writes the positions of the keys and values in the section SIMPLEPERF_META_INFO, in its order, up to `capacity`. `section` contains the
+// bytes of the feature. If a key occurs more than once, its last value counts. *total counts all pairs; `total` may be NULL.
+//
+// DEWIKURA_INVALID_UTF8 means that a key or a value isn't UTF-8; then *total counts the pairs before it.
+DEWIKURA_NODISCARD static inline dewikura_status dewikura_read_meta_info(const void *section, size_t size, struct dewikura_meta_pair *pairs,
+    size_t capacity, uint64_t *total)
+{
+    const char no_data = 0;
+    struct dewikura_meta_pair no_pair;
+    uint64_t unused;
+    return dewikura_read_meta_info_raw(section ? section : &no_data, size, pairs ? pairs : &no_pair, capacity, total ? total : &unused);
+}
+
+// Writes the files of simpleperf's symbol tables, the symbols of all files, and the DEX offsets of all files, each up to the capacity of
+// its array. Writes the path of each file and then the names of its symbols, all in UTF-8 without a separator, up to the capacity of
+// `names`. *totals counts all of them; `totals` may be NULL.
+//
+// `section` contains the bytes of the feature DEWIKURA_FEATURE_SIMPLEPERF_FILE2, or those of DEWIKURA_FEATURE_SIMPLEPERF_FILE in a
+// recording without it, and `feature` is the number of that feature. `is_big_endian` is that of the recording. A recording that has
+// neither feature has no symbol tables.
+//
+// After an error all totals are 0, and the arrays are unchanged.
+DEWIKURA_NODISCARD static inline dewikura_status dewikura_read_symbol_tables(const void *section, size_t size, uint32_t feature,
+    uint32_t is_big_endian, struct dewikura_symbol_file *files, size_t files_capacity, struct dewikura_symbol *symbols,
+    size_t symbols_capacity, char *names, size_t names_capacity, uint64_t *dex_offsets, size_t dex_offsets_capacity,
+    struct dewikura_symbol_totals *totals)
+{
+    const char no_data = 0;
+    struct dewikura_symbol_file no_file;
+    struct dewikura_symbol no_symbol;
+    char no_name;
+    uint64_t no_offset;
+    struct dewikura_symbol_totals unused;
+    return dewikura_read_symbol_tables_raw(section ? section : &no_data, size, feature, is_big_endian, files ? files : &no_file,
+        files_capacity, symbols ? symbols : &no_symbol, symbols_capacity, names ? names : &no_name, names_capacity,
+        dex_offsets ? dex_offsets : &no_offset, dex_offsets_capacity, totals ? totals : &unused);
+}
+
 // Writes the header of a jitdump. After an error *header is unchanged.
 DEWIKURA_NODISCARD static inline dewikura_status dewikura_read_jit_header(const void *data, size_t size, struct dewikura_jit_header *header)
 {
@@ -679,6 +788,19 @@ DEWIKURA_NODISCARD static inline dewikura_status dewikura_read_jit_unwinding(con
 {
     const char no_data = 0;
     return dewikura_read_jit_unwinding_raw(data ? data : &no_data, size, offset, unwinding);
+}
+
+// Writes the source locations in the debug info record at an offset of a jitdump (DEWIKURA_JIT_CODE_DEBUG_INFO), in its order, up to
+// `capacity`. *code_address is the address of the code, and *total counts all source locations. Both pointers may be NULL. After an error
+// both numbers are 0.
+DEWIKURA_NODISCARD static inline dewikura_status dewikura_read_jit_debug_info(const void *data, size_t size, uint64_t offset,
+    uint64_t *code_address, struct dewikura_jit_debug_entry *entries, size_t capacity, uint64_t *total)
+{
+    const char no_data = 0;
+    struct dewikura_jit_debug_entry no_entry;
+    uint64_t unused_address, unused_total;
+    return dewikura_read_jit_debug_info_raw(data ? data : &no_data, size, offset, code_address ? code_address : &unused_address,
+        entries ? entries : &no_entry, capacity, total ? total : &unused_total);
 }
 
 #ifdef __cplusplus

@@ -15,12 +15,15 @@ ghost use Rattle.perfdata_arrays.specs.FeatureSets.{ReadsFileFeatures, ReadsPipe
 ghost use Rattle.perfdata_arrays.specs.Features.{ReadsFileFeature, ReadsPipeFeature};
 ghost use Rattle.perfdata_arrays.specs.Jit.{ReadsJitHeader, ReadsJitRecords, ReadsJitLoad};
 ghost use Rattle.perfdata_arrays.specs.JitBodies.{ReadsJitMove, ReadsJitUnwinding};
+ghost use Rattle.perfdata_arrays.specs.JitDebug.{ReadsJitDebugInfo};
+ghost use Rattle.perfdata_arrays.specs.MetaPairs.{ReadsMetaInfo};
 ghost use Rattle.perfdata_arrays.specs.Overwrites.{with_prefix};
 ghost use Rattle.perfdata_arrays.specs.Pages.{ReadsFilePage};
 ghost use Rattle.perfdata_arrays.specs.Records.{ReadsPipeRecords};
 ghost use Rattle.perfdata_arrays.specs.Sorting.{SortsByTime};
 ghost use Rattle.perfdata_arrays.specs.Status.{IsCodeOf, code_text};
 ghost use Rattle.perfdata_arrays.specs.Strings.{ReadsString};
+ghost use Rattle.perfdata_arrays.specs.SymbolTables.{ReadsSymbolTables};
 ghost use Rattle.dewikura.specs.Numbers.{endian_from, number_of_bool};
 
 use linux_perf_data::Endianness;
@@ -30,11 +33,14 @@ use perfdata_arrays::build_ids::BuildId;
 use perfdata_arrays::feature_set::FeatureBits;
 use perfdata_arrays::jit::{JitHeader, JitLoad, JitRecord};
 use perfdata_arrays::jit_bodies::{JitMove, JitUnwinding};
+use perfdata_arrays::jit_debug::JitDebugEntry;
+use perfdata_arrays::meta_info::MetaPair;
 use perfdata_arrays::record::Record;
 use perfdata_arrays::strings::StringEntry;
+use perfdata_arrays::symbol_tables::{Symbol, SymbolFile, SymbolTotals};
 use perfdata_arrays::{
-    attrs, build_ids, byte_order, feature_set, features, jit, jit_bodies, records, sort, status,
-    strings,
+    attrs, build_ids, byte_order, feature_set, features, jit, jit_bodies, jit_debug, meta_info,
+    records, sort, status, strings, symbol_tables,
 };
 use std::alloc::Global;
 
@@ -242,6 +248,43 @@ pub extern "C" fn dewikura_read_string_raw(
     strings::string_at(endian_of(is_big_endian), section, offset, entry).code()
 }
 
+/// Reads the pairs of simpleperf's meta info, as `meta_info::meta_info` does.
+#[unsafe(no_mangle)]
+pub extern "C" fn dewikura_read_meta_info_raw(
+    section: &[u8],
+    entries: &mut [MetaPair],
+    count: &mut u64,
+) -> u32
+    ensures { IsCodeOf result (λ s. ReadsMetaInfo section.now entries.old (record { count = count.new; status = s }) entries.new) }
+{
+    let outcome = meta_info::meta_info(section, entries);
+    *count = outcome.count;
+    outcome.status.code()
+}
+
+/// Reads the files of a symbol table section of simpleperf, as `symbol_tables::symbol_tables` does.
+#[unsafe(no_mangle)]
+pub extern "C" fn dewikura_read_symbol_tables_raw(
+    alloc: Global,
+    section: &[u8],
+    feature: u32,
+    is_big_endian: u32,
+    files: &mut [SymbolFile],
+    symbols: &mut [Symbol],
+    names: &mut [u8],
+    offsets: &mut [u64],
+    totals: &mut SymbolTotals,
+) -> u32
+    ensures { IsCodeOf result (λ s. ReadsSymbolTables feature (endian_from is_big_endian) section.now (record { files = files.old; symbols = symbols.old; names = names.old; offsets = offsets.old }) (record { totals = totals.new; status = s }) (record { files = files.new; symbols = symbols.new; names = names.new; offsets = offsets.new })) }
+{
+    let endian = endian_of(is_big_endian);
+    let outcome = symbol_tables::symbol_tables(
+        alloc, feature, endian, section, files, symbols, names, offsets,
+    );
+    *totals = outcome.totals;
+    outcome.status.code()
+}
+
 /// Reads the header of a jitdump, as `jit::jit_header` does.
 #[unsafe(no_mangle)]
 pub extern "C" fn dewikura_read_jit_header_raw(input: &[u8], header: &mut JitHeader) -> u32
@@ -293,4 +336,22 @@ pub extern "C" fn dewikura_read_jit_unwinding_raw(
     ensures { IsCodeOf result (λ s. ReadsJitUnwinding input.now offset unwinding.old s unwinding.new) }
 {
     jit_bodies::jit_unwinding(input, offset, unwinding).code()
+}
+
+/// Reads the source locations in a debug info record of a jitdump, as `jit_debug::jit_debug_info` does.
+#[unsafe(no_mangle)]
+pub extern "C" fn dewikura_read_jit_debug_info_raw(
+    alloc: Global,
+    input: &[u8],
+    offset: u64,
+    code_address: &mut u64,
+    entries: &mut [JitDebugEntry],
+    count: &mut u64,
+) -> u32
+    ensures { IsCodeOf result (λ s. ReadsJitDebugInfo input.now offset entries.old (record { code_address = code_address.new; count = count.new; status = s }) entries.new) }
+{
+    let outcome = jit_debug::jit_debug_info(alloc, input, offset, entries);
+    *code_address = outcome.code_address;
+    *count = outcome.count;
+    outcome.status.code()
 }

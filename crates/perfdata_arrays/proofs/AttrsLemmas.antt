@@ -1,5 +1,5 @@
 -- Lemmas on the attributes that are written one after another.
-use Rattle.std.proofs.Common.{◌≡◌, ◌≢◌, ℕ, zero, suc, ◌+◌, ◌<◌, ◌++◌, List, [], ◌∷◌, length, take, drop, refl, sym, ap, ◌∙◌, subst, arith, inl, inr, length-append, Some, Ok, get_or}
+use Rattle.std.proofs.Common.{◌≡◌, ◌≢◌, ℕ, zero, suc, ◌+◌, ◌<◌, ◌++◌, List, [], ◌∷◌, length, take, drop, refl, sym, ap, ◌∙◌, arith, inl, inr, length-append, Ok, get_or}
 use Rattle.std.specs.Prelude.{flat_map}
 use Rattle.std.proofs.lemmas.List.{append-nil, take-append-drop, length-take-le}
 use Rattle.std.proofs.lemmas.Grind.{flat_map-append, take_at_read}
@@ -27,14 +27,8 @@ use Rattle.perfdata_arrays.specs.declared.status.Status.{Status}
 use Rattle.perfdata_arrays.specs.declared.status.Status.TheVariants.{OutOfMemory, Success}
 use Rattle.perfdata_arrays.specs.declared.record.Record.{Record}
 use Rattle.perfdata_arrays.specs.declared.records.WalkResult.{WalkResult}
-use Rattle.perfdata_arrays.proofs.OverwriteLemmas.{with_prefix-nil}
+use Rattle.perfdata_arrays.proofs.OverwriteLemmas.{with_entries_at-with_prefix}
 use Rattle.perfdata_arrays.proofs.PipeRecordsLemmas.{is_pipe_with_records}
-
--- more entries follow those that are written
-with_entries_at-with_prefix : {T : Type 0} (done more buffer : List T) → with_entries_at (length done) more (with_prefix done buffer) ≡ with_prefix (done ++ more) buffer
-with_entries_at-with_prefix [] more buffer = refl
-with_entries_at-with_prefix (x ∷ done) more [] = with_prefix-nil more
-with_entries_at-with_prefix (x ∷ done) more (o ∷ os) = ap (λ l. x ∷ l) (with_entries_at-with_prefix done more os)
 
 flat_map-snoc : {X : Type 0} (f : X → List ℕ) (xs : List X) (x : X) → flat_map f (xs ++ x ∷ []) ≡ flat_map f xs ++ f x
 flat_map-snoc f xs x = flat_map-append f xs (x ∷ []) ∙ ap (λ l. flat_map f xs ++ l) (append-nil (f x))

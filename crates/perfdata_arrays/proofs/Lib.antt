@@ -12,3 +12,6 @@ pub mod FeaturesLemmas
 pub mod FeatureSetsLemmas
 pub mod AttrsLemmas
 pub mod BuildIdsLemmas
+pub mod MetaPairsLemmas
+pub mod SymbolTablesLemmas
+pub mod JitDebugLemmas

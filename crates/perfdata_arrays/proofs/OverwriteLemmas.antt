@@ -1,5 +1,5 @@
 -- Lemmas on entries that are written over a prefix of an array, one by one or many at once.
-use Rattle.std.proofs.Common.{◌≡◌, ℕ, zero, suc, ◌-◌, ◌<◌, ◌≤◌, List, [], ◌∷◌, ◌++◌, length, take, drop, refl, sym, ap, ◌∙◌, arith, length-append, length-drop}
+use Rattle.std.proofs.Common.{◌≡◌, ℕ, zero, suc, ◌+◌, ◌-◌, ◌<◌, ◌≤◌, List, [], ◌∷◌, ◌++◌, length, take, drop, refl, sym, ap, ◌∙◌, arith, length-append, length-drop}
 use Rattle.std.specs.Prelude.{slice_set, min}
 use Rattle.std.proofs.lemmas.List.{drop-append-le, append-nil, take_all}
 use Rattle.std.proofs.Math.ListN.{drop_of_length-le}
@@ -73,3 +73,21 @@ take-with_prefix (suc n) (x ∷ es) (o ∷ os) is = ap (λ l. x ∷ l) (take-wit
 -- a part that reaches the end is everything from its start on
 pub take-drop-length : {T : Type 0} (n : ℕ) (xs : List T) → take (length xs - n) (drop n xs) ≡ drop n xs
 take-drop-length n xs = take_all (length xs - n) (drop n xs) (omega (arith, length-drop n xs))
+
+-- more entries follow those that are written
+pub with_entries_at-with_prefix : {T : Type 0} (done more buffer : List T) → with_entries_at (length done) more (with_prefix done buffer) ≡ with_prefix (done ++ more) buffer
+with_entries_at-with_prefix [] more buffer = refl
+with_entries_at-with_prefix (x ∷ done) more [] = with_prefix-nil more
+with_entries_at-with_prefix (x ∷ done) more (o ∷ os) = ap (λ l. x ∷ l) (with_entries_at-with_prefix done more os)
+
+with_entries_at-nil : {T : Type 0} (at : ℕ) (es : List T) → with_entries_at at es [] ≡ []
+with_entries_at-nil zero es = with_prefix-nil es
+with_entries_at-nil (suc n) es = with_prefix-nil es
+
+-- more entries after entries at an index
+pub with_entries_at-more : {T : Type 0} (at next : ℕ) (done more buffer : List T) → next ≡ at + length done → with_entries_at next more (with_entries_at at done buffer) ≡ with_entries_at at (done ++ more) buffer
+with_entries_at-more at next done more [] is =
+    ap (with_entries_at next more) (with_entries_at-nil at done) ∙ with_entries_at-nil next more ∙ sym (with_entries_at-nil at (done ++ more))
+with_entries_at-more zero next done more (o ∷ os) is = (let e : next ≡ length done = omega (arith, is) in ap (λ n. with_entries_at n more (with_prefix done (o ∷ os))) e ∙ with_entries_at-with_prefix done more (o ∷ os))
+with_entries_at-more (suc at) zero done more (o ∷ os) is = absurd (omega (arith, is))
+with_entries_at-more (suc at) (suc next) done more (o ∷ os) is = ap (λ l. o ∷ l) (with_entries_at-more at next done more os (omega (arith, is)))

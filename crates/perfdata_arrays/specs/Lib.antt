@@ -6,7 +6,10 @@ pub mod Sorting
 pub mod Walk
 pub mod Jit
 pub mod JitBodies
+pub mod JitDebug
 pub mod Strings
+pub mod MetaPairs
+pub mod SymbolTables
 pub mod Features
 pub mod FeatureSets
 pub mod Attrs

@@ -12,7 +12,7 @@ use Rattle.perfdata_sections.specs.declared.error.ReadError.TheVariants as part
 use Rattle.perfdata_jit.specs.declared.error.JitDumpError.{JitDumpError}
 use Rattle.perfdata_jit.specs.declared.error.JitDumpError.TheVariants as jit
 use Rattle.perfdata_arrays.specs.declared.status.Status.{Status}
-use Rattle.perfdata_arrays.specs.declared.status.Status.TheVariants.{Success, OutOfMemory, Truncated, InvalidData, InvalidHeaderSize, Compressed, Other, BadMagic, NoAttributes, BadDataSection, BadAttribute, AttributeTooLarge, MissingIdentifier, SampleIdAllMismatch, NoEventTypes, InvalidUtf8, BadRecordSize, TruncatedRecord, JitTruncatedHeader, JitBadHeaderSize, JitBadMagic, JitBadRecordSize, JitWrongType, JitBadBody}
+use Rattle.perfdata_arrays.specs.declared.status.Status.TheVariants.{Success, OutOfMemory, Truncated, InvalidData, InvalidHeaderSize, Compressed, Other, BadMagic, NoAttributes, BadDataSection, BadAttribute, AttributeTooLarge, MissingIdentifier, SampleIdAllMismatch, NoEventTypes, InvalidUtf8, BadRecordSize, TruncatedRecord, JitTruncatedHeader, JitBadHeaderSize, JitBadMagic, JitBadRecordSize, JitWrongType, JitBadBody, BadSymbolTable}
 
 -- the code of a status
 abbrev pub status_code : Status → ℕ
@@ -40,6 +40,7 @@ status_code JitBadMagic = 20
 status_code JitBadRecordSize = 21
 status_code JitWrongType = 22
 status_code JitBadBody = 23
+status_code BadSymbolTable = 24
 
 -- the number is the code of a status with this property
 abbrev pub IsCodeOf : ℕ → (Status → Type 0) → Type 0
@@ -71,7 +72,8 @@ status_texts =
     (20, codes "not a jitdump") ∷
     (21, codes "a jitdump record contains a size below 16, or ends past 2^64 - 1") ∷
     (22, codes "the jitdump record has another type") ∷
-    (23, codes "the body of the jitdump record is malformed") ∷ []
+    (23, codes "the body of the jitdump record is malformed") ∷
+    (24, codes "a record of simpleperf's symbol tables is malformed") ∷ []
 
 -- the text of a status code
 unfoldable pub code_text : ℕ → List ℕ
@@ -105,6 +107,9 @@ error_status (error.InconsistentSampleIdAllWithMultiEvent i) = SampleIdAllMismat
 error_status error.NoEventTypesInSimpleperfMetaInfo = NoEventTypes
 error_status error.StringUtf8 = InvalidUtf8
 error_status error.InvalidPerfEventSize = BadRecordSize
+error_status error.FeatureSectionTooSmall = Truncated
+error_status (error.ProtobufParsingSimpleperfFileSection e) = BadSymbolTable
+error_status (error.ParsingSimpleperfFileV1Section e) = BadSymbolTable
 error_status _ = Other
 
 -- the status of a jitdump header's error

@@ -1,4 +1,4 @@
-//! The bodies of the other records of a jitdump: move and unwinding info.
+//! The bodies of the move and unwinding info records of a jitdump.
 ghost use Rattle.std.specs.Prelude.{◌≡◌, ◌+◌, ◌-◌, ◌^◌, ◌<◌, ◌≤◌, IfOk, length, take, drop};
 ghost use Rattle.perfdata_arrays.specs.JitBodies.{FindsBody, ReadsJitMove, ReadsJitUnwinding, move_entry, unwinding_entry};
 
@@ -69,7 +69,11 @@ fn body_of<'a>(bytes: &'a [u8], entry: &JitRecord) -> &'a [u8]
 }
 
 // The body of the record at `offset`, if it has this type, and the byte order of the file.
-fn body_at(bytes: &[u8], offset: u64, record_type: u32) -> Result<(Endianness, &[u8]), Status>
+pub(crate) fn body_at(
+    bytes: &[u8],
+    offset: u64,
+    record_type: u32,
+) -> Result<(Endianness, &[u8]), Status>
     ensures body { FindsBody bytes.now offset record_type result }
     ensures in_bounds { IfOk result (λ r. offset + 16 + length r.1.now ≤ length bytes.now) }
     ensures fits { IfOk result (λ r. length bytes.now < 2 ^ 63) }

@@ -82,6 +82,9 @@ pub enum Status {
 
     /// The body of the jitdump record is malformed.
     JitBadBody,
+
+    /// A record of a symbol table section of simpleperf is malformed.
+    BadSymbolTable,
 }
 
 impl Status {
@@ -114,6 +117,7 @@ impl Status {
             Status::JitBadRecordSize => 21,
             Status::JitWrongType => 22,
             Status::JitBadBody => 23,
+            Status::BadSymbolTable => 24,
         }
     }
 }
@@ -148,6 +152,7 @@ fn text_of_code(code: u32) -> &'static str
         21 => "a jitdump record contains a size below 16, or ends past 2^64 - 1",
         22 => "the jitdump record has another type",
         23 => "the body of the jitdump record is malformed",
+        24 => "a record of simpleperf's symbol tables is malformed",
         _ => "unknown status",
     }
 }
@@ -216,6 +221,9 @@ pub fn status_of_error(error: &Error) -> Status
         Error::NoEventTypesInSimpleperfMetaInfo => Status::NoEventTypes,
         Error::StringUtf8 => Status::InvalidUtf8,
         Error::InvalidPerfEventSize => Status::BadRecordSize,
+        Error::FeatureSectionTooSmall => Status::Truncated,
+        Error::ProtobufParsingSimpleperfFileSection(_) => Status::BadSymbolTable,
+        Error::ParsingSimpleperfFileV1Section(_) => Status::BadSymbolTable,
         _ => Status::Other,
     }
 }

@@ -1,0 +1,76 @@
+-- The results for the pairs of simpleperf's meta info.
+use Rattle.std.specs.Prelude.{◌≡◌, ◌⊎◌, ℕ, ◌+◌, ◌≤◌, ◌<◌, List, [], ◌∷◌, ◌++◌, length, drop, All, Option, None, Some}
+use Rattle.std.specs.Borrow.{Bor}
+use Rattle.perfdata_sections.specs.HeaderString.{before_nul}
+use Rattle.perfdata_simpleperf.specs.MetaInfo.{IsUtf8Pair, Pair, meta_pairs, nul_segments, pair_up}
+use Rattle.perfdata_arrays.specs.Overwrites.{with_prefix}
+use Rattle.perfdata_arrays.specs.Records.{HasBytesAt}
+use Rattle.perfdata_arrays.specs.declared.meta_info.MetaInfoResult.{MetaInfoResult}
+use Rattle.perfdata_arrays.specs.declared.meta_info.MetaPair.{MetaPair}
+use Rattle.perfdata_arrays.specs.declared.status.Status.TheVariants.{InvalidUtf8, Success}
+
+-- ---- entries
+
+-- the entry of a pair whose key is at an offset; a NUL follows the key
+abbrev pub pair_entry_at : ℕ → Pair → MetaPair
+pair_entry_at offset p = record {
+  key_offset = offset;
+  key_size = length p.0;
+  value_offset = offset + length p.0 + 1;
+  value_size = length p.1;
+}
+
+-- the offset after a pair and the NUL that follows its value
+abbrev pub offset_after : ℕ → Pair → ℕ
+offset_after offset p = offset + length p.0 + 1 + length p.1 + 1
+
+-- the entries of consecutive pairs
+abbrev pub pair_entries_at : ℕ → List Pair → List MetaPair
+pair_entries_at offset [] = []
+pair_entries_at offset (p ∷ ps) = pair_entry_at offset p ∷ pair_entries_at (offset_after offset p) ps
+
+-- the key and the value of a pair are at the offsets in its entry
+abbrev pub HasPairAt : List ℕ → ℕ → Pair → Type 0
+HasPairAt section offset p = HasBytesAt section offset p.0 × HasBytesAt section (offset + length p.0 + 1) p.1
+
+-- the same for consecutive pairs
+abbrev pub HasPairsAt : List ℕ → ℕ → List Pair → Type 0
+HasPairsAt section offset [] = Unit {0}
+HasPairsAt section offset (p ∷ ps) = HasPairAt section offset p × HasPairsAt section (offset_after offset p) ps
+
+-- ---- segments
+
+-- the section has these segments from an offset on, and none past its end
+abbrev pub AreSegmentsFrom : List ℕ → ℕ → List (List ℕ) → Type 0
+AreSegmentsFrom section offset segments =
+    ((offset ≤ length section) × (segments ≡ nul_segments (drop offset section))) ⊎ ((length section < offset) × (segments ≡ []))
+
+-- the segment at an offset
+abbrev pub FindsSegment : List ℕ → ℕ → Option (Bor (List ℕ)) → Type 0
+FindsSegment section offset None = length section < offset
+FindsSegment section offset (Some segment) = (offset ≤ length section) × (segment.now ≡ before_nul (drop offset section))
+
+-- The segments from an offset on begin with this pair.
+pub record IsPairAt (section : List ℕ) (offset : ℕ) (p : Pair) : Type 0 where
+  pub within : offset_after offset p ≤ length section + 1
+  pub bytes_at : HasPairAt section offset p
+  pub is_next : (segments : List (List ℕ)) → AreSegmentsFrom section offset segments → (later : List (List ℕ)) × (pair_up segments ≡ p ∷ pair_up later) × AreSegmentsFrom section (offset_after offset p) later
+
+-- the pair at an offset; or fewer than two segments follow
+abbrev pub FindsPair : List ℕ → ℕ → Option (Bor (List ℕ) × Bor (List ℕ)) → Type 0
+FindsPair section offset None = (segments : List (List ℕ)) → AreSegmentsFrom section offset segments → pair_up segments ≡ []
+FindsPair section offset (Some p) = IsPairAt section offset (p.0.now, p.1.now)
+
+-- ---- the result
+
+-- The entries of all pairs are written and counted; or those of the pairs before the first that isn't UTF-8.
+pub record ReadsMetaInfo (section : List ℕ) (old : List MetaPair) (result : MetaInfoResult) (new : List MetaPair) : Type 0 where
+  pub pairs : List Pair
+  pub later : List Pair
+  pub split : meta_pairs section ≡ pairs ++ later
+  pub all_utf8 : All IsUtf8Pair pairs
+  pub count : result.count ≡ length pairs
+  pub written : new ≡ with_prefix (pair_entries_at 0 pairs) old
+  pub bytes_at : HasPairsAt section 0 pairs
+  pub ends : ((result.status ≡ Success) × (later ≡ []))
+      ⊎ ((result.status ≡ InvalidUtf8) × ((p : Pair) × ((rest : List Pair) × (later ≡ p ∷ rest) × (¬ IsUtf8Pair p))))
