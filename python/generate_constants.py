@@ -11,6 +11,7 @@ ENUMS = [
     ("Feature", "dewikura_feature", "DEWIKURA_FEATURE_", "The number of a feature."),
     ("EventType", "dewikura_event_type", "DEWIKURA_TYPE_", "The type of an event attribute."),
     ("DsoKind", "dewikura_dso_kind", "DEWIKURA_DSO_", "The DSO kind of a build id's path."),
+    ("SymbolFileType", "dewikura_symbol_file_type", "DEWIKURA_SYMBOL_FILE_", "The type of a file in simpleperf's symbol tables."),
     ("JitRecordType", "dewikura_jit_record_type", "DEWIKURA_JIT_", "The type of a jitdump record."),
 ]
 FLAGS = [

@@ -9,6 +9,7 @@ import mmap
 import os
 import pathlib
 import random
+import struct
 import subprocess
 import tempfile
 import unittest
@@ -106,6 +107,39 @@ class RecordingTest(unittest.TestCase):
                 wanted = sorted(recording.records, key=lambda record: 0 if record.timestamp in (None, 2 ** 64 - 1) else record.timestamp)
                 self.assertEqual([bytes(record) for record in recording.records_by_time()], [bytes(record) for record in wanted])
 
+    def test_simpleperf(self):
+        meta_info = b"event_type_info\0cpu-cycles,0,0\0simpleperf_version\x001.build.9\0empty\0\0simpleperf_version\x001.build.10\0unpaired"
+        kernel = b"[kernel]\0" + struct.pack("<IQI", 0, 0xffff000000000000, 0)
+        elf = b"/system/lib64/libc.so\0" + struct.pack("<IQI", 2, 0x1000, 2)
+        elf += struct.pack("<QI", 0x1010, 16) + b"malloc\0" + struct.pack("<QI", 0x1020, 8) + "größe\0".encode() + struct.pack("<Q", 0x400)
+        dex = b"/data/app/base.vdex\0" + struct.pack("<IQII", 3, 0, 0, 2) + struct.pack("<QQ", 0x28, 0x5000)
+        files = b"".join(struct.pack("<I", len(file)) + file for file in (kernel, elf, dex))
+        kinds = dewikura.SymbolFileType
+        data = with_features({dewikura.Feature.SIMPLEPERF_FILE: files, dewikura.Feature.SIMPLEPERF_META_INFO: meta_info})
+        with dewikura.from_buffer(data) as recording:
+            self.assertEqual(recording.simpleperf_meta_info, {
+                "event_type_info": "cpu-cycles,0,0", "simpleperf_version": "1.build.10", "empty": ""})
+            self.assertEqual([attr.name for attr in recording.attributes], ["cpu-cycles"])
+            self.assertEqual(recording.simpleperf_symbols, (
+                ("[kernel]", kinds.KERNEL, 0xffff000000000000, (), None, ()),
+                ("/system/lib64/libc.so", kinds.ELF, 0x1000, ((0x1010, 16, "malloc"), (0x1020, 8, "größe")), 0x400, ()),
+                ("/data/app/base.vdex", kinds.DEX, 0, (), None, (0x28, 0x5000)),
+            ))
+            self.assertIs(recording.simpleperf_symbols, recording.simpleperf_symbols)
+        file2 = b"\x0a\x04/a.o\x10\x01\x18\x80\x20\x22\x06\x08\x81\x20\x1a\x01f\x3a\x02\x08\x07"
+        data = with_features({dewikura.Feature.SIMPLEPERF_FILE: files, dewikura.Feature.SIMPLEPERF_FILE2: struct.pack("<I", len(file2)) + file2})
+        with dewikura.from_buffer(data) as recording:
+            self.assertEqual(recording.simpleperf_symbols, (("/a.o", kinds.KERNEL_MODULE, 0x1000, ((0x1001, 0, "f"),), 7, ()),))
+        for section, status in ((files[:-1], dewikura.Status.TRUNCATED), (struct.pack("<I", 4) + b"/a\0\1", dewikura.Status.BAD_SYMBOL_TABLE)):
+            with self.assertRaises(dewikura.FormatError) as caught:
+                dewikura.from_buffer(with_features({dewikura.Feature.SIMPLEPERF_FILE: section})).simpleperf_symbols
+            self.assertEqual(caught.exception.status, status)
+        with self.assertRaises(dewikura.FormatError) as caught:
+            dewikura.from_buffer(with_features({dewikura.Feature.SIMPLEPERF_META_INFO: b"key\0\xff\0"})).simpleperf_meta_info
+        self.assertEqual(caught.exception.status, dewikura.Status.INVALID_UTF8)
+        with dewikura.open(CALLS) as recording:
+            self.assertEqual((recording.simpleperf_meta_info, recording.simpleperf_symbols), ({}, ()))
+
     def test_errors(self):
         data = FIRST.read_bytes()
         with self.assertRaises(dewikura.TruncatedError) as caught:
@@ -145,6 +179,30 @@ def last_index(data):
     return len(dewikura.from_buffer(data).records) - 1
 
 
+def with_features(sections):
+    """A file with one attribute, no records, and these feature sections."""
+    features = sum(1 << number for number in sections).to_bytes(32, "little")
+    header = b"PERFILE2" + struct.pack("<9Q", 104, 80, 104, 80, 184, 0, 0, 0, 0)[:64] + features
+    attr = struct.pack("<IIQ", 1, 64, 0).ljust(80, b"\0")
+    table, data = b"", b""
+    for _, section in sorted(sections.items()):
+        table += struct.pack("<QQ", len(header + attr) + 16 * len(sections) + len(data), len(section))
+        data += section
+    return header + attr + table + data
+
+
+def debug_info(data, offset):
+    """The debug info record at an offset of a jitdump, parsed by the format's description."""
+    code_address, count = struct.unpack_from("<QQ", data, offset + 16)
+    entries, offset = [], offset + 32
+    for _ in range(count):
+        entry = struct.unpack_from("<QII", data, offset)
+        end = data.index(b"\0", offset + 16)
+        entries.append((*entry, data[offset + 16:end]))
+        offset = end + 1
+    return code_address, tuple(entries)
+
+
 class JitDumpTest(unittest.TestCase):
     def test_loads(self):
         with dewikura.open_jitdump(DUMP) as jitdump:
@@ -164,6 +222,16 @@ class JitDumpTest(unittest.TestCase):
             self.assertRaises(dewikura.TruncatedError, lambda: jitdump.load(records.next_offset))
             self.assertEqual(len(jitdump.records(records[5].offset)), len(records) - 5)
             del loads
+
+    def test_debug_info(self):
+        data = DUMP.read_bytes()
+        with dewikura.open_jitdump(DUMP) as jitdump:
+            records = [record for record in jitdump.records() if record.type == dewikura.JitRecordType.CODE_DEBUG_INFO]
+            found = [jitdump.debug_info(record) for record in records]
+            self.assertEqual(found, [debug_info(data, record.offset) for record in records])
+            self.assertTrue(any(len(info.entries) > 1 for info in found))
+            load = next(record for record in jitdump.records() if record.type == dewikura.JitRecordType.CODE_LOAD)
+            self.assertRaises(dewikura.FormatError, lambda: jitdump.debug_info(load))
 
     def test_growing_file(self):
         data = DUMP.read_bytes()

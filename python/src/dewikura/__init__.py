@@ -3,16 +3,17 @@
 from ._native import library_version
 from ._structs import JitRecord, Record
 from .constants import VERSION as _VERSION
-from .constants import AttrFlag, DsoKind, EventType, Feature, JitRecordType, ReadFormat, RecordType, SampleType, Status
+from .constants import AttrFlag, DsoKind, EventType, Feature, JitRecordType, ReadFormat, RecordType, SampleType, Status, SymbolFileType
 from .errors import FormatError, PerfDataError, TruncatedError, UnsupportedError
-from .jitdump import JitDump, JitHeader, JitLoad, JitMove, JitRecords, JitUnwinding, jitdump_from_buffer, open_jitdump
-from .recording import Attribute, BuildId, Kind, Recording, Records, from_buffer, open
+from .jitdump import (JitDebugEntry, JitDebugInfo, JitDump, JitHeader, JitLoad, JitMove, JitRecords, JitUnwinding, jitdump_from_buffer,
+                      open_jitdump)
+from .recording import Attribute, BuildId, Kind, Recording, Records, Symbol, SymbolFile, from_buffer, open
 
 __version__ = ".".join(map(str, _VERSION))
 
 __all__ = [
-    "AttrFlag", "Attribute", "BuildId", "DsoKind", "EventType", "Feature", "FormatError", "JitDump", "JitHeader", "JitLoad",
-    "JitMove", "JitRecord", "JitRecordType", "JitRecords", "JitUnwinding", "Kind", "PerfDataError", "ReadFormat", "Record", "RecordType",
-    "Recording", "Records", "SampleType", "Status", "TruncatedError", "UnsupportedError", "from_buffer", "jitdump_from_buffer", "library_version", "open",
-    "open_jitdump",
+    "AttrFlag", "Attribute", "BuildId", "DsoKind", "EventType", "Feature", "FormatError", "JitDebugEntry", "JitDebugInfo",
+    "JitDump", "JitHeader", "JitLoad", "JitMove", "JitRecord", "JitRecordType", "JitRecords", "JitUnwinding", "Kind", "PerfDataError",
+    "ReadFormat", "Record", "RecordType", "Recording", "Records", "SampleType", "Status", "Symbol", "SymbolFile", "SymbolFileType",
+    "TruncatedError", "UnsupportedError", "from_buffer", "jitdump_from_buffer", "library_version", "open", "open_jitdump",
 ]

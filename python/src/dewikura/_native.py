@@ -52,11 +52,15 @@ read_feature_set = _declare_reads("feature_set", POINTER(_structs.FeatureSet))
 read_feature = _declare_reads("feature", u32, POINTER(u8), size, POINTER(u8), POINTER(u64))
 read_build_id = _declare_read("read_build_id_raw", u32, u64, POINTER(_structs.BuildIdEntry))
 read_string = _declare_read("read_string_raw", u32, u64, POINTER(_structs.StringStruct))
+read_meta_info = _declare_read("read_meta_info_raw", POINTER(_structs.MetaPairStruct), size, POINTER(u64))
+read_symbol_tables = _declare_read("read_symbol_tables_raw", u32, u32, POINTER(_structs.SymbolFileStruct), size, POINTER(_structs.SymbolStruct),
+                                   size, POINTER(u8), size, POINTER(u64), size, POINTER(_structs.SymbolTotals))
 read_jit_header = _declare_read("read_jit_header_raw", POINTER(_structs.JitHeaderStruct))
 read_jit_records = _declare_read("read_jit_records_raw", u64, POINTER(_structs.JitRecord), size, POINTER(u64), POINTER(u64))
 read_jit_load = _declare_read("read_jit_load_raw", u64, POINTER(_structs.JitLoadStruct))
 read_jit_move = _declare_read("read_jit_move_raw", u64, POINTER(_structs.JitMoveStruct))
 read_jit_unwinding = _declare_read("read_jit_unwinding_raw", u64, POINTER(_structs.JitUnwindingStruct))
+read_jit_debug_info = _declare_read("read_jit_debug_info_raw", u64, POINTER(u64), POINTER(_structs.JitDebugEntryStruct), size, POINTER(u64))
 
 
 def library_version() -> "tuple[int, int, int]":

@@ -89,6 +89,32 @@ class StringStruct(ctypes.Structure):
     _fields_ = [("text_offset", u64), ("text_size", u64), ("next_offset", u64)]
 
 
+class MetaPairStruct(ctypes.Structure):
+    """The positions of a key and its value in simpleperf's meta info."""
+
+    _fields_ = [("key_offset", u64), ("key_size", u64), ("value_offset", u64), ("value_size", u64)]
+
+
+class SymbolFileStruct(ctypes.Structure):
+    """A file of simpleperf's symbol tables."""
+
+    _fields_ = [*((name, u64) for name in (
+        "path_offset", "path_size", "min_vaddr", "symbols_start", "symbols_count", "min_vaddr_offset", "dex_offsets_start",
+        "dex_offsets_count")), ("type", u32), ("info_type", u32)]
+
+
+class SymbolStruct(ctypes.Structure):
+    """A symbol of a file."""
+
+    _fields_ = [("vaddr", u64), ("size", u64), ("name_offset", u64), ("name_size", u64)]
+
+
+class SymbolTotals(ctypes.Structure):
+    """The totals over all files of simpleperf's symbol tables."""
+
+    _fields_ = [("file_count", u64), ("symbol_count", u64), ("names_size", u64), ("dex_offset_count", u64)]
+
+
 class JitHeaderStruct(ctypes.Structure):
     """The header of a jitdump."""
 
@@ -134,7 +160,14 @@ class JitUnwindingStruct(ctypes.Structure):
         "mapped_size", "eh_frame_hdr_offset", "eh_frame_hdr_size", "eh_frame_offset", "eh_frame_size")]
 
 
+class JitDebugEntryStruct(ctypes.Structure):
+    """A source location in a debug info record of a jitdump."""
+
+    _fields_ = [("code_address", u64), ("path_offset", u64), ("path_size", u64), ("line", u32), ("column", u32)]
+
+
 for _struct, _size in ((Record, 56), (Attr, 168), (AttrTotals, 24), (FeatureSet, 32), (BuildIdEntry, 48), (JitHeaderStruct, 40),
-                       (JitRecord, 24), (JitLoadStruct, 64), (StringStruct, 24), (JitMoveStruct, 48), (JitUnwindingStruct, 40)):
+                       (JitRecord, 24), (JitLoadStruct, 64), (StringStruct, 24), (JitMoveStruct, 48), (JitUnwindingStruct, 40),
+                       (MetaPairStruct, 32), (SymbolFileStruct, 72), (SymbolStruct, 32), (SymbolTotals, 32), (JitDebugEntryStruct, 32)):
     if ctypes.sizeof(_struct) != _size:
         raise ImportError(f"{_struct.__name__} has {ctypes.sizeof(_struct)} bytes instead of {_size}")

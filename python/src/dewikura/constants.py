@@ -30,6 +30,7 @@ class Status(enum.IntEnum):
     JIT_BAD_RECORD_SIZE = 21
     JIT_WRONG_TYPE = 22
     JIT_BAD_BODY = 23
+    BAD_SYMBOL_TABLE = 24
 
 
 class RecordType(enum.IntEnum):
@@ -151,6 +152,17 @@ class DsoKind(enum.IntEnum):
     VSYSCALL = 6
     KERNEL_MODULE = 7
     USER = 8
+
+
+class SymbolFileType(enum.IntEnum):
+    """The type of a file in simpleperf's symbol tables."""
+
+    KERNEL = 0
+    KERNEL_MODULE = 1
+    ELF = 2
+    DEX = 3
+    SYMBOL_MAP = 4
+    UNKNOWN = 5
 
 
 class JitRecordType(enum.IntEnum):

@@ -5,7 +5,7 @@ import ctypes
 import dataclasses
 import mmap
 from ctypes import c_uint64 as u64
-from typing import Any, ContextManager, Iterator, NamedTuple, Optional, Union
+from typing import Any, ContextManager, Iterator, NamedTuple, Optional, Tuple, Union
 
 from . import _native, _structs
 from ._arrays import StructSequence
@@ -71,6 +71,22 @@ class JitUnwinding(NamedTuple):
     mapped_size: int
     eh_frame_hdr: memoryview
     eh_frame: memoryview
+
+
+class JitDebugEntry(NamedTuple):
+    """The source location of the code from its address up to the address of the next location. The column is 0 if it is unknown."""
+
+    code_address: int
+    line: int
+    column: int
+    path: bytes
+
+
+class JitDebugInfo(NamedTuple):
+    """A debug info record of a jitdump."""
+
+    code_address: int
+    entries: Tuple[JitDebugEntry, ...]
 
 
 class JitDump(ContextManager["JitDump"]):
@@ -159,6 +175,20 @@ class JitDump(ContextManager["JitDump"]):
         eh_frame_hdr = data[found.eh_frame_hdr_offset:found.eh_frame_hdr_offset + found.eh_frame_hdr_size]
         eh_frame = data[found.eh_frame_offset:found.eh_frame_offset + found.eh_frame_size]
         return JitUnwinding(found.mapped_size, eh_frame_hdr.toreadonly(), eh_frame.toreadonly())
+
+    def debug_info(self, record: Union[JitRecord, int]) -> JitDebugInfo:
+        """Returns a debug info record, which is given as a record or by its offset."""
+        data, code_address, count, capacity = self._data, u64(), u64(), 0
+        with _native.Input(data) as (address, size):
+            while True:
+                entries = (_structs.JitDebugEntryStruct * max(capacity, 1))()
+                check(_native.read_jit_debug_info(address, size, _offset_of(record), code_address, entries, capacity, count))
+                if count.value <= capacity:
+                    break
+                capacity = count.value
+        return JitDebugInfo(code_address.value, tuple(
+            JitDebugEntry(entry.code_address, entry.line, entry.column, bytes(data[entry.path_offset:entry.path_offset + entry.path_size]))
+            for entry in entries[:count.value]))
 
     def loads(self) -> Iterator[JitLoad]:
         """Iterates over all load records."""

@@ -15,7 +15,7 @@ from typing import Any, ContextManager, Iterator, Literal, Mapping, NamedTuple, 
 from . import _native, _structs
 from ._arrays import StructSequence
 from ._structs import Record, known
-from .constants import AttrFlag, DsoKind, EventType, Feature, ReadFormat, SampleType, Status
+from .constants import AttrFlag, DsoKind, EventType, Feature, ReadFormat, SampleType, Status, SymbolFileType
 from .errors import PerfDataError, check, error_of
 
 if sys.version_info >= (3, 12):
@@ -100,6 +100,42 @@ class BuildId(NamedTuple):
     path: bytes
     kind: DsoKind
     pid: int
+
+
+class Symbol(NamedTuple):
+    """A symbol of a file. Its address is one in the file's own address space, and its size is in bytes."""
+
+    vaddr: int
+    size: int
+    name: str
+
+
+class SymbolFile(NamedTuple):
+    """A file of simpleperf's symbol tables.
+
+    `min_vaddr_offset` is where the lowest address `min_vaddr` is in an ELF file, or in the memory of a kernel module; None for others.
+    `dex_offsets` are the offsets of the DEX files in a file with DEX code.
+    """
+
+    path: str
+    type: Union[SymbolFileType, int]
+    min_vaddr: int
+    symbols: Tuple[Symbol, ...]
+    min_vaddr_offset: Optional[int]
+    dex_offsets: Tuple[int, ...]
+
+
+def _symbol_file(file: _structs.SymbolFileStruct, symbols, names: bytes, offsets) -> SymbolFile:
+    def text(offset: int, size: int) -> str:
+        return names[offset:offset + size].decode("utf-8")
+
+    own = symbols[file.symbols_start:file.symbols_start + file.symbols_count]
+    has_offset = file.info_type in (SymbolFileType.KERNEL_MODULE, SymbolFileType.ELF)
+    return SymbolFile(
+        text(file.path_offset, file.path_size), known(SymbolFileType, file.type), file.min_vaddr,
+        tuple(Symbol(symbol.vaddr, symbol.size, text(symbol.name_offset, symbol.name_size)) for symbol in own),
+        file.min_vaddr_offset if has_offset else None,
+        tuple(offsets[file.dex_offsets_start:file.dex_offsets_start + file.dex_offsets_count]))
 
 
 class _Features(Mapping[int, memoryview]):
@@ -206,6 +242,16 @@ class Recording(ContextManager["Recording"]):
     def build_ids(self) -> Tuple[BuildId, ...]:
         """The entries of the BUILD_ID section; empty without one."""
         return self._keep("build_ids", self._read_build_ids)
+
+    @property
+    def simpleperf_meta_info(self) -> Mapping[str, str]:
+        """Simpleperf's meta info on the recording; empty without it. The last value of a key counts."""
+        return self._keep("simpleperf_meta_info", lambda _data: self._read_meta_info())
+
+    @property
+    def simpleperf_symbols(self) -> Tuple[SymbolFile, ...]:
+        """The files of simpleperf's symbol tables, with their symbols; empty without these tables."""
+        return self._keep("simpleperf_symbols", lambda _data: self._read_symbol_tables())
 
     def strings(self, feature: int, start: int = 0) -> Iterator[str]:
         """Iterates over the strings of a feature section, from an offset on; none if the recording doesn't have the section."""
@@ -339,6 +385,41 @@ class Recording(ContextManager["Recording"]):
         if status != Status.TRUNCATED:
             check(status)
         return tuple(found)
+
+
+    def _read_meta_info(self) -> Mapping[str, str]:
+        section, count, capacity = self.features.get(Feature.SIMPLEPERF_META_INFO, memoryview(b"")), u64(), 0
+        with _native.Input(section) as (address, size):
+            while True:
+                pairs = (_structs.MetaPairStruct * max(capacity, 1))()
+                check(_native.read_meta_info(address, size, pairs, capacity, count))
+                if count.value <= capacity:
+                    break
+                capacity = count.value
+
+        def text(offset: int, size: int) -> str:
+            return bytes(section[offset:offset + size]).decode("utf-8")
+
+        return {text(pair.key_offset, pair.key_size): text(pair.value_offset, pair.value_size) for pair in pairs[:count.value]}
+
+    def _read_symbol_tables(self) -> Tuple[SymbolFile, ...]:
+        feature = next((feature for feature in (Feature.SIMPLEPERF_FILE2, Feature.SIMPLEPERF_FILE) if feature in self.features), None)
+        if feature is None:
+            return ()
+        section, is_big_endian = self.features[feature], self.byteorder == "big"
+        totals, capacities = _structs.SymbolTotals(), (0, 0, 0, 0)
+        with _native.Input(section) as (address, size):
+            while True:
+                files, symbols, names, offsets = ((kind * max(count, 1))() for kind, count in zip(
+                    (_structs.SymbolFileStruct, _structs.SymbolStruct, u8, u64), capacities))
+                check(_native.read_symbol_tables(address, size, feature, is_big_endian, files, capacities[0], symbols, capacities[1],
+                                                 names, capacities[2], offsets, capacities[3], totals))
+                found = totals.file_count, totals.symbol_count, totals.names_size, totals.dex_offset_count
+                if found == capacities:
+                    break
+                capacities = found
+        all_names = bytes(names)
+        return tuple(_symbol_file(file, symbols, all_names, offsets) for file in files[:totals.file_count])
 
 
 def _kind_of(data: memoryview) -> Kind:
