@@ -14,8 +14,8 @@ use Rattle.linux_perf_data.specs.RecordViews.{record_view_of}
 use Rattle.linux_perf_data.specs.InMemoryReading.{ReturnsRecordsInMemory}
 use Rattle.perfdata_order.specs.declared.in_memory.InMemoryOrderedRecords.{InMemoryOrderedRecords}
 use Rattle.perfdata_order.specs.Sorter.{held_of}
-use Rattle.perfdata_order.specs.SorterLaws.{MakesCalls}
-use Rattle.perfdata_order.specs.SorterLaws.Call.{inserts, ends_round, ends_all, returns, keeps}
+use Rattle.perfdata_order.specs.SorterLaws.{MakesCalls, releases_in}
+use Rattle.perfdata_order.specs.SorterLaws.Call.{inserts, ends_round, ends_all, releases, returns, keeps}
 use Rattle.perfdata_order.specs.InMemoryOrder.{Entry, Step, TakesSteps, returned_in}
 use Rattle.perfdata_order.specs.InMemoryOrder.Step.{reads, passes, reads_end, reads_error, sorts, reports}
 use Rattle.perfdata_order.specs.InMemoryLaws.{read_in, calls_in, pending_entries, held_entries, ReturnsEachRecordOnce, ReadsRecordsOfInput, CallsSorterInTurn, TimesAscendUnderRule}
@@ -38,6 +38,7 @@ calls_sorter_in_turn first last file file' (sorts ends_round ∷ steps) (next, (
     (next.sorter, step.0.ended, calls_sorter_in_turn next last next_file file' steps rest)
 calls_sorter_in_turn first last file file' (sorts ends_all ∷ steps) (next, (next_file, step, rest)) =
     (next.sorter, step.0.ended, calls_sorter_in_turn next last next_file file' steps rest)
+calls_sorter_in_turn first last file file' (sorts releases ∷ steps) (next, (next_file, step, rest)) = absurd step.0
 calls_sorter_in_turn first last file file' (sorts (returns key entry) ∷ steps) (next, (next_file, step, rest)) =
     (next.sorter, step.0.returned, calls_sorter_in_turn next last next_file file' steps rest)
 calls_sorter_in_turn first last file file' (sorts keeps ∷ steps) (next, (next_file, step, rest)) =
@@ -45,9 +46,24 @@ calls_sorter_in_turn first last file file' (sorts keeps ∷ steps) (next, (next_
 calls_sorter_in_turn first last file file' (reports e ∷ steps) (next, (next_file, step, rest)) =
     subst (λ s. MakesCalls nat_cmp (calls_in steps) s last.sorter) step.0.same_order.sorter (calls_sorter_in_turn next last next_file file' steps rest)
 
+-- No value is released before its round ended.
+none_released : (steps : List Step) (first last : InMemoryOrderedRecords) (file file' : PerfFile) → TakesSteps steps first file last file' → releases_in (calls_in steps) ≡ 0
+none_released [] first last file file' taken = refl
+none_released (reads key place r ∷ steps) first last file file' (next, (next_file, step, rest)) = none_released steps next last next_file file' rest
+none_released (passes place r ∷ steps) first last file file' (next, (next_file, step, rest)) = none_released steps next last next_file file' rest
+none_released (reads_end ∷ steps) first last file file' (next, (next_file, step, rest)) = none_released steps next last next_file file' rest
+none_released (reads_error e ∷ steps) first last file file' (next, (next_file, step, rest)) = none_released steps next last next_file file' rest
+none_released (sorts (inserts key entry) ∷ steps) first last file file' (next, (next_file, step, rest)) = none_released steps next last next_file file' rest
+none_released (sorts ends_round ∷ steps) first last file file' (next, (next_file, step, rest)) = none_released steps next last next_file file' rest
+none_released (sorts ends_all ∷ steps) first last file file' (next, (next_file, step, rest)) = none_released steps next last next_file file' rest
+none_released (sorts releases ∷ steps) first last file file' (next, (next_file, step, rest)) = absurd step.0
+none_released (sorts (returns key entry) ∷ steps) first last file file' (next, (next_file, step, rest)) = none_released steps next last next_file file' rest
+none_released (sorts keeps ∷ steps) first last file file' (next, (next_file, step, rest)) = none_released steps next last next_file file' rest
+none_released (reports e ∷ steps) first last file file' (next, (next_file, step, rest)) = none_released steps next last next_file file' rest
+
 pub times_ascend_under_rule : TimesAscendUnderRule
 times_ascend_under_rule records first last file file' steps new taken rule =
-    ascends_under_rule Entry nat_cmp_total first.sorter last.sorter (calls_in steps) new.empty (calls_sorter_in_turn first last file file' steps taken) rule
+    ascends_under_rule Entry nat_cmp_total first.sorter last.sorter (calls_in steps) new.empty (calls_sorter_in_turn first last file file' steps taken) (none_released steps first last file file' taken) rule
 
 -- ---- each record once
 
@@ -104,6 +120,7 @@ once_from (sorts ends_all ∷ steps) first last file file' (next, (next_file, st
     let sorted = IsPermutation-map (λ (e : ℕ × Entry). e.1) (held_of first.sorter) (held_of next.sorter) step.0.ended.sorts.each_once in
     let same = subst (λ p. IsPermutation (held_entries first) (entries (held_of next.sorter) ++ pending_entries p)) (sym step.0.pending) (IsPermutation-append_left (pending_entries first.pending) (entries (held_of first.sorter)) (entries (held_of next.sorter)) sorted) in
     IsPermutation-trans _ _ _ (IsPermutation-append_left (read_in steps) (held_entries first) (held_entries next) same) (once_from steps next last next_file file' rest)
+once_from (sorts releases ∷ steps) first last file file' (next, (next_file, step, rest)) = absurd step.0
 once_from (sorts (returns key entry) ∷ steps) first last file file' (next, (next_file, step, rest)) =
     let held = held_before_return first.sorter next.sorter key entry step.0.returned in
     let before : held_entries first ≡ entry ∷ held_entries next = held_as first first ((key, entry) ∷ held_of next.sorter) (pending_entries next.pending) held (ap pending_entries (sym step.0.pending)) in
@@ -142,6 +159,7 @@ nothing_read (reads_error e ∷ steps) first last file file' stopped (next, (nex
 nothing_read (sorts (inserts key entry) ∷ steps) first last file file' stopped (next, (next_file, step, rest)) = nothing_read steps next last next_file file' (still_stopped first next step.0.same_records stopped) rest
 nothing_read (sorts ends_round ∷ steps) first last file file' stopped (next, (next_file, step, rest)) = nothing_read steps next last next_file file' (still_stopped first next step.0.same_records stopped) rest
 nothing_read (sorts ends_all ∷ steps) first last file file' stopped (next, (next_file, step, rest)) = nothing_read steps next last next_file file' (still_stopped first next step.0.same_records stopped) rest
+nothing_read (sorts releases ∷ steps) first last file file' stopped (next, (next_file, step, rest)) = absurd step.0
 nothing_read (sorts (returns key entry) ∷ steps) first last file file' stopped (next, (next_file, step, rest)) = nothing_read steps next last next_file file' (still_stopped first next step.0.same_records stopped) rest
 nothing_read (sorts keeps ∷ steps) first last file file' stopped (next, (next_file, step, rest)) = nothing_read steps next last next_file file' (still_stopped first next step.0.same_records stopped) rest
 nothing_read (reports e ∷ steps) first last file file' stopped (next, (next_file, step, rest)) = nothing_read steps next last next_file file' (still_stopped first next step.0.same_records stopped) rest
@@ -173,6 +191,7 @@ read_from (reads_error e ∷ steps) first last file file' (next, (next_file, ste
 read_from (sorts (inserts key entry) ∷ steps) first last file file' (next, (next_file, step, rest)) = from_same first next file next_file (read_in steps) step.0.same_records step.1 (read_from steps next last next_file file' rest)
 read_from (sorts ends_round ∷ steps) first last file file' (next, (next_file, step, rest)) = from_same first next file next_file (read_in steps) step.0.same_records step.1 (read_from steps next last next_file file' rest)
 read_from (sorts ends_all ∷ steps) first last file file' (next, (next_file, step, rest)) = from_same first next file next_file (read_in steps) step.0.same_records step.1 (read_from steps next last next_file file' rest)
+read_from (sorts releases ∷ steps) first last file file' (next, (next_file, step, rest)) = absurd step.0
 read_from (sorts (returns key entry) ∷ steps) first last file file' (next, (next_file, step, rest)) = from_same first next file next_file (read_in steps) step.0.same_records step.1 (read_from steps next last next_file file' rest)
 read_from (sorts keeps ∷ steps) first last file file' (next, (next_file, step, rest)) = from_same first next file next_file (read_in steps) step.0.same_records step.1 (read_from steps next last next_file file' rest)
 read_from (reports e ∷ steps) first last file file' (next, (next_file, step, rest)) = from_same first next file next_file (read_in steps) step.0.same_records step.1 (read_from steps next last next_file file' rest)

@@ -1,3 +1,4 @@
+pub mod Entries
 pub mod Sorting
 pub mod SorterCalls
 pub mod AscendingRuns
@@ -7,4 +8,5 @@ pub mod InMemorySteps
 pub mod PerfRule
 pub mod StreamingCalls
 pub mod StreamingSteps
+pub mod StreamingBudget
 pub mod StreamingRule

@@ -11,7 +11,7 @@ use Rattle.perfdata_order.specs.declared.in_memory.InMemoryOrderedRecords.{InMem
 use Rattle.perfdata_order.specs.Times.{time_key_of}
 use Rattle.perfdata_order.specs.Order.{IsAtMost}
 use Rattle.perfdata_order.specs.SorterLaws.{inserted_in_rounds, KeepsRoundRule}
-use Rattle.perfdata_order.specs.SorterLaws.Call.{inserts, ends_round, ends_all, returns, keeps}
+use Rattle.perfdata_order.specs.SorterLaws.Call.{inserts, ends_round, ends_all, releases, returns, keeps}
 use Rattle.perfdata_order.specs.InMemoryOrder.{Entry, Step, TakesSteps, IsOneRoundLater, IsLaterOrLast}
 use Rattle.perfdata_order.specs.InMemoryOrder.Step.{reads, passes, reads_end, reads_error, sorts, reports}
 use Rattle.perfdata_order.specs.InMemoryLaws.{read_in, calls_in, timed_by, timed_of, RoundsRise, TimesAscendUnderPerfRule}
@@ -214,6 +214,7 @@ follows n (sorts ends_all ∷ steps) s t f g (next, (next_file, step, rest)) h =
     let stop = kept_stop s next step.0.pending step.0.same_records h.stopped in
     all_ended n steps s next same h stop (later_rounds s.pending (timed_of (read_in steps)) s.round next.round step.0.round h.rise)
     (λ final. nothing_read steps next t next_file g (still_stopped s next step.0.same_records (h.stopped final)) rest) (λ after. follows (n + 2) steps next t next_file g rest after)
+follows n (sorts releases ∷ steps) s t f g (next, (next_file, step, rest)) h = absurd step.0
 follows n (sorts (returns key entry) ∷ steps) s t f g (next, (next_file, step, rest)) h =
     let same : ahead s (sorts (returns key entry) ∷ steps) ≡ ahead next steps = ap (λ p. pending_timed p ++ timed_of (read_in steps)) (sym step.0.pending) in
     let after = same_ahead s next (ahead s steps) (ahead next steps) step.0.round same (kept_stop s next step.0.pending step.0.same_records h.stopped) h in

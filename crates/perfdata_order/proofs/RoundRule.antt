@@ -1,20 +1,27 @@
 -- What a sorter returns ascends where the inserted entries keep the rule of rounds.
-use Rattle.std.proofs.Common.{◌≡◌, ℕ, ◌+◌, ◌≤◌, true, false, List, [], ◌∷◌, ◌++◌, get_or, take, drop, All, Option, None, Some, sym, ap, ◌∙◌, subst, arith, append_assoc, append-nil}
+use Rattle.std.proofs.Common.{◌≡◌, ℕ, ◌+◌, ◌≤◌, true, false, List, [], ◌∷◌, ◌++◌, get_or, All, Option, None, Some, refl, sym, ap, ◌∙◌, subst, arith, append_assoc, append-nil}
 use Rattle.std.specs.Prelude.{IfSome, if◌then◌else◌}
 use Rattle.std.specs.declared.cmp.Ordering.{Ordering}
 use Rattle.std.specs.Ordering.{is_le}
 use Rattle.std.specs.Cmp.{IsTotalOrder}
-use Rattle.std.proofs.Math.Seq.{take-nil, drop-nil}
-use Rattle.std.proofs.lemmas.List.{take-append-drop}
-use Rattle.std.proofs.lemmas.List.Elements.{All-nil, All-head, All-tail, All-append, All-push, All-take, All-drop}
+use Rattle.std.proofs.lemmas.List.Elements.{All-nil, All-head, All-tail, All-append, All-push}
 use Rattle.std.proofs.lemmas.List.Sorted.{All-permutation}
 use Rattle.perfdata_order.specs.declared.sorter.Sorter.{Sorter}
 use Rattle.perfdata_order.specs.Order.{IsAtMost, Ascends, is_within, greatest_with, SortsEntries}
 use Rattle.perfdata_order.specs.Sorter.{held_of, available_of, pending_of, limit_of, greatest_of, IsNew, IsUnchanged, Returned, Inserted, RoundEnded, AllRoundsEnded}
-use Rattle.perfdata_order.specs.SorterLaws.{Call, returned_by, inserted_in_rounds, MakesCalls, KeepsRoundRule, AscendsUnderRule}
-use Rattle.perfdata_order.specs.SorterLaws.Call.{inserts, ends_round, ends_all, returns, keeps}
+use Rattle.perfdata_order.specs.SorterLaws.{Call, returned_by, releases_in, inserted_in_rounds, MakesCalls, KeepsRoundRule, AscendsUnderRule}
+use Rattle.perfdata_order.specs.SorterLaws.Call.{inserts, ends_round, ends_all, releases, returns, keeps}
 use Rattle.perfdata_order.proofs.Sorting.{le_trans}
+use Rattle.perfdata_order.proofs.SorterCalls.{held_split}
 use Rattle.perfdata_order.proofs.AscendingRuns.{all_prefix, all_suffix, if_some_weaker, AllAtMost, ascends_prefix, ascends_between, ascends_append}
+
+nil_prefix : {X : Type 0} (xs ys : List X) → xs ++ ys ≡ [] → xs ≡ []
+nil_prefix [] ys none = refl
+nil_prefix (x ∷ xs) ys none = cc
+
+nil_suffix : {X : Type 0} (xs ys : List X) → xs ++ ys ≡ [] → ys ≡ []
+nil_suffix [] ys none = none
+nil_suffix (x ∷ xs) ys none = cc
 
 module _ {K V : Type 0} {cmp : K → K → Ordering} (o : IsTotalOrder cmp) where
   -- The key is at most that of each entry of round n or later.
@@ -70,7 +77,7 @@ module _ {K V : Type 0} {cmp : K → K → Ordering} (o : IsTotalOrder cmp) wher
   outs_before_held : (outs : List (K × V)) (s : Sorter K V) → Ascends cmp (outs ++ available_of s) → AllAtMost cmp (outs ++ available_of s) (pending_of s) → AllAtMost cmp outs (held_of s)
   outs_before_held outs s up before i d lt =
       let x = get_or outs i d in
-      subst (λ es. All (IsAtMost cmp x) es) (take-append-drop s.available s.held.items)
+      subst (λ es. All (IsAtMost cmp x) es) (held_split s)
       (All-append (IsAtMost cmp x) (available_of s) (pending_of s) (ascends_between cmp outs (available_of s) up i d lt)
       (all_prefix (λ x. All (IsAtMost cmp x) (pending_of s)) outs (available_of s) before i d lt))
 
@@ -79,7 +86,7 @@ module _ {K V : Type 0} {cmp : K → K → Ordering} (o : IsTotalOrder cmp) wher
 
   held_rule : (n : ℕ) (outs : List (K × V)) (s : Sorter K V) (future : List (ℕ × (K × V))) → InOrder n outs s future → All (λ x. AtMostFrom (n + 2) x.0 future) (held_of s)
   held_rule n outs s future h =
-      subst (λ es. All (λ x. AtMostFrom (n + 2) x.0 future) es) (take-append-drop s.available s.held.items)
+      subst (λ es. All (λ x. AtMostFrom (n + 2) x.0 future) es) (held_split s)
       (All-append (λ x. AtMostFrom (n + 2) x.0 future) (available_of s) (pending_of s)
       (λ i d lt. later n (n + 2) (get_or (available_of s) i d).0 future (omega arith) (all_suffix (λ x. AtMostFrom n x.0 future) outs (available_of s) h.before_future i d lt))
       h.pending_rule)
@@ -88,7 +95,7 @@ module _ {K V : Type 0} {cmp : K → K → Ordering} (o : IsTotalOrder cmp) wher
   ascends_after_sort : (outs : List (K × V)) (old new : Sorter K V) → SortsEntries cmp (held_of old) (held_of new) → Ascends cmp (outs ++ available_of old) → AllAtMost cmp (outs ++ available_of old) (pending_of old)
       → Ascends cmp (outs ++ available_of new) × AllAtMost cmp (outs ++ available_of new) (pending_of new)
   ascends_after_sort outs old new sorts up before =
-      let split : available_of new ++ pending_of new ≡ held_of new = take-append-drop new.available new.held.items in
+      let split : available_of new ++ pending_of new ≡ held_of new = held_split new in
       let sorted = subst (λ es. Ascends cmp es) (sym split) sorts.ascends in
       let all = subst (λ es. AllAtMost cmp outs es) (sym split) (outs_before_sorted outs (held_of old) (held_of new) sorts (outs_before_held outs old up before)) in
       let to_available : AllAtMost cmp outs (available_of new) = λ i d lt. all_prefix (IsAtMost cmp (get_or outs i d)) (available_of new) (pending_of new) (all i d lt) in
@@ -113,7 +120,7 @@ module _ {K V : Type 0} {cmp : K → K → Ordering} (o : IsTotalOrder cmp) wher
         before_future = All-append (λ x. AtMostFrom (n + 1) x.0 future) outs (available_of next)
             (λ i d lt. later n (n + 1) (get_or outs i d).0 future (omega arith) (all_prefix (λ x. AtMostFrom n x.0 future) outs (available_of s) h.before_future i d lt))
             (λ i d lt. within_limit n (limit_of s) future h.limit_rule (get_or (available_of next) i d) (call.available i d lt));
-        pending_rule = λ i d lt. later (n + 2) (n + 1 + 2) (get_or (pending_of next) i d).0 future (omega arith) (All-drop (λ x. AtMostFrom (n + 2) x.0 future) next.available (held_of next) held i d lt);
+        pending_rule = λ i d lt. later (n + 2) (n + 1 + 2) (get_or (pending_of next) i d).0 future (omega arith) (all_suffix (λ x. AtMostFrom (n + 2) x.0 future) (available_of next) (pending_of next) (subst (λ es. All (λ x. AtMostFrom (n + 2) x.0 future) es) (sym (held_split next)) held) i d lt);
         limit_rule = subst (λ l. IfSome l (λ l. AtMostFrom (n + 1 + 1) l future)) (sym call.limit)
             (if_some_weaker (λ l. AtMostFrom (n + 2) l future) (λ l. AtMostFrom (n + 1 + 1) l future) (λ l. later (n + 2) (n + 1 + 1) l future (omega arith)) (greatest_of s) h.greatest_rule);
         greatest_rule = subst (λ l. IfSome l (λ l. AtMostFrom (n + 1 + 2) l future)) (sym call.greatest)
@@ -131,7 +138,7 @@ module _ {K V : Type 0} {cmp : K → K → Ordering} (o : IsTotalOrder cmp) wher
         before_pending = up.1;
         before_future = All-append (λ x. AtMostFrom (n + 2) x.0 future) outs (available_of next)
             (λ i d lt. later n (n + 2) (get_or outs i d).0 future (omega arith) (all_prefix (λ x. AtMostFrom n x.0 future) outs (available_of s) h.before_future i d lt))
-            (All-take (λ x. AtMostFrom (n + 2) x.0 future) next.available (held_of next) held);
+            (all_prefix (λ x. AtMostFrom (n + 2) x.0 future) (available_of next) (pending_of next) (subst (λ es. All (λ x. AtMostFrom (n + 2) x.0 future) es) (sym (held_split next)) held));
         pending_rule = subst (λ es. All (λ x. AtMostFrom (n + 2 + 2) x.0 future) es) (sym call.pending) (All-nil (λ x. AtMostFrom (n + 2 + 2) x.0 future));
         limit_rule = subst (λ l. IfSome l (λ l. AtMostFrom (n + 2 + 1) l future)) (sym call.limit)
             (if_some_weaker (λ l. AtMostFrom (n + 2) l future) (λ l. AtMostFrom (n + 2 + 1) l future) (λ l. later (n + 2) (n + 2 + 1) l future (omega arith)) (greatest_of s) h.greatest_rule);
@@ -167,25 +174,27 @@ module _ {K V : Type 0} {cmp : K → K → Ordering} (o : IsTotalOrder cmp) wher
         rule = h.rule;
       }
 
-  ascends_from : (n : ℕ) (outs : List (K × V)) (calls : List (Call K V)) (first last : Sorter K V) → MakesCalls cmp calls first last →
+  ascends_from : (n : ℕ) (outs : List (K × V)) (calls : List (Call K V)) (first last : Sorter K V) → releases_in calls ≡ 0 → MakesCalls cmp calls first last →
       InOrder n outs first (inserted_in_rounds n calls) → Ascends cmp (outs ++ returned_by calls)
-  ascends_from n outs [] first last made h = subst (λ es. Ascends cmp es) (sym (append-nil outs)) (ascends_prefix cmp outs (available_of first) h.ascends)
-  ascends_from n outs (inserts k v ∷ calls) first last (next, call, made) h =
-      ascends_from n outs calls next last made (inserted_in_order n outs first next k v (inserted_in_rounds n calls) call h)
-  ascends_from n outs (ends_round ∷ calls) first last (next, call, made) h =
-      ascends_from (n + 1) outs calls next last made (round_ends_in_order n outs first next (inserted_in_rounds (n + 1) calls) call h)
-  ascends_from n outs (ends_all ∷ calls) first last (next, call, made) h =
-      ascends_from (n + 2) outs calls next last made (all_end_in_order n outs first next (inserted_in_rounds (n + 2) calls) call h)
-  ascends_from n outs (returns k v ∷ calls) first last (next, call, made) h =
+  ascends_from n outs [] first last none made h = subst (λ es. Ascends cmp es) (sym (append-nil outs)) (ascends_prefix cmp outs (available_of first) h.ascends)
+  ascends_from n outs (inserts k v ∷ calls) first last none (next, call, made) h =
+      ascends_from n outs calls next last none made (inserted_in_order n outs first next k v (inserted_in_rounds n calls) call h)
+  ascends_from n outs (ends_round ∷ calls) first last none (next, call, made) h =
+      ascends_from (n + 1) outs calls next last none made (round_ends_in_order n outs first next (inserted_in_rounds (n + 1) calls) call h)
+  ascends_from n outs (ends_all ∷ calls) first last none (next, call, made) h =
+      ascends_from (n + 2) outs calls next last none made (all_end_in_order n outs first next (inserted_in_rounds (n + 2) calls) call h)
+  ascends_from n outs (releases ∷ calls) first last none (next, call, made) h = absurd (omega (arith, none))
+  ascends_from n outs (returns k v ∷ calls) first last none (next, call, made) h =
       subst (λ es. Ascends cmp es) (append_assoc outs ((k, v) ∷ []) (returned_by calls))
-      (ascends_from n (outs ++ (k, v) ∷ []) calls next last made (returned_in_order n outs first next k v (inserted_in_rounds n calls) call h))
-  ascends_from n outs (keeps ∷ calls) first last (next, call, made) h =
-      ascends_from n outs calls next last made (kept_in_order n outs first next (inserted_in_rounds n calls) call h)
+      (ascends_from n (outs ++ (k, v) ∷ []) calls next last none made (returned_in_order n outs first next k v (inserted_in_rounds n calls) call h))
+  ascends_from n outs (keeps ∷ calls) first last none (next, call, made) h =
+      ascends_from n outs calls next last none made (kept_in_order n outs first next (inserted_in_rounds n calls) call h)
 
   new_in_order : (s : Sorter K V) (future : List (ℕ × (K × V))) → IsNew s → KeepsRoundRule cmp future → InOrder 0 [] s future
   new_in_order s future new rule =
-      let none : available_of s ≡ [] = ap (λ es. take s.available es) new.empty ∙ take-nil s.available in
-      let no_pending : pending_of s ≡ [] = ap (λ es. drop s.available es) new.empty ∙ drop-nil s.available in
+      let split = held_split s ∙ new.empty in
+      let none : available_of s ≡ [] = nil_prefix (available_of s) (pending_of s) split in
+      let no_pending : pending_of s ≡ [] = nil_suffix (available_of s) (pending_of s) split in
       record {
         ascends = subst (λ es. Ascends cmp es) (sym none) tt;
         before_pending = subst (λ es. AllAtMost cmp es (pending_of s)) (sym none) (All-nil (λ x. All (IsAtMost cmp x) (pending_of s)));
@@ -197,4 +206,4 @@ module _ {K V : Type 0} {cmp : K → K → Ordering} (o : IsTotalOrder cmp) wher
       }
 
 pub ascends_under_rule : {K : Type 0} (V : Type 0) {cmp : K → K → Ordering} → IsTotalOrder cmp → AscendsUnderRule V cmp
-ascends_under_rule V o first last calls new made rule = ascends_from o 0 [] calls first last made (new_in_order o first (inserted_in_rounds 0 calls) new rule)
+ascends_under_rule V o first last calls new made none rule = ascends_from o 0 [] calls first last none made (new_in_order o first (inserted_in_rounds 0 calls) new rule)

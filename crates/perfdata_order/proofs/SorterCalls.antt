@@ -4,17 +4,18 @@ use Rattle.std.specs.Prelude.{filter}
 use Rattle.std.specs.declared.cmp.Ordering.{Ordering}
 use Rattle.std.specs.Ordering.{is_lt}
 use Rattle.std.specs.List.Sorted.{IsPermutation, ties}
-use Rattle.std.proofs.lemmas.List.{take-append-drop}
 use Rattle.std.proofs.lemmas.List.Elements.{filter-append}
 use Rattle.std.proofs.lemmas.List.Sorted.{IsPermutation-refl, IsPermutation-trans, IsPermutation-cons, IsPermutation-append_left}
+use Rattle.slab.specs.Slab.{get}
 use Rattle.perfdata_order.specs.declared.sorter.Sorter.{Sorter}
 use Rattle.perfdata_order.specs.Sorter.{held_of, available_of, pending_of, Returned, Inserted}
 use Rattle.perfdata_order.specs.SorterLaws.{Call, inserted_by, returned_by, MakesCalls, ReturnsEachOnce, KeepsInsertionOrder}
-use Rattle.perfdata_order.specs.SorterLaws.Call.{inserts, ends_round, ends_all, returns, keeps}
+use Rattle.perfdata_order.specs.SorterLaws.Call.{inserts, ends_round, ends_all, releases, returns, keeps}
+use Rattle.perfdata_order.proofs.Entries.{entries_split}
 
 module _ {K V : Type 0} where
-  held_split : (s : Sorter K V) → available_of s ++ pending_of s ≡ held_of s
-  held_split s = take-append-drop s.available s.held.items
+  pub held_split : (s : Sorter K V) → available_of s ++ pending_of s ≡ held_of s
+  held_split s = entries_split (get s.values) s.available s.order.items
 
   pub held_after_insert : {cmp : K → K → Ordering} (old new : Sorter K V) (k : K) (v : V) → Inserted cmp old k v new → held_of new ≡ held_of old ++ (k, v) ∷ []
   held_after_insert old new k v done =
@@ -46,6 +47,8 @@ module _ {K V : Type 0} where
         IsPermutation-trans _ _ _ (IsPermutation-append_left (inserted_by calls) (held_of first) (held_of next) call.sorts.each_once) (each_once_from calls next last made)
     each_once_from (ends_all ∷ calls) first last (next, call, made) =
         IsPermutation-trans _ _ _ (IsPermutation-append_left (inserted_by calls) (held_of first) (held_of next) call.sorts.each_once) (each_once_from calls next last made)
+    each_once_from (releases ∷ calls) first last (next, call, made) =
+        IsPermutation-trans _ _ _ (IsPermutation-append_left (inserted_by calls) (held_of first) (held_of next) call.sorts.each_once) (each_once_from calls next last made)
     each_once_from (returns k v ∷ calls) first last (next, call, made) =
         subst (λ h. IsPermutation (h ++ inserted_by calls) ((k, v) ∷ (returned_by calls ++ held_of last))) (sym (held_before_return first next k v call))
         (IsPermutation-cons (k, v) (held_of next ++ inserted_by calls) (returned_by calls ++ held_of last) (each_once_from calls next last made))
@@ -68,6 +71,8 @@ module _ {K V : Type 0} where
     same_order_from e (ends_round ∷ calls) first last (next, call, made) =
         same_order_from e calls next last made ∙ same_after_sort e (held_of first) (held_of next) (inserted_by calls) (call.sorts.stable e)
     same_order_from e (ends_all ∷ calls) first last (next, call, made) =
+        same_order_from e calls next last made ∙ same_after_sort e (held_of first) (held_of next) (inserted_by calls) (call.sorts.stable e)
+    same_order_from e (releases ∷ calls) first last (next, call, made) =
         same_order_from e calls next last made ∙ same_after_sort e (held_of first) (held_of next) (inserted_by calls) (call.sorts.stable e)
     same_order_from e (returns k v ∷ calls) first last (next, call, made) =
         subst (λ h. filter (same_key e) ((k, v) ∷ (returned_by calls ++ held_of last)) ≡ filter (same_key e) (h ++ inserted_by calls)) (sym (held_before_return first next k v call))

@@ -1,5 +1,5 @@
 -- Sorted lists of entries.
-use Rattle.std.proofs.Common.{◌≡◌, ℕ, zero, suc, ◌+◌, ◌<◌, ◌≤◌, true, false, List, [], ◌∷◌, length, get_or, take, drop, All, Option, None, Some, refl, sym, ap, ◌∙◌, subst, arith}
+use Rattle.std.proofs.Common.{◌≡◌, ℕ, zero, suc, ◌+◌, ◌<◌, ◌≤◌, Bool, true, false, List, [], ◌∷◌, length, get_or, take, drop, All, Option, None, Some, refl, sym, ap, ◌∙◌, subst, arith}
 use Rattle.std.specs.declared.cmp.Ordering.{Ordering}
 use Rattle.std.specs.declared.cmp.Ordering.TheVariants.{Less, Equal, Greater}
 use Rattle.std.specs.Ordering.{is_le, is_lt, is_gt, ordering_reverse}
@@ -24,6 +24,11 @@ le_from_not_gt : (r : Ordering) → is_gt r ≡ false → is_le r ≡ true
 le_from_not_gt Less h = refl
 le_from_not_gt Equal h = refl
 le_from_not_gt Greater h = cc
+
+-- Whether an entry is within a limit doesn't depend on its value.
+pub within_same : {K V W : Type 0} (cmp : K → K → Ordering) (limit : Option K) (key : K) (v : V) (w : W) (b : Bool) → is_within cmp limit (key, v) ≡ b → is_within cmp limit (key, w) ≡ b
+within_same cmp None key v w b h = h
+within_same cmp (Some limit) key v w b h = h
 
 module _ {K : Type 0} {cmp : K → K → Ordering} (o : IsTotalOrder cmp) where
   pub le_from_not_lt : (a b : K) → is_lt (cmp b a) ≡ false → is_le (cmp a b) ≡ true

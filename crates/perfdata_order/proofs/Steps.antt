@@ -9,15 +9,15 @@ use Rattle.linux_perf_data.specs.declared.in_memory.InMemoryRecords.{InMemoryRec
 use Rattle.linux_perf_data.specs.InMemoryReading.{ReturnsRecordInMemory}
 use Rattle.std.specs.Prelude.{◌≢◌}
 use Rattle.std.specs.declared.alloc.AllocError.{AllocError}
-use Rattle.std.proofs.lemmas.List.{take-append-drop}
 use Rattle.perfdata_order.specs.declared.sorter.Sorter.{Sorter}
 use Rattle.perfdata_order.specs.declared.in_memory.Pending.{Pending}
 use Rattle.perfdata_order.specs.declared.in_memory.Pending.TheVariants.{Nothing, Record, End, Failure}
 use Rattle.perfdata_order.specs.declared.in_memory.InMemoryOrderedRecords.{InMemoryOrderedRecords}
 use Rattle.perfdata_order.specs.Sorter.{held_of, available_of, pending_of, IsUnchanged, Inserted, EndsAllRounds}
-use Rattle.perfdata_order.specs.SorterLaws.Call.{inserts, ends_round, ends_all, returns, keeps}
+use Rattle.perfdata_order.specs.SorterLaws.Call.{inserts, ends_round, ends_all, releases, returns, keeps}
 use Rattle.perfdata_order.specs.InMemoryOrder.{AfterPlacing, PlacesPending, IsPending, pending_records, EndReturned, Entry, Step, returned_in, TakesStep, TakesSteps, Progress, Places, EntryReturned, ReadsPending, ReadsUntimed, EndsRoundsBefore, KeepsSorter, EndsRounds, InsertsPending, ReturnsSorted, IsOneRoundLater, IsLaterOrLast}
 use Rattle.perfdata_order.specs.InMemoryOrder.Step.{reads, passes, reads_end, reads_error, sorts, reports}
+use Rattle.perfdata_order.proofs.SorterCalls.{held_split}
 
 pub steps_append : (ss ts : List Step) (a b c : InMemoryOrderedRecords) (f g h : PerfFile) → TakesSteps ss a f b g → TakesSteps ts b g c h → TakesSteps (ss ++ ts) a f c h
 steps_append [] ts a b c f g h (same, same_file) more = subst (λ s. TakesSteps ts s f c h) same (subst (λ q. TakesSteps ts b q c h) same_file more)
@@ -32,6 +32,7 @@ none_append (reads_error e ∷ ss) ts none more = none_append ss ts none more
 none_append (sorts (inserts key entry) ∷ ss) ts none more = none_append ss ts none more
 none_append (sorts ends_round ∷ ss) ts none more = none_append ss ts none more
 none_append (sorts ends_all ∷ ss) ts none more = none_append ss ts none more
+none_append (sorts releases ∷ ss) ts none more = none_append ss ts none more
 none_append (sorts (returns key entry) ∷ ss) ts none more = cc
 none_append (sorts keeps ∷ ss) ts none more = none_append ss ts none more
 none_append (reports e ∷ ss) ts none more = none_append ss ts none more
@@ -205,7 +206,7 @@ none_pending_at_failure End b e after is = after.1
 none_pending_at_failure (Failure e') b e after is = after.1
 
 pub none_held : (s : Sorter ℕ Entry) → available_of s ≡ [] → pending_of s ≡ [] → held_of s ≡ []
-none_held s available pending = sym (take-append-drop s.available s.held.items) ∙ ap (λ xs. xs ++ pending_of s) available ∙ pending
+none_held s available pending = sym (held_split s) ∙ ap (λ xs. xs ++ pending_of s) available ∙ pending
 
 -- After a call that changed nothing, with nothing available.
 pub none_held_after : (s t : Sorter ℕ Entry) → available_of s ≡ [] → IsUnchanged s t → pending_of s ≡ [] → held_of t ≡ []

@@ -1,10 +1,10 @@
 -- The steps of a call over a source.
-use Rattle.std.proofs.Common.{◌≡◌, ℕ, ◌+◌, ◌-◌, ◌*◌, ◌^◌, ◌<◌, ◌≤◌, List, [], ◌∷◌, ◌++◌, Some, Result, Ok, Err, refl, sym, ap, ◌∙◌, subst, inl, inr, arith}
+use Rattle.std.proofs.Common.{◌≡◌, ℕ, ◌+◌, ◌-◌, ◌*◌, ◌^◌, ◌<◌, ◌≤◌, List, [], ◌∷◌, ◌++◌, length, min, Some, Result, Ok, Err, Bool, true, false, not, refl, sym, ap, ◌∙◌, subst, inl, inr, arith}
 use Rattle.std.specs.Prelude.{Vec}
+use Rattle.std.proofs.lemmas.List.Sorted.{length_permutation}
 use Rattle.std.specs.declared.alloc.Global.{Global}
 use Rattle.std.specs.Ordering.{nat_cmp}
 use Rattle.std.specs.declared.alloc.AllocError.{AllocError}
-use Rattle.std.proofs.lemmas.List.{take-append-drop}
 use Rattle.perfdata_base.specs.Source.{State}
 use Rattle.perfdata_sections.specs.declared.error.Error.{Error}
 use Rattle.linux_perf_data.specs.declared.records.iter.PerfRecordIter.{PerfRecordIter}
@@ -17,12 +17,13 @@ use Rattle.perfdata_order.specs.declared.sorter.Sorter.{Sorter}
 use Rattle.perfdata_order.specs.declared.streaming.Pending.{Pending}
 use Rattle.perfdata_order.specs.declared.streaming.Pending.TheVariants as variant
 use Rattle.perfdata_order.specs.declared.streaming.OrderedRecords.{OrderedRecords}
-use Rattle.perfdata_order.specs.HeldRecord.{view_with, held_view}
-use Rattle.perfdata_order.specs.Sorter.{held_of, available_of, pending_of, limit_of, greatest_of, IsUnchanged, Inserted, EndsAllRounds}
-use Rattle.perfdata_order.specs.SorterLaws.Call.{inserts, ends_round, ends_all, returns, keeps}
-use Rattle.perfdata_order.specs.StreamingOrder.{Unplaced, unplaced_by, unplaced_of, AfterPlacing, PlacesPending, IsUnplaced, IsOngoing, pending_records, EndReturned, RecordReturned, Step, returned_in, TakesStep, TakesSteps, Progress, Places, ReadsPending, ReadsUntimed, EndsRoundsBefore, KeepsSorter, EndsRounds, InsertsPending, ReturnsSorted, TakesEnd, FailsInOrder, IsOneRoundLater, IsLaterOrLast}
+use Rattle.perfdata_order.specs.HeldRecord.{view_with, held_view, held_size}
+use Rattle.perfdata_order.specs.Sorter.{held_of, available_of, pending_of, limit_of, greatest_of, IsUnchanged, TestsAvailable, Inserted, HalfReleased, EndsAllRounds}
+use Rattle.perfdata_order.specs.SorterLaws.Call.{inserts, ends_round, ends_all, releases, returns, keeps}
+use Rattle.perfdata_order.specs.StreamingOrder.{Unplaced, unplaced_by, unplaced_of, AfterPlacing, PlacesPending, IsUnplaced, IsOngoing, pending_records, EndReturned, RecordReturned, Step, returned_in, TakesStep, TakesSteps, Progress, Places, ReadsPending, ReadsUntimed, EndsRoundsBefore, KeepsSorter, EndsRounds, InsertsPending, ReturnsSorted, TakesEnd, FailsInOrder, IsOneRoundLater, IsLaterOrLast, SameBudget, HasRoom, HasMadeRoom, HasAvailable, MakesRoom, ReleasesEarly, ReleasesForPending, budget_of, early_of, held_bytes_of}
 use Rattle.perfdata_order.specs.StreamingOrder.Unplaced.{nothing, timed, ending, failing, failed}
 use Rattle.perfdata_order.specs.StreamingOrder.Step.{reads, passes, reads_end, reads_error, sorts, reports}
+use Rattle.perfdata_order.proofs.SorterCalls.{held_split}
 
 pub none_append : (ss ts : List Step) → returned_in ss ≡ [] → returned_in ts ≡ [] → returned_in (ss ++ ts) ≡ []
 none_append [] ts none more = more
@@ -33,6 +34,7 @@ none_append (reads_error e ∷ ss) ts none more = none_append ss ts none more
 none_append (sorts (inserts key held) ∷ ss) ts none more = none_append ss ts none more
 none_append (sorts ends_round ∷ ss) ts none more = none_append ss ts none more
 none_append (sorts ends_all ∷ ss) ts none more = none_append ss ts none more
+none_append (sorts releases ∷ ss) ts none more = none_append ss ts none more
 none_append (sorts (returns key held) ∷ ss) ts none more = cc
 none_append (sorts keeps ∷ ss) ts none more = none_append ss ts none more
 none_append (reports e ∷ ss) ts none more = none_append ss ts none more
@@ -46,14 +48,14 @@ IsLast (failing e) = Unit {0}
 IsLast failed = Unit {0}
 
 -- The body of a pending record.
-abbrev unplaced_body : Unplaced → List ℕ
+abbrev pub unplaced_body : Unplaced → List ℕ
 unplaced_body nothing = []
 unplaced_body (timed key h) = h.body
 unplaced_body ending = []
 unplaced_body (failing e) = []
 unplaced_body failed = []
 
-body_read : (p : Pending) (body : List ℕ) (key : ℕ) (h : RecordView) → unplaced_by p body ≡ timed key h → body ≡ h.body
+pub body_read : (p : Pending) (body : List ℕ) (key : ℕ) (h : RecordView) → unplaced_by p body ≡ timed key h → body ≡ h.body
 body_read variant.Nothing body key h is = cc
 body_read (variant.Record key' info) body key h is = ap unplaced_body is
 body_read variant.End body key h is = cc
@@ -61,10 +63,28 @@ body_read (variant.Failure e) body key h is = cc
 body_read variant.Failed body key h is = cc
 
 abbrev pub with_parts : {R : Type 0} → OrderedRecords R → Sorter ℕ HeldRecord → Pending → Vec (Vec ℕ Global) Global → OrderedRecords R
-with_parts s sorter pending spare = record { alloc = s.alloc; records = s.records; sorter = sorter; round = s.round; pending = pending; body = s.body; returned = s.returned; spare = spare }
+with_parts s sorter pending spare = record {
+  alloc = s.alloc;
+  records = s.records;
+  sorter = sorter;
+  round = s.round;
+  pending = pending;
+  body = s.body;
+  returned = s.returned;
+  spare = spare;
+  budget = s.budget;
+  held_bytes = s.held_bytes;
+  early = s.early;
+}
+
+abbrev pub with_held_bytes : {R : Type 0} → OrderedRecords R → ℕ → OrderedRecords R
+with_held_bytes s bytes = record s { held_bytes = bytes }
 
 abbrev pub with_sorter : {R : Type 0} → OrderedRecords R → Sorter ℕ HeldRecord → OrderedRecords R
 with_sorter s sorter = with_parts s sorter s.pending s.spare
+
+pub bytes_added : (old size held new : ℕ) → held ≡ size → new ≡ min (old + size) 18446744073709551615 → old + held < 2 ^ 64 → new ≡ old + held
+bytes_added old size held new same sum fits = omega (arith, same, sum, fits)
 
 module _ {R : Type 0} (state : R → State) where
   pub steps_append : (ss ts : List Step) (a b c : OrderedRecords R) (f g h : PerfFile) → TakesSteps state ss a f b g → TakesSteps state ts b g c h → TakesSteps state (ss ++ ts) a f c h
@@ -77,8 +97,8 @@ module _ {R : Type 0} (state : R → State) where
   -- ---- steps that return nothing
 
   -- Only buffers changed.
-  pub kept_order : (a b : OrderedRecords R) → b.sorter ≡ a.sorter → unplaced_of b ≡ unplaced_of a → b.records ≡ a.records → b.round ≡ a.round → KeepsSorter a b
-  kept_order a b sorter pending same_records same_round = record {
+  pub kept_order : (a b : OrderedRecords R) → b.sorter ≡ a.sorter → unplaced_of b ≡ unplaced_of a → b.records ≡ a.records → b.round ≡ a.round → SameBudget a b → KeepsSorter a b
+  kept_order a b sorter pending same_records same_round same_budget = record {
     unchanged = record {
       available = ap available_of sorter;
       pending = ap pending_of sorter;
@@ -89,6 +109,7 @@ module _ {R : Type 0} (state : R → State) where
     pending = pending;
     same_records = same_records;
     round = same_round;
+    same_budget = same_budget;
   }
 
   pub no_progress : (a : OrderedRecords R) (f : PerfFile) → Progress state a f a f
@@ -183,6 +204,7 @@ module _ {R : Type 0} (state : R → State) where
         ended = one.ended;
         pending = one.pending;
         same_records = one.same_records;
+        same_budget = one.same_budget;
       },
       refl,
     ));
@@ -197,6 +219,7 @@ module _ {R : Type 0} (state : R → State) where
         ended = all.ended;
         pending = all.pending;
         same_records = all.same_records;
+        same_budget = all.same_budget;
       },
       refl,
     ));
@@ -204,6 +227,48 @@ module _ {R : Type 0} (state : R → State) where
     same_records = all.same_records;
     in_round = subst (λ n. h.round ≤ n) (sym all.round) (omega arith);
   }
+
+  -- ---- room for the pending record
+
+  half_available : (old new : Sorter ℕ HeldRecord) → HalfReleased nat_cmp old new → 0 < length (held_of old) → available_of new ≡ [] → ⊥
+  half_available old new half some none =
+      let same : pending_of new ≡ held_of new = sym (ap (λ xs. xs ++ pending_of new) none) ∙ held_split new in
+      let rest = ap length same in
+      let all = length_permutation (held_of old) (held_of new) half.sorts.each_once in
+      let le = half.half.0 in
+      absurd (omega (arith, rest, all, le, some))
+
+  room_after : (a b c : OrderedRecords R) (key : ℕ) (h : RecordView) (more : Bool) → unplaced_of a ≡ timed key h → RoundsPlaced a h b → ReleasesEarly b (held_size h) (Ok tt) c → TestsAvailable c.sorter more → MakesRoom state a h (Ok (not more)) c
+  room_after a b c key h true was placed (inl (room, same)) some = record {
+    places = subst (λ s. Places state a s) (sym same) placed.places;
+    pending = ap (λ s. unplaced_of s) same ∙ placed.pending;
+    same_records = ap (λ s. s.records) same ∙ placed.same_records;
+    available = some;
+  }
+  room_after a b c key h false was placed (inl (room, same)) none = record {
+    places = subst (λ s. Places state a s) (sym same) placed.places;
+    pending = ap (λ s. unplaced_of s) same ∙ placed.pending;
+    same_records = ap (λ s. s.records) same ∙ placed.same_records;
+    in_round = subst (λ s. h.round ≤ s.round) (sym same) placed.in_round;
+    none_available = none;
+    has_room = subst (λ s. HasRoom s (held_size h)) (sym same) room;
+  }
+  room_after a b c key h true was placed (inr early) some = record {
+    places = places_more a b c placed.places (sorts releases) refl (λ file. (subst (λ q. ReleasesForPending q b c) (sym (placed.pending ∙ was)) early, refl));
+    pending = early.pending ∙ placed.pending;
+    same_records = early.same_records ∙ placed.same_records;
+    available = some;
+  }
+  room_after a b c key h false was placed (inr early) none = absurd (half_available b.sorter c.sorter early.released early.some_held none)
+
+  pub room_made : (a b c : OrderedRecords R) (key : ℕ) (h : RecordView) (more : Bool) → unplaced_of a ≡ timed key h → EndsRoundsBefore a h.round (Ok tt) b → ReleasesEarly b (held_size h) (Ok tt) c → TestsAvailable c.sorter more → MakesRoom state a h (Ok (not more)) c
+  room_made a b c key h more was ended released tests = room_after a b c key h more was (rounds_placed a b key h was ended) released tests
+
+  -- Records are available after the rounds ended.
+  pub available_made : (a b : OrderedRecords R) (key : ℕ) (h : RecordView) → unplaced_of a ≡ timed key h → EndsRoundsBefore a h.round (Ok tt) b → 0 < length (available_of b.sorter) → HasAvailable state a b
+  available_made a b key h was ended some =
+      let placed = rounds_placed a b key h was ended in
+      record { places = placed.places; pending = placed.pending; same_records = placed.same_records; available = some }
 
   -- ---- what a record that was read shows of the offset
 
@@ -215,21 +280,28 @@ module _ {R : Type 0} (state : R → State) where
 
   -- ---- what placing leaves
 
-  pub record_placed : (a b c : OrderedRecords R) (key : ℕ) (info : RecordInfo) (held : HeldRecord) → unplaced_of a ≡ timed key (view_with info a.body.items) → RoundsPlaced a (view_with info a.body.items) b
+  pub record_placed : (a b c : OrderedRecords R) (key : ℕ) (info : RecordInfo) (held : HeldRecord) → unplaced_of a ≡ timed key (view_with info a.body.items) → HasMadeRoom state a (view_with info a.body.items) b
       → held_view held ≡ view_with info b.body.items → Inserted nat_cmp b.sorter key held c.sorter
-      → unplaced_of c ≡ nothing → c.records ≡ b.records → c.round ≡ b.round → Places state a c × AfterPlacing state (unplaced_of a) c × (c.records ≡ a.records)
-  record_placed a b c key info held was placed copied inserted none same_records same_round =
+      → unplaced_of c ≡ nothing → c.records ≡ b.records → c.round ≡ b.round → budget_of c ≡ budget_of b → early_of c ≡ early_of b → held_size (held_view held) < 2 ^ 64
+      → (held_bytes_of b + held_size (held_view held) < 2 ^ 64 → held_bytes_of c ≡ held_bytes_of b + held_size (held_view held)) → Places state a c × AfterPlacing state (unplaced_of a) c × (c.records ≡ a.records)
+  record_placed a b c key info held was placed copied inserted none same_records same_round budget early size_fits bytes =
       let now = placed.pending ∙ was in
       let is = copied ∙ ap (λ body. view_with info body) (body_read b.pending b.body.items key (view_with info a.body.items) now) in (
         places_inserted a b c key held placed.places (record {
           was_pending = now ∙ ap (λ h. timed key h) (sym is);
           in_round = subst (λ h. h.round ≤ b.round) (sym is) placed.in_round;
+          none_available = placed.none_available;
+          has_room = subst (λ h. HasRoom b (held_size h)) (sym is) placed.has_room;
+          size_fits = size_fits;
           inserted = inserted;
           pending = none;
           same_records = same_records;
           round = same_round;
+          budget = budget;
+          early = early;
+          held_bytes = bytes;
         }),
-        subst (λ q. AfterPlacing state q c) (sym was) none,
+        subst (λ q. AfterPlacing state q c) (sym was) (inl none),
         same_records ∙ placed.same_records,
       )
 
@@ -250,22 +322,27 @@ module _ {R : Type 0} (state : R → State) where
   last_after (failing e) c last same none = (same, none)
   last_after failed c last same none = (same, none)
 
-  pub last_placed : (a c : OrderedRecords R) (result : Result (Unit {0}) AllocError) (q : Unplaced) → IsLast q → unplaced_of a ≡ q → EndsAllRounds nat_cmp a.sorter result c.sorter → unplaced_of c ≡ unplaced_of a → c.records ≡ a.records → c.round ≡ a.round → PlacesPending state a result c
-  last_placed a c (Ok done) q last is all pending same_records same_round =
-      ended a c (places_ended a a c (places_none a a refl) (record { round = subst (λ p. IsLaterOrLast p a.round c.round) (sym is) (last_round q a.round c.round last same_round); ended = all; pending = pending; same_records = same_records }))
+  pub last_placed : (a c : OrderedRecords R) (result : Result (Unit {0}) AllocError) (q : Unplaced) → IsLast q → unplaced_of a ≡ q → EndsAllRounds nat_cmp a.sorter result c.sorter → unplaced_of c ≡ unplaced_of a → c.records ≡ a.records → c.round ≡ a.round → SameBudget a c → PlacesPending state a result c
+  last_placed a c (Ok done) q last is all pending same_records same_round same_budget =
+      ended a c (places_ended a a c (places_none a a refl) (record { round = subst (λ p. IsLaterOrLast p a.round c.round) (sym is) (last_round q a.round c.round last same_round); ended = all; pending = pending; same_records = same_records; same_budget = same_budget }))
       q is (last_after q c last (pending ∙ is) all.pending) same_records
-  last_placed a c (Err e) q last is unchanged pending same_records same_round =
-      places_kept a a c (places_none a a refl) (record { unchanged = unchanged; pending = pending; same_records = same_records; round = same_round })
+  last_placed a c (Err e) q last is unchanged pending same_records same_round same_budget =
+      places_kept a a c (places_none a a refl) (record { unchanged = unchanged; pending = pending; same_records = same_records; round = same_round; same_budget = same_budget })
+
+  -- Nothing was placed, because records are available.
+  pub available_placed : (a b : OrderedRecords R) (key : ℕ) (h : RecordView) → unplaced_of a ≡ timed key h → HasAvailable state a b → Places state a b × AfterPlacing state (unplaced_of a) b × (b.records ≡ a.records)
+  available_placed a b key h was made = (made.places, subst (λ q. AfterPlacing state q b) (sym was) (inr (made.pending ∙ was, made.available)), made.same_records)
 
   pub none_pending_at : (q p : Unplaced) (b : OrderedRecords R) → AfterPlacing state q b → IsLast p → unplaced_of b ≡ p → pending_of b.sorter ≡ []
   none_pending_at nothing p b after last is = absurd (subst (λ x. IsLast x) (sym is ∙ after) last)
-  none_pending_at (timed key h) p b after last is = absurd (subst (λ x. IsLast x) (sym is ∙ after) last)
+  none_pending_at (timed key h) p b (inl after) last is = absurd (subst (λ x. IsLast x) (sym is ∙ after) last)
+  none_pending_at (timed key h) p b (inr after) last is = absurd (subst (λ x. IsLast x) (sym is ∙ after.0) last)
   none_pending_at ending p b after last is = after.1
   none_pending_at (failing e) p b after last is = after.1
   none_pending_at failed p b after last is = after.1
 
   pub none_held : (s : Sorter ℕ HeldRecord) → available_of s ≡ [] → pending_of s ≡ [] → held_of s ≡ []
-  none_held s available pending = sym (take-append-drop s.available s.held.items) ∙ ap (λ xs. xs ++ pending_of s) available ∙ pending
+  none_held s available pending = sym (held_split s) ∙ ap (λ xs. xs ++ pending_of s) available ∙ pending
 
   -- After a call that changed nothing, with nothing available.
   pub none_held_after : (s t : Sorter ℕ HeldRecord) → available_of s ≡ [] → IsUnchanged s t → pending_of s ≡ [] → held_of t ≡ []
@@ -305,12 +382,16 @@ module _ {R : Type 0} (state : R → State) where
   abbrev pub work_of : OrderedRecords R → ℕ
   work_of s = 2 * (2 ^ 64 - s.records.offset) + pending_records (unplaced_of s)
 
-  placed_record : (q : Unplaced) (p : OrderedRecords R) → IsUnplaced q → AfterPlacing state q p → IsOngoing (unplaced_of p) → (pending_records q ≡ 1) × (unplaced_of p ≡ nothing)
-  placed_record nothing p pending after ongoing = absurd pending
-  placed_record (timed key h) p pending after ongoing = (refl, after)
-  placed_record ending p pending after ongoing = absurd (subst (λ x. IsOngoing x) after.0 ongoing)
-  placed_record (failing e) p pending after ongoing = absurd (subst (λ x. IsOngoing x) after.0 ongoing)
-  placed_record failed p pending after ongoing = absurd (subst (λ x. IsOngoing x) after.0 ongoing)
+  none_after : {key : ℕ} {h : RecordView} (p : OrderedRecords R) → AfterPlacing state (timed key h) p → available_of p.sorter ≡ [] → unplaced_of p ≡ nothing
+  none_after p (inl after) none = after
+  none_after p (inr after) none = let same = ap length none in let some = after.1 in absurd (omega (arith, same, some))
+
+  placed_record : (q : Unplaced) (p : OrderedRecords R) → IsUnplaced q → AfterPlacing state q p → available_of p.sorter ≡ [] → IsOngoing (unplaced_of p) → (pending_records q ≡ 1) × (unplaced_of p ≡ nothing)
+  placed_record nothing p pending after none ongoing = absurd pending
+  placed_record (timed key h) p pending after none ongoing = (refl, none_after {key = key} {h = h} p after none)
+  placed_record ending p pending after none ongoing = absurd (subst (λ x. IsOngoing x) after.0 ongoing)
+  placed_record (failing e) p pending after none ongoing = absurd (subst (λ x. IsOngoing x) after.0 ongoing)
+  placed_record failed p pending after none ongoing = absurd (subst (λ x. IsOngoing x) after.0 ongoing)
 
   falls_by_record : (old new n m : ℕ) → old ≡ new → n ≡ 1 → m ≡ 0 → 2 * (2 ^ 64 - new) + m < 2 * (2 ^ 64 - old) + n
   falls_by_record old new n m same one none = omega arith
@@ -318,18 +399,18 @@ module _ {R : Type 0} (state : R → State) where
   falls_by_read : (old new n m : ℕ) → old + 8 ≤ new → new < 2 ^ 64 → m ≡ 0 → 2 * (2 ^ 64 - new) + m < 2 * (2 ^ 64 - old) + n
   falls_by_read old new n m rises fits none = omega arith
 
-  pub work_falls : (s b p kept : OrderedRecords R) (f g : PerfFile) → ReadsPending state s f b g → AfterPlacing state (unplaced_of b) p → p.records ≡ b.records → KeepsSorter p kept → IsOngoing (unplaced_of kept) → work_of kept < work_of s
-  work_falls s b p kept f g (inl (pending, same, same_file)) after same_records unchanged ongoing =
-      let placed = placed_record (unplaced_of s) p pending (subst (λ q. AfterPlacing state (unplaced_of q) p) same after) (subst (λ x. IsOngoing x) unchanged.pending ongoing) in
+  pub work_falls : (s b p kept : OrderedRecords R) (f g : PerfFile) → ReadsPending state s f b g → AfterPlacing state (unplaced_of b) p → p.records ≡ b.records → available_of p.sorter ≡ [] → KeepsSorter p kept → IsOngoing (unplaced_of kept) → work_of kept < work_of s
+  work_falls s b p kept f g (inl (pending, same, same_file)) after same_records available unchanged ongoing =
+      let placed = placed_record (unplaced_of s) p pending (subst (λ q. AfterPlacing state (unplaced_of q) p) same after) available (subst (λ x. IsOngoing x) unchanged.pending ongoing) in
       falls_by_record s.records.offset kept.records.offset (pending_records (unplaced_of s)) (pending_records (unplaced_of kept))
       (sym (ap (λ r. r.offset) unchanged.same_records ∙ ap (λ r. r.offset) same_records ∙ ap (λ q. q.records.offset) same)) placed.0 (ap pending_records (unchanged.pending ∙ placed.1))
-  work_falls s b p kept f g (inr (inl (key, (h, read)))) after same_records unchanged ongoing =
+  work_falls s b p kept f g (inr (inl (key, (h, read)))) after same_records available unchanged ongoing =
       let rises = offset_rises s.records b.records f g h read.returned in
-      let none = subst (λ q. AfterPlacing state q p) read.pending after in
+      let none = none_after {key = key} {h = h} p (subst (λ q. AfterPlacing state q p) read.pending after) available in
       let same = ap (λ r. r.offset) unchanged.same_records ∙ ap (λ r. r.offset) same_records in
       falls_by_read s.records.offset kept.records.offset (pending_records (unplaced_of s)) (pending_records (unplaced_of kept))
       (subst (λ n. s.records.offset + 8 ≤ n) (sym same) rises.0) (subst (λ n. n < 2 ^ 64) (sym same) rises.1) (ap pending_records (unchanged.pending ∙ none))
-  work_falls s b p kept f g (inr (inr (inl read))) after same_records unchanged ongoing =
+  work_falls s b p kept f g (inr (inr (inl read))) after same_records available unchanged ongoing =
       let placed = subst (λ q. AfterPlacing state q p) read.pending after in absurd (subst (λ x. IsOngoing x) (unchanged.pending ∙ placed.0) ongoing)
-  work_falls s b p kept f g (inr (inr (inr (e, read)))) after same_records unchanged ongoing =
+  work_falls s b p kept f g (inr (inr (inr (e, read)))) after same_records available unchanged ongoing =
       let placed = subst (λ q. AfterPlacing state q p) read.pending after in absurd (subst (λ x. IsOngoing x) (unchanged.pending ∙ placed.0) ongoing)

@@ -12,7 +12,7 @@ use Rattle.perfdata_order.specs.declared.streaming.OrderedRecords.{OrderedRecord
 use Rattle.perfdata_order.specs.HeldRecord.{held_view}
 use Rattle.perfdata_order.specs.Order.{IsAtMost}
 use Rattle.perfdata_order.specs.SorterLaws.{inserted_in_rounds, KeepsRoundRule}
-use Rattle.perfdata_order.specs.SorterLaws.Call.{inserts, ends_round, ends_all, returns, keeps}
+use Rattle.perfdata_order.specs.SorterLaws.Call.{inserts, ends_round, ends_all, releases, returns, keeps}
 use Rattle.perfdata_order.specs.StreamingOrder.{Unplaced, unplaced_of, Step, TakesSteps, IsOneRoundLater, IsLaterOrLast}
 use Rattle.perfdata_order.specs.StreamingOrder.Unplaced.{nothing, timed, ending, failing, failed}
 use Rattle.perfdata_order.specs.StreamingOrder.Step.{reads, passes, reads_end, reads_error, sorts, reports}
@@ -21,7 +21,8 @@ use Rattle.perfdata_order.specs.Times.{key_of_time}
 use Rattle.perfdata_order.proofs.AscendingRuns.{all_prefix}
 use Rattle.perfdata_order.proofs.RoundRule.{ascends_under_rule}
 use Rattle.perfdata_order.proofs.StreamingCalls.{IsLast}
-use Rattle.perfdata_order.proofs.StreamingSteps.{nothing_read, calls_sorter_in_turn}
+use Rattle.perfdata_order.proofs.StreamingSteps.{half_released, nothing_read, calls_sorter_in_turn}
+use Rattle.perfdata_order.proofs.StreamingBudget.{counts_early}
 
 abbrev Timed : Type 0
 Timed = ℕ × (ℕ × RecordView)
@@ -211,6 +212,11 @@ module _ {R : Type 0} (state : R → State) where
       let same : ahead s (sorts ends_all ∷ steps) ≡ ahead next steps = ap (λ p. pending_timed p ++ timed_of (read_in steps)) (sym step.0.pending) in
       all_ended n steps s next same given (later_rounds (unplaced_of s) (timed_of (read_in steps)) s.round next.round step.0.round given.rise)
       (λ final. nothing_read state steps next t next_file g (subst (λ q. IsLast q) (sym step.0.pending) final) rest) (λ after. follows (n + 2) steps next t next_file g rest after)
+  follows n (sorts releases ∷ steps) s t f g (next, (next_file, step, rest)) given =
+      let early = (half_released (unplaced_of s) s next step.0).1 in
+      let same : ahead s (sorts releases ∷ steps) ≡ ahead next steps = ap (λ p. pending_timed p ++ timed_of (read_in steps)) (sym early.pending) in
+      let after = same_ahead s next (ahead s steps) (ahead next steps) early.round same given in
+      same_follows n s next (inserted_in_rounds n (calls_in steps)) (ahead s steps) (ahead next steps) early.round same (follows n steps next t next_file g rest after)
   follows n (sorts (returns key held) ∷ steps) s t f g (next, (next_file, step, rest)) given =
       let same : ahead s (sorts (returns key held) ∷ steps) ≡ ahead next steps = ap (λ p. pending_timed p ++ timed_of (read_in steps)) (sym step.0.pending) in
       let after = same_ahead s next (ahead s steps) (ahead next steps) step.0.round same given in
@@ -226,7 +232,7 @@ module _ {R : Type 0} (state : R → State) where
       same_follows n s next (inserted_in_rounds n (calls_in steps)) (ahead s steps) (ahead next steps) step.0.same_order.round same (follows n steps next t next_file g rest after)
 
   pub times_ascend_under_perf_rule : TimesAscendUnderPerfRule state
-  times_ascend_under_perf_rule records first last file file' steps new taken rise rule =
+  times_ascend_under_perf_rule records budget first last file file' steps new taken none_early rise rule =
       let times = timed_of (read_in steps) in
       let none : ahead first steps ≡ times = ap (λ p. pending_timed p ++ times) new.pending in
       let all : All (λ y. 0 ≤ y.0) times = λ i d lt. omega arith in
@@ -236,4 +242,5 @@ module _ {R : Type 0} (state : R → State) where
         rule = rule;
       } in
       ascends_under_rule HeldRecord nat_cmp_total first.sorter last.sorter (calls_in steps) new.empty (calls_sorter_in_turn state first last file file' steps taken)
+      (let counted = counts_early state records budget first last file file' steps new taken in omega (arith, counted, none_early))
       (follows 0 steps first last file file' taken (same_ahead first first times (ahead first steps) refl (sym none) start)).rule

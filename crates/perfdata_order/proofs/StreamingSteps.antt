@@ -10,15 +10,23 @@ use Rattle.linux_perf_data.specs.Layout.{RecordView}
 use Rattle.linux_perf_data.specs.Reading.{ReturnsRecords}
 use Rattle.perfdata_order.specs.declared.held_record.HeldRecord.{HeldRecord}
 use Rattle.perfdata_order.specs.declared.streaming.OrderedRecords.{OrderedRecords}
-use Rattle.perfdata_order.specs.HeldRecord.{held_view}
+use Rattle.perfdata_order.specs.HeldRecord.{held_view, held_size}
 use Rattle.perfdata_order.specs.Sorter.{held_of}
 use Rattle.perfdata_order.specs.SorterLaws.{MakesCalls}
-use Rattle.perfdata_order.specs.SorterLaws.Call.{inserts, ends_round, ends_all, returns, keeps}
-use Rattle.perfdata_order.specs.StreamingOrder.{unplaced_of, Step, TakesSteps, returned_in}
+use Rattle.perfdata_order.specs.SorterLaws.Call.{inserts, ends_round, ends_all, releases, returns, keeps}
+use Rattle.perfdata_order.specs.StreamingOrder.{Unplaced, unplaced_of, Step, TakesSteps, returned_in, HalfReleasedEarly, ReleasesForPending}
+use Rattle.perfdata_order.specs.StreamingOrder.Unplaced.{nothing, timed, ending, failing, failed}
 use Rattle.perfdata_order.specs.StreamingOrder.Step.{reads, passes, reads_end, reads_error, sorts, reports}
 use Rattle.perfdata_order.specs.StreamingLaws.{read_in, calls_in, unplaced_records, held_records, ReturnsEachRecordOnce, ReadsRecordsOfSource, CallsSorterInTurn}
 use Rattle.perfdata_order.proofs.SorterCalls.{held_after_insert, held_before_return}
 use Rattle.perfdata_order.proofs.StreamingCalls.{IsLast}
+
+pub half_released : {R : Type 0} (q : Unplaced) (old new : OrderedRecords R) → ReleasesForPending q old new → (size : ℕ) × HalfReleasedEarly old size new
+half_released nothing old new released = absurd released
+half_released (timed key h) old new released = (held_size h, released)
+half_released ending old new released = absurd released
+half_released (failing e) old new released = absurd released
+half_released failed old new released = absurd released
 
 module _ {R : Type 0} (state : R → State) where
   pub calls_sorter_in_turn : CallsSorterInTurn state
@@ -37,6 +45,8 @@ module _ {R : Type 0} (state : R → State) where
       (next.sorter, step.0.ended, calls_sorter_in_turn next last next_file file' steps rest)
   calls_sorter_in_turn first last file file' (sorts ends_all ∷ steps) (next, (next_file, step, rest)) =
       (next.sorter, step.0.ended, calls_sorter_in_turn next last next_file file' steps rest)
+  calls_sorter_in_turn first last file file' (sorts releases ∷ steps) (next, (next_file, step, rest)) =
+      (next.sorter, (half_released (unplaced_of first) first next step.0).1.released, calls_sorter_in_turn next last next_file file' steps rest)
   calls_sorter_in_turn first last file file' (sorts (returns key held) ∷ steps) (next, (next_file, step, rest)) =
       (next.sorter, step.0.returned, calls_sorter_in_turn next last next_file file' steps rest)
   calls_sorter_in_turn first last file file' (sorts keeps ∷ steps) (next, (next_file, step, rest)) =
@@ -99,6 +109,11 @@ module _ {R : Type 0} (state : R → State) where
       let sorted = IsPermutation-map (λ (e : ℕ × HeldRecord). held_view e.1) (held_of first.sorter) (held_of next.sorter) step.0.ended.sorts.each_once in
       let same = subst (λ p. IsPermutation (held_records state first) (entries (held_of next.sorter) ++ unplaced_records p)) (sym step.0.pending) (IsPermutation-append_left (unplaced_records (unplaced_of first)) (entries (held_of first.sorter)) (entries (held_of next.sorter)) sorted) in
       IsPermutation-trans _ _ _ (IsPermutation-append_left (read_in steps) (held_records state first) (held_records state next) same) (once_from steps next last next_file file' rest)
+  once_from (sorts releases ∷ steps) first last file file' (next, (next_file, step, rest)) =
+      let early = (half_released (unplaced_of first) first next step.0).1 in
+      let sorted = IsPermutation-map (λ (e : ℕ × HeldRecord). held_view e.1) (held_of first.sorter) (held_of next.sorter) early.released.sorts.each_once in
+      let same = subst (λ p. IsPermutation (held_records state first) (entries (held_of next.sorter) ++ unplaced_records p)) (sym early.pending) (IsPermutation-append_left (unplaced_records (unplaced_of first)) (entries (held_of first.sorter)) (entries (held_of next.sorter)) sorted) in
+      IsPermutation-trans _ _ _ (IsPermutation-append_left (read_in steps) (held_records state first) (held_records state next) same) (once_from steps next last next_file file' rest)
   once_from (sorts (returns key held) ∷ steps) first last file file' (next, (next_file, step, rest)) =
       let all = held_before_return first.sorter next.sorter key held step.0.returned in
       let before : held_records state first ≡ held_view held ∷ held_records state next = held_as first first ((key, held) ∷ held_of next.sorter) (unplaced_records (unplaced_of next)) all (ap unplaced_records (sym step.0.pending)) in
@@ -112,7 +127,7 @@ module _ {R : Type 0} (state : R → State) where
       once_kept steps first next last file file' same (once_from steps next last next_file file' rest)
 
   pub returns_each_record_once : ReturnsEachRecordOnce state
-  returns_each_record_once records first last file file' steps new taken =
+  returns_each_record_once records budget first last file file' steps new taken =
       let none : held_records state first ≡ [] = held_as first first [] [] new.empty.empty (ap unplaced_records new.pending) in
       subst (λ h. IsPermutation (h ++ read_in steps) (returned_in steps ++ held_records state last)) none (once_from steps first last file file' taken)
 
@@ -128,6 +143,8 @@ module _ {R : Type 0} (state : R → State) where
   nothing_read (sorts (inserts key held) ∷ steps) first last file file' final (next, (next_file, step, rest)) = absurd (subst (λ q. IsLast q) step.0.was_pending final)
   nothing_read (sorts ends_round ∷ steps) first last file file' final (next, (next_file, step, rest)) = nothing_read steps next last next_file file' (subst (λ q. IsLast q) (sym step.0.pending) final) rest
   nothing_read (sorts ends_all ∷ steps) first last file file' final (next, (next_file, step, rest)) = nothing_read steps next last next_file file' (subst (λ q. IsLast q) (sym step.0.pending) final) rest
+  nothing_read (sorts releases ∷ steps) first last file file' final (next, (next_file, step, rest)) =
+      nothing_read steps next last next_file file' (subst (λ q. IsLast q) (sym (half_released (unplaced_of first) first next step.0).1.pending) final) rest
   nothing_read (sorts (returns key held) ∷ steps) first last file file' final (next, (next_file, step, rest)) = nothing_read steps next last next_file file' (subst (λ q. IsLast q) (sym step.0.pending) final) rest
   nothing_read (sorts keeps ∷ steps) first last file file' final (next, (next_file, step, rest)) = nothing_read steps next last next_file file' (subst (λ q. IsLast q) (sym step.0.pending) final) rest
   nothing_read (reports e ∷ steps) first last file file' final (next, (next_file, step, rest)) = nothing_read steps next last next_file file' (subst (λ q. IsLast q) (sym step.0.pending) tt) rest
@@ -156,10 +173,12 @@ module _ {R : Type 0} (state : R → State) where
   read_from (sorts (inserts key held) ∷ steps) first last file file' (next, (next_file, step, rest)) = from_same first next file next_file (read_in steps) step.0.same_records step.1 (read_from steps next last next_file file' rest)
   read_from (sorts ends_round ∷ steps) first last file file' (next, (next_file, step, rest)) = from_same first next file next_file (read_in steps) step.0.same_records step.1 (read_from steps next last next_file file' rest)
   read_from (sorts ends_all ∷ steps) first last file file' (next, (next_file, step, rest)) = from_same first next file next_file (read_in steps) step.0.same_records step.1 (read_from steps next last next_file file' rest)
+  read_from (sorts releases ∷ steps) first last file file' (next, (next_file, step, rest)) =
+      from_same first next file next_file (read_in steps) (half_released (unplaced_of first) first next step.0).1.same_records step.1 (read_from steps next last next_file file' rest)
   read_from (sorts (returns key held) ∷ steps) first last file file' (next, (next_file, step, rest)) = from_same first next file next_file (read_in steps) step.0.same_records step.1 (read_from steps next last next_file file' rest)
   read_from (sorts keeps ∷ steps) first last file file' (next, (next_file, step, rest)) = from_same first next file next_file (read_in steps) step.0.same_records step.1 (read_from steps next last next_file file' rest)
   read_from (reports e ∷ steps) first last file file' (next, (next_file, step, rest)) = from_same first next file next_file (read_in steps) step.0.same_records step.1 (read_from steps next last next_file file' rest)
 
   pub reads_records_of_source : ReadsRecordsOfSource state
-  reads_records_of_source records first last file file' steps new taken =
+  reads_records_of_source records budget first last file file' steps new taken =
       subst (λ s. ReturnedFrom s file (read_in steps)) new.same_records (read_from steps first last file file' taken)

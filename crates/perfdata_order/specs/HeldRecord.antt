@@ -1,5 +1,5 @@
 -- Records as users see them, from their fields and their bodies.
-use Rattle.std.specs.Prelude.{ℕ, List, Option, None, Some}
+use Rattle.std.specs.Prelude.{ℕ, ◌+◌, List, length, Option, None, Some}
 use Rattle.perfdata_base.specs.declared.raw.Endianness.{Endianness}
 use Rattle.perfdata_records.specs.UserRecordType.{user_type_number}
 use Rattle.linux_perf_data.specs.Attribute.{EventRef}
@@ -36,3 +36,7 @@ view_with info body = record {
 
 abbrev pub held_view : HeldRecord → RecordView
 held_view held = view_with held.info held.body.items
+
+-- The bytes that count for a held record: its body, and what is held beside it.
+abbrev pub held_size : RecordView → ℕ
+held_size h = length h.body + 192

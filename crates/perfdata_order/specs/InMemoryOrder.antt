@@ -15,7 +15,7 @@ use Rattle.perfdata_order.specs.declared.in_memory.InMemoryOrderedRecords.{InMem
 use Rattle.perfdata_order.specs.Sorter.{held_of, pending_of, IsNew, IsUnchanged, Inserted, RoundEnded, AllRoundsEnded, Returned}
 use Rattle.perfdata_order.specs.Times.{time_key_of}
 use Rattle.perfdata_order.specs.SorterLaws.{Call}
-use Rattle.perfdata_order.specs.SorterLaws.Call.{inserts, ends_round, ends_all, returns, keeps}
+use Rattle.perfdata_order.specs.SorterLaws.Call.{inserts, ends_round, ends_all, releases, returns, keeps}
 
 -- A record with its place.
 abbrev pub Entry : Type 0
@@ -41,6 +41,7 @@ returned_in (reads_error e ∷ steps) = returned_in steps
 returned_in (sorts (inserts key entry) ∷ steps) = returned_in steps
 returned_in (sorts ends_round ∷ steps) = returned_in steps
 returned_in (sorts ends_all ∷ steps) = returned_in steps
+returned_in (sorts releases ∷ steps) = returned_in steps
 returned_in (sorts (returns key entry) ∷ steps) = entry ∷ returned_in steps
 returned_in (sorts keeps ∷ steps) = returned_in steps
 returned_in (reports e ∷ steps) = returned_in steps
@@ -141,6 +142,7 @@ abbrev pub CallsSorter : Call ℕ Entry → InMemoryOrderedRecords → InMemoryO
 CallsSorter (inserts key entry) old new = InsertsPending old key entry new
 CallsSorter ends_round old new = EndsOneRound old new
 CallsSorter ends_all old new = EndsRounds old new
+CallsSorter releases old new = ⊥
 CallsSorter (returns key entry) old new = ReturnsSorted old key entry new
 CallsSorter keeps old new = KeepsSorter old new
 

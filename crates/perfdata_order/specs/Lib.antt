@@ -1,4 +1,5 @@
 pub mod Order
+pub mod Entries
 pub mod Sorter
 pub mod SorterLaws
 pub mod InMemoryOrder

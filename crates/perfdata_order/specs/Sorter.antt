@@ -1,23 +1,25 @@
 -- A sorter: the entries that are available, those that are not yet, and the greatest keys. What each call does to them.
-use Rattle.std.specs.Prelude.{◌≡◌, ◌<◌, Bool, true, false, List, [], ◌∷◌, ◌++◌, length, take, drop, Option, None, Some, Result, Ok, Err, All}
+use Rattle.std.specs.Prelude.{◌≡◌, ◌+◌, ◌<◌, ◌≤◌, Bool, true, false, List, [], ◌∷◌, ◌++◌, length, take, drop, Option, None, Some, Result, Ok, Err, All}
 use Rattle.std.specs.declared.cmp.Ordering.{Ordering}
 use Rattle.std.specs.declared.alloc.AllocFailed.{AllocFailed}
 use Rattle.std.specs.declared.alloc.AllocError.{AllocError}
 use Rattle.perfdata_order.specs.declared.sorter.Sorter.{Sorter}
-use Rattle.perfdata_order.specs.Order.{is_within, greatest_with, SortsEntries}
+use Rattle.slab.specs.Slab.{get}
+use Rattle.perfdata_order.specs.Order.{Ascends, is_within, greatest_with, SortsEntries}
+use Rattle.perfdata_order.specs.Entries.{entries_by}
 
 module _ {K V : Type 0} where
   -- All entries that the sorter contains.
   abbrev pub held_of : Sorter K V → List (K × V)
-  held_of s = s.held.items
+  held_of s = entries_by (get s.values) s.order.items
 
   -- The first of them, which are available.
   abbrev pub available_of : Sorter K V → List (K × V)
-  available_of s = take s.available s.held.items
+  available_of s = entries_by (get s.values) (take s.available s.order.items)
 
   -- The others.
   abbrev pub pending_of : Sorter K V → List (K × V)
-  pending_of s = drop s.available s.held.items
+  pending_of s = entries_by (get s.values) (drop s.available s.order.items)
 
   -- The greatest key of all rounds that ended.
   abbrev pub limit_of : Sorter K V → Option K
@@ -42,6 +44,10 @@ module _ {K V : Type 0} where
   abbrev pub TestsAvailable : Sorter K V → Bool → Type 0
   TestsAvailable s true = 0 < length (available_of s)
   TestsAvailable s false = available_of s ≡ []
+
+  abbrev pub TestsEmpty : Sorter K V → Bool → Type 0
+  TestsEmpty s true = held_of s ≡ []
+  TestsEmpty s false = 0 < length (held_of s)
 
   -- The next available value was returned.
   pub record Returned (old : Sorter K V) (key : K) (value : V) (new : Sorter K V) : Type 0 where
@@ -69,6 +75,7 @@ module _ {K V : Type 0} where
     -- The entries that the sorter contains were sorted, and the rest is unchanged.
     pub record HeldSorted (old new : Sorter K V) : Type 0 where
       pub sorts : SortsEntries cmp (held_of old) (held_of new)
+      pub ascends : Ascends cmp new.order.items
       pub limit : limit_of new ≡ limit_of old
       pub greatest : greatest_of new ≡ greatest_of old
 
@@ -98,3 +105,14 @@ module _ {K V : Type 0} where
     abbrev pub EndsAllRounds : Sorter K V → Result (Unit {0}) AllocError → Sorter K V → Type 0
     EndsAllRounds old (Ok done) new = AllRoundsEnded old new
     EndsAllRounds old (Err e) new = IsUnchanged old new
+
+    -- The first half of the entries is available, though their rounds haven't ended.
+    pub record HalfReleased (old new : Sorter K V) : Type 0 where
+      pub sorts : SortsEntries cmp (held_of old) (held_of new)
+      pub half : (length (pending_of new) + length (pending_of new) ≤ length (held_of old)) × (length (held_of old) ≤ length (pending_of new) + length (pending_of new) + 1)
+      pub limit : limit_of new ≡ limit_of old
+      pub greatest : greatest_of new ≡ greatest_of old
+
+    abbrev pub ReleasesHalf : Sorter K V → Result (Unit {0}) AllocError → Sorter K V → Type 0
+    ReleasesHalf old (Ok done) new = HalfReleased old new
+    ReleasesHalf old (Err e) new = IsUnchanged old new

@@ -5,13 +5,14 @@ use Rattle.std.specs.Ordering.{is_lt}
 use Rattle.std.specs.List.Sorted.{IsPermutation, ties}
 use Rattle.perfdata_order.specs.declared.sorter.Sorter.{Sorter}
 use Rattle.perfdata_order.specs.Order.{IsAtMost, Ascends}
-use Rattle.perfdata_order.specs.Sorter.{held_of, IsNew, IsUnchanged, Returned, Inserted, RoundEnded, AllRoundsEnded}
+use Rattle.perfdata_order.specs.Sorter.{held_of, IsNew, IsUnchanged, Returned, Inserted, RoundEnded, AllRoundsEnded, HalfReleased}
 
 -- The effect of a call. `keeps` is a call that failed, or that found no value available.
 pub data Call (K V : Type 0) : Type 0 where
   inserts : K → V → Call K V
   ends_round : Call K V
   ends_all : Call K V
+  releases : Call K V
   returns : K → V → Call K V
   keeps : Call K V
 
@@ -22,6 +23,7 @@ module _ {K V : Type 0} where
   inserted_by (inserts k v ∷ calls) = (k, v) ∷ inserted_by calls
   inserted_by (ends_round ∷ calls) = inserted_by calls
   inserted_by (ends_all ∷ calls) = inserted_by calls
+  inserted_by (releases ∷ calls) = inserted_by calls
   inserted_by (returns k v ∷ calls) = inserted_by calls
   inserted_by (keeps ∷ calls) = inserted_by calls
 
@@ -31,6 +33,7 @@ module _ {K V : Type 0} where
   returned_by (inserts k v ∷ calls) = returned_by calls
   returned_by (ends_round ∷ calls) = returned_by calls
   returned_by (ends_all ∷ calls) = returned_by calls
+  returned_by (releases ∷ calls) = returned_by calls
   returned_by (returns k v ∷ calls) = (k, v) ∷ returned_by calls
   returned_by (keeps ∷ calls) = returned_by calls
 
@@ -41,8 +44,19 @@ module _ {K V : Type 0} where
   inserted_in_rounds n (inserts k v ∷ calls) = (n, (k, v)) ∷ inserted_in_rounds n calls
   inserted_in_rounds n (ends_round ∷ calls) = inserted_in_rounds (n + 1) calls
   inserted_in_rounds n (ends_all ∷ calls) = inserted_in_rounds (n + 2) calls
+  inserted_in_rounds n (releases ∷ calls) = inserted_in_rounds n calls
   inserted_in_rounds n (returns k v ∷ calls) = inserted_in_rounds n calls
   inserted_in_rounds n (keeps ∷ calls) = inserted_in_rounds n calls
+
+  -- How often values were released before their rounds ended.
+  abbrev pub releases_in : List (Call K V) → ℕ
+  releases_in [] = 0
+  releases_in (inserts k v ∷ calls) = releases_in calls
+  releases_in (ends_round ∷ calls) = releases_in calls
+  releases_in (ends_all ∷ calls) = releases_in calls
+  releases_in (releases ∷ calls) = 1 + releases_in calls
+  releases_in (returns k v ∷ calls) = releases_in calls
+  releases_in (keeps ∷ calls) = releases_in calls
 
   -- Consecutive calls that return these entries.
   abbrev pub returns_each : List (K × V) → List (Call K V)
@@ -53,6 +67,7 @@ module _ {K V : Type 0} where
     MakesCall (inserts k v) old new = Inserted cmp old k v new
     MakesCall ends_round old new = RoundEnded cmp old new
     MakesCall ends_all old new = AllRoundsEnded cmp old new
+    MakesCall releases old new = HalfReleased cmp old new
     MakesCall (returns k v) old new = Returned old k v new
     MakesCall keeps old new = IsUnchanged old new
 
@@ -81,7 +96,7 @@ abbrev pub RunsAscend : {K : Type 0} (V : Type 0) → (K → K → Ordering) →
 RunsAscend {K} V cmp = (first middle last : Sorter K V) (calls : List (Call K V)) (run : List (K × V)) → IsNew first → MakesCalls cmp calls first middle →
     MakesCalls cmp (returns_each run) middle last → Ascends cmp run
 
--- Everything that is returned ascends if the inserted entries keep the rule.
+-- Everything that is returned ascends if the inserted entries keep the rule, and no value was released before its round ended.
 abbrev pub AscendsUnderRule : {K : Type 0} (V : Type 0) → (K → K → Ordering) → Type 0
 AscendsUnderRule {K} V cmp = (first last : Sorter K V) (calls : List (Call K V)) → IsNew first → MakesCalls cmp calls first last →
-    KeepsRoundRule cmp (inserted_in_rounds 0 calls) → Ascends cmp (returned_by calls)
+    releases_in calls ≡ 0 → KeepsRoundRule cmp (inserted_in_rounds 0 calls) → Ascends cmp (returned_by calls)

@@ -1,6 +1,7 @@
 -- Laws of the records of a source in order of time.
-use Rattle.std.specs.Prelude.{ℕ, ◌≤◌, List, [], ◌∷◌, ◌++◌, map, All, Option, None, Some}
+use Rattle.std.specs.Prelude.{◌≡◌, ℕ, ◌^◌, ◌<◌, ◌≤◌, ◌⊎◌, min, List, [], ◌∷◌, ◌++◌, length, map, All, Option, None, Some}
 use Rattle.std.specs.Ordering.{nat_cmp}
+use Rattle.std.specs.List.{sum_by}
 use Rattle.std.specs.List.Sorted.{IsPermutation}
 use Rattle.perfdata_base.specs.Source.{State}
 use Rattle.linux_perf_data.specs.declared.records.iter.PerfRecordIter.{PerfRecordIter}
@@ -9,12 +10,12 @@ use Rattle.linux_perf_data.specs.Layout.{RecordView}
 use Rattle.linux_perf_data.specs.Reading.{ReturnsRecords}
 use Rattle.perfdata_order.specs.declared.held_record.HeldRecord.{HeldRecord}
 use Rattle.perfdata_order.specs.declared.streaming.OrderedRecords.{OrderedRecords}
-use Rattle.perfdata_order.specs.HeldRecord.{held_view}
+use Rattle.perfdata_order.specs.HeldRecord.{held_view, held_size}
 use Rattle.perfdata_order.specs.Order.{Ascends}
 use Rattle.perfdata_order.specs.Sorter.{held_of}
-use Rattle.perfdata_order.specs.SorterLaws.{Call, MakesCalls, returned_by, KeepsRoundRule}
+use Rattle.perfdata_order.specs.SorterLaws.{Call, MakesCalls, returned_by, releases_in, KeepsRoundRule}
 use Rattle.perfdata_order.specs.Times.{key_of_time}
-use Rattle.perfdata_order.specs.StreamingOrder.{Unplaced, unplaced_of, Step, TakesSteps, returned_in, IsNewOrder}
+use Rattle.perfdata_order.specs.StreamingOrder.{Unplaced, unplaced_of, early_of, Step, TakesSteps, returned_in, IsNewOrder}
 use Rattle.perfdata_order.specs.StreamingOrder.Unplaced.{nothing, timed, ending, failing, failed}
 use Rattle.perfdata_order.specs.StreamingOrder.Step.{reads, passes, reads_end, reads_error, sorts, reports}
 
@@ -66,13 +67,13 @@ module _ {R : Type 0} (state : R → State) where
 
   -- Each record that was read was returned once, or is held.
   abbrev pub ReturnsEachRecordOnce : Type 0
-  ReturnsEachRecordOnce = (records : PerfRecordIter R) (first last : OrderedRecords R) (file file' : PerfFile) (steps : List Step) →
-      IsNewOrder records first → TakesSteps state steps first file last file' → IsPermutation (read_in steps) (returned_in steps ++ held_records last)
+  ReturnsEachRecordOnce = (records : PerfRecordIter R) (budget : ℕ) (first last : OrderedRecords R) (file file' : PerfFile) (steps : List Step) →
+      IsNewOrder records budget first → TakesSteps state steps first file last file' → IsPermutation (read_in steps) (returned_in steps ++ held_records last)
 
   -- The records that were read are those that consecutive calls of the iterator over the source return.
   abbrev pub ReadsRecordsOfSource : Type 0
-  ReadsRecordsOfSource = (records : PerfRecordIter R) (first last : OrderedRecords R) (file file' : PerfFile) (steps : List Step) →
-      IsNewOrder records first → TakesSteps state steps first file last file' →
+  ReadsRecordsOfSource = (records : PerfRecordIter R) (budget : ℕ) (first last : OrderedRecords R) (file file' : PerfFile) (steps : List Step) →
+      IsNewOrder records budget first → TakesSteps state steps first file last file' →
       (now : PerfRecordIter R) × ((now_file : PerfFile) × ReturnsRecords state records file (read_in steps) now now_file)
 
   -- The calls of the sorter are consecutive, so its laws hold for the timed records.
@@ -80,9 +81,25 @@ module _ {R : Type 0} (state : R → State) where
   CallsSorterInTurn = (first last : OrderedRecords R) (file file' : PerfFile) (steps : List Step) →
       TakesSteps state steps first file last file' → MakesCalls nat_cmp (calls_in steps) first.sorter last.sorter
 
-  -- The timed records that were returned ascend if those that were read keep perf's rule: no record of round n + 2 or later is older
-  -- than one of round n.
+  -- The calls that return records early are counted.
+  abbrev pub CountsEarly : Type 0
+  CountsEarly = (records : PerfRecordIter R) (budget : ℕ) (first last : OrderedRecords R) (file file' : PerfFile) (steps : List Step) →
+      IsNewOrder records budget first → TakesSteps state steps first file last file' → early_of last ≡ min (releases_in (calls_in steps)) 18446744073709551615
+
+  -- Without a budget, no record is returned early.
+  abbrev pub NoneEarlyWithoutBudget : Type 0
+  NoneEarlyWithoutBudget = (records : PerfRecordIter R) (first last : OrderedRecords R) (file file' : PerfFile) (steps : List Step) →
+      IsNewOrder records 0 first → TakesSteps state steps first file last file' → early_of last ≡ 0
+
+  -- The records in the sorter are within the budget, or there is only one.
+  abbrev pub StaysWithinBudget : Type 0
+  StaysWithinBudget = (records : PerfRecordIter R) (budget : ℕ) (first last : OrderedRecords R) (file file' : PerfFile) (steps : List Step) →
+      IsNewOrder records budget first → TakesSteps state steps first file last file' → 0 < budget → budget < 2 ^ 64 →
+      (sum_by (λ (e : ℕ × HeldRecord). held_size (held_view e.1)) (held_of last.sorter) ≤ budget) ⊎ (length (held_of last.sorter) ≤ 1)
+
+  -- The timed records that were returned ascend if none was returned early, and those that were read keep perf's rule: no record of
+  -- round n + 2 or later is older than one of round n.
   abbrev pub TimesAscendUnderPerfRule : Type 0
-  TimesAscendUnderPerfRule = (records : PerfRecordIter R) (first last : OrderedRecords R) (file file' : PerfFile) (steps : List Step) →
-      IsNewOrder records first → TakesSteps state steps first file last file' → RoundsRise (timed_of (read_in steps)) → KeepsRoundRule nat_cmp (timed_of (read_in steps)) →
+  TimesAscendUnderPerfRule = (records : PerfRecordIter R) (budget : ℕ) (first last : OrderedRecords R) (file file' : PerfFile) (steps : List Step) →
+      IsNewOrder records budget first → TakesSteps state steps first file last file' → early_of last ≡ 0 → RoundsRise (timed_of (read_in steps)) → KeepsRoundRule nat_cmp (timed_of (read_in steps)) →
       Ascends nat_cmp (returned_by (calls_in steps))

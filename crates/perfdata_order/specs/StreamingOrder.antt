@@ -1,5 +1,5 @@
 -- The records of a source in order of time: the steps of which a call consists.
-use Rattle.std.specs.Prelude.{◌≡◌, ℕ, ◌+◌, ◌<◌, ◌≤◌, ◌⊎◌, List, [], ◌∷◌, length, Option, None, Some, Result, Ok, Err}
+use Rattle.std.specs.Prelude.{◌≡◌, ℕ, ◌+◌, ◌-◌, ◌^◌, ◌<◌, ◌≤◌, ◌⊎◌, min, Bool, true, false, List, [], ◌∷◌, length, Option, None, Some, Result, Ok, Err}
 use Rattle.std.specs.Ordering.{nat_cmp}
 use Rattle.std.specs.declared.alloc.AllocError.{AllocError}
 use Rattle.perfdata_base.specs.Source.{State}
@@ -19,11 +19,11 @@ use Rattle.perfdata_order.specs.declared.streaming.Pending.TheVariants as varian
 use Rattle.perfdata_order.specs.declared.streaming.BodyBuffer.{BodyBuffer}
 use Rattle.perfdata_order.specs.declared.streaming.BodyBuffer.TheVariants.{Read, Sorted}
 use Rattle.perfdata_order.specs.declared.streaming.OrderedRecords.{OrderedRecords}
-use Rattle.perfdata_order.specs.HeldRecord.{view_with, held_view}
-use Rattle.perfdata_order.specs.Sorter.{held_of, available_of, pending_of, IsNew, IsUnchanged, Inserted, RoundEnded, AllRoundsEnded, Returned}
+use Rattle.perfdata_order.specs.HeldRecord.{view_with, held_view, held_size}
+use Rattle.perfdata_order.specs.Sorter.{held_of, available_of, pending_of, IsNew, IsUnchanged, Inserted, RoundEnded, AllRoundsEnded, HalfReleased, Returned}
 use Rattle.perfdata_order.specs.Times.{key_of_time}
 use Rattle.perfdata_order.specs.SorterLaws.{Call}
-use Rattle.perfdata_order.specs.SorterLaws.Call.{inserts, ends_round, ends_all, returns, keeps}
+use Rattle.perfdata_order.specs.SorterLaws.Call.{inserts, ends_round, ends_all, releases, returns, keeps}
 
 -- What was read from the source and isn't in the sorter: nothing, a timed record with its key, the end, an error that is not yet
 -- returned, or one that was.
@@ -76,6 +76,7 @@ returned_in (reads_error e ∷ steps) = returned_in steps
 returned_in (sorts (inserts key held) ∷ steps) = returned_in steps
 returned_in (sorts ends_round ∷ steps) = returned_in steps
 returned_in (sorts ends_all ∷ steps) = returned_in steps
+returned_in (sorts releases ∷ steps) = returned_in steps
 returned_in (sorts (returns key held) ∷ steps) = held_view held ∷ returned_in steps
 returned_in (sorts keeps ∷ steps) = returned_in steps
 returned_in (reports e ∷ steps) = returned_in steps
@@ -100,31 +101,81 @@ module _ {R : Type 0} where
   abbrev pub unplaced_of : OrderedRecords R → Unplaced
   unplaced_of s = unplaced_by s.pending s.body.items
 
+  -- The budget in bytes, or 0 if there is none.
+  abbrev pub budget_of : OrderedRecords R → ℕ
+  budget_of s = s.budget
+
+  -- The bytes that count for the records in the sorter.
+  abbrev pub held_bytes_of : OrderedRecords R → ℕ
+  held_bytes_of s = s.held_bytes
+
+  -- How often records were returned early.
+  abbrev pub early_of : OrderedRecords R → ℕ
+  early_of s = s.early
+
+  pub record SameBudget (old new : OrderedRecords R) : Type 0 where
+    pub budget : budget_of new ≡ budget_of old
+    pub held_bytes : held_bytes_of new ≡ held_bytes_of old
+    pub early : early_of new ≡ early_of old
+
   -- The sorter and the current round are unchanged.
   pub record SameOrder (old new : OrderedRecords R) : Type 0 where
     pub sorter : new.sorter ≡ old.sorter
     pub round : new.round ≡ old.round
+    pub same_budget : SameBudget old new
+
+  -- A record of this size may be inserted: there is no budget, or the record is within it, or no record is held.
+  abbrev pub HasRoom : OrderedRecords R → ℕ → Type 0
+  HasRoom s size = (budget_of s ≡ 0) ⊎ ((held_bytes_of s + size ≤ budget_of s) ⊎ (held_of s.sorter ≡ []))
 
   -- The pending record was inserted into the sorter. The rounds before its own had ended.
   pub record InsertsPending (old : OrderedRecords R) (key : ℕ) (held : HeldRecord) (new : OrderedRecords R) : Type 0 where
     pub was_pending : unplaced_of old ≡ timed key (held_view held)
     pub in_round : (held_view held).round ≤ old.round
+    pub none_available : available_of old.sorter ≡ []
+    pub has_room : HasRoom old (held_size (held_view held))
+    pub size_fits : held_size (held_view held) < 2 ^ 64
     pub inserted : Inserted nat_cmp old.sorter key held new.sorter
     pub pending : unplaced_of new ≡ nothing
     pub same_records : new.records ≡ old.records
     pub round : new.round ≡ old.round
+    pub budget : budget_of new ≡ budget_of old
+    pub early : early_of new ≡ early_of old
+    pub held_bytes : held_bytes_of old + held_size (held_view held) < 2 ^ 64 → held_bytes_of new ≡ held_bytes_of old + held_size (held_view held)
 
   pub record EndsOneRound (old new : OrderedRecords R) : Type 0 where
     pub round : IsOneRoundLater (unplaced_of old) old.round new.round
     pub ended : RoundEnded nat_cmp old.sorter new.sorter
     pub pending : unplaced_of new ≡ unplaced_of old
     pub same_records : new.records ≡ old.records
+    pub same_budget : SameBudget old new
 
   pub record EndsRounds (old new : OrderedRecords R) : Type 0 where
     pub round : IsLaterOrLast (unplaced_of old) old.round new.round
     pub ended : AllRoundsEnded nat_cmp old.sorter new.sorter
     pub pending : unplaced_of new ≡ unplaced_of old
     pub same_records : new.records ≡ old.records
+    pub same_budget : SameBudget old new
+
+  -- The older half of the records became available, because the budget has no room for one more of this size.
+  pub record HalfReleasedEarly (old : OrderedRecords R) (size : ℕ) (new : OrderedRecords R) : Type 0 where
+    pub has_budget : 0 < budget_of old
+    pub exceeds : budget_of old < held_bytes_of old + size
+    pub some_held : 0 < length (held_of old.sorter)
+    pub released : HalfReleased nat_cmp old.sorter new.sorter
+    pub pending : unplaced_of new ≡ unplaced_of old
+    pub same_records : new.records ≡ old.records
+    pub round : new.round ≡ old.round
+    pub budget : budget_of new ≡ budget_of old
+    pub held_bytes : held_bytes_of new ≡ held_bytes_of old
+    pub counted : early_of new ≡ min (early_of old + 1) 18446744073709551615
+
+  abbrev pub ReleasesForPending : Unplaced → OrderedRecords R → OrderedRecords R → Type 0
+  ReleasesForPending nothing old new = ⊥
+  ReleasesForPending (timed key h) old new = HalfReleasedEarly old (held_size h) new
+  ReleasesForPending ending old new = ⊥
+  ReleasesForPending (failing e) old new = ⊥
+  ReleasesForPending failed old new = ⊥
 
   -- The next available record was returned.
   pub record ReturnsSorted (old : OrderedRecords R) (key : ℕ) (held : HeldRecord) (new : OrderedRecords R) : Type 0 where
@@ -132,6 +183,9 @@ module _ {R : Type 0} where
     pub pending : unplaced_of new ≡ unplaced_of old
     pub same_records : new.records ≡ old.records
     pub round : new.round ≡ old.round
+    pub budget : budget_of new ≡ budget_of old
+    pub early : early_of new ≡ early_of old
+    pub held_bytes : held_bytes_of new ≡ held_bytes_of old - held_size (held_view held)
 
   -- A call of the sorter changed nothing.
   pub record KeepsSorter (old new : OrderedRecords R) : Type 0 where
@@ -139,6 +193,7 @@ module _ {R : Type 0} where
     pub pending : unplaced_of new ≡ unplaced_of old
     pub same_records : new.records ≡ old.records
     pub round : new.round ≡ old.round
+    pub same_budget : SameBudget old new
 
   -- The error that was read was returned. All records before it had been returned.
   pub record ReportsError (old : OrderedRecords R) (e : Error) (new : OrderedRecords R) : Type 0 where
@@ -152,6 +207,7 @@ module _ {R : Type 0} where
   CallsSorter (inserts key held) old new = InsertsPending old key held new
   CallsSorter ends_round old new = EndsOneRound old new
   CallsSorter ends_all old new = EndsRounds old new
+  CallsSorter releases old new = ReleasesForPending (unplaced_of old) old new
   CallsSorter (returns key held) old new = ReturnsSorted old key held new
   CallsSorter keeps old new = KeepsSorter old new
 
@@ -162,6 +218,7 @@ module _ {R : Type 0} where
     pub ended : RoundEnded nat_cmp old.sorter new.sorter
     pub pending : unplaced_of new ≡ unplaced_of old
     pub same_records : new.records ≡ old.records
+    pub same_budget : SameBudget old new
 
   pub record RoundsEnded (old : OrderedRecords R) (to : ℕ) (new : OrderedRecords R) : Type 0 where
     pub is_later : old.round + 2 ≤ to
@@ -169,17 +226,26 @@ module _ {R : Type 0} where
     pub ended : AllRoundsEnded nat_cmp old.sorter new.sorter
     pub pending : unplaced_of new ≡ unplaced_of old
     pub same_records : new.records ≡ old.records
+    pub same_budget : SameBudget old new
 
   abbrev pub EndsRoundsBefore : OrderedRecords R → ℕ → Result (Unit {0}) AllocError → OrderedRecords R → Type 0
   EndsRoundsBefore old to (Ok done) new = ((to ≤ old.round) × (new ≡ old)) ⊎ (OneRoundEnded old to new ⊎ RoundsEnded old to new)
   EndsRoundsBefore old to (Err e) new = KeepsSorter old new
 
+  -- Room for a record of this size, if the budget had none.
+  abbrev pub ReleasesEarly : OrderedRecords R → ℕ → Result (Unit {0}) AllocError → OrderedRecords R → Type 0
+  ReleasesEarly old size (Ok done) new = (HasRoom old size × (new ≡ old)) ⊎ HalfReleasedEarly old size new
+  ReleasesEarly old size (Err e) new = KeepsSorter old new
+
   -- A new order has an empty sorter, and nothing was read.
-  pub record IsNewOrder (records : PerfRecordIter R) (new : OrderedRecords R) : Type 0 where
+  pub record IsNewOrder (records : PerfRecordIter R) (bytes : ℕ) (new : OrderedRecords R) : Type 0 where
     pub same_records : new.records ≡ records
     pub empty : IsNew new.sorter
     pub round : new.round ≡ 0
     pub pending : unplaced_of new ≡ nothing
+    pub budget : budget_of new ≡ bytes
+    pub none_held : held_bytes_of new ≡ 0
+    pub none_early : early_of new ≡ 0
 
   -- The end or the error was taken, if one is pending. After an error, each call fails.
   abbrev pub TakesEnd : OrderedRecords R → Option (Result (Unit {0}) Error) → OrderedRecords R → Type 0
@@ -328,10 +394,31 @@ module _ {R : Type 0} where
       pub none_returned : returned_in steps ≡ []
       pub taken : (file : PerfFile) → TakesSteps steps old file new file
 
-    -- What was pending is in the sorter. At the end of the input, all rounds ended.
+    -- The rounds before that of the pending record ended, and the record may be inserted.
+    pub record HasMadeRoom (old : OrderedRecords R) (h : RecordView) (new : OrderedRecords R) : Type 0 where
+      pub places : Places old new
+      pub pending : unplaced_of new ≡ unplaced_of old
+      pub same_records : new.records ≡ old.records
+      pub in_round : h.round ≤ new.round
+      pub none_available : available_of new.sorter ≡ []
+      pub has_room : HasRoom new (held_size h)
+
+    -- Records are available, and the pending record is still pending.
+    pub record HasAvailable (old new : OrderedRecords R) : Type 0 where
+      pub places : Places old new
+      pub pending : unplaced_of new ≡ unplaced_of old
+      pub same_records : new.records ≡ old.records
+      pub available : 0 < length (available_of new.sorter)
+
+    abbrev pub MakesRoom : OrderedRecords R → RecordView → Result Bool AllocError → OrderedRecords R → Type 0
+    MakesRoom old h (Ok true) new = HasMadeRoom old h new
+    MakesRoom old h (Ok false) new = HasAvailable old new
+    MakesRoom old h (Err e) new = Places old new
+
+    -- What was pending is in the sorter, or records are to be returned before it. At the end of the input, all rounds ended.
     abbrev pub AfterPlacing : Unplaced → OrderedRecords R → Type 0
     AfterPlacing nothing new = unplaced_of new ≡ nothing
-    AfterPlacing (timed key h) new = unplaced_of new ≡ nothing
+    AfterPlacing (timed key h) new = (unplaced_of new ≡ nothing) ⊎ ((unplaced_of new ≡ timed key h) × (0 < length (available_of new.sorter)))
     AfterPlacing ending new = (unplaced_of new ≡ ending) × (pending_of new.sorter ≡ [])
     AfterPlacing (failing e) new = (unplaced_of new ≡ failing e) × (pending_of new.sorter ≡ [])
     AfterPlacing failed new = (unplaced_of new ≡ failed) × (pending_of new.sorter ≡ [])

@@ -1,6 +1,6 @@
 //! Laws of values and of records in order.
 ghost use Rattle.perfdata_order.specs.InMemoryLaws.{CallsSorterInTurn, ReadsRecordsOfInput, ReturnsEachRecordOnce, TimesAscendUnderPerfRule};
-ghost use Rattle.perfdata_order.specs.StreamingLaws.{ReadsRecordsOfSource, ReturnsEachRecordOnce as ReturnsEachRecordOnceOf, CallsSorterInTurn as CallsSorterInTurnOf, TimesAscendUnderPerfRule as TimesAscendUnderPerfRuleOf};
+ghost use Rattle.perfdata_order.specs.StreamingLaws.{ReadsRecordsOfSource, CountsEarly, NoneEarlyWithoutBudget, StaysWithinBudget, ReturnsEachRecordOnce as ReturnsEachRecordOnceOf, CallsSorterInTurn as CallsSorterInTurnOf, TimesAscendUnderPerfRule as TimesAscendUnderPerfRuleOf};
 ghost use Rattle.perfdata_order.specs.SorterLaws.{AscendsUnderRule, KeepsInsertionOrder, ReturnsEachOnce, RunsAscend};
 
 use linux_perf_data::source::Source;
@@ -8,7 +8,7 @@ use linux_perf_data::source::Source;
 /// A [`Sorter`](crate::sorter::Sorter) returns each inserted value once. Equal keys keep the order of insertion, and consecutive
 /// calls of `get_next` ascend.
 ///
-/// All returned values ascend if no key of round n + 2 or later is smaller than a key of round n.
+/// All returned values ascend if no key of round n + 2 or later is smaller than a key of round n, and no half was released.
 pub fn sorter<K: Ord, V>()
     ensures each_once { ReturnsEachOnce V K.cmp }
     ensures insertion_order { KeepsInsertionOrder V K.cmp }
@@ -26,10 +26,13 @@ pub fn in_memory()
 {}
 
 /// Over a source, each record that the iterator over the source returns is returned once, or is still held. The timed records
-/// are those of a sorter, so its laws apply to them.
+/// are those of a sorter, so its laws apply to them. With a budget, the held records are within it, or there is only one.
 pub fn streaming<R: Source>()
     ensures each_once { ReturnsEachRecordOnceOf R.state }
     ensures of_source { ReadsRecordsOfSource R.state }
     ensures sorter_calls { CallsSorterInTurnOf R.state }
+    ensures counts_early { CountsEarly R.state }
+    ensures none_early_without_budget { NoneEarlyWithoutBudget R.state }
+    ensures within_budget { StaysWithinBudget R.state }
     ensures times_ascend { TimesAscendUnderPerfRuleOf R.state }
 {}

@@ -1,8 +1,12 @@
 //! Values in order of their keys, made available as rounds end.
 ghost use Rattle.std.specs.Prelude.{◌≡◌, ◌≤◌, length, take, drop, All, true, false};
 ghost use Rattle.std.specs.VecDeque.{deque_len};
+ghost use Rattle.std.proofs.Props.{props};
+ghost use Rattle.slab.specs.Slab.{get};
 ghost use Rattle.perfdata_order.specs.Order.{Ascends, greatest_with, is_within};
+ghost use Rattle.perfdata_order.specs.Entries.{IsPlaced};
 
+use slab::Slab;
 use std::alloc::{AllocError, AllocFailed, Global};
 use std::collections::VecDeque;
 
@@ -10,18 +14,23 @@ use std::collections::VecDeque;
 ///
 /// Once a round ends, the values whose keys are at most the greatest key of the rounds before it are available, in ascending
 /// order of their keys. Values with equal keys are returned in the order in which they were inserted.
+///
+/// Sorting moves keys and no values.
 #[derive(Drop)]
 pub struct Sorter<K, V> {
     alloc: Global,
-    held: VecDeque<(K, V)>,
+    // The keys, each with the slot of its value.
+    order: VecDeque<(K, usize)>,
+    values: Slab<V>,
     available: usize,
     limit: Option<K>,
     greatest: Option<K>,
-    ghost in_range: { available ≤ deque_len held },
+    ghost in_range: { available ≤ deque_len order },
+    ghost placed: { IsPlaced (get values) order.items } by { Prim.hlevel props },
 }
 
 impl<K, V> Sorter<K, V> {
-    ghost use Rattle.perfdata_order.specs.Sorter.{IsNew, TestsAvailable};
+    ghost use Rattle.perfdata_order.specs.Sorter.{IsNew, TestsAvailable, TestsEmpty};
 
     /// Returns a sorter without values, which allocates with `alloc`.
     pub fn new(alloc: Global) -> Sorter<K, V>
@@ -29,7 +38,8 @@ impl<K, V> Sorter<K, V> {
     {
         Sorter {
             alloc,
-            held: VecDeque::new(alloc),
+            order: VecDeque::new(alloc),
+            values: Slab::new(alloc),
             available: 0,
             limit: None,
             greatest: None,
@@ -41,6 +51,13 @@ impl<K, V> Sorter<K, V> {
         ensures { TestsAvailable self.now result }
     {
         self.available > 0
+    }
+
+    /// Returns whether the sorter contains no values.
+    pub fn is_empty(&self) -> bool
+        ensures { TestsEmpty self.now result }
+    {
+        self.order.len() == 0
     }
 }
 
@@ -61,7 +78,7 @@ fn greatest_key<K: Ord + Copy>(greatest: Option<K>, key: K) -> K
 }
 
 impl<K: Ord + Copy, V> Sorter<K, V> {
-    ghost use Rattle.perfdata_order.specs.Sorter.{held_of, limit_of, InsertsEntry, SortsHeld, EndsRound, EndsAllRounds, TakesNext};
+    ghost use Rattle.perfdata_order.specs.Sorter.{limit_of, InsertsEntry, SortsHeld, EndsRound, EndsAllRounds, ReleasesHalf, TakesNext};
 
     /// Inserts a value into the current round.
     ///
@@ -71,13 +88,22 @@ impl<K: Ord + Copy, V> Sorter<K, V> {
     pub fn insert_unordered(&mut self, key: K, value: V) -> Result<(), AllocFailed<(K, V)>>
         ensures { InsertsEntry K.cmp self.old key value result self.new }
     {
-        match self.held.push_back((key, value)) {
-            Ok(()) => {
-                self.greatest = Some(greatest_key(self.greatest, key));
-                Ok(())
-            }
-            Err(error) => Err(error),
+        match self.values.reserve(1) {
+            Ok(()) => {}
+            Err(_) => return Err(AllocFailed {
+                value: (key, value),
+            }),
         }
+        let slot = self.values.vacant_key();
+        match self.order.push_back((key, slot)) {
+            Ok(()) => {}
+            Err(_) => return Err(AllocFailed {
+                value: (key, value),
+            }),
+        }
+        let _slot = self.values.insert_reserved(value);
+        self.greatest = Some(greatest_key(self.greatest, key));
+        Ok(())
     }
 
     // Sorts all values by their keys. Equal keys keep their order.
@@ -85,8 +111,8 @@ impl<K: Ord + Copy, V> Sorter<K, V> {
         ensures { SortsHeld K.cmp self.old result self.new }
     {
         let alloc = self.alloc;
-        let held = self.held.make_contiguous();
-        match held.sort_by_key(alloc, |entry| entry.0) {
+        let order = self.order.make_contiguous();
+        match order.sort_by_key(alloc, |entry| entry.0) {
             Ok(()) => Ok(()),
             Err(error) => Err(error),
         }
@@ -94,14 +120,14 @@ impl<K: Ord + Copy, V> Sorter<K, V> {
 
     // The number of values, from the first, whose keys are at most the limit.
     fn count_within_limit(&self) -> usize
-        requires { Ascends K.cmp (held_of self.now) }
-        ensures in_range { result ≤ length (held_of self.now) }
-        ensures within { All (λ e. is_within K.cmp (limit_of self.now) e ≡ true) (take result (held_of self.now)) }
-        ensures beyond { All (λ e. is_within K.cmp (limit_of self.now) e ≡ false) (drop result (held_of self.now)) }
+        requires { Ascends K.cmp self.now.order.items }
+        ensures in_range { result ≤ deque_len self.now.order }
+        ensures within { All (λ e. is_within K.cmp (limit_of self.now) e ≡ true) (take result self.now.order.items) }
+        ensures beyond { All (λ e. is_within K.cmp (limit_of self.now) e ≡ false) (drop result self.now.order.items) }
     {
         match self.limit {
             Some(limit) => self
-                .held
+                .order
                 .partition_point(|entry| entry.0.cmp(&limit).is_le()),
             None => 0,
         }
@@ -132,8 +158,24 @@ impl<K: Ord + Copy, V> Sorter<K, V> {
         ensures { EndsAllRounds K.cmp self.old result self.new }
     {
         self.sort_held()?;
-        self.available = self.held.len();
+        self.available = self.order.len();
         self.limit = self.greatest;
+        Ok(())
+    }
+
+    /// Makes the first half of the values available, in ascending order of their keys, though their rounds haven't ended. Of an
+    /// odd number of values, the half has one more than the rest.
+    ///
+    /// A value that is inserted later may have a smaller key than those.
+    ///
+    /// # Errors
+    ///
+    /// If memory runs out, the sorter is unchanged, and the call can be repeated.
+    pub fn release_half(&mut self) -> Result<(), AllocError>
+        ensures { ReleasesHalf K.cmp self.old result self.new }
+    {
+        self.sort_held()?;
+        self.available = self.order.len().div_ceil(2);
         Ok(())
     }
 
@@ -144,8 +186,8 @@ impl<K: Ord + Copy, V> Sorter<K, V> {
         if self.available == 0 {
             return None;
         }
-        let (_key, value) = self.held.pop_front()?;
+        let (_key, slot) = self.order.pop_front()?;
         self.available -= 1;
-        Some(value)
+        self.values.try_remove(slot)
     }
 }

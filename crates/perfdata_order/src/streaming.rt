@@ -1,5 +1,5 @@
 //! The records of a source, in order of time.
-ghost use Rattle.std.specs.Prelude.{◌≡◌, ◌≤◌, [], vec_capacity};
+ghost use Rattle.std.specs.Prelude.{◌≡◌, ℕ, ◌+◌, ◌^◌, ◌<◌, ◌≤◌, [], MatchBool, vec_capacity};
 ghost use Rattle.perfdata_order.specs.StreamingOrder.{ReadsRecord};
 
 use crate::held_record::{HeldRecord, RecordInfo, copy_body};
@@ -38,7 +38,8 @@ const BODY_CAPACITY: usize = 65536;
 ///
 /// The timed records ascend as long as the recording keeps perf's rule: no record of round n + 2 or of a later round is older
 /// than a record of round n. The records of two rounds are held, with their bodies. If the recording has no rounds, all timed
-/// records are held. Equal timestamps keep the order of the source. The buffers of returned bodies are used again.
+/// records are held, unless there is a budget ([`OrderedRecords::with_budget`]). Equal timestamps keep the order of the source.
+/// The buffers of returned bodies are used again.
 #[derive(Drop)]
 pub struct OrderedRecords<R> {
     alloc: Global,
@@ -49,14 +50,30 @@ pub struct OrderedRecords<R> {
     body: Vec<u8>,
     returned: Vec<u8>,
     spare: Vec<Vec<u8>>,
+    // In bytes. 0 if there is no budget.
+    budget: u64,
+    held_bytes: u64,
+    early: u64,
 }
 
 impl<R> OrderedRecords<R> {
-    ghost use Rattle.perfdata_order.specs.StreamingOrder.{IsNewOrder, EndsRoundsBefore, TakesEnd, TakesSorted, body_in};
+    ghost use Rattle.perfdata_order.specs.StreamingOrder.{IsNewOrder, EndsRoundsBefore, ReleasesEarly, TakesEnd, TakesSorted, body_in, early_of};
 
     /// Returns the records of `records` in order of time. The order allocates with `alloc`.
     pub fn new(alloc: Global, records: PerfRecordIter<R>) -> OrderedRecords<R>
-        ensures { IsNewOrder records result }
+        ensures { IsNewOrder records 0 result }
+    {
+        OrderedRecords::with_budget(alloc, records, 0)
+    }
+
+    /// Returns the records of `records` in order of time, and holds at most `budget` bytes of them. The order allocates with
+    /// `alloc`. 0 is no budget.
+    ///
+    /// A held record counts as the length of its body and 192 bytes. If the next record would exceed the budget, the older half
+    /// of the held records is returned early, though older records may follow. A record that exceeds the budget alone is held
+    /// alone.
+    pub fn with_budget(alloc: Global, records: PerfRecordIter<R>, budget: u64) -> OrderedRecords<R>
+        ensures { IsNewOrder records budget result }
     {
         OrderedRecords {
             alloc,
@@ -67,6 +84,49 @@ impl<R> OrderedRecords<R> {
             body: Vec::new(alloc),
             returned: Vec::new(alloc),
             spare: Vec::new(alloc),
+            budget,
+            held_bytes: 0,
+            early: 0,
+        }
+    }
+
+    /// Returns how often a half of the held records was returned early, because the budget had no room for the next record. It
+    /// counts to 2^64 - 1.
+    ///
+    /// While it is 0, the records are in the order that they have without a budget.
+    pub fn early(&self) -> u64
+        ensures { result ≡ early_of self.now }
+    {
+        self.early
+    }
+
+    // Whether the budget, which isn't 0, has room for a record of this size.
+    fn is_within_budget(&self, size: u64) -> bool
+        ensures { MatchBool result (self.now.held_bytes + size ≤ self.now.budget) (self.now.budget < self.now.held_bytes + size) }
+    {
+        let budget = self.budget;
+        match self.held_bytes.checked_add(size) {
+            Some(total) => total <= budget,
+            None => false,
+        }
+    }
+
+    // Makes the older half of the records available, if the budget has no room for a record of this size.
+    fn release_early(&mut self, size: u64) -> Result<(), AllocError>
+        ensures { ReleasesEarly self.old size result self.new }
+    {
+        if self.budget == 0 || self.sorter.is_empty() {
+            return Ok(());
+        }
+        if self.is_within_budget(size) {
+            return Ok(());
+        }
+        match self.sorter.release_half() {
+            Ok(()) => {
+                self.early = self.early.saturating_add(1);
+                Ok(())
+            }
+            Err(error) => Err(error),
         }
     }
 
@@ -97,6 +157,8 @@ impl<R> OrderedRecords<R> {
                 let buffer = replace(&mut self.returned, body);
                 // If memory runs out, the buffer is freed.
                 let _kept = self.spare.push(buffer);
+                let size = held_size(self.returned.len());
+                self.held_bytes = self.held_bytes.saturating_sub(size);
                 Some(info)
             }
             None => None,
@@ -130,6 +192,16 @@ impl<R> OrderedRecords<R> {
     }
 }
 
+// The bytes that count for a held record with a body of this length: the body, and what is held beside it.
+const HELD_RECORD_BYTES: u64 = 192;
+
+fn held_size(body_len: usize) -> u64
+    requires { body_len < 2 ^ 63 }
+    ensures { result ≡ body_len + 192 }
+{
+    body_len as u64 + HELD_RECORD_BYTES
+}
+
 // Reads the next record, and copies its body.
 fn read_record<R: Source>(
     records: &mut PerfRecordIter<R>,
@@ -158,7 +230,10 @@ impl<R: Source> OrderedRecords<R> {
     ghost use Rattle.std.specs.Borrow.{sem};
     ghost use Rattle.perfdata_order.specs.contracts.streaming.OrderedRecords.{the_row};
     ghost use Rattle.perfdata_order.specs.declared.streaming.Pending.TheVariants.{Record};
-    ghost use Rattle.perfdata_order.specs.StreamingOrder.{PlacesPending, ReadsNext, AdvancesInOrder, ReturnsInOrder};
+    ghost use Rattle.perfdata_order.specs.StreamingOrder.{unplaced_of, MakesRoom, PlacesPending, ReadsNext, AdvancesInOrder, ReturnsInOrder};
+    ghost use Rattle.perfdata_order.specs.StreamingOrder.Unplaced.{timed};
+    ghost use Rattle.perfdata_order.specs.HeldRecord.{held_size as size_of};
+    ghost use Rattle.linux_perf_data.specs.Layout.{RecordView};
 
     // Reads the next record, unless something is pending. Its body is then in `self.body`. Returns it if it has no time.
     fn read(&mut self, perf_file: &mut PerfFile) -> Result<Option<RecordInfo>, AllocError>
@@ -192,13 +267,37 @@ impl<R: Source> OrderedRecords<R> {
         }
     }
 
-    // Inserts the pending record into the sorter, after the rounds before its own ended.
+    // Ends the rounds before the round of the pending record, and releases records early if the budget has no room for it.
+    // Returns whether it may be inserted: if not, records are available that are returned before.
+    fn make_room(&mut self, round: u64, size: u64) -> Result<bool, AllocError>
+        ensures { (key : ℕ) (h : RecordView) → unplaced_of self.old ≡ timed key h → h.round ≡ round → size_of h ≡ size → MakesRoom R.state self.old h result self.new }
+    {
+        if self.sorter.has_more() {
+            return Ok(false);
+        }
+        match self.end_rounds(round) {
+            Ok(()) => {}
+            Err(error) => return Err(error),
+        }
+        if self.sorter.has_more() {
+            return Ok(false);
+        }
+        match self.release_early(size) {
+            Ok(()) => {}
+            Err(error) => return Err(error),
+        }
+        Ok(!self.sorter.has_more())
+    }
+
+    // Inserts the pending record into the sorter, if there is room for it.
     fn place_record(&mut self, key: u64, info: RecordInfo) -> Result<(), AllocError>
         requires { self.old.pending ≡ Record key info }
         ensures { PlacesPending R.state self.old result self.new }
     {
-        match self.end_rounds(info.place.round) {
-            Ok(()) => {}
+        let size = held_size(self.body.len());
+        match self.make_room(info.place.round, size) {
+            Ok(true) => {}
+            Ok(false) => return Ok(()),
             Err(error) => return Err(error),
         }
         let body = self.body.as_slice();
@@ -209,6 +308,7 @@ impl<R: Source> OrderedRecords<R> {
         match self.sorter.insert_unordered(key, held) {
             Ok(()) => {
                 self.pending = Pending::Nothing;
+                self.held_bytes = self.held_bytes.saturating_add(size);
                 Ok(())
             }
             Err(_) => Err(AllocError),

@@ -1,4 +1,5 @@
 use Rattle.perfdata_order.proofs.StreamingSteps.{returns_each_record_once, reads_records_of_source, calls_sorter_in_turn}
+use Rattle.perfdata_order.proofs.StreamingBudget.{counts_early, none_early_without_budget, stays_within_budget}
 use Rattle.perfdata_order.proofs.StreamingRule.{times_ascend_under_perf_rule}
 use Rattle.perfdata_order.proofs.laws.streaming.Goals as goal
 
@@ -13,3 +14,12 @@ returns-clause-sorter_calls g c = calls_sorter_in_turn g.R.Source.state
 
 pub returns-clause-times_ascend : goal.returns-clause-times_ascend
 returns-clause-times_ascend g c = times_ascend_under_perf_rule g.R.Source.state
+
+pub returns-clause-counts_early : goal.returns-clause-counts_early
+returns-clause-counts_early g c = counts_early g.R.Source.state
+
+pub returns-clause-none_early_without_budget : goal.returns-clause-none_early_without_budget
+returns-clause-none_early_without_budget g c = none_early_without_budget g.R.Source.state
+
+pub returns-clause-within_budget : goal.returns-clause-within_budget
+returns-clause-within_budget g c = stays_within_budget g.R.Source.state

@@ -6,7 +6,7 @@ use Rattle.perfdata_order.proofs.sorter.Sorter.count_within_limit.Goals as goal
 
 pub returns-in-Some-clause-within : goal.returns-in-Some-clause-within
 returns-in-Some-clause-within g c =
-    let entries = c.args.self.now.held.items in
+    let entries = c.args.self.now.order.items in
     let within = is_within g.K.Ord.cmp (Some c.in-Some.limit) in
     let first = within_first g.met.K.Ord.total (Some c.in-Some.limit) entries c.requires in
     let fits : c.partition_point.result ≤ length entries = search rules in
@@ -15,7 +15,7 @@ returns-in-Some-clause-within g c =
 
 pub returns-in-Some-clause-beyond : goal.returns-in-Some-clause-beyond
 returns-in-Some-clause-beyond g c =
-    let entries = c.args.self.now.held.items in
+    let entries = c.args.self.now.order.items in
     let within = is_within g.K.Ord.cmp (Some c.in-Some.limit) in
     let first = within_first g.met.K.Ord.total (Some c.in-Some.limit) entries c.requires in
     let point = IsPartitionPoint-from_clause within entries c.partition_point.result c.partition_point.ensures.partitioned first (λ a r q k. search rules) in

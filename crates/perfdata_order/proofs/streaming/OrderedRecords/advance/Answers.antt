@@ -89,5 +89,5 @@ pub reads-smaller : goal.reads-smaller
 reads-smaller g c =
     let state = g.R.Source.state in
     let pending = rw c.in-Ok-None.field-0-is at c.in-Ok-None.ensures in
-    let falls = work_falls state c.reads.self c.read.new.self c.place_pending.new.self c.take_sorted-in-reads.new.self c.reads.perf_file c.read.new.perf_file pending c.in-Ok.ensures.1 c.in-Ok.ensures.2 c.in-None-take_sorted.ensures.1 c.in-None-take_end.ensures.1 in
+    let falls = work_falls state c.reads.self c.read.new.self c.place_pending.new.self c.take_sorted-in-reads.new.self c.reads.perf_file c.read.new.perf_file pending c.in-Ok.ensures.1 c.in-Ok.ensures.2 c.in-None-take_sorted.ensures.0 c.in-None-take_sorted.ensures.1 c.in-None-take_end.ensures.1 in
     subst (λ s. work_of state s < work_of state c.reads.self) (sym c.in-None-take_end.ensures.0) falls
