@@ -4,6 +4,8 @@
 #[cfg(test)]
 mod in_memory;
 #[cfg(test)]
+mod random_rounds;
+#[cfg(test)]
 mod sorter;
 #[cfg(test)]
 mod streaming;

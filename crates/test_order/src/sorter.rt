@@ -64,3 +64,18 @@ fn equal_keys_keep_their_order(rt: HostRuntime) -> Result<(), Fail> {
     let values = take_available(alloc, &mut sorter)?;
     expect_eq(&values.as_slice(), &wanted.as_slice())
 }
+
+#[test]
+fn half_released_before_its_round_ends(rt: HostRuntime) -> Result<(), Fail> {
+    let alloc = rt.alloc();
+    let mut sorter = Sorter::new(alloc);
+    insert_all(&mut sorter, &[(30, 1), (10, 2), (50, 3), (20, 4), (40, 5)])?;
+    sorter.release_half()?;
+    let values = take_available(alloc, &mut sorter)?;
+    expect_eq(&values.as_slice(), &[2, 4, 1].as_slice())?;
+    insert_all(&mut sorter, &[(15, 6)])?;
+    sorter.finish()?;
+    let values = take_available(alloc, &mut sorter)?;
+    expect_eq(&values.as_slice(), &[6, 5, 3].as_slice())?;
+    expect(sorter.is_empty())
+}

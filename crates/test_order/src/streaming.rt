@@ -141,3 +141,31 @@ fn records_without_a_time_at_once(rt: HostRuntime) -> Result<(), Fail> {
     ];
     expect_file_order(rt.alloc(), 128, &parts, &wanted, (None, None))
 }
+
+// No rounds, and a budget for two records of 8 bytes.
+#[test]
+fn early_where_the_budget_has_no_room(rt: HostRuntime) -> Result<(), Fail> {
+    let alloc = rt.alloc();
+    let parts = [
+        Part::Sample(30),
+        Part::Sample(10),
+        Part::Sample(20),
+        Part::Sample(40),
+        Part::Sample(5),
+    ];
+    let image = little_endian_file(alloc, (80, 4, 0x40000), &parts)?;
+    let PerfFileReader {
+        perf_file: mut file,
+        record_iter,
+    } = PerfFileReader::parse_file(alloc, Cursor::new(image.bytes.as_slice()))?;
+    let mut records = OrderedRecords::with_budget(alloc, record_iter, 400);
+    let wanted = [
+        (16, Some(10)),
+        (32, Some(20)),
+        (0, Some(30)),
+        (64, Some(5)),
+        (48, Some(40)),
+    ];
+    expect_order(alloc, &mut file, &mut records, &wanted, (None, None))?;
+    expect_eq(&records.early(), &3)
+}
