@@ -6,7 +6,7 @@ use Rattle.std.specs.Ordering.{is_lt}
 use Rattle.std.specs.List.Sorted.{IsPermutation, ties}
 use Rattle.std.proofs.lemmas.List.Elements.{filter-append}
 use Rattle.std.proofs.lemmas.List.Sorted.{IsPermutation-refl, IsPermutation-trans, IsPermutation-cons, IsPermutation-append_left}
-use Rattle.slab.specs.Slab.{get}
+use Rattle.perfdata_order.specs.Slots.{value_at}
 use Rattle.perfdata_order.specs.declared.sorter.Sorter.{Sorter}
 use Rattle.perfdata_order.specs.Sorter.{held_of, available_of, pending_of, Returned, Inserted}
 use Rattle.perfdata_order.specs.SorterLaws.{Call, inserted_by, returned_by, MakesCalls, ReturnsEachOnce, KeepsInsertionOrder}
@@ -15,7 +15,7 @@ use Rattle.perfdata_order.proofs.Entries.{entries_split}
 
 module _ {K V : Type 0} where
   pub held_split : (s : Sorter K V) → available_of s ++ pending_of s ≡ held_of s
-  held_split s = entries_split (get s.values) s.available s.order.items
+  held_split s = entries_split (value_at s.values) s.available s.order.items
 
   pub held_after_insert : {cmp : K → K → Ordering} (old new : Sorter K V) (k : K) (v : V) → Inserted cmp old k v new → held_of new ≡ held_of old ++ (k, v) ∷ []
   held_after_insert old new k v done =

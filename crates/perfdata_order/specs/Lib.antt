@@ -1,4 +1,5 @@
 pub mod Order
+pub mod Slots
 pub mod Entries
 pub mod Sorter
 pub mod SorterLaws

@@ -4,22 +4,22 @@ use Rattle.std.specs.declared.cmp.Ordering.{Ordering}
 use Rattle.std.specs.declared.alloc.AllocFailed.{AllocFailed}
 use Rattle.std.specs.declared.alloc.AllocError.{AllocError}
 use Rattle.perfdata_order.specs.declared.sorter.Sorter.{Sorter}
-use Rattle.slab.specs.Slab.{get}
+use Rattle.perfdata_order.specs.Slots.{value_at}
 use Rattle.perfdata_order.specs.Order.{Ascends, is_within, greatest_with, SortsEntries}
 use Rattle.perfdata_order.specs.Entries.{entries_by}
 
 module _ {K V : Type 0} where
   -- All entries that the sorter contains.
   abbrev pub held_of : Sorter K V → List (K × V)
-  held_of s = entries_by (get s.values) s.order.items
+  held_of s = entries_by (value_at s.values) s.order.items
 
   -- The first of them, which are available.
   abbrev pub available_of : Sorter K V → List (K × V)
-  available_of s = entries_by (get s.values) (take s.available s.order.items)
+  available_of s = entries_by (value_at s.values) (take s.available s.order.items)
 
   -- The others.
   abbrev pub pending_of : Sorter K V → List (K × V)
-  pending_of s = entries_by (get s.values) (drop s.available s.order.items)
+  pending_of s = entries_by (value_at s.values) (drop s.available s.order.items)
 
   -- The greatest key of all rounds that ended.
   abbrev pub limit_of : Sorter K V → Option K

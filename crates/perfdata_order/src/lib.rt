@@ -8,5 +8,6 @@
 mod held_record;
 pub mod in_memory;
 pub mod laws;
+mod slots;
 pub mod sorter;
 pub mod streaming;

@@ -2,11 +2,11 @@
 ghost use Rattle.std.specs.Prelude.{◌≡◌, ◌≤◌, length, take, drop, All, true, false};
 ghost use Rattle.std.specs.VecDeque.{deque_len};
 ghost use Rattle.std.proofs.Props.{props};
-ghost use Rattle.slab.specs.Slab.{get};
+ghost use Rattle.perfdata_order.specs.Slots.{value_at};
 ghost use Rattle.perfdata_order.specs.Order.{Ascends, greatest_with, is_within};
 ghost use Rattle.perfdata_order.specs.Entries.{IsPlaced};
 
-use slab::Slab;
+use crate::slots::Slots;
 use std::alloc::{AllocError, AllocFailed, Global};
 use std::collections::VecDeque;
 
@@ -21,12 +21,12 @@ pub struct Sorter<K, V> {
     alloc: Global,
     // The keys, each with the slot of its value.
     order: VecDeque<(K, usize)>,
-    values: Slab<V>,
+    values: Slots<V>,
     available: usize,
     limit: Option<K>,
     greatest: Option<K>,
     ghost in_range: { available ≤ deque_len order },
-    ghost placed: { IsPlaced (get values) order.items } by { Prim.hlevel props },
+    ghost placed: { IsPlaced (value_at values) order.items } by { Prim.hlevel props },
 }
 
 impl<K, V> Sorter<K, V> {
@@ -39,7 +39,7 @@ impl<K, V> Sorter<K, V> {
         Sorter {
             alloc,
             order: VecDeque::new(alloc),
-            values: Slab::new(alloc),
+            values: Slots::new(alloc),
             available: 0,
             limit: None,
             greatest: None,
@@ -88,20 +88,21 @@ impl<K: Ord + Copy, V> Sorter<K, V> {
     pub fn insert_unordered(&mut self, key: K, value: V) -> Result<(), AllocFailed<(K, V)>>
         ensures { InsertsEntry K.cmp self.old key value result self.new }
     {
-        match self.values.reserve(1) {
-            Ok(()) => {}
-            Err(_) => return Err(AllocFailed {
-                value: (key, value),
-            }),
-        }
-        let slot = self.values.vacant_key();
+        let slot = match self.values.vacant(self.order.len()) {
+            Ok(slot) => slot,
+            Err(_) => {
+                return Err(AllocFailed {
+                    value: (key, value),
+                });
+            }
+        };
         match self.order.push_back((key, slot)) {
             Ok(()) => {}
             Err(_) => return Err(AllocFailed {
                 value: (key, value),
             }),
         }
-        let _slot = self.values.insert_reserved(value);
+        self.values.put(slot, value);
         self.greatest = Some(greatest_key(self.greatest, key));
         Ok(())
     }
@@ -188,6 +189,6 @@ impl<K: Ord + Copy, V> Sorter<K, V> {
         }
         let (_key, slot) = self.order.pop_front()?;
         self.available -= 1;
-        self.values.try_remove(slot)
+        self.values.take(slot)
     }
 }

@@ -1,7 +1,7 @@
 use Rattle.std.proofs.Common.{◌∙◌, sym, rules, subst, refl}
 use Rattle.std.specs.List.Sorted.{IsPermutation, IsStableByKey}
 use Rattle.std.proofs.lemmas.List.Sorted.{answers_always}
-use Rattle.slab.specs.Slab.{get}
+use Rattle.perfdata_order.specs.Slots.{value_at}
 use Rattle.perfdata_order.specs.Order.{Ascends}
 use Rattle.perfdata_order.proofs.Entries.{placed_permutation, sorts_entries}
 use Rattle.perfdata_order.proofs.Sorting.{ascends_from_sort}
@@ -16,7 +16,7 @@ returns-in-Ok g c =
     let back = c.make_contiguous-order.ensures.writes_back sorted (c.sort_by_key.ensures.len ∙ c.make_contiguous-order.ensures.len) in
     let up = subst (λ zs. Ascends cmp zs) (sym back) (ascends_from_sort g.met.K.Ord.total sorted (c.in-Ok.ensures.sorted (λ e. e.0) (answers_always _ _ _ (λ f a r h q. search rules)))) in
     record {
-      sorts = sorts_entries cmp (get old.values) old.order.items _ old.placed (record {
+      sorts = sorts_entries cmp (value_at old.values) old.order.items _ old.placed (record {
         each_once = subst (λ zs. IsPermutation old.order.items zs) (sym back) (subst (λ zs. IsPermutation zs sorted) same c.sort_by_key.ensures.permutation);
         ascends = up;
         stable = subst (λ zs. IsStableByKey (λ e. e.0) cmp old.order.items zs) (sym back)
@@ -33,4 +33,4 @@ invariant_of-self-clause-placed g c =
     let sorted = c.sort_by_key.new.self in
     let old = c.args.self.now in
     let back = c.make_contiguous-order.ensures.writes_back sorted (c.sort_by_key.ensures.len ∙ c.make_contiguous-order.ensures.len) in
-    placed_permutation (get old.values) old.order.items _ (subst (λ zs. IsPermutation old.order.items zs) (sym back) (subst (λ zs. IsPermutation zs sorted) same c.sort_by_key.ensures.permutation)) old.placed
+    placed_permutation (value_at old.values) old.order.items _ (subst (λ zs. IsPermutation old.order.items zs) (sym back) (subst (λ zs. IsPermutation zs sorted) same c.sort_by_key.ensures.permutation)) old.placed
