@@ -1,5 +1,6 @@
 pub mod Entries
 pub mod Sorting
+pub mod LayoutRounds
 pub mod SorterCalls
 pub mod AscendingRuns
 pub mod RoundRule

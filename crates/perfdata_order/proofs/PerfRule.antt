@@ -1,10 +1,16 @@
 -- The times that are returned ascend where the records of the input keep perf's rule.
-use Rattle.std.proofs.Common.{◌≡◌, ℕ, ◌+◌, ◌≤◌, List, [], ◌∷◌, ◌++◌, get_or, map, All, refl, sym, ap, ◌∙◌, subst, inl, inr, arith}
+use Rattle.std.proofs.Common.{◌≡◌, ℕ, ◌+◌, ◌≤◌, List, [], ◌∷◌, ◌++◌, get_or, map, All, None, Some, refl, sym, ap, ◌∙◌, subst, inl, inr, arith}
 use Rattle.std.specs.Prelude.{◌≢◌, ◌⊎◌}
 use Rattle.std.specs.Ordering.{nat_cmp}
 use Rattle.std.proofs.lemmas.List.Elements.{All-nil, All-cons, All-head, All-tail}
 use Rattle.linux_perf_data.specs.declared.perf_file.PerfFile.{PerfFile}
 use Rattle.linux_perf_data.specs.declared.records.iter.Stage.TheVariants.{Running}
+use Rattle.linux_perf_data.specs.declared.records.iter.RecordPlace.{RecordPlace}
+use Rattle.perfdata_records.specs.declared.record.PerfFileRecord.{PerfFileRecord}
+use Rattle.perfdata_records.specs.declared.record.PerfFileRecord.TheVariants.{EventRecord, UserRecord}
+use Rattle.linux_perf_data.specs.Layout.{RecordView}
+use Rattle.linux_perf_data.specs.Laws.{OffsetsIncrease}
+use Rattle.linux_perf_data.specs.RecordViews.{record_view_of}
 use Rattle.perfdata_order.specs.declared.in_memory.Pending.{Pending}
 use Rattle.perfdata_order.specs.declared.in_memory.Pending.TheVariants.{Nothing, Record, End, Failure}
 use Rattle.perfdata_order.specs.declared.in_memory.InMemoryOrderedRecords.{InMemoryOrderedRecords}
@@ -14,12 +20,42 @@ use Rattle.perfdata_order.specs.SorterLaws.{inserted_in_rounds, KeepsRoundRule}
 use Rattle.perfdata_order.specs.SorterLaws.Call.{inserts, ends_round, ends_all, releases, returns, keeps}
 use Rattle.perfdata_order.specs.InMemoryOrder.{Entry, Step, TakesSteps, IsOneRoundLater, IsLaterOrLast}
 use Rattle.perfdata_order.specs.InMemoryOrder.Step.{reads, passes, reads_end, reads_error, sorts, reports}
-use Rattle.perfdata_order.specs.InMemoryLaws.{read_in, calls_in, timed_by, timed_of, RoundsRise, TimesAscendUnderPerfRule}
+use Rattle.perfdata_order.specs.InMemoryLaws.{read_in, calls_in, timed_by, timed_of, TimesAscendUnderPerfRule}
 use Rattle.perfdata_order.proofs.AscendingRuns.{all_prefix}
+use Rattle.perfdata_order.proofs.LayoutRounds.{RoundsFollow, rounds_follow}
 use Rattle.perfdata_order.proofs.InMemorySteps.{times_ascend_under_rule, nothing_read, ended_runs, failed_runs, still_stopped}
 
 abbrev Timed : Type 0
 Timed = ℕ × (ℕ × Entry)
+
+-- The rounds don't fall.
+abbrev RoundsRise : List Timed → Type 0
+RoundsRise [] = Unit {0}
+RoundsRise (e ∷ es) = All (λ later. e.0 ≤ later.0) es × RoundsRise es
+
+abbrev views : List Entry → List RecordView
+views = map (λ (e : Entry). record_view_of e.0 e.1)
+
+view_round : (place : RecordPlace) (r : PerfFileRecord) → (record_view_of place r).round ≡ place.round
+view_round place (EventRecord index event) = refl
+view_round place (UserRecord user) = refl
+
+timed_later : (round : ℕ) (es : List Entry) → All (λ later. round ≤ later.round) (views es) → All (λ later. round ≤ later.0) (timed_of es)
+timed_later round [] all = All-nil (λ (later : Timed). round ≤ later.0)
+timed_later round (e ∷ es) all =
+    let rest = timed_later round es (All-tail (λ later. round ≤ later.round) (record_view_of e.0 e.1) (views es) all) in
+    let here = subst (λ n. round ≤ n) (view_round e.0 e.1) (All-head (λ later. round ≤ later.round) (record_view_of e.0 e.1) (views es) all) in
+    elim (time_key_of e.0) as (λ k. All (λ later. round ≤ later.0) (timed_by k e ++ timed_of es)) [
+      | None ↦ rest
+      | Some time ↦ All-cons (λ later. round ≤ later.0) (e.0.round, (time, e)) (timed_of es) here rest
+    ]
+
+timed_rise : (es : List Entry) → RoundsFollow (views es) → RoundsRise (timed_of es)
+timed_rise [] follow = tt
+timed_rise (e ∷ es) follow =
+    let rest = timed_rise es follow.1 in
+    let first = timed_later e.0.round es (subst (λ n. All (λ later. n ≤ later.round) (views es)) (view_round e.0 e.1) follow.0) in
+    elim (time_key_of e.0) as (λ k. RoundsRise (timed_by k e ++ timed_of es)) [ None ↦ rest | Some time ↦ (first, rest) ]
 
 abbrev pending_timed : Pending → List Timed
 pending_timed Nothing = []
@@ -229,14 +265,14 @@ follows n (reports e ∷ steps) s t f g (next, (next_file, step, rest)) h =
     let after = same_ahead s next (ahead s steps) (ahead next steps) step.0.same_order.round same (λ final. absurd (not_final next.pending Nothing step.0.pending (λ x. x) final)) h in
     same_follows n s next (inserted_in_rounds n (calls_in steps)) (ahead s steps) (ahead next steps) step.0.same_order.round same (follows n steps next t next_file g rest after)
 
-pub times_ascend_under_perf_rule : TimesAscendUnderPerfRule
-times_ascend_under_perf_rule records first last file file' steps new taken rise rule =
+pub times_ascend_under_perf_rule : OffsetsIncrease → TimesAscendUnderPerfRule
+times_ascend_under_perf_rule increase records first last file file' steps new taken layout rule =
     let timed = timed_of (read_in steps) in
     let none : ahead first steps ≡ timed = ap (λ p. pending_timed p ++ timed) new.pending in
     let all : All (λ y. 0 ≤ y.0) timed = λ i d lt. omega arith in
     let start : Ahead first timed = record {
       from_round = subst (λ k. All (λ y. k ≤ y.0) timed) (sym new.round) all;
-      rise = rise;
+      rise = timed_rise (read_in steps) (rounds_follow increase (views (read_in steps)) layout);
       rule = rule;
       stopped = λ final. absurd (not_final first.pending Nothing new.pending (λ x. x) final);
     } in

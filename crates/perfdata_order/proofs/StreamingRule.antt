@@ -1,5 +1,5 @@
 -- The times that are returned ascend where the records of the source keep perf's rule.
-use Rattle.std.proofs.Common.{◌≡◌, ℕ, ◌+◌, ◌≤◌, List, [], ◌∷◌, ◌++◌, get_or, map, All, refl, sym, ap, ◌∙◌, subst, inl, inr, arith}
+use Rattle.std.proofs.Common.{◌≡◌, ℕ, ◌+◌, ◌≤◌, List, [], ◌∷◌, ◌++◌, get_or, map, All, None, Some, refl, sym, ap, ◌∙◌, subst, inl, inr, arith}
 use Rattle.std.specs.Prelude.{◌⊎◌}
 use Rattle.std.specs.Ordering.{nat_cmp}
 use Rattle.std.specs.Cmp.{nat_cmp_total}
@@ -7,6 +7,7 @@ use Rattle.std.proofs.lemmas.List.Elements.{All-nil, All-cons, All-head, All-tai
 use Rattle.perfdata_base.specs.Source.{State}
 use Rattle.linux_perf_data.specs.declared.perf_file.PerfFile.{PerfFile}
 use Rattle.linux_perf_data.specs.Layout.{RecordView}
+use Rattle.linux_perf_data.specs.Laws.{OffsetsIncrease}
 use Rattle.perfdata_order.specs.declared.held_record.HeldRecord.{HeldRecord}
 use Rattle.perfdata_order.specs.declared.streaming.OrderedRecords.{OrderedRecords}
 use Rattle.perfdata_order.specs.HeldRecord.{held_view}
@@ -16,16 +17,39 @@ use Rattle.perfdata_order.specs.SorterLaws.Call.{inserts, ends_round, ends_all, 
 use Rattle.perfdata_order.specs.StreamingOrder.{Unplaced, unplaced_of, Step, TakesSteps, IsOneRoundLater, IsLaterOrLast}
 use Rattle.perfdata_order.specs.StreamingOrder.Unplaced.{nothing, timed, ending, failing, failed}
 use Rattle.perfdata_order.specs.StreamingOrder.Step.{reads, passes, reads_end, reads_error, sorts, reports}
-use Rattle.perfdata_order.specs.StreamingLaws.{read_in, calls_in, timed_by, timed_of, RoundsRise, TimesAscendUnderPerfRule}
+use Rattle.perfdata_order.specs.StreamingLaws.{read_in, calls_in, timed_by, timed_of, TimesAscendUnderPerfRule}
 use Rattle.perfdata_order.specs.Times.{key_of_time}
 use Rattle.perfdata_order.proofs.AscendingRuns.{all_prefix}
 use Rattle.perfdata_order.proofs.RoundRule.{ascends_under_rule}
 use Rattle.perfdata_order.proofs.StreamingCalls.{IsLast}
 use Rattle.perfdata_order.proofs.StreamingSteps.{half_released, nothing_read, calls_sorter_in_turn}
 use Rattle.perfdata_order.proofs.StreamingBudget.{counts_early}
+use Rattle.perfdata_order.proofs.LayoutRounds.{RoundsFollow, rounds_follow}
 
 abbrev Timed : Type 0
 Timed = ℕ × (ℕ × RecordView)
+
+-- The rounds don't fall.
+abbrev RoundsRise : List Timed → Type 0
+RoundsRise [] = Unit {0}
+RoundsRise (e ∷ es) = All (λ later. e.0 ≤ later.0) es × RoundsRise es
+
+timed_later : (round : ℕ) (hs : List RecordView) → All (λ later. round ≤ later.round) hs → All (λ later. round ≤ later.0) (timed_of hs)
+timed_later round [] all = All-nil (λ (later : Timed). round ≤ later.0)
+timed_later round (h ∷ hs) all =
+    let rest = timed_later round hs (All-tail (λ later. round ≤ later.round) h hs all) in
+    let here = All-head (λ later. round ≤ later.round) h hs all in
+    elim (key_of_time h.timestamp) as (λ k. All (λ later. round ≤ later.0) (timed_by k h ++ timed_of hs)) [
+      | None ↦ rest
+      | Some time ↦ All-cons (λ later. round ≤ later.0) (h.round, (time, h)) (timed_of hs) here rest
+    ]
+
+timed_rise : (hs : List RecordView) → RoundsFollow hs → RoundsRise (timed_of hs)
+timed_rise [] follow = tt
+timed_rise (h ∷ hs) follow =
+    let rest = timed_rise hs follow.1 in
+    let first = timed_later h.round hs follow.0 in
+    elim (key_of_time h.timestamp) as (λ k. RoundsRise (timed_by k h ++ timed_of hs)) [ None ↦ rest | Some time ↦ (first, rest) ]
 
 abbrev Placed : Type 0
 Placed = ℕ × (ℕ × HeldRecord)
@@ -231,14 +255,14 @@ module _ {R : Type 0} (state : R → State) where
       let after = same_ahead s next (ahead s steps) (ahead next steps) step.0.same_order.round same given in
       same_follows n s next (inserted_in_rounds n (calls_in steps)) (ahead s steps) (ahead next steps) step.0.same_order.round same (follows n steps next t next_file g rest after)
 
-  pub times_ascend_under_perf_rule : TimesAscendUnderPerfRule state
-  times_ascend_under_perf_rule records budget first last file file' steps new taken none_early rise rule =
+  pub times_ascend_under_perf_rule : OffsetsIncrease → TimesAscendUnderPerfRule state
+  times_ascend_under_perf_rule increase records budget first last file file' steps new taken none_early layout rule =
       let times = timed_of (read_in steps) in
       let none : ahead first steps ≡ times = ap (λ p. pending_timed p ++ times) new.pending in
       let all : All (λ y. 0 ≤ y.0) times = λ i d lt. omega arith in
       let start : Ahead first times = record {
         from_round = subst (λ k. All (λ y. k ≤ y.0) times) (sym new.round) all;
-        rise = rise;
+        rise = timed_rise (read_in steps) (rounds_follow increase (read_in steps) layout);
         rule = rule;
       } in
       ascends_under_rule HeldRecord nat_cmp_total first.sorter last.sorter (calls_in steps) new.empty (calls_sorter_in_turn state first last file file' steps taken)

@@ -1,6 +1,7 @@
 -- Laws of the records of an input in memory in order of time.
-use Rattle.std.specs.Prelude.{ℕ, ◌≤◌, List, [], ◌∷◌, ◌++◌, map, All, Option, None, Some}
+use Rattle.std.specs.Prelude.{ℕ, List, [], ◌∷◌, ◌++◌, map, Option, None, Some}
 use Rattle.perfdata_order.specs.Times.{time_key_of}
+use Rattle.perfdata_order.specs.LayoutRecords.{AreLayoutRecords}
 use Rattle.std.specs.Ordering.{nat_cmp}
 use Rattle.std.specs.List.Sorted.{IsPermutation}
 use Rattle.linux_perf_data.specs.declared.perf_file.PerfFile.{PerfFile}
@@ -77,14 +78,9 @@ abbrev pub timed_of : List Entry → List (ℕ × (ℕ × Entry))
 timed_of [] = []
 timed_of (e ∷ es) = timed_by (time_key_of e.0) e ++ timed_of es
 
--- The rounds don't fall.
-abbrev pub RoundsRise : List (ℕ × (ℕ × Entry)) → Type 0
-RoundsRise [] = Unit {0}
-RoundsRise (e ∷ es) = All (λ later. e.0 ≤ later.0) es × RoundsRise es
-
--- The timed records that were returned ascend if those that were read keep perf's rule: no record of round n + 2 or later is older
--- than one of round n.
+-- The timed records that were returned ascend if those that were read are the first of a layout and keep perf's rule: no record of
+-- round n + 2 or later is older than one of round n.
 abbrev pub TimesAscendUnderPerfRule : Type 0
 TimesAscendUnderPerfRule = (records : InMemoryRecords) (first last : InMemoryOrderedRecords) (file file' : PerfFile) (steps : List Step) →
-    IsNewOrder records first → TakesSteps steps first file last file' → RoundsRise (timed_of (read_in steps)) → KeepsRoundRule nat_cmp (timed_of (read_in steps)) →
+    IsNewOrder records first → TakesSteps steps first file last file' → AreLayoutRecords (map (λ (e : Entry). record_view_of e.0 e.1) (read_in steps)) → KeepsRoundRule nat_cmp (timed_of (read_in steps)) →
     Ascends nat_cmp (returned_by (calls_in steps))

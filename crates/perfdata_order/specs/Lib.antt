@@ -5,6 +5,7 @@ pub mod Sorter
 pub mod SorterLaws
 pub mod InMemoryOrder
 pub mod Times
+pub mod LayoutRecords
 pub mod HeldRecord
 pub mod StreamingOrder
 pub mod StreamingLaws

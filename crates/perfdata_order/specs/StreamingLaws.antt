@@ -1,5 +1,5 @@
 -- Laws of the records of a source in order of time.
-use Rattle.std.specs.Prelude.{◌≡◌, ℕ, ◌^◌, ◌<◌, ◌≤◌, ◌⊎◌, min, List, [], ◌∷◌, ◌++◌, length, map, All, Option, None, Some}
+use Rattle.std.specs.Prelude.{◌≡◌, ℕ, ◌^◌, ◌<◌, ◌≤◌, ◌⊎◌, min, List, [], ◌∷◌, ◌++◌, length, map, Option, None, Some}
 use Rattle.std.specs.Ordering.{nat_cmp}
 use Rattle.std.specs.List.{sum_by}
 use Rattle.std.specs.List.Sorted.{IsPermutation}
@@ -15,6 +15,7 @@ use Rattle.perfdata_order.specs.Order.{Ascends}
 use Rattle.perfdata_order.specs.Sorter.{held_of}
 use Rattle.perfdata_order.specs.SorterLaws.{Call, MakesCalls, returned_by, releases_in, KeepsRoundRule}
 use Rattle.perfdata_order.specs.Times.{key_of_time}
+use Rattle.perfdata_order.specs.LayoutRecords.{AreLayoutRecords}
 use Rattle.perfdata_order.specs.StreamingOrder.{Unplaced, unplaced_of, early_of, Step, TakesSteps, returned_in, IsNewOrder}
 use Rattle.perfdata_order.specs.StreamingOrder.Unplaced.{nothing, timed, ending, failing, failed}
 use Rattle.perfdata_order.specs.StreamingOrder.Step.{reads, passes, reads_end, reads_error, sorts, reports}
@@ -55,11 +56,6 @@ abbrev pub timed_of : List RecordView → List (ℕ × (ℕ × RecordView))
 timed_of [] = []
 timed_of (h ∷ hs) = timed_by (key_of_time h.timestamp) h ++ timed_of hs
 
--- The rounds don't fall.
-abbrev pub RoundsRise : List (ℕ × (ℕ × RecordView)) → Type 0
-RoundsRise [] = Unit {0}
-RoundsRise (e ∷ es) = All (λ later. e.0 ≤ later.0) es × RoundsRise es
-
 module _ {R : Type 0} (state : R → State) where
   -- The records that were read and not yet returned.
   abbrev pub held_records : OrderedRecords R → List RecordView
@@ -97,9 +93,9 @@ module _ {R : Type 0} (state : R → State) where
       IsNewOrder records budget first → TakesSteps state steps first file last file' → 0 < budget → budget < 2 ^ 64 →
       (sum_by (λ (e : ℕ × HeldRecord). held_size (held_view e.1)) (held_of last.sorter) ≤ budget) ⊎ (length (held_of last.sorter) ≤ 1)
 
-  -- The timed records that were returned ascend if none was returned early, and those that were read keep perf's rule: no record of
-  -- round n + 2 or later is older than one of round n.
+  -- The timed records that were returned ascend if none was returned early, and those that were read are the first of a layout and
+  -- keep perf's rule: no record of round n + 2 or later is older than one of round n.
   abbrev pub TimesAscendUnderPerfRule : Type 0
   TimesAscendUnderPerfRule = (records : PerfRecordIter R) (budget : ℕ) (first last : OrderedRecords R) (file file' : PerfFile) (steps : List Step) →
-      IsNewOrder records budget first → TakesSteps state steps first file last file' → early_of last ≡ 0 → RoundsRise (timed_of (read_in steps)) → KeepsRoundRule nat_cmp (timed_of (read_in steps)) →
+      IsNewOrder records budget first → TakesSteps state steps first file last file' → early_of last ≡ 0 → AreLayoutRecords (read_in steps) → KeepsRoundRule nat_cmp (timed_of (read_in steps)) →
       Ascends nat_cmp (returned_by (calls_in steps))

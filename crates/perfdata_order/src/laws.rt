@@ -3,6 +3,7 @@ ghost use Rattle.perfdata_order.specs.InMemoryLaws.{CallsSorterInTurn, ReadsReco
 ghost use Rattle.perfdata_order.specs.StreamingLaws.{ReadsRecordsOfSource, CountsEarly, NoneEarlyWithoutBudget, StaysWithinBudget, ReturnsEachRecordOnce as ReturnsEachRecordOnceOf, CallsSorterInTurn as CallsSorterInTurnOf, TimesAscendUnderPerfRule as TimesAscendUnderPerfRuleOf};
 ghost use Rattle.perfdata_order.specs.SorterLaws.{AscendsUnderRule, KeepsInsertionOrder, ReturnsEachOnce, RunsAscend};
 
+use linux_perf_data::laws::offsets_increase;
 use linux_perf_data::source::Source;
 
 /// A [`Sorter`](crate::sorter::Sorter) returns each inserted value once. Equal keys keep the order of insertion, and consecutive
@@ -17,16 +18,20 @@ pub fn sorter<K: Ord, V>()
 {}
 
 /// Over an input in memory, each record that the iterator over the input returns is returned once, or is still held. The timed
-/// records are those of a sorter, so its laws apply to them.
+/// records are those of a sorter, so its laws apply to them. The times that are returned ascend if the records are those of a layout
+/// and keep perf's rule.
 pub fn in_memory()
     ensures each_once { ReturnsEachRecordOnce }
     ensures of_input { ReadsRecordsOfInput }
     ensures sorter_calls { CallsSorterInTurn }
     ensures times_ascend { TimesAscendUnderPerfRule }
-{}
+{
+    offsets_increase();
+}
 
 /// Over a source, each record that the iterator over the source returns is returned once, or is still held. The timed records
-/// are those of a sorter, so its laws apply to them. With a budget, the held records are within it, or there is only one.
+/// are those of a sorter, so its laws apply to them. The times that are returned ascend if the records are those of a layout and keep
+/// perf's rule, and none was returned early. With a budget, the records in the sorter are within it, or there is only one.
 pub fn streaming<R: Source>()
     ensures each_once { ReturnsEachRecordOnceOf R.state }
     ensures of_source { ReadsRecordsOfSource R.state }
@@ -35,4 +40,6 @@ pub fn streaming<R: Source>()
     ensures none_early_without_budget { NoneEarlyWithoutBudget R.state }
     ensures within_budget { StaysWithinBudget R.state }
     ensures times_ascend { TimesAscendUnderPerfRuleOf R.state }
-{}
+{
+    offsets_increase();
+}

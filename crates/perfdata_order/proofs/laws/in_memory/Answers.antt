@@ -12,4 +12,4 @@ pub returns-clause-sorter_calls : goal.returns-clause-sorter_calls
 returns-clause-sorter_calls c = calls_sorter_in_turn
 
 pub returns-clause-times_ascend : goal.returns-clause-times_ascend
-returns-clause-times_ascend c = times_ascend_under_perf_rule
+returns-clause-times_ascend c = times_ascend_under_perf_rule c.offsets_increase.ensures

@@ -13,7 +13,7 @@ pub returns-clause-sorter_calls : goal.returns-clause-sorter_calls
 returns-clause-sorter_calls g c = calls_sorter_in_turn g.R.Source.state
 
 pub returns-clause-times_ascend : goal.returns-clause-times_ascend
-returns-clause-times_ascend g c = times_ascend_under_perf_rule g.R.Source.state
+returns-clause-times_ascend g c = times_ascend_under_perf_rule g.R.Source.state c.offsets_increase.ensures
 
 pub returns-clause-counts_early : goal.returns-clause-counts_early
 returns-clause-counts_early g c = counts_early g.R.Source.state
