@@ -86,13 +86,12 @@ pub(crate) fn walk_page(
     ensures { WalksPage input.old file.old entries.old result input.new file.new entries.new }
 {
     let first_record_offset = input.first_record_offset();
-    let mut next = input.position();
     let mut count = 0;
     'records: while count < entries.len() {
+        let next = input.position();
         match input.next_record(file) {
             Ok(Some((place, record))) => {
                 entries[count] = record_entry(first_record_offset, place, &record);
-                next = input.position();
                 count += 1;
             }
             Ok(None) => {
@@ -113,7 +112,7 @@ pub(crate) fn walk_page(
     }
     PageWalk {
         count: count as u64,
-        next,
+        next: input.position(),
         end: Ok(()),
     }
 }

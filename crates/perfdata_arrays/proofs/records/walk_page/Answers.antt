@@ -11,7 +11,7 @@ use Rattle.perfdata_arrays.proofs.WalkLemmas.{body-returned, has_bodies-snoc}
 use Rattle.perfdata_arrays.proofs.records.walk_page.Goals as goal
 
 pub records-init : goal.records-init
-records-init c = record { count_fits = omega arith; same_input = record { input = refl; first_record_offset = refl }; next = c.position-next.ensures; entries_written = ([], refl, refl, (refl, refl), tt) }
+records-init c = record { count_fits = omega arith; same_input = record { input = refl; first_record_offset = refl }; entries_written = ([], refl, refl, (refl, refl), tt) }
 
 pub record_entry-requires : goal.record_entry-requires
 record_entry-requires c =
@@ -44,7 +44,6 @@ records-preserved c =
     record {
       count_fits = omega (arith, count, long, room);
       same_input = record { input = kept.input ∙ before.same_input.input; first_record_offset = kept.first_record_offset ∙ before.same_input.first_record_offset };
-      next = c.position-next-in-Ok-Some.ensures;
       entries_written = (
         before.entries_written.0 ++ h ∷ [],
         omega (arith, count, length-append before.entries_written.0 (h ∷ [])),
@@ -62,7 +61,7 @@ returns-in-Ok-None c =
     let same = ap length before.entries_written.2 in
     let test = c.records-test.true in
     let long = length-with_prefix (record_entries_at (first_record_offset_of c.args.input.now) before.entries_written.0) c.args.entries.now in
-    record { records = before.entries_written.0; input_at_end = c.records.input; file_at_end = c.records.file; returned = before.entries_written.3; next = before.next; count = count; fits = (let fits = before.count_fits in omega (arith, count, fits)); written = before.entries_written.2; body_bytes_at = before.entries_written.4; ends = inr (omega (arith, count, test, same, long), ended, tt) }
+    record { records = before.entries_written.0; input_at_end = c.records.input; file_at_end = c.records.file; returned = before.entries_written.3; next = c.position-next.ensures; count = count; fits = (let fits = before.count_fits in omega (arith, count, fits)); written = before.entries_written.2; body_bytes_at = before.entries_written.4; ends = inr (omega (arith, count, test, same, long), ended, tt) }
 
 pub returns-in-Err : goal.returns-in-Err
 returns-in-Err c =
@@ -73,7 +72,7 @@ returns-in-Err c =
     let same = ap length before.entries_written.2 in
     let test = c.records-test.true in
     let long = length-with_prefix (record_entries_at (first_record_offset_of c.args.input.now) before.entries_written.0) c.args.entries.now in
-    record { records = before.entries_written.0; input_at_end = c.records.input; file_at_end = c.records.file; returned = before.entries_written.3; next = before.next; count = count; fits = (let fits = before.count_fits in omega (arith, count, fits)); written = before.entries_written.2; body_bytes_at = before.entries_written.4; ends = inr (omega (arith, count, test, same, long), failed, needs) }
+    record { records = before.entries_written.0; input_at_end = c.records.input; file_at_end = c.records.file; returned = before.entries_written.3; next = c.position-next.ensures; count = count; fits = (let fits = before.count_fits in omega (arith, count, fits)); written = before.entries_written.2; body_bytes_at = before.entries_written.4; ends = inr (omega (arith, count, test, same, long), failed, needs) }
 
 pub returns : goal.returns
 returns c =
@@ -83,4 +82,4 @@ returns c =
     let test = c.records-test.false in
     let long = length-with_prefix (record_entries_at (first_record_offset_of c.args.input.now) before.entries_written.0) c.args.entries.now in
     let fits = before.count_fits in
-    record { records = before.entries_written.0; input_at_end = c.records.input; file_at_end = c.records.file; returned = before.entries_written.3; next = before.next; count = count; fits = omega (arith, count, fits); written = before.entries_written.2; body_bytes_at = before.entries_written.4; ends = inl (refl, omega (arith, count, fits, test, same, long)) }
+    record { records = before.entries_written.0; input_at_end = c.records.input; file_at_end = c.records.file; returned = before.entries_written.3; next = c.position.ensures; count = count; fits = omega (arith, count, fits); written = before.entries_written.2; body_bytes_at = before.entries_written.4; ends = inl (refl, omega (arith, count, fits, test, same, long)) }

@@ -1,5 +1,4 @@
 use Rattle.std.proofs.Common.{◌≡◌, ◌≤◌, ◌-◌, ◌^◌, List, length}
-use Rattle.linux_perf_data.specs.InMemoryPositions.{position_of}
 use Rattle.linux_perf_data.specs.InMemoryReading.{KeepsInput, ReturnsRecordsInMemory, first_record_offset_of, input_of}
 use Rattle.linux_perf_data.specs.Layout.{RecordView}
 use Rattle.perfdata_arrays.specs.Overwrites.{with_prefix}
@@ -10,7 +9,6 @@ abbrev pub invariant-records : goal.invariant-records
 invariant-records l = record {
   count_fits : l.count ≤ length l.initial.entries;
   same_input : KeepsInput l.initial.input l.input;
-  next : l.next ≡ position_of l.input;
   entries_written : (records : List RecordView) × (l.count ≡ length records)
       × (l.entries ≡ with_prefix (record_entries_at (first_record_offset_of l.initial.input) records) l.initial.entries)
       × ReturnsRecordsInMemory l.initial.input l.initial.file records l.input l.file
