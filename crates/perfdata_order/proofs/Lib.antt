@@ -11,3 +11,4 @@ pub mod StreamingCalls
 pub mod StreamingSteps
 pub mod StreamingBudget
 pub mod StreamingRule
+pub mod StreamingRounds

@@ -26,11 +26,11 @@ use Rattle.perfdata_order.proofs.StreamingSteps.{half_released, nothing_read, ca
 use Rattle.perfdata_order.proofs.StreamingBudget.{counts_early}
 use Rattle.perfdata_order.proofs.LayoutRounds.{RoundsFollow, rounds_follow}
 
-abbrev Timed : Type 0
+abbrev pub Timed : Type 0
 Timed = ℕ × (ℕ × RecordView)
 
 -- The rounds don't fall.
-abbrev RoundsRise : List Timed → Type 0
+abbrev pub RoundsRise : List Timed → Type 0
 RoundsRise [] = Unit {0}
 RoundsRise (e ∷ es) = All (λ later. e.0 ≤ later.0) es × RoundsRise es
 
@@ -44,7 +44,7 @@ timed_later round (h ∷ hs) all =
       | Some time ↦ All-cons (λ later. round ≤ later.0) (h.round, (time, h)) (timed_of hs) here rest
     ]
 
-timed_rise : (hs : List RecordView) → RoundsFollow hs → RoundsRise (timed_of hs)
+pub timed_rise : (hs : List RecordView) → RoundsFollow hs → RoundsRise (timed_of hs)
 timed_rise [] follow = tt
 timed_rise (h ∷ hs) follow =
     let rest = timed_rise hs follow.1 in
@@ -54,7 +54,7 @@ timed_rise (h ∷ hs) follow =
 abbrev Placed : Type 0
 Placed = ℕ × (ℕ × HeldRecord)
 
-abbrev pending_timed : Unplaced → List Timed
+abbrev pub pending_timed : Unplaced → List Timed
 pending_timed nothing = []
 pending_timed (timed key h) = (h.round, (key, h)) ∷ []
 pending_timed ending = []
@@ -129,7 +129,7 @@ follows_end n m round ys times none f =
     record { rest = f.rest; prefix = f.prefix; bounds = λ i d lt. absurd (known i d lt); rule = f.rule }
 
 -- The end of rounds before the pending record.
-one_round : (q : Unplaced) (ahead : List Timed) (old new : ℕ) → IsOneRoundLater q old new → RoundsRise (pending_timed q ++ ahead) → (new ≡ old + 1) × All (λ y. new ≤ y.0) (pending_timed q ++ ahead)
+pub one_round : (q : Unplaced) (ahead : List Timed) (old new : ℕ) → IsOneRoundLater q old new → RoundsRise (pending_timed q ++ ahead) → (new ≡ old + 1) × All (λ y. new ≤ y.0) (pending_timed q ++ ahead)
 one_round nothing after old new one rise = absurd one
 one_round (timed key h) after old new one rise =
     (one.1 ∙ one.0, subst (λ k. All (λ y. k ≤ y.0) ((h.round, (key, h)) ∷ after)) (sym one.1) (All-cons (λ y. h.round ≤ y.0) (h.round, (key, h)) after (omega arith) rise.0))
@@ -137,7 +137,7 @@ one_round ending after old new one rise = absurd one
 one_round (failing e) after old new one rise = absurd one
 one_round failed after old new one rise = absurd one
 
-later_rounds : (q : Unplaced) (ahead : List Timed) (old new : ℕ) → IsLaterOrLast q old new → RoundsRise (pending_timed q ++ ahead) → ((old + 2 ≤ new) × All (λ y. new ≤ y.0) (pending_timed q ++ ahead)) ⊎ ((new ≡ old) × IsLast q)
+pub later_rounds : (q : Unplaced) (ahead : List Timed) (old new : ℕ) → IsLaterOrLast q old new → RoundsRise (pending_timed q ++ ahead) → ((old + 2 ≤ new) × All (λ y. new ≤ y.0) (pending_timed q ++ ahead)) ⊎ ((new ≡ old) × IsLast q)
 later_rounds nothing after old new later rise = absurd later
 later_rounds (timed key h) after old new later rise =
     inl (subst (λ k. old + 2 ≤ k) (sym later.1) later.0, subst (λ k. All (λ y. k ≤ y.0) ((h.round, (key, h)) ∷ after)) (sym later.1) (All-cons (λ y. h.round ≤ y.0) (h.round, (key, h)) after (omega arith) rise.0))
@@ -154,7 +154,7 @@ none_pending failed final = refl
 
 module _ {R : Type 0} (state : R → State) where
   -- The timed records that are still to be inserted.
-  abbrev ahead : OrderedRecords R → List Step → List Timed
+  abbrev pub ahead : OrderedRecords R → List Step → List Timed
   ahead s steps = pending_timed (unplaced_of s) ++ timed_of (read_in steps)
 
   -- What is known of the records ahead.

@@ -1,5 +1,5 @@
 -- Laws of the records of a source in order of time.
-use Rattle.std.specs.Prelude.{◌≡◌, ℕ, ◌^◌, ◌<◌, ◌≤◌, ◌⊎◌, min, List, [], ◌∷◌, ◌++◌, length, map, Option, None, Some}
+use Rattle.std.specs.Prelude.{◌≡◌, ℕ, ◌+◌, ◌^◌, ◌<◌, ◌≤◌, ◌⊎◌, min, List, [], ◌∷◌, ◌++◌, length, map, All, Option, None, Some}
 use Rattle.std.specs.Ordering.{nat_cmp}
 use Rattle.std.specs.List.{sum_by}
 use Rattle.std.specs.List.Sorted.{IsPermutation}
@@ -12,11 +12,11 @@ use Rattle.perfdata_order.specs.declared.held_record.HeldRecord.{HeldRecord}
 use Rattle.perfdata_order.specs.declared.streaming.OrderedRecords.{OrderedRecords}
 use Rattle.perfdata_order.specs.HeldRecord.{held_view, held_size}
 use Rattle.perfdata_order.specs.Order.{Ascends}
-use Rattle.perfdata_order.specs.Sorter.{held_of}
+use Rattle.perfdata_order.specs.Sorter.{held_of, pending_of}
 use Rattle.perfdata_order.specs.SorterLaws.{Call, MakesCalls, returned_by, releases_in, KeepsRoundRule}
 use Rattle.perfdata_order.specs.Times.{key_of_time}
 use Rattle.perfdata_order.specs.LayoutRecords.{AreLayoutRecords}
-use Rattle.perfdata_order.specs.StreamingOrder.{Unplaced, unplaced_of, early_of, Step, TakesSteps, returned_in, IsNewOrder}
+use Rattle.perfdata_order.specs.StreamingOrder.{Unplaced, unplaced_of, round_of, early_of, Step, TakesSteps, returned_in, IsNewOrder}
 use Rattle.perfdata_order.specs.StreamingOrder.Unplaced.{nothing, timed, ending, failing, failed}
 use Rattle.perfdata_order.specs.StreamingOrder.Step.{reads, passes, reads_end, reads_error, sorts, reports}
 
@@ -92,6 +92,12 @@ module _ {R : Type 0} (state : R → State) where
   StaysWithinBudget = (records : PerfRecordIter R) (budget : ℕ) (first last : OrderedRecords R) (file file' : PerfFile) (steps : List Step) →
       IsNewOrder records budget first → TakesSteps state steps first file last file' → 0 < budget → budget < 2 ^ 64 →
       (sum_by (λ (e : ℕ × HeldRecord). held_size (held_view e.1)) (held_of last.sorter) ≤ budget) ⊎ (length (held_of last.sorter) ≤ 1)
+
+  -- Without a budget, each record in the sorter that isn't available is of the current round or of the one before it.
+  abbrev pub HoldsTwoRounds : Type 0
+  HoldsTwoRounds = (records : PerfRecordIter R) (first last : OrderedRecords R) (file file' : PerfFile) (steps : List Step) →
+      IsNewOrder records 0 first → TakesSteps state steps first file last file' → AreLayoutRecords (read_in steps) →
+      All (λ (e : ℕ × HeldRecord). round_of last ≤ (held_view e.1).round + 1) (pending_of last.sorter)
 
   -- The timed records that were returned ascend if none was returned early, and those that were read are the first of a layout and
   -- keep perf's rule: no record of round n + 2 or later is older than one of round n.

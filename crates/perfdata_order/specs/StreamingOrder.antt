@@ -101,6 +101,10 @@ module _ {R : Type 0} where
   abbrev pub unplaced_of : OrderedRecords R → Unplaced
   unplaced_of s = unplaced_by s.pending s.body.items
 
+  -- The current round: that of the record that was inserted last.
+  abbrev pub round_of : OrderedRecords R → ℕ
+  round_of s = s.round
+
   -- The budget in bytes, or 0 if there is none.
   abbrev pub budget_of : OrderedRecords R → ℕ
   budget_of s = s.budget

@@ -1,6 +1,6 @@
 //! Laws of values and of records in order.
 ghost use Rattle.perfdata_order.specs.InMemoryLaws.{CallsSorterInTurn, ReadsRecordsOfInput, ReturnsEachRecordOnce, TimesAscendUnderPerfRule};
-ghost use Rattle.perfdata_order.specs.StreamingLaws.{ReadsRecordsOfSource, CountsEarly, NoneEarlyWithoutBudget, StaysWithinBudget, ReturnsEachRecordOnce as ReturnsEachRecordOnceOf, CallsSorterInTurn as CallsSorterInTurnOf, TimesAscendUnderPerfRule as TimesAscendUnderPerfRuleOf};
+ghost use Rattle.perfdata_order.specs.StreamingLaws.{ReadsRecordsOfSource, CountsEarly, NoneEarlyWithoutBudget, StaysWithinBudget, HoldsTwoRounds, ReturnsEachRecordOnce as ReturnsEachRecordOnceOf, CallsSorterInTurn as CallsSorterInTurnOf, TimesAscendUnderPerfRule as TimesAscendUnderPerfRuleOf};
 ghost use Rattle.perfdata_order.specs.SorterLaws.{AscendsUnderRule, KeepsInsertionOrder, ReturnsEachOnce, RunsAscend};
 
 use linux_perf_data::laws::offsets_increase;
@@ -31,7 +31,8 @@ pub fn in_memory()
 
 /// Over a source, each record that the iterator over the source returns is returned once, or is still held. The timed records
 /// are those of a sorter, so its laws apply to them. The times that are returned ascend if the records are those of a layout and keep
-/// perf's rule, and none was returned early. With a budget, the records in the sorter are within it, or there is only one.
+/// perf's rule, and none was returned early. With a budget, the records in the sorter are within it, or there is only one. Without
+/// a budget, those that aren't available are of the current round or of the one before it.
 pub fn streaming<R: Source>()
     ensures each_once { ReturnsEachRecordOnceOf R.state }
     ensures of_source { ReadsRecordsOfSource R.state }
@@ -39,6 +40,7 @@ pub fn streaming<R: Source>()
     ensures counts_early { CountsEarly R.state }
     ensures none_early_without_budget { NoneEarlyWithoutBudget R.state }
     ensures within_budget { StaysWithinBudget R.state }
+    ensures two_rounds { HoldsTwoRounds R.state }
     ensures times_ascend { TimesAscendUnderPerfRuleOf R.state }
 {
     offsets_increase();
