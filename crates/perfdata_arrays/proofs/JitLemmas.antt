@@ -44,7 +44,7 @@ module _ (endian : Endianness) where
   -- ---- the record at an offset
 
   pub finds_none-short : (bytes : List ℕ) (at : ℕ) → length (drop at bytes) < 16 → FindsRecord endian bytes at (Ok None)
-  finds_none-short bytes at few = inl few
+  finds_none-short bytes at fewer = inl fewer
 
   pub finds_none-past_end : (bytes : List ℕ) (at : ℕ) → length bytes < at → FindsRecord endian bytes at (Ok None)
   finds_none-past_end bytes at past = inl (let long = length-drop at bytes in omega (arith, long, past))
@@ -54,11 +54,11 @@ module _ (endian : Endianness) where
 
   pub finds_none-truncated : (bytes : List ℕ) (at : ℕ) (header : JitDumpRecordHeader) → 16 ≤ length (drop at bytes) → header ≡ record_header_at endian (drop at bytes) → 16 ≤ header.total_size → header.total_size < 2 ^ 32 → at ≤ length bytes → length bytes < 2 ^ 63
       → length (drop at bytes) < header.total_size → FindsRecord endian bytes at (Ok None)
-  finds_none-truncated bytes at header has_header is least most within in_range few = inr (record {
+  finds_none-truncated bytes at header has_header is least most within in_range fewer = inr (record {
     has_header = has_header;
     min_size = subst (λ h. 16 ≤ h.total_size) is least;
     end_fits = subst (λ h. at + h.total_size < 2 ^ 64) is (omega (arith, most, within, in_range));
-    too_few = subst (λ h. length (drop at bytes) < h.total_size) is few;
+    too_few = subst (λ h. length (drop at bytes) < h.total_size) is fewer;
   })
 
   pub finds_whole : (bytes : List ℕ) (at : ℕ) (header : JitDumpRecordHeader) → header ≡ record_header_at endian (drop at bytes) → 16 ≤ header.total_size → header.total_size ≤ length (drop at bytes) → at ≤ length bytes → length bytes < 2 ^ 63

@@ -63,7 +63,7 @@ error_status-file order size offset attrs rest compressed_record e at is = unsup
 error_status-file order size offset attrs rest aux_body_too_short e at is = eof_status e is
 error_status-file order size offset attrs rest aux_end_overflows e at is = ap error_status is
 error_status-file order size offset attrs rest truncated_aux_data e at is = ap error_status is
-error_status-file order size offset attrs rest (invalid_metadata why) e at is = (let none = at.0 in absurd cc)
+error_status-file order size offset attrs rest (invalid_metadata cause) e at is = (let none = at.0 in absurd cc)
 error_status-file order size offset attrs rest (invalid_event_desc o bytes) e at is = (let none = at.0 in absurd cc)
 error_status-file order size offset attrs rest (inconsistent_attributes b) e at is = (let none = at.0 in absurd cc)
 
