@@ -87,7 +87,7 @@ fn expect_same_order(alloc: Global, seed: u64) -> Result<(), Fail> {
     for round in 0..8u64 {
         let count = if round < 6 { next_key(&mut state) } else { 0 };
         for _ in 0..count {
-            let key = next_key(&mut state) + 32 * round;
+            let key = next_key(&mut state).wrapping_add(round.wrapping_mul(32));
             sorter.insert_unordered(key, value)?;
             plain.held.push((key, value))?;
             plain.greatest = plain.greatest.max(key);
