@@ -6,3 +6,4 @@ pub mod Frames
 pub mod Offsets
 pub mod Prefixes
 pub mod SampleIdOffsets
+pub mod Unselected

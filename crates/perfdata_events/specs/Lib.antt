@@ -14,6 +14,7 @@ pub mod Cgroup
 pub mod BpfEvent
 pub mod TextPoke
 pub mod ContextSwitch
+pub mod Selection
 pub mod Words
 pub mod Namespaces
 pub mod SampleId

@@ -120,10 +120,13 @@ fn copy_of<'a>(raw: &RawEventRecord<'a>) -> RawEventRecord<'a>
     }
 }
 
+// The fields of the types are parsed in three functions that aren't inlined, because all locals of a function are set to zero when it
+// is called.
 impl EventFormat {
     ghost use Rattle.perfdata_events.specs.Event.{DecodesEvent, IsParsed, ParseFails, has_known_fields};
 
     // Parses the fields of a record of type 1 to 7.
+    #[inline(never)]
     fn parse_types_to_7<'a>(
         &self,
         raw: &RawEventRecord<'a>,
@@ -169,6 +172,7 @@ impl EventFormat {
     }
 
     // Parses the fields of a record of type 8 or 10 to 15.
+    #[inline(never)]
     fn parse_types_to_15<'a>(
         &self,
         raw: &RawEventRecord<'a>,
@@ -215,6 +219,7 @@ impl EventFormat {
     }
 
     // Parses the fields of a record of type 16 to 21.
+    #[inline(never)]
     fn parse_types_to_21<'a>(
         &self,
         raw: &RawEventRecord<'a>,
@@ -275,8 +280,8 @@ impl EventFormat {
         }
     }
 
-    // Whether the offset of each field of a sample is known.
-    fn has_known_fields(&self) -> bool
+    /// Whether the offset of each field of a sample is known. `parse` says when it isn't.
+    pub fn has_known_fields(&self) -> bool
         ensures { result ≡ has_known_fields self.now }
     {
         self.sample_format < 1 << 25

@@ -20,7 +20,7 @@ pub mod record_id;
 pub mod sample;
 pub mod sample_id;
 pub mod sample_parts;
-mod sample_words;
+pub mod sample_words;
 pub mod task;
 mod text;
 pub mod u64s;

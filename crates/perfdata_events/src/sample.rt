@@ -4,6 +4,7 @@ ghost use Rattle.perfdata_base.specs.Raw.{bytes_of};
 ghost use Rattle.perfdata_base.specs.Endian.{number_in};
 ghost use Rattle.perfdata_base.specs.ParseInfo.{is_set};
 ghost use Rattle.perfdata_events.specs.Format.{Decodes};
+ghost use Rattle.perfdata_events.specs.Selection.{selects_middle, selects_data, selects_pages, selects_end, selects_parts};
 
 use crate::call_chain::CallChain;
 use crate::format::EventFormat;
@@ -98,6 +99,17 @@ struct SampleEnd<'a> {
     aux_data: Option<RawData<'a>>,
 }
 
+/// The words of a sample that has no other fields, as in [`SampleRecord`]. They take less time to parse.
+#[derive(Clone, Copy, Debug, PartialEq, Eq)]
+pub struct SampleWords {
+    /// The words up to the time.
+    pub origin: OriginWords,
+    /// The words from the address in memory to the processor.
+    pub event: EventWords,
+    /// The number of events since the previous sample.
+    pub period: Option<u64>,
+}
+
 impl<'a> SampleStart<'a> {
     ghost use Rattle.perfdata_events.specs.Sample.{sample_start, start_of};
 
@@ -124,6 +136,16 @@ impl<'a> SampleStart<'a> {
             call_chain,
         })
     }
+}
+
+// Whether a sample has a field from the raw data to the user stack.
+fn has_middle(bits: u64) -> bool
+    ensures { result ≡ selects_middle bits }
+{
+    has_bits(bits, 1 << 10)
+        || has_bits(bits, 1 << 11)
+        || has_bits(bits, 1 << 12)
+        || has_bits(bits, 1 << 13)
 }
 
 impl<'a> SampleMiddle<'a> {
@@ -164,6 +186,31 @@ fn has_weight(bits: u64) -> bool
     has_bits(bits, 1 << 14) || has_bits(bits, 1 << 24)
 }
 
+// Whether a sample has a word or registers from the data source to the interrupt registers.
+fn has_data(bits: u64) -> bool
+    ensures { result ≡ selects_data bits }
+{
+    has_bits(bits, 1 << 15) || has_bits(bits, 1 << 17) || has_bits(bits, 1 << 18)
+}
+
+// Whether a sample has a field from the physical address on.
+fn has_pages(bits: u64) -> bool
+    ensures { result ≡ selects_pages bits }
+{
+    has_bits(bits, 1 << 19)
+        || has_bits(bits, 1 << 21)
+        || has_bits(bits, 1 << 22)
+        || has_bits(bits, 1 << 23)
+        || has_bits(bits, 1 << 20)
+}
+
+// Whether a sample has a field from the weight on.
+fn has_end(bits: u64) -> bool
+    ensures { result ≡ selects_end bits }
+{
+    has_weight(bits) || has_data(bits) || has_pages(bits)
+}
+
 impl<'a> SampleEnd<'a> {
     ghost use Rattle.perfdata_events.specs.Sample.{sample_end, end_of};
 
@@ -188,6 +235,51 @@ impl<'a> SampleEnd<'a> {
             interrupt_registers,
             pages,
             aux_data,
+        })
+    }
+}
+
+// Whether a sample has a field after its period.
+fn has_parts(bits: u64) -> bool
+    ensures { result ≡ selects_parts bits }
+{
+    has_bits(bits, 1 << 4) || has_bits(bits, 1 << 5) || has_middle(bits) || has_end(bits)
+}
+
+impl EventFormat {
+    ghost use Rattle.std.specs.Prelude.{not};
+
+    /// Whether a sample has no fields but the words up to its period.
+    #[inline]
+    pub fn has_only_words(&self) -> bool
+        ensures { result ≡ not (selects_parts self.now.sample_format) }
+    {
+        !has_parts(self.sample_format)
+    }
+}
+
+impl SampleWords {
+    ghost use Rattle.std.specs.Prelude.{IsTrue, not};
+    ghost use Rattle.perfdata_events.specs.Sample.{sample, values_of_words};
+
+    /// Parses the words that a format selects at the start of `fields`, and removes them. The format selects no other fields,
+    /// see [`EventFormat::has_only_words`].
+    ///
+    /// Fails with an `UnexpectedEof` error if they are truncated.
+    #[inline(always)]
+    pub fn parse(format: &EventFormat, fields: &mut RawData<'_>) -> Result<SampleWords>
+        requires { IsTrue (not (selects_parts format.now.sample_format)) }
+        ensures { Decodes (sample (number_in format.now.endian) format.now) values_of_words (bytes_of fields.old) result (bytes_of fields.new) }
+    {
+        let endian = format.endian;
+        let bits = format.sample_format;
+        let origin = OriginWords::parse(endian, bits, fields)?;
+        let event = EventWords::parse(endian, bits, fields)?;
+        let period = read_u64_if(endian, fields, has_bits(bits, 1 << 8))?;
+        Ok(SampleWords {
+            origin,
+            event,
+            period,
         })
     }
 }

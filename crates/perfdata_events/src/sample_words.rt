@@ -61,6 +61,7 @@ impl OriginWords {
     ghost use Rattle.perfdata_events.specs.Sample.{origin_words};
 
     // Removes the words that a sample format selects.
+    #[inline(always)]
     pub(crate) fn parse(
         endian: Endianness,
         format: u64,
@@ -85,6 +86,7 @@ impl EventWords {
     ghost use Rattle.perfdata_events.specs.Sample.{event_words};
 
     // Removes the words that a sample format selects.
+    #[inline(always)]
     pub(crate) fn parse(
         endian: Endianness,
         format: u64,
@@ -109,6 +111,7 @@ impl DataWords {
     ghost use Rattle.perfdata_events.specs.Sample.{data_words};
 
     // Removes the words that a sample format selects.
+    #[inline(always)]
     pub(crate) fn parse(
         endian: Endianness,
         format: u64,
@@ -129,6 +132,7 @@ impl PageWords {
     ghost use Rattle.perfdata_events.specs.Sample.{page_words};
 
     // Removes the words that a sample format selects.
+    #[inline(always)]
     pub(crate) fn parse(
         endian: Endianness,
         format: u64,
