@@ -1,17 +1,20 @@
 -- Lemmas on JSON text.
-use Rattle.std.proofs.Common.{◌≡◌, ℕ, ◌+◌, ◌-◌, ◌*◌, ◌/◌, ◌%◌, ◌^◌, ◌<◌, ◌≤◌, Bool, true, false, List, [], ◌∷◌, ◌++◌, length, take, drop, get_or, refl, sym, ap, ◌∙◌, subst, append_assoc, append-nil, arith, rules, zero, suc, ◌≢◌}
-use Rattle.std.specs.Prelude.{◌&&◌, codes, encode_utf8, ◌==◌, nat_le, not, decimal}
-use Rattle.std.specs.List.{list_all}
+use Rattle.std.proofs.Common.{◌≡◌, ℕ, ◌+◌, ◌-◌, ◌*◌, ◌/◌, ◌%◌, ◌^◌, ◌<◌, ◌≤◌, Bool, true, false, List, [], ◌∷◌, ◌++◌, length, take, drop, get_or, refl, sym, ap, ◌∙◌, subst, append_assoc, append-nil, arith, rules, zero, suc, ◌≢◌, ℤ, pos, negsuc}
+use Rattle.std.specs.Prelude.{◌&&◌, ◌||◌, codes, encode_utf8, ◌==◌, nat_le, nat_lt, not, decimal, if◌then◌else◌}
+use Rattle.std.specs.Fmt.{digits, digits_onto, digit_glyph, signed_decimal}
+use Rattle.std.specs.List.{list_all, flat_map}
 use Rattle.std.specs.Char.{IsScalar}
+use Rattle.std.specs.Str.{all_scalars, chars, is_utf8, IsUtf8, IsAscii}
+use lib.Signed.{mag}
 use Rattle.std.proofs.lemmas.Bool.{false≢true}
 use Rattle.std.proofs.lemmas.Grind.{common_steps}
 use Rattle.std.proofs.lemmas.List.Folds.{list_all-append}
-use Rattle.std.proofs.lemmas.Str.{encode_ascii}
+use Rattle.std.proofs.lemmas.Str.{encode_ascii, chars-encodes, encodes-IsAscii, IsUtf8-from_ascii, IsUtf8-from_is_utf8, is_utf8-from_IsUtf8}
 use Rattle.std.proofs.lemmas.Fmt.{decimal_by_steps, decimal_nonempty, decimal_digit, first_decimal, length-decimal-le}
-use Rattle.std.proofs.lemmas.List.{drop_all}
 use Rattle.std.proofs.lemmas.Slice.Eq.{bytes_eq-Decides}
 use Rattle.json_writer.specs.Json.{IsJson, IsJsonChars, IsJsonInteger, is_digit, is_hex_digit, is_escape_letter, true_literal, false_literal, end, unescaped, escaped, escaped_unit, first_member, next_member, first_element, next_element, object, empty_object, array, empty_array, string, number, positive, negative, value, members, elements, quoted}
-use Rattle.json_writer.specs.Writing.{is_plain_byte, is_plain, is_member_start, member_start, key_in, AreMembers, no_members, some_members, AreElements, no_elements, some_elements, IsMember, IsElement}
+use Rattle.json_writer.specs.Writing.{is_plain_byte, is_plain, content_in, is_plain_string, is_member_start, member_start, key_in, AreMembers, no_members, some_members, AreElements, no_elements, some_elements}
+use Rattle.json_writer.specs.Values.{address_text, boolean_text, byte_digits, hex_text, escape, string_text, hex_object_text, text_value, bytes_text, object_text, array_text}
 
 pub both_first : (a b : Bool) → (a && b) ≡ true → a ≡ true
 both_first true b h = refl
@@ -59,96 +62,115 @@ negative_value n bound = number (45 ∷ decimal n) (negative (decimal n) (decima
 pub plain_string : (text : List ℕ) → is_plain text ≡ true → IsJson value (quoted text)
 plain_string text plain = string text (plain_chars text plain)
 
+pub plain_string_value : (text : List ℕ) → is_plain_string text ≡ true → IsJson value text
+plain_string_value text is =
+    let content = content_in text in
+    let same : text ≡ quoted content = (bytes_eq-Decides text (quoted content)).0 (both_second (is_plain content) _ is) in
+    subst (IsJson value) (sym same) (plain_string content (both_first (is_plain content) _ is))
+
 -- a member after members
-pub add_member : {old : List ℕ} (text : List ℕ) → AreMembers old → IsMember text → AreMembers (old ++ text)
-add_member text no_members m = subst AreMembers (sym m.is) (some_members (quoted m.key ++ (58 ∷ m.content)) (first_member m.key m.content m.valid_key m.valid_content))
-add_member text (some_members old are) m = subst (λ l. AreMembers (44 ∷ (old ++ l))) (sym m.is) (some_members (old ++ (44 ∷ (quoted m.key ++ (58 ∷ m.content)))) (next_member old m.key m.content are m.valid_key m.valid_content))
+add_valid_member : {old : List ℕ} (key content : List ℕ) → AreMembers old → IsJsonChars key → IsJson value content → AreMembers (old ++ (44 ∷ (quoted key ++ (58 ∷ content))))
+add_valid_member key content no_members k v = some_members (quoted key ++ (58 ∷ content)) (first_member key content k v)
+add_valid_member key content (some_members old are) k v = some_members (old ++ (44 ∷ (quoted key ++ (58 ∷ content)))) (next_member old key content are k v)
+
+-- a key and a value after members
+pub add_member : {old : List ℕ} (start content : List ℕ) → AreMembers old → is_member_start start ≡ true → IsJson value content → AreMembers (old ++ (start ++ content))
+add_member {old} start content are is h =
+    let key = key_in start in
+    let plain : is_plain key ≡ true = both_first (is_plain key) _ is in
+    let same : start ≡ member_start key = (bytes_eq-Decides start (member_start key)).0 (both_second (is_plain key) _ is) in
+    subst (λ l. AreMembers (old ++ l)) (sym (ap (λ l. l ++ content) same ∙ ap (λ l. 44 ∷ l) (append_assoc (quoted key) (58 ∷ []) content))) (add_valid_member key content are (plain_chars key plain) h)
 
 -- an element after elements
-pub add_element : {old : List ℕ} (text : List ℕ) → AreElements old → IsElement text → AreElements (old ++ text)
-add_element text no_elements e = subst AreElements (sym e.is) (some_elements e.content (first_element e.content e.valid_content))
-add_element text (some_elements old are) e = subst (λ l. AreElements (44 ∷ (old ++ l))) (sym e.is) (some_elements (old ++ (44 ∷ e.content)) (next_element old e.content are e.valid_content))
+pub add_element : {old : List ℕ} (content : List ℕ) → AreElements old → IsJson value content → AreElements (old ++ (44 ∷ content))
+add_element content no_elements h = some_elements content (first_element content h)
+add_element content (some_elements old are) h = some_elements (old ++ (44 ∷ content)) (next_element old content are h)
 
 -- the object of members
-pub members_object : {text : List ℕ} → AreMembers text → IsJson value (123 ∷ (drop 1 text ++ (125 ∷ [])))
+pub members_object : {text : List ℕ} → AreMembers text → IsJson value (object_text text)
 members_object no_members = empty_object
 members_object (some_members text are) = object text are
 
 -- the array of elements
-pub elements_array : {text : List ℕ} → AreElements text → IsJson value (91 ∷ (drop 1 text ++ (93 ∷ [])))
+pub elements_array : {text : List ℕ} → AreElements text → IsJson value (array_text text)
 elements_array no_elements = empty_array
 elements_array (some_elements text are) = array text are
-
--- a key and a value
-pub make_member : (start content : List ℕ) → is_member_start start ≡ true → IsJson value content → IsMember (start ++ content)
-make_member start content is h =
-    let key = key_in start in
-    let plain : is_plain key ≡ true = both_first (is_plain key) _ is in
-    let same : start ≡ member_start key = (bytes_eq-Decides start (member_start key)).0 (both_second (is_plain key) _ is) in
-    record {
-      key = key;
-      content = content;
-      valid_key = plain_chars key plain;
-      valid_content = h;
-      is = ap (λ l. l ++ content) same ∙ ap (λ l. 44 ∷ l) (append_assoc (quoted key) (58 ∷ []) content);
-    }
-
-pub make_element : (content : List ℕ) → IsJson value content → IsElement (44 ∷ content)
-make_element content h = record { content = content; valid_content = h; is = refl }
 
 -- the digits of a number of 64 bits
 pub decimal_short : (n : ℕ) → n < 2 ^ 64 → length (decimal n) ≤ 20
 decimal_short n bound = length-decimal-le 20 n (omega arith) (omega arith) bound
 
--- bytes at the end of an array of 24
-pub at_end : (buf new : List ℕ) (start : ℕ) (text : List ℕ) → length buf ≡ 24 → drop start new ≡ text ++ drop 24 buf → drop start new ≡ text
-at_end buf new start text len written = written ∙ ap (λ l. text ++ l) (drop_all 24 buf (omega (arith, len))) ∙ append-nil text
+-- hexadecimal digits are plain
+plain_digit : (d : ℕ) → d < 16 → is_plain_byte (digit_glyph false d) ≡ true
+plain_digit d bound = grind (arith, common_steps)
 
-pub value_is : {text other : List ℕ} → other ≡ text → IsJson value text → IsJson value other
-value_is is h = subst (IsJson value) (sym is) h
+pub hex_digit_is : (d : ℕ) → d < 16 → is_hex_digit (digit_glyph false d) ≡ true
+hex_digit_is d bound = grind (arith, common_steps)
 
--- an escape of a letter
-pub escape_chars : (letter : ℕ) → is_escape_letter letter ≡ true → IsJsonChars (92 ∷ letter ∷ [])
-escape_chars letter is = escaped letter [] is end
+plain_digits_onto : (k n : ℕ) (rest : List ℕ) → is_plain rest ≡ true → is_plain (digits_onto k 16 false n rest) ≡ true
+plain_digits_onto zero n rest h = h
+plain_digits_onto (suc k) n rest h =
+    let more : is_plain (digit_glyph false (n % 16) ∷ rest) ≡ true = ap (λ x. x && is_plain rest) (plain_digit (n % 16) (omega arith)) ∙ h in
+    elim (n / 16 == 0) as (λ t. is_plain (if t then digit_glyph false (n % 16) ∷ rest else digits_onto k 16 false (n / 16) (digit_glyph false (n % 16) ∷ rest)) ≡ true) [
+      | true ↦ more
+      | false ↦ plain_digits_onto k (n / 16) (digit_glyph false (n % 16) ∷ rest) more
+    ]
 
-hex_four : (high low : ℕ) → is_hex_digit high ≡ true → is_hex_digit low ≡ true → list_all is_hex_digit (48 ∷ 48 ∷ high ∷ low ∷ []) ≡ true
+-- the text of an address
+pub address_value : (n : ℕ) → IsJson value (address_text n)
+unfolding digits
+address_value n = plain_string (codes "0x" ++ digits 16 false n) (plain_digits_onto 64 n [] refl)
+
+pub signed_value : (n : ℤ) → mag n < 2 ^ 63 → IsJson value (signed_decimal n)
+signed_value (pos n) bound = decimal_value n (omega arith)
+signed_value (negsuc n) bound = negative_value (suc n) (omega arith)
+
+pub boolean_value : (b : Bool) → IsJson value (boolean_text b)
+boolean_value true = true_literal
+boolean_value false = false_literal
+
+-- each fits eight bits
+abbrev pub AreBytes : List ℕ → Type 0
+AreBytes bytes = (k : ℕ) → k < length bytes → get_or bytes k 0 < 256
+
+plain_hex : (bytes : List ℕ) → AreBytes bytes → is_plain (flat_map byte_digits bytes) ≡ true
+plain_hex [] below = refl
+plain_hex (b ∷ rest) below =
+    let bound : b < 256 = below 0 (omega arith) in
+    let others = plain_hex rest (λ k h. below (suc k) (omega arith)) in
+    ap (λ x. x && (is_plain_byte (digit_glyph false (b % 16)) && is_plain (flat_map byte_digits rest))) (plain_digit (b / 16) (omega arith)) ∙ ap (λ x. x && is_plain (flat_map byte_digits rest)) (plain_digit (b % 16) (omega arith)) ∙ others
+
+-- the hexadecimal digits of bytes
+pub hex_value : (bytes : List ℕ) → AreBytes bytes → IsJson value (hex_text bytes)
+hex_value bytes below = plain_string (flat_map byte_digits bytes) (plain_hex bytes below)
+
+pub hex_four : (high low : ℕ) → is_hex_digit high ≡ true → is_hex_digit low ≡ true → list_all is_hex_digit (48 ∷ 48 ∷ high ∷ low ∷ []) ≡ true
 hex_four high low a b = ap (λ x. x && (is_hex_digit low && true)) a ∙ ap (λ x. x && true) b
 
--- an escape of a control character
-pub control_chars : (high low : ℕ) → is_hex_digit high ≡ true → is_hex_digit low ≡ true → IsJsonChars (92 ∷ 117 ∷ 48 ∷ 48 ∷ high ∷ low ∷ [])
-control_chars high low a b = escaped_unit (48 ∷ 48 ∷ high ∷ low ∷ []) [] refl (hex_four high low a b) end
-
 -- a character that needs no escape
-pub unescaped_chars : (c : ℕ) → IsScalar c → 32 ≤ c → c ≢ 34 → c ≢ 92 → IsJsonChars (encode_utf8 c)
+unescaped_chars : (c : ℕ) → IsScalar c → 32 ≤ c → c ≢ 34 → c ≢ 92 → IsJsonChars (encode_utf8 c)
 unescaped_chars c scalar low quote backslash = subst IsJsonChars (append-nil (encode_utf8 c)) (unescaped c [] scalar low quote backslash end)
 
-pub plain_more : (a b : List ℕ) → is_plain a ≡ true → is_plain b ≡ true → is_plain (a ++ b) ≡ true
-plain_more a b p q = list_all-append is_plain_byte a b ∙ ap (λ x. x && is_plain b) p ∙ q
+control_chars : (c : ℕ) → c < 32 → IsJsonChars (92 ∷ 117 ∷ 48 ∷ 48 ∷ byte_digits c)
+control_chars c low = escaped_unit (48 ∷ 48 ∷ byte_digits c) [] refl (hex_four (digit_glyph false (c / 16)) (digit_glyph false (c % 16)) (hex_digit_is (c / 16) (omega arith)) (hex_digit_is (c % 16) (omega arith))) end
 
--- one plain character before others
-pub plain_cons : (c : ℕ) (rest : List ℕ) → is_plain_byte c ≡ true → is_plain rest ≡ true → is_plain (c ∷ rest) ≡ true
-plain_cons c rest p q = ap (λ x. x && is_plain rest) p ∙ q
+-- a character of a string
+escape_by_cases : (c : ℕ) (is_special is_control : Bool) → ((c == 34) || (c == 92)) ≡ is_special → nat_lt c 32 ≡ is_control → IsScalar c → IsJsonChars (if is_special then 92 ∷ c ∷ [] else (if is_control then 92 ∷ 117 ∷ 48 ∷ 48 ∷ byte_digits c else encode_utf8 c))
+escape_by_cases c true is_control special control scalar = escaped c [] (ap (λ x. x || (c == 47) || (c == 98) || (c == 102) || (c == 110) || (c == 114) || (c == 116)) special) end
+escape_by_cases c false true special control scalar = control_chars c (grind (arith, common_steps, control))
+escape_by_cases c false false special control scalar = unescaped_chars c scalar (grind (arith, common_steps, control)) (λ e. grind (arith, common_steps, special)) (λ e. grind (arith, common_steps, special))
 
--- the text of an address: 0x and digits in quotation marks
-pub address_value : (digits : List ℕ) → is_plain digits ≡ true → IsJson value (34 ∷ 48 ∷ 120 ∷ (digits ++ (34 ∷ [])))
-address_value digits plain = plain_string (48 ∷ 120 ∷ digits) plain
+escape_chars : (c : ℕ) → IsScalar c → IsJsonChars (escape c)
+escape_chars c scalar = escape_by_cases c _ _ refl refl scalar
 
-pub true_value : IsJson value (codes "true")
-true_value = true_literal
+-- the characters of a string
+pub escaped_chars : (characters : List ℕ) → all_scalars characters ≡ true → IsJsonChars (flat_map escape characters)
+escaped_chars [] h = end
+escaped_chars (c ∷ rest) h = chars_append (flat_map escape rest) (escape_chars c (both_first _ (all_scalars rest) h)) (escaped_chars rest (both_second _ (all_scalars rest) h))
 
-pub false_value : IsJson value (codes "false")
-false_value = false_literal
-
--- the object of a hexadecimal text
-pub hex_object : (text : List ℕ) → IsJson value text → IsJson value (codes "{\"hex\":" ++ (text ++ (125 ∷ [])))
-hex_object text h = object (codes "\"hex\":" ++ text) (first_member (codes "hex") text (plain_chars (codes "hex") refl) h)
-
--- the object of a length and a hexadecimal text
-pub bytes_object : (count text : List ℕ) → IsJson value count → IsJson value text → IsJson value (codes "{\"length\":" ++ (count ++ (codes ",\"hex\":" ++ (text ++ (125 ∷ [])))))
-bytes_object count text n h =
-    let first = first_member (codes "length") count (plain_chars (codes "length") refl) n in
-    let both = next_member (codes "\"length\":" ++ count) (codes "hex") text first (plain_chars (codes "hex") refl) h in
-    subst (λ l. IsJson value (123 ∷ l)) (append_assoc (codes "\"length\":" ++ count) (codes ",\"hex\":" ++ text) (125 ∷ []) ∙ append_assoc (codes "\"length\":") count (codes ",\"hex\":" ++ (text ++ (125 ∷ [])))) (object ((codes "\"length\":" ++ count) ++ (codes ",\"hex\":" ++ text)) both)
+-- a string of characters
+pub string_value : (characters : List ℕ) → all_scalars characters ≡ true → IsJson value (string_text characters)
+string_value characters h = string (flat_map escape characters) (escaped_chars characters h)
 
 -- members after members
 pub members_then : (before : List ℕ) {text : List ℕ} → IsJson members before → IsJson members text → IsJson members (before ++ (44 ∷ text))
@@ -162,3 +184,73 @@ members_append before are (some_members text more) = members_then before are mor
 pub are_members_append : {a b : List ℕ} → AreMembers a → AreMembers b → AreMembers (a ++ b)
 are_members_append no_members more = more
 are_members_append (some_members text are) more = some_members _ (members_append text are more)
+
+hex_object : (text : List ℕ) → IsJson value text → IsJson value (codes "{\"hex\":" ++ (text ++ (125 ∷ [])))
+hex_object text h = object (codes "\"hex\":" ++ text) (first_member (codes "hex") text (plain_chars (codes "hex") refl) h)
+
+-- the object of a length and a hexadecimal text
+bytes_object : (count text : List ℕ) → IsJson value count → IsJson value text → IsJson value (codes "{\"length\":" ++ (count ++ (codes ",\"hex\":" ++ (text ++ (125 ∷ [])))))
+bytes_object count text n h =
+    let first = first_member (codes "length") count (plain_chars (codes "length") refl) n in
+    let both = next_member (codes "\"length\":" ++ count) (codes "hex") text first (plain_chars (codes "hex") refl) h in
+    subst (λ l. IsJson value (123 ∷ l)) (append_assoc (codes "\"length\":" ++ count) (codes ",\"hex\":" ++ text) (125 ∷ []) ∙ append_assoc (codes "\"length\":") count (codes ",\"hex\":" ++ (text ++ (125 ∷ [])))) (object ((codes "\"length\":" ++ count) ++ (codes ",\"hex\":" ++ text)) both)
+
+pub bytes_are_valid : (length : ℕ) (first : List ℕ) → length < 2 ^ 64 → AreBytes first → IsJson value (bytes_text length first)
+bytes_are_valid length first bound below = bytes_object (decimal length) (hex_text first) (decimal_value length bound) (hex_value first below)
+
+-- a text is a string, or an object with its digits
+text_by_cases : (bytes : List ℕ) (t : Bool) → is_utf8 bytes ≡ t → AreBytes bytes → IsJson value (if t then string_text (chars bytes) else hex_object_text bytes)
+text_by_cases bytes true is below =
+    let utf8 = IsUtf8-from_is_utf8 bytes is in
+    let same : chars bytes ≡ utf8.0 = ap chars (sym utf8.1.1) ∙ chars-encodes utf8.0 utf8.1.0 in
+    string_value (chars bytes) (ap all_scalars same ∙ utf8.1.0)
+text_by_cases bytes false is below = hex_object (hex_text bytes) (hex_value bytes below)
+
+pub text_is_valid : (bytes : List ℕ) → AreBytes bytes → IsJson value (text_value bytes)
+text_is_valid bytes below = text_by_cases bytes (is_utf8 bytes) refl below
+
+plain_below : (c : ℕ) → is_plain_byte c ≡ true → c < 128
+plain_below c plain = grind (arith, common_steps, plain)
+
+plain_scalar : (c : ℕ) → is_plain_byte c ≡ true → IsScalar c
+plain_scalar c plain = grind (arith, common_steps, plain)
+
+-- plain characters are ASCII, and stand for themselves
+plain_ascii : (text : List ℕ) → is_plain text ≡ true → IsAscii text
+plain_ascii [] plain i = omega arith
+plain_ascii (c ∷ rest) plain zero = plain_below c (both_first (is_plain_byte c) (is_plain rest) plain)
+plain_ascii (c ∷ rest) plain (suc i) = plain_ascii rest (both_second (is_plain_byte c) (is_plain rest) plain) i
+
+plain_scalars : (text : List ℕ) → is_plain text ≡ true → all_scalars text ≡ true
+plain_scalars [] plain = refl
+plain_scalars (c ∷ rest) plain = ap (λ x. x && all_scalars rest) (plain_scalar c (both_first (is_plain_byte c) (is_plain rest) plain)) ∙ plain_scalars rest (both_second (is_plain_byte c) (is_plain rest) plain)
+
+escape_plain : (c : ℕ) → is_plain_byte c ≡ true → escape c ≡ c ∷ []
+escape_plain c plain =
+    let special : ((c == 34) || (c == 92)) ≡ false = grind (arith, common_steps, plain) in
+    let control : nat_lt c 32 ≡ false = grind (arith, common_steps, plain) in
+    let plain_or_control = if nat_lt c 32 then 92 ∷ 117 ∷ 48 ∷ 48 ∷ byte_digits c else encode_utf8 c in
+    ap (λ (t : Bool). if t then 92 ∷ c ∷ [] else plain_or_control) special ∙ ap (λ (t : Bool). if t then 92 ∷ 117 ∷ 48 ∷ 48 ∷ byte_digits c else encode_utf8 c) control ∙ encode_ascii c (plain_below c plain)
+
+escaped_plain : (text : List ℕ) → is_plain text ≡ true → flat_map escape text ≡ text
+escaped_plain [] plain = refl
+escaped_plain (c ∷ rest) plain = ap (λ l. l ++ flat_map escape rest) (escape_plain c (both_first (is_plain_byte c) (is_plain rest) plain)) ∙ ap (λ l. c ∷ l) (escaped_plain rest (both_second (is_plain_byte c) (is_plain rest) plain))
+
+utf8_test : (bytes : List ℕ) (t : Bool) → is_utf8 bytes ≡ t → text_value bytes ≡ (if t then string_text (chars bytes) else hex_object_text bytes)
+utf8_test bytes t is = ap (λ (b : Bool). if b then string_text (chars bytes) else hex_object_text bytes) is
+
+pub utf8_text_value : (bytes other : List ℕ) → other ≡ bytes → IsUtf8 bytes → string_text (chars other) ≡ text_value bytes
+utf8_text_value bytes other same utf8 = ap (λ l. string_text (chars l)) same ∙ sym (utf8_test bytes true (is_utf8-from_IsUtf8 bytes utf8))
+
+pub plain_text_value : (bytes : List ℕ) → is_plain bytes ≡ true → quoted bytes ≡ text_value bytes
+plain_text_value bytes plain =
+    let ascii = plain_ascii bytes plain in
+    let same : chars bytes ≡ bytes = ap chars (sym (encodes-IsAscii bytes ascii)) ∙ chars-encodes bytes (plain_scalars bytes plain) in
+    ap quoted (sym (ap (flat_map escape) same ∙ escaped_plain bytes plain)) ∙ utf8_text_value bytes bytes refl (IsUtf8-from_ascii bytes ascii)
+
+other_by_cases : (bytes : List ℕ) (t : Bool) → is_utf8 bytes ≡ t → ¬ (IsUtf8 bytes) → hex_object_text bytes ≡ text_value bytes
+other_by_cases bytes true is other = absurd (other (IsUtf8-from_is_utf8 bytes is))
+other_by_cases bytes false is other = sym (utf8_test bytes false is)
+
+pub other_text_value : (bytes : List ℕ) → ¬ (IsUtf8 bytes) → hex_object_text bytes ≡ text_value bytes
+other_text_value bytes other = other_by_cases bytes (is_utf8 bytes) refl other

@@ -1,2 +1,5 @@
+pub mod CharacterLemmas
+pub mod DecimalLemmas
+pub mod HexLemmas
 pub mod JsonLemmas
 pub mod WritingLemmas

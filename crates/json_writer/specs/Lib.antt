@@ -1,2 +1,5 @@
 pub mod Json
+pub mod Values
 pub mod Writing
+pub mod Texts
+pub mod Characters

@@ -23,6 +23,14 @@ key_in text = take (length text - 4) (drop 2 text)
 abbrev pub is_member_start : List ℕ → Bool
 is_member_start text = is_plain (key_in text) && bytes_eq text (member_start (key_in text))
 
+-- the characters of a string
+abbrev pub content_in : List ℕ → List ℕ
+content_in text = take (length text - 2) (drop 1 text)
+
+-- whether a text is a string of plain characters
+abbrev pub is_plain_string : List ℕ → Bool
+is_plain_string text = is_plain (content_in text) && bytes_eq text (quoted (content_in text))
+
 -- members of an object, each after a comma
 pub data AreMembers : List ℕ → Type 0 where
   no_members : AreMembers []
@@ -32,28 +40,3 @@ pub data AreMembers : List ℕ → Type 0 where
 pub data AreElements : List ℕ → Type 0 where
   no_elements : AreElements []
   some_elements : (text : List ℕ) → IsJson elements text → AreElements (44 ∷ text)
-
--- text of a kind is appended
-pub record Appended (P : List ℕ → Type 0) (old new : List ℕ) : Type 0 where
-  pub text : List ℕ
-  pub valid : P text
-  pub joined : new ≡ old ++ text
-
--- what appending text of a kind does; if it fails, any text may be there
-abbrev pub Appends : {T E : Type 0} → (List ℕ → Type 0) → List ℕ → Result T E → List ℕ → Type 0
-Appends P old (Ok x) new = ∥ Appended P old new ∥₁
-Appends P old (Err e) new = Unit {0}
-
--- a comma and a member of an object
-pub record IsMember (text : List ℕ) : Type 0 where
-  pub key : List ℕ
-  pub content : List ℕ
-  pub valid_key : IsJsonChars key
-  pub valid_content : IsJson value content
-  pub is : text ≡ 44 ∷ (quoted key ++ (58 ∷ content))
-
--- a comma and an element of an array
-pub record IsElement (text : List ℕ) : Type 0 where
-  pub content : List ℕ
-  pub valid_content : IsJson value content
-  pub is : text ≡ 44 ∷ content

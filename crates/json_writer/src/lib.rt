@@ -3,6 +3,8 @@
 //! [`members::Members`] contains members of an object, [`members::Elements`] elements of an array.
 #![tactic(auto)]
 
+pub mod laws;
 pub mod members;
+mod parts;
 pub mod scalar;
 mod text;

@@ -1,10 +1,15 @@
 //! Members of objects and elements of arrays.
-ghost use Rattle.std.specs.Prelude.{◌≡◌, ℕ, ◌+◌, ◌<◌, ◌≤◌, List, [], drop, IsTrue};
-ghost use Rattle.json_writer.specs.Json.{IsJson, value};
-ghost use Rattle.json_writer.specs.Writing.{is_member_start, AreMembers, AreElements, Appends, Appended, IsMember, IsElement};
+ghost use Rattle.std.specs.Prelude.{◌≡◌, ◌++◌, [], ◌∷◌, ◌==◌, length, decimal, IsTrue, OnOk, OnErr};
+ghost use Rattle.std.specs.Fmt.{signed_decimal};
+ghost use Rattle.json_writer.specs.Writing.{is_member_start, is_plain_string, AreMembers, AreElements};
+ghost use Rattle.json_writer.specs.Values.{address_text, boolean_text, hex_text, text_value, bytes_text, object_text, array_text, optional_text};
 
-use crate::scalar::{append_address, append_boolean, append_number, append_signed};
-use crate::text::{append_bytes, append_hex_string, append_text};
+use crate::parts::{
+    append_address_element, append_address_member, append_array_element, append_array_member,
+    append_boolean_member, append_bytes_member, append_hex_member, append_number_element,
+    append_number_member, append_object_element, append_object_member, append_signed_member,
+    append_string_element, append_string_member, append_text_element, append_text_member,
+};
 use std::alloc::{AllocError, Global};
 
 /// Members of an object, each after a comma. If a method fails, no members are left.
@@ -21,145 +26,37 @@ pub struct Elements {
     ghost valid: { ∥ AreElements bytes.items ∥₁ },
 }
 
-/// The bytes after the first one.
-#[inline]
-fn without_first(bytes: &[u8]) -> &[u8]
-    ensures { result.now ≡ drop 1 bytes.now }
-{
-    if bytes.is_empty() {
-        return bytes;
-    }
-    &bytes[1..]
-}
-
-/// Appends the object of members.
-fn append_object(out: &mut Vec<u8>, members: &Members) -> Result<(), AllocError>
-    ensures { Appends (IsJson value) out.old.items result out.new.items }
-{
-    out.extend_from_slice(b"{")?;
-    out.extend_from_slice(without_first(members.as_bytes()))?;
-    out.extend_from_slice(b"}")
-}
-
-/// Appends the array of elements.
-fn append_array(out: &mut Vec<u8>, elements: &Elements) -> Result<(), AllocError>
-    ensures { Appends (IsJson value) out.old.items result out.new.items }
-{
-    out.extend_from_slice(b"[")?;
-    out.extend_from_slice(without_first(elements.as_bytes()))?;
-    out.extend_from_slice(b"]")
-}
-
-/// Appends a member whose value is a number.
-#[inline(always)]
-fn append_number_member(out: &mut Vec<u8>, key: &[u8], n: u64) -> Result<(), AllocError>
-    requires { IsTrue (is_member_start key.now) }
-    ensures { Appends IsMember out.old.items result out.new.items }
-{
-    out.extend_from_slice(key)?;
-    append_number(out, n)
-}
-
-/// Appends a member whose value is a signed number.
-#[inline(always)]
-fn append_signed_member(out: &mut Vec<u8>, key: &[u8], n: i32) -> Result<(), AllocError>
-    requires { IsTrue (is_member_start key.now) }
-    ensures { Appends IsMember out.old.items result out.new.items }
-{
-    out.extend_from_slice(key)?;
-    append_signed(out, n)
-}
-
-/// Appends a member whose value is a number in hexadecimal.
-#[inline(always)]
-fn append_address_member(out: &mut Vec<u8>, key: &[u8], n: u64) -> Result<(), AllocError>
-    requires { IsTrue (is_member_start key.now) }
-    ensures { Appends IsMember out.old.items result out.new.items }
-{
-    out.extend_from_slice(key)?;
-    append_address(out, n)
-}
-
-/// Appends a member whose value is a boolean.
-fn append_boolean_member(out: &mut Vec<u8>, key: &[u8], b: bool) -> Result<(), AllocError>
-    requires { IsTrue (is_member_start key.now) }
-    ensures { Appends IsMember out.old.items result out.new.items }
-{
-    out.extend_from_slice(key)?;
-    append_boolean(out, b)
-}
-
-/// Appends a member whose value is a text.
-fn append_text_member(out: &mut Vec<u8>, key: &[u8], text: &[u8]) -> Result<(), AllocError>
-    requires { IsTrue (is_member_start key.now) }
-    ensures { Appends IsMember out.old.items result out.new.items }
-{
-    out.extend_from_slice(key)?;
-    append_text(out, text)
-}
-
-/// Appends a member whose value describes bytes.
-fn append_bytes_member(
-    out: &mut Vec<u8>,
-    key: &[u8],
-    length: usize,
-    first: &[u8],
-) -> Result<(), AllocError>
-    requires { IsTrue (is_member_start key.now) }
-    ensures { Appends IsMember out.old.items result out.new.items }
-{
-    out.extend_from_slice(key)?;
-    append_bytes(out, length, first)
-}
-
-/// Appends a member whose value is a string of hexadecimal digits.
-fn append_hex_member(out: &mut Vec<u8>, key: &[u8], bytes: &[u8]) -> Result<(), AllocError>
-    requires { IsTrue (is_member_start key.now) }
-    ensures { Appends IsMember out.old.items result out.new.items }
-{
-    out.extend_from_slice(key)?;
-    append_hex_string(out, bytes)
-}
-
-/// Appends a member whose value is an object.
-fn append_object_member(out: &mut Vec<u8>, key: &[u8], members: &Members) -> Result<(), AllocError>
-    requires { IsTrue (is_member_start key.now) }
-    ensures { Appends IsMember out.old.items result out.new.items }
-{
-    out.extend_from_slice(key)?;
-    append_object(out, members)
-}
-
-/// Appends a member whose value is an array.
-fn append_array_member(out: &mut Vec<u8>, key: &[u8], elements: &Elements) -> Result<(), AllocError>
-    requires { IsTrue (is_member_start key.now) }
-    ensures { Appends IsMember out.old.items result out.new.items }
-{
-    out.extend_from_slice(key)?;
-    append_array(out, elements)
-}
-
 impl Members {
+    ghost use Rattle.json_writer.specs.Texts.{members_text, elements_text};
+
     /// Creates an empty list of members.
-    pub fn new(alloc: Global) -> Members {
+    pub fn new(alloc: Global) -> Members
+        ensures { members_text result ≡ [] }
+    {
         Members {
             bytes: Vec::new(alloc),
         }
     }
 
     /// Removes all members.
-    pub fn clear(&mut self) {
+    #[inline]
+    pub fn clear(&mut self)
+        ensures { members_text self.new ≡ [] }
+    {
         self.bytes.clear();
     }
 
     /// Whether there are no members.
-    pub fn is_empty(&self) -> bool {
+    pub fn is_empty(&self) -> bool
+        ensures { result ≡ (length (members_text self.now) == 0) }
+    {
         self.bytes.is_empty()
     }
 
     /// The text of the members.
     pub fn as_bytes(&self) -> &[u8]
-        ensures { ∥ AreMembers result.now ∥₁ }
+        ensures text { result.now ≡ members_text self.now }
+        ensures valid { ∥ AreMembers result.now ∥₁ }
     {
         self.bytes.as_slice()
     }
@@ -168,53 +65,71 @@ impl Members {
     #[inline(always)]
     pub fn number(&mut self, key: &[u8], n: u64) -> Result<(), AllocError>
         requires { IsTrue (is_member_start key.now) }
+        ensures text { OnOk result (members_text self.new ≡ members_text self.old ++ (key.now ++ decimal n)) }
+        ensures none_on_error { OnErr result (members_text self.new ≡ []) }
     {
-        let written = append_number_member(&mut self.bytes, key, n);
-        if written.is_err() {
-            self.bytes.clear();
+        match append_number_member(&mut self.bytes, key, n) {
+            Ok(()) => Ok(()),
+            Err(error) => {
+                self.bytes.clear();
+                Err(error)
+            }
         }
-        written
     }
 
     /// Appends a signed number.
     #[inline(always)]
     pub fn signed(&mut self, key: &[u8], n: i32) -> Result<(), AllocError>
         requires { IsTrue (is_member_start key.now) }
+        ensures text { OnOk result (members_text self.new ≡ members_text self.old ++ (key.now ++ signed_decimal n)) }
+        ensures none_on_error { OnErr result (members_text self.new ≡ []) }
     {
-        let written = append_signed_member(&mut self.bytes, key, n);
-        if written.is_err() {
-            self.bytes.clear();
+        match append_signed_member(&mut self.bytes, key, n) {
+            Ok(()) => Ok(()),
+            Err(error) => {
+                self.bytes.clear();
+                Err(error)
+            }
         }
-        written
     }
 
     /// Appends a number as text in hexadecimal, as for an address or for bits.
     #[inline(always)]
     pub fn address(&mut self, key: &[u8], n: u64) -> Result<(), AllocError>
         requires { IsTrue (is_member_start key.now) }
+        ensures text { OnOk result (members_text self.new ≡ members_text self.old ++ (key.now ++ address_text n)) }
+        ensures none_on_error { OnErr result (members_text self.new ≡ []) }
     {
-        let written = append_address_member(&mut self.bytes, key, n);
-        if written.is_err() {
-            self.bytes.clear();
+        match append_address_member(&mut self.bytes, key, n) {
+            Ok(()) => Ok(()),
+            Err(error) => {
+                self.bytes.clear();
+                Err(error)
+            }
         }
-        written
     }
 
     /// Appends a boolean.
     pub fn boolean(&mut self, key: &[u8], b: bool) -> Result<(), AllocError>
         requires { IsTrue (is_member_start key.now) }
+        ensures text { OnOk result (members_text self.new ≡ members_text self.old ++ (key.now ++ boolean_text b)) }
+        ensures none_on_error { OnErr result (members_text self.new ≡ []) }
     {
-        let written = append_boolean_member(&mut self.bytes, key, b);
-        if written.is_err() {
-            self.bytes.clear();
+        match append_boolean_member(&mut self.bytes, key, b) {
+            Ok(()) => Ok(()),
+            Err(error) => {
+                self.bytes.clear();
+                Err(error)
+            }
         }
-        written
     }
 
     /// Appends a number if there is one.
     #[inline(always)]
     pub fn number_if(&mut self, key: &[u8], n: Option<u64>) -> Result<(), AllocError>
         requires { IsTrue (is_member_start key.now) }
+        ensures text { OnOk result (members_text self.new ≡ members_text self.old ++ optional_text decimal key.now n) }
+        ensures none_on_error { OnErr result (members_text self.new ≡ []) }
     {
         match n {
             Some(n) => self.number(key, n),
@@ -226,6 +141,8 @@ impl Members {
     #[inline(always)]
     pub fn address_if(&mut self, key: &[u8], n: Option<u64>) -> Result<(), AllocError>
         requires { IsTrue (is_member_start key.now) }
+        ensures text { OnOk result (members_text self.new ≡ members_text self.old ++ optional_text address_text key.now n) }
+        ensures none_on_error { OnErr result (members_text self.new ≡ []) }
     {
         match n {
             Some(n) => self.address(key, n),
@@ -236,161 +153,205 @@ impl Members {
     /// Appends a text: a string if it is UTF-8, or else an object with its hexadecimal digits.
     pub fn text(&mut self, key: &[u8], text: &[u8]) -> Result<(), AllocError>
         requires { IsTrue (is_member_start key.now) }
+        ensures text { OnOk result (members_text self.new ≡ members_text self.old ++ (key.now ++ text_value text.now)) }
+        ensures none_on_error { OnErr result (members_text self.new ≡ []) }
     {
-        let written = append_text_member(&mut self.bytes, key, text);
-        if written.is_err() {
-            self.bytes.clear();
+        match append_text_member(&mut self.bytes, key, text) {
+            Ok(()) => Ok(()),
+            Err(error) => {
+                self.bytes.clear();
+                Err(error)
+            }
         }
-        written
+    }
+
+    /// Appends a string of plain characters, which is passed in its quotation marks.
+    #[inline(always)]
+    pub fn string(&mut self, key: &[u8], string: &[u8]) -> Result<(), AllocError>
+        requires key { IsTrue (is_member_start key.now) }
+        requires plain { IsTrue (is_plain_string string.now) }
+        ensures text { OnOk result (members_text self.new ≡ members_text self.old ++ (key.now ++ string.now)) }
+        ensures none_on_error { OnErr result (members_text self.new ≡ []) }
+    {
+        match append_string_member(&mut self.bytes, key, string) {
+            Ok(()) => Ok(()),
+            Err(error) => {
+                self.bytes.clear();
+                Err(error)
+            }
+        }
     }
 
     /// Appends an object with a number of bytes and the hexadecimal digits of the first ones.
     pub fn bytes(&mut self, key: &[u8], length: usize, first: &[u8]) -> Result<(), AllocError>
         requires { IsTrue (is_member_start key.now) }
+        ensures text { OnOk result (members_text self.new ≡ members_text self.old ++ (key.now ++ bytes_text length first.now)) }
+        ensures none_on_error { OnErr result (members_text self.new ≡ []) }
     {
-        let written = append_bytes_member(&mut self.bytes, key, length, first);
-        if written.is_err() {
-            self.bytes.clear();
+        match append_bytes_member(&mut self.bytes, key, length, first) {
+            Ok(()) => Ok(()),
+            Err(error) => {
+                self.bytes.clear();
+                Err(error)
+            }
         }
-        written
     }
 
     /// Appends the hexadecimal digits of bytes.
     pub fn hex(&mut self, key: &[u8], bytes: &[u8]) -> Result<(), AllocError>
         requires { IsTrue (is_member_start key.now) }
+        ensures text { OnOk result (members_text self.new ≡ members_text self.old ++ (key.now ++ hex_text bytes.now)) }
+        ensures none_on_error { OnErr result (members_text self.new ≡ []) }
     {
-        let written = append_hex_member(&mut self.bytes, key, bytes);
-        if written.is_err() {
-            self.bytes.clear();
+        match append_hex_member(&mut self.bytes, key, bytes) {
+            Ok(()) => Ok(()),
+            Err(error) => {
+                self.bytes.clear();
+                Err(error)
+            }
         }
-        written
     }
 
     /// Appends an object.
     pub fn object(&mut self, key: &[u8], members: &Members) -> Result<(), AllocError>
         requires { IsTrue (is_member_start key.now) }
+        ensures text { OnOk result (members_text self.new ≡ members_text self.old ++ (key.now ++ object_text (members_text members.now))) }
+        ensures none_on_error { OnErr result (members_text self.new ≡ []) }
     {
-        let written = append_object_member(&mut self.bytes, key, members);
-        if written.is_err() {
-            self.bytes.clear();
+        match append_object_member(&mut self.bytes, key, members.as_bytes()) {
+            Ok(()) => Ok(()),
+            Err(error) => {
+                self.bytes.clear();
+                Err(error)
+            }
         }
-        written
     }
 
     /// Appends an array.
     pub fn array(&mut self, key: &[u8], elements: &Elements) -> Result<(), AllocError>
         requires { IsTrue (is_member_start key.now) }
+        ensures text { OnOk result (members_text self.new ≡ members_text self.old ++ (key.now ++ array_text (elements_text elements.now))) }
+        ensures none_on_error { OnErr result (members_text self.new ≡ []) }
     {
-        let written = append_array_member(&mut self.bytes, key, elements);
-        if written.is_err() {
-            self.bytes.clear();
+        match append_array_member(&mut self.bytes, key, elements.as_bytes()) {
+            Ok(()) => Ok(()),
+            Err(error) => {
+                self.bytes.clear();
+                Err(error)
+            }
         }
-        written
     }
 }
 
-/// Appends an element that is a number.
-fn append_number_element(out: &mut Vec<u8>, n: u64) -> Result<(), AllocError>
-    ensures { Appends IsElement out.old.items result out.new.items }
-{
-    out.extend_from_slice(b",")?;
-    append_number(out, n)
-}
-
-/// Appends an element that is a number in hexadecimal.
-fn append_address_element(out: &mut Vec<u8>, n: u64) -> Result<(), AllocError>
-    ensures { Appends IsElement out.old.items result out.new.items }
-{
-    out.extend_from_slice(b",")?;
-    append_address(out, n)
-}
-
-/// Appends an element that is a text.
-fn append_text_element(out: &mut Vec<u8>, text: &[u8]) -> Result<(), AllocError>
-    ensures { Appends IsElement out.old.items result out.new.items }
-{
-    out.extend_from_slice(b",")?;
-    append_text(out, text)
-}
-
-/// Appends an element that is an object.
-fn append_object_element(out: &mut Vec<u8>, members: &Members) -> Result<(), AllocError>
-    ensures { Appends IsElement out.old.items result out.new.items }
-{
-    out.extend_from_slice(b",")?;
-    append_object(out, members)
-}
-
-/// Appends an element that is an array.
-fn append_array_element(out: &mut Vec<u8>, elements: &Elements) -> Result<(), AllocError>
-    ensures { Appends IsElement out.old.items result out.new.items }
-{
-    out.extend_from_slice(b",")?;
-    append_array(out, elements)
-}
-
 impl Elements {
+    ghost use Rattle.json_writer.specs.Texts.{members_text, elements_text};
+
     /// Creates an empty list of elements.
-    pub fn new(alloc: Global) -> Elements {
+    pub fn new(alloc: Global) -> Elements
+        ensures { elements_text result ≡ [] }
+    {
         Elements {
             bytes: Vec::new(alloc),
         }
     }
 
     /// Removes all elements.
-    pub fn clear(&mut self) {
+    pub fn clear(&mut self)
+        ensures { elements_text self.new ≡ [] }
+    {
         self.bytes.clear();
     }
 
     /// The text of the elements.
     pub fn as_bytes(&self) -> &[u8]
-        ensures { ∥ AreElements result.now ∥₁ }
+        ensures text { result.now ≡ elements_text self.now }
+        ensures valid { ∥ AreElements result.now ∥₁ }
     {
         self.bytes.as_slice()
     }
 
     /// Appends a number.
-    pub fn number(&mut self, n: u64) -> Result<(), AllocError> {
-        let written = append_number_element(&mut self.bytes, n);
-        if written.is_err() {
-            self.bytes.clear();
+    pub fn number(&mut self, n: u64) -> Result<(), AllocError>
+        ensures text { OnOk result (elements_text self.new ≡ elements_text self.old ++ (44 ∷ (decimal n))) }
+        ensures none_on_error { OnErr result (elements_text self.new ≡ []) }
+    {
+        match append_number_element(&mut self.bytes, n) {
+            Ok(()) => Ok(()),
+            Err(error) => {
+                self.bytes.clear();
+                Err(error)
+            }
         }
-        written
     }
 
     /// Appends a number as text in hexadecimal.
-    pub fn address(&mut self, n: u64) -> Result<(), AllocError> {
-        let written = append_address_element(&mut self.bytes, n);
-        if written.is_err() {
-            self.bytes.clear();
+    pub fn address(&mut self, n: u64) -> Result<(), AllocError>
+        ensures text { OnOk result (elements_text self.new ≡ elements_text self.old ++ (44 ∷ (address_text n))) }
+        ensures none_on_error { OnErr result (elements_text self.new ≡ []) }
+    {
+        match append_address_element(&mut self.bytes, n) {
+            Ok(()) => Ok(()),
+            Err(error) => {
+                self.bytes.clear();
+                Err(error)
+            }
         }
-        written
     }
 
     /// Appends a text, as [`Members::text`] does.
-    pub fn text(&mut self, text: &[u8]) -> Result<(), AllocError> {
-        let written = append_text_element(&mut self.bytes, text);
-        if written.is_err() {
-            self.bytes.clear();
+    pub fn text(&mut self, text: &[u8]) -> Result<(), AllocError>
+        ensures text { OnOk result (elements_text self.new ≡ elements_text self.old ++ (44 ∷ (text_value text.now))) }
+        ensures none_on_error { OnErr result (elements_text self.new ≡ []) }
+    {
+        match append_text_element(&mut self.bytes, text) {
+            Ok(()) => Ok(()),
+            Err(error) => {
+                self.bytes.clear();
+                Err(error)
+            }
         }
-        written
+    }
+
+    /// Appends a string of plain characters, which is passed in its quotation marks.
+    pub fn string(&mut self, string: &[u8]) -> Result<(), AllocError>
+        requires { IsTrue (is_plain_string string.now) }
+        ensures text { OnOk result (elements_text self.new ≡ elements_text self.old ++ (44 ∷ string.now)) }
+        ensures none_on_error { OnErr result (elements_text self.new ≡ []) }
+    {
+        match append_string_element(&mut self.bytes, string) {
+            Ok(()) => Ok(()),
+            Err(error) => {
+                self.bytes.clear();
+                Err(error)
+            }
+        }
     }
 
     /// Appends an object.
-    pub fn object(&mut self, members: &Members) -> Result<(), AllocError> {
-        let written = append_object_element(&mut self.bytes, members);
-        if written.is_err() {
-            self.bytes.clear();
+    pub fn object(&mut self, members: &Members) -> Result<(), AllocError>
+        ensures text { OnOk result (elements_text self.new ≡ elements_text self.old ++ (44 ∷ (object_text (members_text members.now)))) }
+        ensures none_on_error { OnErr result (elements_text self.new ≡ []) }
+    {
+        match append_object_element(&mut self.bytes, members.as_bytes()) {
+            Ok(()) => Ok(()),
+            Err(error) => {
+                self.bytes.clear();
+                Err(error)
+            }
         }
-        written
     }
 
     /// Appends an array.
-    pub fn array(&mut self, elements: &Elements) -> Result<(), AllocError> {
-        let written = append_array_element(&mut self.bytes, elements);
-        if written.is_err() {
-            self.bytes.clear();
+    pub fn array(&mut self, elements: &Elements) -> Result<(), AllocError>
+        ensures text { OnOk result (elements_text self.new ≡ elements_text self.old ++ (44 ∷ (array_text (elements_text elements.now)))) }
+        ensures none_on_error { OnErr result (elements_text self.new ≡ []) }
+    {
+        match append_array_element(&mut self.bytes, elements.as_bytes()) {
+            Ok(()) => Ok(()),
+            Err(error) => {
+                self.bytes.clear();
+                Err(error)
+            }
         }
-        written
     }
 }

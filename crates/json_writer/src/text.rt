@@ -1,9 +1,12 @@
 //! Texts and bytes as JSON text.
-ghost use Rattle.std.specs.Prelude.{◌≡◌, ◌≢◌, ◌<◌, ◌≤◌, IsTrue};
-ghost use Rattle.json_writer.specs.Json.{IsJson, value, IsJsonChars, is_escape_letter};
-ghost use Rattle.json_writer.specs.Writing.{is_plain_byte, is_plain, Appends};
+ghost use Rattle.std.specs.Prelude.{◌≡◌, ◌++◌, IsTrue, OnOk};
+ghost use Rattle.std.specs.List.{flat_map};
+ghost use Rattle.std.specs.Str.{chars};
+ghost use Rattle.json_writer.specs.Json.{IsJson, value, quoted};
+ghost use Rattle.json_writer.specs.Writing.{is_plain_byte, is_plain};
+ghost use Rattle.json_writer.specs.Values.{byte_digits, hex_text, escape, string_text, hex_object_text, text_value, bytes_text};
 
-use crate::scalar::{append_number, hex_digit};
+use crate::scalar::{append_number, byte_digits};
 use std::alloc::AllocError;
 use std::str;
 
@@ -22,66 +25,42 @@ fn is_plain(text: &[u8]) -> bool
     text.iter().all(|byte| is_plain_byte(*byte))
 }
 
+/// Appends the two hexadecimal digits of a byte.
+#[inline]
+fn append_byte_digits(out: &mut Vec<u8>, byte: u8) -> Result<(), AllocError>
+    ensures { OnOk result (out.new.items ≡ out.old.items ++ byte_digits byte) }
+{
+    out.extend_from_slice(&byte_digits(byte))
+}
+
 /// Appends two hexadecimal digits for each byte.
-pub(crate) fn append_hex(out: &mut Vec<u8>, bytes: &[u8]) -> Result<(), AllocError>
-    ensures { Appends (λ text. IsTrue (is_plain text)) out.old.items result out.new.items }
+fn append_hex(out: &mut Vec<u8>, bytes: &[u8]) -> Result<(), AllocError>
+    ensures { OnOk result (out.new.items ≡ out.old.items ++ flat_map byte_digits bytes.now) }
 {
     'bytes: for byte in bytes {
-        let high = hex_digit(*byte / 16);
-        let low = hex_digit(*byte % 16);
-        out.extend_from_slice(&[high, low])?;
+        append_byte_digits(out, *byte)?;
     }
     Ok(())
 }
 
-/// Appends a control character as an escape.
-fn append_control(out: &mut Vec<u8>, byte: u8) -> Result<(), AllocError>
-    requires { byte < 32 }
-    ensures { Appends IsJsonChars out.old.items result out.new.items }
+/// Appends a character of a string, with an escape if it needs one.
+fn append_char(out: &mut Vec<u8>, character: char) -> Result<(), AllocError>
+    ensures { OnOk result (out.new.items ≡ out.old.items ++ escape character) }
 {
-    let high = hex_digit(byte / 16);
-    let low = hex_digit(byte % 16);
-    out.extend_from_slice(&[b'\\', b'u', b'0', b'0', high, low])
-}
-
-/// Appends a quotation mark or a backslash as an escape.
-fn append_escape(out: &mut Vec<u8>, letter: u8) -> Result<(), AllocError>
-    requires { IsTrue (is_escape_letter letter) }
-    ensures { Appends IsJsonChars out.old.items result out.new.items }
-{
-    out.extend_from_slice(&[b'\\', letter])
-}
-
-/// Appends a character that needs no escape.
-fn append_unescaped(out: &mut Vec<u8>, character: char) -> Result<(), AllocError>
-    requires no_control { 32 ≤ character }
-    requires no_quotation_mark { character ≢ 34 }
-    requires no_backslash { character ≢ 92 }
-    ensures { Appends IsJsonChars out.old.items result out.new.items }
-{
+    if character == '"' || character == '\\' {
+        return out.extend_from_slice(&[b'\\', character as u8]);
+    }
+    if character < ' ' {
+        out.extend_from_slice(b"\\u00")?;
+        return append_byte_digits(out, character as u8);
+    }
     let mut bytes = [0; 4];
     out.extend_from_slice(character.encode_utf8(&mut bytes).as_bytes())
 }
 
-/// Appends a character of a string, with an escape if it needs one.
-fn append_char(out: &mut Vec<u8>, character: char) -> Result<(), AllocError>
-    ensures { Appends IsJsonChars out.old.items result out.new.items }
-{
-    if character == '"' {
-        return append_escape(out, b'"');
-    }
-    if character == '\\' {
-        return append_escape(out, b'\\');
-    }
-    if character < ' ' {
-        return append_control(out, character as u8);
-    }
-    append_unescaped(out, character)
-}
-
 /// Appends the characters of a string.
 fn append_escaped(out: &mut Vec<u8>, text: &str) -> Result<(), AllocError>
-    ensures { Appends IsJsonChars out.old.items result out.new.items }
+    ensures { OnOk result (out.new.items ≡ out.old.items ++ flat_map escape (chars text.now)) }
 {
     'characters: for character in text.chars() {
         append_char(out, character)?;
@@ -91,7 +70,7 @@ fn append_escaped(out: &mut Vec<u8>, text: &str) -> Result<(), AllocError>
 
 /// Appends a UTF-8 text as a string.
 fn append_string(out: &mut Vec<u8>, text: &str) -> Result<(), AllocError>
-    ensures { Appends (IsJson value) out.old.items result out.new.items }
+    ensures { OnOk result (out.new.items ≡ out.old.items ++ string_text (chars text.now)) }
 {
     out.extend_from_slice(b"\"")?;
     append_escaped(out, text)?;
@@ -101,8 +80,7 @@ fn append_string(out: &mut Vec<u8>, text: &str) -> Result<(), AllocError>
 /// Appends bytes of plain characters as a string.
 #[inline]
 fn append_plain_string(out: &mut Vec<u8>, text: &[u8]) -> Result<(), AllocError>
-    requires { IsTrue (is_plain text.now) }
-    ensures { Appends (IsJson value) out.old.items result out.new.items }
+    ensures { OnOk result (out.new.items ≡ out.old.items ++ quoted text.now) }
 {
     out.extend_from_slice(b"\"")?;
     out.extend_from_slice(text)?;
@@ -111,7 +89,7 @@ fn append_plain_string(out: &mut Vec<u8>, text: &[u8]) -> Result<(), AllocError>
 
 /// Appends the hexadecimal digits of bytes as a string.
 pub(crate) fn append_hex_string(out: &mut Vec<u8>, bytes: &[u8]) -> Result<(), AllocError>
-    ensures { Appends (IsJson value) out.old.items result out.new.items }
+    ensures { OnOk result (out.new.items ≡ out.old.items ++ hex_text bytes.now) }
 {
     out.extend_from_slice(b"\"")?;
     append_hex(out, bytes)?;
@@ -120,7 +98,7 @@ pub(crate) fn append_hex_string(out: &mut Vec<u8>, bytes: &[u8]) -> Result<(), A
 
 /// Appends an object with the hexadecimal digits of bytes.
 fn append_hex_object(out: &mut Vec<u8>, bytes: &[u8]) -> Result<(), AllocError>
-    ensures { Appends (IsJson value) out.old.items result out.new.items }
+    ensures { OnOk result (out.new.items ≡ out.old.items ++ hex_object_text bytes.now) }
 {
     out.extend_from_slice(b"{\"hex\":")?;
     append_hex_string(out, bytes)?;
@@ -129,7 +107,7 @@ fn append_hex_object(out: &mut Vec<u8>, bytes: &[u8]) -> Result<(), AllocError>
 
 /// Appends a text as a string if it is UTF-8, or else as an object with its hexadecimal digits.
 pub(crate) fn append_text(out: &mut Vec<u8>, text: &[u8]) -> Result<(), AllocError>
-    ensures { Appends (IsJson value) out.old.items result out.new.items }
+    ensures { OnOk result (out.new.items ≡ out.old.items ++ text_value text.now) }
 {
     if is_plain(text) {
         return append_plain_string(out, text);
@@ -142,7 +120,7 @@ pub(crate) fn append_text(out: &mut Vec<u8>, text: &[u8]) -> Result<(), AllocErr
 
 /// Appends an object with the number of bytes and the hexadecimal digits of the first ones.
 pub(crate) fn append_bytes(out: &mut Vec<u8>, length: usize, first: &[u8]) -> Result<(), AllocError>
-    ensures { Appends (IsJson value) out.old.items result out.new.items }
+    ensures { OnOk result (out.new.items ≡ out.old.items ++ bytes_text length first.now) }
 {
     out.extend_from_slice(b"{\"length\":")?;
     append_number(out, length as u64)?;

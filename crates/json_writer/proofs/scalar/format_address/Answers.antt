@@ -1,12 +1,15 @@
-use Rattle.std.proofs.Common.{ap, ◌∙◌, ◌∷◌, ◌++◌}
-use Rattle.json_writer.proofs.JsonLemmas.{address_value, at_end, value_is}
+use Rattle.std.proofs.Common.{◌≡◌, ◌∷◌, [], ◌++◌, false, drop, length, arith, ap, sym, ◌∙◌, append_assoc}
+use Rattle.std.specs.Fmt.{digits}
+use Rattle.json_writer.specs.Values.{address_text}
+use Rattle.json_writer.proofs.HexLemmas.{before_capacity}
 use Rattle.json_writer.proofs.scalar.format_address.Goals as goal
 
-pub returns-clause-valid : goal.returns-clause-valid
-returns-clause-valid c =
-    let hex = c.prepend_hex-digits.ensures.written in
-    let tail = at_end _ _ c.prepend_byte-end.result _ c.told-buf c.prepend_byte-end.ensures.written in
-    let digits = hex.2 ∙ ap (λ l. hex.0 ++ l) tail in
-    let letter = c.prepend_byte-letter.ensures.written ∙ ap (λ l. 120 ∷ l) digits in
+pub returns-clause-written : goal.returns-clause-written
+returns-clause-written c =
+    let hex = digits 16 false c.args.n in
+    let rest = drop 24 c.args.buf.now in
+    let digit = c.prepend_hex-digits.ensures.written ∙ ap (λ l. hex ++ l) c.prepend_byte-end.ensures.written ∙ sym (append_assoc hex (34 ∷ []) rest) in
+    let letter = c.prepend_byte-letter.ensures.written ∙ ap (λ l. 120 ∷ l) digit in
     let zero = c.prepend_byte-zero.ensures.written ∙ ap (λ l. 48 ∷ l) letter in
-    value_is (c.prepend_byte.ensures.written ∙ ap (λ l. 34 ∷ l) zero) (address_value hex.0 hex.1)
+    let all = c.prepend_byte.ensures.written ∙ ap (λ l. 34 ∷ l) zero in
+    before_capacity c.prepend_byte.new.buf c.args.buf.now c.prepend_byte.result (address_text c.args.n) (omega (arith, c.told-buf)) (omega (arith, c.told-buf)) (omega arith) all

@@ -1,15 +1,12 @@
-use Rattle.std.proofs.Common.{[], sym}
-use Rattle.std.proofs.Common.{append-nil}
-use Rattle.json_writer.specs.Json.{end}
-use Rattle.json_writer.proofs.WritingLemmas.{appended_both, appended_text}
-use Rattle.json_writer.proofs.JsonLemmas.{chars_append}
+use Rattle.std.proofs.Common.{◌≡◌, ◌++◌, ap, ◌∙◌, sym}
+use Rattle.std.specs.List.{flat_map}
+use Rattle.std.proofs.lemmas.List.{map-id}
+use Rattle.std.proofs.lemmas.Iterator.{YieldsList-from_chars}
+use Rattle.std.proofs.lemmas.Iterator.Consumers.{YieldsList-end}
+use Rattle.json_writer.specs.Values.{escape}
 use Rattle.json_writer.proofs.text.append_escaped.Goals as goal
 
-pub characters-init : goal.characters-init
-characters-init c = appended_text [] (sym (append-nil c.args.out.now.items)) end
-
-pub characters-preserved : goal.characters-preserved
-characters-preserved c = appended_both (λ s t a b. chars_append t a b) c.characters.invariant c.in_ok-append_char.ensures
-
 pub returns : goal.returns
-returns c = c.characters.invariant
+returns c =
+    let all = YieldsList-end (YieldsList-from_chars c.args.text.now c.utf8.text cc) c.characters.yielded _ c.characters.yielded_by _ _ c.in-None.is c.next.ensures.steps in
+    c.characters.invariant ∙ ap (λ l. c.args.out.now.items ++ flat_map escape l) (sym (map-id c.characters.yielded) ∙ all.0)

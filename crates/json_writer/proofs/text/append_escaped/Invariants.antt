@@ -1,6 +1,7 @@
-use Rattle.json_writer.specs.Json.{IsJsonChars}
-use Rattle.json_writer.specs.Writing.{Appended}
+use Rattle.std.proofs.Common.{◌≡◌, ◌++◌}
+use Rattle.std.specs.List.{flat_map}
+use Rattle.json_writer.specs.Values.{escape}
 use Rattle.json_writer.proofs.text.append_escaped.Given as goal
 
 abbrev pub invariant-characters : goal.invariant-characters
-invariant-characters l = ∥ Appended IsJsonChars l.initial.out.items l.out.items ∥₁
+invariant-characters l = l.out.items ≡ l.initial.out.items ++ flat_map escape l.yielded

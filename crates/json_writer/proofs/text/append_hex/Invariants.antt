@@ -1,6 +1,7 @@
-use Rattle.std.proofs.Common.{◌≡◌, true}
-use Rattle.json_writer.specs.Writing.{Appended, is_plain}
+use Rattle.std.proofs.Common.{◌≡◌, ◌++◌, take}
+use Rattle.std.specs.List.{flat_map}
+use Rattle.json_writer.specs.Values.{byte_digits}
 use Rattle.json_writer.proofs.text.append_hex.Given as goal
 
 abbrev pub invariant-bytes : goal.invariant-bytes
-invariant-bytes l = ∥ Appended (λ text. is_plain text ≡ true) l.initial.out.items l.out.items ∥₁
+invariant-bytes l = l.out.items ≡ l.initial.out.items ++ flat_map byte_digits (take l.byte-index l.bytes)

@@ -1,8 +1,9 @@
-use Rattle.json_writer.proofs.WritingLemmas.{elements_kept, elements_none}
+use Rattle.json_writer.proofs.JsonLemmas.{address_value}
+use Rattle.json_writer.proofs.WritingLemmas.{elements_more, elements_none}
 use Rattle.json_writer.proofs.members.Elements.address.Goals as goal
 
 pub invariant_of-self : goal.invariant_of-self
-invariant_of-self c = record { valid = elements_none c.clear.ensures.items }
+invariant_of-self c = record { valid = elements_more _ c.args.self.now.valid (address_value c.args.n) c.in-Ok.ensures }
 
-pub invariant_of-self-else-is_err : goal.invariant_of-self-else-is_err
-invariant_of-self-else-is_err c = record { valid = elements_kept c.append_address_element-written.result (c.if-is_err.ensures.value) c.args.self.now.valid c.append_address_element-written.ensures }
+pub invariant_of-self-in-Err : goal.invariant_of-self-in-Err
+invariant_of-self-in-Err c = record { valid = elements_none c.clear.ensures.items }

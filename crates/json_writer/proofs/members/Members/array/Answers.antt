@@ -1,8 +1,8 @@
-use Rattle.json_writer.proofs.WritingLemmas.{members_kept, members_none}
+use Rattle.json_writer.proofs.WritingLemmas.{array_member, members_none}
 use Rattle.json_writer.proofs.members.Members.array.Goals as goal
 
 pub invariant_of-self : goal.invariant_of-self
-invariant_of-self c = record { valid = members_none c.clear.ensures.items }
+invariant_of-self c = record { valid = array_member c.args.key.now c.as_bytes.result.now c.args.self.now.valid c.requires c.as_bytes.ensures.valid c.in-Ok.ensures }
 
-pub invariant_of-self-else-is_err : goal.invariant_of-self-else-is_err
-invariant_of-self-else-is_err c = record { valid = members_kept c.append_array_member-written.result (c.if-is_err.ensures.value) c.args.self.now.valid c.append_array_member-written.ensures }
+pub invariant_of-self-in-Err : goal.invariant_of-self-in-Err
+invariant_of-self-in-Err c = record { valid = members_none c.clear.ensures.items }

@@ -1,8 +1,9 @@
-use Rattle.json_writer.proofs.WritingLemmas.{members_kept, members_none}
+use Rattle.json_writer.proofs.JsonLemmas.{decimal_value}
+use Rattle.json_writer.proofs.WritingLemmas.{members_more, members_none}
 use Rattle.json_writer.proofs.members.Members.number.Goals as goal
 
 pub invariant_of-self : goal.invariant_of-self
-invariant_of-self c = record { valid = members_none c.clear.ensures.items }
+invariant_of-self c = record { valid = members_more c.args.key.now _ c.args.self.now.valid c.requires (decimal_value c.args.n c.ranges.n.fits) c.in-Ok.ensures }
 
-pub invariant_of-self-else-is_err : goal.invariant_of-self-else-is_err
-invariant_of-self-else-is_err c = record { valid = members_kept c.append_number_member-written.result (c.if-is_err.ensures.value) c.args.self.now.valid c.append_number_member-written.ensures }
+pub invariant_of-self-in-Err : goal.invariant_of-self-in-Err
+invariant_of-self-in-Err c = record { valid = members_none c.clear.ensures.items }
