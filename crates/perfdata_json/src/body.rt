@@ -149,6 +149,6 @@ impl Body {
 
     /// Appends the kind of the error that the body's parser returned.
     pub(crate) fn error(&mut self, kind: ErrorKind) -> Result<(), AllocError> {
-        self.members.text(br#","error":"#, error_name(kind))
+        self.members.string(br#","error":"#, error_name(kind))
     }
 }

@@ -153,9 +153,9 @@ impl Body {
         self.members.number(br#","hw_id":"#, record.hw_id)
     }
 
-    fn event(&mut self, event: &EventRecord<'_>, format: &EventFormat) -> Result<(), AllocError> {
+    /// Appends the fields of a record that isn't a sample.
+    fn event(&mut self, event: &EventRecord<'_>) -> Result<(), AllocError> {
         match event {
-            EventRecord::Sample(sample) => self.sample(sample, format),
             EventRecord::Mmap(mmap) => self.mmap(mmap),
             EventRecord::Mmap2(mmap) => self.mmap2(mmap),
             EventRecord::Lost(lost) => self.lost(lost),
@@ -175,7 +175,7 @@ impl Body {
             EventRecord::Cgroup(group) => self.control_group(group),
             EventRecord::TextPoke(poke) => self.text_poke(poke),
             EventRecord::AuxOutputHwId(record) => self.hw_id(record),
-            EventRecord::Raw(_) => Ok(()),
+            EventRecord::Sample(_) | EventRecord::Raw(_) => Ok(()),
         }
     }
 
@@ -197,22 +197,32 @@ impl Body {
         self.members.object(br#","sample_id":"#, &self.nested)
     }
 
+    /// Appends the fields of a record that isn't a sample, or the error of its parser, and its sample_id fields.
+    #[inline(never)]
+    fn other_record(
+        &mut self,
+        format: &EventFormat,
+        raw: &RawEventRecord<'_>,
+    ) -> Result<(), AllocError> {
+        match format.parse(raw) {
+            Ok(event) => self.event(&event)?,
+            Err(error) => self.error(error.kind())?,
+        }
+        match format.sample_id(raw) {
+            Ok(id) => self.sample_id(&id),
+            Err(_) => Ok(()),
+        }
+    }
+
     /// Appends the fields of a kernel record, or the error of its parser, and its sample_id fields unless it is a sample.
     pub(crate) fn kernel_record(
         &mut self,
         format: &EventFormat,
         raw: &RawEventRecord<'_>,
     ) -> Result<(), AllocError> {
-        match format.parse(raw) {
-            Ok(event) => self.event(&event, format)?,
-            Err(error) => self.error(error.kind())?,
-        }
         if raw.record_type.0 == RecordType::SAMPLE.0 {
-            return Ok(());
+            return self.sample(format, raw.body);
         }
-        match format.sample_id(raw) {
-            Ok(id) => self.sample_id(&id),
-            Err(_) => Ok(()),
-        }
+        self.other_record(format, raw)
     }
 }

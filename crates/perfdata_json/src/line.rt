@@ -9,6 +9,7 @@ use crate::body::Body;
 use crate::names::record_type_name;
 use json_writer::scalar;
 use linux_perf_data::{PerfFile, PerfFileRecord, RecordPlace};
+use perfdata_base::event::RecordType;
 use perfdata_events::format::EventFormat;
 use std::alloc::{AllocError, Global};
 
@@ -94,11 +95,20 @@ fn set_line(out: &mut Vec<u8>, start: LineStart, members: &[u8]) -> Result<(), A
 }
 
 impl Body {
-    /// Appends the type and the `misc` flags of a record.
-    fn record_type(&mut self, number: u32, misc: u16) -> Result<(), AllocError> {
+    /// Appends the type of a record.
+    fn type_name(&mut self, number: u32) -> Result<(), AllocError> {
         match record_type_name(number) {
-            Some(name) => self.members.text(br#","type":"#, name)?,
-            None => self.members.number(br#","type":"#, number as u64)?,
+            Some(name) => self.members.string(br#","type":"#, name),
+            None => self.members.number(br#","type":"#, number as u64),
+        }
+    }
+
+    /// Appends the type and the `misc` flags of a record. Most records are samples.
+    fn record_type(&mut self, number: u32, misc: u16) -> Result<(), AllocError> {
+        if number == RecordType::SAMPLE.0 {
+            self.members.string(br#","type":"#, br#""SAMPLE""#)?;
+        } else {
+            self.type_name(number)?;
         }
         self.members.number(br#","misc":"#, misc as u64)
     }

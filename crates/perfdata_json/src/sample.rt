@@ -1,13 +1,37 @@
 //! The fields of samples.
+ghost use Rattle.std.specs.Prelude.{IsTrue, not};
+ghost use Rattle.perfdata_events.specs.Selection.{selects_parts};
+
 use crate::body::{Body, count_of, next_u64};
 use crate::names::context_name;
+use perfdata_base::raw::RawData;
 use perfdata_events::call_chain::CallChain;
 use perfdata_events::format::EventFormat;
 use perfdata_events::read_values::{GroupValues, ReadRecord, ReadValues, SingleValues};
-use perfdata_events::sample::SampleRecord;
+use perfdata_events::sample::{SampleRecord, SampleWords};
 use perfdata_events::sample_parts::{BranchStack, Registers, UserStack};
+use perfdata_events::sample_words::{EventWords, OriginWords};
 use perfdata_events::u64s::RawDataU64;
 use std::alloc::AllocError;
+
+/// The words of a sample up to its period.
+fn words_of(sample: &SampleRecord<'_>) -> SampleWords {
+    SampleWords {
+        origin: OriginWords {
+            identifier: sample.identifier,
+            ip: sample.ip,
+            task: sample.task,
+            timestamp: sample.timestamp,
+        },
+        event: EventWords {
+            address: sample.address,
+            id: sample.id,
+            stream_id: sample.stream_id,
+            cpu: sample.cpu,
+        },
+        period: sample.period,
+    }
+}
 
 impl Body {
     fn single_values(&mut self, values: &SingleValues) -> Result<(), AllocError> {
@@ -70,7 +94,7 @@ impl Body {
         self.elements.clear();
         for frame in chain.iter() {
             self.pair.clear();
-            self.pair.text(context_name(frame.context))?;
+            self.pair.string(context_name(frame.context))?;
             self.pair.address(frame.address)?;
             self.elements.array(&self.pair)?;
         }
@@ -113,21 +137,23 @@ impl Body {
     }
 
     /// Appends the words of a sample up to its period.
-    fn sample_words(&mut self, sample: &SampleRecord<'_>) -> Result<(), AllocError> {
+    fn sample_words(&mut self, words: &SampleWords) -> Result<(), AllocError> {
+        let origin = &words.origin;
+        let event = &words.event;
         self.members
-            .number_if(br#","identifier":"#, sample.identifier)?;
-        self.members.address_if(br#","ip":"#, sample.ip)?;
-        self.task_if(sample.task)?;
+            .number_if(br#","identifier":"#, origin.identifier)?;
+        self.members.address_if(br#","ip":"#, origin.ip)?;
+        self.task_if(origin.task)?;
         self.members
-            .number_if(br#","timestamp":"#, sample.timestamp)?;
-        self.members.address_if(br#","address":"#, sample.address)?;
-        self.members.number_if(br#","id":"#, sample.id)?;
+            .number_if(br#","timestamp":"#, origin.timestamp)?;
+        self.members.address_if(br#","address":"#, event.address)?;
+        self.members.number_if(br#","id":"#, event.id)?;
         self.members
-            .number_if(br#","stream_id":"#, sample.stream_id)?;
-        if let Some(cpu) = sample.cpu {
+            .number_if(br#","stream_id":"#, event.stream_id)?;
+        if let Some(cpu) = event.cpu {
             self.members.number(br#","cpu":"#, cpu as u64)?;
         }
-        self.members.number_if(br#","period":"#, sample.period)
+        self.members.number_if(br#","period":"#, words.period)
     }
 
     /// Appends the parts of a sample from its counter values to its stack.
@@ -182,13 +208,52 @@ impl Body {
         self.bytes_if(br#","aux_data":"#, sample.aux_data)
     }
 
-    pub(crate) fn sample(
+    /// Appends the fields of a sample.
+    fn sample_fields(
         &mut self,
         sample: &SampleRecord<'_>,
         format: &EventFormat,
     ) -> Result<(), AllocError> {
-        self.sample_words(sample)?;
+        self.sample_words(&words_of(sample))?;
         self.sample_parts(sample, format)?;
         self.sample_end(sample, format)
+    }
+
+    /// Appends the fields of a sample that has only words, or the error of their parser.
+    #[inline(never)]
+    fn short_sample(&mut self, format: &EventFormat, body: RawData<'_>) -> Result<(), AllocError>
+        requires { IsTrue (not (selects_parts format.now.sample_format)) }
+    {
+        let mut fields = body;
+        match SampleWords::parse(format, &mut fields) {
+            Ok(words) => self.sample_words(&words),
+            Err(error) => self.error(error.kind()),
+        }
+    }
+
+    /// Appends the fields of any sample, or the error of its parser. A function of its own, because all its locals are set to zero
+    /// when it is called.
+    #[inline(never)]
+    fn long_sample(&mut self, format: &EventFormat, body: RawData<'_>) -> Result<(), AllocError> {
+        let mut fields = body;
+        match SampleRecord::parse(format, &mut fields) {
+            Ok(sample) => self.sample_fields(&sample, format),
+            Err(error) => self.error(error.kind()),
+        }
+    }
+
+    /// Appends the fields of a sample, or the error of its parser. A sample with fields whose offset isn't known has none.
+    pub(crate) fn sample(
+        &mut self,
+        format: &EventFormat,
+        body: RawData<'_>,
+    ) -> Result<(), AllocError> {
+        if !format.has_known_fields() {
+            return Ok(());
+        }
+        if format.has_only_words() {
+            return self.short_sample(format, body);
+        }
+        self.long_sample(format, body)
     }
 }
