@@ -13,7 +13,7 @@ use Rattle.perfdata_order.specs.HeldRecord.{held_view, held_size}
 use Rattle.perfdata_order.specs.Sorter.{held_of}
 use Rattle.perfdata_order.specs.SorterLaws.{releases_in}
 use Rattle.perfdata_order.specs.SorterLaws.Call.{inserts, ends_round, ends_all, releases, returns, keeps}
-use Rattle.perfdata_order.specs.StreamingOrder.{unplaced_of, budget_of, held_bytes_of, early_of, HasRoom, InsertsPending, ReturnsSorted, Step, TakesSteps}
+use Rattle.perfdata_order.specs.StreamingOrder.{unplaced_of, budget_of, held_bytes_of, early_of, FitsBudget, InsertsPending, ReturnsSorted, Step, TakesSteps}
 use Rattle.perfdata_order.specs.StreamingOrder.Step.{reads, passes, reads_end, reads_error, sorts, reports}
 use Rattle.perfdata_order.specs.StreamingLaws.{calls_in, CountsEarly, NoneEarlyWithoutBudget, StaysWithinBudget}
 use Rattle.perfdata_order.proofs.SorterCalls.{held_after_insert, held_before_return}
@@ -129,13 +129,13 @@ module _ {R : Type 0} (state : R → State) where
   }
 
   inserted_within : (budget : ℕ) (s t : OrderedRecords R) (key : ℕ) (held : HeldRecord) → 0 < budget → budget < 2 ^ 64 → InsertsPending s key held t → held_of t.sorter ≡ held_of s.sorter ++ (key, held) ∷ []
-      → HasRoom s (size_of (key, held)) → Within budget s → Within budget t
+      → FitsBudget s (size_of (key, held)) → Within budget s → Within budget t
   inserted_within budget s t key held some fits step more (inl none) w = let same = w.same_budget in absurd (omega (arith, some, none, same))
-  inserted_within budget s t key held some fits step more (inr (inl room)) w =
+  inserted_within budget s t key held some fits step more (inr (inl admission)) w =
       let same = w.same_budget in
       let all = w.counts_all in
       let total = ap (λ es. total_of es) more ∙ sum_by_push (λ e. size_of e) (held_of s.sorter) (key, held) in
-      counted_within budget s t key held step more (omega (arith, room, same, fits)) (inl (omega (arith, room, same, all, total))) w
+      counted_within budget s t key held step more (omega (arith, admission, same, fits)) (inl (omega (arith, admission, same, all, total))) w
   inserted_within budget s t key held some fits step more (inr (inr empty)) w =
       let none : held_bytes_of s ≡ 0 = w.counts_all ∙ ap (λ es. total_of es) empty in
       let size = step.size_fits in
@@ -172,7 +172,7 @@ module _ {R : Type 0} (state : R → State) where
       within_after budget steps next last next_file file' some fits rest (held_within budget first next step.same_order.same_budget.budget step.same_order.same_budget.held_bytes (ap (λ x. held_of x) step.same_order.sorter) w)
   within_after budget (sorts (inserts key held) ∷ steps) first last file file' some fits (next, (next_file, step, rest)) w =
       within_after budget steps next last next_file file' some fits rest
-      (inserted_within budget first next key held some fits step.0 (held_after_insert first.sorter next.sorter key held step.0.inserted) step.0.has_room w)
+      (inserted_within budget first next key held some fits step.0 (held_after_insert first.sorter next.sorter key held step.0.inserted) step.0.fits_budget w)
   within_after budget (sorts ends_round ∷ steps) first last file file' some fits (next, (next_file, step, rest)) w =
       within_after budget steps next last next_file file' some fits rest (sorted_within budget first next step.0.same_budget.budget step.0.same_budget.held_bytes step.0.ended.sorts.each_once w)
   within_after budget (sorts ends_all ∷ steps) first last file file' some fits (next, (next_file, step, rest)) w =
@@ -187,8 +187,8 @@ module _ {R : Type 0} (state : R → State) where
   within_after budget (reports e ∷ steps) first last file file' some fits (next, (next_file, step, rest)) w =
       within_after budget steps next last next_file file' some fits rest (held_within budget first next step.0.same_order.same_budget.budget step.0.same_order.same_budget.held_bytes (ap (λ x. held_of x) step.0.same_order.sorter) w)
 
-  pub stays_within_budget : StaysWithinBudget state
-  stays_within_budget records budget first last file file' steps new taken some fits =
+  pub remains_within_budget : StaysWithinBudget state
+  remains_within_budget records budget first last file file' steps new taken some fits =
       let empty = new.empty.empty in
       (within_after budget steps first last file file' some fits taken (record {
         same_budget = new.budget;

@@ -20,7 +20,7 @@ use Rattle.perfdata_order.specs.declared.streaming.OrderedRecords.{OrderedRecord
 use Rattle.perfdata_order.specs.HeldRecord.{view_with, held_view, held_size}
 use Rattle.perfdata_order.specs.Sorter.{held_of, available_of, pending_of, limit_of, greatest_of, IsUnchanged, TestsAvailable, Inserted, HalfReleased, EndsAllRounds}
 use Rattle.perfdata_order.specs.SorterLaws.Call.{inserts, ends_round, ends_all, releases, returns, keeps}
-use Rattle.perfdata_order.specs.StreamingOrder.{Unplaced, unplaced_by, unplaced_of, AfterPlacing, PlacesPending, IsUnplaced, IsOngoing, pending_records, EndReturned, RecordReturned, Step, returned_in, TakesStep, TakesSteps, Progress, Places, ReadsPending, ReadsUntimed, EndsRoundsBefore, KeepsSorter, EndsRounds, InsertsPending, ReturnsSorted, TakesEnd, FailsInOrder, IsOneRoundLater, IsLaterOrLast, SameBudget, HasRoom, HasMadeRoom, HasAvailable, MakesRoom, ReleasesEarly, ReleasesForPending, budget_of, early_of, held_bytes_of}
+use Rattle.perfdata_order.specs.StreamingOrder.{Unplaced, unplaced_by, unplaced_of, AfterPlacing, PlacesPending, IsUnplaced, IsOngoing, pending_records, EndReturned, RecordReturned, Step, returned_in, TakesStep, TakesSteps, Progress, Places, ReadsPending, ReadsUntimed, EndsRoundsBefore, KeepsSorter, EndsRounds, InsertsPending, ReturnsSorted, TakesEnd, FailsInOrder, IsOneRoundLater, IsLaterOrLast, SameBudget, FitsBudget, IsAdmitted, HasAvailable, AdmitsPending, ReleasesEarly, ReleasesForPending, budget_of, early_of, held_bytes_of}
 use Rattle.perfdata_order.specs.StreamingOrder.Unplaced.{nothing, timed, ending, failing, failed}
 use Rattle.perfdata_order.specs.StreamingOrder.Step.{reads, passes, reads_end, reads_error, sorts, reports}
 use Rattle.perfdata_order.proofs.SorterCalls.{held_split}
@@ -228,7 +228,7 @@ module _ {R : Type 0} (state : R → State) where
     in_round = subst (λ n. h.round ≤ n) (sym all.round) (omega arith);
   }
 
-  -- ---- room for the pending record
+  -- ---- admission of the pending record
 
   half_available : (old new : Sorter ℕ HeldRecord) → HalfReleased nat_cmp old new → 0 < length (held_of old) → available_of new ≡ [] → ⊥
   half_available old new half some none =
@@ -238,31 +238,31 @@ module _ {R : Type 0} (state : R → State) where
       let le = half.half.0 in
       absurd (omega (arith, rest, all, le, some))
 
-  room_after : (a b c : OrderedRecords R) (key : ℕ) (h : RecordView) (more : Bool) → unplaced_of a ≡ timed key h → RoundsPlaced a h b → ReleasesEarly b (held_size h) (Ok tt) c → TestsAvailable c.sorter more → MakesRoom state a h (Ok (not more)) c
-  room_after a b c key h true was placed (inl (room, same)) some = record {
+  admitted_after : (a b c : OrderedRecords R) (key : ℕ) (h : RecordView) (more : Bool) → unplaced_of a ≡ timed key h → RoundsPlaced a h b → ReleasesEarly b (held_size h) (Ok tt) c → TestsAvailable c.sorter more → AdmitsPending state a h (Ok (not more)) c
+  admitted_after a b c key h true was placed (inl (admission, same)) some = record {
     places = subst (λ s. Places state a s) (sym same) placed.places;
     pending = ap (λ s. unplaced_of s) same ∙ placed.pending;
     same_records = ap (λ s. s.records) same ∙ placed.same_records;
     available = some;
   }
-  room_after a b c key h false was placed (inl (room, same)) none = record {
+  admitted_after a b c key h false was placed (inl (admission, same)) none = record {
     places = subst (λ s. Places state a s) (sym same) placed.places;
     pending = ap (λ s. unplaced_of s) same ∙ placed.pending;
     same_records = ap (λ s. s.records) same ∙ placed.same_records;
     in_round = subst (λ s. h.round ≤ s.round) (sym same) placed.in_round;
     none_available = none;
-    has_room = subst (λ s. HasRoom s (held_size h)) (sym same) room;
+    fits_budget = subst (λ s. FitsBudget s (held_size h)) (sym same) admission;
   }
-  room_after a b c key h true was placed (inr early) some = record {
+  admitted_after a b c key h true was placed (inr early) some = record {
     places = places_more a b c placed.places (sorts releases) refl (λ file. (subst (λ q. ReleasesForPending q b c) (sym (placed.pending ∙ was)) early, refl));
     pending = early.pending ∙ placed.pending;
     same_records = early.same_records ∙ placed.same_records;
     available = some;
   }
-  room_after a b c key h false was placed (inr early) none = absurd (half_available b.sorter c.sorter early.released early.some_held none)
+  admitted_after a b c key h false was placed (inr early) none = absurd (half_available b.sorter c.sorter early.released early.some_held none)
 
-  pub room_made : (a b c : OrderedRecords R) (key : ℕ) (h : RecordView) (more : Bool) → unplaced_of a ≡ timed key h → EndsRoundsBefore a h.round (Ok tt) b → ReleasesEarly b (held_size h) (Ok tt) c → TestsAvailable c.sorter more → MakesRoom state a h (Ok (not more)) c
-  room_made a b c key h more was ended released tests = room_after a b c key h more was (rounds_placed a b key h was ended) released tests
+  pub pending_admitted : (a b c : OrderedRecords R) (key : ℕ) (h : RecordView) (more : Bool) → unplaced_of a ≡ timed key h → EndsRoundsBefore a h.round (Ok tt) b → ReleasesEarly b (held_size h) (Ok tt) c → TestsAvailable c.sorter more → AdmitsPending state a h (Ok (not more)) c
+  pending_admitted a b c key h more was ended released tests = admitted_after a b c key h more was (rounds_placed a b key h was ended) released tests
 
   -- Records are available after the rounds ended.
   pub available_made : (a b : OrderedRecords R) (key : ℕ) (h : RecordView) → unplaced_of a ≡ timed key h → EndsRoundsBefore a h.round (Ok tt) b → 0 < length (available_of b.sorter) → HasAvailable state a b
@@ -280,7 +280,7 @@ module _ {R : Type 0} (state : R → State) where
 
   -- ---- what placing leaves
 
-  pub record_placed : (a b c : OrderedRecords R) (key : ℕ) (info : RecordInfo) (held : HeldRecord) → unplaced_of a ≡ timed key (view_with info a.body.items) → HasMadeRoom state a (view_with info a.body.items) b
+  pub record_placed : (a b c : OrderedRecords R) (key : ℕ) (info : RecordInfo) (held : HeldRecord) → unplaced_of a ≡ timed key (view_with info a.body.items) → IsAdmitted state a (view_with info a.body.items) b
       → held_view held ≡ view_with info b.body.items → Inserted nat_cmp b.sorter key held c.sorter
       → unplaced_of c ≡ nothing → c.records ≡ b.records → c.round ≡ b.round → budget_of c ≡ budget_of b → early_of c ≡ early_of b → held_size (held_view held) < 2 ^ 64
       → (held_bytes_of b + held_size (held_view held) < 2 ^ 64 → held_bytes_of c ≡ held_bytes_of b + held_size (held_view held)) → Places state a c × AfterPlacing state (unplaced_of a) c × (c.records ≡ a.records)
@@ -291,7 +291,7 @@ module _ {R : Type 0} (state : R → State) where
           was_pending = now ∙ ap (λ h. timed key h) (sym is);
           in_round = subst (λ h. h.round ≤ b.round) (sym is) placed.in_round;
           none_available = placed.none_available;
-          has_room = subst (λ h. HasRoom b (held_size h)) (sym is) placed.has_room;
+          fits_budget = subst (λ h. FitsBudget b (held_size h)) (sym is) placed.fits_budget;
           size_fits = size_fits;
           inserted = inserted;
           pending = none;

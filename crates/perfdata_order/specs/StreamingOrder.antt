@@ -129,15 +129,15 @@ module _ {R : Type 0} where
     pub same_budget : SameBudget old new
 
   -- A record of this size may be inserted: there is no budget, or the record is within it, or no record is held.
-  abbrev pub HasRoom : OrderedRecords R → ℕ → Type 0
-  HasRoom s size = (budget_of s ≡ 0) ⊎ ((held_bytes_of s + size ≤ budget_of s) ⊎ (held_of s.sorter ≡ []))
+  abbrev pub FitsBudget : OrderedRecords R → ℕ → Type 0
+  FitsBudget s size = (budget_of s ≡ 0) ⊎ ((held_bytes_of s + size ≤ budget_of s) ⊎ (held_of s.sorter ≡ []))
 
   -- The pending record was inserted into the sorter. The rounds before its own had ended.
   pub record InsertsPending (old : OrderedRecords R) (key : ℕ) (held : HeldRecord) (new : OrderedRecords R) : Type 0 where
     pub was_pending : unplaced_of old ≡ timed key (held_view held)
     pub in_round : (held_view held).round ≤ old.round
     pub none_available : available_of old.sorter ≡ []
-    pub has_room : HasRoom old (held_size (held_view held))
+    pub fits_budget : FitsBudget old (held_size (held_view held))
     pub size_fits : held_size (held_view held) < 2 ^ 64
     pub inserted : Inserted nat_cmp old.sorter key held new.sorter
     pub pending : unplaced_of new ≡ nothing
@@ -161,7 +161,7 @@ module _ {R : Type 0} where
     pub same_records : new.records ≡ old.records
     pub same_budget : SameBudget old new
 
-  -- The older half of the records became available, because the budget has no room for one more of this size.
+  -- The older half of the records became available, because one more of this size exceeds the budget.
   pub record HalfReleasedEarly (old : OrderedRecords R) (size : ℕ) (new : OrderedRecords R) : Type 0 where
     pub has_budget : 0 < budget_of old
     pub exceeds : budget_of old < held_bytes_of old + size
@@ -236,9 +236,9 @@ module _ {R : Type 0} where
   EndsRoundsBefore old to (Ok done) new = ((to ≤ old.round) × (new ≡ old)) ⊎ (OneRoundEnded old to new ⊎ RoundsEnded old to new)
   EndsRoundsBefore old to (Err e) new = KeepsSorter old new
 
-  -- Room for a record of this size, if the budget had none.
+  -- A record of this size fits the budget, after a release if it exceeded it.
   abbrev pub ReleasesEarly : OrderedRecords R → ℕ → Result (Unit {0}) AllocError → OrderedRecords R → Type 0
-  ReleasesEarly old size (Ok done) new = (HasRoom old size × (new ≡ old)) ⊎ HalfReleasedEarly old size new
+  ReleasesEarly old size (Ok done) new = (FitsBudget old size × (new ≡ old)) ⊎ HalfReleasedEarly old size new
   ReleasesEarly old size (Err e) new = KeepsSorter old new
 
   -- A new order has an empty sorter, and nothing was read.
@@ -399,13 +399,13 @@ module _ {R : Type 0} where
       pub taken : (file : PerfFile) → TakesSteps steps old file new file
 
     -- The rounds before that of the pending record ended, and the record may be inserted.
-    pub record HasMadeRoom (old : OrderedRecords R) (h : RecordView) (new : OrderedRecords R) : Type 0 where
+    pub record IsAdmitted (old : OrderedRecords R) (h : RecordView) (new : OrderedRecords R) : Type 0 where
       pub places : Places old new
       pub pending : unplaced_of new ≡ unplaced_of old
       pub same_records : new.records ≡ old.records
       pub in_round : h.round ≤ new.round
       pub none_available : available_of new.sorter ≡ []
-      pub has_room : HasRoom new (held_size h)
+      pub fits_budget : FitsBudget new (held_size h)
 
     -- Records are available, and the pending record is still pending.
     pub record HasAvailable (old new : OrderedRecords R) : Type 0 where
@@ -414,10 +414,10 @@ module _ {R : Type 0} where
       pub same_records : new.records ≡ old.records
       pub available : 0 < length (available_of new.sorter)
 
-    abbrev pub MakesRoom : OrderedRecords R → RecordView → Result Bool AllocError → OrderedRecords R → Type 0
-    MakesRoom old h (Ok true) new = HasMadeRoom old h new
-    MakesRoom old h (Ok false) new = HasAvailable old new
-    MakesRoom old h (Err e) new = Places old new
+    abbrev pub AdmitsPending : OrderedRecords R → RecordView → Result Bool AllocError → OrderedRecords R → Type 0
+    AdmitsPending old h (Ok true) new = IsAdmitted old h new
+    AdmitsPending old h (Ok false) new = HasAvailable old new
+    AdmitsPending old h (Err e) new = Places old new
 
     -- What was pending is in the sorter, or records are to be returned before it. At the end of the input, all rounds ended.
     abbrev pub AfterPlacing : Unplaced → OrderedRecords R → Type 0

@@ -90,7 +90,7 @@ impl<R> OrderedRecords<R> {
         }
     }
 
-    /// Returns how often a half of the held records was returned early, because the budget had no room for the next record. It
+    /// Returns how often a half of the held records was returned early, because the next record would exceed the budget. It
     /// counts to 2^64 - 1.
     ///
     /// While it is 0, the records are in the order that they have without a budget.
@@ -100,7 +100,7 @@ impl<R> OrderedRecords<R> {
         self.early
     }
 
-    // Whether the budget, which isn't 0, has room for a record of this size.
+    // Whether a record of this size is within the budget, which isn't 0.
     fn is_within_budget(&self, size: u64) -> bool
         ensures { MatchBool result (self.now.held_bytes + size ≤ self.now.budget) (self.now.budget < self.now.held_bytes + size) }
     {
@@ -111,7 +111,7 @@ impl<R> OrderedRecords<R> {
         }
     }
 
-    // Makes the older half of the records available, if the budget has no room for a record of this size.
+    // Makes the older half of the records available, if a record of this size exceeds the budget.
     fn release_early(&mut self, size: u64) -> Result<(), AllocError>
         ensures { ReleasesEarly self.old size result self.new }
     {
@@ -230,7 +230,7 @@ impl<R: Source> OrderedRecords<R> {
     ghost use Rattle.std.specs.Borrow.{sem};
     ghost use Rattle.perfdata_order.specs.contracts.streaming.OrderedRecords.{the_row};
     ghost use Rattle.perfdata_order.specs.declared.streaming.Pending.TheVariants.{Record};
-    ghost use Rattle.perfdata_order.specs.StreamingOrder.{unplaced_of, MakesRoom, PlacesPending, ReadsNext, AdvancesInOrder, ReturnsInOrder};
+    ghost use Rattle.perfdata_order.specs.StreamingOrder.{unplaced_of, AdmitsPending, PlacesPending, ReadsNext, AdvancesInOrder, ReturnsInOrder};
     ghost use Rattle.perfdata_order.specs.StreamingOrder.Unplaced.{timed};
     ghost use Rattle.perfdata_order.specs.HeldRecord.{held_size as size_of};
     ghost use Rattle.linux_perf_data.specs.Layout.{RecordView};
@@ -267,10 +267,10 @@ impl<R: Source> OrderedRecords<R> {
         }
     }
 
-    // Ends the rounds before the round of the pending record, and releases records early if the budget has no room for it.
+    // Ends the rounds before the round of the pending record, and releases records early if it exceeds the budget.
     // Returns whether it may be inserted: if not, records are available that are returned before.
-    fn make_room(&mut self, round: u64, size: u64) -> Result<bool, AllocError>
-        ensures { (key : ℕ) (h : RecordView) → unplaced_of self.old ≡ timed key h → h.round ≡ round → size_of h ≡ size → MakesRoom R.state self.old h result self.new }
+    fn admit_pending(&mut self, round: u64, size: u64) -> Result<bool, AllocError>
+        ensures { (key : ℕ) (h : RecordView) → unplaced_of self.old ≡ timed key h → h.round ≡ round → size_of h ≡ size → AdmitsPending R.state self.old h result self.new }
     {
         if self.sorter.has_more() {
             return Ok(false);
@@ -289,13 +289,13 @@ impl<R: Source> OrderedRecords<R> {
         Ok(!self.sorter.has_more())
     }
 
-    // Inserts the pending record into the sorter, if there is room for it.
+    // Inserts the pending record into the sorter, if it may be inserted.
     fn place_record(&mut self, key: u64, info: RecordInfo) -> Result<(), AllocError>
         requires { self.old.pending ≡ Record key info }
         ensures { PlacesPending R.state self.old result self.new }
     {
         let size = held_size(self.body.len());
-        match self.make_room(info.place.round, size) {
+        match self.admit_pending(info.place.round, size) {
             Ok(true) => {}
             Ok(false) => return Ok(()),
             Err(error) => return Err(error),

@@ -144,7 +144,7 @@ fn records_without_a_time_at_once(rt: HostRuntime) -> Result<(), Fail> {
 
 // No rounds, and a budget for two records of 8 bytes.
 #[test]
-fn early_where_the_budget_has_no_room(rt: HostRuntime) -> Result<(), Fail> {
+fn early_where_a_record_exceeds_the_budget(rt: HostRuntime) -> Result<(), Fail> {
     let alloc = rt.alloc();
     let parts = [
         Part::Sample(30),

@@ -1,5 +1,5 @@
 use Rattle.perfdata_order.proofs.StreamingSteps.{returns_each_record_once, reads_records_of_source, calls_sorter_in_turn}
-use Rattle.perfdata_order.proofs.StreamingBudget.{counts_early, none_early_without_budget, stays_within_budget}
+use Rattle.perfdata_order.proofs.StreamingBudget.{counts_early, none_early_without_budget, remains_within_budget}
 use Rattle.perfdata_order.proofs.StreamingRounds.{holds_two_rounds}
 use Rattle.perfdata_order.proofs.StreamingRule.{times_ascend_under_perf_rule}
 use Rattle.perfdata_order.proofs.laws.streaming.Goals as goal
@@ -23,7 +23,7 @@ pub returns-clause-none_early_without_budget : goal.returns-clause-none_early_wi
 returns-clause-none_early_without_budget g c = none_early_without_budget g.R.Source.state
 
 pub returns-clause-within_budget : goal.returns-clause-within_budget
-returns-clause-within_budget g c = stays_within_budget g.R.Source.state
+returns-clause-within_budget g c = remains_within_budget g.R.Source.state
 
 pub returns-clause-two_rounds : goal.returns-clause-two_rounds
 returns-clause-two_rounds g c = holds_two_rounds g.R.Source.state c.offsets_increase.ensures

@@ -1,7 +1,7 @@
 use Rattle.std.proofs.Common.{Ok, refl, sym, subst}
 use Rattle.perfdata_order.specs.StreamingOrder.{EndsRoundsBefore, ReleasesEarly}
-use Rattle.perfdata_order.proofs.StreamingCalls.{places_none, places_kept, rounds_placed, room_made, available_made}
-use Rattle.perfdata_order.proofs.streaming.OrderedRecords.make_room.Goals as goal
+use Rattle.perfdata_order.proofs.StreamingCalls.{places_none, places_kept, rounds_placed, pending_admitted, available_made}
+use Rattle.perfdata_order.proofs.streaming.OrderedRecords.admit_pending.Goals as goal
 
 pub returns-in-Err : goal.returns-in-Err
 returns-in-Err g c = λ key h was round size.
@@ -25,5 +25,5 @@ returns g c = λ key h was round size.
     let old = c.args.self.now in
     let ended = c.end_rounds.new.self in
     let released = c.release_early.new.self in
-    room_made g.R.Source.state old ended released key h c.has_more-3.result was (subst (λ n. EndsRoundsBefore old n (Ok tt) ended) (sym round) c.in-Ok.ensures)
+    pending_admitted g.R.Source.state old ended released key h c.has_more-3.result was (subst (λ n. EndsRoundsBefore old n (Ok tt) ended) (sym round) c.in-Ok.ensures)
     (subst (λ n. ReleasesEarly ended n (Ok tt) released) (sym size) c.in-Ok-release_early.ensures) c.has_more-3.ensures
