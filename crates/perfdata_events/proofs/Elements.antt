@@ -62,9 +62,9 @@ u64s_step order xs enough =
     ap (λ n. u64s_of (number_in order) n xs) one
 
 pub u64s_none : (order : Endianness) (xs : List ℕ) → length xs < 8 → u64s_of (number_in order) (length xs / 8) xs ≡ []
-u64s_none order xs few =
+u64s_none order xs too_few =
     let long : length xs ≡ 0 * 8 + length xs = omega arith in
-    ap (λ n. u64s_of (number_in order) n xs) (ap (λ l. l / 8) long ∙ div-mul-add 0 8 (length xs) few)
+    ap (λ n. u64s_of (number_in order) n xs) (ap (λ l. l / 8) long ∙ div-mul-add 0 8 (length xs) too_few)
 
 -- A number and the bytes after it are the first number and the others.
 pub split_first : (order : Endianness) (xs rest : List ℕ) (value : ℕ) → IsFixed 8 (u64_at (number_in order) 0) xs value rest

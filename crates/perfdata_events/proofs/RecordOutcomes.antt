@@ -5,7 +5,7 @@ use Rattle.std.specs.declared.io.ErrorKind.TheVariants.{UnexpectedEof, InvalidDa
 use Rattle.std.proofs.lemmas.Bool.{cases_lt}
 use Rattle.perfdata_base.specs.ParseInfo.{is_set}
 use Rattle.perfdata_events.specs.OneOutcome.{HasOneOutcome}
-use Rattle.perfdata_events.specs.Format.{Outcome, spells, fails, fixed}
+use Rattle.perfdata_events.specs.Format.{Outcome, encodes, fails, fixed}
 use Rattle.perfdata_events.specs.Fields.{u32_at, u64_at}
 use Rattle.perfdata_events.specs.Words.{u64s, u64s_of, words_size, after, word_after}
 use Rattle.perfdata_events.specs.SampleId.{task_at, sample_id}
@@ -165,32 +165,32 @@ module _ (number : ℕ → List ℕ → ℕ) where
   one_user_stack = one_led _ _ one_u64 (λ size. one_both _ _ (one_block size) (λ _. one_word _ _))
 
   abbrev as_single : Outcome (ℕ × Details) → Outcome Values
-  as_single (spells v r) = spells (single v) r
+  as_single (encodes v r) = encodes (single v) r
   as_single (fails kind) = fails kind
 
   single_there : (format : ℕ) → is_set format 3 ≡ false → (xs : List ℕ) (o : Outcome (ℕ × Details)) → single_values number format xs o → read_values number format xs (as_single o)
-  single_there format e xs (spells v r) q = (e, q)
+  single_there format e xs (encodes v r) q = (e, q)
   single_there format e xs (fails kind) q = inl (e, q)
 
   single_only : (format : ℕ) → is_set format 3 ≡ false → (xs : List ℕ) (o : Outcome (ℕ × Details)) → ((p : Outcome (ℕ × Details)) → single_values number format xs p → p ≡ o)
       → (p : Outcome Values) → read_values number format xs p → p ≡ as_single o
-  single_only format e xs o only (spells (single v) r) q = let d = only (spells v r) q.1 in λ i. as_single (d i)
-  single_only format e xs o only (spells (group v) r) q = let d : true ≡ false = sym q.0 ∙ e in absurd cc
+  single_only format e xs o only (encodes (single v) r) q = let d = only (encodes v r) q.1 in λ i. as_single (d i)
+  single_only format e xs o only (encodes (group v) r) q = let d : true ≡ false = sym q.0 ∙ e in absurd cc
   single_only format e xs o only (fails kind) (inl q) = let d = only (fails kind) q.1 in λ i. as_single (d i)
   single_only format e xs o only (fails kind) (inr q) = let d : true ≡ false = sym q.0 ∙ e in absurd cc
 
   abbrev as_group : Outcome (Times × List ℕ) → Outcome Values
-  as_group (spells v r) = spells (group v) r
+  as_group (encodes v r) = encodes (group v) r
   as_group (fails kind) = fails kind
 
   group_there : (format : ℕ) → is_set format 3 ≡ true → (xs : List ℕ) (o : Outcome (Times × List ℕ)) → group_values number format xs o → read_values number format xs (as_group o)
-  group_there format e xs (spells v r) q = (e, q)
+  group_there format e xs (encodes v r) q = (e, q)
   group_there format e xs (fails kind) q = inr (e, q)
 
   group_only : (format : ℕ) → is_set format 3 ≡ true → (xs : List ℕ) (o : Outcome (Times × List ℕ)) → ((p : Outcome (Times × List ℕ)) → group_values number format xs p → p ≡ o)
       → (p : Outcome Values) → read_values number format xs p → p ≡ as_group o
-  group_only format e xs o only (spells (single v) r) q = let d : false ≡ true = sym q.0 ∙ e in absurd cc
-  group_only format e xs o only (spells (group v) r) q = let d = only (spells v r) q.1 in λ i. as_group (d i)
+  group_only format e xs o only (encodes (single v) r) q = let d : false ≡ true = sym q.0 ∙ e in absurd cc
+  group_only format e xs o only (encodes (group v) r) q = let d = only (encodes v r) q.1 in λ i. as_group (d i)
   group_only format e xs o only (fails kind) (inl q) = let d : false ≡ true = sym q.0 ∙ e in absurd cc
   group_only format e xs o only (fails kind) (inr q) = let d = only (fails kind) q.1 in λ i. as_group (d i)
 
@@ -204,18 +204,18 @@ module _ (number : ℕ → List ℕ → ℕ) where
   one_read format = one_both _ _ (one_fixed 8 (task_at number)) (λ _. one_read_values format)
 
   short_id : (b : Bool) (xs : List ℕ) → length xs < 24 → (p : Outcome FileId) → file_id number b xs p → p ≡ fails UnexpectedEof
-  short_id b xs few (spells v r) q = let enough : 24 ≤ length xs = q.enough in absurd (omega arith)
-  short_id b xs few (fails kind) (inl q) = ap (λ k. fails k) q.kind_is
-  short_id b xs few (fails kind) (inr q) = let enough : 24 ≤ length xs = q.enough in absurd (omega arith)
+  short_id b xs fewer (encodes v r) q = let enough : 24 ≤ length xs = q.enough in absurd (omega arith)
+  short_id b xs fewer (fails kind) (inl q) = ap (λ k. fails k) q.kind_is
+  short_id b xs fewer (fails kind) (inr q) = let enough : 24 ≤ length xs = q.enough in absurd (omega arith)
 
   large_id : (b : Bool) (xs : List ℕ) → 24 ≤ length xs → b ≡ true → 20 < slice_index (take 24 xs) 0 → (p : Outcome FileId) → file_id number b xs p → p ≡ fails InvalidData
-  large_id b xs all e large (spells v r) q = let fits : slice_index (take 24 xs) 0 ≤ 20 = q.size_fits e in absurd (omega arith)
-  large_id b xs all e large (fails kind) (inl q) = let few : length xs < 24 = q.too_few in absurd (omega arith)
+  large_id b xs all e large (encodes v r) q = let fits : slice_index (take 24 xs) 0 ≤ 20 = q.size_fits e in absurd (omega arith)
+  large_id b xs all e large (fails kind) (inl q) = let fewer : length xs < 24 = q.too_few in absurd (omega arith)
   large_id b xs all e large (fails kind) (inr q) = ap (λ k. fails k) q.kind_is
 
-  fitting_id : (b : Bool) (xs : List ℕ) → 24 ≤ length xs → (b ≡ true → slice_index (take 24 xs) 0 ≤ 20) → (p : Outcome FileId) → file_id number b xs p → p ≡ spells (file_id_at number b (take 24 xs)) (drop 24 xs)
-  fitting_id b xs all fits (spells v r) q = λ i. spells (q.value_is i) (q.rest_is i)
-  fitting_id b xs all fits (fails kind) (inl q) = let few : length xs < 24 = q.too_few in absurd (omega arith)
+  fitting_id : (b : Bool) (xs : List ℕ) → 24 ≤ length xs → (b ≡ true → slice_index (take 24 xs) 0 ≤ 20) → (p : Outcome FileId) → file_id number b xs p → p ≡ encodes (file_id_at number b (take 24 xs)) (drop 24 xs)
+  fitting_id b xs all fits (encodes v r) q = λ i. encodes (q.value_is i) (q.rest_is i)
+  fitting_id b xs all fits (fails kind) (inl q) = let fewer : length xs < 24 = q.too_few in absurd (omega arith)
   fitting_id b xs all fits (fails kind) (inr q) =
       let small : slice_index (take 24 xs) 0 ≤ 20 = fits q.is_a_build_id in
       let large : 20 < slice_index (take 24 xs) 0 = q.too_large in
@@ -226,7 +226,7 @@ module _ (number : ℕ → List ℕ → ℕ) where
 
   complete_id : (b : Bool) (xs : List ℕ) → 24 ≤ length xs → (b ≡ true → slice_index (take 24 xs) 0 ≤ 20) → OneOf b xs
   complete_id b xs all fits =
-      (spells (file_id_at number b (take 24 xs)) (drop 24 xs), record { enough = all; size_fits = fits; value_is = refl; rest_is = refl }, fitting_id b xs all fits)
+      (encodes (file_id_at number b (take 24 xs)) (drop 24 xs), record { enough = all; size_fits = fits; value_is = refl; rest_is = refl }, fitting_id b xs all fits)
 
   checked_id : (b : Bool) (xs : List ℕ) → 24 ≤ length xs → OneOf b xs
   checked_id false xs all = complete_id false xs all (λ (e : false ≡ true). absurd cc)
@@ -237,7 +237,7 @@ module _ (number : ℕ → List ℕ → ℕ) where
 
   pub one_file_id : (is_build_id : Bool) → HasOneOutcome (file_id number is_build_id)
   one_file_id b xs = elim (cases_lt (length xs) 24) [
-    | inl few ↦ (fails UnexpectedEof, inl record { too_few = few; kind_is = refl }, short_id b xs few)
+    | inl fewer ↦ (fails UnexpectedEof, inl record { too_few = fewer; kind_is = refl }, short_id b xs fewer)
     | inr all ↦ checked_id b xs all
   ]
 

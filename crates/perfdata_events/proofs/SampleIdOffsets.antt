@@ -49,15 +49,15 @@ module _ (attr : PerfEventAttr) (order : Endianness) where
   module _ (body : List ℕ) (id : SampleId) where
     sample_time : IsHeadId (event_format_of attr order) body id → id.timestamp ≡ from_start order body (offset_from_start (sample_words bits) 2)
     sample_time is =
-        let origin = is.head_is.starts in
+        let origin = is.header_bytes_is.starts in
         let enough = origin.enough in
         ap (λ (v : SampleId). v.timestamp) is.id_is ∙ origin.timestamp_is
         ∙ value_from_start bits 2 (16 ∷ 0 ∷ 1 ∷ []) (3 ∷ 6 ∷ []) refl refl refl order body (omega (arith, enough))
 
     sample_identifier : IsHeadId (event_format_of attr order) body id → option_or id.identifier id.id ≡ from_start order body (offset_from_start (sample_words bits) (identifier_word bits))
     sample_identifier is =
-        let origin = is.head_is.starts in
-        let event = is.head_is.goes_on in
+        let origin = is.header_bytes_is.starts in
+        let event = is.header_bytes_is.goes_on in
         let enough = origin.enough in
         let more = event.enough in
         let identifier : id.identifier ≡ word_after bits [] 16 (u64_at (number_in order) 0) body = ap (λ (v : SampleId). v.identifier) is.id_is ∙ origin.identifier_is in

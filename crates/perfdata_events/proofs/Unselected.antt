@@ -3,7 +3,7 @@ use Rattle.std.proofs.Common.{◌≡◌, ℕ, ◌+◌, Bool, true, false, List, 
 use Rattle.std.specs.Prelude.{◌||◌, not, Option, None}
 use Rattle.std.proofs.lemmas.Bool.{false≢true}
 use Rattle.perfdata_base.specs.ParseInfo.{is_set}
-use Rattle.perfdata_events.specs.Format.{spells, fails}
+use Rattle.perfdata_events.specs.Format.{encodes, fails}
 use Rattle.perfdata_events.specs.Fields.{u64_at}
 use Rattle.perfdata_events.specs.Words.{word}
 use Rattle.perfdata_events.specs.Selection.{selects_middle, selects_data, selects_pages, selects_end, selects_parts}
@@ -24,7 +24,7 @@ pub not_true : (b : Bool) → not b ≡ true → b ≡ false
 not_true true h = sym h
 not_true false h = refl
 
-absent_word : {V : Type 0} (present : Bool) (value_of : List ℕ → V) (xs : List ℕ) → present ≡ false → word present value_of xs (spells None xs)
+absent_word : {V : Type 0} (present : Bool) (value_of : List ℕ → V) (xs : List ℕ) → present ≡ false → word present value_of xs (encodes None xs)
 absent_word present value_of xs absent = record {
   all_bytes = rw absent (omega arith);
   value_is = rw absent refl;
@@ -35,7 +35,7 @@ module _ (number : ℕ → List ℕ → ℕ) (format : EventFormat) (xs : List �
   abbrev bits : ℕ
   bits = format.sample_format
 
-  middle_is : selects_middle format.sample_format ≡ false → sample_middle number format xs (spells no_middle xs)
+  middle_is : selects_middle format.sample_format ≡ false → sample_middle number format xs (encodes no_middle xs)
   middle_is none =
       let after_raw = or_second (is_set bits 10) _ none in
       let after_branches = or_second (is_set bits 11) _ after_raw in
@@ -71,7 +71,7 @@ module _ (number : ℕ → List ℕ → ℕ) (format : EventFormat) (xs : List �
     rest_is = rw (a, b, c, d) refl;
   }
 
-  end_is : selects_end format.sample_format ≡ false → sample_end number format xs (spells no_end xs)
+  end_is : selects_end format.sample_format ≡ false → sample_end number format xs (encodes no_end xs)
   end_is none =
       let weight = or_first (is_set bits 14 || is_set bits 24) _ none in
       let others = or_second (is_set bits 14 || is_set bits 24) _ none in
@@ -102,8 +102,8 @@ module _ (number : ℕ → List ℕ → ℕ) (format : EventFormat) (xs : List �
 module _ (number : ℕ → List ℕ → ℕ) (format : EventFormat) where
   -- words, and nothing after them
   pub only_words : selects_parts format.sample_format ≡ false → (xs origin_rest event_rest rest : List ℕ) (origin : OriginWords) (event : EventWords) (period : Option ℕ)
-      → origin_words number format.sample_format xs (spells origin origin_rest) → event_words number format.sample_format origin_rest (spells event event_rest) → word (is_set format.sample_format 8) (u64_at number 0) event_rest (spells period rest)
-      → sample number format xs (spells ((origin, (event, (period, (None, None)))), (no_middle, no_end)) rest)
+      → origin_words number format.sample_format xs (encodes origin origin_rest) → event_words number format.sample_format origin_rest (encodes event event_rest) → word (is_set format.sample_format 8) (u64_at number 0) event_rest (encodes period rest)
+      → sample number format xs (encodes ((origin, (event, (period, (None, None)))), (no_middle, no_end)) rest)
   only_words none xs origin_rest event_rest rest origin event period o e p =
       let bits = format.sample_format in
       let after_values = or_second (is_set bits 4) _ none in

@@ -7,7 +7,7 @@ use Rattle.perfdata_base.specs.Raw.{bytes_of}
 use Rattle.perfdata_base.specs.Endian.{number_in}
 use Rattle.perfdata_base.specs.ParseInfo.{is_set}
 use Rattle.perfdata_base.specs.declared.event.RawEventRecord.{RawEventRecord}
-use Rattle.perfdata_events.specs.Format.{spells, fails, IsTruncated}
+use Rattle.perfdata_events.specs.Format.{encodes, fails, IsTruncated}
 use Rattle.perfdata_events.specs.EventFormat.{trailing_size, before_trailing}
 use Rattle.perfdata_events.specs.Mmap.{mmap, mapping_of}
 use Rattle.perfdata_events.specs.Lost.{lost}
@@ -47,25 +47,25 @@ module _ (format : EventFormat) (raw : RawEventRecord) where
 
   -- The bytes before the sample_id fields start with the fields of an event that isn't a sample, and these bytes follow.
   abbrev pub IsEvent : List ℕ → EventRecord → List ℕ → Type 0
-  IsEvent xs (Mmap v) rest = (kind_of ≡ 1) × mmap number xs (spells (mapping_of v) rest)
-  IsEvent xs (Lost v) rest = (kind_of ≡ 2) × lost number xs (spells v rest)
-  IsEvent xs (Comm v) rest = (kind_of ≡ 3) × comm number raw.misc xs (spells (named_task_of v) rest)
-  IsEvent xs (Exit v) rest = (kind_of ≡ 4) × fork_or_exit number xs (spells v rest)
-  IsEvent xs (Throttle v) rest = (kind_of ≡ 5) × throttle number xs (spells v rest)
-  IsEvent xs (Unthrottle v) rest = (kind_of ≡ 6) × throttle number xs (spells v rest)
-  IsEvent xs (Fork v) rest = (kind_of ≡ 7) × fork_or_exit number xs (spells v rest)
-  IsEvent xs (Read v) rest = (kind_of ≡ 8) × read number format.read_format xs (spells (task_values_of v) rest)
-  IsEvent xs (Mmap2 v) rest = (kind_of ≡ 10) × mmap2 number (is_set raw.misc 14) xs (spells (mapping2_of v) rest)
-  IsEvent xs (Aux v) rest = (kind_of ≡ 11) × aux number xs (spells v rest)
-  IsEvent xs (ItraceStart v) rest = (kind_of ≡ 12) × itrace_start number xs (spells v rest)
-  IsEvent xs (LostSamples v) rest = (kind_of ≡ 13) × lost_samples number xs (spells v rest)
-  IsEvent xs (ContextSwitch v) rest = ((kind_of ≡ 14) × switch raw.misc xs (spells v rest)) ⊎ ((kind_of ≡ 15) × switch_cpu_wide raw.misc number xs (spells v rest))
-  IsEvent xs (Namespaces v) rest = (kind_of ≡ 16) × namespaces number xs (spells (namespaces_of v) rest)
-  IsEvent xs (Ksymbol v) rest = (kind_of ≡ 17) × ksymbol number xs (spells (symbol_of v) rest)
-  IsEvent xs (BpfEvent v) rest = (kind_of ≡ 18) × bpf_event number xs (spells (bpf_event_of v) rest)
-  IsEvent xs (Cgroup v) rest = (kind_of ≡ 19) × cgroup number xs (spells (cgroup_of v) rest)
-  IsEvent xs (TextPoke v) rest = (kind_of ≡ 20) × text_poke number xs (spells (poke_of v) rest)
-  IsEvent xs (AuxOutputHwId v) rest = (kind_of ≡ 21) × aux_output_hw_id number xs (spells v rest)
+  IsEvent xs (Mmap v) rest = (kind_of ≡ 1) × mmap number xs (encodes (mapping_of v) rest)
+  IsEvent xs (Lost v) rest = (kind_of ≡ 2) × lost number xs (encodes v rest)
+  IsEvent xs (Comm v) rest = (kind_of ≡ 3) × comm number raw.misc xs (encodes (named_task_of v) rest)
+  IsEvent xs (Exit v) rest = (kind_of ≡ 4) × fork_or_exit number xs (encodes v rest)
+  IsEvent xs (Throttle v) rest = (kind_of ≡ 5) × throttle number xs (encodes v rest)
+  IsEvent xs (Unthrottle v) rest = (kind_of ≡ 6) × throttle number xs (encodes v rest)
+  IsEvent xs (Fork v) rest = (kind_of ≡ 7) × fork_or_exit number xs (encodes v rest)
+  IsEvent xs (Read v) rest = (kind_of ≡ 8) × read number format.read_format xs (encodes (task_values_of v) rest)
+  IsEvent xs (Mmap2 v) rest = (kind_of ≡ 10) × mmap2 number (is_set raw.misc 14) xs (encodes (mapping2_of v) rest)
+  IsEvent xs (Aux v) rest = (kind_of ≡ 11) × aux number xs (encodes v rest)
+  IsEvent xs (ItraceStart v) rest = (kind_of ≡ 12) × itrace_start number xs (encodes v rest)
+  IsEvent xs (LostSamples v) rest = (kind_of ≡ 13) × lost_samples number xs (encodes v rest)
+  IsEvent xs (ContextSwitch v) rest = ((kind_of ≡ 14) × switch raw.misc xs (encodes v rest)) ⊎ ((kind_of ≡ 15) × switch_cpu_wide raw.misc number xs (encodes v rest))
+  IsEvent xs (Namespaces v) rest = (kind_of ≡ 16) × namespaces number xs (encodes (namespaces_of v) rest)
+  IsEvent xs (Ksymbol v) rest = (kind_of ≡ 17) × ksymbol number xs (encodes (symbol_of v) rest)
+  IsEvent xs (BpfEvent v) rest = (kind_of ≡ 18) × bpf_event number xs (encodes (bpf_event_of v) rest)
+  IsEvent xs (Cgroup v) rest = (kind_of ≡ 19) × cgroup number xs (encodes (cgroup_of v) rest)
+  IsEvent xs (TextPoke v) rest = (kind_of ≡ 20) × text_poke number xs (encodes (poke_of v) rest)
+  IsEvent xs (AuxOutputHwId v) rest = (kind_of ≡ 21) × aux_output_hw_id number xs (encodes v rest)
   IsEvent xs (Sample v) rest = ⊥
   IsEvent xs (Raw v) rest = ⊥
 
@@ -127,7 +127,7 @@ module _ (format : EventFormat) (raw : RawEventRecord) where
 
   -- The parsed form of the record.
   abbrev pub IsParsed : EventRecord → Type 0
-  IsParsed (Sample v) = IsSample (λ padding. sample number format (bytes_of raw.body) (spells (sample_of v) padding))
+  IsParsed (Sample v) = IsSample (λ padding. sample number format (bytes_of raw.body) (encodes (sample_of v) padding))
   IsParsed (Raw v) = (v ≡ raw) × IsUnparsed
   IsParsed (Mmap v) = IsSplit (Mmap v)
   IsParsed (Lost v) = IsSplit (Lost v)

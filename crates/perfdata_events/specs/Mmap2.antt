@@ -8,7 +8,7 @@ use Rattle.perfdata_base.specs.declared.raw.RawData.{RawData}
 use Rattle.std.specs.declared.io.ErrorKind.{ErrorKind}
 use Rattle.std.specs.declared.io.ErrorKind.TheVariants.{InvalidData}
 use Rattle.perfdata_base.specs.Raw.{bytes_of}
-use Rattle.perfdata_events.specs.Format.{Outcome, spells, fails, IsTruncated, fixed, fixed_and_text, both}
+use Rattle.perfdata_events.specs.Format.{Outcome, encodes, fails, IsTruncated, fixed, fixed_and_text, both}
 use Rattle.perfdata_events.specs.Fields.{u32_at, u64_at}
 use Rattle.perfdata_events.specs.Mmap.{Mapping, mapping_at}
 use Rattle.perfdata_events.specs.declared.mmap2.Mmap2InodeAndVersion.{Mmap2InodeAndVersion}
@@ -88,7 +88,7 @@ module _ (number : ℕ → List ℕ → ℕ) where
       pub kind_is : kind ≡ InvalidData
 
     abbrev pub file_id : List ℕ → Outcome FileId → Type 0
-    file_id xs (spells value rest) = IsFileId xs value rest
+    file_id xs (encodes value rest) = IsFileId xs value rest
     file_id xs (fails kind) = IsTruncated 24 xs kind ⊎ HasInvalidSize xs kind
 
     -- The mapping, its file id, and its protection with its flags and the path.

@@ -5,7 +5,7 @@
 use Rattle.std.specs.Prelude.{◌≡◌, ℕ, ◌+◌, ◌-◌, ◌*◌, ◌/◌, ◌≤◌, ◌⊎◌, Bool, true, false, List, [], ◌∷◌, length, slice_index, Some, None, if◌then◌else◌}
 use Rattle.perfdata_base.specs.ParseInfo.{is_set}
 use Rattle.perfdata_events.specs.Fields.{u64_at}
-use Rattle.perfdata_events.specs.Format.{Outcome, spells, fails, IsTruncated, fixed, both, led}
+use Rattle.perfdata_events.specs.Format.{Outcome, encodes, fails, IsTruncated, fixed, both, led}
 use Rattle.perfdata_events.specs.Words.{u64s, u64s_in, words_size, after, word_after}
 use Rattle.perfdata_events.specs.declared.read_values.CounterValue.{CounterValue}
 use Rattle.perfdata_events.specs.declared.read_values.Details.{Details}
@@ -58,7 +58,7 @@ module _ (number : ℕ → List ℕ → ℕ) (format : ℕ) where
     pub rest_is : rest ≡ after format (0 ∷ 1 ∷ 2 ∷ 4 ∷ []) xs
 
   abbrev pub details : List ℕ → Outcome Details → Type 0
-  details xs (spells value rest) = AreDetails xs value rest
+  details xs (encodes value rest) = AreDetails xs value rest
   details xs (fails kind) = IsTruncated (words_size format (0 ∷ 1 ∷ 2 ∷ 4 ∷ [])) xs kind
 
   -- The words with the bits 0, 1.
@@ -69,7 +69,7 @@ module _ (number : ℕ → List ℕ → ℕ) (format : ℕ) where
     pub rest_is : rest ≡ after format (0 ∷ 1 ∷ []) xs
 
   abbrev pub times : List ℕ → Outcome Times → Type 0
-  times xs (spells value rest) = AreTimes xs value rest
+  times xs (encodes value rest) = AreTimes xs value rest
   times xs (fails kind) = IsTruncated (words_size format (0 ∷ 1 ∷ [])) xs kind
 
   -- The value, and its details.
@@ -81,6 +81,6 @@ module _ (number : ℕ → List ℕ → ℕ) (format : ℕ) where
   group_values = led (fixed 8 (u64_at number 0)) (λ count. both times (λ _. u64s number (counter_width (is_set format 2) (is_set format 4) * count)))
 
   abbrev pub read_values : List ℕ → Outcome Values → Type 0
-  read_values xs (spells (single value) rest) = (is_set format 3 ≡ false) × single_values xs (spells value rest)
-  read_values xs (spells (group value) rest) = (is_set format 3 ≡ true) × group_values xs (spells value rest)
+  read_values xs (encodes (single value) rest) = (is_set format 3 ≡ false) × single_values xs (encodes value rest)
+  read_values xs (encodes (group value) rest) = (is_set format 3 ≡ true) × group_values xs (encodes value rest)
   read_values xs (fails kind) = ((is_set format 3 ≡ false) × single_values xs (fails kind)) ⊎ ((is_set format 3 ≡ true) × group_values xs (fails kind))

@@ -6,7 +6,7 @@ use Rattle.std.specs.declared.io.ErrorKind.{ErrorKind}
 use Rattle.perfdata_base.specs.Raw.{bytes_of}
 use Rattle.perfdata_base.specs.Endian.{number_in}
 use Rattle.perfdata_base.specs.declared.event.RawEventRecord.{RawEventRecord}
-use Rattle.perfdata_events.specs.Format.{Outcome, spells, fails, IsTruncated, both}
+use Rattle.perfdata_events.specs.Format.{Outcome, encodes, fails, IsTruncated, both}
 use Rattle.perfdata_events.specs.EventFormat.{trailing_size, trailing}
 use Rattle.perfdata_events.specs.Sample.{origin_words, event_words}
 use Rattle.perfdata_events.specs.SampleId.{sample_id}
@@ -24,25 +24,25 @@ id_of_words o e = record { task = o.task; timestamp = o.timestamp; id = e.id; st
 
 module _ (format : EventFormat) where
   -- The first eight words of a sample.
-  abbrev pub sample_head : List ℕ → Outcome (OriginWords × EventWords) → Type 0
-  sample_head = both (origin_words (number_in format.endian) format.sample_format) (λ _. event_words (number_in format.endian) format.sample_format)
+  abbrev pub sample_header : List ℕ → Outcome (OriginWords × EventWords) → Type 0
+  sample_header = both (origin_words (number_in format.endian) format.sample_format) (λ _. event_words (number_in format.endian) format.sample_format)
 
   pub record IsHeadId (body : List ℕ) (id : SampleId) : Type 0 where
     pub origin : OriginWords
     pub event : EventWords
     pub rest : List ℕ
-    pub head_is : sample_head body (spells (origin, event) rest)
+    pub header_bytes_is : sample_header body (encodes (origin, event) rest)
     pub id_is : id ≡ id_of_words origin event
 
   abbrev pub ReadsHead : List ℕ → Result SampleId Error → Type 0
   ReadsHead body (Ok id) = IsHeadId body id
-  ReadsHead body (Err e) = sample_head body (fails (error_kind e))
+  ReadsHead body (Err e) = sample_header body (fails (error_kind e))
 
   -- The sample_id fields end the body.
   pub record IsTrailingId (body : List ℕ) (id : SampleId) : Type 0 where
     pub enough : trailing_size format ≤ length body
     pub rest : List ℕ
-    pub id_is : sample_id (number_in format.endian) format.sample_format (trailing format body) (spells id rest)
+    pub id_is : sample_id (number_in format.endian) format.sample_format (trailing format body) (encodes id rest)
 
   module _ (raw : RawEventRecord) where
     abbrev pub IsSampleIdOf : SampleId → Type 0
@@ -54,5 +54,5 @@ module _ (format : EventFormat) where
     -- The words or the fields are truncated.
     abbrev pub SampleIdFails : ErrorKind → Type 0
     SampleIdFails kind =
-        ((raw.record_type.0 ≡ 9) × sample_head (bytes_of raw.body) (fails kind))
+        ((raw.record_type.0 ≡ 9) × sample_header (bytes_of raw.body) (fails kind))
         ⊎ ((raw.record_type.0 ≢ 9) × (format.sample_id_all ≡ true) × IsTruncated (trailing_size format) (bytes_of raw.body) kind)

@@ -8,7 +8,7 @@ use Rattle.std.specs.Option.{option_map}
 use Rattle.perfdata_base.specs.Raw.{bytes_of}
 use Rattle.perfdata_base.specs.ParseInfo.{is_set}
 use Rattle.perfdata_events.specs.Fields.{u32_at, u64_at}
-use Rattle.perfdata_events.specs.Format.{Outcome, spells, fails, IsTruncated, block, fixed, both, led, optional}
+use Rattle.perfdata_events.specs.Format.{Outcome, encodes, fails, IsTruncated, block, fixed, both, led, optional}
 use Rattle.perfdata_events.specs.Words.{u64s, u64s_in, word, words_size, after, word_after}
 use Rattle.perfdata_events.specs.SampleId.{task_at}
 use Rattle.perfdata_events.specs.ReadValues.{Values, values_of, read_values}
@@ -99,7 +99,7 @@ module _ (number : ℕ → List ℕ → ℕ) where
       pub rest_is : rest ≡ after format (16 ∷ 0 ∷ 1 ∷ 2 ∷ []) xs
 
     abbrev pub origin_words : List ℕ → Outcome OriginWords → Type 0
-    origin_words xs (spells value rest) = AreOriginWords xs value rest
+    origin_words xs (encodes value rest) = AreOriginWords xs value rest
     origin_words xs (fails kind) = IsTruncated (words_size format (16 ∷ 0 ∷ 1 ∷ 2 ∷ [])) xs kind
 
     -- The words with the bits 3, 6, 9, 7.
@@ -112,7 +112,7 @@ module _ (number : ℕ → List ℕ → ℕ) where
       pub rest_is : rest ≡ after format (3 ∷ 6 ∷ 9 ∷ 7 ∷ []) xs
 
     abbrev pub event_words : List ℕ → Outcome EventWords → Type 0
-    event_words xs (spells value rest) = AreEventWords xs value rest
+    event_words xs (encodes value rest) = AreEventWords xs value rest
     event_words xs (fails kind) = IsTruncated (words_size format (3 ∷ 6 ∷ 9 ∷ 7 ∷ [])) xs kind
 
     -- The words with the bits 15, 17.
@@ -123,7 +123,7 @@ module _ (number : ℕ → List ℕ → ℕ) where
       pub rest_is : rest ≡ after format (15 ∷ 17 ∷ []) xs
 
     abbrev pub data_words : List ℕ → Outcome DataWords → Type 0
-    data_words xs (spells value rest) = AreDataWords xs value rest
+    data_words xs (encodes value rest) = AreDataWords xs value rest
     data_words xs (fails kind) = IsTruncated (words_size format (15 ∷ 17 ∷ [])) xs kind
 
     -- The words with the bits 19, 21, 22, 23.
@@ -136,7 +136,7 @@ module _ (number : ℕ → List ℕ → ℕ) where
       pub rest_is : rest ≡ after format (19 ∷ 21 ∷ 22 ∷ 23 ∷ []) xs
 
     abbrev pub page_words : List ℕ → Outcome PageWords → Type 0
-    page_words xs (spells value rest) = ArePageWords xs value rest
+    page_words xs (encodes value rest) = ArePageWords xs value rest
     page_words xs (fails kind) = IsTruncated (words_size format (19 ∷ 21 ∷ 22 ∷ 23 ∷ [])) xs kind
 
 -- The values of a sample in three parts, each a value and then the others.

@@ -5,7 +5,7 @@
 -- IDENTIFIER 16.
 use Rattle.std.specs.Prelude.{◌≡◌, ℕ, ◌≤◌, List, [], ◌∷◌, length}
 use Rattle.perfdata_events.specs.Fields.{i32_at, u32_at, u64_at}
-use Rattle.perfdata_events.specs.Format.{Outcome, spells, fails, IsTruncated}
+use Rattle.perfdata_events.specs.Format.{Outcome, encodes, fails, IsTruncated}
 use Rattle.perfdata_events.specs.Words.{words_size, after, word_after}
 use Rattle.perfdata_events.specs.declared.sample_id.SampleId.{SampleId}
 use Rattle.perfdata_events.specs.declared.sample_id.Task.{Task}
@@ -27,5 +27,5 @@ module _ (number : ℕ → List ℕ → ℕ) where
       pub rest_is : rest ≡ after format (1 ∷ 2 ∷ 6 ∷ 9 ∷ 7 ∷ 16 ∷ []) xs
 
     abbrev pub sample_id : List ℕ → Outcome SampleId → Type 0
-    sample_id xs (spells value rest) = IsSampleId xs value rest
+    sample_id xs (encodes value rest) = IsSampleId xs value rest
     sample_id xs (fails kind) = IsTruncated (words_size format (1 ∷ 2 ∷ 6 ∷ 9 ∷ 7 ∷ 16 ∷ [])) xs kind

@@ -3,7 +3,7 @@ use Rattle.std.specs.Prelude.{◌≡◌, Bool, ℕ, zero, suc, ◌+◌, ◌*◌,
 use Rattle.perfdata_base.specs.Raw.{bytes_of}
 use Rattle.perfdata_base.specs.Endian.{number_in}
 use Rattle.perfdata_base.specs.ParseInfo.{is_set}
-use Rattle.perfdata_events.specs.Format.{Outcome, spells, fails, IsTruncated, IsTruncatedAfter}
+use Rattle.perfdata_events.specs.Format.{Outcome, encodes, fails, IsTruncated, IsTruncatedAfter}
 use Rattle.perfdata_events.specs.declared.u64s.RawDataU64.{RawDataU64}
 use Rattle.perfdata_events.specs.declared.u64s.RawDataU64Iter.{RawDataU64Iter}
 
@@ -20,7 +20,7 @@ module _ (number : ℕ → List ℕ → ℕ) where
     pub rest_is : rest ≡ drop (8 * n) xs
 
   abbrev pub u64s : ℕ → List ℕ → Outcome (List ℕ) → Type 0
-  u64s n xs (spells values rest) = AreU64s n xs values rest
+  u64s n xs (encodes values rest) = AreU64s n xs values rest
   u64s n xs (fails kind) = IsTruncated (8 * n) xs kind
 
   -- A part of n bytes, whose value is a function of them, and numbers whose count is also a function of them.
@@ -30,7 +30,7 @@ module _ (number : ℕ → List ℕ → ℕ) where
     pub numbers_are : AreU64s (count_of (take n xs)) (drop n xs) value.1 rest
 
   abbrev pub fixed_and_u64s : {V : Type 0} → ℕ → (List ℕ → V) → (List ℕ → ℕ) → List ℕ → Outcome (V × List ℕ) → Type 0
-  fixed_and_u64s n value_of count_of xs (spells value rest) = IsFixedAndU64s n value_of count_of xs value rest
+  fixed_and_u64s n value_of count_of xs (encodes value rest) = IsFixedAndU64s n value_of count_of xs value rest
   fixed_and_u64s n value_of count_of xs (fails kind) = IsTruncated n xs kind ⊎ IsTruncatedAfter n (λ bytes. 8 * count_of bytes) xs kind
 
 -- The numbers of a value.
@@ -56,7 +56,7 @@ pub record IsWord {V : Type 0} (present : Bool) (value_of : List ℕ → V) (xs 
   pub rest_is : rest ≡ drop (word_size present) xs
 
 abbrev pub word : {V : Type 0} → Bool → (List ℕ → V) → List ℕ → Outcome (Option V) → Type 0
-word present value_of xs (spells value rest) = IsWord present value_of xs value rest
+word present value_of xs (encodes value rest) = IsWord present value_of xs value rest
 word present value_of xs (fails kind) = IsTruncated (word_size present) xs kind
 
 -- A word is there if its bit of the format is set. Words are given by their bits, in order.

@@ -39,7 +39,7 @@ returns-clause-text c =
     let same_length = c.write_digits.auto.buf in
     let at : c.write_digits.result ≡ length old = omega (arith, c.args.out.now.ok.0) in
     let ends : end ≡ length old + length (decimal c.args.n) = omega (arith, c.args.out.now.ok.0) in
-    let shown = c.as_mut_slice.ensures.value ∙ c.in_ok-extend_from_slice.ensures.items in
-    let kept = subst (λ k. take k written ≡ take k c.as_mut_slice.result.now) at c.write_digits.ensures.before ∙ ap (take (length old)) shown in
+    let visible = c.as_mut_slice.ensures.value ∙ c.in_ok-extend_from_slice.ensures.items in
+    let kept = subst (λ k. take k written ≡ take k c.as_mut_slice.result.now) at c.write_digits.ensures.before ∙ ap (take (length old)) visible in
     let after = subst (λ k. drop k written ≡ decimal c.args.n ++ drop end c.as_mut_slice.result.now) at c.write_digits.ensures.written in
     c.truncate.ensures.items ∙ take-take end c.extend_from_slice.new.self.len _ (omega arith) ∙ take-append-le end written _ (omega arith) ∙ ap (λ k. take k written) ends ∙ in_place old _ written (decimal c.args.n) _ kept after
