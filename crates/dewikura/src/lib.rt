@@ -17,7 +17,7 @@ ghost use Rattle.perfdata_arrays.specs.Jit.{ReadsJitHeader, ReadsJitRecords, Rea
 ghost use Rattle.perfdata_arrays.specs.JitBodies.{ReadsJitMove, ReadsJitUnwinding};
 ghost use Rattle.perfdata_arrays.specs.JitDebug.{ReadsJitDebugInfo};
 ghost use Rattle.perfdata_arrays.specs.MetaPairs.{ReadsMetaInfo};
-ghost use Rattle.perfdata_arrays.specs.Overwrites.{with_prefix};
+ghost use Rattle.linux_perf_data.specs.RecordEntries.{with_prefix};
 ghost use Rattle.perfdata_arrays.specs.Pages.{ReadsFilePage};
 ghost use Rattle.perfdata_arrays.specs.Records.{ReadsPipeRecords};
 ghost use Rattle.perfdata_arrays.specs.Sorting.{SortsByTime};
@@ -27,6 +27,7 @@ ghost use Rattle.perfdata_arrays.specs.SymbolTables.{ReadsSymbolTables};
 ghost use Rattle.dewikura.specs.Numbers.{endian_from, number_of_bool};
 
 use linux_perf_data::Endianness;
+use linux_perf_data::in_memory::entries::RecordEntry;
 use linux_perf_data::in_memory::position::RecordPosition;
 use perfdata_arrays::attrs::{Attr, AttrTotals};
 use perfdata_arrays::build_ids::BuildId;
@@ -35,7 +36,6 @@ use perfdata_arrays::jit::{JitHeader, JitLoad, JitRecord};
 use perfdata_arrays::jit_bodies::{JitMove, JitUnwinding};
 use perfdata_arrays::jit_debug::JitDebugEntry;
 use perfdata_arrays::meta_info::MetaPair;
-use perfdata_arrays::record::Record;
 use perfdata_arrays::strings::StringEntry;
 use perfdata_arrays::symbol_tables::{Symbol, SymbolFile, SymbolTotals};
 use perfdata_arrays::{
@@ -89,7 +89,7 @@ pub extern "C" fn dewikura_read_file_records_raw(
     alloc: Global,
     input: &[u8],
     cursor: &mut RecordPosition,
-    entries: &mut [Record],
+    entries: &mut [RecordEntry],
     count: &mut u64,
 ) -> u32
     ensures { IsCodeOf result (λ s. ReadsFilePage input.now cursor.old entries.old (record { count = count.new; status = s }) cursor.new entries.new) }
@@ -105,7 +105,7 @@ pub extern "C" fn dewikura_read_pipe_records_raw(
     alloc: Global,
     input: &[u8],
     start: u64,
-    entries: &mut [Record],
+    entries: &mut [RecordEntry],
     count: &mut u64,
 ) -> u32
     ensures { IsCodeOf result (λ s. ReadsPipeRecords input.now start entries.old (record { count = count.new; status = s }) entries.new) }
@@ -117,7 +117,7 @@ pub extern "C" fn dewikura_read_pipe_records_raw(
 
 /// Sorts records by time, as `sort::sort_records` does.
 #[unsafe(no_mangle)]
-pub extern "C" fn dewikura_sort_records_raw(alloc: Global, entries: &mut [Record]) -> u32
+pub extern "C" fn dewikura_sort_records_raw(alloc: Global, entries: &mut [RecordEntry]) -> u32
     ensures { IsCodeOf result (λ s. SortsByTime entries.old s entries.new) }
 {
     sort::sort_records(alloc, entries).code()

@@ -21,7 +21,7 @@ use Rattle.perfdata_sections.specs.declared.error.Error.TheVariants.{IoError, No
 use Rattle.indexmap.specs.IndexMap.{IndexMap}
 use Rattle.perfdata_base.specs.Features.{features_of}
 use Rattle.perfdata_base.specs.declared.features.Feature.{Feature}
-use Rattle.perfdata_sections.specs.Error.{IsUnexpectedEof, IsIoError}
+use Rattle.perfdata_sections.specs.Error.{IsIoError}
 use Rattle.linux_perf_data.specs.FeatureData.{ReadsFeatures, SectionsTruncated, SourceErrorInBytes, feature_data_of}
 use Rattle.linux_perf_data.specs.declared.file.opening.FileOpening.{FileOpening}
 use Rattle.linux_perf_data.specs.FileOpening.{table_offset, HoldsSections, section_data, attribute_sources_of, DescribesAttributes, IsAttributesError, OpenAfterHeaderError, IsErrorAfterHeader, SourceErrorInOpening, HasHeader, IsFileError, FileOpenError, FileOpened, OpenedFileAt, OpenedAfterHeader, OpensAfterHeader, OpensPerfFile, magic_of}

@@ -1,5 +1,5 @@
 -- A reader of a file in memory that is moved to a position.
-use Rattle.std.proofs.Common.{◌≡◌, ℕ, ◌+◌, ◌-◌, ◌^◌, ◌<◌, List, drop, length, refl, sym, ap, ◌∙◌, subst, arith, inl, inr, Some, Ok}
+use Rattle.std.proofs.Common.{◌≡◌, ℕ, ◌+◌, ◌-◌, ◌^◌, ◌<◌, List, drop, length, sym, ap, ◌∙◌, subst, arith, inl, inr, Some, Ok}
 use Rattle.std.specs.Prelude.{min}
 use Rattle.std.proofs.lemmas.Bool.{cases_eq}
 use Rattle.std.proofs.lemmas.List.{drop-drop}
@@ -7,14 +7,13 @@ use Rattle.std.proofs.Math.ListN.{drop_of_length-le}
 use Rattle.std.specs.Borrow.{Bor}
 use Rattle.std.specs.Io.Cursor.{cursor_inner, cursor_position}
 use Rattle.std.specs.declared.io.impls.Cursor.{Cursor}
-use Rattle.perfdata_base.specs.Source.{at_start, memory_source_at}
+use Rattle.perfdata_base.specs.Source.{at_start}
 use Rattle.linux_perf_data.specs.declared.in_memory.InMemoryReader.{InMemoryReader}
 use Rattle.linux_perf_data.specs.declared.in_memory.position.RecordPosition.{RecordPosition}
-use Rattle.linux_perf_data.specs.declared.perf_file.PerfFile.{PerfFile}
 use Rattle.linux_perf_data.specs.AttributeLookup.{Represents}
 use Rattle.linux_perf_data.specs.InMemory.{memory_state, MemoryIter}
 use Rattle.linux_perf_data.specs.Input.{input_source_state, section_size_in}
-use Rattle.linux_perf_data.specs.InMemoryPositions.{FileParsedAt, IsAtPosition, round_at}
+use Rattle.linux_perf_data.specs.InMemoryPositions.{FileParsedAt, round_at}
 use Rattle.linux_perf_data.specs.InMemoryReading.{ParsesFileInMemory, first_record_offset_of, input_of}
 use Rattle.linux_perf_data.specs.Iter.{iter_source_state}
 use Rattle.linux_perf_data.specs.OpenedFile.{FileOpensAt}

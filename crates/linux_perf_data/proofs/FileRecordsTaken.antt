@@ -1,8 +1,8 @@
 -- A whole record of a file that is taken at once is the next record.
-use Rattle.std.proofs.Common.{◌≡◌, ◌≢◌, ℕ, ◌+◌, ◌^◌, ◌<◌, ◌≤◌, ◌++◌, List, [], length, take, drop, refl, sym, ap, ◌∙◌, subst, arith, inl, inr, append-nil, None, Some}
+use Rattle.std.proofs.Common.{◌≡◌, ◌≢◌, ℕ, ◌+◌, ◌^◌, ◌<◌, ◌≤◌, ◌++◌, List, [], length, take, refl, sym, ap, ◌∙◌, subst, arith, inl, inr, append-nil, None, Some}
 use Rattle.std.specs.Prelude.{if◌then◌else◌, ◌==◌}
-use Rattle.std.specs.Borrow.{Bor}
 use Rattle.std.specs.List.{slice_range}
+use Rattle.std.proofs.lemmas.List.{length-take}
 use Rattle.perfdata_base.proofs.ConsumedLemmas.{consumed_none}
 use Rattle.perfdata_base.specs.Endian.{number_in}
 use Rattle.perfdata_base.specs.Event.{record_header_of}
@@ -24,7 +24,9 @@ use Rattle.linux_perf_data.specs.LateMetadata.{UpdatesPerfFile}
 use Rattle.linux_perf_data.specs.Layout.{MayStartAt, attributes_in_record}
 use Rattle.linux_perf_data.specs.PerfFile.{attributes_of_file}
 use Rattle.linux_perf_data.specs.RecordViews.{IdentifiesRecord}
+use Rattle.linux_perf_data.specs.FileWalk.{MovesInPlace}
 use Rattle.linux_perf_data.proofs.InMemoryCalls.{buffer_of}
+use Rattle.linux_perf_data.proofs.InMemoryPlaces.{rest_in_place, section_view}
 use Rattle.linux_perf_data.proofs.IterCalls.{Idles, markers_none, returns_record}
 use Rattle.linux_perf_data.proofs.WholeRecordsTaken.{body_of_first, whole_record_read}
 
@@ -85,3 +87,12 @@ file_record_consumed old new size file header found bytes n running section more
     let same : SameButLookup memory_state piece final = record { source = refl; same_endian = refl; body = refl; offset = refl; round = refl; input = refl } in
     let processed : RecordProcessed memory_state piece file old.offset old.round header found final file = file_record_processed piece final size file old.offset old.round header found (input ∙ section) same refl identifies keeps in
     record { buffer = buffer; returns = returns_record memory_state old now piece final file file header found idles read other starts processed }
+
+-- the iterator after a whole record of a file is in place
+pub moved_in_place : (old new : MemoryIter) (size : ℕ) (bytes : List ℕ) (n : ℕ) → old.input ≡ Section size → new.input ≡ old.input → old.stage ≡ Running → Consumed (memory_state old.source) (take n bytes) (memory_state new.source) → n ≤ length bytes → new.offset ≡ old.offset + n → MovesInPlace old new
+moved_in_place old new size bytes n section input running consumes within offset = λ all first placed runs.
+    let old_view = section_view old.input size (memory_state old.source) (ap section_size_in section) in
+    let new_view = section_view new.input size (memory_state new.source) (ap section_size_in (input ∙ section)) in
+    rest_in_place old new all (take n bytes) first (placed running)
+    (subst (λ s. Consumed s (take n bytes) (iter_source_state memory_state new)) (sym old_view) (subst (λ s. Consumed (memory_state old.source) (take n bytes) s) (sym new_view) consumes))
+    (omega (arith, offset, within, length-take n bytes))

@@ -55,3 +55,4 @@ pub mod InMemoryPlaces
 pub mod InMemoryReadings
 pub mod WholeRecordsTaken
 pub mod FilePositions
+pub mod EntryLemmas

@@ -1,5 +1,5 @@
 -- Each error is one of those that its call names.
-use Rattle.std.proofs.Common.{◌≡◌, ◌≢◌, ℕ, ◌-◌, List, [], ◌∷◌, sym, subst, refl, inl, inr}
+use Rattle.std.proofs.Common.{◌≡◌, ◌≢◌, ℕ, ◌-◌, List, [], sym, subst, refl, inl, inr}
 use Rattle.std.specs.Prelude.{◌⊎◌, Result, Ok, Err, IfErr, Option, Vec}
 use Rattle.std.specs.declared.alloc.Global.{Global}
 use Rattle.std.specs.declared.io.Error.{Error as IoErrorValue}
@@ -34,7 +34,7 @@ use Rattle.linux_perf_data.specs.Iter.{iter_source_state, section_size_of, IsMis
 use Rattle.linux_perf_data.specs.NamedErrors.{IsFileOpeningError, IsPipeOpeningError, IsRecordError}
 use Rattle.linux_perf_data.specs.OpenedFile.{BuildsReader}
 use Rattle.linux_perf_data.specs.OpenedPipe.{BuildsPipeReader}
-use Rattle.linux_perf_data.specs.PipeOpening.{FailsBy, IsPipeError, IsErrorCauseFor, IsErrorAfterPipeHeader, IsMetadataRecordError, IsMetadataListError}
+use Rattle.linux_perf_data.specs.PipeOpening.{FailsBy, IsPipeError, IsMetadataRecordError, IsMetadataListError}
 use Rattle.linux_perf_data.specs.RecordFraming.{IsErrorFor, SourceErrorInRecord}
 
 -- a set that contains `Memory` contains an error whose cause is known unless it is `Memory`

@@ -1,6 +1,6 @@
 -- A record header and the bytes after it are a metadata record, or determine the error.
 use Rattle.std.specs.Prelude.{Ok, Err}
-use Rattle.std.proofs.Common.{◌≡◌, ◌≢◌, ℕ, ◌-◌, ◌<◌, ◌≤◌, ◌++◌, List, length, drop, refl, sym, ap, ◌∙◌, subst, arith, inl, inr, append_assoc, length-append}
+use Rattle.std.proofs.Common.{◌≡◌, ◌≢◌, ℕ, ◌-◌, ◌≤◌, ◌++◌, List, length, drop, sym, ap, ◌∙◌, subst, arith, inl, inr, append_assoc, length-append}
 use Rattle.perfdata_base.specs.Source.{State, Consumed}
 use Rattle.perfdata_base.proofs.ConsumedLemmas.{consumed_more}
 use Rattle.perfdata_base.specs.Event.{record_header_of}

@@ -49,6 +49,10 @@ ResolvesId k id index = (order : Endianness) (attrs : List Attribute) → Repres
 abbrev pub ResolvesEvent : AttributeLookup → ℕ → List ℕ → ℕ → AttributeLookup → Type 0
 ResolvesEvent old record_type body index new = (order : Endianness) (attrs : List Attribute) → Represents order old attrs → record_type < 64 → event_of order attrs record_type body ≡ Some (event_at new index)
 
+-- There is one attribute, and its records have this parse info.
+abbrev pub HasOnly : AttributeLookup → RecordParseInfo → Type 0
+HasOnly k parse_info = k.parse_infos.items ≡ parse_info ∷ []
+
 -- The new lookup represents all attributes that the old one represents.
 abbrev pub KeepsAttributes : AttributeLookup → AttributeLookup → Type 0
 KeepsAttributes old new = (order : Endianness) (attrs : List Attribute) → Represents order old attrs → Represents order new attrs

@@ -40,4 +40,6 @@ pub mod PipeReading
 pub mod InMemory
 pub mod InMemoryReading
 pub mod InMemoryWholeRecords
+pub mod FileWalk
+pub mod RecordEntries
 pub mod InMemoryPositions

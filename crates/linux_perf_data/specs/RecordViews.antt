@@ -71,7 +71,7 @@ record_view_at places f order body = record {
 
 -- The same, with the parse info from the attribute lookup.
 abbrev pub record_view_with : AttributeLookup → RecordInfo → Endianness → List ℕ → RecordView
-record_view_with known f order body = record_view_at (parse_info_at known (attr_index_by_writer f.writer)) f order body
+record_view_with lookup f order body = record_view_at (parse_info_at lookup (attr_index_by_writer f.writer)) f order body
 
 -- The record with this header, which isn't a marker's, is identified as the represented attributes require. The view uses the
 -- parse infos of the new lookup.

@@ -36,6 +36,8 @@ use perfdata_parts::record::PerfFileRecord;
 use std::alloc::Global;
 use std::io::Cursor;
 
+pub mod entries;
+pub(crate) mod file_walk;
 pub(crate) mod framing;
 pub(crate) mod iter;
 pub mod laws;

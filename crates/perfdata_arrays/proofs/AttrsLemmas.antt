@@ -18,14 +18,15 @@ use Rattle.linux_perf_data.specs.OpenedFile.{FileOpensAt}
 use Rattle.linux_perf_data.specs.PerfFile.{descriptions_of_file}
 use Rattle.linux_perf_data.specs.PipeOpening.{IsPipeError}
 use Rattle.perfdata_arrays.specs.Attrs.{ReadsFileAttrs, ExceedsU64, ReadsPipeAttrs, WritesAttrsOrPrefix, WritesAttrs, all_ids, attr_entry_at, attr_entries_at, name_bytes, all_names, no_attrs_with}
-use Rattle.perfdata_arrays.specs.Overwrites.{WritesOneMore, with_entries_at, with_prefix}
+use Rattle.linux_perf_data.specs.RecordEntries.{with_prefix}
+use Rattle.perfdata_arrays.specs.Overwrites.{WritesOneMore, with_entries_at}
 use Rattle.perfdata_arrays.specs.Status.{error_status}
 use Rattle.perfdata_arrays.specs.Walk.{WalksRecords, walk_status}
 use Rattle.perfdata_arrays.specs.declared.attrs.Attr.{Attr}
 use Rattle.perfdata_arrays.specs.declared.attrs.AttrsResult.{AttrsResult}
 use Rattle.perfdata_arrays.specs.declared.status.Status.{Status}
 use Rattle.perfdata_arrays.specs.declared.status.Status.TheVariants.{OutOfMemory, Success}
-use Rattle.perfdata_arrays.specs.declared.record.Record.{Record}
+use Rattle.linux_perf_data.specs.declared.in_memory.entries.RecordEntry.{RecordEntry}
 use Rattle.perfdata_arrays.specs.declared.records.WalkResult.{WalkResult}
 use Rattle.perfdata_arrays.proofs.OverwriteLemmas.{with_entries_at-with_prefix}
 use Rattle.perfdata_arrays.proofs.PipeRecordsLemmas.{is_pipe_with_records}
@@ -115,7 +116,7 @@ pipe_attrs_error bytes entries names ids outcome e status none is cause =
     inr ((e, ap (λ t. t.status) none ∙ is, cause), none ∙ ap no_attrs_with (sym (ap (λ t. t.status) none)), refl, refl, refl)
 
 pub reads_pipe_attrs : (bytes : List ℕ) (reader : InMemoryReader) (opened : ParsesPipeInMemory bytes (Ok reader))
-    (start : ℕ) (table table' : List Record) (walked : WalkResult) (new : InMemoryRecords) (file' : PerfFile) → WalksRecords reader.records reader.perf_file start table walked new file' table'
+    (start : ℕ) (table table' : List RecordEntry) (walked : WalkResult) (new : InMemoryRecords) (file' : PerfFile) → WalksRecords reader.records reader.perf_file start table walked new file' table'
     → (status : Status) → status ≡ walk_status walked.end → (entries entries' : List Attr) (names ids names' ids' : List ℕ) (outcome : AttrsResult) → WritesAttrsOrPrefix (descriptions_of_file file') status entries names ids outcome entries' names' ids'
     → ReadsPipeAttrs bytes entries names ids outcome entries' names' ids'
 reads_pipe_attrs bytes reader opened start table table' walked new file' w status is entries entries' names ids names' ids' outcome written =

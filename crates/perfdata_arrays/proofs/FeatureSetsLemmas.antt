@@ -15,7 +15,7 @@ use Rattle.linux_perf_data.specs.PipeOpening.{IsPipeError}
 use Rattle.perfdata_arrays.specs.FeatureSets.{AreBitsOf, ReadsFileFeatures, ReadsPipeFeatures, no_features_with}
 use Rattle.perfdata_arrays.specs.Status.{error_status}
 use Rattle.perfdata_arrays.specs.Walk.{WalksRecords, walk_status}
-use Rattle.perfdata_arrays.specs.declared.record.Record.{Record}
+use Rattle.linux_perf_data.specs.declared.in_memory.entries.RecordEntry.{RecordEntry}
 use Rattle.perfdata_arrays.specs.declared.feature_set.FeaturesResult.{FeaturesResult}
 use Rattle.perfdata_arrays.specs.declared.records.WalkResult.{WalkResult}
 use Rattle.perfdata_arrays.specs.declared.status.Status.{Status}
@@ -36,7 +36,7 @@ reads_file_features bytes reader opened outcome is bits =
     inl (is, (reader.perf_file, (opens.header, opens.describes, bits)))
 
 pub reads_pipe_features : (bytes : List ℕ) (reader : InMemoryReader) (opened : ParsesPipeInMemory bytes (Ok reader))
-    (start : ℕ) (entries entries' : List Record) (walked : WalkResult) (new : InMemoryRecords) (file' : PerfFile) → WalksRecords reader.records reader.perf_file start entries walked new file' entries'
+    (start : ℕ) (entries entries' : List RecordEntry) (walked : WalkResult) (new : InMemoryRecords) (file' : PerfFile) → WalksRecords reader.records reader.perf_file start entries walked new file' entries'
     → (outcome : FeaturesResult) → outcome.status ≡ walk_status walked.end → AreBitsOf (features_of_file file') outcome.features → ReadsPipeFeatures bytes outcome
 reads_pipe_features bytes reader opened start entries entries' walked new file' w outcome is bits =
     inl (w.records, (file', is_pipe_with_records bytes reader opened start entries entries' walked new file' w outcome.status is, bits))

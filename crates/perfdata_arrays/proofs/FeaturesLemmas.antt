@@ -15,7 +15,7 @@ use Rattle.linux_perf_data.specs.PipeOpening.{IsPipeError}
 use Rattle.perfdata_arrays.specs.Features.{CopiesFeature, ReadsFileFeature, ReadsPipeFeature}
 use Rattle.perfdata_arrays.specs.Status.{error_status}
 use Rattle.perfdata_arrays.specs.Walk.{WalksRecords, walk_status}
-use Rattle.perfdata_arrays.specs.declared.record.Record.{Record}
+use Rattle.linux_perf_data.specs.declared.in_memory.entries.RecordEntry.{RecordEntry}
 use Rattle.perfdata_arrays.specs.declared.features.FeatureResult.{FeatureResult}
 use Rattle.perfdata_arrays.specs.declared.status.Status.TheVariants.{Success}
 use Rattle.perfdata_arrays.specs.declared.records.WalkResult.{WalkResult}
@@ -34,7 +34,7 @@ reads_file_feature bytes reader opened n before outcome after is copied =
     inl (is, (reader.perf_file, (opens.header, opens.describes, copied)))
 
 pub reads_pipe_feature : (bytes : List ℕ) (reader : InMemoryReader) (opened : ParsesPipeInMemory bytes (Ok reader))
-    (start : ℕ) (entries entries' : List Record) (walked : WalkResult) (new : InMemoryRecords) (file' : PerfFile) → WalksRecords reader.records reader.perf_file start entries walked new file' entries'
+    (start : ℕ) (entries entries' : List RecordEntry) (walked : WalkResult) (new : InMemoryRecords) (file' : PerfFile) → WalksRecords reader.records reader.perf_file start entries walked new file' entries'
     → (n : ℕ) (before : List ℕ) (outcome : FeatureResult) (after : List ℕ) → outcome.status ≡ walk_status walked.end → CopiesFeature (feature_data_in_file file' n) before outcome after → ReadsPipeFeature bytes n before outcome after
 reads_pipe_feature bytes reader opened start entries entries' walked new file' w n before outcome after is copied =
     inl (w.records, (file', is_pipe_with_records bytes reader opened start entries entries' walked new file' w outcome.status is, copied))

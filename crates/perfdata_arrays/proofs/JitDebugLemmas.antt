@@ -11,7 +11,8 @@ use Rattle.perfdata_jit.specs.declared.records.JitCodeDebugInfoEntry.{JitCodeDeb
 use Rattle.perfdata_jit.specs.declared.records.JitCodeDebugInfoRecord.{JitCodeDebugInfoRecord}
 use Rattle.perfdata_arrays.specs.JitBodies.{IsBodyAt}
 use Rattle.perfdata_arrays.specs.JitDebug.{HasPathsAt, after_debug_entry, debug_end, debug_entries_at, debug_entry_at}
-use Rattle.perfdata_arrays.specs.Overwrites.{with_entries_at, with_prefix}
+use Rattle.linux_perf_data.specs.RecordEntries.{with_prefix}
+use Rattle.perfdata_arrays.specs.Overwrites.{with_entries_at}
 use Rattle.perfdata_arrays.specs.declared.jit_debug.JitDebugEntry.{JitDebugEntry}
 use Rattle.perfdata_arrays.proofs.OverwriteLemmas.{with_entries_at-with_prefix}
 

@@ -16,10 +16,11 @@ use Rattle.perfdata_jit.specs.JitHeader.{BeginsWithJitHeader, IsEndianOfMagic, I
 use Rattle.perfdata_jit.specs.declared.header.JitDumpHeader.{JitDumpHeader}
 use Rattle.perfdata_jit.specs.declared.record.JitDumpRecordHeader.{JitDumpRecordHeader}
 use Rattle.perfdata_arrays.specs.Jit.{FindsRecord, IsLoadAt, WritesJitRecords, HasWholeRecordAt, jit_entries, jit_entry}
-use Rattle.perfdata_arrays.specs.Overwrites.{with_prefix}
+use Rattle.linux_perf_data.specs.RecordEntries.{with_prefix}
 use Rattle.perfdata_arrays.specs.declared.jit.JitRecord.{JitRecord}
 use Rattle.perfdata_arrays.specs.declared.status.Status.TheVariants.{JitBadRecordSize}
-use Rattle.perfdata_arrays.proofs.OverwriteLemmas.{with_prefix-snoc, take-drop-length}
+use Rattle.linux_perf_data.proofs.EntryLemmas.{with_prefix-snoc}
+use Rattle.perfdata_arrays.proofs.OverwriteLemmas.{take-drop-length}
 
 take-prefix : (all prefix rest : List ℕ) (n : ℕ) → all ≡ prefix ++ rest → length prefix ≡ n → take n all ≡ prefix
 take-prefix all prefix rest n is long = ap (take n) is ∙ ap (λ k. take k (prefix ++ rest)) (sym long) ∙ take-append_seam prefix rest

@@ -3,14 +3,10 @@ use Rattle.std.proofs.Common.{◌≡◌, ℕ, zero, suc, ◌+◌, ◌-◌, ◌<�
 use Rattle.std.specs.Prelude.{slice_set, min}
 use Rattle.std.proofs.lemmas.List.{drop-append-le, append-nil, take_all}
 use Rattle.std.proofs.Math.ListN.{drop_of_length-le}
-use Rattle.perfdata_arrays.specs.Overwrites.{with_prefix, with_entries_at, WritesOneMore}
-
--- one more entry that fits in the array
-pub with_prefix-snoc : {T : Type 0} (es old : List T) (e : T) → length es < length old → with_prefix (es ++ e ∷ []) old ≡ slice_set (with_prefix es old) (length es) e
-with_prefix-snoc [] [] e fits = absurd (omega (arith, fits))
-with_prefix-snoc [] (o ∷ os) e fits = refl
-with_prefix-snoc (x ∷ es) [] e fits = absurd (omega (arith, fits))
-with_prefix-snoc (x ∷ es) (o ∷ os) e fits = ap (λ l. x ∷ l) (with_prefix-snoc es os e (omega (arith, fits)))
+use Rattle.linux_perf_data.specs.RecordEntries.{with_prefix}
+use Rattle.linux_perf_data.proofs.EntryLemmas.{length-with_prefix, with_prefix-snoc}
+use borrow.Rule.Slice.PartMut.{mid_of, post_of, put_mid}
+use Rattle.perfdata_arrays.specs.Overwrites.{with_entries_at, with_prefix_from, WritesOneMore}
 
 -- one more entry that doesn't fit in the array
 with_prefix-snoc-full : {T : Type 0} (es old : List T) (e : T) → length old ≤ length es → with_prefix (es ++ e ∷ []) old ≡ with_prefix es old
@@ -18,11 +14,6 @@ with_prefix-snoc-full [] [] e full = refl
 with_prefix-snoc-full [] (o ∷ os) e full = absurd (omega (arith, full))
 with_prefix-snoc-full (x ∷ es) [] e full = refl
 with_prefix-snoc-full (x ∷ es) (o ∷ os) e full = ap (λ l. x ∷ l) (with_prefix-snoc-full es os e (omega (arith, full)))
-
-pub length-with_prefix : {T : Type 0} (es old : List T) → length (with_prefix es old) ≡ length old
-length-with_prefix [] old = refl
-length-with_prefix (x ∷ es) [] = refl
-length-with_prefix (x ∷ es) (o ∷ os) = ap (λ n. suc n) (length-with_prefix es os)
 
 -- the written entries and the unchanged rest
 pub with_prefix-take-drop : {T : Type 0} (es old : List T) → with_prefix es old ≡ take (length old) es ++ drop (length es) old
@@ -91,3 +82,16 @@ with_entries_at-more at next done more [] is =
 with_entries_at-more zero next done more (o ∷ os) is = (let e : next ≡ length done = omega (arith, is) in ap (λ n. with_entries_at n more (with_prefix done (o ∷ os))) e ∙ with_entries_at-with_prefix done more (o ∷ os))
 with_entries_at-more (suc at) zero done more (o ∷ os) is = absurd (omega (arith, is))
 with_entries_at-more (suc at) (suc next) done more (o ∷ os) is = ap (λ l. o ∷ l) (with_entries_at-more at next done more os (omega (arith, is)))
+
+-- more entries after those from index `start` on
+pub with_prefix_from-more : {T : Type 0} (start : ℕ) (done more buffer : List T) → start ≤ length done → with_entries_at (length done - start) more (with_prefix_from start done buffer) ≡ with_prefix_from start (done ++ more) buffer
+with_prefix_from-more start done more buffer within =
+    ap (λ n. with_entries_at n more (with_prefix (drop start done) buffer)) (sym (length-drop start done))
+    ∙ with_entries_at-with_prefix (drop start done) more buffer ∙ ap (λ l. with_prefix l buffer) (sym (drop-append-le start done more within))
+
+-- entries that are written over a part up to the end
+pub with_entries_at-part : {T : Type 0} (at : ℕ) (es old : List T) → at ≤ length old → put_mid at (length old - at) old (with_prefix es (mid_of at (length old - at) old)) ≡ with_entries_at at es old
+with_entries_at-part at es old within =
+    let part = with_prefix es (mid_of at (length old - at) old) in
+    let after : post_of at (length old - at) old ≡ [] = drop_of_length-le (drop at old) (omega (arith, within, length-drop at old)) in
+    ap (λ l. take at old ++ (part ++ l)) after ∙ ap (λ l. take at old ++ l) (append-nil part) ∙ ap (λ l. take at old ++ with_prefix es l) (take-drop-length at old)

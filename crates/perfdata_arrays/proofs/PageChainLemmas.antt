@@ -18,12 +18,11 @@ use Rattle.linux_perf_data.specs.Layout.{RecordView}
 use Rattle.linux_perf_data.proofs.DescribedFiles.{described_file_opens}
 use Rattle.linux_perf_data.proofs.FileErrorUniqueness.{opening_error_is_unique}
 use Rattle.linux_perf_data.proofs.LayoutUniqueness.{remaining_is_unique}
-use Rattle.perfdata_arrays.specs.Overwrites.{with_prefix}
+use Rattle.linux_perf_data.specs.RecordEntries.{with_prefix, record_entries_at, record_entry_at}
 use Rattle.perfdata_arrays.specs.PageChains.{ChainIsOnePage, HasMemory, IsCallAt, IsChain, PageCall, chain_entries, written_entries}
 use Rattle.perfdata_arrays.specs.Pages.{IsPage}
-use Rattle.perfdata_arrays.specs.Records.{record_entries_at, record_entry_at}
 use Rattle.perfdata_arrays.specs.Status.{error_status, io_kind_status, read_error_status}
-use Rattle.perfdata_arrays.specs.declared.record.Record.{Record}
+use Rattle.linux_perf_data.specs.declared.in_memory.entries.RecordEntry.{RecordEntry}
 use Rattle.perfdata_arrays.specs.declared.status.Status.{Status}
 use Rattle.perfdata_arrays.specs.declared.status.Status.TheVariants.{OutOfMemory, Success}
 use Rattle.perfdata_arrays.proofs.PageLemmas.{eof_status}
@@ -82,14 +81,14 @@ take-written (e ∷ es) (o ∷ os) fits = ap (λ l. e ∷ l) (take-written es os
 -- ---- a call
 
 -- the file doesn't open, and no entry is written
-record FailsToOpen (bytes : List ℕ) (status : Status) (entries : List Record) : Type 0 where
+record FailsToOpen (bytes : List ℕ) (status : Status) (entries : List RecordEntry) : Type 0 where
   error : Error
   status_is : status ≡ error_status error
   cause : error ≢ Memory → IsFileError (at_start bytes) error
   none : entries ≡ []
 
 -- the entries are those of a page
-record WritesPage (bytes : List ℕ) (from : RecordPosition) (capacity : ℕ) (status : Status) (next : RecordPosition) (entries : List Record) : Type 0 where
+record WritesPage (bytes : List ℕ) (from : RecordPosition) (capacity : ℕ) (status : Status) (next : RecordPosition) (entries : List RecordEntry) : Type 0 where
   base : ℕ
   records : List RecordView
   page : IsPage bytes base from capacity records status next
@@ -101,7 +100,7 @@ length-entries base records = length-map records (record_entry_at base)
 module _ (bytes : List ℕ) (from : RecordPosition) (call : PageCall) (is : IsCallAt bytes from call) where
   written_are : written_entries call ≡ record_entries_at is.base is.records
   written_are =
-      let es : List Record = record_entries_at is.base is.records in
+      let es : List RecordEntry = record_entries_at is.base is.records in
       let same : length es ≡ length is.records = length-entries is.base is.records in
       let fits = is.fits in
       ap (λ n. take n call.after) (is.writes.count ∙ sym same) ∙ ap (take (length es)) is.writes.written ∙ take-written es call.before (omega (arith, same, fits))
@@ -152,7 +151,7 @@ exact_page bytes {base} {base'} {capacity} {capacity'} {from} {next} {next'} {re
 ]
 
 -- a file that opens has no error
-never_fails : (bytes : List ℕ) {base capacity : ℕ} {from next : RecordPosition} {records : List RecordView} {status status' : Status} {entries : List Record}
+never_fails : (bytes : List ℕ) {base capacity : ℕ} {from next : RecordPosition} {records : List RecordView} {status status' : Status} {entries : List RecordEntry}
     → IsPage bytes base from capacity records status next → FailsToOpen bytes status' entries → status' ≢ OutOfMemory → ⊥
 never_fails bytes page failed memory =
     described_file_opens (at_start bytes) page.header page.file failed.error page.describes (failed.cause (λ is. memory (failed.status_is ∙ ap error_status is)))

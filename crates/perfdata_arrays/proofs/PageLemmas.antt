@@ -30,12 +30,12 @@ use Rattle.linux_perf_data.specs.RecordFraming.{IsErrorFor}
 use Rattle.linux_perf_data.proofs.FileReadings.{after_prefix_is, consumed_of, fits_of, own_of, read_so_far_of, runs_of, source_error_none, stops_of, whole_of}
 use Rattle.linux_perf_data.proofs.InMemoryPlaces.{section_view}
 use Rattle.linux_perf_data.proofs.InMemoryReadings.{same_end, same_error, same_records}
-use Rattle.perfdata_arrays.specs.Overwrites.{with_prefix, with_prefix_from}
+use Rattle.linux_perf_data.specs.RecordEntries.{with_prefix, HasBodiesAt, record_entries_at}
+use Rattle.perfdata_arrays.specs.Overwrites.{with_prefix_from}
 use Rattle.perfdata_arrays.specs.Pages.{IsPage, ReadsFilePage, WalksPage, layout_end_status, layout_error_status}
-use Rattle.perfdata_arrays.specs.Records.{HasBodiesAt, record_entries_at}
 use Rattle.perfdata_arrays.specs.Status.{error_status, io_kind_status}
 use Rattle.perfdata_arrays.specs.Walk.{WalkEnds, walk_status}
-use Rattle.perfdata_arrays.specs.declared.record.Record.{Record}
+use Rattle.linux_perf_data.specs.declared.in_memory.entries.RecordEntry.{RecordEntry}
 use Rattle.perfdata_arrays.specs.declared.records.PageWalk.{PageWalk}
 use Rattle.perfdata_arrays.specs.declared.records.RecordsResult.{RecordsResult}
 use Rattle.perfdata_arrays.specs.declared.status.Status.{Status}
@@ -174,7 +174,7 @@ module _ (bytes : List ℕ) (header : PerfHeader) (file : PerfFile) where
 
 module _ (bytes : List ℕ) (from : RecordPosition) where
   -- the position is unchanged if the file doesn't open
-  pub no_page : (entries : List Record) (e : Error) (result : RecordsResult) → result.count ≡ 0 → result.status ≡ error_status e → FileParseError (memory_source_at bytes 0) e → ReadsFilePage bytes from entries result from entries
+  pub no_page : (entries : List RecordEntry) (e : Error) (result : RecordsResult) → result.count ≡ 0 → result.status ≡ error_status e → FileParseError (memory_source_at bytes 0) e → ReadsFilePage bytes from entries result from entries
   no_page entries e result none is error = record {
     records = [];
     base = 0;
@@ -215,7 +215,7 @@ module _ (bytes : List ℕ) (from : RecordPosition) where
         let eight = step.header_len in
         inr (omega (arith, ap length same, length-drop (first + it.offset) (input_of reader.records), length-drop (base + from.offset) bytes, ap length parsed.1, start, long, length-append step.markers one, length-append step.header_bytes h.body, eight))
 
-    module _ (before after : List Record) (walked : PageWalk) (new : InMemoryRecords) (file' : PerfFile) (w : WalksPage reader.records file before walked new file' after) where
+    module _ (before after : List RecordEntry) (walked : PageWalk) (new : InMemoryRecords) (file' : PerfFile) (w : WalksPage reader.records file before walked new file' after) where
       streamed : (buffer : Vec ℕ Global) × ReturnsRecords memory_state it file w.records (with_buffer w.input_at_end.iter buffer) w.file_at_end
       streamed = same_records reader.records w.input_at_end file w.file_at_end w.records w.returned
 

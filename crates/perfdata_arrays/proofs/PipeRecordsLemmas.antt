@@ -31,11 +31,12 @@ use Rattle.linux_perf_data.proofs.PipeReadings.{begins, ends_there, error_there,
 use Rattle.linux_perf_data.proofs.FileReadings.{after_prefix_is, first_of, holds_of, none_of, source_error_none, stops_of, whole_of}
 use Rattle.perfdata_arrays.specs.Overwrites.{with_prefix_from}
 use Rattle.perfdata_arrays.specs.Status.{error_status}
-use Rattle.perfdata_arrays.specs.Records.{HasBodiesAt, EndsWithStatus, IsPipeWithRecords, ReadsPipeRecords}
+use Rattle.linux_perf_data.specs.RecordEntries.{HasBodiesAt}
+use Rattle.perfdata_arrays.specs.Records.{EndsWithStatus, IsPipeWithRecords, ReadsPipeRecords}
 use Rattle.perfdata_arrays.specs.Walk.{WalkEnds, WalksRecords, walk_status}
 use Rattle.perfdata_arrays.specs.declared.status.Status.{Status}
 use Rattle.perfdata_arrays.specs.declared.status.Status.TheVariants.{Success}
-use Rattle.perfdata_arrays.specs.declared.record.Record.{Record}
+use Rattle.linux_perf_data.specs.declared.in_memory.entries.RecordEntry.{RecordEntry}
 use Rattle.perfdata_arrays.specs.declared.records.RecordsResult.{RecordsResult}
 use Rattle.perfdata_arrays.specs.declared.records.WalkResult.{WalkResult}
 use Rattle.perfdata_arrays.proofs.WalkLemmas.{length-prefix, prefix-split, streams_records, writes_at}
@@ -61,7 +62,7 @@ module _ (bytes : List ℕ) where
         ]
       ]
 
-  pub no_records_written : (start : ℕ) (entries : List Record) (e : Error) (total : RecordsResult) → total.count ≡ 0 → total.status ≡ error_status e → PipeParseError memory_state (memory_source_at bytes 0) e → ReadsPipeRecords bytes start entries total entries
+  pub no_records_written : (start : ℕ) (entries : List RecordEntry) (e : Error) (total : RecordsResult) → total.count ≡ 0 → total.status ≡ error_status e → PipeParseError memory_state (memory_source_at bytes 0) e → ReadsPipeRecords bytes start entries total entries
   no_records_written start entries e total none is error = record {
     records = [];
     base = 0;
@@ -223,7 +224,7 @@ module _ (bytes : List ℕ) (reader : InMemoryReader) (parsed : ParsesPipeInMemo
 
   -- ---- a walk
 
-  module _ (start : ℕ) (entries entries' : List Record) (walked : WalkResult) (new : InMemoryRecords) (file' : PerfFile) (w : WalksRecords reader.records file start entries walked new file' entries') where
+  module _ (start : ℕ) (entries entries' : List RecordEntry) (walked : WalkResult) (new : InMemoryRecords) (file' : PerfFile) (w : WalksRecords reader.records file start entries walked new file' entries') where
     pub walk_ends : PipeEnds w.records (walk_status walked.end) file'
     walk_ends =
         let s = streams_records reader.records w.input_at_end new file w.file_at_end file' w.records walked.end w.returned w.ends in

@@ -6,7 +6,8 @@ use Rattle.std.proofs.lemmas.Grind.{flat_map-append, take_at_read}
 use Rattle.perfdata_simpleperf.specs.FileRecord.{FileValue, SymbolValue, record_value, symbol_value}
 use Rattle.perfdata_simpleperf.specs.declared.simpleperf.file_record.SimpleperfFileRecord.{SimpleperfFileRecord}
 use Rattle.perfdata_simpleperf.specs.declared.simpleperf.file_record.SimpleperfSymbol.{SimpleperfSymbol}
-use Rattle.perfdata_arrays.specs.Overwrites.{with_entries_at, with_prefix}
+use Rattle.linux_perf_data.specs.RecordEntries.{with_prefix}
+use Rattle.perfdata_arrays.specs.Overwrites.{with_entries_at}
 use Rattle.perfdata_arrays.specs.SymbolTables.{ExceedsU64, SymbolArrays, WritesFiles, WritesFilesOrPrefix, all_symbols_at, dex_offsets_of, file_entries_at, file_entry_at, file_names, symbol_entries_at, symbol_entry_at, symbol_names, totals_after, totals_after_all, zero_totals}
 use Rattle.perfdata_arrays.specs.declared.status.Status.TheVariants.{OutOfMemory}
 use Rattle.perfdata_arrays.specs.declared.symbol_tables.Symbol.{Symbol}

@@ -10,8 +10,8 @@ use Rattle.linux_perf_data.specs.FileOpening.{IsFileError}
 use Rattle.linux_perf_data.specs.OpenedFile.{DescribesFile}
 use Rattle.linux_perf_data.specs.PerfFile.{descriptions_of_file}
 use Rattle.linux_perf_data.specs.PipeOpening.{IsPipeError}
-use Rattle.perfdata_arrays.specs.Overwrites.{with_prefix}
-use Rattle.perfdata_arrays.specs.Records.{IsPipeWithRecords, FailsWithStatus, one_if_some}
+use Rattle.linux_perf_data.specs.RecordEntries.{with_prefix, one_if_some}
+use Rattle.perfdata_arrays.specs.Records.{IsPipeWithRecords, FailsWithStatus}
 use Rattle.perfdata_arrays.specs.declared.attrs.Attr.{Attr}
 use Rattle.perfdata_arrays.specs.declared.attrs.AttrsResult.{AttrsResult}
 use Rattle.perfdata_arrays.specs.declared.status.Status.{Status}

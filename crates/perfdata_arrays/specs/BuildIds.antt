@@ -5,7 +5,7 @@ use Rattle.perfdata_base.specs.RecordType.{cpu_mode_of}
 use Rattle.perfdata_base.specs.declared.raw.Endianness.{Endianness}
 use Rattle.perfdata_records.specs.BuildIdEvent.{BuildIdEntry as Entry, IsTruncatedBuildIdEntry, IsBuildIdEntry}
 use Rattle.perfdata_records.specs.DsoKey.{Key, kernel, guest_kernel, vdso_32, vdso_x32, vdso_64, vsyscall, kernel_module, user, key_of}
-use Rattle.perfdata_arrays.specs.Records.{HasBytesAt}
+use Rattle.linux_perf_data.specs.RecordEntries.{HasBytesAt}
 use Rattle.perfdata_arrays.specs.declared.build_ids.BuildId.{BuildId}
 use Rattle.perfdata_arrays.specs.declared.status.Status.{Status}
 use Rattle.perfdata_arrays.specs.declared.status.Status.TheVariants.{Success, OutOfMemory, Truncated}

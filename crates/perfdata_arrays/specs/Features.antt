@@ -8,7 +8,7 @@ use Rattle.linux_perf_data.specs.FileOpening.{IsFileError}
 use Rattle.linux_perf_data.specs.OpenedFile.{DescribesFile}
 use Rattle.linux_perf_data.specs.PerfFile.{feature_data_in_file}
 use Rattle.linux_perf_data.specs.PipeOpening.{IsPipeError}
-use Rattle.perfdata_arrays.specs.Overwrites.{with_prefix}
+use Rattle.linux_perf_data.specs.RecordEntries.{with_prefix}
 use Rattle.perfdata_arrays.specs.Records.{IsPipeWithRecords, FailsWithStatus}
 use Rattle.perfdata_arrays.specs.declared.features.FeatureResult.{FeatureResult}
 use Rattle.perfdata_arrays.specs.declared.status.Status.TheVariants.{Success}

@@ -9,12 +9,11 @@ use Rattle.perfdata_base.specs.Raw.{bytes_of}
 use Rattle.perfdata_jit.specs.JitRecords.{IsLoad, IsLoadError}
 use Rattle.perfdata_jit.specs.declared.records.JitCodeLoadRecord.{JitCodeLoadRecord}
 use Rattle.std.specs.declared.io.Error.{Error}
-use Rattle.perfdata_arrays.specs.Records.{HasBytesAt}
+use Rattle.linux_perf_data.specs.RecordEntries.{HasBytesAt, with_prefix}
 use Rattle.perfdata_arrays.specs.declared.jit.JitLoad.{JitLoad}
 use Rattle.perfdata_jit.specs.JitHeader.{IsJitHeader, IsJitHeaderError}
 use Rattle.perfdata_jit.specs.declared.error.JitDumpError.{JitDumpError}
 use Rattle.perfdata_jit.specs.declared.header.JitDumpHeader.{JitDumpHeader}
-use Rattle.perfdata_arrays.specs.Overwrites.{with_prefix}
 use Rattle.perfdata_arrays.specs.Status.{jit_error_status}
 use Rattle.perfdata_arrays.specs.declared.status.Status.{Status}
 use Rattle.perfdata_arrays.specs.declared.status.Status.TheVariants.{Success, Truncated, JitBadRecordSize, JitWrongType, JitBadBody}

@@ -11,7 +11,7 @@ use Rattle.perfdata_jit.specs.JitHeader.{IsJitHeader}
 use Rattle.perfdata_jit.specs.declared.header.JitDumpHeader.{JitDumpHeader}
 use Rattle.perfdata_jit.specs.declared.records.JitCodeMoveRecord.{JitCodeMoveRecord}
 use Rattle.perfdata_jit.specs.declared.records.JitCodeUnwindingInfoRecord.{JitCodeUnwindingInfoRecord}
-use Rattle.perfdata_arrays.specs.Records.{HasBytesAt}
+use Rattle.linux_perf_data.specs.RecordEntries.{HasBytesAt}
 use Rattle.perfdata_arrays.specs.Jit.{HasHeaderError, HasWholeRecordAt, header_window}
 use Rattle.perfdata_arrays.specs.declared.status.Status.{Status}
 use Rattle.perfdata_arrays.specs.declared.status.Status.TheVariants.{Success, Truncated, JitBadRecordSize, JitWrongType, JitBadBody}

@@ -11,8 +11,7 @@ use Rattle.perfdata_jit.specs.JitRecords.{IsDebugInfo, IsDebugInfoError}
 use Rattle.perfdata_jit.specs.declared.records.JitCodeDebugInfoEntry.{JitCodeDebugInfoEntry}
 use Rattle.perfdata_jit.specs.declared.records.JitCodeDebugInfoRecord.{JitCodeDebugInfoRecord}
 use Rattle.perfdata_arrays.specs.JitBodies.{FindsBody, IsBodyAt}
-use Rattle.perfdata_arrays.specs.Overwrites.{with_prefix}
-use Rattle.perfdata_arrays.specs.Records.{HasBytesAt}
+use Rattle.linux_perf_data.specs.RecordEntries.{with_prefix, HasBytesAt}
 use Rattle.perfdata_arrays.specs.declared.jit_debug.JitDebugEntry.{JitDebugEntry}
 use Rattle.perfdata_arrays.specs.declared.jit_debug.JitDebugInfoResult.{JitDebugInfoResult}
 use Rattle.perfdata_arrays.specs.declared.status.Status.{Status}

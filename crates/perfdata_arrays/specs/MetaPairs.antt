@@ -3,8 +3,7 @@ use Rattle.std.specs.Prelude.{◌≡◌, ◌⊎◌, ℕ, ◌+◌, ◌≤◌, ◌
 use Rattle.std.specs.Borrow.{Bor}
 use Rattle.perfdata_sections.specs.HeaderString.{before_nul}
 use Rattle.perfdata_simpleperf.specs.MetaInfo.{IsUtf8Pair, Pair, meta_pairs, nul_segments, pair_up}
-use Rattle.perfdata_arrays.specs.Overwrites.{with_prefix}
-use Rattle.perfdata_arrays.specs.Records.{HasBytesAt}
+use Rattle.linux_perf_data.specs.RecordEntries.{with_prefix, HasBytesAt}
 use Rattle.perfdata_arrays.specs.declared.meta_info.MetaInfoResult.{MetaInfoResult}
 use Rattle.perfdata_arrays.specs.declared.meta_info.MetaPair.{MetaPair}
 use Rattle.perfdata_arrays.specs.declared.status.Status.TheVariants.{InvalidUtf8, Success}

@@ -1,11 +1,6 @@
 -- Entries that are written over a prefix of an array.
 use Rattle.std.specs.Prelude.{◌≡◌, ℕ, List, [], ◌∷◌, ◌++◌, length, take, drop}
-
--- Entries over the start of an array, up to its capacity. The elements after them are unchanged.
-abbrev pub with_prefix : {T : Type 0} → List T → List T → List T
-with_prefix [] old = old
-with_prefix (e ∷ es) [] = []
-with_prefix (e ∷ es) (o ∷ os) = e ∷ with_prefix es os
+use Rattle.linux_perf_data.specs.RecordEntries.{with_prefix}
 
 -- the entries from index `first` on, over the start of an array
 abbrev pub with_prefix_from : {T : Type 0} → ℕ → List T → List T → List T

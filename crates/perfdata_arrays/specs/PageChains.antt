@@ -2,23 +2,23 @@
 use Rattle.std.specs.Prelude.{◌≡◌, ◌≢◌, ℕ, ◌<◌, ◌≤◌, List, [], ◌∷◌, ◌++◌, length, take}
 use Rattle.linux_perf_data.specs.declared.in_memory.position.RecordPosition.{RecordPosition}
 use Rattle.perfdata_arrays.specs.Pages.{ReadsFilePage}
-use Rattle.perfdata_arrays.specs.declared.record.Record.{Record}
+use Rattle.linux_perf_data.specs.declared.in_memory.entries.RecordEntry.{RecordEntry}
 use Rattle.perfdata_arrays.specs.declared.records.RecordsResult.{RecordsResult}
 use Rattle.perfdata_arrays.specs.declared.status.Status.TheVariants.{OutOfMemory, Success}
 
 -- A call of `file_records`: its array before it, its result, and the position and the array after it.
 pub record PageCall : Type 0 where
-  pub before : List Record
+  pub before : List RecordEntry
   pub result : RecordsResult
   pub next : RecordPosition
-  pub after : List Record
+  pub after : List RecordEntry
 
 -- the call on a file with this position has this result
 abbrev pub IsCallAt : List ℕ → RecordPosition → PageCall → Type 0
 IsCallAt bytes from call = ReadsFilePage bytes from call.before call.result call.next call.after
 
 -- the entries that a call writes
-abbrev pub written_entries : PageCall → List Record
+abbrev pub written_entries : PageCall → List RecordEntry
 written_entries call = take call.result.count call.after
 
 -- the call succeeds and fills its array
@@ -32,7 +32,7 @@ IsChain bytes from [] last = IsCallAt bytes from last × (last.result.count < le
 IsChain bytes from (call ∷ calls) last = IsCallAt bytes from call × IsFullPage call × IsChain bytes call.next calls last
 
 -- the entries that a chain writes, in order
-abbrev pub chain_entries : List PageCall → PageCall → List Record
+abbrev pub chain_entries : List PageCall → PageCall → List RecordEntry
 chain_entries [] last = written_entries last
 chain_entries (call ∷ calls) last = written_entries call ++ chain_entries calls last
 

@@ -12,10 +12,10 @@ use Rattle.linux_perf_data.specs.InMemoryReading.{NeedsMemoryInPipeOnly, Returns
 use Rattle.linux_perf_data.specs.Layout.{LayoutEnd, LayoutError, RecordView, ends_complete, ends_with_error, truncated_header, size_below_header, end_overflows, truncated_body, compressed_record, aux_body_too_short, aux_end_overflows, truncated_aux_data}
 use Rattle.linux_perf_data.specs.OpenedFile.{DescribesFile}
 use Rattle.linux_perf_data.specs.PerfFile.{attributes_of_file, endian_of_file}
-use Rattle.perfdata_arrays.specs.Overwrites.{with_prefix}
-use Rattle.perfdata_arrays.specs.Records.{FailsWithStatus, HasBodiesAt, WritesRecords, record_entries_at}
+use Rattle.linux_perf_data.specs.RecordEntries.{with_prefix, HasBodiesAt, record_entries_at}
+use Rattle.perfdata_arrays.specs.Records.{FailsWithStatus, WritesRecords}
 use Rattle.perfdata_arrays.specs.Walk.{WalkEnds}
-use Rattle.perfdata_arrays.specs.declared.record.Record.{Record}
+use Rattle.linux_perf_data.specs.declared.in_memory.entries.RecordEntry.{RecordEntry}
 use Rattle.perfdata_arrays.specs.declared.records.PageWalk.{PageWalk}
 use Rattle.perfdata_arrays.specs.declared.records.RecordsResult.{RecordsResult}
 use Rattle.perfdata_arrays.specs.declared.status.Status.{Status}
@@ -25,7 +25,7 @@ use Rattle.perfdata_arrays.specs.declared.status.Status.TheVariants.{BadRecordSi
 
 -- The walk returns these records, and writes and counts their entries. It stops when the array is full, at the end of the records,
 -- or at an error. The next position is after the last of the records.
-pub record WalksPage (old : InMemoryRecords) (file : PerfFile) (before : List Record) (walked : PageWalk) (new : InMemoryRecords) (file' : PerfFile) (after : List Record) : Type 0 where
+pub record WalksPage (old : InMemoryRecords) (file : PerfFile) (before : List RecordEntry) (walked : PageWalk) (new : InMemoryRecords) (file' : PerfFile) (after : List RecordEntry) : Type 0 where
   pub records : List RecordView
   pub input_at_end : InMemoryRecords
   pub file_at_end : PerfFile
@@ -70,7 +70,7 @@ pub record IsPage (bytes : List ℕ) (base : ℕ) (from : RecordPosition) (capac
   pub next_fits : next.offset < 2 ^ 64
 
 -- The result for a page. If the file doesn't open, no record is written, and the position is unchanged.
-pub record ReadsFilePage (bytes : List ℕ) (from : RecordPosition) (old : List Record) (result : RecordsResult) (next : RecordPosition) (new : List Record) : Type 0 where
+pub record ReadsFilePage (bytes : List ℕ) (from : RecordPosition) (old : List RecordEntry) (result : RecordsResult) (next : RecordPosition) (new : List RecordEntry) : Type 0 where
   pub records : List RecordView
   pub base : ℕ
   pub writes : WritesRecords bytes base 0 records old result new

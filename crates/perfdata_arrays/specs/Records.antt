@@ -10,57 +10,13 @@ use Rattle.linux_perf_data.specs.RecordFraming.{IsErrorFor}
 use Rattle.linux_perf_data.specs.PipeOpening.{EndsMetadata, IsPipeError}
 use Rattle.linux_perf_data.specs.PipeReading.{BeginsPipe, HoldsAllMetadata}
 use Rattle.linux_perf_data.specs.Reading.{AreFirstRecords}
+use Rattle.linux_perf_data.specs.RecordEntries.{HasBodiesAt, record_entries_at}
 use Rattle.perfdata_arrays.specs.Overwrites.{with_prefix_from}
 use Rattle.perfdata_arrays.specs.Status.{error_status}
 use Rattle.perfdata_arrays.specs.declared.status.Status.{Status}
 use Rattle.perfdata_arrays.specs.declared.status.Status.TheVariants.{Success}
-use Rattle.perfdata_arrays.specs.declared.record.Record.{Record}
+use Rattle.linux_perf_data.specs.declared.in_memory.entries.RecordEntry.{RecordEntry}
 use Rattle.perfdata_arrays.specs.declared.records.RecordsResult.{RecordsResult}
-
--- ---- entries
-
--- a number, or 0 for `None`
-abbrev pub or_zero : Option ℕ → ℕ
-or_zero None = 0
-or_zero (Some n) = n
-
--- 1 for `Some`, otherwise 0
-abbrev pub one_if_some : {T : Type 0} → Option T → ℕ
-one_if_some None = 0
-one_if_some (Some x) = 1
-
--- the index of a record's attribute, or 0 if it has none
-abbrev pub attr_index_or_zero : Option EventRef → ℕ
-attr_index_or_zero None = 0
-attr_index_or_zero (Some e) = e.index
-
--- The entry of a record. The first record of the input is at offset `base`. The body follows the record header of eight bytes.
-abbrev pub record_entry_at : ℕ → RecordView → Record
-record_entry_at base h = record {
-  offset = h.offset;
-  body_offset = base + h.offset + 8;
-  body_size = length h.body;
-  round = h.round;
-  timestamp = or_zero h.timestamp;
-  attr_index = attr_index_or_zero h.event;
-  record_type = h.record_type;
-  misc = h.misc;
-  has_timestamp = one_if_some h.timestamp;
-  has_attr = one_if_some h.event;
-}
-
--- the entries of several records, in order
-abbrev pub record_entries_at : ℕ → List RecordView → List Record
-record_entries_at base records = map (record_entry_at base) records
-
--- the bytes from an offset on start with this body
-abbrev pub HasBytesAt : List ℕ → ℕ → List ℕ → Type 0
-HasBytesAt bytes offset body = take (length body) (drop offset bytes) ≡ body
-
--- The body of each record is at the offset in its entry.
-abbrev pub HasBodiesAt : List ℕ → ℕ → List RecordView → Type 0
-HasBodiesAt bytes base [] = Unit {0}
-HasBodiesAt bytes base (h ∷ hs) = HasBytesAt bytes (base + h.offset + 8) h.body × HasBodiesAt bytes base hs
 
 -- ---- the status of a call
 
@@ -79,7 +35,7 @@ EndsWithStatus Come records status =
 
 -- The entries of the records from index `first` on are written, up to the capacity of the array. `count` is the number of all
 -- records. Their bodies are at the offsets in their entries.
-pub record WritesRecords (bytes : List ℕ) (base start : ℕ) (records : List RecordView) (old : List Record) (total : RecordsResult) (new : List Record) : Type 0 where
+pub record WritesRecords (bytes : List ℕ) (base start : ℕ) (records : List RecordView) (old : List RecordEntry) (total : RecordsResult) (new : List RecordEntry) : Type 0 where
   pub count : total.count ≡ length records
   pub written : new ≡ with_prefix_from start (record_entries_at base records) old
   pub body_bytes_at : HasBodiesAt bytes base records
@@ -104,7 +60,7 @@ pub record IsPipeWithFirstRecordAt (bytes : List ℕ) (base : ℕ) (records : Li
   pub first_record_at : base + length is.rest ≡ length bytes
 
 -- The result for a pipe's records after its opening, as for a file.
-pub record ReadsPipeRecords (bytes : List ℕ) (start : ℕ) (old : List Record) (total : RecordsResult) (new : List Record) : Type 0 where
+pub record ReadsPipeRecords (bytes : List ℕ) (start : ℕ) (old : List RecordEntry) (total : RecordsResult) (new : List RecordEntry) : Type 0 where
   pub records : List RecordView
   pub base : ℕ
   pub writes : WritesRecords bytes base start records old total new

@@ -12,7 +12,7 @@ use Rattle.perfdata_simpleperf.specs.FileRecord.{FileValue, Info, SymbolValue, d
 use Rattle.perfdata_simpleperf.specs.FileSection.{IsFileSectionOf, FileSectionError, ReportsFileSectionError}
 use Rattle.perfdata_simpleperf.specs.declared.simpleperf.file_record.SimpleperfFileRecord.{SimpleperfFileRecord}
 use Rattle.linux_perf_data.specs.FeatureNumbers.{simpleperf_file2}
-use Rattle.perfdata_arrays.specs.Overwrites.{with_prefix}
+use Rattle.linux_perf_data.specs.RecordEntries.{with_prefix}
 use Rattle.perfdata_arrays.specs.Records.{FailsWithStatus}
 use Rattle.perfdata_arrays.specs.declared.status.Status.TheVariants.{OutOfMemory, Success}
 use Rattle.perfdata_arrays.specs.declared.symbol_tables.Symbol.{Symbol}

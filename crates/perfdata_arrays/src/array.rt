@@ -1,6 +1,7 @@
 //! Functions that write elements into an array, up to its capacity.
 ghost use Rattle.std.specs.Prelude.{◌≡◌, ◌^◌, ◌<◌, length};
-ghost use Rattle.perfdata_arrays.specs.Overwrites.{WritesOneMore, with_entries_at, with_prefix};
+ghost use Rattle.linux_perf_data.specs.RecordEntries.{with_prefix};
+ghost use Rattle.perfdata_arrays.specs.Overwrites.{WritesOneMore, with_entries_at};
 
 /// Writes `entry`, which has index `index`, into an array that begins with entry `start`.
 ///

@@ -15,7 +15,6 @@ pub mod jit_bodies;
 pub mod jit_debug;
 pub mod laws;
 pub mod meta_info;
-pub mod record;
 pub mod records;
 pub mod sort;
 pub mod status;

@@ -2,11 +2,11 @@
 ghost use Rattle.std.specs.Prelude.{◌≡◌};
 ghost use Rattle.perfdata_arrays.specs.Pages.{ReadsFilePage, WalksPage};
 ghost use Rattle.perfdata_arrays.specs.Records.{ReadsPipeRecords};
-ghost use Rattle.perfdata_arrays.specs.Walk.{WalksRecords, walk_status};
+ghost use Rattle.perfdata_arrays.specs.Walk.{ReadsMoreEntries, WalksRecords, walk_status};
 
 use crate::array::write_entry;
-use crate::record::{Record, record_entry};
 use crate::status::{Status, status_of_error};
+use linux_perf_data::in_memory::entries::RecordEntry;
 use linux_perf_data::in_memory::position::RecordPosition;
 use linux_perf_data::in_memory::{InMemoryReader, InMemoryRecords};
 use linux_perf_data::{Error, PerfFile};
@@ -28,21 +28,40 @@ pub(crate) struct WalkResult {
     pub(crate) end: Result<(), Error>,
 }
 
+// Writes the entries of whole records that follow record `count`, those from index `start` on, while they fit in `entries`. Returns
+// their number.
+fn read_more_entries(
+    input: &mut InMemoryRecords<'_>,
+    file: &PerfFile,
+    count: u64,
+    start: u64,
+    entries: &mut [RecordEntry],
+) -> u64
+    ensures { ReadsMoreEntries start count input.old entries.old result input.new entries.new }
+{
+    if count < start || entries.len() as u64 <= count - start {
+        return 0;
+    }
+    let written = (count - start) as usize;
+    input.read_entries(file, &mut entries[written..]) as u64
+}
+
 // Reads all records and writes the entries of the records from index `start` on, up to the capacity of `entries`.
 pub(crate) fn walk(
     input: &mut InMemoryRecords<'_>,
     file: &mut PerfFile,
     start: u64,
-    entries: &mut [Record],
+    entries: &mut [RecordEntry],
 ) -> WalkResult
     ensures { WalksRecords input.old file.old start entries.old result input.new file.new entries.new }
 {
     let first_record_offset = input.first_record_offset();
     let mut count = 0u64;
     'records: loop {
+        count += read_more_entries(input, file, count, start, entries);
         match input.next_record(file) {
             Ok(Some((place, record))) => {
-                let entry = record_entry(first_record_offset, place, &record);
+                let entry = RecordEntry::new(first_record_offset, place, &record);
                 write_entry(entries, count, start, entry);
                 count += 1;
             }
@@ -81,17 +100,21 @@ pub(crate) struct PageWalk {
 pub(crate) fn walk_page(
     input: &mut InMemoryRecords<'_>,
     file: &mut PerfFile,
-    entries: &mut [Record],
+    entries: &mut [RecordEntry],
 ) -> PageWalk
     ensures { WalksPage input.old file.old entries.old result input.new file.new entries.new }
 {
     let first_record_offset = input.first_record_offset();
     let mut count = 0;
     'records: while count < entries.len() {
+        count += read_more_entries(input, file, count as u64, 0, entries) as usize;
+        if count == entries.len() {
+            break;
+        }
         let next = input.position();
         match input.next_record(file) {
             Ok(Some((place, record))) => {
-                entries[count] = record_entry(first_record_offset, place, &record);
+                entries[count] = RecordEntry::new(first_record_offset, place, &record);
                 count += 1;
             }
             Ok(None) => {
@@ -132,7 +155,7 @@ pub fn file_records(
     alloc: Global,
     bytes: &[u8],
     position: &mut RecordPosition,
-    entries: &mut [Record],
+    entries: &mut [RecordEntry],
 ) -> RecordsResult
     ensures { ReadsFilePage bytes.now position.old entries.old result position.new entries.new }
 {
@@ -167,7 +190,7 @@ pub fn pipe_records(
     alloc: Global,
     bytes: &[u8],
     start: u64,
-    entries: &mut [Record],
+    entries: &mut [RecordEntry],
 ) -> RecordsResult
     ensures { ReadsPipeRecords bytes.now start entries.old result entries.new }
 {

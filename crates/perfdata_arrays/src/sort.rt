@@ -2,12 +2,12 @@
 ghost use Rattle.perfdata_arrays.specs.Sorting.{time_or_zero, SortsByTime};
 ghost use Rattle.std.specs.Prelude.{◌≡◌};
 
-use crate::record::Record;
 use crate::status::Status;
+use linux_perf_data::in_memory::entries::RecordEntry;
 use std::alloc::Global;
 
 // The time of a record in nanoseconds, or 0 if it has none.
-fn sort_time(entry: &Record) -> u64
+fn sort_time(entry: &RecordEntry) -> u64
     ensures { result ≡ time_or_zero entry.now }
 {
     if entry.has_timestamp == 0 || entry.timestamp == u64::MAX {
@@ -25,7 +25,7 @@ fn sort_time(entry: &Record) -> u64
 ///
 /// Returns `Status::OutOfMemory` if the allocation of a temporary array fails. The records are then unchanged. Every other result is
 /// `Status::Success`.
-pub fn sort_records(alloc: Global, entries: &mut [Record]) -> Status
+pub fn sort_records(alloc: Global, entries: &mut [RecordEntry]) -> Status
     ensures { SortsByTime entries.old result entries.new }
 {
     match entries.sort_by_key(alloc, sort_time) {

@@ -20,7 +20,7 @@ pub struct ReadBuffer {
     overflow: Vec<u8>,
     overflow_start: usize,
     ghost within: { overflow_start ≤ vec_len overflow },
-    ghost ring_at_front: { overflow_start < vec_len overflow → ring.start ≡ 0 },
+    ghost ring_at_start: { overflow_start < vec_len overflow → ring.start ≡ 0 },
 }
 
 // The position of consumed bytes: a range of the overflow buffer, a range of the ring's buffer, and the length of a prefix

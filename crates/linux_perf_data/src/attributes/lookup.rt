@@ -1,5 +1,5 @@
 //! The attribute of each record, and the parse info of its records, for an iterator.
-ghost use Rattle.std.specs.Prelude.{◌≡◌, ◌<◌, IfOk, length, vec_len};
+ghost use Rattle.std.specs.Prelude.{◌≡◌, ◌<◌, IfOk, IfSome, length, vec_len};
 ghost use Rattle.linux_perf_data.specs.Attribute.{AreConsistent};
 ghost use Rattle.linux_perf_data.specs.Descriptions.{described_attributes, CollectsParseInfos};
 ghost use Rattle.linux_perf_data.specs.IdBounds.{CacheIndicesBelow, ResolvesIds, TableIndicesBelow};
@@ -58,7 +58,7 @@ fn build_table(alloc: Global, attributes: &[AttributeDescription]) -> Result<IdT
 }
 
 impl AttributeLookup {
-    ghost use Rattle.linux_perf_data.specs.AttributeLookup.{AddsAttribute, ChecksNextAttribute, BuildsLookup, KeepsAttributes, ResolvesEvent, ResolvesId, parse_info_at};
+    ghost use Rattle.linux_perf_data.specs.AttributeLookup.{AddsAttribute, ChecksNextAttribute, BuildsLookup, HasOnly, KeepsAttributes, ResolvesEvent, ResolvesId, parse_info_at};
 
     // Builds the lookup of consistent attributes.
     pub(crate) fn new(
@@ -165,6 +165,17 @@ impl AttributeLookup {
         match self.parse_infos.as_slice().get(index) {
             Some(parse_info) => parse_info,
             None => &self.first_parse_info,
+        }
+    }
+
+    // The parse info of the records, if there is one attribute.
+    pub(crate) fn only_parse_info(&self) -> Option<RecordParseInfo>
+        ensures { IfSome result (HasOnly self.now) }
+    {
+        if self.parse_infos.len() == 1 {
+            Some(self.parse_infos[0])
+        } else {
+            None
         }
     }
 

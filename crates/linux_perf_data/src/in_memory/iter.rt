@@ -2,11 +2,12 @@
 ghost use Rattle.std.specs.Prelude.{◌≡◌, []};
 ghost use Rattle.linux_perf_data.specs.InMemory.{EndsOrFails, ProcessesBody, TakesFileRecord, TakesRawRecord, TakesRecord};
 
-use crate::in_memory::framing::{remaining, skip_bytes, take_record_body};
+use crate::in_memory::file_walk::FileWalk;
+use crate::in_memory::framing::{skip_bytes, take_record_body};
 use crate::in_memory::whole_record::take_whole_record;
 use crate::perf_file::PerfFile;
 use crate::pipe::late_metadata::apply_metadata;
-use crate::records::framing::{body_size, peek_record, read_header, record_end};
+use crate::records::framing::{body_size, read_header, record_end};
 use crate::records::input::Input;
 use crate::records::iter::{PerfRecordIter, RecordInfo, Stage};
 use perfdata_base::event::PerfEventHeader;
@@ -111,32 +112,9 @@ fn take_file_record<'a>(
 ) -> Option<(RecordInfo, &'a [u8])>
     ensures { TakesFileRecord iter.old result iter.new }
 {
-    match iter.stage {
-        Stage::Running => {}
-        Stage::Failed => return None,
-        Stage::Ended => return None,
-    }
-    let (offset, round) = (iter.offset, iter.round);
-    match iter.input {
-        Input::Section(size) => {
-            if offset >= size {
-                return None;
-            }
-        }
-        Input::Pipe(_) => return None,
-    }
-    let bytes = remaining(&iter.source);
-    let (header, length) = peek_record(iter.endian, bytes)?;
-    if header.type_ == PERF_RECORD_FINISHED_ROUND {
-        return None;
-    }
-    let end = offset.checked_add(length as u64)?;
-    let position = iter.source.position();
-    iter.source.set_position(position + length as u64);
-    iter.offset = end;
-    let body = &bytes[PerfEventHeader::STRUCT_SIZE..length];
-    let found = RecordInfo::identify(&mut iter.attribute_lookup, body, offset, round, header);
-    Some((found, body))
+    let mut walk = FileWalk::of(iter)?;
+    let next = walk.peek()?;
+    Some(walk.take(iter, next))
 }
 
 // Takes the next record of a file or a pipe, with its body, after the markers before it.

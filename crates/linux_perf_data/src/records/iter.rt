@@ -58,28 +58,49 @@ pub(crate) struct RecordInfo {
 impl RecordInfo {
     ghost use Rattle.perfdata_records.specs.FileRecord.{file_record_body};
     ghost use Rattle.linux_perf_data.specs.RecordViews.{record_view_of, record_view_at, attr_index_by_writer, IdentifiesRecord};
-    ghost use Rattle.linux_perf_data.specs.AttributeLookup.{KeepsAttributes};
+    ghost use Rattle.linux_perf_data.specs.AttributeLookup.{HasOnly, KeepsAttributes};
 
     // Identifies the record with this record header and body, at this offset and in this round.
     #[inline(always)]
     pub(crate) fn identify(
-        known: &mut AttributeLookup,
+        lookup: &mut AttributeLookup,
         body: &[u8],
         offset: u64,
         round: u64,
         header: PerfEventHeader,
     ) -> RecordInfo
-        ensures identifies { IdentifiesRecord known.old offset round header body.now result known.new }
-        ensures keeps_attributes { KeepsAttributes known.old known.new }
+        ensures identifies { IdentifiesRecord lookup.old offset round header body.now result lookup.new }
+        ensures keeps_attributes { KeepsAttributes lookup.old lookup.new }
+    {
+        RecordInfo::identify_with(&None, lookup, body, offset, round, header)
+    }
+
+    // Identifies the record, if `only` is the parse info of the only attribute, or `None`.
+    #[inline(always)]
+    pub(crate) fn identify_with(
+        only: &Option<RecordParseInfo>,
+        lookup: &mut AttributeLookup,
+        body: &[u8],
+        offset: u64,
+        round: u64,
+        header: PerfEventHeader,
+    ) -> RecordInfo
+        requires { IfSome only.now (HasOnly lookup.old) }
+        ensures identifies { IdentifiesRecord lookup.old offset round header body.now result lookup.new }
+        ensures keeps_attributes { KeepsAttributes lookup.old lookup.new }
+        ensures keeps_only { IfSome only.now (HasOnly lookup.new) }
     {
         let record_type = RecordType(header.type_);
         let (writer, timestamp) = match UserRecordType::try_from(record_type) {
             Some(user_type) => (Writer::User(user_type), None),
-            None => {
-                let index = known.attr_index_of(record_type, body);
-                let time = known.parse_info_of(index).time_of(record_type, body);
-                (Writer::Kernel(index), time)
-            }
+            None => match only {
+                Some(parse_info) => (Writer::Kernel(0), parse_info.time_of(record_type, body)),
+                None => {
+                    let index = lookup.attr_index_of(record_type, body);
+                    let time = lookup.parse_info_of(index).time_of(record_type, body);
+                    (Writer::Kernel(index), time)
+                }
+            },
         };
         RecordInfo {
             place: RecordPlace {
@@ -158,13 +179,13 @@ impl<R> PerfRecordIter<R> {
         source: R,
         input: Input,
         endian: Endianness,
-        known: AttributeLookup,
+        attribute_lookup: AttributeLookup,
         stage: Stage,
     ) -> PerfRecordIter<R>
         ensures source { result.source ≡ source }
         ensures input { result.input ≡ input }
         ensures order { result.endian ≡ endian }
-        ensures attribute_lookup { result.attribute_lookup ≡ known }
+        ensures attribute_lookup { result.attribute_lookup ≡ attribute_lookup }
         ensures stage { result.stage ≡ stage }
         ensures starts_at_zero { (result.offset ≡ 0) × (result.round ≡ 0) }
     {
@@ -173,7 +194,7 @@ impl<R> PerfRecordIter<R> {
             source,
             input,
             endian,
-            attribute_lookup: known,
+            attribute_lookup,
             body: Vec::new(alloc),
             offset: 0,
             round: 0,

@@ -1,7 +1,7 @@
 use Rattle.std.proofs.Common.{arith, ap, Ok, Some, ◌∙◌, subst, [], ◌∷◌, ◌++◌, length}
 use Rattle.perfdata_arrays.specs.Jit.{FindsRecord, jit_entries}
 use Rattle.perfdata_arrays.proofs.JitLemmas.{writes_jit_records-snoc}
-use Rattle.perfdata_arrays.proofs.OverwriteLemmas.{length-with_prefix}
+use Rattle.linux_perf_data.proofs.EntryLemmas.{length-with_prefix}
 use Rattle.perfdata_arrays.proofs.jit.jit_records.Goals as goal
 
 pub records-preserved : goal.records-preserved

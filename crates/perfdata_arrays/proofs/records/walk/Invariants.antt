@@ -1,18 +1,10 @@
-use Rattle.std.proofs.Common.{◌≡◌, ◌-◌, ◌^◌, ◌≤◌, List, length}
-use Rattle.linux_perf_data.specs.InMemoryReading.{KeepsInput, ReturnsRecordsInMemory, first_record_offset_of, input_of}
-use Rattle.linux_perf_data.specs.Layout.{RecordView}
-use Rattle.perfdata_arrays.specs.Overwrites.{with_prefix_from}
-use Rattle.perfdata_arrays.specs.Records.{HasBodiesAt, record_entries_at}
+use Rattle.std.proofs.Common.{◌-◌, ◌^◌}
+use Rattle.perfdata_arrays.proofs.WalkLemmas.{ReadSoFar}
 use Rattle.perfdata_arrays.proofs.records.walk.Given as goal
 
 abbrev pub invariant-records : goal.invariant-records
 invariant-records l = record {
-  count_below_offset : l.count ≤ l.input.iter.offset;
-  same_input : KeepsInput l.initial.input l.input;
-  entries_written : (records : List RecordView) × (l.count ≡ length records)
-      × (l.entries ≡ with_prefix_from l.fn.start (record_entries_at (first_record_offset_of l.initial.input) records) l.initial.entries)
-      × ReturnsRecordsInMemory l.initial.input l.initial.file records l.input l.file
-      × HasBodiesAt (input_of l.initial.input) (first_record_offset_of l.initial.input) records;
+  so_far : ReadSoFar l.initial.input l.initial.file l.fn.start l.initial.entries l.count l.input l.file l.entries;
 }
 
 abbrev pub decreases-records : goal.decreases-records

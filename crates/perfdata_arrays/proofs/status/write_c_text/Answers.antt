@@ -1,7 +1,7 @@
 use Rattle.std.proofs.Common.{◌≡◌, ◌-◌, ◌++◌, ◌∷◌, [], ◌∙◌, arith, ap, sym, length, take}
 use Rattle.std.specs.Prelude.{min}
 use Rattle.std.proofs.lemmas.List.{length-take-le}
-use Rattle.perfdata_arrays.specs.Overwrites.{with_prefix}
+use Rattle.linux_perf_data.specs.RecordEntries.{with_prefix}
 use Rattle.perfdata_arrays.proofs.JitLemmas.{take-min}
 use Rattle.perfdata_arrays.proofs.status.write_c_text.Goals as goal
 

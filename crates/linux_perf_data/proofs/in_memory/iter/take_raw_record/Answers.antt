@@ -1,6 +1,5 @@
 use Rattle.std.proofs.Common.{◌≡◌, ap, subst, ◌∙◌}
 use Rattle.linux_perf_data.specs.InMemory.{TakesRawRecord}
-use Rattle.linux_perf_data.specs.InMemoryWholeRecords.{TakesWholeRecord}
 use Rattle.linux_perf_data.proofs.in_memory.iter.take_raw_record.Goals as goal
 
 pub returns-in-Some-clause-raw_record : goal.returns-in-Some-clause-raw_record

@@ -1,4 +1,4 @@
-use Rattle.std.proofs.Common.{rules, arith, ap, ◌≡◌, ◌+◌, ◌-◌, ◌^◌, ◌<◌, ◌==◌, length, take, drop, refl, Some}
+use Rattle.std.proofs.Common.{rules, arith, ◌≡◌, ◌+◌, ◌-◌, ◌^◌, ◌<◌, ◌==◌, length, take, drop, refl, Some}
 use Rattle.std.specs.Prelude.{if◌then◌else◌}
 use Rattle.std.proofs.lemmas.List.{length-drop, length-take}
 use Rattle.std.specs.Io.Cursor.{cursor_inner, cursor_position}
@@ -6,7 +6,7 @@ use Rattle.perfdata_base.specs.Source.{Consumed}
 use Rattle.perfdata_sections.specs.RecordTypes.{finished_round}
 use Rattle.linux_perf_data.specs.BufferedRecord.{WholeRecordLength}
 use Rattle.linux_perf_data.specs.Input.{HasNoPendingHeader}
-use Rattle.linux_perf_data.specs.InMemory.{memory_state, with_buffer}
+use Rattle.linux_perf_data.specs.InMemory.{memory_state}
 use Rattle.linux_perf_data.proofs.InMemoryCalls.{buffer_of}
 use Rattle.linux_perf_data.proofs.WholeRecordsTaken.{body_of_first, first_consumed, whole_record_read}
 use Rattle.linux_perf_data.proofs.in_memory.whole_record.take_whole_record.Goals as goal

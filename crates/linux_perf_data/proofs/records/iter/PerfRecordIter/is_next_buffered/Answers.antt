@@ -1,8 +1,8 @@
 use Rattle.std.proofs.Common.{rules}
 use Rattle.linux_perf_data.specs.Input.{HasNoPendingHeader}
 use Rattle.linux_perf_data.specs.Iter.{TestsMayStart, section_size_of}
-use Rattle.linux_perf_data.proofs.BufferedRecords.{exact_finished, exact_next, not_over, section_over, visible_in, tests_finished}
-use Rattle.std.specs.Prelude.{true, false}
+use Rattle.linux_perf_data.proofs.BufferedRecords.{exact_finished, section_over, visible_in, tests_finished}
+use Rattle.std.specs.Prelude.{false}
 use Rattle.linux_perf_data.proofs.records.iter.PerfRecordIter.is_next_buffered.Goals as goal
 
 pub returns-then-not-may_start_record-clause-prefix_of_remaining : goal.returns-then-not-may_start_record-clause-prefix_of_remaining

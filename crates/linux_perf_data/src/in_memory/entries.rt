@@ -1,0 +1,147 @@
+//! Records in memory as entries of an array: plain numbers that outlive the reader.
+ghost use Rattle.std.specs.Prelude.{◌≡◌, ◌+◌, ◌<◌, ◌^◌, length};
+ghost use Rattle.linux_perf_data.specs.FileWalk.{IsWalkOf};
+ghost use Rattle.linux_perf_data.specs.InMemoryReading.{input_of};
+ghost use Rattle.linux_perf_data.specs.RecordEntries.{record_entry_at};
+ghost use Rattle.linux_perf_data.specs.RecordViews.{record_view_of};
+
+use crate::in_memory::InMemoryRecords;
+use crate::in_memory::file_walk::{FileWalk, WholeRecord};
+use crate::perf_file::PerfFile;
+use crate::records::iter::RecordPlace;
+use perfdata_base::event::PerfEventHeader;
+use perfdata_base::raw::RawData;
+use perfdata_parts::record::PerfFileRecord;
+
+/// The position and the header fields of a record, as plain numbers.
+#[repr(C)]
+#[derive(Clone, Copy, Debug, PartialEq, Eq)]
+pub struct RecordEntry {
+    /// The offset of the record in bytes, counted from the first record.
+    pub offset: u64,
+    /// The offset of the record's body in bytes, counted from the start of the input.
+    pub body_offset: u64,
+    /// The size of the body in bytes, including aux data.
+    pub body_size: u64,
+    /// The number of round markers (FINISHED_ROUND) before the record.
+    pub round: u64,
+    /// The time at which the record was written, in nanoseconds of the recording's clock; 0 if it has no time.
+    pub timestamp: u64,
+    /// The index of the record's attribute; 0 if it has none.
+    pub attr_index: u64,
+    /// The record's type.
+    pub record_type: u32,
+    /// The misc flags of the record header.
+    pub misc: u16,
+    /// 1 if the record has a time, otherwise 0.
+    pub has_timestamp: u8,
+    /// 1 if the kernel wrote the record for an attribute, 0 if a tool wrote it.
+    pub has_attr: u8,
+}
+
+const _: () = prove!(size_of::<RecordEntry>() == 56);
+
+impl RecordEntry {
+    /// Returns the entry of a record.
+    ///
+    /// `first_record_offset` is the offset of the first record in the input, in bytes.
+    #[inline(always)]
+    pub fn new(
+        first_record_offset: u64,
+        place: RecordPlace,
+        file_record: &PerfFileRecord<'_>,
+    ) -> RecordEntry
+        requires fits { first_record_offset + place.offset + 8 < 2 ^ 64 }
+        ensures { result ≡ record_entry_at first_record_offset (record_view_of place file_record.now) }
+    {
+        let (timestamp, has_timestamp) = match place.timestamp {
+            Some(timestamp) => (timestamp, 1),
+            None => (0, 0),
+        };
+        let body_offset = first_record_offset + place.offset + PerfEventHeader::STRUCT_SIZE as u64;
+        match file_record {
+            PerfFileRecord::EventRecord { attr_index, event } => RecordEntry {
+                offset: place.offset,
+                body_offset,
+                body_size: event.body.len() as u64,
+                round: place.round,
+                timestamp,
+                attr_index: *attr_index as u64,
+                record_type: event.record_type.0,
+                misc: event.misc,
+                has_timestamp,
+                has_attr: 1,
+            },
+            PerfFileRecord::UserRecord(user) => RecordEntry {
+                offset: place.offset,
+                body_offset,
+                body_size: user.body.len() as u64,
+                round: place.round,
+                timestamp,
+                attr_index: 0,
+                record_type: user.record_type.record_type().0,
+                misc: user.misc,
+                has_timestamp,
+                has_attr: 0,
+            },
+        }
+    }
+}
+
+impl<'a> InMemoryRecords<'a> {
+    ghost use Rattle.linux_perf_data.specs.declared.perf_file.PerfFile.{PerfFile};
+    ghost use Rattle.linux_perf_data.specs.FileWalk.{IsNextRecord};
+    ghost use Rattle.linux_perf_data.specs.InMemoryReading.{KeepsInput, ReturnsRecordInMemory};
+    ghost use Rattle.linux_perf_data.specs.RecordEntries.{ReadsEntries};
+
+    // Takes the next record of a walk over the records.
+    #[inline(always)]
+    fn take_whole_record(
+        &mut self,
+        walk: &mut FileWalk<'a>,
+        next: WholeRecord,
+    ) -> (RecordPlace, PerfFileRecord<'a>)
+        requires walk { IsWalkOf self.old.iter walk.old }
+        requires next { IsNextRecord walk.old next }
+        ensures returns { (file : PerfFile) → ReturnsRecordInMemory self.old file result.0 result.1 self.new file }
+        ensures walk { IsWalkOf self.new.iter walk.new }
+        ensures same_input { KeepsInput self.old self.new }
+        ensures input_len_fits { length (input_of self.old) < 2 ^ 63 }
+    {
+        // For the prover.
+        let _size = self.input.len();
+        let (found, body) = walk.take(&mut self.iter, next);
+        let endian = self.iter.endian;
+        let parse_info = *self.iter.attribute_lookup.parse_info_of(found.attr_index());
+        let record = found.into_record(parse_info, endian, RawData::Single(body));
+        (found.place, record)
+    }
+
+    /// Writes the entries of the next records of a file, and returns their number.
+    ///
+    /// Writes at most as many entries as `entries` has capacity for. Stops before a round marker, before a record that is
+    /// truncated or in error, and at the end of the records: then [`InMemoryRecords::next_record`] returns the next record, the
+    /// error or the end. Reads nothing from a pipe. The elements after the last written entry are unchanged.
+    ///
+    /// `perf_file` is the metadata of the file. Records of a file don't change it.
+    pub fn read_entries(&mut self, perf_file: &PerfFile, entries: &mut [RecordEntry]) -> usize
+        ensures { ReadsEntries self.old entries.old result self.new entries.new }
+    {
+        let mut walk = match FileWalk::of(&self.iter) {
+            Some(walk) => walk,
+            None => return 0,
+        };
+        let first_record_offset = self.first_record_offset;
+        let mut count = 0;
+        'records: while count < entries.len() {
+            let next = match walk.peek() {
+                Some(next) => next,
+                None => break,
+            };
+            let (place, record) = self.take_whole_record(&mut walk, next);
+            entries[count] = RecordEntry::new(first_record_offset, place, &record);
+            count += 1;
+        }
+        count
+    }
+}

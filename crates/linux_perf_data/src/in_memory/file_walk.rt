@@ -1,0 +1,105 @@
+//! A walk over the whole records of a file in memory. It has what it reads for each record in values of its own, which stay in
+//! registers.
+ghost use Rattle.std.specs.Prelude.{IfSome, Some};
+ghost use Rattle.linux_perf_data.specs.InMemory.{TakesFileRecord};
+ghost use Rattle.linux_perf_data.specs.FileWalk.{IsNextRecord, IsWalkOf, MovesInPlace};
+
+use crate::in_memory::framing::remaining;
+use crate::records::framing::peek_record;
+use crate::records::input::Input;
+use crate::records::iter::{PerfRecordIter, RecordInfo, Stage};
+use perfdata_base::event::PerfEventHeader;
+use perfdata_base::place::RecordParseInfo;
+use perfdata_base::raw::Endianness;
+use perfdata_parts::constants::PERF_RECORD_FINISHED_ROUND;
+use std::io::Cursor;
+
+// The state of a running iterator over a file.
+#[derive(Clone, Copy)]
+pub(crate) struct FileWalk<'a> {
+    endian: Endianness,
+    section_size: u64,
+    round: u64,
+    offset: u64,
+    remaining: &'a [u8],
+    // The parse info of the only attribute. `None` if there are several.
+    only_parse_info: Option<RecordParseInfo>,
+}
+
+// A whole record that is no marker: its header, its size with aux data, and its end offset.
+#[derive(Clone, Copy)]
+pub(crate) struct WholeRecord {
+    header: PerfEventHeader,
+    length: usize,
+    end: u64,
+}
+
+impl<'a> FileWalk<'a> {
+    // The walk from the next record on. `None` if the iterator isn't running, or if it reads a pipe.
+    pub(crate) fn of(iter: &PerfRecordIter<Cursor<&'a [u8]>>) -> Option<FileWalk<'a>>
+        ensures { IfSome result (λ walk. IsWalkOf iter.now walk) }
+    {
+        match iter.stage {
+            Stage::Running => {}
+            Stage::Failed => return None,
+            Stage::Ended => return None,
+        }
+        match iter.input {
+            Input::Section(section_size) => Some(FileWalk {
+                endian: iter.endian,
+                section_size,
+                round: iter.round,
+                offset: iter.offset,
+                remaining: remaining(&iter.source),
+                only_parse_info: iter.attribute_lookup.only_parse_info(),
+            }),
+            Input::Pipe(_) => None,
+        }
+    }
+
+    // The next record, if the remaining bytes start with a whole one that is no marker.
+    #[inline(always)]
+    pub(crate) fn peek(&self) -> Option<WholeRecord>
+        ensures { IfSome result (IsNextRecord self.now) }
+    {
+        if self.offset >= self.section_size {
+            return None;
+        }
+        let (header, length) = peek_record(self.endian, self.remaining)?;
+        if header.type_ == PERF_RECORD_FINISHED_ROUND {
+            return None;
+        }
+        let end = self.offset.checked_add(length as u64)?;
+        Some(WholeRecord {
+            header,
+            length,
+            end,
+        })
+    }
+
+    // Takes the next record, with its body.
+    #[inline(always)]
+    pub(crate) fn take(
+        &mut self,
+        iter: &mut PerfRecordIter<Cursor<&'a [u8]>>,
+        next: WholeRecord,
+    ) -> (RecordInfo, &'a [u8])
+        requires walk { IsWalkOf iter.old self.old }
+        requires next { IsNextRecord self.old next }
+        ensures taken { TakesFileRecord iter.old (Some result) iter.new }
+        ensures in_place { MovesInPlace iter.old iter.new }
+        ensures walk { IsWalkOf iter.new self.new }
+    {
+        let (offset, bytes) = (self.offset, self.remaining);
+        let position = iter.source.position();
+        iter.source.set_position(position + next.length as u64);
+        iter.offset = next.end;
+        self.offset = next.end;
+        self.remaining = &bytes[next.length..];
+        let body = &bytes[PerfEventHeader::STRUCT_SIZE..next.length];
+        let lookup = &mut iter.attribute_lookup;
+        let only = &self.only_parse_info;
+        let found = RecordInfo::identify_with(only, lookup, body, offset, self.round, next.header);
+        (found, body)
+    }
+}
