@@ -23,6 +23,7 @@ pub record IsWalkOf (it : MemoryIter) (walk : FileWalk) : Type 0 where
   pub remaining_fits : length walk.remaining.now < 2 ^ 63
   pub end_fits : walk.remaining.now ≢ [] → cursor_position it.source + length walk.remaining.now < 2 ^ 63
   pub only_parse_info : IfSome walk.only_parse_info (HasOnly it.attribute_lookup)
+  pub only_order : IfSome walk.only_parse_info (λ p. p.endian ≡ walk.endian)
 
 -- The remaining bytes start with this record, which isn't a marker.
 pub record IsNextRecord (walk : FileWalk) (next : WholeRecord) : Type 0 where

@@ -10,7 +10,7 @@ use crate::in_memory::file_walk::{FileWalk, WholeRecord};
 use crate::perf_file::PerfFile;
 use crate::records::iter::RecordPlace;
 use perfdata_base::event::PerfEventHeader;
-use perfdata_base::raw::RawData;
+use perfdata_base::raw::{Endianness, RawData};
 use perfdata_parts::record::PerfFileRecord;
 
 /// The position and the header fields of a record, as plain numbers.
@@ -127,10 +127,34 @@ impl<'a> InMemoryRecords<'a> {
     pub fn read_entries(&mut self, perf_file: &PerfFile, entries: &mut [RecordEntry]) -> usize
         ensures { ReadsEntries self.old entries.old result self.new entries.new }
     {
-        let mut walk = match FileWalk::of(&self.iter) {
+        let walk = match FileWalk::of(&self.iter) {
             Some(walk) => walk,
             None => return 0,
         };
+        // One loop for each byte order.
+        match walk.endian() {
+            Endianness::LittleEndian => {
+                let walk = walk.in_order(Endianness::LittleEndian);
+                self.read_entries_of(walk, perf_file, entries)
+            }
+            Endianness::BigEndian => {
+                let walk = walk.in_order(Endianness::BigEndian);
+                self.read_entries_of(walk, perf_file, entries)
+            }
+        }
+    }
+
+    // Writes the entries of the next records of a walk.
+    #[inline(always)]
+    fn read_entries_of(
+        &mut self,
+        mut walk: FileWalk<'a>,
+        perf_file: &PerfFile,
+        entries: &mut [RecordEntry],
+    ) -> usize
+        requires { IsWalkOf self.old.iter walk }
+        ensures { ReadsEntries self.old entries.old result self.new entries.new }
+    {
         let first_record_offset = self.first_record_offset;
         let mut count = 0;
         'records: while count < entries.len() {

@@ -1,6 +1,6 @@
 //! A walk over the whole records of a file in memory. It has what it reads for each record in values of its own, which stay in
 //! registers.
-ghost use Rattle.std.specs.Prelude.{IfSome, Some};
+ghost use Rattle.std.specs.Prelude.{◌≡◌, IfSome, Some};
 ghost use Rattle.linux_perf_data.specs.InMemory.{TakesFileRecord};
 ghost use Rattle.linux_perf_data.specs.FileWalk.{IsNextRecord, IsWalkOf, MovesInPlace};
 
@@ -22,8 +22,25 @@ pub(crate) struct FileWalk<'a> {
     round: u64,
     offset: u64,
     remaining: &'a [u8],
-    // The parse info of the only attribute. `None` if there are several.
+    // The parse info of the only attribute, in this byte order. `None` if there are several.
     only_parse_info: Option<RecordParseInfo>,
+}
+
+// The parse info, if its numbers have this byte order.
+fn parse_info_in(endian: Endianness, parse_info: Option<RecordParseInfo>) -> Option<RecordParseInfo>
+    ensures same { IfSome result (λ p. parse_info ≡ Some p) }
+    ensures order { IfSome result (λ p. p.endian ≡ endian) }
+{
+    match parse_info {
+        Some(parse_info) => {
+            if parse_info.endian == endian {
+                Some(parse_info)
+            } else {
+                None
+            }
+        }
+        None => None,
+    }
 }
 
 // A whole record that is no marker: its header, its size with aux data, and its end offset.
@@ -51,9 +68,47 @@ impl<'a> FileWalk<'a> {
                 round: iter.round,
                 offset: iter.offset,
                 remaining: remaining(&iter.source),
-                only_parse_info: iter.attribute_lookup.only_parse_info(),
+                only_parse_info: parse_info_in(
+                    iter.endian,
+                    iter.attribute_lookup.only_parse_info(),
+                ),
             }),
             Input::Pipe(_) => None,
+        }
+    }
+
+    // The byte order of the numbers.
+    #[inline(always)]
+    pub(crate) fn endian(&self) -> Endianness
+        ensures { result ≡ self.now.endian }
+    {
+        self.endian
+    }
+
+    // The same walk, with the byte order as a value that the compiler knows.
+    #[inline(always)]
+    pub(crate) fn in_order(self, endian: Endianness) -> FileWalk<'a>
+        requires same { endian ≡ self.endian }
+        requires only { IfSome self.only_parse_info (λ p. p.endian ≡ endian) }
+        ensures { result ≡ self.entry }
+    {
+        let only_parse_info = match self.only_parse_info {
+            Some(parse_info) => Some(RecordParseInfo {
+                endian,
+                sample_format: parse_info.sample_format,
+                id_parse_info: parse_info.id_parse_info,
+                sample_time_from_start: parse_info.sample_time_from_start,
+                other_time_from_end: parse_info.other_time_from_end,
+            }),
+            None => None,
+        };
+        FileWalk {
+            endian,
+            section_size: self.section_size,
+            round: self.round,
+            offset: self.offset,
+            remaining: self.remaining,
+            only_parse_info,
         }
     }
 

@@ -10,7 +10,7 @@ ghost use Rattle.linux_perf_data.specs.RecordFraming.{ChecksBodySize, ChecksReco
 
 use crate::records::input::{Input, next_header_bytes};
 use perfdata_base::endian::read_u64;
-use perfdata_base::event::PerfEventHeader;
+use perfdata_base::event::{PerfEventHeader, RecordType};
 use perfdata_base::raw::Endianness;
 use perfdata_base::source::{AppendError, Source, append_up_to, skip_up_to, unexpected_eof};
 use perfdata_parts::auxtrace::Auxtrace;
@@ -61,7 +61,14 @@ pub(crate) fn peek_record(endian: Endianness, bytes: &[u8]) -> Option<(PerfEvent
         Err(_) => return None,
     };
     let size = header.size as usize;
-    if bytes.len() < size || is_compressed(header.type_) {
+    if bytes.len() < size {
+        return None;
+    }
+    // No record of the kernel is compressed or has aux data.
+    if RecordType(header.type_).is_builtin_type() {
+        return Some((header, size));
+    }
+    if is_compressed(header.type_) {
         return None;
     }
     if header.type_ != PERF_RECORD_AUXTRACE {

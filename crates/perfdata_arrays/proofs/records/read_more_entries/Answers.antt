@@ -25,7 +25,7 @@ returns c =
       fits = λ within. (let fits = step.fits in let more = step.count_is in omega (arith, fits, more, has_room, after_start, length-take free (drop written before), length-drop written before));
       written = λ done array is held.
           (let same : written ≡ length done - start = omega (arith, is) in
-           part ∙ ap (with_entries_at written es) held ∙ ap (λ n. with_entries_at n es (with_prefix_from start done array)) same ∙ with_prefix_from-more start done es array (omega (arith, is, after_start)));
+          part ∙ ap (with_entries_at written es) held ∙ ap (λ n. with_entries_at n es (with_prefix_from start done array)) same ∙ with_prefix_from-more start done es array (omega (arith, is, after_start)));
       body_bytes_at = step.body_bytes_at;
       same_input = step.same_input;
     }

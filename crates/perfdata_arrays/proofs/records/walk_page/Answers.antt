@@ -57,7 +57,7 @@ returns-in-Ok-None c =
     let count = so_far.count_is in
     let base = first_record_offset_of c.args.input.now in
     let free : length so_far.records < length array = (let test = c.records-test.true in let other = c.if-count-entries.false in let fits = more.fits in let same = ap length before.so_far.written in let all = ap length so_far.written in
-        omega (arith, count, other, test, fits (omega (arith, test)), same, all, length-with_prefix (record_entries_at base before.so_far.records) array, length-with_prefix (record_entries_at base so_far.records) array)) in
+    omega (arith, count, other, test, fits (omega (arith, test)), same, all, length-with_prefix (record_entries_at base before.so_far.records) array, length-with_prefix (record_entries_at base so_far.records) array)) in
     record { records = so_far.records; input_at_end = c.read_more_entries.new.input; file_at_end = c.records.file; returned = so_far.returned; next = c.position-next.ensures; count = count; fits = omega (arith, free); written = so_far.written; body_bytes_at = so_far.body_bytes_at; ends = inr (free, ended, tt) }
 
 pub returns-in-Err : goal.returns-in-Err
@@ -71,7 +71,7 @@ returns-in-Err c =
     let count = so_far.count_is in
     let base = first_record_offset_of c.args.input.now in
     let free : length so_far.records < length array = (let test = c.records-test.true in let other = c.if-count-entries.false in let fits = more.fits in let same = ap length before.so_far.written in let all = ap length so_far.written in
-        omega (arith, count, other, test, fits (omega (arith, test)), same, all, length-with_prefix (record_entries_at base before.so_far.records) array, length-with_prefix (record_entries_at base so_far.records) array)) in
+    omega (arith, count, other, test, fits (omega (arith, test)), same, all, length-with_prefix (record_entries_at base before.so_far.records) array, length-with_prefix (record_entries_at base so_far.records) array)) in
     record { records = so_far.records; input_at_end = c.read_more_entries.new.input; file_at_end = c.records.file; returned = so_far.returned; next = c.position-next.ensures; count = count; fits = omega (arith, free); written = so_far.written; body_bytes_at = so_far.body_bytes_at; ends = inr (free, failed, needs) }
 
 pub returns : goal.returns

@@ -4,7 +4,7 @@ use Rattle.linux_perf_data.specs.FileWalk.{IsWalkOf}
 use Rattle.linux_perf_data.specs.InMemoryReading.{KeepsInput, ReturnsRecordsInMemory, first_record_offset_of, input_of}
 use Rattle.linux_perf_data.specs.Layout.{RecordView}
 use Rattle.linux_perf_data.specs.RecordEntries.{HasBodiesAt, record_entries_at, with_prefix}
-use Rattle.linux_perf_data.proofs.in_memory.InMemoryRecords.read_entries.Given as goal
+use Rattle.linux_perf_data.proofs.in_memory.InMemoryRecords.read_entries_of.Given as goal
 
 abbrev pub invariant-records : goal.invariant-records
 invariant-records l = record {

@@ -6,10 +6,10 @@ use Rattle.linux_perf_data.specs.RecordEntries.{HasBytesAt, record_entries_at, r
 use Rattle.linux_perf_data.specs.RecordViews.{record_view_of}
 use Rattle.linux_perf_data.proofs.EntryLemmas.{body-returned, has_bodies-snoc, length-with_prefix, with_prefix-snoc}
 use Rattle.linux_perf_data.proofs.InMemoryReadings.{one_call_more}
-use Rattle.linux_perf_data.proofs.in_memory.InMemoryRecords.read_entries.Goals as goal
+use Rattle.linux_perf_data.proofs.in_memory.InMemoryRecords.read_entries_of.Goals as goal
 
 pub records-init : goal.records-init
-records-init c = record { is_walk = rw c.in-Some.is at c.of.ensures; same_input = record { input = refl; first_record_offset = refl }; entries_written = ([], refl, omega arith, refl, λ file. (refl, refl), tt) }
+records-init c = record { is_walk = c.requires; same_input = record { input = refl; first_record_offset = refl }; entries_written = ([], refl, omega arith, refl, λ file. (refl, refl), tt) }
 
 pub new-requires : goal.new-requires
 new-requires c =
@@ -51,8 +51,8 @@ records-preserved c =
       );
     }
 
-pub returns-in-None-peek : goal.returns-in-None-peek
-returns-in-None-peek c =
+pub returns-in-None : goal.returns-in-None
+returns-in-None c =
     let before = c.records.invariant in
     record { records = before.entries_written.0; returned = before.entries_written.4; count_is = before.entries_written.1; fits = before.entries_written.2; written = before.entries_written.3; body_bytes_at = before.entries_written.5; same_input = before.same_input }
 
