@@ -21,20 +21,20 @@ use Rattle.perfdata_order.specs.Entries.{with_value, entries_by, uses_of, values
 abbrev use_of : {K : Type 0} → ℕ → K × ℕ → ℕ
 use_of slot e = if e.1 == slot then 1 else 0
 
-abbrev bit : Bool → ℕ
+abbrev pub bit : Bool → ℕ
 bit b = if b then 1 else 0
 
-use_same : (a b : ℕ) → a ≡ b → bit (a == b) ≡ 1
+pub use_same : (a b : ℕ) → a ≡ b → bit (a == b) ≡ 1
 use_same a b same = grind (arith, nat_tests)
 
-use_other : (a b : ℕ) → a ≢ b → bit (a == b) ≡ 0
+pub use_other : (a b : ℕ) → a ≢ b → bit (a == b) ≡ 0
 use_other a b other = grind (arith, nat_tests)
 
 decided : (a b : ℕ) (r : Bool) → (a == b) ≡ r → (a ≡ b) ⊎ (a ≢ b)
 decided a b true is = inl ((Decides-eqb a b).0 is)
 decided a b false is = inr (λ same. let is' = (Decides-eqb a b).1 same in cc)
 
-same_or_other : (a b : ℕ) → (a ≡ b) ⊎ (a ≢ b)
+pub same_or_other : (a b : ℕ) → (a ≡ b) ⊎ (a ≢ b)
 same_or_other a b = decided a b (a == b) refl
 
 none_left : {K : Type 0} (fs : List (K × ℕ)) → length fs ≡ 0 → fs ≡ []

@@ -2,6 +2,8 @@ pub mod Entries
 pub mod Sorting
 pub mod LayoutRounds
 pub mod SorterCalls
+pub mod Blocks
+pub mod HeldLemmas
 pub mod AscendingRuns
 pub mod RoundRule
 pub mod Steps

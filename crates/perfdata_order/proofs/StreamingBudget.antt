@@ -96,45 +96,45 @@ module _ {R : Type 0} (state : R → State) where
 
   record Within (budget : ℕ) (s : OrderedRecords R) : Type 0 where
     same_budget : budget_of s ≡ budget
-    counts_all : held_bytes_of s ≡ total_of (held_of s.sorter)
-    within : IsWithin budget (held_of s.sorter)
+    counts_all : held_bytes_of s ≡ total_of (held_of s.held.sorter)
+    within : IsWithin budget (held_of s.held.sorter)
 
   same_within : (budget : ℕ) (old new : List (ℕ × HeldRecord)) → total_of new ≡ total_of old → length new ≡ length old → IsWithin budget old → IsWithin budget new
   same_within budget old new same same_length (inl le) = inl (subst (λ n. n ≤ budget) (sym same) le)
   same_within budget old new same same_length (inr le) = inr (subst (λ n. n ≤ 1) (sym same_length) le)
 
-  kept_within : (budget : ℕ) (s t : OrderedRecords R) → budget_of t ≡ budget_of s → held_bytes_of t ≡ held_bytes_of s → total_of (held_of t.sorter) ≡ total_of (held_of s.sorter)
-      → length (held_of t.sorter) ≡ length (held_of s.sorter) → Within budget s → Within budget t
+  kept_within : (budget : ℕ) (s t : OrderedRecords R) → budget_of t ≡ budget_of s → held_bytes_of t ≡ held_bytes_of s → total_of (held_of t.held.sorter) ≡ total_of (held_of s.held.sorter)
+      → length (held_of t.held.sorter) ≡ length (held_of s.held.sorter) → Within budget s → Within budget t
   kept_within budget s t same bytes total same_length w = record {
     same_budget = same ∙ w.same_budget;
     counts_all = bytes ∙ w.counts_all ∙ sym total;
-    within = same_within budget (held_of s.sorter) (held_of t.sorter) total same_length w.within;
+    within = same_within budget (held_of s.held.sorter) (held_of t.held.sorter) total same_length w.within;
   }
 
-  held_within : (budget : ℕ) (s t : OrderedRecords R) → budget_of t ≡ budget_of s → held_bytes_of t ≡ held_bytes_of s → held_of t.sorter ≡ held_of s.sorter → Within budget s → Within budget t
+  held_within : (budget : ℕ) (s t : OrderedRecords R) → budget_of t ≡ budget_of s → held_bytes_of t ≡ held_bytes_of s → held_of t.held.sorter ≡ held_of s.held.sorter → Within budget s → Within budget t
   held_within budget s t same bytes held w = kept_within budget s t same bytes (ap (λ es. total_of es) held) (ap length held) w
 
-  sorted_within : (budget : ℕ) (s t : OrderedRecords R) → budget_of t ≡ budget_of s → held_bytes_of t ≡ held_bytes_of s → IsPermutation (held_of s.sorter) (held_of t.sorter) → Within budget s → Within budget t
+  sorted_within : (budget : ℕ) (s t : OrderedRecords R) → budget_of t ≡ budget_of s → held_bytes_of t ≡ held_bytes_of s → IsPermutation (held_of s.held.sorter) (held_of t.held.sorter) → Within budget s → Within budget t
   sorted_within budget s t same bytes permuted w =
-      kept_within budget s t same bytes (sum_by-IsPermutation (λ e. size_of e) (held_of s.sorter) (held_of t.sorter) permuted) (length_permutation (held_of s.sorter) (held_of t.sorter) permuted) w
+      kept_within budget s t same bytes (sum_by-IsPermutation (λ e. size_of e) (held_of s.held.sorter) (held_of t.held.sorter) permuted) (length_permutation (held_of s.held.sorter) (held_of t.held.sorter) permuted) w
 
   -- ---- an insertion
 
-  counted_within : (budget : ℕ) (s t : OrderedRecords R) (key : ℕ) (held : HeldRecord) → InsertsPending s key held t → held_of t.sorter ≡ held_of s.sorter ++ (key, held) ∷ [] → held_bytes_of s + size_of (key, held) < 2 ^ 64
-      → IsWithin budget (held_of t.sorter) → Within budget s → Within budget t
+  counted_within : (budget : ℕ) (s t : OrderedRecords R) (key : ℕ) (held : HeldRecord) → InsertsPending s key held t → held_of t.held.sorter ≡ held_of s.held.sorter ++ (key, held) ∷ [] → held_bytes_of s + size_of (key, held) < 2 ^ 64
+      → IsWithin budget (held_of t.held.sorter) → Within budget s → Within budget t
   counted_within budget s t key held step more fits within w = record {
     same_budget = step.budget ∙ w.same_budget;
-    counts_all = step.held_bytes fits ∙ ap (λ n. n + size_of (key, held)) w.counts_all ∙ sym (ap (λ es. total_of es) more ∙ sum_by_push (λ e. size_of e) (held_of s.sorter) (key, held));
+    counts_all = step.held_bytes fits ∙ ap (λ n. n + size_of (key, held)) w.counts_all ∙ sym (ap (λ es. total_of es) more ∙ sum_by_push (λ e. size_of e) (held_of s.held.sorter) (key, held));
     within = within;
   }
 
-  inserted_within : (budget : ℕ) (s t : OrderedRecords R) (key : ℕ) (held : HeldRecord) → 0 < budget → budget < 2 ^ 64 → InsertsPending s key held t → held_of t.sorter ≡ held_of s.sorter ++ (key, held) ∷ []
+  inserted_within : (budget : ℕ) (s t : OrderedRecords R) (key : ℕ) (held : HeldRecord) → 0 < budget → budget < 2 ^ 64 → InsertsPending s key held t → held_of t.held.sorter ≡ held_of s.held.sorter ++ (key, held) ∷ []
       → FitsBudget s (size_of (key, held)) → Within budget s → Within budget t
   inserted_within budget s t key held some fits step more (inl none) w = let same = w.same_budget in absurd (omega (arith, some, none, same))
   inserted_within budget s t key held some fits step more (inr (inl admission)) w =
       let same = w.same_budget in
       let all = w.counts_all in
-      let total = ap (λ es. total_of es) more ∙ sum_by_push (λ e. size_of e) (held_of s.sorter) (key, held) in
+      let total = ap (λ es. total_of es) more ∙ sum_by_push (λ e. size_of e) (held_of s.held.sorter) (key, held) in
       counted_within budget s t key held step more (omega (arith, admission, same, fits)) (inl (omega (arith, admission, same, all, total))) w
   inserted_within budget s t key held some fits step more (inr (inr empty)) w =
       let none : held_bytes_of s ≡ 0 = w.counts_all ∙ ap (λ es. total_of es) empty in
@@ -148,16 +148,16 @@ module _ {R : Type 0} (state : R → State) where
   fewer_within budget old new less fewer (inl le) = inl (omega (arith, less, le))
   fewer_within budget old new less fewer (inr le) = inr (omega (arith, fewer, le))
 
-  returned_within : (budget : ℕ) (s t : OrderedRecords R) (key : ℕ) (held : HeldRecord) → ReturnsSorted s key held t → held_of s.sorter ≡ (key, held) ∷ held_of t.sorter → Within budget s → Within budget t
+  returned_within : (budget : ℕ) (s t : OrderedRecords R) (key : ℕ) (held : HeldRecord) → ReturnsSorted s key held t → held_of s.held.sorter ≡ (key, held) ∷ held_of t.held.sorter → Within budget s → Within budget t
   returned_within budget s t key held step less w =
-      let total = ap (λ es. total_of es) less ∙ sum_by-cons (λ e. size_of e) (key, held) (held_of t.sorter) in
+      let total = ap (λ es. total_of es) less ∙ sum_by-cons (λ e. size_of e) (key, held) (held_of t.held.sorter) in
       let count = ap length less in
       let all = w.counts_all in
       let bytes = step.held_bytes in
       record {
         same_budget = step.budget ∙ w.same_budget;
         counts_all = omega (arith, bytes, all, total);
-        within = fewer_within budget (held_of s.sorter) (held_of t.sorter) (omega (arith, total)) (omega (arith, count)) w.within;
+        within = fewer_within budget (held_of s.held.sorter) (held_of t.held.sorter) (omega (arith, total)) (omega (arith, count)) w.within;
       }
 
   within_after : (budget : ℕ) (steps : List Step) (first last : OrderedRecords R) (file file' : PerfFile) → 0 < budget → budget < 2 ^ 64 → TakesSteps state steps first file last file' → Within budget first → Within budget last
@@ -172,7 +172,7 @@ module _ {R : Type 0} (state : R → State) where
       within_after budget steps next last next_file file' some fits rest (held_within budget first next step.same_order.same_budget.budget step.same_order.same_budget.held_bytes (ap (λ x. held_of x) step.same_order.sorter) w)
   within_after budget (sorts (inserts key held) ∷ steps) first last file file' some fits (next, (next_file, step, rest)) w =
       within_after budget steps next last next_file file' some fits rest
-      (inserted_within budget first next key held some fits step.0 (held_after_insert first.sorter next.sorter key held step.0.inserted) step.0.fits_budget w)
+      (inserted_within budget first next key held some fits step.0 (held_after_insert first.held.sorter next.held.sorter key held step.0.inserted) step.0.fits_budget w)
   within_after budget (sorts ends_round ∷ steps) first last file file' some fits (next, (next_file, step, rest)) w =
       within_after budget steps next last next_file file' some fits rest (sorted_within budget first next step.0.same_budget.budget step.0.same_budget.held_bytes step.0.ended.sorts.each_once w)
   within_after budget (sorts ends_all ∷ steps) first last file file' some fits (next, (next_file, step, rest)) w =
@@ -181,7 +181,7 @@ module _ {R : Type 0} (state : R → State) where
       let early = (half_released (unplaced_of first) first next step.0).1 in
       within_after budget steps next last next_file file' some fits rest (sorted_within budget first next early.budget early.held_bytes early.released.sorts.each_once w)
   within_after budget (sorts (returns key held) ∷ steps) first last file file' some fits (next, (next_file, step, rest)) w =
-      within_after budget steps next last next_file file' some fits rest (returned_within budget first next key held step.0 (held_before_return first.sorter next.sorter key held step.0.returned) w)
+      within_after budget steps next last next_file file' some fits rest (returned_within budget first next key held step.0 (held_before_return first.held.sorter next.held.sorter key held step.0.returned) w)
   within_after budget (sorts keeps ∷ steps) first last file file' some fits (next, (next_file, step, rest)) w =
       within_after budget steps next last next_file file' some fits rest (held_within budget first next step.0.same_budget.budget step.0.same_budget.held_bytes step.0.unchanged.held w)
   within_after budget (reports e ∷ steps) first last file file' some fits (next, (next_file, step, rest)) w =

@@ -1,8 +1,6 @@
 -- The steps of a call over a source.
 use Rattle.std.proofs.Common.{◌≡◌, ℕ, ◌+◌, ◌-◌, ◌*◌, ◌^◌, ◌<◌, ◌≤◌, List, [], ◌∷◌, ◌++◌, length, min, Some, Result, Ok, Err, Bool, true, false, not, refl, sym, ap, ◌∙◌, subst, inl, inr, arith}
-use Rattle.std.specs.Prelude.{Vec}
 use Rattle.std.proofs.lemmas.List.Sorted.{length_permutation}
-use Rattle.std.specs.declared.alloc.Global.{Global}
 use Rattle.std.specs.Ordering.{nat_cmp}
 use Rattle.std.specs.declared.alloc.AllocError.{AllocError}
 use Rattle.perfdata_base.specs.Source.{State}
@@ -14,6 +12,7 @@ use Rattle.linux_perf_data.specs.Layout.{RecordView}
 use Rattle.perfdata_order.specs.declared.held_record.RecordInfo.{RecordInfo}
 use Rattle.perfdata_order.specs.declared.held_record.HeldRecord.{HeldRecord}
 use Rattle.perfdata_order.specs.declared.sorter.Sorter.{Sorter}
+use Rattle.perfdata_order.specs.declared.held_records.HeldRecords.{HeldRecords}
 use Rattle.perfdata_order.specs.declared.streaming.Pending.{Pending}
 use Rattle.perfdata_order.specs.declared.streaming.Pending.TheVariants as variant
 use Rattle.perfdata_order.specs.declared.streaming.OrderedRecords.{OrderedRecords}
@@ -62,26 +61,11 @@ body_read variant.End body key h is = cc
 body_read (variant.Failure e) body key h is = cc
 body_read variant.Failed body key h is = cc
 
-abbrev pub with_parts : {R : Type 0} → OrderedRecords R → Sorter ℕ HeldRecord → Pending → Vec (Vec ℕ Global) Global → OrderedRecords R
-with_parts s sorter pending spare = record {
-  alloc = s.alloc;
-  records = s.records;
-  sorter = sorter;
-  round = s.round;
-  pending = pending;
-  body = s.body;
-  returned = s.returned;
-  spare = spare;
-  budget = s.budget;
-  held_bytes = s.held_bytes;
-  early = s.early;
-}
+abbrev pub with_parts : {R : Type 0} → OrderedRecords R → HeldRecords → Pending → ℕ → OrderedRecords R
+with_parts s held pending held_bytes = record s { held = held; pending = pending; held_bytes = held_bytes }
 
-abbrev pub with_held_bytes : {R : Type 0} → OrderedRecords R → ℕ → OrderedRecords R
-with_held_bytes s bytes = record s { held_bytes = bytes }
-
-abbrev pub with_sorter : {R : Type 0} → OrderedRecords R → Sorter ℕ HeldRecord → OrderedRecords R
-with_sorter s sorter = with_parts s sorter s.pending s.spare
+abbrev pub with_held : {R : Type 0} → OrderedRecords R → HeldRecords → OrderedRecords R
+with_held s held = record s { held = held }
 
 pub bytes_added : (old size held new : ℕ) → held ≡ size → new ≡ min (old + size) 18446744073709551615 → old + held < 2 ^ 64 → new ≡ old + held
 bytes_added old size held new same sum fits = omega (arith, same, sum, fits)
@@ -97,7 +81,7 @@ module _ {R : Type 0} (state : R → State) where
   -- ---- steps that return nothing
 
   -- Only buffers changed.
-  pub kept_order : (a b : OrderedRecords R) → b.sorter ≡ a.sorter → unplaced_of b ≡ unplaced_of a → b.records ≡ a.records → b.round ≡ a.round → SameBudget a b → KeepsSorter a b
+  pub kept_order : (a b : OrderedRecords R) → b.held.sorter ≡ a.held.sorter → unplaced_of b ≡ unplaced_of a → b.records ≡ a.records → b.round ≡ a.round → SameBudget a b → KeepsSorter a b
   kept_order a b sorter pending same_records same_round same_budget = record {
     unchanged = record {
       available = ap available_of sorter;
@@ -238,7 +222,7 @@ module _ {R : Type 0} (state : R → State) where
       let le = half.half.0 in
       absurd (omega (arith, rest, all, le, some))
 
-  admitted_after : (a b c : OrderedRecords R) (key : ℕ) (h : RecordView) (more : Bool) → unplaced_of a ≡ timed key h → RoundsPlaced a h b → ReleasesEarly b (held_size h) (Ok tt) c → TestsAvailable c.sorter more → AdmitsPending state a h (Ok (not more)) c
+  admitted_after : (a b c : OrderedRecords R) (key : ℕ) (h : RecordView) (more : Bool) → unplaced_of a ≡ timed key h → RoundsPlaced a h b → ReleasesEarly b (held_size h) (Ok tt) c → TestsAvailable c.held.sorter more → AdmitsPending state a h (Ok (not more)) c
   admitted_after a b c key h true was placed (inl (admission, same)) some = record {
     places = subst (λ s. Places state a s) (sym same) placed.places;
     pending = ap (λ s. unplaced_of s) same ∙ placed.pending;
@@ -259,13 +243,13 @@ module _ {R : Type 0} (state : R → State) where
     same_records = early.same_records ∙ placed.same_records;
     available = some;
   }
-  admitted_after a b c key h false was placed (inr early) none = absurd (half_available b.sorter c.sorter early.released early.some_held none)
+  admitted_after a b c key h false was placed (inr early) none = absurd (half_available b.held.sorter c.held.sorter early.released early.some_held none)
 
-  pub pending_admitted : (a b c : OrderedRecords R) (key : ℕ) (h : RecordView) (more : Bool) → unplaced_of a ≡ timed key h → EndsRoundsBefore a h.round (Ok tt) b → ReleasesEarly b (held_size h) (Ok tt) c → TestsAvailable c.sorter more → AdmitsPending state a h (Ok (not more)) c
+  pub pending_admitted : (a b c : OrderedRecords R) (key : ℕ) (h : RecordView) (more : Bool) → unplaced_of a ≡ timed key h → EndsRoundsBefore a h.round (Ok tt) b → ReleasesEarly b (held_size h) (Ok tt) c → TestsAvailable c.held.sorter more → AdmitsPending state a h (Ok (not more)) c
   pending_admitted a b c key h more was ended released tests = admitted_after a b c key h more was (rounds_placed a b key h was ended) released tests
 
   -- Records are available after the rounds ended.
-  pub available_made : (a b : OrderedRecords R) (key : ℕ) (h : RecordView) → unplaced_of a ≡ timed key h → EndsRoundsBefore a h.round (Ok tt) b → 0 < length (available_of b.sorter) → HasAvailable state a b
+  pub available_made : (a b : OrderedRecords R) (key : ℕ) (h : RecordView) → unplaced_of a ≡ timed key h → EndsRoundsBefore a h.round (Ok tt) b → 0 < length (available_of b.held.sorter) → HasAvailable state a b
   available_made a b key h was ended some =
       let placed = rounds_placed a b key h was ended in
       record { places = placed.places; pending = placed.pending; same_records = placed.same_records; available = some }
@@ -281,7 +265,7 @@ module _ {R : Type 0} (state : R → State) where
   -- ---- what placing leaves
 
   pub record_placed : (a b c : OrderedRecords R) (key : ℕ) (info : RecordInfo) (held : HeldRecord) → unplaced_of a ≡ timed key (view_with info a.body.items) → IsAdmitted state a (view_with info a.body.items) b
-      → held_view held ≡ view_with info b.body.items → Inserted nat_cmp b.sorter key held c.sorter
+      → held_view held ≡ view_with info b.body.items → Inserted nat_cmp b.held.sorter key held c.held.sorter
       → unplaced_of c ≡ nothing → c.records ≡ b.records → c.round ≡ b.round → budget_of c ≡ budget_of b → early_of c ≡ early_of b → held_size (held_view held) < 2 ^ 64
       → (held_bytes_of b + held_size (held_view held) < 2 ^ 64 → held_bytes_of c ≡ held_bytes_of b + held_size (held_view held)) → Places state a c × AfterPlacing state (unplaced_of a) c × (c.records ≡ a.records)
   record_placed a b c key info held was placed copied inserted none same_records same_round budget early size_fits bytes =
@@ -315,14 +299,14 @@ module _ {R : Type 0} (state : R → State) where
   last_round (failing e) old new last same = same
   last_round failed old new last same = same
 
-  last_after : (q : Unplaced) (c : OrderedRecords R) → IsLast q → unplaced_of c ≡ q → pending_of c.sorter ≡ [] → AfterPlacing state q c
+  last_after : (q : Unplaced) (c : OrderedRecords R) → IsLast q → unplaced_of c ≡ q → pending_of c.held.sorter ≡ [] → AfterPlacing state q c
   last_after nothing c last same none = absurd last
   last_after (timed key h) c last same none = absurd last
   last_after ending c last same none = (same, none)
   last_after (failing e) c last same none = (same, none)
   last_after failed c last same none = (same, none)
 
-  pub last_placed : (a c : OrderedRecords R) (result : Result (Unit {0}) AllocError) (q : Unplaced) → IsLast q → unplaced_of a ≡ q → EndsAllRounds nat_cmp a.sorter result c.sorter → unplaced_of c ≡ unplaced_of a → c.records ≡ a.records → c.round ≡ a.round → SameBudget a c → PlacesPending state a result c
+  pub last_placed : (a c : OrderedRecords R) (result : Result (Unit {0}) AllocError) (q : Unplaced) → IsLast q → unplaced_of a ≡ q → EndsAllRounds nat_cmp a.held.sorter result c.held.sorter → unplaced_of c ≡ unplaced_of a → c.records ≡ a.records → c.round ≡ a.round → SameBudget a c → PlacesPending state a result c
   last_placed a c (Ok done) q last is all pending same_records same_round same_budget =
       ended a c (places_ended a a c (places_none a a refl) (record { round = subst (λ p. IsLaterOrLast p a.round c.round) (sym is) (last_round q a.round c.round last same_round); ended = all; pending = pending; same_records = same_records; same_budget = same_budget }))
       q is (last_after q c last (pending ∙ is) all.pending) same_records
@@ -333,7 +317,7 @@ module _ {R : Type 0} (state : R → State) where
   pub available_placed : (a b : OrderedRecords R) (key : ℕ) (h : RecordView) → unplaced_of a ≡ timed key h → HasAvailable state a b → Places state a b × AfterPlacing state (unplaced_of a) b × (b.records ≡ a.records)
   available_placed a b key h was made = (made.places, subst (λ q. AfterPlacing state q b) (sym was) (inr (made.pending ∙ was, made.available)), made.same_records)
 
-  pub none_pending_at : (q p : Unplaced) (b : OrderedRecords R) → AfterPlacing state q b → IsLast p → unplaced_of b ≡ p → pending_of b.sorter ≡ []
+  pub none_pending_at : (q p : Unplaced) (b : OrderedRecords R) → AfterPlacing state q b → IsLast p → unplaced_of b ≡ p → pending_of b.held.sorter ≡ []
   none_pending_at nothing p b after last is = absurd (subst (λ x. IsLast x) (sym is ∙ after) last)
   none_pending_at (timed key h) p b (inl after) last is = absurd (subst (λ x. IsLast x) (sym is ∙ after) last)
   none_pending_at (timed key h) p b (inr after) last is = absurd (subst (λ x. IsLast x) (sym is ∙ after.0) last)
@@ -348,22 +332,22 @@ module _ {R : Type 0} (state : R → State) where
   pub none_held_after : (s t : Sorter ℕ HeldRecord) → available_of s ≡ [] → IsUnchanged s t → pending_of s ≡ [] → held_of t ≡ []
   none_held_after s t available unchanged pending = unchanged.held ∙ none_held s available pending
 
-  pub end_returned : (a b c : OrderedRecords R) (f g : PerfFile) → Progress state a f b g → c ≡ b → unplaced_of b ≡ ending → held_of b.sorter ≡ [] → EndReturned state a f c g
+  pub end_returned : (a b c : OrderedRecords R) (f g : PerfFile) → Progress state a f b g → c ≡ b → unplaced_of b ≡ ending → held_of b.held.sorter ≡ [] → EndReturned state a f c g
   end_returned a b c f g p same is held = record {
     before = subst (λ s. Progress state a f s g) (sym same) p;
     at_end = ap (λ s. unplaced_of s) same ∙ is;
-    all_returned = ap (λ s. held_of s.sorter) same ∙ held;
+    all_returned = ap (λ s. held_of s.held.sorter) same ∙ held;
   }
 
   -- The error is returned. `q` was pending before `placed`, and nothing was available then.
-  pub error_returned : (a placed kept c : OrderedRecords R) (f g : PerfFile) (q : Unplaced) (e : Error) → Progress state a f kept g → AfterPlacing state q placed → available_of placed.sorter ≡ [] → KeepsSorter placed kept
+  pub error_returned : (a placed kept c : OrderedRecords R) (f g : PerfFile) (q : Unplaced) (e : Error) → Progress state a f kept g → AfterPlacing state q placed → available_of placed.held.sorter ≡ [] → KeepsSorter placed kept
       → TakesEnd kept (Some (Err e)) c → FailsInOrder state a f e c g
   error_returned a placed kept c f g q e p after available unchanged (inl (was, now, same_records, same_order)) = inl (record {
     middle = kept;
     before = p;
     reported = record {
       was_pending = was;
-      all_returned = none_held_after placed.sorter kept.sorter available unchanged.unchanged (none_pending_at q (failing e) placed after tt (sym unchanged.pending ∙ was));
+      all_returned = none_held_after placed.held.sorter kept.held.sorter available unchanged.unchanged (none_pending_at q (failing e) placed after tt (sym unchanged.pending ∙ was));
       pending = now;
       same_records = same_records;
       same_order = same_order;
@@ -373,7 +357,7 @@ module _ {R : Type 0} (state : R → State) where
     is_failed = is;
     before = subst (λ s. Progress state a f s g) (sym same) p;
     has_failed = ap (λ s. unplaced_of s) same ∙ was;
-    all_returned = ap (λ s. held_of s.sorter) same ∙ none_held_after placed.sorter kept.sorter available unchanged.unchanged (none_pending_at q failed placed after tt (sym unchanged.pending ∙ was));
+    all_returned = ap (λ s. held_of s.held.sorter) same ∙ none_held_after placed.held.sorter kept.held.sorter available unchanged.unchanged (none_pending_at q failed placed after tt (sym unchanged.pending ∙ was));
   }))
 
   -- ---- a call ends
@@ -382,11 +366,11 @@ module _ {R : Type 0} (state : R → State) where
   abbrev pub work_of : OrderedRecords R → ℕ
   work_of s = 2 * (2 ^ 64 - s.records.offset) + pending_records (unplaced_of s)
 
-  none_after : {key : ℕ} {h : RecordView} (p : OrderedRecords R) → AfterPlacing state (timed key h) p → available_of p.sorter ≡ [] → unplaced_of p ≡ nothing
+  none_after : {key : ℕ} {h : RecordView} (p : OrderedRecords R) → AfterPlacing state (timed key h) p → available_of p.held.sorter ≡ [] → unplaced_of p ≡ nothing
   none_after p (inl after) none = after
   none_after p (inr after) none = let same = ap length none in let some = after.1 in absurd (omega (arith, same, some))
 
-  placed_record : (q : Unplaced) (p : OrderedRecords R) → IsUnplaced q → AfterPlacing state q p → available_of p.sorter ≡ [] → IsOngoing (unplaced_of p) → (pending_records q ≡ 1) × (unplaced_of p ≡ nothing)
+  placed_record : (q : Unplaced) (p : OrderedRecords R) → IsUnplaced q → AfterPlacing state q p → available_of p.held.sorter ≡ [] → IsOngoing (unplaced_of p) → (pending_records q ≡ 1) × (unplaced_of p ≡ nothing)
   placed_record nothing p pending after none ongoing = absurd pending
   placed_record (timed key h) p pending after none ongoing = (refl, none_after {key = key} {h = h} p after none)
   placed_record ending p pending after none ongoing = absurd (subst (λ x. IsOngoing x) after.0 ongoing)
@@ -399,7 +383,7 @@ module _ {R : Type 0} (state : R → State) where
   falls_by_read : (old new n m : ℕ) → old + 8 ≤ new → new < 2 ^ 64 → m ≡ 0 → 2 * (2 ^ 64 - new) + m < 2 * (2 ^ 64 - old) + n
   falls_by_read old new n m rises fits none = omega arith
 
-  pub work_falls : (s b p kept : OrderedRecords R) (f g : PerfFile) → ReadsPending state s f b g → AfterPlacing state (unplaced_of b) p → p.records ≡ b.records → available_of p.sorter ≡ [] → KeepsSorter p kept → IsOngoing (unplaced_of kept) → work_of kept < work_of s
+  pub work_falls : (s b p kept : OrderedRecords R) (f g : PerfFile) → ReadsPending state s f b g → AfterPlacing state (unplaced_of b) p → p.records ≡ b.records → available_of p.held.sorter ≡ [] → KeepsSorter p kept → IsOngoing (unplaced_of kept) → work_of kept < work_of s
   work_falls s b p kept f g (inl (pending, same, same_file)) after same_records available unchanged ongoing =
       let placed = placed_record (unplaced_of s) p pending (subst (λ q. AfterPlacing state (unplaced_of q) p) same after) available (subst (λ x. IsOngoing x) unchanged.pending ongoing) in
       falls_by_record s.records.offset kept.records.offset (pending_records (unplaced_of s)) (pending_records (unplaced_of kept))

@@ -265,6 +265,6 @@ module _ {R : Type 0} (state : R → State) where
         rise = timed_rise (read_in steps) (rounds_follow increase (read_in steps) layout);
         rule = rule;
       } in
-      ascends_under_rule HeldRecord nat_cmp_total first.sorter last.sorter (calls_in steps) new.empty (calls_sorter_in_turn state first last file file' steps taken)
+      ascends_under_rule HeldRecord nat_cmp_total first.held.sorter last.held.sorter (calls_in steps) new.empty (calls_sorter_in_turn state first last file file' steps taken)
       (let counted = counts_early state records budget first last file file' steps new taken in omega (arith, counted, none_early))
       (follows 0 steps first last file file' taken (same_ahead first first times (ahead first steps) refl (sym none) start)).rule

@@ -30,29 +30,29 @@ half_released failed old new released = absurd released
 
 module _ {R : Type 0} (state : R → State) where
   pub calls_sorter_in_turn : CallsSorterInTurn state
-  calls_sorter_in_turn first last file file' [] (same, same_file) = ap (λ s. s.sorter) same
+  calls_sorter_in_turn first last file file' [] (same, same_file) = ap (λ s. s.held.sorter) same
   calls_sorter_in_turn first last file file' (reads key h ∷ steps) (next, (next_file, step, rest)) =
-      subst (λ s. MakesCalls nat_cmp (calls_in steps) s last.sorter) step.same_order.sorter (calls_sorter_in_turn next last next_file file' steps rest)
+      subst (λ s. MakesCalls nat_cmp (calls_in steps) s last.held.sorter) step.same_order.sorter (calls_sorter_in_turn next last next_file file' steps rest)
   calls_sorter_in_turn first last file file' (passes h ∷ steps) (next, (next_file, step, rest)) =
-      subst (λ s. MakesCalls nat_cmp (calls_in steps) s last.sorter) step.same_order.sorter (calls_sorter_in_turn next last next_file file' steps rest)
+      subst (λ s. MakesCalls nat_cmp (calls_in steps) s last.held.sorter) step.same_order.sorter (calls_sorter_in_turn next last next_file file' steps rest)
   calls_sorter_in_turn first last file file' (reads_end ∷ steps) (next, (next_file, step, rest)) =
-      subst (λ s. MakesCalls nat_cmp (calls_in steps) s last.sorter) step.same_order.sorter (calls_sorter_in_turn next last next_file file' steps rest)
+      subst (λ s. MakesCalls nat_cmp (calls_in steps) s last.held.sorter) step.same_order.sorter (calls_sorter_in_turn next last next_file file' steps rest)
   calls_sorter_in_turn first last file file' (reads_error e ∷ steps) (next, (next_file, step, rest)) =
-      subst (λ s. MakesCalls nat_cmp (calls_in steps) s last.sorter) step.same_order.sorter (calls_sorter_in_turn next last next_file file' steps rest)
+      subst (λ s. MakesCalls nat_cmp (calls_in steps) s last.held.sorter) step.same_order.sorter (calls_sorter_in_turn next last next_file file' steps rest)
   calls_sorter_in_turn first last file file' (sorts (inserts key held) ∷ steps) (next, (next_file, step, rest)) =
-      (next.sorter, step.0.inserted, calls_sorter_in_turn next last next_file file' steps rest)
+      (next.held.sorter, step.0.inserted, calls_sorter_in_turn next last next_file file' steps rest)
   calls_sorter_in_turn first last file file' (sorts ends_round ∷ steps) (next, (next_file, step, rest)) =
-      (next.sorter, step.0.ended, calls_sorter_in_turn next last next_file file' steps rest)
+      (next.held.sorter, step.0.ended, calls_sorter_in_turn next last next_file file' steps rest)
   calls_sorter_in_turn first last file file' (sorts ends_all ∷ steps) (next, (next_file, step, rest)) =
-      (next.sorter, step.0.ended, calls_sorter_in_turn next last next_file file' steps rest)
+      (next.held.sorter, step.0.ended, calls_sorter_in_turn next last next_file file' steps rest)
   calls_sorter_in_turn first last file file' (sorts releases ∷ steps) (next, (next_file, step, rest)) =
-      (next.sorter, (half_released (unplaced_of first) first next step.0).1.released, calls_sorter_in_turn next last next_file file' steps rest)
+      (next.held.sorter, (half_released (unplaced_of first) first next step.0).1.released, calls_sorter_in_turn next last next_file file' steps rest)
   calls_sorter_in_turn first last file file' (sorts (returns key held) ∷ steps) (next, (next_file, step, rest)) =
-      (next.sorter, step.0.returned, calls_sorter_in_turn next last next_file file' steps rest)
+      (next.held.sorter, step.0.returned, calls_sorter_in_turn next last next_file file' steps rest)
   calls_sorter_in_turn first last file file' (sorts keeps ∷ steps) (next, (next_file, step, rest)) =
-      (next.sorter, step.0.unchanged, calls_sorter_in_turn next last next_file file' steps rest)
+      (next.held.sorter, step.0.unchanged, calls_sorter_in_turn next last next_file file' steps rest)
   calls_sorter_in_turn first last file file' (reports e ∷ steps) (next, (next_file, step, rest)) =
-      subst (λ s. MakesCalls nat_cmp (calls_in steps) s last.sorter) step.0.same_order.sorter (calls_sorter_in_turn next last next_file file' steps rest)
+      subst (λ s. MakesCalls nat_cmp (calls_in steps) s last.held.sorter) step.0.same_order.sorter (calls_sorter_in_turn next last next_file file' steps rest)
 
   -- ---- each record once
 
@@ -64,7 +64,7 @@ module _ {R : Type 0} (state : R → State) where
   entries_append (x ∷ xs) ys = ap (λ zs. held_view x.1 ∷ zs) (entries_append xs ys)
 
   -- The held records follow from the parts of the state.
-  held_as : (s t : OrderedRecords R) (xs : List (ℕ × HeldRecord)) (ys : List RecordView) → held_of s.sorter ≡ xs → unplaced_records (unplaced_of s) ≡ ys → held_records state s ≡ entries xs ++ ys
+  held_as : (s t : OrderedRecords R) (xs : List (ℕ × HeldRecord)) (ys : List RecordView) → held_of s.held.sorter ≡ xs → unplaced_records (unplaced_of s) ≡ ys → held_records state s ≡ entries xs ++ ys
   held_as s t xs ys held pending = ap (λ h. entries h ++ unplaced_records (unplaced_of s)) held ∙ ap (λ p. entries xs ++ p) pending
 
   -- A step that neither reads nor returns a record, and after which the same records are held.
@@ -76,54 +76,54 @@ module _ {R : Type 0} (state : R → State) where
   once_from [] first last file file' (same, same_file) =
       subst (λ s. IsPermutation (held_records state first ++ []) (held_records state s)) (sym same) (subst (λ h. IsPermutation h (held_records state first)) (sym (append-nil (held_records state first))) (IsPermutation-refl (held_records state first)))
   once_from (reads key h ∷ steps) first last file file' (next, (next_file, step, rest)) =
-      let before : held_records state first ≡ entries (held_of first.sorter) ++ [] = held_as first first (held_of first.sorter) [] refl (ap unplaced_records step.nothing_pending) in
-      let after : held_records state next ≡ entries (held_of first.sorter) ++ h ∷ [] = held_as next next (held_of first.sorter) (h ∷ []) (ap held_of step.same_order.sorter) (ap unplaced_records step.pending) in
-      let plain = before ∙ append-nil (entries (held_of first.sorter)) in
+      let before : held_records state first ≡ entries (held_of first.held.sorter) ++ [] = held_as first first (held_of first.held.sorter) [] refl (ap unplaced_records step.nothing_pending) in
+      let after : held_records state next ≡ entries (held_of first.held.sorter) ++ h ∷ [] = held_as next next (held_of first.held.sorter) (h ∷ []) (ap held_of step.same_order.sorter) (ap unplaced_records step.pending) in
+      let plain = before ∙ append-nil (entries (held_of first.held.sorter)) in
       let regrouped : held_records state next ++ read_in steps ≡ held_records state first ++ h ∷ read_in steps =
-      ap (λ h. h ++ read_in steps) after ∙ append_assoc (entries (held_of first.sorter)) (h ∷ []) (read_in steps) ∙ ap (λ hs. hs ++ h ∷ read_in steps) (sym plain) in
+      ap (λ h. h ++ read_in steps) after ∙ append_assoc (entries (held_of first.held.sorter)) (h ∷ []) (read_in steps) ∙ ap (λ hs. hs ++ h ∷ read_in steps) (sym plain) in
       subst (λ h. IsPermutation h (returned_in steps ++ held_records state last)) regrouped (once_from steps next last next_file file' rest)
   once_from (passes h ∷ steps) first last file file' (next, (next_file, step, rest)) =
       let same : held_records state next ≡ held_records state first =
-      held_as next next (held_of first.sorter) [] (ap held_of step.same_order.sorter) (ap unplaced_records step.pending) ∙ sym (held_as first first (held_of first.sorter) [] refl (ap unplaced_records step.nothing_pending)) in
+      held_as next next (held_of first.held.sorter) [] (ap held_of step.same_order.sorter) (ap unplaced_records step.pending) ∙ sym (held_as first first (held_of first.held.sorter) [] refl (ap unplaced_records step.nothing_pending)) in
       let once = once_kept steps first next last file file' same (once_from steps next last next_file file' rest) in
       IsPermutation-trans _ _ _ (IsPermutation-middle (held_records state first) h (read_in steps)) (IsPermutation-cons h _ _ once)
   once_from (reads_end ∷ steps) first last file file' (next, (next_file, step, rest)) =
       let same : held_records state next ≡ held_records state first =
-      held_as next next (held_of first.sorter) [] (ap held_of step.same_order.sorter) (ap unplaced_records step.pending) ∙ sym (held_as first first (held_of first.sorter) [] refl (ap unplaced_records step.nothing_pending)) in
+      held_as next next (held_of first.held.sorter) [] (ap held_of step.same_order.sorter) (ap unplaced_records step.pending) ∙ sym (held_as first first (held_of first.held.sorter) [] refl (ap unplaced_records step.nothing_pending)) in
       once_kept steps first next last file file' same (once_from steps next last next_file file' rest)
   once_from (reads_error e ∷ steps) first last file file' (next, (next_file, step, rest)) =
       let same : held_records state next ≡ held_records state first =
-      held_as next next (held_of first.sorter) [] (ap held_of step.same_order.sorter) (ap unplaced_records step.pending) ∙ sym (held_as first first (held_of first.sorter) [] refl (ap unplaced_records step.nothing_pending)) in
+      held_as next next (held_of first.held.sorter) [] (ap held_of step.same_order.sorter) (ap unplaced_records step.pending) ∙ sym (held_as first first (held_of first.held.sorter) [] refl (ap unplaced_records step.nothing_pending)) in
       once_kept steps first next last file file' same (once_from steps next last next_file file' rest)
   once_from (sorts (inserts key held) ∷ steps) first last file file' (next, (next_file, step, rest)) =
-      let all = held_after_insert first.sorter next.sorter key held step.0.inserted in
-      let after : held_records state next ≡ entries (held_of first.sorter ++ (key, held) ∷ []) ++ [] = held_as next next (held_of first.sorter ++ (key, held) ∷ []) [] all (ap unplaced_records step.0.pending) in
-      let before : held_records state first ≡ entries (held_of first.sorter) ++ held_view held ∷ [] = held_as first first (held_of first.sorter) (held_view held ∷ []) refl (ap unplaced_records step.0.was_pending) in
-      let same : held_records state next ≡ held_records state first = after ∙ append-nil (entries (held_of first.sorter ++ (key, held) ∷ [])) ∙ entries_append (held_of first.sorter) ((key, held) ∷ []) ∙ sym before in
+      let all = held_after_insert first.held.sorter next.held.sorter key held step.0.inserted in
+      let after : held_records state next ≡ entries (held_of first.held.sorter ++ (key, held) ∷ []) ++ [] = held_as next next (held_of first.held.sorter ++ (key, held) ∷ []) [] all (ap unplaced_records step.0.pending) in
+      let before : held_records state first ≡ entries (held_of first.held.sorter) ++ held_view held ∷ [] = held_as first first (held_of first.held.sorter) (held_view held ∷ []) refl (ap unplaced_records step.0.was_pending) in
+      let same : held_records state next ≡ held_records state first = after ∙ append-nil (entries (held_of first.held.sorter ++ (key, held) ∷ [])) ∙ entries_append (held_of first.held.sorter) ((key, held) ∷ []) ∙ sym before in
       once_kept steps first next last file file' same (once_from steps next last next_file file' rest)
   once_from (sorts ends_round ∷ steps) first last file file' (next, (next_file, step, rest)) =
-      let sorted = IsPermutation-map (λ (e : ℕ × HeldRecord). held_view e.1) (held_of first.sorter) (held_of next.sorter) step.0.ended.sorts.each_once in
-      let same = subst (λ p. IsPermutation (held_records state first) (entries (held_of next.sorter) ++ unplaced_records p)) (sym step.0.pending) (IsPermutation-append_left (unplaced_records (unplaced_of first)) (entries (held_of first.sorter)) (entries (held_of next.sorter)) sorted) in
+      let sorted = IsPermutation-map (λ (e : ℕ × HeldRecord). held_view e.1) (held_of first.held.sorter) (held_of next.held.sorter) step.0.ended.sorts.each_once in
+      let same = subst (λ p. IsPermutation (held_records state first) (entries (held_of next.held.sorter) ++ unplaced_records p)) (sym step.0.pending) (IsPermutation-append_left (unplaced_records (unplaced_of first)) (entries (held_of first.held.sorter)) (entries (held_of next.held.sorter)) sorted) in
       IsPermutation-trans _ _ _ (IsPermutation-append_left (read_in steps) (held_records state first) (held_records state next) same) (once_from steps next last next_file file' rest)
   once_from (sorts ends_all ∷ steps) first last file file' (next, (next_file, step, rest)) =
-      let sorted = IsPermutation-map (λ (e : ℕ × HeldRecord). held_view e.1) (held_of first.sorter) (held_of next.sorter) step.0.ended.sorts.each_once in
-      let same = subst (λ p. IsPermutation (held_records state first) (entries (held_of next.sorter) ++ unplaced_records p)) (sym step.0.pending) (IsPermutation-append_left (unplaced_records (unplaced_of first)) (entries (held_of first.sorter)) (entries (held_of next.sorter)) sorted) in
+      let sorted = IsPermutation-map (λ (e : ℕ × HeldRecord). held_view e.1) (held_of first.held.sorter) (held_of next.held.sorter) step.0.ended.sorts.each_once in
+      let same = subst (λ p. IsPermutation (held_records state first) (entries (held_of next.held.sorter) ++ unplaced_records p)) (sym step.0.pending) (IsPermutation-append_left (unplaced_records (unplaced_of first)) (entries (held_of first.held.sorter)) (entries (held_of next.held.sorter)) sorted) in
       IsPermutation-trans _ _ _ (IsPermutation-append_left (read_in steps) (held_records state first) (held_records state next) same) (once_from steps next last next_file file' rest)
   once_from (sorts releases ∷ steps) first last file file' (next, (next_file, step, rest)) =
       let early = (half_released (unplaced_of first) first next step.0).1 in
-      let sorted = IsPermutation-map (λ (e : ℕ × HeldRecord). held_view e.1) (held_of first.sorter) (held_of next.sorter) early.released.sorts.each_once in
-      let same = subst (λ p. IsPermutation (held_records state first) (entries (held_of next.sorter) ++ unplaced_records p)) (sym early.pending) (IsPermutation-append_left (unplaced_records (unplaced_of first)) (entries (held_of first.sorter)) (entries (held_of next.sorter)) sorted) in
+      let sorted = IsPermutation-map (λ (e : ℕ × HeldRecord). held_view e.1) (held_of first.held.sorter) (held_of next.held.sorter) early.released.sorts.each_once in
+      let same = subst (λ p. IsPermutation (held_records state first) (entries (held_of next.held.sorter) ++ unplaced_records p)) (sym early.pending) (IsPermutation-append_left (unplaced_records (unplaced_of first)) (entries (held_of first.held.sorter)) (entries (held_of next.held.sorter)) sorted) in
       IsPermutation-trans _ _ _ (IsPermutation-append_left (read_in steps) (held_records state first) (held_records state next) same) (once_from steps next last next_file file' rest)
   once_from (sorts (returns key held) ∷ steps) first last file file' (next, (next_file, step, rest)) =
-      let all = held_before_return first.sorter next.sorter key held step.0.returned in
-      let before : held_records state first ≡ held_view held ∷ held_records state next = held_as first first ((key, held) ∷ held_of next.sorter) (unplaced_records (unplaced_of next)) all (ap unplaced_records (sym step.0.pending)) in
+      let all = held_before_return first.held.sorter next.held.sorter key held step.0.returned in
+      let before : held_records state first ≡ held_view held ∷ held_records state next = held_as first first ((key, held) ∷ held_of next.held.sorter) (unplaced_records (unplaced_of next)) all (ap unplaced_records (sym step.0.pending)) in
       subst (λ h. IsPermutation (h ++ read_in steps) (held_view held ∷ (returned_in steps ++ held_records state last))) (sym before)
       (IsPermutation-cons (held_view held) (held_records state next ++ read_in steps) (returned_in steps ++ held_records state last) (once_from steps next last next_file file' rest))
   once_from (sorts keeps ∷ steps) first last file file' (next, (next_file, step, rest)) =
-      once_kept steps first next last file file' (held_as next next (held_of first.sorter) (unplaced_records (unplaced_of first)) step.0.unchanged.held (ap unplaced_records step.0.pending)) (once_from steps next last next_file file' rest)
+      once_kept steps first next last file file' (held_as next next (held_of first.held.sorter) (unplaced_records (unplaced_of first)) step.0.unchanged.held (ap unplaced_records step.0.pending)) (once_from steps next last next_file file' rest)
   once_from (reports e ∷ steps) first last file file' (next, (next_file, step, rest)) =
       let same : held_records state next ≡ held_records state first =
-      held_as next next (held_of first.sorter) [] (ap held_of step.0.same_order.sorter) (ap unplaced_records step.0.pending) ∙ sym (held_as first first (held_of first.sorter) [] refl (ap unplaced_records step.0.was_pending)) in
+      held_as next next (held_of first.held.sorter) [] (ap held_of step.0.same_order.sorter) (ap unplaced_records step.0.pending) ∙ sym (held_as first first (held_of first.held.sorter) [] refl (ap unplaced_records step.0.was_pending)) in
       once_kept steps first next last file file' same (once_from steps next last next_file file' rest)
 
   pub returns_each_record_once : ReturnsEachRecordOnce state

@@ -6,7 +6,10 @@ pub mod SorterLaws
 pub mod InMemoryOrder
 pub mod Times
 pub mod LayoutRecords
+pub mod Bodies
+pub mod ParseInfos
 pub mod HeldRecord
+pub mod HeldRecords
 pub mod StreamingOrder
 pub mod StreamingLaws
 pub mod InMemoryLaws

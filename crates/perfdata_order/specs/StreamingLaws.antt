@@ -59,7 +59,7 @@ timed_of (h ∷ hs) = timed_by (key_of_time h.timestamp) h ++ timed_of hs
 module _ {R : Type 0} (state : R → State) where
   -- The records that were read and not yet returned.
   abbrev pub held_records : OrderedRecords R → List RecordView
-  held_records s = map (λ (e : ℕ × HeldRecord). held_view e.1) (held_of s.sorter) ++ unplaced_records (unplaced_of s)
+  held_records s = map (λ (e : ℕ × HeldRecord). held_view e.1) (held_of s.held.sorter) ++ unplaced_records (unplaced_of s)
 
   -- Each record that was read was returned once, or is held.
   abbrev pub ReturnsEachRecordOnce : Type 0
@@ -75,7 +75,7 @@ module _ {R : Type 0} (state : R → State) where
   -- The calls of the sorter are consecutive, so its laws hold for the timed records.
   abbrev pub CallsSorterInTurn : Type 0
   CallsSorterInTurn = (first last : OrderedRecords R) (file file' : PerfFile) (steps : List Step) →
-      TakesSteps state steps first file last file' → MakesCalls nat_cmp (calls_in steps) first.sorter last.sorter
+      TakesSteps state steps first file last file' → MakesCalls nat_cmp (calls_in steps) first.held.sorter last.held.sorter
 
   -- The calls that return records early are counted.
   abbrev pub CountsEarly : Type 0
@@ -91,13 +91,13 @@ module _ {R : Type 0} (state : R → State) where
   abbrev pub StaysWithinBudget : Type 0
   StaysWithinBudget = (records : PerfRecordIter R) (budget : ℕ) (first last : OrderedRecords R) (file file' : PerfFile) (steps : List Step) →
       IsNewOrder records budget first → TakesSteps state steps first file last file' → 0 < budget → budget < 2 ^ 64 →
-      (sum_by (λ (e : ℕ × HeldRecord). held_size (held_view e.1)) (held_of last.sorter) ≤ budget) ⊎ (length (held_of last.sorter) ≤ 1)
+      (sum_by (λ (e : ℕ × HeldRecord). held_size (held_view e.1)) (held_of last.held.sorter) ≤ budget) ⊎ (length (held_of last.held.sorter) ≤ 1)
 
   -- Without a budget, each record in the sorter that isn't available is of the current round or of the one before it.
   abbrev pub HoldsTwoRounds : Type 0
   HoldsTwoRounds = (records : PerfRecordIter R) (first last : OrderedRecords R) (file file' : PerfFile) (steps : List Step) →
       IsNewOrder records 0 first → TakesSteps state steps first file last file' → AreLayoutRecords (read_in steps) →
-      All (λ (e : ℕ × HeldRecord). round_of last ≤ (held_view e.1).round + 1) (pending_of last.sorter)
+      All (λ (e : ℕ × HeldRecord). round_of last ≤ (held_view e.1).round + 1) (pending_of last.held.sorter)
 
   -- The timed records that were returned ascend if none was returned early, and those that were read are the first of a layout and
   -- keep perf's rule: no record of round n + 2 or later is older than one of round n.

@@ -20,6 +20,7 @@ use Rattle.perfdata_order.specs.declared.streaming.BodyBuffer.{BodyBuffer}
 use Rattle.perfdata_order.specs.declared.streaming.BodyBuffer.TheVariants.{Read, Sorted}
 use Rattle.perfdata_order.specs.declared.streaming.OrderedRecords.{OrderedRecords}
 use Rattle.perfdata_order.specs.HeldRecord.{view_with, held_view, held_size}
+use Rattle.perfdata_order.specs.HeldRecords.{body_of}
 use Rattle.perfdata_order.specs.Sorter.{held_of, available_of, pending_of, IsNew, IsUnchanged, Inserted, RoundEnded, AllRoundsEnded, HalfReleased, Returned}
 use Rattle.perfdata_order.specs.Times.{key_of_time}
 use Rattle.perfdata_order.specs.SorterLaws.{Call}
@@ -124,22 +125,22 @@ module _ {R : Type 0} where
 
   -- The sorter and the current round are unchanged.
   pub record SameOrder (old new : OrderedRecords R) : Type 0 where
-    pub sorter : new.sorter ≡ old.sorter
+    pub sorter : new.held.sorter ≡ old.held.sorter
     pub round : new.round ≡ old.round
     pub same_budget : SameBudget old new
 
   -- A record of this size may be inserted: there is no budget, or the record is within it, or no record is held.
   abbrev pub FitsBudget : OrderedRecords R → ℕ → Type 0
-  FitsBudget s size = (budget_of s ≡ 0) ⊎ ((held_bytes_of s + size ≤ budget_of s) ⊎ (held_of s.sorter ≡ []))
+  FitsBudget s size = (budget_of s ≡ 0) ⊎ ((held_bytes_of s + size ≤ budget_of s) ⊎ (held_of s.held.sorter ≡ []))
 
   -- The pending record was inserted into the sorter. The rounds before its own had ended.
   pub record InsertsPending (old : OrderedRecords R) (key : ℕ) (held : HeldRecord) (new : OrderedRecords R) : Type 0 where
     pub was_pending : unplaced_of old ≡ timed key (held_view held)
     pub in_round : (held_view held).round ≤ old.round
-    pub none_available : available_of old.sorter ≡ []
+    pub none_available : available_of old.held.sorter ≡ []
     pub fits_budget : FitsBudget old (held_size (held_view held))
     pub size_fits : held_size (held_view held) < 2 ^ 64
-    pub inserted : Inserted nat_cmp old.sorter key held new.sorter
+    pub inserted : Inserted nat_cmp old.held.sorter key held new.held.sorter
     pub pending : unplaced_of new ≡ nothing
     pub same_records : new.records ≡ old.records
     pub round : new.round ≡ old.round
@@ -149,14 +150,14 @@ module _ {R : Type 0} where
 
   pub record EndsOneRound (old new : OrderedRecords R) : Type 0 where
     pub round : IsOneRoundLater (unplaced_of old) old.round new.round
-    pub ended : RoundEnded nat_cmp old.sorter new.sorter
+    pub ended : RoundEnded nat_cmp old.held.sorter new.held.sorter
     pub pending : unplaced_of new ≡ unplaced_of old
     pub same_records : new.records ≡ old.records
     pub same_budget : SameBudget old new
 
   pub record EndsRounds (old new : OrderedRecords R) : Type 0 where
     pub round : IsLaterOrLast (unplaced_of old) old.round new.round
-    pub ended : AllRoundsEnded nat_cmp old.sorter new.sorter
+    pub ended : AllRoundsEnded nat_cmp old.held.sorter new.held.sorter
     pub pending : unplaced_of new ≡ unplaced_of old
     pub same_records : new.records ≡ old.records
     pub same_budget : SameBudget old new
@@ -165,8 +166,8 @@ module _ {R : Type 0} where
   pub record HalfReleasedEarly (old : OrderedRecords R) (size : ℕ) (new : OrderedRecords R) : Type 0 where
     pub has_budget : 0 < budget_of old
     pub exceeds : budget_of old < held_bytes_of old + size
-    pub some_held : 0 < length (held_of old.sorter)
-    pub released : HalfReleased nat_cmp old.sorter new.sorter
+    pub some_held : 0 < length (held_of old.held.sorter)
+    pub released : HalfReleased nat_cmp old.held.sorter new.held.sorter
     pub pending : unplaced_of new ≡ unplaced_of old
     pub same_records : new.records ≡ old.records
     pub round : new.round ≡ old.round
@@ -183,7 +184,7 @@ module _ {R : Type 0} where
 
   -- The next available record was returned.
   pub record ReturnsSorted (old : OrderedRecords R) (key : ℕ) (held : HeldRecord) (new : OrderedRecords R) : Type 0 where
-    pub returned : Returned old.sorter key held new.sorter
+    pub returned : Returned old.held.sorter key held new.held.sorter
     pub pending : unplaced_of new ≡ unplaced_of old
     pub same_records : new.records ≡ old.records
     pub round : new.round ≡ old.round
@@ -193,7 +194,7 @@ module _ {R : Type 0} where
 
   -- A call of the sorter changed nothing.
   pub record KeepsSorter (old new : OrderedRecords R) : Type 0 where
-    pub unchanged : IsUnchanged old.sorter new.sorter
+    pub unchanged : IsUnchanged old.held.sorter new.held.sorter
     pub pending : unplaced_of new ≡ unplaced_of old
     pub same_records : new.records ≡ old.records
     pub round : new.round ≡ old.round
@@ -202,7 +203,7 @@ module _ {R : Type 0} where
   -- The error that was read was returned. All records before it had been returned.
   pub record ReportsError (old : OrderedRecords R) (e : Error) (new : OrderedRecords R) : Type 0 where
     pub was_pending : unplaced_of old ≡ failing e
-    pub all_returned : held_of old.sorter ≡ []
+    pub all_returned : held_of old.held.sorter ≡ []
     pub pending : unplaced_of new ≡ failed
     pub same_records : new.records ≡ old.records
     pub same_order : SameOrder old new
@@ -219,7 +220,7 @@ module _ {R : Type 0} where
   pub record OneRoundEnded (old : OrderedRecords R) (to : ℕ) (new : OrderedRecords R) : Type 0 where
     pub is_next : to ≡ old.round + 1
     pub round : new.round ≡ to
-    pub ended : RoundEnded nat_cmp old.sorter new.sorter
+    pub ended : RoundEnded nat_cmp old.held.sorter new.held.sorter
     pub pending : unplaced_of new ≡ unplaced_of old
     pub same_records : new.records ≡ old.records
     pub same_budget : SameBudget old new
@@ -227,7 +228,7 @@ module _ {R : Type 0} where
   pub record RoundsEnded (old : OrderedRecords R) (to : ℕ) (new : OrderedRecords R) : Type 0 where
     pub is_later : old.round + 2 ≤ to
     pub round : new.round ≡ to
-    pub ended : AllRoundsEnded nat_cmp old.sorter new.sorter
+    pub ended : AllRoundsEnded nat_cmp old.held.sorter new.held.sorter
     pub pending : unplaced_of new ≡ unplaced_of old
     pub same_records : new.records ≡ old.records
     pub same_budget : SameBudget old new
@@ -244,7 +245,7 @@ module _ {R : Type 0} where
   -- A new order has an empty sorter, and nothing was read.
   pub record IsNewOrder (records : PerfRecordIter R) (bytes : ℕ) (new : OrderedRecords R) : Type 0 where
     pub same_records : new.records ≡ records
-    pub empty : IsNew new.sorter
+    pub empty : IsNew new.held.sorter
     pub round : new.round ≡ 0
     pub pending : unplaced_of new ≡ nothing
     pub budget : budget_of new ≡ bytes
@@ -261,11 +262,11 @@ module _ {R : Type 0} where
   -- The buffer that contains the body of a record to be returned.
   abbrev pub body_in : BodyBuffer → OrderedRecords R → List ℕ
   body_in Read s = s.body.items
-  body_in Sorted s = s.returned.items
+  body_in Sorted s = body_of s.held s.returned
 
   -- The next available record was taken from the sorter. Its body is in a buffer.
   abbrev pub TakesSorted : OrderedRecords R → Option RecordInfo → OrderedRecords R → Type 0
-  TakesSorted old None new = (available_of old.sorter ≡ []) × KeepsSorter old new
+  TakesSorted old None new = (available_of old.held.sorter ≡ []) × KeepsSorter old new
   TakesSorted old (Some info) new = (key : ℕ) × ((held : HeldRecord) × ReturnsSorted old key held new × (view_with info (body_in Sorted new) ≡ held_view held))
 
   module _ (state : R → State) where
@@ -348,7 +349,7 @@ module _ {R : Type 0} where
     pub record EndReturned (old : OrderedRecords R) (file : PerfFile) (new : OrderedRecords R) (file' : PerfFile) : Type 0 where
       pub before : Progress old file new file'
       pub at_end : unplaced_of new ≡ ending
-      pub all_returned : held_of new.sorter ≡ []
+      pub all_returned : held_of new.held.sorter ≡ []
 
     -- The error was returned, and all records before it had been.
     pub record ErrorReturned (old : OrderedRecords R) (file : PerfFile) (e : Error) (new : OrderedRecords R) (file' : PerfFile) : Type 0 where
@@ -361,7 +362,7 @@ module _ {R : Type 0} where
       pub is_failed : e ≡ error.Failed
       pub before : Progress old file new file'
       pub has_failed : unplaced_of new ≡ failed
-      pub all_returned : held_of new.sorter ≡ []
+      pub all_returned : held_of new.held.sorter ≡ []
 
     abbrev pub FailsInOrder : OrderedRecords R → PerfFile → Error → OrderedRecords R → PerfFile → Type 0
     FailsInOrder old file e new file' = ErrorReturned old file e new file' ⊎ (StillFailed old file e new file' ⊎ ((e ≡ error.Memory) × Progress old file new file'))
@@ -404,7 +405,7 @@ module _ {R : Type 0} where
       pub pending : unplaced_of new ≡ unplaced_of old
       pub same_records : new.records ≡ old.records
       pub in_round : h.round ≤ new.round
-      pub none_available : available_of new.sorter ≡ []
+      pub none_available : available_of new.held.sorter ≡ []
       pub fits_budget : FitsBudget new (held_size h)
 
     -- Records are available, and the pending record is still pending.
@@ -412,7 +413,7 @@ module _ {R : Type 0} where
       pub places : Places old new
       pub pending : unplaced_of new ≡ unplaced_of old
       pub same_records : new.records ≡ old.records
-      pub available : 0 < length (available_of new.sorter)
+      pub available : 0 < length (available_of new.held.sorter)
 
     abbrev pub AdmitsPending : OrderedRecords R → RecordView → Result Bool AllocError → OrderedRecords R → Type 0
     AdmitsPending old h (Ok true) new = IsAdmitted old h new
@@ -422,10 +423,10 @@ module _ {R : Type 0} where
     -- What was pending is in the sorter, or records are to be returned before it. At the end of the input, all rounds ended.
     abbrev pub AfterPlacing : Unplaced → OrderedRecords R → Type 0
     AfterPlacing nothing new = unplaced_of new ≡ nothing
-    AfterPlacing (timed key h) new = (unplaced_of new ≡ nothing) ⊎ ((unplaced_of new ≡ timed key h) × (0 < length (available_of new.sorter)))
-    AfterPlacing ending new = (unplaced_of new ≡ ending) × (pending_of new.sorter ≡ [])
-    AfterPlacing (failing e) new = (unplaced_of new ≡ failing e) × (pending_of new.sorter ≡ [])
-    AfterPlacing failed new = (unplaced_of new ≡ failed) × (pending_of new.sorter ≡ [])
+    AfterPlacing (timed key h) new = (unplaced_of new ≡ nothing) ⊎ ((unplaced_of new ≡ timed key h) × (0 < length (available_of new.held.sorter)))
+    AfterPlacing ending new = (unplaced_of new ≡ ending) × (pending_of new.held.sorter ≡ [])
+    AfterPlacing (failing e) new = (unplaced_of new ≡ failing e) × (pending_of new.held.sorter ≡ [])
+    AfterPlacing failed new = (unplaced_of new ≡ failed) × (pending_of new.held.sorter ≡ [])
 
     abbrev pub PlacesPending : OrderedRecords R → Result (Unit {0}) AllocError → OrderedRecords R → Type 0
     PlacesPending old (Ok done) new = Places old new × AfterPlacing (unplaced_of old) new × (new.records ≡ old.records)

@@ -1,14 +1,17 @@
-//! Records whose bodies are in buffers of their own.
+//! Records without their bodies, and held records.
 ghost use Rattle.std.specs.Prelude.{◌≡◌, ◌<◌, [], length, IfOk, OnErr, vec_capacity};
 ghost use Rattle.perfdata_base.specs.Raw.{bytes_of};
 ghost use Rattle.perfdata_records.specs.FileRecord.{file_record_body};
 ghost use Rattle.linux_perf_data.specs.RecordViews.{record_view_of};
 
+use crate::bodies::BodyRange;
+use crate::parse_infos::ParseInfos;
 use linux_perf_data::event::{RawEventRecord, RecordType};
 use linux_perf_data::place::RecordParseInfo;
 use linux_perf_data::raw::RawData;
 use linux_perf_data::{Endianness, PerfFileRecord, RawUserRecord, RecordPlace, UserRecordType};
-use std::alloc::{AllocError, Global};
+use std::alloc::AllocError;
+use std::snapshot::Snapshot;
 
 // The writer of a record: the kernel, for the attribute with this index, or a tool.
 #[derive(Clone, Copy)]
@@ -68,33 +71,68 @@ impl RecordInfo {
     }
 }
 
-// A record with its body.
+// The writer of a held record. The parse info has an index in `ParseInfos`; only clauses read the snapshot.
+#[derive(Drop)]
+pub(crate) enum HeldWriter {
+    Kernel(usize, RecordType, usize, Snapshot<RecordParseInfo>),
+    Tool(UserRecordType, Endianness),
+}
+
+impl HeldWriter {
+    ghost use Rattle.perfdata_order.specs.HeldRecord.{HoldsWriter};
+
+    pub(crate) fn of(
+        writer: Writer,
+        parse_infos: &mut ParseInfos,
+    ) -> Result<HeldWriter, AllocError>
+        ensures { HoldsWriter parse_infos.old writer result parse_infos.new }
+    {
+        match writer {
+            Writer::Kernel(attr_index, record_type, parse_info) => {
+                match parse_infos.index_of(attr_index, &parse_info) {
+                    Ok(index) => Ok(HeldWriter::Kernel(
+                        attr_index,
+                        record_type,
+                        index,
+                        Snapshot::of(&parse_info),
+                    )),
+                    Err(error) => Err(error),
+                }
+            }
+            Writer::Tool(record_type, endian) => Ok(HeldWriter::Tool(record_type, endian)),
+        }
+    }
+}
+
+// A held record. Its body has a range in `Bodies`; only clauses read the snapshot.
 #[derive(Drop)]
 pub(crate) struct HeldRecord {
-    pub(crate) info: RecordInfo,
-    pub(crate) body: Vec<u8>,
+    pub(crate) place: RecordPlace,
+    pub(crate) misc: u16,
+    pub(crate) writer: HeldWriter,
+    pub(crate) range: BodyRange,
+    pub(crate) body: Snapshot<Vec<u8>>,
 }
 
 impl HeldRecord {
-    ghost use Rattle.perfdata_order.specs.HeldRecord.{view_with, held_view};
+    ghost use Rattle.perfdata_order.specs.HeldRecord.{info_of, IsKnown};
 
-    // Copies the body into one of the spare buffers, or into a new one.
-    pub(crate) fn copy_from(
-        alloc: Global,
-        spare: &mut Vec<Vec<u8>>,
-        info: RecordInfo,
-        body: &[u8],
-    ) -> Result<HeldRecord, AllocError>
-        ensures { IfOk result (λ held. held_view held ≡ view_with info body.now) }
+    // The record without its body. Its parse info was found.
+    pub(crate) fn info(&self, parse_infos: &ParseInfos) -> RecordInfo
+        requires { IsKnown parse_infos.now self.now.writer }
+        ensures { result ≡ info_of self.now }
     {
-        let mut buffer = match spare.pop() {
-            Some(buffer) => buffer,
-            None => Vec::new(alloc),
+        let writer = match self.writer {
+            HeldWriter::Kernel(attr_index, record_type, index, _) => match parse_infos.get(index) {
+                Some(parse_info) => Writer::Kernel(attr_index, record_type, parse_info),
+                None => unreachable!(),
+            },
+            HeldWriter::Tool(record_type, endian) => Writer::Tool(record_type, endian),
         };
-        buffer.clear();
-        match buffer.extend_from_slice(body) {
-            Ok(()) => Ok(HeldRecord { info, body: buffer }),
-            Err(error) => Err(error),
+        RecordInfo {
+            place: self.place,
+            misc: self.misc,
+            writer,
         }
     }
 }

@@ -5,9 +5,12 @@
 //! one after another.
 #![tactic(auto)]
 
+mod bodies;
 mod held_record;
+mod held_records;
 pub mod in_memory;
 pub mod laws;
+mod parse_infos;
 mod slots;
 pub mod sorter;
 pub mod streaming;

@@ -4,8 +4,8 @@ ghost use Rattle.std.specs.Prelude.{◌≡◌, ◌<◌, None, Some, [], length, 
 use std::alloc::{AllocError, Global};
 use std::mem::replace;
 
-// Values in slots. Half of the slots or more may be vacant, so the next vacant one is found after few others, and consecutive values
-// are in consecutive slots.
+// Values in slots. A quarter of the slots or more may be vacant, so the next vacant one is found after few others, and consecutive
+// values are in consecutive slots.
 #[derive(Drop)]
 pub(crate) struct Slots<V> {
     values: Vec<Option<V>>,
@@ -44,11 +44,12 @@ impl<V> Slots<V> {
         len
     }
 
-    // Returns a vacant slot. If `used` slots are more than half of all, it is a new one.
+    // Returns a vacant slot. If `used` slots are more than three quarters of all, it is a new one.
     pub(crate) fn vacant(&mut self, used: usize) -> Result<usize, AllocError>
         ensures { FindsVacant self.old result self.new }
     {
-        if used <= self.values.len() / 2 {
+        let len = self.values.len();
+        if used <= len - len / 4 {
             let slot = self.search();
             if slot < self.values.len() {
                 return Ok(slot);

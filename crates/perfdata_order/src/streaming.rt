@@ -2,9 +2,10 @@
 ghost use Rattle.std.specs.Prelude.{◌≡◌, ℕ, ◌+◌, ◌^◌, ◌<◌, ◌≤◌, [], MatchBool, vec_capacity};
 ghost use Rattle.perfdata_order.specs.StreamingOrder.{ReadsRecord};
 
-use crate::held_record::{HeldRecord, RecordInfo, copy_body};
+use crate::bodies::BodyRange;
+use crate::held_record::{RecordInfo, copy_body};
+use crate::held_records::HeldRecords;
 use crate::in_memory::time_key;
-use crate::sorter::Sorter;
 use linux_perf_data::source::Source;
 use linux_perf_data::{Error, PerfFile, PerfFileRecord, PerfRecordIter, RecordPlace};
 use std::alloc::{AllocError, Global};
@@ -20,7 +21,7 @@ pub(crate) enum Pending {
     Failed,
 }
 
-// The buffer with the body of a record to be returned: the record that was read last, or the one that the sorter returned last.
+// Where the body of a record to be returned is: in the buffer of the record that was read last, or among those of held records.
 #[derive(Clone, Copy)]
 pub(crate) enum BodyBuffer {
     Read,
@@ -39,17 +40,16 @@ const BODY_CAPACITY: usize = 65536;
 /// The timed records ascend as long as the recording keeps perf's rule: no record of round n + 2 or of a later round is older
 /// than a record of round n. The records of two rounds are held, with their bodies. If the recording has no rounds, all timed
 /// records are held, unless there is a budget ([`OrderedRecords::with_budget`]). Equal timestamps keep the order of the source.
-/// The buffers of returned bodies are used again.
+/// The memory of returned bodies is used again.
 #[derive(Drop)]
 pub struct OrderedRecords<R> {
-    alloc: Global,
     records: PerfRecordIter<R>,
-    sorter: Sorter<u64, HeldRecord>,
+    held: HeldRecords,
     round: u64,
     pending: Pending,
     body: Vec<u8>,
-    returned: Vec<u8>,
-    spare: Vec<Vec<u8>>,
+    // The body of the record that was returned last of the held ones.
+    returned: BodyRange,
     // In bytes. 0 if there is no budget.
     budget: u64,
     held_bytes: u64,
@@ -76,14 +76,12 @@ impl<R> OrderedRecords<R> {
         ensures { IsNewOrder records budget result }
     {
         OrderedRecords {
-            alloc,
             records,
-            sorter: Sorter::new(alloc),
+            held: HeldRecords::new(alloc),
             round: 0,
             pending: Pending::Nothing,
             body: Vec::new(alloc),
-            returned: Vec::new(alloc),
-            spare: Vec::new(alloc),
+            returned: BodyRange::EMPTY,
             budget,
             held_bytes: 0,
             early: 0,
@@ -115,13 +113,13 @@ impl<R> OrderedRecords<R> {
     fn release_early(&mut self, size: u64) -> Result<(), AllocError>
         ensures { ReleasesEarly self.old size result self.new }
     {
-        if self.budget == 0 || self.sorter.is_empty() {
+        if self.budget == 0 || self.held.is_empty() {
             return Ok(());
         }
         if self.is_within_budget(size) {
             return Ok(());
         }
-        match self.sorter.release_half() {
+        match self.held.release_half() {
             Ok(()) => {
                 self.early = self.early.saturating_add(1);
                 Ok(())
@@ -139,25 +137,22 @@ impl<R> OrderedRecords<R> {
             return Ok(());
         }
         if ended == 1 {
-            self.sorter.finish_round()?;
+            self.held.finish_round()?;
         } else {
-            self.sorter.finish()?;
+            self.held.finish()?;
         }
         self.round = round;
         Ok(())
     }
 
-    // Takes the next available record from the sorter. Its body is then in `self.returned`.
+    // Takes the next available record from the sorter. `self.returned` is then its body.
     fn take_sorted(&mut self) -> Option<RecordInfo>
         ensures { TakesSorted self.old result self.new }
     {
-        match self.sorter.get_next() {
-            Some(held) => {
-                let HeldRecord { info, body } = held;
-                let buffer = replace(&mut self.returned, body);
-                // If memory runs out, the buffer is freed.
-                let _kept = self.spare.push(buffer);
-                let size = held_size(self.returned.len());
+        match self.held.take_next() {
+            Some((info, range)) => {
+                let size = held_size(self.held.body(range).len());
+                self.returned = range;
                 self.held_bytes = self.held_bytes.saturating_sub(size);
                 Some(info)
             }
@@ -187,7 +182,7 @@ impl<R> OrderedRecords<R> {
     {
         match buffer {
             BodyBuffer::Read => self.body.as_slice(),
-            BodyBuffer::Sorted => self.returned.as_slice(),
+            BodyBuffer::Sorted => self.held.body(self.returned),
         }
     }
 }
@@ -272,21 +267,21 @@ impl<R: Source> OrderedRecords<R> {
     fn admit_pending(&mut self, round: u64, size: u64) -> Result<bool, AllocError>
         ensures { (key : ℕ) (h : RecordView) → unplaced_of self.old ≡ timed key h → h.round ≡ round → size_of h ≡ size → AdmitsPending R.state self.old h result self.new }
     {
-        if self.sorter.has_more() {
+        if self.held.has_more() {
             return Ok(false);
         }
         match self.end_rounds(round) {
             Ok(()) => {}
             Err(error) => return Err(error),
         }
-        if self.sorter.has_more() {
+        if self.held.has_more() {
             return Ok(false);
         }
         match self.release_early(size) {
             Ok(()) => {}
             Err(error) => return Err(error),
         }
-        Ok(!self.sorter.has_more())
+        Ok(!self.held.has_more())
     }
 
     // Inserts the pending record into the sorter, if it may be inserted.
@@ -300,18 +295,13 @@ impl<R: Source> OrderedRecords<R> {
             Ok(false) => return Ok(()),
             Err(error) => return Err(error),
         }
-        let body = self.body.as_slice();
-        let held = match HeldRecord::copy_from(self.alloc, &mut self.spare, info, body) {
-            Ok(held) => held,
-            Err(error) => return Err(error),
-        };
-        match self.sorter.insert_unordered(key, held) {
+        match self.held.insert(key, info, &self.body) {
             Ok(()) => {
                 self.pending = Pending::Nothing;
                 self.held_bytes = self.held_bytes.saturating_add(size);
                 Ok(())
             }
-            Err(_) => Err(AllocError),
+            Err(error) => Err(error),
         }
     }
 
@@ -322,9 +312,9 @@ impl<R: Source> OrderedRecords<R> {
         match self.pending {
             Pending::Nothing => Ok(()),
             Pending::Record(key, info) => self.place_record(key, info),
-            Pending::End => self.sorter.finish(),
-            Pending::Failure(_) => self.sorter.finish(),
-            Pending::Failed => self.sorter.finish(),
+            Pending::End => self.held.finish(),
+            Pending::Failure(_) => self.held.finish(),
+            Pending::Failed => self.held.finish(),
         }
     }
 

@@ -1,0 +1,70 @@
+use Rattle.std.proofs.Common.{Ok, Err, sym, ap, ◌∙◌, subst}
+use Rattle.perfdata_order.specs.declared.held_record.HeldRecord.{HeldRecord}
+use Rattle.perfdata_order.specs.HeldRecord.{view_with}
+use Rattle.perfdata_order.specs.HeldRecords.{InsertsRecord}
+use Rattle.std.specs.Ordering.{nat_cmp}
+use Rattle.perfdata_order.specs.Sorter.{held_of, IsUnchanged, Inserted}
+use Rattle.perfdata_order.proofs.SorterCalls.{held_after_insert}
+use Rattle.perfdata_order.proofs.HeldLemmas.{unchanged_held, stored_kept, stored_appended, stored_inserted, stored_permuted, all_released, counted_kept, counted_inserted, counted_undone, counted_permuted}
+use Rattle.perfdata_order.proofs.held_records.HeldRecords.insert.Goals as goal
+use Rattle.perfdata_order.proofs.held_records.HeldRecords.insert.Goals.{in-Ok-insert_unordered, in-Err-insert_unordered}
+
+pub invariant_of-self-in-Err-append : goal.invariant_of-self-in-Err-append
+invariant_of-self-in-Err-append c =
+    let old = c.args.self.now in
+    let bodies = c.append.new.self in
+    let found = c.in-Ok.ensures.1.1 in
+    record {
+      stored = stored_kept old.bodies bodies old.parse_infos c.of.new.parse_infos (held_of old.sorter) c.in-Err-append.ensures found old.counted old.stored;
+      counted = counted_kept old.bodies bodies (held_of old.sorter) c.in-Err-append.ensures old.counted;
+    }
+
+pub invariant_of-self-in-Ok-insert_unordered : goal.invariant_of-self-in-Ok-insert_unordered
+invariant_of-self-in-Ok-insert_unordered c =
+    let old = c.args.self.now in
+    let sorter = c.insert_unordered.new.self in
+    let bodies = c.append.new.self in
+    let infos = c.of.new.parse_infos in
+    let body = c.as_slice.result.now in
+    let held : HeldRecord = record { place = c.args.info.place; misc = c.args.info.misc; writer = c.in-Ok.writer; range = c.in-Ok-append.range; body = c.of-2.result } in
+    let appended = c.in-Ok-append.ensures in
+    let more = held_after_insert old.sorter sorter c.args.key held c.in-Ok-insert_unordered.ensures in
+    let all = stored_appended old.bodies bodies old.parse_infos infos (held_of old.sorter) appended.kept c.in-Ok.ensures.1.1 old.counted old.stored in
+    let is_body = appended.is_body ∙ c.as_slice.ensures.value ∙ sym (ap (λ v. v.items) c.of-2.ensures) in
+    record {
+      stored = stored_inserted bodies infos c.args.key held (held_of old.sorter) (held_of sorter) more all (is_body, (appended.in_block, c.in-Ok.ensures.1.0));
+      counted = counted_inserted old.bodies bodies body c.args.key held (held_of old.sorter) (held_of sorter) appended more old.counted;
+    }
+
+pub invariant_of-self-in-Err-insert_unordered : goal.invariant_of-self-in-Err-insert_unordered
+invariant_of-self-in-Err-insert_unordered c =
+    let old = c.args.self.now in
+    let sorter = c.insert_unordered.new.self in
+    let bodies = c.append.new.self in
+    let last = c.release.new.self in
+    let infos = c.of.new.parse_infos in
+    let range = c.in-Ok-append.range in
+    let appended = c.in-Ok-append.ensures in
+    let same = unchanged_held old.sorter sorter c.in-Err-insert_unordered.ensures.1 in
+    let all = stored_appended old.bodies bodies old.parse_infos infos (held_of old.sorter) appended.kept c.in-Ok.ensures.1.1 old.counted old.stored in
+    let still = all_released bodies last infos range.block (held_of old.sorter) c.release.ensures all in
+    let count = counted_undone old.bodies bodies last c.as_slice.result.now range (held_of old.sorter) appended c.release.ensures old.counted in
+    record {
+      stored = stored_permuted last infos (held_of old.sorter) (held_of sorter) same still;
+      counted = counted_permuted last (held_of old.sorter) (held_of sorter) same count;
+    }
+
+pub returns : goal.returns
+returns c =
+    let old = c.args.self.now in
+    let new = c.match-insert_unordered.self in
+    let held : HeldRecord = record { place = c.args.info.place; misc = c.args.info.misc; writer = c.in-Ok.writer; range = c.in-Ok-append.range; body = c.of-2.result } in
+    elim c.match-insert_unordered.branch [
+      | in-Ok-insert_unordered w ↦
+          let done = subst (λ s. Inserted nat_cmp old.sorter c.args.key held s) (sym (ap (λ s. s.sorter) w.self-is)) w.in-Ok-insert_unordered.ensures in
+          let view = ap (λ x. view_with (record c.args.info { writer = x }) held.body.value.items) c.in-Ok.ensures.0 ∙ ap (λ v. view_with c.args.info v.items) c.of-2.ensures in
+          subst (λ r. InsertsRecord old c.args.key c.args.info c.args.body.now.items r new) (sym w.result-is) (held, (done, view))
+      | in-Err-insert_unordered w ↦
+          let same = subst (λ s. IsUnchanged old.sorter s) (sym (ap (λ s. s.sorter) w.self-is)) w.in-Err-insert_unordered.ensures.1 in
+          subst (λ r. InsertsRecord old c.args.key c.args.info c.args.body.now.items r new) (sym w.result-is) same
+    ]

@@ -1,0 +1,225 @@
+//! The bodies of held records, in blocks.
+ghost use Rattle.std.specs.Prelude.{◌≡◌, ◌^◌, ◌-◌, ◌<◌, length, IsTrue};
+
+use std::alloc::{AllocError, Global};
+
+// The capacity of a block in bytes. A larger body has a block of its own.
+const BLOCK_CAPACITY: usize = 4096;
+
+// Bodies one after the other, and how many of them are held.
+#[derive(Drop)]
+pub(crate) struct Block {
+    bytes: Vec<u8>,
+    held: usize,
+}
+
+impl Block {
+    ghost use Rattle.perfdata_order.specs.Bodies.{AppendsTo, IsCleared, ReleasesFrom};
+
+    // Whether a body of this length fits. In an empty block, each body does.
+    fn has_room(&self, len: usize) -> bool
+        ensures { IsTrue result → self.now.held < 2 ^ 64 - 1 }
+    {
+        let used = self.bytes.len();
+        let fits = used == 0 || used <= BLOCK_CAPACITY && len <= BLOCK_CAPACITY - used;
+        fits && self.held < usize::MAX
+    }
+
+    // Appends a body. Returns the offset of its end.
+    fn append(&mut self, body: &[u8]) -> Result<usize, AllocError>
+        requires { self.old.held < 2 ^ 64 - 1 }
+        ensures { AppendsTo self.old body.now result self.new }
+    {
+        match self.bytes.extend_from_slice(body) {
+            Ok(()) => {}
+            Err(error) => return Err(error),
+        }
+        self.held += 1;
+        Ok(self.bytes.len())
+    }
+
+    // Removes all bodies, if none is held. Returns whether none is.
+    fn clear(&mut self) -> bool
+        ensures { IsCleared self.old result self.new }
+    {
+        if self.held != 0 {
+            return false;
+        }
+        self.bytes.clear();
+        self.bytes.shrink_to(BLOCK_CAPACITY);
+        true
+    }
+
+    // One body fewer is held. Returns how many are left.
+    fn release(&mut self) -> usize
+        ensures { ReleasesFrom self.old result self.new }
+    {
+        self.held = self.held.saturating_sub(1);
+        self.held
+    }
+}
+
+// The block of a body, and the offsets of its start and its end in the block.
+#[derive(Clone, Copy)]
+pub(crate) struct BodyRange {
+    pub(crate) block: usize,
+    start: usize,
+    end: usize,
+}
+
+impl BodyRange {
+    // The range of no body.
+    pub(crate) const EMPTY: BodyRange = BodyRange {
+        block: 0,
+        start: 0,
+        end: 0,
+    };
+}
+
+// The bodies of held records. A block is used again once none of its bodies is held, so each held body keeps at most one block.
+#[derive(Drop)]
+pub(crate) struct Bodies {
+    alloc: Global,
+    blocks: Vec<Block>,
+    // The block to which bodies are appended.
+    current: usize,
+    // The other blocks without held bodies.
+    spare: Vec<usize>,
+}
+
+impl Bodies {
+    ghost use Rattle.perfdata_order.specs.Bodies.{AppendsBody, ReleasesBody, MovesOn, KeepsBodies, HoldsNone, CanAppend, bytes_at, body_at};
+
+    pub(crate) fn new(alloc: Global) -> Bodies
+        ensures { HoldsNone result }
+    {
+        Bodies {
+            alloc,
+            blocks: Vec::new(alloc),
+            current: 0,
+            spare: Vec::new(alloc),
+        }
+    }
+
+    // Whether the current block has room for a body of this length.
+    fn has_room(&self, len: usize) -> bool
+        ensures { IsTrue result → CanAppend self.now }
+    {
+        let index = self.current;
+        index < self.blocks.len() && self.blocks[index].has_room(len)
+    }
+
+    // Clears a block, and makes it the current one, if no body in it is held. Returns whether none is.
+    fn reuse(&mut self, index: usize) -> bool
+        ensures kept { KeepsBodies self.old self.new }
+        ensures reused { IsTrue result → CanAppend self.new }
+    {
+        if index < self.blocks.len() && self.blocks[index].clear() {
+            self.current = index;
+            return true;
+        }
+        false
+    }
+
+    // Makes a new block the current one.
+    fn add_block(&mut self) -> Result<(), AllocError>
+        ensures { MovesOn self.old result self.new }
+    {
+        let count = self.blocks.len();
+        // Then `release` needs no memory.
+        match self.spare.reserve(count + 1) {
+            Ok(()) => {}
+            Err(error) => return Err(error),
+        }
+        match self.blocks.reserve(1) {
+            Ok(()) => {}
+            Err(error) => return Err(error),
+        }
+        let bytes = match Vec::with_capacity(self.alloc, BLOCK_CAPACITY) {
+            Ok(bytes) => bytes,
+            Err(error) => return Err(error),
+        };
+        self.blocks.push_reserved(Block { bytes, held: 0 });
+        self.current = count;
+        Ok(())
+    }
+
+    // Makes an empty block the current one.
+    fn next_block(&mut self) -> Result<(), AllocError>
+        ensures { MovesOn self.old result self.new }
+    {
+        if self.reuse(self.current) {
+            return Ok(());
+        }
+        match self.spare.pop() {
+            Some(index) => {
+                if self.reuse(index) {
+                    return Ok(());
+                }
+            }
+            None => {}
+        }
+        self.add_block()
+    }
+
+    // Appends a body to the current block.
+    fn append_to_current(&mut self, body: &[u8]) -> Result<BodyRange, AllocError>
+        requires { CanAppend self.old }
+        ensures { AppendsBody self.old body.now result self.new }
+    {
+        let block = self.current;
+        match self.blocks[block].append(body) {
+            Ok(end) => Ok(BodyRange {
+                block,
+                start: end - body.len(),
+                end,
+            }),
+            Err(error) => Err(error),
+        }
+    }
+
+    // Copies a body, which is then held.
+    pub(crate) fn append(&mut self, body: &[u8]) -> Result<BodyRange, AllocError>
+        ensures { AppendsBody self.old body.now result self.new }
+    {
+        if !self.has_room(body.len()) {
+            match self.next_block() {
+                Ok(()) => {}
+                Err(error) => return Err(error),
+            }
+        }
+        self.append_to_current(body)
+    }
+
+    // One body in the block is no longer held. Its bytes stay until the next call of `append`.
+    pub(crate) fn release(&mut self, block: usize)
+        ensures { ReleasesBody self.old block self.new }
+    {
+        if block >= self.blocks.len() {
+            return;
+        }
+        let left = self.blocks[block].release();
+        if left == 0 && block != self.current {
+            // `add_block` reserved the capacity.
+            let _kept = self.spare.push(block);
+        }
+    }
+
+    // The bytes of the block.
+    fn block_bytes(&self, block: usize) -> &[u8]
+        ensures { result.now ≡ bytes_at self.now block }
+    {
+        match self.blocks.get(block) {
+            Some(block) => block.bytes.as_slice(),
+            None => &[],
+        }
+    }
+
+    pub(crate) fn get(&self, range: BodyRange) -> &[u8]
+        ensures { result.now ≡ body_at self.now range }
+    {
+        let bytes = self.block_bytes(range.block);
+        let prefix = bytes.get(..range.end).unwrap_or(bytes);
+        prefix.get(range.start..).unwrap_or(&[])
+    }
+}

@@ -1,0 +1,121 @@
+//! The held records of a source: a sorter of them, and what they have in common.
+ghost use Rattle.std.specs.Prelude.{◌≡◌, All};
+ghost use Rattle.std.specs.Ordering.{nat_cmp};
+ghost use Rattle.std.proofs.Props.{props};
+ghost use Rattle.perfdata_order.specs.Sorter.{held_of};
+ghost use Rattle.perfdata_order.specs.HeldRecord.{IsStored, IsCounted};
+
+use crate::bodies::{Bodies, BodyRange};
+use crate::held_record::{HeldRecord, HeldWriter, RecordInfo};
+use crate::parse_infos::ParseInfos;
+use crate::sorter::Sorter;
+use std::alloc::{AllocError, Global};
+use std::snapshot::Snapshot;
+
+// Held records in rounds, with their bodies and their parse infos.
+#[derive(Drop)]
+pub(crate) struct HeldRecords {
+    pub(crate) sorter: Sorter<u64, HeldRecord>,
+    bodies: Bodies,
+    parse_infos: ParseInfos,
+    ghost stored: { All (λ e. IsStored bodies parse_infos e.1) (held_of sorter) } by { Prim.hlevel props },
+    ghost counted: { IsCounted bodies (held_of sorter) } by { Prim.hlevel props },
+}
+
+impl HeldRecords {
+    ghost use Rattle.perfdata_order.specs.Sorter.{IsNew, TestsAvailable, TestsEmpty, EndsRound, EndsAllRounds, ReleasesHalf};
+    ghost use Rattle.perfdata_order.specs.HeldRecords.{InsertsRecord, TakesRecord, body_of};
+
+    pub(crate) fn new(alloc: Global) -> HeldRecords
+        ensures { IsNew result.sorter }
+    {
+        HeldRecords {
+            sorter: Sorter::new(alloc),
+            bodies: Bodies::new(alloc),
+            parse_infos: ParseInfos::new(alloc),
+        }
+    }
+
+    pub(crate) fn has_more(&self) -> bool
+        ensures { TestsAvailable self.now.sorter result }
+    {
+        self.sorter.has_more()
+    }
+
+    pub(crate) fn is_empty(&self) -> bool
+        ensures { TestsEmpty self.now.sorter result }
+    {
+        self.sorter.is_empty()
+    }
+
+    pub(crate) fn finish_round(&mut self) -> Result<(), AllocError>
+        ensures { EndsRound nat_cmp self.old.sorter result self.new.sorter }
+    {
+        self.sorter.finish_round()
+    }
+
+    pub(crate) fn finish(&mut self) -> Result<(), AllocError>
+        ensures { EndsAllRounds nat_cmp self.old.sorter result self.new.sorter }
+    {
+        self.sorter.finish()
+    }
+
+    pub(crate) fn release_half(&mut self) -> Result<(), AllocError>
+        ensures { ReleasesHalf nat_cmp self.old.sorter result self.new.sorter }
+    {
+        self.sorter.release_half()
+    }
+
+    // Inserts a record into the current round. Its body is copied.
+    pub(crate) fn insert(
+        &mut self,
+        key: u64,
+        info: RecordInfo,
+        body: &Vec<u8>,
+    ) -> Result<(), AllocError>
+        ensures { InsertsRecord self.old key info body.now.items result self.new }
+    {
+        let writer = match HeldWriter::of(info.writer, &mut self.parse_infos) {
+            Ok(writer) => writer,
+            Err(error) => return Err(error),
+        };
+        let range = match self.bodies.append(body.as_slice()) {
+            Ok(range) => range,
+            Err(error) => return Err(error),
+        };
+        let held = HeldRecord {
+            place: info.place,
+            misc: info.misc,
+            writer,
+            range,
+            body: Snapshot::of(body),
+        };
+        match self.sorter.insert_unordered(key, held) {
+            Ok(()) => Ok(()),
+            Err(_) => {
+                self.bodies.release(range.block);
+                Err(AllocError)
+            }
+        }
+    }
+
+    // Takes the next available record. Its body stays in its range until the next call of `insert`.
+    pub(crate) fn take_next(&mut self) -> Option<(RecordInfo, BodyRange)>
+        ensures { TakesRecord self.old result self.new }
+    {
+        match self.sorter.get_next() {
+            Some(held) => {
+                self.bodies.release(held.range.block);
+                Some((held.info(&self.parse_infos), held.range))
+            }
+            None => None,
+        }
+    }
+
+    // The body in this range.
+    pub(crate) fn body(&self, range: BodyRange) -> &[u8]
+        ensures { result.now ≡ body_of self.now range }
+    {
+        self.bodies.get(range)
+    }
+}
