@@ -1,6 +1,8 @@
 -- Blocks of bodies, as each call changes them.
 use Rattle.std.proofs.Common.{◌≡◌, ℕ, ◌+◌, ◌-◌, ◌^◌, ◌<◌, ◌≤◌, Bool, true, false, List, [], ◌∷◌, ◌++◌, length, get_or, map, take, drop, refl, sym, ap, ◌∙◌, subst, append-nil, inl, inr, arith, length-append, set}
-use Rattle.std.specs.Prelude.{◌≢◌, ◌⊎◌, ◌==◌, if◌then◌else◌}
+use Rattle.std.specs.Prelude.{◌≢◌, ◌⊎◌, ◌==◌, if◌then◌else◌, Vec}
+use Rattle.std.specs.declared.snapshot.Snapshot.{Snapshot}
+use Rattle.std.specs.declared.alloc.Global.{Global}
 use Rattle.std.proofs.lemmas.List.{map-set, get_or-map, get_or-set_same, get_or-set_other, length-set}
 use Rattle.std.proofs.Math.Seq.{drop-append_seam, take-length}
 use Rattle.perfdata_order.specs.declared.bodies.Block.{Block}
@@ -48,25 +50,26 @@ module _ (old new : Bodies) (i : ℕ) (b b' : Block) (below : i < length old.blo
 
   -- ---- appending
 
-  added : (body : List ℕ) (at_end : ℕ) → Appended b body at_end b' → (at : ℕ) → (i ≡ at) ⊎ (i ≢ at) → held_at new at ≡ held_at old at + (if i == at then 1 else 0)
-  added body at_end done at (inl same) =
+  added : (body : List ℕ) (at_end : ℕ) (shown : Snapshot (Vec ℕ Global)) → Appended b body at_end shown b' → (at : ℕ) → (i ≡ at) ⊎ (i ≢ at) → held_at new at ≡ held_at old at + (if i == at then 1 else 0)
+  added body at_end shown done at (inl same) =
       subst (λ n. held_at new n ≡ held_at old n + (if i == n then 1 else 0)) same
       (let one = use_same i i refl in let more = done.held in omega (arith, held_same, held_was, more, one))
-  added body at_end done at (inr other) = let none = use_other i at other in let kept = held_other at (λ same. other (sym same)) in omega (arith, kept, none)
+  added body at_end shown done at (inr other) = let none = use_other i at other in let kept = held_other at (λ same. other (sym same)) in omega (arith, kept, none)
 
-  still : (body : List ℕ) (at_end : ℕ) → Appended b body at_end b' → (at : ℕ) → (i ≡ at) ⊎ (i ≢ at) → IsPrefix (bytes_at old at) (bytes_at new at)
-  still body at_end done at (inl same) = subst (λ n. IsPrefix (bytes_at old n) (bytes_at new n)) same (body, bytes_same ∙ done.bytes ∙ ap (λ xs. xs ++ body) (sym bytes_was))
-  still body at_end done at (inr other) = ([], bytes_other at (λ same. other (sym same)) ∙ sym (append-nil (bytes_at old at)))
+  still : (body : List ℕ) (at_end : ℕ) (shown : Snapshot (Vec ℕ Global)) → Appended b body at_end shown b' → (at : ℕ) → (i ≡ at) ⊎ (i ≢ at) → IsPrefix (bytes_at old at) (bytes_at new at)
+  still body at_end shown done at (inl same) = subst (λ n. IsPrefix (bytes_at old n) (bytes_at new n)) same (body, bytes_same ∙ done.bytes ∙ ap (λ xs. xs ++ body) (sym bytes_was))
+  still body at_end shown done at (inr other) = ([], bytes_other at (λ same. other (sym same)) ∙ sym (append-nil (bytes_at old at)))
 
-  pub body_appended : (body : List ℕ) (at_end : ℕ) → Appended b body at_end b' → BodyAppended old body (record { block = i; start = at_end - length body; end = at_end }) new
-  body_appended body at_end done =
+  pub body_appended : (body : List ℕ) (at_end : ℕ) (shown : Snapshot (Vec ℕ Global)) → Appended b body at_end shown b' → BodyAppended old body (record { range = record { block = i; start = at_end - length body; end = at_end }; block = shown }) new
+  body_appended body at_end shown done =
       let bytes : bytes_at new i ≡ b.bytes.items ++ body = bytes_same ∙ done.bytes in
       let count = ap length bytes ∙ length-append b.bytes.items body in
       let ends = done.ends in
       record {
-        held = λ at. added body at_end done at (same_or_other i at);
-        kept = λ at some. still body at_end done at (same_or_other i at);
-        is_body = ap (λ xs. drop (at_end - length body) (take at_end xs)) bytes ∙ last_bytes b.bytes.items body at_end ends;
+        held = λ at. added body at_end shown done at (same_or_other i at);
+        kept = λ at some. still body at_end shown done at (same_or_other i at);
+        is_body = ap (λ xs. drop (at_end - length body) (take at_end xs)) done.shows ∙ last_bytes b.bytes.items body at_end ends;
+        at_range = ap (λ xs. drop (at_end - length body) (take at_end xs)) bytes ∙ last_bytes b.bytes.items body at_end ends;
         in_block = omega (arith, count, ends);
       }
 

@@ -8,7 +8,7 @@ use Rattle.std.proofs.lemmas.List.{take-append-le}
 use Rattle.std.proofs.lemmas.List.Elements.{All-nil, All-cons, All-head, All-tail, All-push}
 use Rattle.std.proofs.lemmas.List.Sums.{sum_by-cons, sum_by_push}
 use Rattle.std.proofs.lemmas.List.Sorted.{All-permutation, IsPermutation-refl, sum_by-IsPermutation}
-use Rattle.perfdata_order.specs.declared.bodies.BodyRange.{BodyRange}
+use Rattle.perfdata_order.specs.declared.bodies.HeldBody.{HeldBody}
 use Rattle.perfdata_order.specs.declared.bodies.Bodies.{Bodies}
 use Rattle.perfdata_order.specs.declared.parse_infos.ParseInfos.{ParseInfos}
 use Rattle.perfdata_order.specs.declared.held_record.HeldWriter.{HeldWriter}
@@ -28,7 +28,7 @@ abbrev pub AllStored : Bodies → ParseInfos → List Held → Type 0
 AllStored bodies infos es = All (λ e. IsStored bodies infos e.1) es
 
 abbrev use_in : ℕ → Held → ℕ
-use_in block e = if e.1.range.block == block then 1 else 0
+use_in block e = if e.1.body.range.block == block then 1 else 0
 
 -- ---- the sorter's calls
 
@@ -61,29 +61,29 @@ count_more block e es = sum_by-cons (λ x. use_in block x) e es
 count_push : (block : ℕ) (es : List Held) (e : Held) → count_in block (es ++ e ∷ []) ≡ count_in block es + use_in block e
 count_push block es e = sum_by_push (λ x. use_in block x) es e
 
-each_counted : (at : ℕ → ℕ) (es : List Held) → ((block : ℕ) → count_in block es ≤ at block) → All (λ e. 0 < at e.1.range.block) es
-each_counted at [] counted = All-nil (λ e. 0 < at e.1.range.block)
+each_counted : (at : ℕ → ℕ) (es : List Held) → ((block : ℕ) → count_in block es ≤ at block) → All (λ e. 0 < at e.1.body.range.block) es
+each_counted at [] counted = All-nil (λ e. 0 < at e.1.body.range.block)
 each_counted at (e ∷ es) counted =
-    let whole = counted e.1.range.block in
-    let more = count_more e.1.range.block e es in
-    let one = use_same e.1.range.block e.1.range.block refl in
-    All-cons (λ f. 0 < at f.1.range.block) e es (omega (arith, whole, more, one))
+    let whole = counted e.1.body.range.block in
+    let more = count_more e.1.body.range.block e es in
+    let one = use_same e.1.body.range.block e.1.body.range.block refl in
+    All-cons (λ f. 0 < at f.1.body.range.block) e es (omega (arith, whole, more, one))
     (each_counted at es (λ block. let all = counted block in let rest = count_more block e es in omega (arith, all, rest)))
 
 pub counted_kept : (old new : Bodies) (es : List Held) → KeepsBodies old new → IsCounted old es → IsCounted new es
 counted_kept old new es kept counted block = subst (λ n. count_in block es ≤ n) (sym (kept block).0) (counted block)
 
-pub counted_appended : (old new : Bodies) (body : List ℕ) (range : BodyRange) (es : List Held) → BodyAppended old body range new → IsCounted old es → IsCounted new es
-counted_appended old new body range es done counted block = let before = counted block in let more = done.held block in omega (arith, before, more)
+pub counted_appended : (old new : Bodies) (body : List ℕ) (appended : HeldBody) (es : List Held) → BodyAppended old body appended new → IsCounted old es → IsCounted new es
+counted_appended old new body appended es done counted block = let before = counted block in let more = done.held block in omega (arith, before, more)
 
-pub counted_inserted : (old new : Bodies) (body : List ℕ) (key : ℕ) (held : HeldRecord) (es fs : List Held) → BodyAppended old body held.range new → fs ≡ es ++ (key, held) ∷ [] → IsCounted old es → IsCounted new fs
+pub counted_inserted : (old new : Bodies) (body : List ℕ) (key : ℕ) (held : HeldRecord) (es fs : List Held) → BodyAppended old body held.body new → fs ≡ es ++ (key, held) ∷ [] → IsCounted old es → IsCounted new fs
 counted_inserted old new body key held es fs done more counted block =
     let before = counted block in
     let after = done.held block in
     let push = ap (λ xs. count_in block xs) more ∙ count_push block es (key, held) in
     omega (arith, before, after, push)
 
-pub counted_taken : (old new : Bodies) (key : ℕ) (held : HeldRecord) (es fs : List Held) → ReleasesBody old held.range.block new → es ≡ (key, held) ∷ fs → IsCounted old es → IsCounted new fs
+pub counted_taken : (old new : Bodies) (key : ℕ) (held : HeldRecord) (es fs : List Held) → ReleasesBody old held.body.range.block new → es ≡ (key, held) ∷ fs → IsCounted old es → IsCounted new fs
 counted_taken old new key held es fs released first counted block =
     let before = counted block in
     let after = (released block).0 in
@@ -91,8 +91,8 @@ counted_taken old new key held es fs released first counted block =
     omega (arith, before, after, whole)
 
 -- A body was appended, and then released again.
-pub counted_undone : (old middle new : Bodies) (body : List ℕ) (range : BodyRange) (es : List Held) → BodyAppended old body range middle → ReleasesBody middle range.block new → IsCounted old es → IsCounted new es
-counted_undone old middle new body range es done released counted block =
+pub counted_undone : (old middle new : Bodies) (body : List ℕ) (appended : HeldBody) (es : List Held) → BodyAppended old body appended middle → ReleasesBody middle appended.range.block new → IsCounted old es → IsCounted new es
+counted_undone old middle new body appended es done released counted block =
     let before = counted block in
     let more = done.held block in
     let less = (released block).0 in
@@ -113,10 +113,10 @@ prefix_body xs ys start at_end (more, is) below = ap (λ zs. drop start (take at
 prefix_below : (xs ys : List ℕ) (n : ℕ) → IsPrefix xs ys → n ≤ length xs → n ≤ length ys
 prefix_below xs ys n (more, is) below = subst (λ zs. n ≤ length zs) (sym is) (let len = length-append xs more in omega (arith, below, len))
 
-stored_on : (old new : Bodies) (infos infos' : ParseInfos) (held : HeldRecord) → IsPrefix (bytes_at old held.range.block) (bytes_at new held.range.block) → KeepsFound infos infos' → IsStored old infos held → IsStored new infos' held
+stored_on : (old new : Bodies) (infos infos' : ParseInfos) (held : HeldRecord) → IsPrefix (bytes_at old held.body.range.block) (bytes_at new held.body.range.block) → KeepsFound infos infos' → IsStored old infos held → IsStored new infos' held
 stored_on old new infos infos' held more kept (is, (below, known)) = (
-  prefix_body (bytes_at old held.range.block) (bytes_at new held.range.block) held.range.start held.range.end more below ∙ is,
-  (prefix_below (bytes_at old held.range.block) (bytes_at new held.range.block) held.range.end more below, known_kept infos infos' kept held.writer known),
+  prefix_body (bytes_at old held.body.range.block) (bytes_at new held.body.range.block) held.body.range.start held.body.range.end more below ∙ is,
+  (prefix_below (bytes_at old held.body.range.block) (bytes_at new held.body.range.block) held.body.range.end more below, known_kept infos infos' kept held.writer known),
 )
 
 same_prefix : (xs ys : List ℕ) → ys ≡ xs → IsPrefix xs ys
@@ -129,8 +129,8 @@ found_kept infos index parse_info is = is
 pub stored_appended : (old new : Bodies) (infos infos' : ParseInfos) (es : List Held) → ((block : ℕ) → 0 < held_at old block → IsPrefix (bytes_at old block) (bytes_at new block)) → KeepsFound infos infos'
     → IsCounted old es → AllStored old infos es → AllStored new infos' es
 stored_appended old new infos infos' es more kept counted all =
-    both (λ e. 0 < held_at old e.1.range.block) (λ e. IsStored old infos e.1) (λ e. IsStored new infos' e.1)
-    (λ e some is. stored_on old new infos infos' e.1 (more e.1.range.block some) kept is) es (each_counted (λ block. held_at old block) es counted) all
+    both (λ e. 0 < held_at old e.1.body.range.block) (λ e. IsStored old infos e.1) (λ e. IsStored new infos' e.1)
+    (λ e some is. stored_on old new infos infos' e.1 (more e.1.body.range.block some) kept is) es (each_counted (λ block. held_at old block) es counted) all
 
 pub stored_kept : (old new : Bodies) (infos infos' : ParseInfos) (es : List Held) → KeepsBodies old new → KeepsFound infos infos' → IsCounted old es → AllStored old infos es → AllStored new infos' es
 stored_kept old new infos infos' es kept found counted all =
@@ -139,7 +139,7 @@ stored_kept old new infos infos' es kept found counted all =
 -- A body was released, whose bytes stay.
 pub stored_released : (old new : Bodies) (infos : ParseInfos) (block : ℕ) (held : HeldRecord) → ReleasesBody old block new → IsStored old infos held → IsStored new infos held
 stored_released old new infos block held released is =
-    stored_on old new infos infos held (same_prefix (bytes_at old held.range.block) (bytes_at new held.range.block) (released held.range.block).1) (found_kept infos) is
+    stored_on old new infos infos held (same_prefix (bytes_at old held.body.range.block) (bytes_at new held.body.range.block) (released held.body.range.block).1) (found_kept infos) is
 
 pub all_released : (old new : Bodies) (infos : ParseInfos) (block : ℕ) (es : List Held) → ReleasesBody old block new → AllStored old infos es → AllStored new infos es
 all_released old new infos block es released all =

@@ -15,7 +15,7 @@ use Rattle.perfdata_order.specs.declared.held_record.HeldWriter.TheVariants as h
 use Rattle.perfdata_order.specs.declared.held_record.HeldRecord.{HeldRecord}
 use Rattle.perfdata_order.specs.declared.bodies.Bodies.{Bodies}
 use Rattle.perfdata_order.specs.declared.parse_infos.ParseInfos.{ParseInfos}
-use Rattle.perfdata_order.specs.Bodies.{bytes_at, held_at, body_at}
+use Rattle.perfdata_order.specs.Bodies.{bytes_at, held_at, body_at, body_in}
 use Rattle.perfdata_order.specs.ParseInfos.{found_at, KeepsFound}
 
 abbrev pub type_by_writer : Writer → ℕ
@@ -52,7 +52,7 @@ abbrev pub info_of : HeldRecord → RecordInfo
 info_of held = record { place = held.place; misc = held.misc; writer = writer_of held.writer }
 
 abbrev pub held_view : HeldRecord → RecordView
-held_view held = view_with (info_of held) held.body.value.items
+held_view held = view_with (info_of held) (body_in held.body)
 
 -- The bytes that count for a held record: its body, and what is held beside it.
 abbrev pub held_size : RecordView → ℕ
@@ -75,11 +75,11 @@ IsKnown infos writer = found_of infos writer ≡ known_of writer
 
 -- Its body and its parse info are found.
 abbrev pub IsStored : Bodies → ParseInfos → HeldRecord → Type 0
-IsStored bodies infos held = (body_at bodies held.range ≡ held.body.value.items) × ((held.range.end ≤ length (bytes_at bodies held.range.block)) × IsKnown infos held.writer)
+IsStored bodies infos held = (body_at bodies held.body.range ≡ body_in held.body) × ((held.body.range.end ≤ length (bytes_at bodies held.body.range.block)) × IsKnown infos held.writer)
 
 -- How many of the records have their bodies in this block.
 abbrev pub count_in : ℕ → List (ℕ × HeldRecord) → ℕ
-count_in block held = sum_by (λ e. if e.1.range.block == block then 1 else 0) held
+count_in block held = sum_by (λ e. if e.1.body.range.block == block then 1 else 0) held
 
 -- Each of the records is counted in the block of its body.
 abbrev pub IsCounted : Bodies → List (ℕ × HeldRecord) → Type 0

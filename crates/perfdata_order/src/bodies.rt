@@ -2,6 +2,7 @@
 ghost use Rattle.std.specs.Prelude.{◌≡◌, ◌^◌, ◌-◌, ◌<◌, length, IsTrue};
 
 use std::alloc::{AllocError, Global};
+use std::snapshot::Snapshot;
 
 // The capacity of a block in bytes. A larger body has a block of its own.
 const BLOCK_CAPACITY: usize = 4096;
@@ -25,8 +26,8 @@ impl Block {
         fits && self.held < usize::MAX
     }
 
-    // Appends a body. Returns the offset of its end.
-    fn append(&mut self, body: &[u8]) -> Result<usize, AllocError>
+    // Appends a body. Returns the offset of its end, and the bytes for clauses alone.
+    fn append(&mut self, body: &[u8]) -> Result<(usize, Snapshot<Vec<u8>>), AllocError>
         requires { self.old.held < 2 ^ 64 - 1 }
         ensures { AppendsTo self.old body.now result self.new }
     {
@@ -35,7 +36,7 @@ impl Block {
             Err(error) => return Err(error),
         }
         self.held += 1;
-        Ok(self.bytes.len())
+        Ok((self.bytes.len(), Snapshot::of(&self.bytes)))
     }
 
     // Removes all bodies, if none is held. Returns whether none is.
@@ -74,6 +75,13 @@ impl BodyRange {
         start: 0,
         end: 0,
     };
+}
+
+// A held body. Only clauses read the snapshot of its block.
+#[derive(Drop)]
+pub(crate) struct HeldBody {
+    pub(crate) range: BodyRange,
+    block: Snapshot<Vec<u8>>,
 }
 
 // The bodies of held records. A block is used again once none of its bodies is held, so each held body keeps at most one block.
@@ -163,23 +171,26 @@ impl Bodies {
     }
 
     // Appends a body to the current block.
-    fn append_to_current(&mut self, body: &[u8]) -> Result<BodyRange, AllocError>
+    fn append_to_current(&mut self, body: &[u8]) -> Result<HeldBody, AllocError>
         requires { CanAppend self.old }
         ensures { AppendsBody self.old body.now result self.new }
     {
         let block = self.current;
         match self.blocks[block].append(body) {
-            Ok(end) => Ok(BodyRange {
-                block,
-                start: end - body.len(),
-                end,
+            Ok((end, bytes)) => Ok(HeldBody {
+                range: BodyRange {
+                    block,
+                    start: end - body.len(),
+                    end,
+                },
+                block: bytes,
             }),
             Err(error) => Err(error),
         }
     }
 
     // Copies a body, which is then held.
-    pub(crate) fn append(&mut self, body: &[u8]) -> Result<BodyRange, AllocError>
+    pub(crate) fn append(&mut self, body: &[u8]) -> Result<HeldBody, AllocError>
         ensures { AppendsBody self.old body.now result self.new }
     {
         if !self.has_room(body.len()) {

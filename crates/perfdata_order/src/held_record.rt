@@ -4,7 +4,7 @@ ghost use Rattle.perfdata_base.specs.Raw.{bytes_of};
 ghost use Rattle.perfdata_records.specs.FileRecord.{file_record_body};
 ghost use Rattle.linux_perf_data.specs.RecordViews.{record_view_of};
 
-use crate::bodies::BodyRange;
+use crate::bodies::HeldBody;
 use crate::parse_infos::ParseInfos;
 use linux_perf_data::event::{RawEventRecord, RecordType};
 use linux_perf_data::place::RecordParseInfo;
@@ -104,14 +104,13 @@ impl HeldWriter {
     }
 }
 
-// A held record. Its body has a range in `Bodies`; only clauses read the snapshot.
+// A held record.
 #[derive(Drop)]
 pub(crate) struct HeldRecord {
     pub(crate) place: RecordPlace,
     pub(crate) misc: u16,
     pub(crate) writer: HeldWriter,
-    pub(crate) range: BodyRange,
-    pub(crate) body: Snapshot<Vec<u8>>,
+    pub(crate) body: HeldBody,
 }
 
 impl HeldRecord {

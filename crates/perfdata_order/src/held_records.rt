@@ -10,7 +10,6 @@ use crate::held_record::{HeldRecord, HeldWriter, RecordInfo};
 use crate::parse_infos::ParseInfos;
 use crate::sorter::Sorter;
 use std::alloc::{AllocError, Global};
-use std::snapshot::Snapshot;
 
 // Held records in rounds, with their bodies and their parse infos.
 #[derive(Drop)]
@@ -71,29 +70,29 @@ impl HeldRecords {
         &mut self,
         key: u64,
         info: RecordInfo,
-        body: &Vec<u8>,
+        body: &[u8],
     ) -> Result<(), AllocError>
-        ensures { InsertsRecord self.old key info body.now.items result self.new }
+        ensures { InsertsRecord self.old key info body.now result self.new }
     {
         let writer = match HeldWriter::of(info.writer, &mut self.parse_infos) {
             Ok(writer) => writer,
             Err(error) => return Err(error),
         };
-        let range = match self.bodies.append(body.as_slice()) {
-            Ok(range) => range,
+        let body = match self.bodies.append(body) {
+            Ok(body) => body,
             Err(error) => return Err(error),
         };
+        let block = body.range.block;
         let held = HeldRecord {
             place: info.place,
             misc: info.misc,
             writer,
-            range,
-            body: Snapshot::of(body),
+            body,
         };
         match self.sorter.insert_unordered(key, held) {
             Ok(()) => Ok(()),
             Err(_) => {
-                self.bodies.release(range.block);
+                self.bodies.release(block);
                 Err(AllocError)
             }
         }
@@ -105,8 +104,8 @@ impl HeldRecords {
     {
         match self.sorter.get_next() {
             Some(held) => {
-                self.bodies.release(held.range.block);
-                Some((held.info(&self.parse_infos), held.range))
+                self.bodies.release(held.body.range.block);
+                Some((held.info(&self.parse_infos), held.body.range))
             }
             None => None,
         }

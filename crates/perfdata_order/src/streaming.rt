@@ -295,7 +295,7 @@ impl<R: Source> OrderedRecords<R> {
             Ok(false) => return Ok(()),
             Err(error) => return Err(error),
         }
-        match self.held.insert(key, info, &self.body) {
+        match self.held.insert(key, info, self.body.as_slice()) {
             Ok(()) => {
                 self.pending = Pending::Nothing;
                 self.held_bytes = self.held_bytes.saturating_add(size);

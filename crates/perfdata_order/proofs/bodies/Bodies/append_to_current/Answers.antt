@@ -6,7 +6,7 @@ use Rattle.perfdata_order.proofs.bodies.Bodies.append_to_current.Goals as goal
 pub returns-in-Ok : goal.returns-in-Ok
 returns-in-Ok c =
     let old = c.args.self.now in
-    body_appended old (record old { blocks = with_item old.blocks old.current c.append.new.self }) old.current c.index_mut.result.now c.append.new.self c.requires.0 c.index_mut.ensures.value refl c.args.body.now c.in-Ok.end c.in-Ok.ensures
+    body_appended old (record old { blocks = with_item old.blocks old.current c.append.new.self }) old.current c.index_mut.result.now c.append.new.self c.requires.0 c.index_mut.ensures.value refl c.args.body.now c.in-Ok.end c.in-Ok.bytes c.in-Ok.ensures
 
 pub returns-in-Err : goal.returns-in-Err
 returns-in-Err c =

@@ -1,5 +1,6 @@
 use Rattle.std.proofs.Common.{Ok, Err, sym, ap, ◌∙◌, subst}
 use Rattle.perfdata_order.specs.declared.held_record.HeldRecord.{HeldRecord}
+use Rattle.perfdata_order.specs.Bodies.{body_in}
 use Rattle.perfdata_order.specs.HeldRecord.{view_with}
 use Rattle.perfdata_order.specs.HeldRecords.{InsertsRecord}
 use Rattle.std.specs.Ordering.{nat_cmp}
@@ -25,14 +26,13 @@ invariant_of-self-in-Ok-insert_unordered c =
     let sorter = c.insert_unordered.new.self in
     let bodies = c.append.new.self in
     let infos = c.of.new.parse_infos in
-    let body = c.as_slice.result.now in
-    let held : HeldRecord = record { place = c.args.info.place; misc = c.args.info.misc; writer = c.in-Ok.writer; range = c.in-Ok-append.range; body = c.of-2.result } in
+    let body = c.args.body.now in
+    let held : HeldRecord = record { place = c.args.info.place; misc = c.args.info.misc; writer = c.in-Ok.writer; body = c.in-Ok-append.body } in
     let appended = c.in-Ok-append.ensures in
     let more = held_after_insert old.sorter sorter c.args.key held c.in-Ok-insert_unordered.ensures in
     let all = stored_appended old.bodies bodies old.parse_infos infos (held_of old.sorter) appended.kept c.in-Ok.ensures.1.1 old.counted old.stored in
-    let is_body = appended.is_body ∙ c.as_slice.ensures.value ∙ sym (ap (λ v. v.items) c.of-2.ensures) in
     record {
-      stored = stored_inserted bodies infos c.args.key held (held_of old.sorter) (held_of sorter) more all (is_body, (appended.in_block, c.in-Ok.ensures.1.0));
+      stored = stored_inserted bodies infos c.args.key held (held_of old.sorter) (held_of sorter) more all (appended.at_range ∙ sym appended.is_body, (appended.in_block, c.in-Ok.ensures.1.0));
       counted = counted_inserted old.bodies bodies body c.args.key held (held_of old.sorter) (held_of sorter) appended more old.counted;
     }
 
@@ -43,12 +43,12 @@ invariant_of-self-in-Err-insert_unordered c =
     let bodies = c.append.new.self in
     let last = c.release.new.self in
     let infos = c.of.new.parse_infos in
-    let range = c.in-Ok-append.range in
+    let body = c.in-Ok-append.body in
     let appended = c.in-Ok-append.ensures in
     let same = unchanged_held old.sorter sorter c.in-Err-insert_unordered.ensures.1 in
     let all = stored_appended old.bodies bodies old.parse_infos infos (held_of old.sorter) appended.kept c.in-Ok.ensures.1.1 old.counted old.stored in
-    let still = all_released bodies last infos range.block (held_of old.sorter) c.release.ensures all in
-    let count = counted_undone old.bodies bodies last c.as_slice.result.now range (held_of old.sorter) appended c.release.ensures old.counted in
+    let still = all_released bodies last infos body.range.block (held_of old.sorter) c.release.ensures all in
+    let count = counted_undone old.bodies bodies last c.args.body.now body (held_of old.sorter) appended c.release.ensures old.counted in
     record {
       stored = stored_permuted last infos (held_of old.sorter) (held_of sorter) same still;
       counted = counted_permuted last (held_of old.sorter) (held_of sorter) same count;
@@ -58,13 +58,13 @@ pub returns : goal.returns
 returns c =
     let old = c.args.self.now in
     let new = c.match-insert_unordered.self in
-    let held : HeldRecord = record { place = c.args.info.place; misc = c.args.info.misc; writer = c.in-Ok.writer; range = c.in-Ok-append.range; body = c.of-2.result } in
+    let held : HeldRecord = record { place = c.args.info.place; misc = c.args.info.misc; writer = c.in-Ok.writer; body = c.in-Ok-append.body } in
     elim c.match-insert_unordered.branch [
       | in-Ok-insert_unordered w ↦
           let done = subst (λ s. Inserted nat_cmp old.sorter c.args.key held s) (sym (ap (λ s. s.sorter) w.self-is)) w.in-Ok-insert_unordered.ensures in
-          let view = ap (λ x. view_with (record c.args.info { writer = x }) held.body.value.items) c.in-Ok.ensures.0 ∙ ap (λ v. view_with c.args.info v.items) c.of-2.ensures in
-          subst (λ r. InsertsRecord old c.args.key c.args.info c.args.body.now.items r new) (sym w.result-is) (held, (done, view))
+          let view = ap (λ x. view_with (record c.args.info { writer = x }) (body_in held.body)) c.in-Ok.ensures.0 ∙ ap (λ b. view_with c.args.info b) c.in-Ok-append.ensures.is_body in
+          subst (λ r. InsertsRecord old c.args.key c.args.info c.args.body.now r new) (sym w.result-is) (held, (done, view))
       | in-Err-insert_unordered w ↦
           let same = subst (λ s. IsUnchanged old.sorter s) (sym (ap (λ s. s.sorter) w.self-is)) w.in-Err-insert_unordered.ensures.1 in
-          subst (λ r. InsertsRecord old c.args.key c.args.info c.args.body.now.items r new) (sym w.result-is) same
+          subst (λ r. InsertsRecord old c.args.key c.args.info c.args.body.now r new) (sym w.result-is) same
     ]

@@ -15,7 +15,7 @@ invariant_of-self c =
     let first = held_before_return old.sorter sorter key held c.in-Some.ensures.1 in
     let before = first_stored old.bodies old.parse_infos key held (held_of old.sorter) (held_of sorter) first old.stored in
     record {
-      stored = all_released old.bodies c.release.new.self old.parse_infos held.range.block (held_of sorter) c.release.ensures before.1;
+      stored = all_released old.bodies c.release.new.self old.parse_infos held.body.range.block (held_of sorter) c.release.ensures before.1;
       counted = counted_taken old.bodies c.release.new.self key held (held_of old.sorter) (held_of sorter) c.release.ensures first old.counted;
     }
 
@@ -37,5 +37,5 @@ returns-in-Some c =
     let key = c.in-Some.ensures.0 in
     let first = held_before_return old.sorter sorter key held c.in-Some.ensures.1 in
     let is = (first_stored old.bodies old.parse_infos key held (held_of old.sorter) (held_of sorter) first old.stored).0 in
-    let now = stored_released old.bodies bodies old.parse_infos held.range.block held c.release.ensures is in
-    (key, (held, (c.in-Some.ensures.1, ap (λ i. view_with i (body_at bodies held.range)) c.info.ensures ∙ ap (λ body. view_with (info_of held) body) now.0)))
+    let now = stored_released old.bodies bodies old.parse_infos held.body.range.block held c.release.ensures is in
+    (key, (held, (c.in-Some.ensures.1, ap (λ i. view_with i (body_at bodies held.body.range)) c.info.ensures ∙ ap (λ body. view_with (info_of held) body) now.0)))

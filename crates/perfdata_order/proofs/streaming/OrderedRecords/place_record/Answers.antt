@@ -38,10 +38,11 @@ returns g c =
       | in-Ok-insert w ↦
           let done = w.in-Ok-insert.ensures in
           let now = body_read made.pending made.body.items c.args.key view (admission.pending ∙ was) in
-          let sizes = ap (λ h. held_size h) done.1.1 ∙ ap (λ b. length b + 192) now ∙ size in
+          let copied = done.1.1 ∙ ap (λ b. view_with c.args.info b) c.as_slice.ensures.value in
+          let sizes = ap (λ h. held_size h) copied ∙ ap (λ b. length b + 192) now ∙ size in
           subst (λ r. PlacesPending state old r new) (sym w.result-is) (subst (λ s. PlacesPending state old (Ok tt) s) (sym w.self-is)
           (record_placed state old made (with_parts made held Nothing w.saturating_add-self.result) c.args.key c.args.info done.0 was admission
-          done.1.1 done.1.0 refl refl refl refl refl (subst (λ n. n < 2 ^ 64) (sym sizes) c.held_size-size.type_inv) (bytes_added made.held_bytes c.held_size-size.result (held_size (held_view done.0)) w.saturating_add-self.result sizes w.saturating_add-self.ensures)))
+          copied done.1.0 refl refl refl refl refl (subst (λ n. n < 2 ^ 64) (sym sizes) c.held_size-size.type_inv) (bytes_added made.held_bytes c.held_size-size.result (held_size (held_view done.0)) w.saturating_add-self.result sizes w.saturating_add-self.ensures)))
       | in-Err-insert w ↦ subst (λ r. PlacesPending state old r new) (sym w.result-is) (subst (λ s. Places state old s) (sym w.self-is)
           (places_kept state old made (with_held made held) admission.places
           (record { unchanged = w.in-Err-insert.ensures; pending = refl; same_records = refl; round = refl; same_budget = record { budget = refl; held_bytes = refl; early = refl } })))
