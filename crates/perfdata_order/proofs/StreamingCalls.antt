@@ -80,22 +80,6 @@ module _ {R : Type 0} (state : R → State) where
 
   -- ---- steps that return nothing
 
-  -- Only buffers changed.
-  pub kept_order : (a b : OrderedRecords R) → b.held.sorter ≡ a.held.sorter → unplaced_of b ≡ unplaced_of a → b.records ≡ a.records → b.round ≡ a.round → SameBudget a b → KeepsSorter a b
-  kept_order a b sorter pending same_records same_round same_budget = record {
-    unchanged = record {
-      available = ap available_of sorter;
-      pending = ap pending_of sorter;
-      held = ap held_of sorter;
-      limit = ap limit_of sorter;
-      greatest = ap greatest_of sorter;
-    };
-    pending = pending;
-    same_records = same_records;
-    round = same_round;
-    same_budget = same_budget;
-  }
-
   pub no_progress : (a : OrderedRecords R) (f : PerfFile) → Progress state a f a f
   no_progress a f = record { steps = []; none_returned = refl; taken = (refl, refl) }
 

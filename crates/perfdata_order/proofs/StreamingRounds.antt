@@ -150,7 +150,7 @@ module _ {R : Type 0} (state : R → State) where
   later_from s next times (inr (same_round, final)) from = same_from s next times times same_round refl from
 
   two_after : (steps : List Step) (s t : OrderedRecords R) (f g : PerfFile) → budget_of s ≡ 0 → FromRound s (ahead state s steps) → TakesSteps state steps s f t g → TwoRounds s.round s.held.sorter → TwoRounds t.round t.held.sorter
-  two_after [] s t f g none from (same, same_file) two = same_two s.round t.round s.held.sorter t.held.sorter (ap (λ x. x.round) same) (ap (λ x. x.sorter) same) two
+  two_after [] s t f g none from (same, same_file) two = same_two s.round t.round s.held.sorter t.held.sorter (ap (λ x. x.round) same) (ap (λ x. x.held.sorter) same) two
   two_after (reads key h ∷ steps) s t f g none from (next, (next_file, step, rest)) two =
       let same : ahead state s (reads key h ∷ steps) ≡ ahead state next steps =
       ap (λ p. pending_timed p ++ (timed_by (key_of_time h.timestamp) h ++ timed_of (read_in steps))) step.nothing_pending ∙ ap (λ k. timed_by k h ++ timed_of (read_in steps)) step.has_time

@@ -58,7 +58,7 @@ returns-in-Some-Ok g c =
     let after = progress_kept state c.args.self.now placed kept c.args.perf_file.now c.read.new.perf_file before none.1 in
     let taken = rw c.in-Some-Ok.field-0-is at c.in-Some-Ok.ensures in
     end_returned state c.args.self.now kept c.take_end.new.self c.args.perf_file.now c.read.new.perf_file after taken.0 taken.1
-    (none_held_after state placed.sorter kept.sorter none.0 none.1.unchanged (none_pending_at state (unplaced_of c.read.new.self) ending placed c.in-Ok.ensures.1 tt (sym none.1.pending ∙ taken.1)))
+    (none_held_after state placed.held.sorter kept.held.sorter none.0 none.1.unchanged (none_pending_at state (unplaced_of c.read.new.self) ending placed c.in-Ok.ensures.1 tt (sym none.1.pending ∙ taken.1)))
 
 pub returns-in-Some-Err : goal.returns-in-Some-Err
 returns-in-Some-Err g c =
