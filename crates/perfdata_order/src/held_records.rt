@@ -66,6 +66,7 @@ impl HeldRecords {
     }
 
     // Inserts a record into the current round. Its body is copied.
+    #[inline(always)]
     pub(crate) fn insert(
         &mut self,
         key: u64,
@@ -99,6 +100,7 @@ impl HeldRecords {
     }
 
     // Takes the next available record. Its body stays in its range until the next call of `insert`.
+    #[inline(always)]
     pub(crate) fn take_next(&mut self) -> Option<(RecordInfo, BodyRange)>
         ensures { TakesRecord self.old result self.new }
     {

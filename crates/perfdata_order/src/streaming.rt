@@ -146,6 +146,7 @@ impl<R> OrderedRecords<R> {
     }
 
     // Takes the next available record from the sorter. `self.returned` is then its body.
+    #[inline(always)]
     fn take_sorted(&mut self) -> Option<RecordInfo>
         ensures { TakesSorted self.old result self.new }
     {
