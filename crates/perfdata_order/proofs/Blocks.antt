@@ -1,14 +1,13 @@
 -- Blocks of bodies, as each call changes them.
-use Rattle.std.proofs.Common.{◌≡◌, ℕ, ◌+◌, ◌-◌, ◌^◌, ◌<◌, ◌≤◌, Bool, true, false, List, [], ◌∷◌, ◌++◌, length, get_or, map, take, drop, refl, sym, ap, ◌∙◌, subst, append-nil, inl, inr, arith, length-append, set}
+use Rattle.std.proofs.Common.{◌≡◌, ℕ, ◌+◌, ◌-◌, ◌<◌, true, List, [], ◌++◌, length, get_or, map, take, drop, refl, sym, ap, ◌∙◌, subst, append-nil, inl, inr, arith, length-append, set}
 use Rattle.std.specs.Prelude.{◌≢◌, ◌⊎◌, ◌==◌, if◌then◌else◌, Vec}
 use Rattle.std.specs.declared.snapshot.Snapshot.{Snapshot}
 use Rattle.std.specs.declared.alloc.Global.{Global}
 use Rattle.std.proofs.lemmas.List.{map-set, get_or-map, get_or-set_same, get_or-set_other, length-set}
 use Rattle.std.proofs.Math.Seq.{drop-append_seam, take-length}
 use Rattle.perfdata_order.specs.declared.bodies.Block.{Block}
-use Rattle.perfdata_order.specs.declared.bodies.BodyRange.{BodyRange}
 use Rattle.perfdata_order.specs.declared.bodies.Bodies.{Bodies}
-use Rattle.perfdata_order.specs.Bodies.{Appended, IsCleared, ReleasesFrom, bytes_in, held_in, bytes_at, held_at, body_at, CanAppend, KeepsBodies, IsPrefix, BodyAppended, ReleasesBody}
+use Rattle.perfdata_order.specs.Bodies.{Appended, IsCleared, ReleasesFrom, bytes_in, held_in, bytes_at, held_at, CanAppend, KeepsBodies, IsPrefix, BodyAppended, ReleasesBody}
 use Rattle.perfdata_order.proofs.Entries.{same_or_other, use_same, use_other}
 
 -- ---- one block changes

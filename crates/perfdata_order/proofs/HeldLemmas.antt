@@ -1,5 +1,5 @@
 -- Held records with their bodies and their parse infos, as each call changes them.
-use Rattle.std.proofs.Common.{◌≡◌, ℕ, ◌+◌, ◌-◌, ◌<◌, ◌≤◌, List, [], ◌∷◌, ◌++◌, length, get_or, take, drop, All, Option, None, Some, Result, Ok, Err, refl, sym, ap, ◌∙◌, subst, append-nil, length-append, arith}
+use Rattle.std.proofs.Common.{◌≡◌, ℕ, ◌+◌, ◌-◌, ◌<◌, ◌≤◌, List, [], ◌∷◌, ◌++◌, length, get_or, take, drop, All, Result, Ok, Err, refl, sym, ap, ◌∙◌, subst, append-nil, length-append, arith}
 use Rattle.std.specs.Prelude.{◌==◌, if◌then◌else◌}
 use Rattle.std.specs.Ordering.{nat_cmp}
 use Rattle.std.specs.declared.alloc.AllocError.{AllocError}
@@ -15,7 +15,7 @@ use Rattle.perfdata_order.specs.declared.held_record.HeldWriter.{HeldWriter}
 use Rattle.perfdata_order.specs.declared.held_record.HeldWriter.TheVariants as held_writer
 use Rattle.perfdata_order.specs.declared.held_record.HeldRecord.{HeldRecord}
 use Rattle.perfdata_order.specs.declared.sorter.Sorter.{Sorter}
-use Rattle.perfdata_order.specs.Bodies.{bytes_at, held_at, body_at, KeepsBodies, IsPrefix, BodyAppended, ReleasesBody}
+use Rattle.perfdata_order.specs.Bodies.{bytes_at, held_at, KeepsBodies, IsPrefix, BodyAppended, ReleasesBody}
 use Rattle.perfdata_order.specs.ParseInfos.{KeepsFound}
 use Rattle.perfdata_order.specs.HeldRecord.{IsKnown, IsStored, IsCounted, count_in}
 use Rattle.perfdata_order.specs.Sorter.{held_of, IsUnchanged, EndsRound, EndsAllRounds, ReleasesHalf}

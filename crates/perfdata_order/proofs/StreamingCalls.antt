@@ -17,7 +17,7 @@ use Rattle.perfdata_order.specs.declared.streaming.Pending.{Pending}
 use Rattle.perfdata_order.specs.declared.streaming.Pending.TheVariants as variant
 use Rattle.perfdata_order.specs.declared.streaming.OrderedRecords.{OrderedRecords}
 use Rattle.perfdata_order.specs.HeldRecord.{view_with, held_view, held_size}
-use Rattle.perfdata_order.specs.Sorter.{held_of, available_of, pending_of, limit_of, greatest_of, IsUnchanged, TestsAvailable, Inserted, HalfReleased, EndsAllRounds}
+use Rattle.perfdata_order.specs.Sorter.{held_of, available_of, pending_of, IsUnchanged, TestsAvailable, Inserted, HalfReleased, EndsAllRounds}
 use Rattle.perfdata_order.specs.SorterLaws.Call.{inserts, ends_round, ends_all, releases, returns, keeps}
 use Rattle.perfdata_order.specs.StreamingOrder.{Unplaced, unplaced_by, unplaced_of, AfterPlacing, PlacesPending, IsUnplaced, IsOngoing, pending_records, EndReturned, RecordReturned, Step, returned_in, TakesStep, TakesSteps, Progress, Places, ReadsPending, ReadsUntimed, EndsRoundsBefore, KeepsSorter, EndsRounds, InsertsPending, ReturnsSorted, TakesEnd, FailsInOrder, IsOneRoundLater, IsLaterOrLast, SameBudget, FitsBudget, IsAdmitted, HasAvailable, AdmitsPending, ReleasesEarly, ReleasesForPending, budget_of, early_of, held_bytes_of}
 use Rattle.perfdata_order.specs.StreamingOrder.Unplaced.{nothing, timed, ending, failing, failed}

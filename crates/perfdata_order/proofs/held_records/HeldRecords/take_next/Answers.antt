@@ -1,4 +1,4 @@
-use Rattle.std.proofs.Common.{sym, ap, ◌∙◌}
+use Rattle.std.proofs.Common.{ap, ◌∙◌}
 use Rattle.perfdata_order.specs.HeldRecord.{view_with, info_of}
 use Rattle.perfdata_order.specs.Bodies.{body_at}
 use Rattle.perfdata_order.specs.Sorter.{held_of}

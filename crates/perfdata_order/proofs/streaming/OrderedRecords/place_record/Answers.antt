@@ -1,7 +1,7 @@
 use Rattle.std.proofs.Common.{◌≡◌, ◌+◌, ◌^◌, ◌<◌, length, Ok, refl, sym, ap, ◌∙◌, subst}
 use Rattle.perfdata_order.specs.declared.streaming.Pending.TheVariants.{Nothing}
 use Rattle.perfdata_order.specs.HeldRecord.{view_with, held_view, held_size}
-use Rattle.perfdata_order.specs.StreamingOrder.{unplaced_by, Places, PlacesPending, AdmitsPending}
+use Rattle.perfdata_order.specs.StreamingOrder.{unplaced_by, AdmitsPending}
 use Rattle.perfdata_order.proofs.StreamingCalls.{with_parts, with_held, places_kept, available_placed, body_read, record_placed, bytes_added}
 use Rattle.perfdata_order.proofs.streaming.OrderedRecords.place_record.Goals as goal
 

@@ -5,8 +5,7 @@ pub returns-in-Some : goal.returns-in-Some
 returns-in-Some g c =
     let taken = c.in-Some.ensures in
     let view = taken.1.1.1 in
-    let len = ap length c.body.ensures ∙ ap (λ h. length h.body) view in
-    (
+    let len = ap length c.body.ensures ∙ ap (λ h. length h.body) view in (
       taken.0,
       (
         taken.1.0,
