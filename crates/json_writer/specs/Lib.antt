@@ -3,3 +3,4 @@ pub mod Values
 pub mod Writing
 pub mod Texts
 pub mod Characters
+pub mod ShortTexts

@@ -31,6 +31,14 @@ content_in text = take (length text - 2) (drop 1 text)
 abbrev pub is_plain_string : List ℕ → Bool
 is_plain_string text = is_plain (content_in text) && bytes_eq text (quoted (content_in text))
 
+-- whether a text is a comma, a key and a colon, at most 16 bytes
+abbrev pub is_short_member_start : List ℕ → Bool
+is_short_member_start text = is_member_start text && nat_le (length text) 16
+
+-- whether a text is a string of plain characters, at most 40 bytes
+abbrev pub is_short_string : List ℕ → Bool
+is_short_string text = is_plain_string text && nat_le (length text) 40
+
 -- members of an object, each after a comma
 pub data AreMembers : List ℕ → Type 0 where
   no_members : AreMembers []

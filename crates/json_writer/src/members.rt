@@ -1,15 +1,13 @@
 //! Members of objects and elements of arrays.
-ghost use Rattle.std.specs.Prelude.{◌≡◌, ◌++◌, [], ◌∷◌, ◌==◌, length, decimal, IsTrue, OnOk, OnErr};
+ghost use Rattle.std.specs.Prelude.{◌≡◌, ◌++◌, [], ◌∷◌, decimal, IsTrue, OnOk, OnErr};
 ghost use Rattle.std.specs.Fmt.{signed_decimal};
 ghost use Rattle.json_writer.specs.Writing.{is_member_start, is_plain_string, AreMembers, AreElements};
 ghost use Rattle.json_writer.specs.Values.{address_text, boolean_text, hex_text, text_value, bytes_text, object_text, array_text, optional_text};
 
-use crate::parts::{
-    append_address_element, append_address_member, append_array_element, append_array_member,
-    append_boolean_member, append_bytes_member, append_hex_member, append_number_element,
-    append_number_member, append_object_element, append_object_member, append_signed_member,
-    append_string_element, append_string_member, append_text_element, append_text_member,
-};
+use crate::parts::{append_array, append_object, extend};
+use crate::scalar::{append_address, append_boolean, append_number, append_signed};
+use crate::short::ShortMembers;
+use crate::text::{append_bytes, append_hex_string, append_text};
 use std::alloc::{AllocError, Global};
 
 /// Members of an object, each after a comma. If a method fails, no members are left.
@@ -28,6 +26,7 @@ pub struct Elements {
 
 impl Members {
     ghost use Rattle.json_writer.specs.Texts.{members_text, elements_text};
+    ghost use Rattle.json_writer.specs.ShortTexts.{short_text};
 
     /// Creates an empty list of members.
     pub fn new(alloc: Global) -> Members
@@ -46,13 +45,6 @@ impl Members {
         self.bytes.clear();
     }
 
-    /// Whether there are no members.
-    pub fn is_empty(&self) -> bool
-        ensures { result ≡ (length (members_text self.now) == 0) }
-    {
-        self.bytes.is_empty()
-    }
-
     /// The text of the members.
     pub fn as_bytes(&self) -> &[u8]
         ensures text { result.now ≡ members_text self.now }
@@ -68,13 +60,8 @@ impl Members {
         ensures text { OnOk result (members_text self.new ≡ members_text self.old ++ (key.now ++ decimal n)) }
         ensures none_on_error { OnErr result (members_text self.new ≡ []) }
     {
-        match append_number_member(&mut self.bytes, key, n) {
-            Ok(()) => Ok(()),
-            Err(error) => {
-                self.bytes.clear();
-                Err(error)
-            }
-        }
+        extend(&mut self.bytes, key)?;
+        append_number(&mut self.bytes, n)
     }
 
     /// Appends a signed number.
@@ -84,13 +71,8 @@ impl Members {
         ensures text { OnOk result (members_text self.new ≡ members_text self.old ++ (key.now ++ signed_decimal n)) }
         ensures none_on_error { OnErr result (members_text self.new ≡ []) }
     {
-        match append_signed_member(&mut self.bytes, key, n) {
-            Ok(()) => Ok(()),
-            Err(error) => {
-                self.bytes.clear();
-                Err(error)
-            }
-        }
+        extend(&mut self.bytes, key)?;
+        append_signed(&mut self.bytes, n)
     }
 
     /// Appends a number as text in hexadecimal, as for an address or for bits.
@@ -100,13 +82,8 @@ impl Members {
         ensures text { OnOk result (members_text self.new ≡ members_text self.old ++ (key.now ++ address_text n)) }
         ensures none_on_error { OnErr result (members_text self.new ≡ []) }
     {
-        match append_address_member(&mut self.bytes, key, n) {
-            Ok(()) => Ok(()),
-            Err(error) => {
-                self.bytes.clear();
-                Err(error)
-            }
-        }
+        extend(&mut self.bytes, key)?;
+        append_address(&mut self.bytes, n)
     }
 
     /// Appends a boolean.
@@ -115,13 +92,8 @@ impl Members {
         ensures text { OnOk result (members_text self.new ≡ members_text self.old ++ (key.now ++ boolean_text b)) }
         ensures none_on_error { OnErr result (members_text self.new ≡ []) }
     {
-        match append_boolean_member(&mut self.bytes, key, b) {
-            Ok(()) => Ok(()),
-            Err(error) => {
-                self.bytes.clear();
-                Err(error)
-            }
-        }
+        extend(&mut self.bytes, key)?;
+        append_boolean(&mut self.bytes, b)
     }
 
     /// Appends a number if there is one.
@@ -156,13 +128,8 @@ impl Members {
         ensures text { OnOk result (members_text self.new ≡ members_text self.old ++ (key.now ++ text_value text.now)) }
         ensures none_on_error { OnErr result (members_text self.new ≡ []) }
     {
-        match append_text_member(&mut self.bytes, key, text) {
-            Ok(()) => Ok(()),
-            Err(error) => {
-                self.bytes.clear();
-                Err(error)
-            }
-        }
+        extend(&mut self.bytes, key)?;
+        append_text(&mut self.bytes, text)
     }
 
     /// Appends a string of plain characters, which is passed in its quotation marks.
@@ -173,13 +140,8 @@ impl Members {
         ensures text { OnOk result (members_text self.new ≡ members_text self.old ++ (key.now ++ string.now)) }
         ensures none_on_error { OnErr result (members_text self.new ≡ []) }
     {
-        match append_string_member(&mut self.bytes, key, string) {
-            Ok(()) => Ok(()),
-            Err(error) => {
-                self.bytes.clear();
-                Err(error)
-            }
-        }
+        extend(&mut self.bytes, key)?;
+        extend(&mut self.bytes, string)
     }
 
     /// Appends an object with a number of bytes and the hexadecimal digits of the first ones.
@@ -188,13 +150,8 @@ impl Members {
         ensures text { OnOk result (members_text self.new ≡ members_text self.old ++ (key.now ++ bytes_text length first.now)) }
         ensures none_on_error { OnErr result (members_text self.new ≡ []) }
     {
-        match append_bytes_member(&mut self.bytes, key, length, first) {
-            Ok(()) => Ok(()),
-            Err(error) => {
-                self.bytes.clear();
-                Err(error)
-            }
-        }
+        extend(&mut self.bytes, key)?;
+        append_bytes(&mut self.bytes, length, first)
     }
 
     /// Appends the hexadecimal digits of bytes.
@@ -203,13 +160,17 @@ impl Members {
         ensures text { OnOk result (members_text self.new ≡ members_text self.old ++ (key.now ++ hex_text bytes.now)) }
         ensures none_on_error { OnErr result (members_text self.new ≡ []) }
     {
-        match append_hex_member(&mut self.bytes, key, bytes) {
-            Ok(()) => Ok(()),
-            Err(error) => {
-                self.bytes.clear();
-                Err(error)
-            }
-        }
+        extend(&mut self.bytes, key)?;
+        append_hex_string(&mut self.bytes, bytes)
+    }
+
+    /// Appends members.
+    #[inline]
+    pub fn append(&mut self, members: &ShortMembers) -> Result<(), AllocError>
+        ensures text { OnOk result (members_text self.new ≡ members_text self.old ++ short_text members.now) }
+        ensures none_on_error { OnErr result (members_text self.new ≡ []) }
+    {
+        extend(&mut self.bytes, members.as_bytes())
     }
 
     /// Appends an object.
@@ -218,13 +179,18 @@ impl Members {
         ensures text { OnOk result (members_text self.new ≡ members_text self.old ++ (key.now ++ object_text (members_text members.now))) }
         ensures none_on_error { OnErr result (members_text self.new ≡ []) }
     {
-        match append_object_member(&mut self.bytes, key, members.as_bytes()) {
-            Ok(()) => Ok(()),
-            Err(error) => {
-                self.bytes.clear();
-                Err(error)
-            }
-        }
+        extend(&mut self.bytes, key)?;
+        append_object(&mut self.bytes, members.as_bytes())
+    }
+
+    /// Appends an object of members in an array of fixed size.
+    pub fn short_object(&mut self, key: &[u8], members: &ShortMembers) -> Result<(), AllocError>
+        requires { IsTrue (is_member_start key.now) }
+        ensures text { OnOk result (members_text self.new ≡ members_text self.old ++ (key.now ++ object_text (short_text members.now))) }
+        ensures none_on_error { OnErr result (members_text self.new ≡ []) }
+    {
+        extend(&mut self.bytes, key)?;
+        append_object(&mut self.bytes, members.as_bytes())
     }
 
     /// Appends an array.
@@ -233,13 +199,8 @@ impl Members {
         ensures text { OnOk result (members_text self.new ≡ members_text self.old ++ (key.now ++ array_text (elements_text elements.now))) }
         ensures none_on_error { OnErr result (members_text self.new ≡ []) }
     {
-        match append_array_member(&mut self.bytes, key, elements.as_bytes()) {
-            Ok(()) => Ok(()),
-            Err(error) => {
-                self.bytes.clear();
-                Err(error)
-            }
-        }
+        extend(&mut self.bytes, key)?;
+        append_array(&mut self.bytes, elements.as_bytes())
     }
 }
 
@@ -275,13 +236,8 @@ impl Elements {
         ensures text { OnOk result (elements_text self.new ≡ elements_text self.old ++ (44 ∷ (decimal n))) }
         ensures none_on_error { OnErr result (elements_text self.new ≡ []) }
     {
-        match append_number_element(&mut self.bytes, n) {
-            Ok(()) => Ok(()),
-            Err(error) => {
-                self.bytes.clear();
-                Err(error)
-            }
-        }
+        extend(&mut self.bytes, b",")?;
+        append_number(&mut self.bytes, n)
     }
 
     /// Appends a number as text in hexadecimal.
@@ -289,13 +245,8 @@ impl Elements {
         ensures text { OnOk result (elements_text self.new ≡ elements_text self.old ++ (44 ∷ (address_text n))) }
         ensures none_on_error { OnErr result (elements_text self.new ≡ []) }
     {
-        match append_address_element(&mut self.bytes, n) {
-            Ok(()) => Ok(()),
-            Err(error) => {
-                self.bytes.clear();
-                Err(error)
-            }
-        }
+        extend(&mut self.bytes, b",")?;
+        append_address(&mut self.bytes, n)
     }
 
     /// Appends a text, as [`Members::text`] does.
@@ -303,13 +254,8 @@ impl Elements {
         ensures text { OnOk result (elements_text self.new ≡ elements_text self.old ++ (44 ∷ (text_value text.now))) }
         ensures none_on_error { OnErr result (elements_text self.new ≡ []) }
     {
-        match append_text_element(&mut self.bytes, text) {
-            Ok(()) => Ok(()),
-            Err(error) => {
-                self.bytes.clear();
-                Err(error)
-            }
-        }
+        extend(&mut self.bytes, b",")?;
+        append_text(&mut self.bytes, text)
     }
 
     /// Appends a string of plain characters, which is passed in its quotation marks.
@@ -318,13 +264,8 @@ impl Elements {
         ensures text { OnOk result (elements_text self.new ≡ elements_text self.old ++ (44 ∷ string.now)) }
         ensures none_on_error { OnErr result (elements_text self.new ≡ []) }
     {
-        match append_string_element(&mut self.bytes, string) {
-            Ok(()) => Ok(()),
-            Err(error) => {
-                self.bytes.clear();
-                Err(error)
-            }
-        }
+        extend(&mut self.bytes, b",")?;
+        extend(&mut self.bytes, string)
     }
 
     /// Appends an object.
@@ -332,13 +273,8 @@ impl Elements {
         ensures text { OnOk result (elements_text self.new ≡ elements_text self.old ++ (44 ∷ (object_text (members_text members.now)))) }
         ensures none_on_error { OnErr result (elements_text self.new ≡ []) }
     {
-        match append_object_element(&mut self.bytes, members.as_bytes()) {
-            Ok(()) => Ok(()),
-            Err(error) => {
-                self.bytes.clear();
-                Err(error)
-            }
-        }
+        extend(&mut self.bytes, b",")?;
+        append_object(&mut self.bytes, members.as_bytes())
     }
 
     /// Appends an array.
@@ -346,12 +282,7 @@ impl Elements {
         ensures text { OnOk result (elements_text self.new ≡ elements_text self.old ++ (44 ∷ (array_text (elements_text elements.now)))) }
         ensures none_on_error { OnErr result (elements_text self.new ≡ []) }
     {
-        match append_array_element(&mut self.bytes, elements.as_bytes()) {
-            Ok(()) => Ok(()),
-            Err(error) => {
-                self.bytes.clear();
-                Err(error)
-            }
-        }
+        extend(&mut self.bytes, b",")?;
+        append_array(&mut self.bytes, elements.as_bytes())
     }
 }

@@ -1,9 +1,9 @@
 //! Numbers, addresses and booleans as JSON text.
-ghost use Rattle.std.specs.Prelude.{◌≡◌, ◌+◌, ◌-◌, ◌<◌, ◌≤◌, ◌∷◌, ◌++◌, length, take, drop, decimal, OnOk, false};
+ghost use Rattle.std.specs.Prelude.{◌≡◌, ◌+◌, ◌-◌, ◌<◌, ◌≤◌, ◌∷◌, ◌++◌, length, take, drop, decimal, OnOk, OnErr, [], false};
 ghost use Rattle.std.specs.Fmt.{digits, signed_decimal};
-ghost use Rattle.json_writer.specs.Json.{IsJson, value};
 ghost use Rattle.json_writer.specs.Values.{address_text, boolean_text, byte_digits};
 
+use crate::parts::extend;
 use itoa::write_digits;
 use std::alloc::AllocError;
 
@@ -19,7 +19,7 @@ static HEX_PAIRS: [u8; 512] =
 
 /// Writes one byte before index `end`, and returns its index.
 #[inline(always)]
-fn prepend_byte(buf: &mut [u8], end: usize, byte: u8) -> usize
+pub(crate) fn prepend_byte(buf: &mut [u8], end: usize, byte: u8) -> usize
     requires { (1 ≤ end) × (end ≤ length buf.old) }
     ensures start { result + 1 ≡ end }
     ensures written { drop result buf.new ≡ byte ∷ drop end buf.old }
@@ -78,17 +78,51 @@ fn prepend_hex(buf: &mut [u8], end: usize, n: u64) -> usize
     prepend_short_hex(buf, start, rest as u8)
 }
 
+/// Writes a number as text before index `end`, in hexadecimal digits after `0x`, and returns the index of its first byte.
+#[inline(always)]
+pub(crate) fn prepend_address(buf: &mut [u8], end: usize, n: u64) -> usize
+    requires { (21 ≤ end) × (end ≤ length buf.old) }
+    ensures start { (end ≤ result + 21) × (result ≤ end) }
+    ensures written { drop result buf.new ≡ address_text n ++ drop end buf.old }
+{
+    let quotation_mark = prepend_byte(buf, end, b'"');
+    let digits = prepend_hex(buf, quotation_mark, n);
+    let letter = prepend_byte(buf, digits, b'x');
+    let zero = prepend_byte(buf, letter, b'0');
+    prepend_byte(buf, zero, b'"')
+}
+
+/// Writes a number before index `end`, and returns the index of its first byte.
+#[inline(always)]
+pub(crate) fn prepend_number(buf: &mut [u8], end: usize, n: u64) -> usize
+    requires { (20 ≤ end) × (end ≤ length buf.old) }
+    ensures start { (end ≤ result + 20) × (result ≤ end) }
+    ensures written { drop result buf.new ≡ decimal n ++ drop end buf.old }
+{
+    write_digits(n, buf, end)
+}
+
+/// Writes a signed number before index `end`, and returns the index of its first byte.
+#[inline(always)]
+pub(crate) fn prepend_signed(buf: &mut [u8], end: usize, n: i32) -> usize
+    requires { (20 ≤ end) × (end ≤ length buf.old) }
+    ensures start { (end ≤ result + 20) × (result ≤ end) }
+    ensures written { drop result buf.new ≡ signed_decimal n ++ drop end buf.old }
+{
+    let digits = write_digits(n.unsigned_abs() as u64, buf, end);
+    if n < 0 {
+        return prepend_byte(buf, digits, b'-');
+    }
+    digits
+}
+
 /// Writes a number as hexadecimal text before index `CAPACITY`, and returns the index of its first byte.
 #[inline(always)]
 fn format_address(buf: &mut [u8; ARRAY_SIZE], n: u64) -> usize
     ensures start { result ≤ 24 }
     ensures written { take (24 - result) (drop result buf.new) ≡ address_text n }
 {
-    let end = prepend_byte(buf, CAPACITY, b'"');
-    let digits = prepend_hex(buf, end, n);
-    let letter = prepend_byte(buf, digits, b'x');
-    let zero = prepend_byte(buf, letter, b'0');
-    prepend_byte(buf, zero, b'"')
+    prepend_address(buf, CAPACITY, n)
 }
 
 /// Appends the bytes from an index up to `CAPACITY`. It appends `CAPACITY` bytes and removes the others, because a copy of a
@@ -100,10 +134,11 @@ fn append_formatted(
     start: usize,
 ) -> Result<(), AllocError>
     requires { start ≤ 24 }
-    ensures { OnOk result (out.new.items ≡ out.old.items ++ take (24 - start) (drop start buf.now)) }
+    ensures text { OnOk result (out.new.items ≡ out.old.items ++ take (24 - start) (drop start buf.now)) }
+    ensures none_on_error { OnErr result (out.new.items ≡ []) }
 {
     let length = out.len() + (CAPACITY - start);
-    out.extend_from_slice(&buf[start..start + CAPACITY])?;
+    extend(out, &buf[start..start + CAPACITY])?;
     out.truncate(length);
     Ok(())
 }
@@ -146,12 +181,12 @@ fn digit_count(n: u64) -> usize
 
 /// Appends a number as decimal digits. They are written in place, because digits that are copied directly after they were written
 /// take more time.
-pub fn append_number(out: &mut Vec<u8>, n: u64) -> Result<(), AllocError>
+pub(crate) fn append_number(out: &mut Vec<u8>, n: u64) -> Result<(), AllocError>
     ensures text { OnOk result (out.new.items ≡ out.old.items ++ decimal n) }
-    ensures valid { IsJson value (decimal n) }
+    ensures none_on_error { OnErr result (out.new.items ≡ []) }
 {
     let end = out.len() + digit_count(n);
-    out.extend_from_slice(&[0; CAPACITY])?;
+    extend(out, &[0; CAPACITY])?;
     write_digits(n, out.as_mut_slice(), end);
     out.truncate(end);
     Ok(())
@@ -159,17 +194,19 @@ pub fn append_number(out: &mut Vec<u8>, n: u64) -> Result<(), AllocError>
 
 /// Appends a signed number.
 pub(crate) fn append_signed(out: &mut Vec<u8>, n: i32) -> Result<(), AllocError>
-    ensures { OnOk result (out.new.items ≡ out.old.items ++ signed_decimal n) }
+    ensures text { OnOk result (out.new.items ≡ out.old.items ++ signed_decimal n) }
+    ensures none_on_error { OnErr result (out.new.items ≡ []) }
 {
     if n < 0 {
-        out.extend_from_slice(b"-")?;
+        extend(out, b"-")?;
     }
     append_number(out, n.unsigned_abs() as u64)
 }
 
 /// Appends a number as text, in hexadecimal digits after `0x`.
 pub(crate) fn append_address(out: &mut Vec<u8>, n: u64) -> Result<(), AllocError>
-    ensures { OnOk result (out.new.items ≡ out.old.items ++ address_text n) }
+    ensures text { OnOk result (out.new.items ≡ out.old.items ++ address_text n) }
+    ensures none_on_error { OnErr result (out.new.items ≡ []) }
 {
     let mut buf = [0; ARRAY_SIZE];
     let start = format_address(&mut buf, n);
@@ -178,10 +215,11 @@ pub(crate) fn append_address(out: &mut Vec<u8>, n: u64) -> Result<(), AllocError
 
 /// Appends a boolean.
 pub(crate) fn append_boolean(out: &mut Vec<u8>, b: bool) -> Result<(), AllocError>
-    ensures { OnOk result (out.new.items ≡ out.old.items ++ boolean_text b) }
+    ensures text { OnOk result (out.new.items ≡ out.old.items ++ boolean_text b) }
+    ensures none_on_error { OnErr result (out.new.items ≡ []) }
 {
     if b {
-        return out.extend_from_slice(b"true");
+        return extend(out, b"true");
     }
-    out.extend_from_slice(b"false")
+    extend(out, b"false")
 }

@@ -1,18 +1,14 @@
 -- The line of a record: a JSON object and a newline.
-use Rattle.std.specs.Prelude.{◌≡◌, ℕ, List, [], ◌∷◌, ◌++◌, codes, Option, None, Some}
+use Rattle.std.specs.Prelude.{◌≡◌, ℕ, List, [], ◌∷◌, ◌++◌, codes, Option}
 use Rattle.std.specs.Option.{option_map}
 use Rattle.std.specs.Fmt.{decimal}
 use Rattle.json_writer.specs.Json.{IsJson, value}
+use Rattle.json_writer.specs.Values.{optional_text}
 use Rattle.linux_perf_data.specs.Layout.{RecordView}
-
--- a member whose value is a number, if there is one
-abbrev pub optional_number : List ℕ → Option ℕ → List ℕ
-optional_number start None = []
-optional_number start (Some n) = start ++ decimal n
 
 -- the start of a record's line: where the record is, and its time and attribute if it has them
 abbrev pub line_start : ℕ → ℕ → Option ℕ → Option ℕ → List ℕ
-line_start offset round time attr = codes "{\"offset\":" ++ (decimal offset ++ (codes ",\"round\":" ++ (decimal round ++ (optional_number (codes ",\"time\":") time ++ optional_number (codes ",\"attr\":") attr))))
+line_start offset round time attr = codes "{\"offset\":" ++ (decimal offset ++ (codes ",\"round\":" ++ (decimal round ++ (optional_text decimal (codes ",\"time\":") time ++ optional_text decimal (codes ",\"attr\":") attr))))
 
 -- the start of the line of a record that a reader returned
 abbrev pub record_start : RecordView → List ℕ

@@ -1,5 +1,7 @@
 -- The text that a line contains.
-use Rattle.std.specs.Prelude.{ℕ, ◌<◌, ◌^◌, List, IfSome}
+use Rattle.std.specs.Prelude.{List, ℕ, ◌++◌, codes}
+use Rattle.std.specs.Fmt.{decimal}
+use Rattle.json_writer.specs.Values.{optional_text}
 use Rattle.perfdata_json.specs.declared.line.JsonLine.{JsonLine}
 use Rattle.perfdata_json.specs.declared.line.LineStart.{LineStart}
 use Rattle.perfdata_json.specs.Line.{line_start}
@@ -7,13 +9,10 @@ use Rattle.perfdata_json.specs.Line.{line_start}
 abbrev pub json_text : JsonLine → List ℕ
 json_text line = line.bytes.items
 
--- the text of a line's first members
+-- the text of a line's first members, after the object's brace
 abbrev pub start_text : LineStart → List ℕ
 start_text s = line_start s.offset s.round s.timestamp s.attr_index
 
--- its numbers have 64 bits
-pub record StartFits (s : LineStart) : Type 0 where
-  pub offset : s.offset < 2 ^ 64
-  pub round : s.round < 2 ^ 64
-  pub timestamp : IfSome s.timestamp (λ n. n < 2 ^ 64)
-  pub attr_index : IfSome s.attr_index (λ n. n < 2 ^ 64)
+-- the same members, each after a comma
+abbrev pub start_members : LineStart → List ℕ
+start_members s = codes ",\"offset\":" ++ (decimal s.offset ++ (codes ",\"round\":" ++ (decimal s.round ++ (optional_text decimal (codes ",\"time\":") s.timestamp ++ optional_text decimal (codes ",\"attr\":") s.attr_index))))

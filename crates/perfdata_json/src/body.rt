@@ -4,6 +4,7 @@ ghost use Rattle.json_writer.specs.Writing.{is_member_start};
 
 use crate::names::error_name;
 use json_writer::members::{Elements, Members};
+use json_writer::short::ShortMembers;
 use perfdata_base::endian::read_u64;
 use perfdata_base::raw::RawData;
 use perfdata_events::sample_id::Task;
@@ -24,6 +25,8 @@ pub(crate) struct Body {
     pub(crate) item: Members,
     // the elements of an array in that array
     pub(crate) pair: Elements,
+    // the members of an object of words in it
+    pub(crate) words: ShortMembers,
     joined: Vec<u8>,
     byte_limit: usize,
 }
@@ -60,6 +63,7 @@ impl Body {
             elements: Elements::new(alloc),
             item: Members::new(alloc),
             pair: Elements::new(alloc),
+            words: ShortMembers::new(),
             joined: Vec::new(alloc),
             byte_limit,
         }
@@ -125,14 +129,6 @@ impl Body {
     pub(crate) fn task(&mut self, task: Task) -> Result<(), AllocError> {
         self.members.signed(br#","pid":"#, task.pid)?;
         self.members.signed(br#","tid":"#, task.tid)
-    }
-
-    /// Appends a process id and a thread id if there are any.
-    pub(crate) fn task_if(&mut self, task: Option<Task>) -> Result<(), AllocError> {
-        match task {
-            Some(task) => self.task(task),
-            None => Ok(()),
-        }
     }
 
     /// Sets the array to numbers in hexadecimal.

@@ -1,5 +1,9 @@
 //! The fields of kernel records.
+ghost use Rattle.std.specs.Prelude.{◌≤◌};
+ghost use Rattle.json_writer.specs.ShortTexts.{free_size};
+
 use crate::body::{Body, count_of, next_u64};
+use json_writer::short::ShortMembers;
 use perfdata_base::event::{RawEventRecord, RecordType};
 use perfdata_events::aux_area::{AuxOutputHwIdRecord, AuxRecord, ItraceStartRecord};
 use perfdata_events::context_switch::ContextSwitchRecord;
@@ -12,6 +16,21 @@ use perfdata_events::mmap2::{Mmap2FileId, Mmap2Record};
 use perfdata_events::sample_id::SampleId;
 use perfdata_events::task::{CgroupRecord, CommOrExecRecord, ForkOrExitRecord, NamespacesRecord};
 use std::alloc::AllocError;
+
+/// Puts the sample_id fields of a record before the members.
+fn prepend_sample_id(members: &mut ShortMembers, id: &SampleId)
+    requires { 280 ≤ free_size members.old }
+{
+    members.prepend_number_if(br#","identifier":"#, id.identifier);
+    members.prepend_number_if(br#","cpu":"#, id.cpu.map(|cpu| cpu as u64));
+    members.prepend_number_if(br#","stream_id":"#, id.stream_id);
+    members.prepend_number_if(br#","id":"#, id.id);
+    members.prepend_number_if(br#","timestamp":"#, id.timestamp);
+    if let Some(task) = id.task {
+        members.prepend_signed(br#","tid":"#, task.tid);
+        members.prepend_signed(br#","pid":"#, task.pid);
+    }
+}
 
 impl Body {
     fn mmap(&mut self, mmap: &MmapRecord<'_>) -> Result<(), AllocError> {
@@ -180,21 +199,12 @@ impl Body {
     }
 
     fn sample_id(&mut self, id: &SampleId) -> Result<(), AllocError> {
-        self.nested.clear();
-        if let Some(task) = id.task {
-            self.nested.signed(br#","pid":"#, task.pid)?;
-            self.nested.signed(br#","tid":"#, task.tid)?;
-        }
-        self.nested.number_if(br#","timestamp":"#, id.timestamp)?;
-        self.nested.number_if(br#","id":"#, id.id)?;
-        self.nested.number_if(br#","stream_id":"#, id.stream_id)?;
-        self.nested
-            .number_if(br#","cpu":"#, id.cpu.map(|cpu| cpu as u64))?;
-        self.nested.number_if(br#","identifier":"#, id.identifier)?;
-        if self.nested.is_empty() {
+        self.words.clear();
+        prepend_sample_id(&mut self.words, id);
+        if self.words.is_empty() {
             return Ok(());
         }
-        self.members.object(br#","sample_id":"#, &self.nested)
+        self.members.short_object(br#","sample_id":"#, &self.words)
     }
 
     /// Appends the fields of a record that isn't a sample, or the error of its parser, and its sample_id fields.
@@ -214,15 +224,22 @@ impl Body {
         }
     }
 
-    /// Appends the fields of a kernel record, or the error of its parser, and its sample_id fields unless it is a sample.
+    /// Sets it to the fields of a kernel record, or the error of its parser, and its sample_id fields unless it is a sample. `first` is
+    /// empty, and is set to the members before them.
     pub(crate) fn kernel_record(
         &mut self,
+        name: Option<&str>,
         format: &EventFormat,
         raw: &RawEventRecord<'_>,
-    ) -> Result<(), AllocError> {
+        first: &mut ShortMembers,
+    ) -> Result<(), AllocError>
+        requires { 1024 ≤ free_size first.old }
+        ensures { 160 ≤ free_size first.new }
+    {
         if raw.record_type.0 == RecordType::SAMPLE.0 {
-            return self.sample(format, raw.body);
+            return self.sample(name, format, raw, first);
         }
+        self.prepend_header(name, raw.record_type.0, raw.misc, first)?;
         self.other_record(format, raw)
     }
 }

@@ -1,13 +1,18 @@
 //! The line of a record.
-ghost use Rattle.std.specs.Prelude.{◌≡◌, ◌<◌, ◌^◌, ◌++◌, [], ◌∷◌, decimal, IfSome, OnOk};
-ghost use Rattle.json_writer.specs.Writing.{AreMembers};
+ghost use Rattle.std.specs.Prelude.{◌≡◌, ◌≢◌, ◌+◌, ◌≤◌, ◌++◌, [], ◌∷◌, OnOk};
+ghost use Rattle.json_writer.specs.Json.{IsJson, value};
+ghost use Rattle.json_writer.specs.Values.{object_text};
+ghost use Rattle.json_writer.specs.Texts.{members_text};
+ghost use Rattle.json_writer.specs.ShortTexts.{short_text, free_size};
 ghost use Rattle.linux_perf_data.specs.RecordViews.{record_view_of};
-ghost use Rattle.perfdata_json.specs.Line.{IsLineOf, optional_number, record_start};
-ghost use Rattle.perfdata_json.specs.LineText.{start_text, StartFits};
+ghost use Rattle.perfdata_json.specs.Line.{IsLineOf, record_start};
+ghost use Rattle.perfdata_json.specs.LineText.{start_text, start_members};
 
 use crate::body::Body;
 use crate::names::record_type_name;
-use json_writer::scalar;
+use json_writer::members::Members;
+use json_writer::object::append_object;
+use json_writer::short::ShortMembers;
 use linux_perf_data::{PerfFile, PerfFileRecord, RecordPlace};
 use perfdata_base::event::RecordType;
 use perfdata_events::format::EventFormat;
@@ -26,30 +31,10 @@ struct LineStart {
 #[derive(Drop)]
 pub struct JsonLine {
     bytes: Vec<u8>,
+    // the members before those of the body
+    first: ShortMembers,
     body: Body,
     alloc: Global,
-}
-
-/// Appends a key and a number.
-#[inline(always)]
-fn append_number(out: &mut Vec<u8>, key: &[u8], n: u64) -> Result<(), AllocError>
-    ensures text { OnOk result (out.new.items ≡ (out.old.items ++ key.now) ++ decimal n) }
-    ensures fits { n < 2 ^ 64 }
-{
-    out.extend_from_slice(key)?;
-    scalar::append_number(out, n)
-}
-
-/// Appends a key and a number if there is one.
-#[inline(always)]
-fn append_optional(out: &mut Vec<u8>, key: &[u8], n: Option<u64>) -> Result<(), AllocError>
-    ensures text { OnOk result (out.new.items ≡ out.old.items ++ optional_number key.now n) }
-    ensures fits { IfSome n (λ number. number < 2 ^ 64) }
-{
-    match n {
-        Some(n) => append_number(out, key, n),
-        None => Ok(()),
-    }
 }
 
 /// The first members of a record's line.
@@ -72,69 +57,112 @@ fn line_start_of(place: RecordPlace, record: &PerfFileRecord<'_>) -> LineStart
     }
 }
 
-/// Sets the buffer to the first members of a line, after the object's brace.
-fn set_start(out: &mut Vec<u8>, start: LineStart) -> Result<(), AllocError>
-    ensures text { OnOk result (out.new.items ≡ start_text start) }
-    ensures fits { OnOk result (StartFits start) }
+/// Puts the first members of a line before the others.
+#[inline(always)]
+fn prepend_start(members: &mut ShortMembers, start: LineStart)
+    requires { 160 ≤ free_size members.old }
+    ensures { short_text members.new ≡ start_members start ++ short_text members.old }
 {
-    out.clear();
-    append_number(out, b"{\"offset\":", start.offset)?;
-    append_number(out, b",\"round\":", start.round)?;
-    append_optional(out, b",\"time\":", start.timestamp)?;
-    append_optional(out, b",\"attr\":", start.attr_index)
+    members.prepend_number_if(br#","attr":"#, start.attr_index);
+    members.prepend_number_if(br#","time":"#, start.timestamp);
+    members.prepend_number(br#","round":"#, start.round);
+    members.prepend_number(br#","offset":"#, start.offset);
 }
 
 /// Sets the buffer to a line with these members.
-fn set_line(out: &mut Vec<u8>, start: LineStart, members: &[u8]) -> Result<(), AllocError>
-    ensures text { OnOk result (out.new.items ≡ (start_text start ++ (members.now ++ (125 ∷ []))) ++ (10 ∷ [])) }
-    ensures fits { OnOk result (StartFits start) }
+fn set_line(out: &mut Vec<u8>, first: &ShortMembers, others: &Members) -> Result<(), AllocError>
+    requires { short_text first.now ≢ [] }
+    ensures text { OnOk result (out.new.items ≡ object_text (short_text first.now ++ members_text others.now) ++ (10 ∷ [])) }
+    ensures valid { OnOk result ∥ IsJson value (object_text (short_text first.now ++ members_text others.now)) ∥₁ }
 {
-    set_start(out, start)?;
-    out.extend_from_slice(members)?;
-    out.extend_from_slice(b"}\n")
+    out.clear();
+    append_object(out, first, others)?;
+    out.extend_from_slice(b"\n")
+}
+
+/// Puts the type of a record before the members. Most records are samples.
+fn prepend_type(members: &mut ShortMembers, number: u32)
+    requires { 56 ≤ free_size members.old }
+    ensures { free_size members.old ≤ free_size members.new + 56 }
+{
+    if number == RecordType::SAMPLE.0 {
+        return members.prepend_string(br#","type":"#, br#""SAMPLE""#);
+    }
+    match record_type_name(number) {
+        Some(name) => members.prepend_string(br#","type":"#, name),
+        None => members.prepend_number(br#","type":"#, number as u64),
+    }
 }
 
 impl Body {
-    /// Appends the type of a record.
-    fn type_name(&mut self, number: u32) -> Result<(), AllocError> {
-        match record_type_name(number) {
-            Some(name) => self.members.string(br#","type":"#, name),
-            None => self.members.number(br#","type":"#, number as u64),
-        }
+    /// Appends the members to those of the body, and removes them there.
+    pub(crate) fn move_members(&mut self, first: &mut ShortMembers) -> Result<(), AllocError>
+        requires { 160 ≤ free_size first.old }
+        ensures { 160 ≤ free_size first.new }
+    {
+        self.members.append(first)?;
+        first.clear();
+        Ok(())
     }
 
-    /// Appends the type and the `misc` flags of a record. Most records are samples.
-    fn record_type(&mut self, number: u32, misc: u16) -> Result<(), AllocError> {
-        if number == RecordType::SAMPLE.0 {
-            self.members.string(br#","type":"#, br#""SAMPLE""#)?;
-        } else {
-            self.type_name(number)?;
+    /// Puts the name of an event before the members, or appends it and them to those of the body if it needs more space or escapes.
+    fn prepend_event(
+        &mut self,
+        name: Option<&str>,
+        first: &mut ShortMembers,
+    ) -> Result<(), AllocError>
+        requires { 480 ≤ free_size first.old }
+        ensures { 160 ≤ free_size first.new }
+    {
+        let Some(name) = name else {
+            return Ok(());
+        };
+        if first.prepend_plain_text(br#","event":"#, name.as_bytes()) {
+            return Ok(());
         }
-        self.members.number(br#","misc":"#, misc as u64)
+        self.members.text(br#","event":"#, name.as_bytes())?;
+        self.move_members(first)
     }
 
-    /// Sets it to the fields of a record. `file` contains the record's attribute.
+    /// Puts the event, the type and the `misc` flags of a record before the members. The body has no members yet.
+    #[inline(always)]
+    pub(crate) fn prepend_header(
+        &mut self,
+        name: Option<&str>,
+        number: u32,
+        misc: u16,
+        first: &mut ShortMembers,
+    ) -> Result<(), AllocError>
+        requires { 576 ≤ free_size first.old }
+        ensures { 160 ≤ free_size first.new }
+    {
+        first.prepend_number(br#","misc":"#, misc as u64);
+        prepend_type(first, number);
+        self.prepend_event(name, first)
+    }
+
+    /// Sets it to the fields of a record. `file` contains the record's attribute. `first` is set to the members before them.
     fn set_record(
         &mut self,
         alloc: Global,
         file: &PerfFile,
         record: &PerfFileRecord<'_>,
-    ) -> Result<(), AllocError> {
+        first: &mut ShortMembers,
+    ) -> Result<(), AllocError>
+        ensures { 160 ≤ free_size first.new }
+    {
         self.members.clear();
+        first.clear();
         match record {
             PerfFileRecord::EventRecord { attr_index, event } => {
                 let Some(description) = file.event_attributes().get(*attr_index) else {
-                    return self.record_type(event.record_type.0, event.misc);
+                    return self.prepend_header(None, event.record_type.0, event.misc, first);
                 };
-                if let Some(name) = description.name() {
-                    self.members.text(br#","event":"#, name.as_bytes())?;
-                }
-                self.record_type(event.record_type.0, event.misc)?;
                 let format = EventFormat::new(description.attributes(), event.parse_info.endian);
-                self.kernel_record(&format, event)
+                self.kernel_record(description.name(), &format, event, first)
             }
             PerfFileRecord::UserRecord(user) => {
-                self.record_type(user.record_type.record_type().0, user.misc)?;
+                self.prepend_header(None, user.record_type.record_type().0, user.misc, first)?;
                 self.user_record(alloc, user)
             }
         }
@@ -146,9 +174,12 @@ impl JsonLine {
 
     /// Creates an empty line. It can be set to one line after another. Of bytes that are no text the first `byte_limit` are
     /// written.
-    pub fn new(alloc: Global, byte_limit: usize) -> JsonLine {
+    pub fn new(alloc: Global, byte_limit: usize) -> JsonLine
+        ensures { json_text result ≡ [] }
+    {
         JsonLine {
             bytes: Vec::new(alloc),
+            first: ShortMembers::new(),
             body: Body::new(alloc, byte_limit),
             alloc,
         }
@@ -163,9 +194,10 @@ impl JsonLine {
     ) -> Result<(), AllocError>
         ensures { OnOk result (IsLineOf (record_view_of place record.now) (json_text self.new)) }
     {
-        self.body.set_record(self.alloc, file, record)?;
-        let start = line_start_of(place, record);
-        set_line(&mut self.bytes, start, self.body.members.as_bytes())
+        self.body
+            .set_record(self.alloc, file, record, &mut self.first)?;
+        prepend_start(&mut self.first, line_start_of(place, record));
+        set_line(&mut self.bytes, &self.first, &self.body.members)
     }
 
     /// The bytes of the line, including its newline.

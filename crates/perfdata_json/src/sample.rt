@@ -1,9 +1,12 @@
 //! The fields of samples.
-ghost use Rattle.std.specs.Prelude.{IsTrue, not};
+ghost use Rattle.std.specs.Prelude.{◌+◌, ◌≤◌, IsTrue, not};
+ghost use Rattle.json_writer.specs.ShortTexts.{free_size};
 ghost use Rattle.perfdata_events.specs.Selection.{selects_parts};
 
 use crate::body::{Body, count_of, next_u64};
 use crate::names::context_name;
+use json_writer::short::ShortMembers;
+use perfdata_base::event::RawEventRecord;
 use perfdata_base::raw::RawData;
 use perfdata_events::call_chain::CallChain;
 use perfdata_events::format::EventFormat;
@@ -31,6 +34,28 @@ fn words_of(sample: &SampleRecord<'_>) -> SampleWords {
         },
         period: sample.period,
     }
+}
+
+/// Puts the words of a sample before the members.
+#[inline(always)]
+fn prepend_words(members: &mut ShortMembers, words: &SampleWords)
+    requires { 400 ≤ free_size members.old }
+    ensures { free_size members.old ≤ free_size members.new + 400 }
+{
+    let origin = &words.origin;
+    let event = &words.event;
+    members.prepend_number_if(br#","period":"#, words.period);
+    members.prepend_number_if(br#","cpu":"#, event.cpu.map(|cpu| cpu as u64));
+    members.prepend_number_if(br#","stream_id":"#, event.stream_id);
+    members.prepend_number_if(br#","id":"#, event.id);
+    members.prepend_address_if(br#","address":"#, event.address);
+    members.prepend_number_if(br#","timestamp":"#, origin.timestamp);
+    if let Some(task) = origin.task {
+        members.prepend_signed(br#","tid":"#, task.tid);
+        members.prepend_signed(br#","pid":"#, task.pid);
+    }
+    members.prepend_address_if(br#","ip":"#, origin.ip);
+    members.prepend_number_if(br#","identifier":"#, origin.identifier);
 }
 
 impl Body {
@@ -136,26 +161,6 @@ impl Body {
             .number_if(br#","dynamic_size":"#, stack.dynamic_size)
     }
 
-    /// Appends the words of a sample up to its period.
-    fn sample_words(&mut self, words: &SampleWords) -> Result<(), AllocError> {
-        let origin = &words.origin;
-        let event = &words.event;
-        self.members
-            .number_if(br#","identifier":"#, origin.identifier)?;
-        self.members.address_if(br#","ip":"#, origin.ip)?;
-        self.task_if(origin.task)?;
-        self.members
-            .number_if(br#","timestamp":"#, origin.timestamp)?;
-        self.members.address_if(br#","address":"#, event.address)?;
-        self.members.number_if(br#","id":"#, event.id)?;
-        self.members
-            .number_if(br#","stream_id":"#, event.stream_id)?;
-        if let Some(cpu) = event.cpu {
-            self.members.number(br#","cpu":"#, cpu as u64)?;
-        }
-        self.members.number_if(br#","period":"#, words.period)
-    }
-
     /// Appends the parts of a sample from its counter values to its stack.
     fn sample_parts(
         &mut self,
@@ -214,20 +219,36 @@ impl Body {
         sample: &SampleRecord<'_>,
         format: &EventFormat,
     ) -> Result<(), AllocError> {
-        self.sample_words(&words_of(sample))?;
+        self.words.clear();
+        prepend_words(&mut self.words, &words_of(sample));
+        self.members.append(&self.words)?;
         self.sample_parts(sample, format)?;
         self.sample_end(sample, format)
     }
 
-    /// Appends the fields of a sample that has only words, or the error of their parser.
+    /// Puts the event, the type and the fields of a sample that has only words into `first`, or the error of their parser into the body.
     #[inline(never)]
-    fn short_sample(&mut self, format: &EventFormat, body: RawData<'_>) -> Result<(), AllocError>
-        requires { IsTrue (not (selects_parts format.now.sample_format)) }
+    fn short_sample(
+        &mut self,
+        name: Option<&str>,
+        format: &EventFormat,
+        raw: &RawEventRecord<'_>,
+        first: &mut ShortMembers,
+    ) -> Result<(), AllocError>
+        requires only_words { IsTrue (not (selects_parts format.now.sample_format)) }
+        requires free { 1024 ≤ free_size first.old }
+        ensures { 160 ≤ free_size first.new }
     {
-        let mut fields = body;
+        let mut fields = raw.body;
         match SampleWords::parse(format, &mut fields) {
-            Ok(words) => self.sample_words(&words),
-            Err(error) => self.error(error.kind()),
+            Ok(words) => {
+                prepend_words(first, &words);
+                self.prepend_header(name, raw.record_type.0, raw.misc, first)
+            }
+            Err(error) => {
+                self.prepend_header(name, raw.record_type.0, raw.misc, first)?;
+                self.error(error.kind())
+            }
         }
     }
 
@@ -242,18 +263,25 @@ impl Body {
         }
     }
 
-    /// Appends the fields of a sample, or the error of its parser. A sample with fields whose offset isn't known has none.
+    /// Sets it to the fields of a sample, or the error of its parser. A sample with fields whose offset isn't known has none. `first` is
+    /// empty, and is set to the members before them; the words of a sample that has no other fields are there too.
     pub(crate) fn sample(
         &mut self,
+        name: Option<&str>,
         format: &EventFormat,
-        body: RawData<'_>,
-    ) -> Result<(), AllocError> {
-        if !format.has_known_fields() {
-            return Ok(());
+        raw: &RawEventRecord<'_>,
+        first: &mut ShortMembers,
+    ) -> Result<(), AllocError>
+        requires { 1024 ≤ free_size first.old }
+        ensures { 160 ≤ free_size first.new }
+    {
+        if format.has_only_words() && format.has_known_fields() {
+            return self.short_sample(name, format, raw, first);
         }
-        if format.has_only_words() {
-            return self.short_sample(format, body);
+        self.prepend_header(name, raw.record_type.0, raw.misc, first)?;
+        if format.has_known_fields() {
+            return self.long_sample(format, raw.body);
         }
-        self.long_sample(format, body)
+        Ok(())
     }
 }

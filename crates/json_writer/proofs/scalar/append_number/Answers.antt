@@ -1,8 +1,8 @@
-use Rattle.std.proofs.Common.{◌≡◌, ◌+◌, ◌≤◌, ◌++◌, length, take, drop, arith, ap, ◌∙◌, subst}
+use Rattle.std.proofs.Common.{◌≡◌, ◌+◌, ◌≤◌, ◌++◌, length, take, drop, arith, ap, ◌∙◌, subst, length-append}
 use Rattle.std.specs.Prelude.{decimal}
 use Rattle.std.proofs.lemmas.List.{take-take, take-append-le}
 use Rattle.json_writer.proofs.DecimalLemmas.{in_place}
-use Rattle.json_writer.proofs.JsonLemmas.{decimal_short, decimal_value}
+use Rattle.json_writer.proofs.JsonLemmas.{decimal_short}
 use Rattle.json_writer.proofs.scalar.append_number.Goals as goal
 
 pub overflow_add-end : goal.overflow_add-end
@@ -10,20 +10,14 @@ overflow_add-end c =
     let short = decimal_short c.args.n c.ranges.n.fits in
     record { fits = omega (arith, c.digit_count.ensures, c.len.ensures, c.args.out.now.small) }
 
-pub returns-in_err-extend_from_slice-clause-valid : goal.returns-in_err-extend_from_slice-clause-valid
-returns-in_err-extend_from_slice-clause-valid c = decimal_value c.args.n c.ranges.n.fits
-
 pub write_digits-requires : goal.write_digits-requires
 write_digits-requires c =
     let short = decimal_short c.args.n c.ranges.n.fits in
     let count = c.digit_count.ensures in
     let before = c.len.ensures in
-    let longer = c.in_ok-extend_from_slice.ensures.len in
-    let size = c.as_mut_slice.ensures.len in
-    (omega arith, omega arith)
-
-pub returns-clause-valid : goal.returns-clause-valid
-returns-clause-valid c = decimal_value c.args.n c.ranges.n.fits
+    let old = c.args.out.now.items in
+    let size : length c.as_mut_slice.result.now ≡ length old + 24 = ap length (c.as_mut_slice.ensures.value ∙ c.in_ok-extend.ensures.text) ∙ length-append old _ in
+    (omega arith, omega (arith, c.args.out.now.ok.0))
 
 pub returns-clause-text : goal.returns-clause-text
 returns-clause-text c =
@@ -33,13 +27,12 @@ returns-clause-text c =
     let short = decimal_short c.args.n c.ranges.n.fits in
     let count = c.digit_count.ensures in
     let before = c.len.ensures in
-    let longer = c.in_ok-extend_from_slice.ensures.len in
-    let size = c.as_mut_slice.ensures.len in
+    let visible = c.as_mut_slice.ensures.value ∙ c.in_ok-extend.ensures.text in
+    let size : length c.as_mut_slice.result.now ≡ length old + 24 = ap length visible ∙ length-append old _ in
     let start = c.write_digits.ensures.start in
     let same_length = c.write_digits.auto.buf in
     let at : c.write_digits.result ≡ length old = omega (arith, c.args.out.now.ok.0) in
     let ends : end ≡ length old + length (decimal c.args.n) = omega (arith, c.args.out.now.ok.0) in
-    let visible = c.as_mut_slice.ensures.value ∙ c.in_ok-extend_from_slice.ensures.items in
     let kept = subst (λ k. take k written ≡ take k c.as_mut_slice.result.now) at c.write_digits.ensures.before ∙ ap (take (length old)) visible in
     let after = subst (λ k. drop k written ≡ decimal c.args.n ++ drop end c.as_mut_slice.result.now) at c.write_digits.ensures.written in
-    c.truncate.ensures.items ∙ take-take end c.extend_from_slice.new.self.len _ (omega arith) ∙ take-append-le end written _ (omega arith) ∙ ap (λ k. take k written) ends ∙ in_place old _ written (decimal c.args.n) _ kept after
+    c.truncate.ensures.items ∙ take-take end c.extend.new.out.len _ (omega arith) ∙ take-append-le end written _ (omega arith) ∙ ap (λ k. take k written) ends ∙ in_place old _ written (decimal c.args.n) _ kept after

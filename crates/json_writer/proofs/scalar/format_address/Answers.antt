@@ -1,15 +1,7 @@
-use Rattle.std.proofs.Common.{◌≡◌, ◌∷◌, [], ◌++◌, false, drop, length, arith, ap, sym, ◌∙◌, append_assoc}
-use Rattle.std.specs.Fmt.{digits}
+use Rattle.std.proofs.Common.{arith}
 use Rattle.json_writer.specs.Values.{address_text}
 use Rattle.json_writer.proofs.HexLemmas.{before_capacity}
 use Rattle.json_writer.proofs.scalar.format_address.Goals as goal
 
 pub returns-clause-written : goal.returns-clause-written
-returns-clause-written c =
-    let hex = digits 16 false c.args.n in
-    let rest = drop 24 c.args.buf.now in
-    let digit = c.prepend_hex-digits.ensures.written ∙ ap (λ l. hex ++ l) c.prepend_byte-end.ensures.written ∙ sym (append_assoc hex (34 ∷ []) rest) in
-    let letter = c.prepend_byte-letter.ensures.written ∙ ap (λ l. 120 ∷ l) digit in
-    let zero = c.prepend_byte-zero.ensures.written ∙ ap (λ l. 48 ∷ l) letter in
-    let all = c.prepend_byte.ensures.written ∙ ap (λ l. 34 ∷ l) zero in
-    before_capacity c.prepend_byte.new.buf c.args.buf.now c.prepend_byte.result (address_text c.args.n) (omega (arith, c.told-buf)) (omega (arith, c.told-buf)) (omega arith) all
+returns-clause-written c = before_capacity c.prepend_address.new.buf c.args.buf.now c.prepend_address.result (address_text c.args.n) (omega (arith, c.told-buf)) (omega (arith, c.told-buf)) (omega arith) c.prepend_address.ensures.written

@@ -6,7 +6,7 @@ use Rattle.std.proofs.lemmas.Iterator.Consumers.{YieldsList-end}
 use Rattle.json_writer.specs.Values.{escape}
 use Rattle.json_writer.proofs.text.append_escaped.Goals as goal
 
-pub returns : goal.returns
-returns c =
+pub returns-clause-text : goal.returns-clause-text
+returns-clause-text c =
     let all = YieldsList-end (YieldsList-from_chars c.args.text.now c.utf8.text cc) c.characters.yielded _ c.characters.yielded_by _ _ c.in-None.is c.next.ensures.steps in
     c.characters.invariant ∙ ap (λ l. c.args.out.now.items ++ flat_map escape l) (sym (map-id c.characters.yielded) ∙ all.0)
