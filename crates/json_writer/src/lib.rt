@@ -8,6 +8,6 @@ pub mod laws;
 pub mod members;
 pub mod object;
 mod parts;
-mod scalar;
+pub mod scalar;
 pub mod short;
 mod text;

@@ -1,5 +1,5 @@
 //! Members of objects and elements of arrays.
-ghost use Rattle.std.specs.Prelude.{◌≡◌, ◌++◌, [], ◌∷◌, decimal, IsTrue, OnOk, OnErr};
+ghost use Rattle.std.specs.Prelude.{◌≡◌, ◌++◌, [], ◌∷◌, ◌==◌, length, decimal, IsTrue, OnOk, OnErr};
 ghost use Rattle.std.specs.Fmt.{signed_decimal};
 ghost use Rattle.json_writer.specs.Writing.{is_member_start, is_plain_string, AreMembers, AreElements};
 ghost use Rattle.json_writer.specs.Values.{address_text, boolean_text, hex_text, text_value, bytes_text, object_text, array_text, optional_text};
@@ -43,6 +43,13 @@ impl Members {
         ensures { members_text self.new ≡ [] }
     {
         self.bytes.clear();
+    }
+
+    /// Whether there are no members.
+    pub fn is_empty(&self) -> bool
+        ensures { result ≡ (length (members_text self.now) == 0) }
+    {
+        self.bytes.is_empty()
     }
 
     /// The text of the members.

@@ -1,6 +1,7 @@
 //! Numbers, addresses and booleans as JSON text.
 ghost use Rattle.std.specs.Prelude.{◌≡◌, ◌+◌, ◌-◌, ◌<◌, ◌≤◌, ◌∷◌, ◌++◌, length, take, drop, decimal, OnOk, OnErr, [], false};
 ghost use Rattle.std.specs.Fmt.{digits, signed_decimal};
+ghost use Rattle.json_writer.specs.Json.{IsJson, value};
 ghost use Rattle.json_writer.specs.Values.{address_text, boolean_text, byte_digits};
 
 use crate::parts::extend;
@@ -181,8 +182,9 @@ fn digit_count(n: u64) -> usize
 
 /// Appends a number as decimal digits. They are written in place, because digits that are copied directly after they were written
 /// take more time.
-pub(crate) fn append_number(out: &mut Vec<u8>, n: u64) -> Result<(), AllocError>
+pub fn append_number(out: &mut Vec<u8>, n: u64) -> Result<(), AllocError>
     ensures text { OnOk result (out.new.items ≡ out.old.items ++ decimal n) }
+    ensures valid { IsJson value (decimal n) }
     ensures none_on_error { OnErr result (out.new.items ≡ []) }
 {
     let end = out.len() + digit_count(n);

@@ -1,9 +1,9 @@
 //! Members of an object in an array of fixed size. They are written from the last to the first, so that the number of a number's
 //! digits isn't needed before they are written.
-ghost use Rattle.std.specs.Prelude.{◌≡◌, ◌+◌, ◌≤◌, ◌++◌, ◌==◌, [], length, drop, decimal, IsTrue, if◌then◌else◌};
+ghost use Rattle.std.specs.Prelude.{◌≡◌, ◌+◌, ◌≤◌, ◌++◌, ◌==◌, [], length, drop, decimal, IsTrue, nat_le, ◌&&◌, if◌then◌else◌};
 ghost use Rattle.json_writer.specs.Json.{quoted};
 ghost use Rattle.std.specs.Fmt.{signed_decimal};
-ghost use Rattle.json_writer.specs.Writing.{is_short_member_start, is_short_string, AreMembers};
+ghost use Rattle.json_writer.specs.Writing.{is_plain, is_short_member_start, is_short_string, AreMembers};
 ghost use Rattle.json_writer.specs.Values.{address_text, text_value, optional_text};
 
 use crate::scalar::{prepend_address, prepend_byte, prepend_number, prepend_signed};
@@ -143,6 +143,7 @@ impl ShortMembers {
     pub fn prepend_plain_text(&mut self, key: &[u8], text: &[u8]) -> bool
         requires key { IsTrue (is_short_member_start key.now) }
         requires free { 320 ≤ free_size self.old }
+        ensures result { result ≡ (nat_le (length text.now) 256 && is_plain text.now) }
         ensures text { short_text self.new ≡ (if result then key.now ++ (text_value text.now ++ short_text self.old) else short_text self.old) }
         ensures free { free_size self.old ≤ free_size self.new + 320 }
     {

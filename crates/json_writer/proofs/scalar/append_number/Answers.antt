@@ -2,7 +2,7 @@ use Rattle.std.proofs.Common.{◌≡◌, ◌+◌, ◌≤◌, ◌++◌, length, t
 use Rattle.std.specs.Prelude.{decimal}
 use Rattle.std.proofs.lemmas.List.{take-take, take-append-le}
 use Rattle.json_writer.proofs.DecimalLemmas.{in_place}
-use Rattle.json_writer.proofs.JsonLemmas.{decimal_short}
+use Rattle.json_writer.proofs.JsonLemmas.{decimal_short, decimal_value}
 use Rattle.json_writer.proofs.scalar.append_number.Goals as goal
 
 pub overflow_add-end : goal.overflow_add-end
@@ -18,6 +18,12 @@ write_digits-requires c =
     let old = c.args.out.now.items in
     let size : length c.as_mut_slice.result.now ≡ length old + 24 = ap length (c.as_mut_slice.ensures.value ∙ c.in_ok-extend.ensures.text) ∙ length-append old _ in
     (omega arith, omega (arith, c.args.out.now.ok.0))
+
+pub returns-in_err-extend-clause-valid : goal.returns-in_err-extend-clause-valid
+returns-in_err-extend-clause-valid c = decimal_value c.args.n c.ranges.n.fits
+
+pub returns-clause-valid : goal.returns-clause-valid
+returns-clause-valid c = decimal_value c.args.n c.ranges.n.fits
 
 pub returns-clause-text : goal.returns-clause-text
 returns-clause-text c =
