@@ -34,10 +34,10 @@ debug_end-prefix offset all index =
     omega (arith, e, least)
 
 -- the next entry has sixteen bytes and more
-pub debug_end-room : (offset : ℕ) (all : List JitCodeDebugInfoEntry) (index : ℕ) → index < length all → debug_end offset (take index all) + 16 ≤ debug_end offset all
-debug_end-room offset [] index inside = absurd (omega (arith, inside))
-debug_end-room offset (e ∷ all) zero inside = (let least = debug_end-least (after_debug_entry offset e) all in omega (arith, least))
-debug_end-room offset (e ∷ all) (suc index) inside = debug_end-room (after_debug_entry offset e) all index (omega (arith, inside))
+pub debug_end-fits : (offset : ℕ) (all : List JitCodeDebugInfoEntry) (index : ℕ) → index < length all → debug_end offset (take index all) + 16 ≤ debug_end offset all
+debug_end-fits offset [] index inside = absurd (omega (arith, inside))
+debug_end-fits offset (e ∷ all) zero inside = (let least = debug_end-least (after_debug_entry offset e) all in omega (arith, least))
+debug_end-fits offset (e ∷ all) (suc index) inside = debug_end-fits (after_debug_entry offset e) all index (omega (arith, inside))
 
 -- the end of a prefix, one longer
 debug_end-next : (offset : ℕ) (all : List JitCodeDebugInfoEntry) (index : ℕ) (d : JitCodeDebugInfoEntry) → index < length all → debug_end offset (take (index + 1) all) ≡ after_debug_entry (debug_end offset (take index all)) (get_or all index d)

@@ -18,7 +18,7 @@ impl Block {
     ghost use Rattle.perfdata_order.specs.Bodies.{AppendsTo, IsCleared, ReleasesFrom};
 
     // Whether a body of this length fits. In an empty block, each body does.
-    fn has_room(&self, len: usize) -> bool
+    fn has_capacity(&self, len: usize) -> bool
         ensures { IsTrue result → self.now.held < 2 ^ 64 - 1 }
     {
         let used = self.bytes.len();
@@ -109,12 +109,12 @@ impl Bodies {
         }
     }
 
-    // Whether the current block has room for a body of this length.
-    fn has_room(&self, len: usize) -> bool
+    // Whether the current block has capacity for a body of this length.
+    fn has_capacity(&self, len: usize) -> bool
         ensures { IsTrue result → CanAppend self.now }
     {
         let index = self.current;
-        index < self.blocks.len() && self.blocks[index].has_room(len)
+        index < self.blocks.len() && self.blocks[index].has_capacity(len)
     }
 
     // Clears a block, and makes it the current one, if no body in it is held. Returns whether none is.
@@ -193,7 +193,7 @@ impl Bodies {
     pub(crate) fn append(&mut self, body: &[u8]) -> Result<HeldBody, AllocError>
         ensures { AppendsBody self.old body.now result self.new }
     {
-        if !self.has_room(body.len()) {
+        if !self.has_capacity(body.len()) {
             match self.next_block() {
                 Ok(()) => {}
                 Err(error) => return Err(error),

@@ -1,12 +1,12 @@
 use Rattle.std.proofs.Common.{arith, ◌+◌}
-use Rattle.perfdata_arrays.proofs.JitDebugLemmas.{debug_end-prefix, debug_end-room, entries_written, entry_end}
+use Rattle.perfdata_arrays.proofs.JitDebugLemmas.{debug_end-prefix, debug_end-fits, entries_written, entry_end}
 use Rattle.perfdata_arrays.proofs.jit_debug.write_entries.Goals as goal
 
 pub debug_entry-entry-requires : goal.debug_entry-entry-requires
 debug_entry-entry-requires c =
     let end = c.entries.invariant.end in
     let fits = c.requires in
-    omega (arith, end, fits, debug_end-room c.args.first_offset c.args.entries.now c.entries.index c.entries-test.true)
+    omega (arith, end, fits, debug_end-fits c.args.first_offset c.args.entries.now c.entries.index c.entries-test.true)
 
 pub overflow_add-offset : goal.overflow_add-offset
 overflow_add-offset c =

@@ -16,13 +16,13 @@ returns c =
     let free = length before - written in
     let es = record_entries_at (first_record_offset_of c.args.input.now) step.records in
     let after_start = c.if-count-start.false in
-    let has_room = c.if-entries-count.false in
-    let part = ap (put_mid written free before) step.written ∙ with_entries_at-part written es before (omega (arith, has_room)) in
+    let has_free = c.if-entries-count.false in
+    let part = ap (put_mid written free before) step.written ∙ with_entries_at-part written es before (omega (arith, has_free)) in
     record {
       records = step.records;
       returned = step.returned;
       more_is = step.count_is;
-      fits = λ within. (let fits = step.fits in let more = step.count_is in omega (arith, fits, more, has_room, after_start, length-take free (drop written before), length-drop written before));
+      fits = λ within. (let fits = step.fits in let more = step.count_is in omega (arith, fits, more, has_free, after_start, length-take free (drop written before), length-drop written before));
       written = λ done array is held.
           (let same : written ≡ length done - start = omega (arith, is) in
           part ∙ ap (with_entries_at written es) held ∙ ap (λ n. with_entries_at n es (with_prefix_from start done array)) same ∙ with_prefix_from-more start done es array (omega (arith, is, after_start)));

@@ -39,11 +39,11 @@ records-preserved c =
     let long = length-map so_far.records (record_entry_at base) in
     let count = so_far.count_is in
     let entry = c.new.ensures ∙ ap (λ n. record_entry_at n h) c.first_record_offset-first_record_offset.ensures in
-    let room : length some < length array = (let test = c.records-test.true in let other = c.if-count-entries.false in let fits = more.fits in let same = ap length before.so_far.written in let all = ap length so_far.written in
+    let free : length some < length array = (let test = c.records-test.true in let other = c.if-count-entries.false in let fits = more.fits in let same = ap length before.so_far.written in let all = ap length so_far.written in
     omega (arith, long, count, other, test, fits (omega (arith, test)), same, all, length-with_prefix (record_entries_at base before.so_far.records) array, length-with_prefix some array)) in
-    let written = (λ i. slice_set (so_far.written i) ((count ∙ sym long) i) (entry i)) ∙ sym (with_prefix-snoc some array (record_entry_at base h) room) in
+    let written = (λ i. slice_set (so_far.written i) ((count ∙ sym long) i) (entry i)) ∙ sym (with_prefix-snoc some array (record_entry_at base h) free) in
     record {
-      count_fits = omega (arith, count, long, room);
+      count_fits = omega (arith, count, long, free);
       so_far = read_next start middle c.next_record.new.self c.args.file.now c.records.file c.next_record.new.perf_file 0 _ array c.read_more_entries.new.entries _ place found so_far step c.next_record.ensures.same_input written;
     }
 
