@@ -2,7 +2,9 @@
 use crate::call_results::{
     file_results, file_results_in_memory, pipe_results, pipe_results_in_memory,
 };
+use linux_perf_data::RecordPlace;
 use linux_perf_data::in_memory::InMemoryReader;
+use linux_perf_data::in_memory::entries::RecordEntry;
 use linux_perf_data::raw::RawData;
 use std::alloc::{AllocError, Global};
 use std::io::Cursor;
@@ -67,4 +69,42 @@ fn records_outlive_later_calls(rt: HostRuntime) -> Result<(), Fail> {
     expect_two_records(InMemoryReader::parse_file(alloc, file.as_slice())?)?;
     let pipe = pipe_bytes(alloc)?;
     expect_two_records(InMemoryReader::parse_pipe(alloc, pipe.as_slice())?)
+}
+
+#[test]
+fn entries_stop_before_a_marker(rt: HostRuntime) -> Result<(), Fail> {
+    let alloc = rt.alloc();
+    let file = file_bytes(alloc)?;
+    let InMemoryReader {
+        perf_file: mut file,
+        mut records,
+    } = InMemoryReader::parse_file(alloc, file.as_slice())?;
+    let sample = RecordEntry {
+        offset: 0,
+        body_offset: records.first_record_offset().saturating_add(8),
+        body_size: 16,
+        round: 0,
+        timestamp: 100,
+        attr_index: 0,
+        record_type: 9,
+        misc: 2,
+        has_timestamp: 1,
+        has_attr: 1,
+    };
+    let unwritten = RecordEntry { misc: 7, ..sample };
+    let mut entries = [unwritten; 2];
+    expect_eq(&records.read_entries(&file, &mut entries), &1)?;
+    expect_eq(&entries, &[sample, unwritten])?;
+    let next = records.next_record(&mut file)?;
+    expect(matches!(
+        next,
+        Some((
+            RecordPlace {
+                offset: 32,
+                round: 1,
+                ..
+            },
+            _
+        ))
+    ))
 }
