@@ -18,7 +18,7 @@ use Rattle.linux_perf_data.specs.Iter.{TestsMayStart, section_size_of}
 use Rattle.linux_perf_data.specs.declared.records.iter.PerfRecordIter.{PerfRecordIter}
 use Rattle.linux_perf_data.specs.declared.records.iter.Stage.TheVariants.{Running}
 use Rattle.linux_perf_data.specs.Layout.{ConsistsOfMarkers, MayStartAt, SectionSize, IsCompressed, IsRecord, AreMarkerRecords, total_size_of, record_type_of, record_size_of, aux_size_of}
-use Rattle.linux_perf_data.proofs.RecordHeaders.{total_size_plain, total_size_auxtrace, record_type_front, record_least, record_length, same_prefix, size_first_part, aux_size_front}
+use Rattle.linux_perf_data.proofs.RecordHeaders.{total_size_plain, total_size_auxtrace, record_type_prefix, record_least, record_length, same_prefix, size_first_part, aux_size_prefix}
 
 module _ (order : Endianness) where
   -- the facts about bytes that begin with a record
@@ -33,7 +33,7 @@ module _ (order : Endianness) where
   says bytes p r is cut = let least = record_least order p is in record {
     least = least;
     within = omega (arith, ap length cut, length-append p r);
-    kind = ap (record_type_of order) cut ∙ record_type_front order p r least;
+    kind = ap (record_type_of order) cut ∙ record_type_prefix order p r least;
     size = ap (record_size_of order) cut ∙ size_first_part order p r least;
     extent = ap (total_size_of order) cut ∙ record_length order p r is;
   }
@@ -46,14 +46,14 @@ module _ (order : Endianness) where
       let r = drop n bytes in
       let cut : bytes ≡ p ++ r = sym (take-append-drop n bytes) in
       let long : length p ≡ n = length-take-le n bytes within in
-      let room : 8 ≤ length p = omega arith in
-      let kind : record_type_of order bytes ≡ record_type_of order p = ap (record_type_of order) cut ∙ record_type_front order p r room in
-      let size : record_size_of order bytes ≡ record_size_of order p = ap (record_size_of order) cut ∙ size_first_part order p r room in
+      let long_enough : 8 ≤ length p = omega arith in
+      let kind : record_type_of order bytes ≡ record_type_of order p = ap (record_type_of order) cut ∙ record_type_prefix order p r long_enough in
+      let size : record_size_of order bytes ≡ record_size_of order p = ap (record_size_of order) cut ∙ size_first_part order p r long_enough in
       let extent : total_size_of order p ≡ n = elim (cases_eq (record_type_of order p) 71) [
         | inl t ↦
             let k = kind ∙ t in
             let more = longer k in
-            let aux : aux_size_of order bytes ≡ aux_size_of order p = ap (aux_size_of order) cut ∙ aux_size_front order p r (omega arith) in
+            let aux : aux_size_of order bytes ≡ aux_size_of order p = ap (aux_size_of order) cut ∙ aux_size_prefix order p r (omega arith) in
             omega (arith, total_size_auxtrace order p t, total_size_auxtrace order bytes k, size, aux, is)
         | inr other ↦ omega (arith, total_size_plain order p other, total_size_plain order bytes (λ e. other (sym kind ∙ e)), size, is)
       ] in
@@ -66,7 +66,7 @@ module _ (order : Endianness) where
 
   -- the first record has the type in its record header
   pub front_record_type : (n : ℕ) (rest : List ℕ) → WholeRecordLength order rest (Some n) → record_type_of order rest ≡ record_type_of order (take n rest)
-  front_record_type n rest w = ap (record_type_of order) (sym (take-append-drop n rest)) ∙ record_type_front order (take n rest) (drop n rest) (record_least order (take n rest) w.2)
+  front_record_type n rest w = ap (record_type_of order) (sym (take-append-drop n rest)) ∙ record_type_prefix order (take n rest) (drop n rest) (record_least order (take n rest) w.2)
 
   module _ (bound : SectionSize) where
     -- a complete record follows the markers

@@ -99,9 +99,9 @@ layout_from : (order : Endianness) (bytes : List ℕ) (bound : SectionSize) (off
     → SomeLayout order bytes bound offset attrs
 layout_from order bytes bound offset attrs (ended e) fits rule is more = ([], (e, layout_stop order bytes bound offset attrs e fits rule is))
 layout_from order bytes bound offset attrs (piece p) fits rule is more =
-    let fronts = is.1 in
-    let r = more p fronts.after_record fronts.split (record_least order p fronts.is_record) fronts.end_fits is.3 in
-    (p ∷ r.0, (r.1.0, layout_more order bytes fronts.after_record p bound offset attrs r.0 r.1.0 is.2 fronts.split is.0 r.1.1))
+    let starts_with_record = is.1 in
+    let r = more p starts_with_record.after_record starts_with_record.split (record_least order p starts_with_record.is_record) starts_with_record.end_fits is.3 in
+    (p ∷ r.0, (r.1.0, layout_more order bytes starts_with_record.after_record p bound offset attrs r.0 r.1.0 is.2 starts_with_record.split is.0 r.1.1))
 
 some_layout_in : (order : Endianness) (n : ℕ) (bytes : List ℕ) (bound : SectionSize) (offset : ℕ) (attrs : List Attribute) → length bytes ≤ n → offset < 2 ^ 64 → AreConsistent attrs → SomeLayout order bytes bound offset attrs
 some_layout_in order zero bytes bound offset attrs too_few fits rule =

@@ -41,38 +41,38 @@ module _ (order : Endianness) where
     pub there : record_size_of order suffix ≤ length suffix
 
   prefix_counted : (offset : ℕ) (suffix p : List ℕ) → StartsWithRecord order offset suffix p → Counted offset suffix
-  prefix_counted offset suffix p fronts =
-      let header_bytes = record_least order p fronts.is_record in
-      let size : record_size_of order suffix ≡ record_size_of order p = ap (record_size_of order) fronts.split ∙ size_first_part order p fronts.after_record header_bytes in
-      let least = fronts.is_record.min_size in
-      let long = fronts.is_record.exact_len in
-      let fits = fronts.end_fits in
+  prefix_counted offset suffix p starts_with_record =
+      let header_bytes = record_least order p starts_with_record.is_record in
+      let size : record_size_of order suffix ≡ record_size_of order p = ap (record_size_of order) starts_with_record.split ∙ size_first_part order p starts_with_record.after_record header_bytes in
+      let least = starts_with_record.is_record.min_size in
+      let long = starts_with_record.is_record.exact_len in
+      let fits = starts_with_record.end_fits in
       let inside = size_in_total_size order p in
-      let whole = ap length fronts.split in
+      let whole = ap length starts_with_record.split in
       record {
         least = omega (arith, size, least);
         end_fits_u64 = omega (arith, size, long, inside, fits);
-        there = omega (arith, size, long, inside, whole, length-append p fronts.after_record);
+        there = omega (arith, size, long, inside, whole, length-append p starts_with_record.after_record);
       }
 
   record_failing : (offset : ℕ) (suffix : List ℕ) (e f : Error) → IsMetadataRecordError order offset suffix e → IsMetadataRecordError order offset suffix f → SameCause e f
   record_failing offset suffix e f (inl (is, header_bytes, small)) (inl (is', header', small')) = inl (is ∙ sym is')
   record_failing offset suffix e f (inl (is, header_bytes, small)) (inr (inl (is', kind, header', least, far))) = absurd (omega (arith, small, least))
   record_failing offset suffix e f (inl (is, header_bytes, small)) (inr (inr (inl (short, kind, header', too_few)))) = let least = header'.min_size in absurd (omega (arith, small, least))
-  record_failing offset suffix e f (inl (is, header_bytes, small)) (inr (inr (inr (p, fronts, invalidates)))) = let least = (prefix_counted offset suffix p fronts).least in absurd (omega (arith, small, least))
+  record_failing offset suffix e f (inl (is, header_bytes, small)) (inr (inr (inr (p, starts_with_record, invalidates)))) = let least = (prefix_counted offset suffix p starts_with_record).least in absurd (omega (arith, small, least))
   record_failing offset suffix e f (inr (inl (is, kind, header_bytes, least, far))) (inl (is', header', small)) = absurd (omega (arith, small, least))
   record_failing offset suffix e f (inr (inl (is, kind, header_bytes, least, far))) (inr (inl (is', kind', header', least', far'))) = inl (is ∙ sym is')
   record_failing offset suffix e f (inr (inl (is, kind, header_bytes, least, far))) (inr (inr (inl (short, kind', header', too_few)))) = let end_fits_u64 = header'.end_fits in absurd (omega (arith, far, end_fits_u64))
-  record_failing offset suffix e f (inr (inl (is, kind, header_bytes, least, far))) (inr (inr (inr (p, fronts, invalidates)))) = let end_fits_u64 = (prefix_counted offset suffix p fronts).end_fits_u64 in absurd (omega (arith, far, end_fits_u64))
+  record_failing offset suffix e f (inr (inl (is, kind, header_bytes, least, far))) (inr (inr (inr (p, starts_with_record, invalidates)))) = let end_fits_u64 = (prefix_counted offset suffix p starts_with_record).end_fits_u64 in absurd (omega (arith, far, end_fits_u64))
   record_failing offset suffix e f (inr (inr (inl (short, kind, header_bytes, too_few)))) (inl (is, header', small)) = let least = header_bytes.min_size in absurd (omega (arith, small, least))
   record_failing offset suffix e f (inr (inr (inl (short, kind, header_bytes, too_few)))) (inr (inl (is, kind', header', least, far))) = let end_fits_u64 = header_bytes.end_fits in absurd (omega (arith, far, end_fits_u64))
   record_failing offset suffix e f (inr (inr (inl (short, kind, header_bytes, too_few)))) (inr (inr (inl (short', kind', header', too_few')))) = inr (inl (short, short'))
-  record_failing offset suffix e f (inr (inr (inl (short, kind, header_bytes, too_few)))) (inr (inr (inr (p, fronts, invalidates)))) = let there = (prefix_counted offset suffix p fronts).there in absurd (omega (arith, too_few, there))
-  record_failing offset suffix e f (inr (inr (inr (p, fronts, invalidates)))) (inl (is, header_bytes, small)) = let least = (prefix_counted offset suffix p fronts).least in absurd (omega (arith, small, least))
-  record_failing offset suffix e f (inr (inr (inr (p, fronts, invalidates)))) (inr (inl (is, kind, header_bytes, least, far))) = let end_fits_u64 = (prefix_counted offset suffix p fronts).end_fits_u64 in absurd (omega (arith, far, end_fits_u64))
-  record_failing offset suffix e f (inr (inr (inr (p, fronts, invalidates)))) (inr (inr (inl (short, kind, header_bytes, too_few)))) = let there = (prefix_counted offset suffix p fronts).there in absurd (omega (arith, too_few, there))
-  record_failing offset suffix e f (inr (inr (inr (p, fronts, invalidates)))) (inr (inr (inr (q, fronts', invalidates')))) =
-      let same = (same_prefix order p q fronts.after_record fronts'.after_record fronts.is_record fronts'.is_record (sym fronts.split ∙ fronts'.split)).0 in
+  record_failing offset suffix e f (inr (inr (inl (short, kind, header_bytes, too_few)))) (inr (inr (inr (p, starts_with_record, invalidates)))) = let there = (prefix_counted offset suffix p starts_with_record).there in absurd (omega (arith, too_few, there))
+  record_failing offset suffix e f (inr (inr (inr (p, starts_with_record, invalidates)))) (inl (is, header_bytes, small)) = let least = (prefix_counted offset suffix p starts_with_record).least in absurd (omega (arith, small, least))
+  record_failing offset suffix e f (inr (inr (inr (p, starts_with_record, invalidates)))) (inr (inl (is, kind, header_bytes, least, far))) = let end_fits_u64 = (prefix_counted offset suffix p starts_with_record).end_fits_u64 in absurd (omega (arith, far, end_fits_u64))
+  record_failing offset suffix e f (inr (inr (inr (p, starts_with_record, invalidates)))) (inr (inr (inl (short, kind, header_bytes, too_few)))) = let there = (prefix_counted offset suffix p starts_with_record).there in absurd (omega (arith, too_few, there))
+  record_failing offset suffix e f (inr (inr (inr (p, starts_with_record, invalidates)))) (inr (inr (inr (q, starts_with_record', invalidates')))) =
+      let same = (same_prefix order p q starts_with_record.after_record starts_with_record'.after_record starts_with_record.is_record starts_with_record'.is_record (sym starts_with_record.split ∙ starts_with_record'.split)).0 in
       invalidates_error (record_type_of order q) (drop 8 q) e f (subst (λ r. IsMetadataError order (record_type_of order r) (drop 8 r) e) same invalidates) invalidates'
 
   reported_failing : (ps : List (List ℕ)) (e f : Error) → IsMetadataListError order ps e → IsMetadataListError order ps f → SameCause e f

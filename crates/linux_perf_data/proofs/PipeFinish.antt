@@ -31,7 +31,7 @@ use Rattle.linux_perf_data.specs.Consistency.{error_of_inconsistency}
 use Rattle.linux_perf_data.specs.FeatureData.{feature_data_of}
 use Rattle.linux_perf_data.specs.declared.pipe.opening.PipeMetadata.{PipeMetadata}
 use Rattle.linux_perf_data.specs.declared.pipe.pipe_opening.PipeOpening.{PipeOpening}
-use Rattle.linux_perf_data.proofs.RecordHeaders.{record_type_front, size_first_part}
+use Rattle.linux_perf_data.proofs.RecordHeaders.{record_type_prefix, size_first_part}
 use Rattle.linux_perf_data.proofs.NameTables.{named_can}
 use Rattle.linux_perf_data.proofs.PipeErrors.{error_later, shows}
 use Rattle.linux_perf_data.proofs.PipeMetadataRuns.{ended_later}
@@ -100,7 +100,7 @@ ended_cause order a b pieces None e t (less, none) described =
 ended_cause order a b pieces (Some header_bytes) e t (is, eight, least, other) described = inl (λ rest.
     let long : 8 ≤ length t.last_bytes = omega (arith, ap length is, eight) in
     let size : record_size_of order (t.last_bytes ++ rest) ≡ record_size_of order header_bytes = size_first_part order t.last_bytes rest long ∙ ap (record_size_of order) is in
-    let kind : record_type_of order (t.last_bytes ++ rest) ≡ record_type_of order header_bytes = record_type_front order t.last_bytes rest long ∙ ap (record_type_of order) is in
+    let kind : record_type_of order (t.last_bytes ++ rest) ≡ record_type_of order header_bytes = record_type_prefix order t.last_bytes rest long ∙ ap (record_type_of order) is in
     record {
       raw_records = pieces;
       after_records = t.last_bytes ++ rest;

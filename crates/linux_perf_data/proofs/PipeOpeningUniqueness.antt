@@ -15,7 +15,7 @@ use Rattle.linux_perf_data.specs.LateMetadata.{IsMetadataType, IsMetadataError}
 use Rattle.linux_perf_data.specs.Layout.{attributes_in_records, record_type_of}
 use Rattle.linux_perf_data.specs.FileOpening.{magic_of}
 use Rattle.linux_perf_data.specs.PipeOpening.{IsPipeHeader, IsMetadataRecord, AreMetadata, EndsMetadata, IsMetadataRecordError, IsMetadataListError, IsMetadataReadError, IsPipeError, CanOpenPipe}
-use Rattle.linux_perf_data.proofs.RecordHeaders.{record_type_front, size_first_part, size_in_total_size, record_least, same_prefix}
+use Rattle.linux_perf_data.proofs.RecordHeaders.{record_type_prefix, size_first_part, size_in_total_size, record_least, same_prefix}
 use Rattle.linux_perf_data.proofs.EventDescNames.{error_or_readable}
 use Rattle.linux_perf_data.proofs.ConsistencyLemmas.{consistent_not_inconsistent}
 use Rattle.linux_perf_data.proofs.RecordsOrErrors.{truncated_or_complete}
@@ -26,7 +26,7 @@ module _ (order : Endianness) where
   metadata_goes_on : (p after : List ℕ) → IsMetadataRecord order p → EndsMetadata order (p ++ after) → ⊥
   metadata_goes_on p after is ends =
       let least = record_least order p is.is_record in
-      (ends (omega (arith, least, length-append p after))).1 (subst IsMetadataType (sym (record_type_front order p after least)) is.record_type)
+      (ends (omega (arith, least, length-append p after))).1 (subst IsMetadataType (sym (record_type_prefix order p after least)) is.record_type)
 
   invalidates_none : (p : List ℕ) (e : Error) → IsMetadataRecord order p → IsMetadataError order (record_type_of order p) (drop 8 p) e → ⊥
   invalidates_none p e is (inl (short, inl (kind, cut))) = truncated_or_complete order (drop 8 p) cut (is.valid_attribute kind)
@@ -52,8 +52,8 @@ module _ (order : Endianness) where
       let size = size_first_part order p after (record_least order p is.is_record) in
       let long = is.is_record.exact_len in
       omega (arith, size, cut, long, size_in_total_size order p, length-append p after)
-  record_stands offset p after e is fits (inr (inr (inr (q, fronts, invalidates)))) =
-      let same = (same_prefix order q p fronts.after_record after fronts.is_record is.is_record (sym fronts.split)).0 in
+  record_stands offset p after e is fits (inr (inr (inr (q, starts_with_record, invalidates)))) =
+      let same = (same_prefix order q p starts_with_record.after_record after starts_with_record.is_record is.is_record (sym starts_with_record.split)).0 in
       invalidates_none p e is (subst (λ r. IsMetadataError order (record_type_of order r) (drop 8 r) e) same invalidates)
 
   -- the end of the metadata records has no error
@@ -61,11 +61,11 @@ module _ (order : Endianness) where
   end_stands offset suffix e ends (inl (error, header_bytes, small)) = let least = (ends header_bytes).0 in omega (arith, least, small)
   end_stands offset suffix e ends (inr (inl (error, kind, header_bytes, least, far))) = (ends header_bytes).1 kind
   end_stands offset suffix e ends (inr (inr (inl (error, kind, header_bytes, cut)))) = (ends header_bytes.complete_header).1 kind
-  end_stands offset suffix e ends (inr (inr (inr (q, fronts, invalidates)))) =
-      let least = record_least order q fronts.is_record in
-      let whole = ap length fronts.split in
-      let kind : record_type_of order suffix ≡ record_type_of order q = ap (record_type_of order) fronts.split ∙ record_type_front order q fronts.after_record least in
-      (ends (omega (arith, least, whole, length-append q fronts.after_record))).1 (subst IsMetadataType (sym kind) (invalidates_metadata (record_type_of order q) (drop 8 q) e invalidates))
+  end_stands offset suffix e ends (inr (inr (inr (q, starts_with_record, invalidates)))) =
+      let least = record_least order q starts_with_record.is_record in
+      let whole = ap length starts_with_record.split in
+      let kind : record_type_of order suffix ≡ record_type_of order q = ap (record_type_of order) starts_with_record.split ∙ record_type_prefix order q starts_with_record.after_record least in
+      (ends (omega (arith, least, whole, length-append q starts_with_record.after_record))).1 (subst IsMetadataType (sym kind) (invalidates_metadata (record_type_of order q) (drop 8 q) e invalidates))
 
   -- ---- two runs of metadata records
 

@@ -28,7 +28,7 @@ use Rattle.linux_perf_data.specs.RecordFraming.{IsErrorFor}
 use Rattle.linux_perf_data.specs.PipeOpening.{AreMetadata, CanOpenPipe, EndsMetadata, IsPipeError, feature_data_in}
 use Rattle.linux_perf_data.specs.PipeReading.{HoldsForPipeRest, BeginsPipe, HoldsAllMetadata, IsCompletePipe, HoldsForPipe, OpensWith, ReadingPipeToEnd, ReadingPipeToError, ReadingPipePartly}
 use Rattle.linux_perf_data.specs.Reading.{AreFirstRemaining, AreFirstRecords, EndsWithError, ReturnsRecords, HasMatchingFile, HasNotFailed, SourceErrorInSomeRecord, end_after}
-use Rattle.linux_perf_data.proofs.RecordHeaders.{record_type_front, size_first_part}
+use Rattle.linux_perf_data.proofs.RecordHeaders.{record_type_prefix, size_first_part}
 use Rattle.linux_perf_data.proofs.IterCalls.{none_left, read_so_far_whole}
 use Rattle.linux_perf_data.proofs.LayoutSteps.{nothing_more}
 use Rattle.linux_perf_data.proofs.LayoutUniqueness.{layout_exists}
@@ -49,7 +49,7 @@ ends_at_header : (order : Endianness) (header_bytes more : List ℕ) → length 
 ends_at_header order header_bytes more long least other = λ there.
     let header_long : 8 ≤ length header_bytes = omega (arith, long) in (
       subst (λ n. 8 ≤ n) (sym (size_first_part order header_bytes more header_long)) least,
-      λ metadata. other (subst IsMetadataType (record_type_front order header_bytes more header_long) metadata),
+      λ metadata. other (subst IsMetadataType (record_type_prefix order header_bytes more header_long) metadata),
     )
 
 module _ (order : Endianness) (metadata_records : List (List ℕ)) (header_bytes : List ℕ) (old : State) (o : OpensWith order metadata_records old (Some header_bytes)) where

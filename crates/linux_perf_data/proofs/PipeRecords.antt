@@ -15,7 +15,7 @@ use Rattle.linux_perf_data.specs.PipeOpening.{FailsBy, IsMetadataRecordError}
 use Rattle.linux_perf_data.specs.PipeSteps.{RecordAdded, NextRecordRead}
 use Rattle.linux_perf_data.specs.RecordFraming.{BytesRead, ChecksBodySize, ChecksRecordEnd}
 use Rattle.linux_perf_data.specs.declared.pipe.opening.PipeMetadata.{PipeMetadata}
-use Rattle.linux_perf_data.proofs.RecordHeaders.{record_type_front, size_first_part, total_size_plain}
+use Rattle.linux_perf_data.proofs.RecordHeaders.{record_type_prefix, size_first_part, total_size_plain}
 use Rattle.linux_perf_data.proofs.RecordReads.{after_header}
 use Rattle.linux_perf_data.proofs.PipeErrors.{IsContentsError, error_later, shows}
 
@@ -32,7 +32,7 @@ untraced kind (inr is) e = omega (arith, is, e)
 
 module _ (order : Endianness) (bytes : List ℕ) (header : PerfEventHeader) (is : header ≡ record_header_of (number_in order) bytes) (eight : length bytes ≡ 8) where
   kind_with : (x : List ℕ) → record_type_of order (bytes ++ x) ≡ header.type_
-  kind_with x = record_type_front order bytes x (omega (arith, eight)) ∙ sym (ap (λ h. h.type_) is)
+  kind_with x = record_type_prefix order bytes x (omega (arith, eight)) ∙ sym (ap (λ h. h.type_) is)
 
   size_with : (x : List ℕ) → record_size_of order (bytes ++ x) ≡ header.size
   size_with x = size_first_part order bytes x (omega (arith, eight)) ∙ sym (ap (λ h. h.size) is)

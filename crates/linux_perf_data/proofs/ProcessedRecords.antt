@@ -84,8 +84,8 @@ abbrev pub Foreign : Endianness → AttributeLookup → PerfFile → List ℕ �
 Foreign order known file p e = (IsInvalidInput e × ((attrs : List Attribute) → Represents order known attrs → length (descriptions_of_file file) ≢ length attrs))
     ⊎ (SameAttributeCount order known file × (record_type_of order p ≡ 64) × HoldsAttribute order (drop 8 p) × ((bytes : List ℕ) × (feature_data_in_file file event_desc ≡ Some bytes) × IsEventDescError (number_in order) e bytes))
 
-fronts : (order : Endianness) (offset : ℕ) (p rest : List ℕ) → IsRecord order p → offset + length p < 2 ^ 64 → StartsWithRecord order offset (p ++ rest) p
-fronts order offset p rest is fits = record { is_record = is; after_record = rest; split = refl; end_fits = fits }
+starts_with_record : (order : Endianness) (offset : ℕ) (p rest : List ℕ) → IsRecord order p → offset + length p < 2 ^ 64 → StartsWithRecord order offset (p ++ rest) p
+starts_with_record order offset p rest is fits = record { is_record = is; after_record = rest; split = refl; end_fits = fits }
 
 -- an EVENT_DESC with an error isn't readable
 unread : (order : Endianness) (e : Error) (bytes : List ℕ) → IsEventDescError (number_in order) e bytes → ¬ IsReadableEventDesc order bytes
@@ -95,11 +95,11 @@ pub late_cause : (order : Endianness) (known : AttributeLookup) (file : PerfFile
     → LateFault order known file offset p e ⊎ Foreign order known file p e
 late_cause order known file offset p e is fits (inl differ) = inr (inl differ)
 late_cause order known file offset p e is fits (inr (count, inl (inl (short, inl (kind, cuts))))) =
-    inl (invalid_metadata truncated_metadata, (λ rest attrs k. (refl, (p, fronts order offset p rest is fits, inl (kind, cuts)))), (λ _. (count, λ b other. absurd cc)), short)
+    inl (invalid_metadata truncated_metadata, (λ rest attrs k. (refl, (p, starts_with_record order offset p rest is fits, inl (kind, cuts)))), (λ _. (count, λ b other. absurd cc)), short)
 late_cause order known file offset p e is fits (inr (count, inl (inl (short, inr (kind, too_few))))) =
-    inl (invalid_metadata truncated_metadata, (λ rest attrs k. (refl, (p, fronts order offset p rest is fits, inr (kind, too_few)))), (λ _. (count, λ b other. absurd cc)), short)
+    inl (invalid_metadata truncated_metadata, (λ rest attrs k. (refl, (p, starts_with_record order offset p rest is fits, inr (kind, too_few)))), (λ _. (count, λ b other. absurd cc)), short)
 late_cause order known file offset p e is fits (inr (count, inl (inr (invalid, kind, small)))) =
-    inl (invalid_metadata attr_size_too_small, (λ rest attrs k. (refl, (p, fronts order offset p rest is fits, (kind, small)))), (λ _. (count, λ b other. absurd cc)), invalid)
+    inl (invalid_metadata attr_size_too_small, (λ rest attrs k. (refl, (p, starts_with_record order offset p rest is fits, (kind, small)))), (λ _. (count, λ b other. absurd cc)), invalid)
 late_cause order known file offset p e is fits (inr (count, inr (inl (bytes, inl (kind, holds, there), stops)))) = inr (inr (count, kind, holds, (bytes, there, stops)))
 late_cause order known file offset p e is fits (inr (count, inr (inl (bytes, inr (kind, there, desc, are), stops)))) =
     inl (
@@ -109,7 +109,7 @@ late_cause order known file offset p e is fits (inr (count, inr (inl (bytes, inr
         refl,
         (
           p,
-          fronts order offset p rest is fits,
+          starts_with_record order offset p rest is fits,
           record { record_type = kind; complete = there; matches = desc; data_bytes = are ∙ drop-drop 8 8 p; not_readable = unread order e bytes stops },
         ),
       )),
@@ -117,7 +117,7 @@ late_cause order known file offset p e is fits (inr (count, inr (inl (bytes, inr
       stops,
     )
 late_cause order known file offset p e is fits (inr (count, inr (inr (b, kind, holds, can, answer, breaks)))) =
-    inl (inconsistent_attributes b, (λ rest attrs k. (refl, (p, fronts order offset p rest is fits, attribute_piece order p is kind holds, breaks attrs k))), (λ _. (count, λ _ _. can)), answer)
+    inl (inconsistent_attributes b, (λ rest attrs k. (refl, (p, starts_with_record order offset p rest is fits, attribute_piece order p is kind holds, breaks attrs k))), (λ _. (count, λ _ _. can)), answer)
 
 -- a body with valid metadata has at least eight bytes and is neither that of an auxtrace record nor that of a marker
 pub contents_there : (order : Endianness) (kind : ℕ) (body : List ℕ) → HasValidMetadata order kind body → (8 ≤ length body) × (kind ≢ 71) × (kind ≢ 68)

@@ -7,8 +7,8 @@ use Rattle.perfdata_base.proofs.Numbers.{number_prefix, number_drop_prefix}
 use Rattle.linux_perf_data.specs.Layout.{IsRecord, record_type_of, misc_of, record_size_of, aux_size_of, total_size_of}
 
 -- bytes after the record header don't change its fields
-pub record_type_front : (order : Endianness) (p r : List ℕ) → 8 ≤ length p → record_type_of order (p ++ r) ≡ record_type_of order p
-record_type_front order p r long = number_prefix order 4 p r (omega (arith, long))
+pub record_type_prefix : (order : Endianness) (p r : List ℕ) → 8 ≤ length p → record_type_of order (p ++ r) ≡ record_type_of order p
+record_type_prefix order p r long = number_prefix order 4 p r (omega (arith, long))
 
 pub misc_prefix : (order : Endianness) (p r : List ℕ) → 8 ≤ length p → misc_of order (p ++ r) ≡ misc_of order p
 misc_prefix order p r long = number_drop_prefix order 2 4 p r (omega (arith, long))
@@ -16,8 +16,8 @@ misc_prefix order p r long = number_drop_prefix order 2 4 p r (omega (arith, lon
 pub size_first_part : (order : Endianness) (p r : List ℕ) → 8 ≤ length p → record_size_of order (p ++ r) ≡ record_size_of order p
 size_first_part order p r long = number_drop_prefix order 2 6 p r (omega (arith, long))
 
-pub aux_size_front : (order : Endianness) (p r : List ℕ) → 16 ≤ length p → aux_size_of order (p ++ r) ≡ aux_size_of order p
-aux_size_front order p r long = number_drop_prefix order 8 8 p r (omega (arith, long))
+pub aux_size_prefix : (order : Endianness) (p r : List ℕ) → 16 ≤ length p → aux_size_of order (p ++ r) ≡ aux_size_of order p
+aux_size_prefix order p r long = number_drop_prefix order 8 8 p r (omega (arith, long))
 
 -- the total size, by record type
 pub total_size_auxtrace : (order : Endianness) (p : List ℕ) → record_type_of order p ≡ 71 → total_size_of order p ≡ record_size_of order p + aux_size_of order p
@@ -35,13 +35,13 @@ size_in_total_size order p = elim (cases_eq (record_type_of order p) 71) [
 pub total_size_front : (order : Endianness) (p r : List ℕ) → 8 ≤ length p → (record_type_of order p ≡ 71 → 16 ≤ length p) → total_size_of order (p ++ r) ≡ total_size_of order p
 total_size_front order p r long longer = elim (cases_eq (record_type_of order p) 71) [
   | inl is ↦
-      let left = total_size_auxtrace order (p ++ r) (record_type_front order p r long ∙ is) in
+      let left = total_size_auxtrace order (p ++ r) (record_type_prefix order p r long ∙ is) in
       let right = total_size_auxtrace order p is in
       let size = size_first_part order p r long in
-      let aux = aux_size_front order p r (longer is) in
+      let aux = aux_size_prefix order p r (longer is) in
       omega (arith, left, right, size, aux)
   | inr isnt ↦
-      let left = total_size_plain order (p ++ r) (λ e. isnt (sym (record_type_front order p r long) ∙ e)) in
+      let left = total_size_plain order (p ++ r) (λ e. isnt (sym (record_type_prefix order p r long) ∙ e)) in
       let right = total_size_plain order p isnt in
       let size = size_first_part order p r long in
       omega (arith, left, right, size)

@@ -18,7 +18,7 @@ use Rattle.perfdata_sections.specs.Error.{IsUnexpectedEof, IsUnsupported, IsIoEr
 use Rattle.linux_perf_data.specs.Attribute.{Attribute}
 use Rattle.linux_perf_data.specs.Layout.{SectionSize, LayoutError, truncated_header, size_below_header, end_overflows, truncated_body, compressed_record, aux_body_too_short, aux_end_overflows, truncated_aux_data, ConcernsMetadata, ErrorAt, IsCompressed, IsTruncated, IsRecord, HasRecordHeader, HasCompleteBody, HasAuxSize, record_type_of, misc_of, record_size_of, aux_size_of, total_size_of}
 use Rattle.linux_perf_data.specs.RecordFraming.{ShownBy, IsErrorFor, EndedWithin, FailedWithin, ChecksBodySize, ChecksRecordEnd, BodyRead, BodyEnded, BodyPartlyRead, IsTruncatedBody, BodyErrorCause, IsTruncatedAfterHeader, StaysWithinRecord, SourceErrorInRecord, RecordErrorAt, RecordTruncatedAt, BodyExceedsCapacity, ExceedsCapacity}
-use Rattle.linux_perf_data.proofs.RecordHeaders.{record_type_front, misc_prefix, size_first_part, total_size_auxtrace, total_size_plain}
+use Rattle.linux_perf_data.proofs.RecordHeaders.{record_type_prefix, misc_prefix, size_first_part, total_size_auxtrace, total_size_plain}
 
 -- the size in a record header is valid, and its record ends below 2^64
 abbrev pub EndChecked : ℕ → ℕ → ℕ → Type 0
@@ -34,12 +34,12 @@ record Head (order : Endianness) (header_bytes : PerfEventHeader) (all x : List 
 headed : (order : Endianness) (a b : State) (header_bytes : PerfEventHeader) (t : RecordHeaderParsed (number_in order) a header_bytes b) (x : List ℕ) → Head order header_bytes (t.bytes ++ x) x
 headed order a b header_bytes t x =
     let eight = t.exact_len in
-    let room : 8 ≤ length t.bytes = omega arith in
+    let long_enough : 8 ≤ length t.bytes = omega arith in
     let is = sym t.matches in
     record {
-      kind = record_type_front order t.bytes x room ∙ ap (λ h. h.type_) is;
-      misc = misc_prefix order t.bytes x room ∙ ap (λ h. h.misc) is;
-      size = size_first_part order t.bytes x room ∙ ap (λ h. h.size) is;
+      kind = record_type_prefix order t.bytes x long_enough ∙ ap (λ h. h.type_) is;
+      misc = misc_prefix order t.bytes x long_enough ∙ ap (λ h. h.misc) is;
+      size = size_first_part order t.bytes x long_enough ∙ ap (λ h. h.size) is;
       long = omega (arith, length-append t.bytes x, eight);
     }
 

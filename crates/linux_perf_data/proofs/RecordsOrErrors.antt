@@ -12,7 +12,7 @@ use Rattle.perfdata_sections.proofs.EventPrefixes.{event_desc_or_not}
 use Rattle.linux_perf_data.specs.FeatureNumbers.{event_desc}
 use Rattle.linux_perf_data.specs.Names.{IsReadableEventDesc, feature_in_body}
 use Rattle.linux_perf_data.specs.Layout.{SectionSize, MayStartAt, IsCompressed, IsRecord, IsValidRecord, IsEnd, HasRecordHeader, HasCompleteBody, HasInvalidMetadata, StartsWithRecord, attributes_in_record, LayoutError, truncated_header, size_below_header, end_overflows, truncated_body, compressed_record, aux_body_too_short, aux_end_overflows, truncated_aux_data, invalid_metadata, MetadataError, truncated_metadata, attr_size_too_small, IsTruncatedAttribute, invalid_event_desc, HasInvalidEventDesc, inconsistent_attributes, ErrorAt, LayoutEnd, ends_complete, ends_with_error, EndsWith, record_type_of, record_size_of, total_size_of}
-use Rattle.linux_perf_data.proofs.RecordHeaders.{record_type_front, size_first_part, total_size_front, total_size_plain, size_in_total_size, record_least, record_length, same_prefix}
+use Rattle.linux_perf_data.proofs.RecordHeaders.{record_type_prefix, size_first_part, total_size_front, total_size_plain, size_in_total_size, record_least, record_length, same_prefix}
 use Rattle.linux_perf_data.proofs.ConsistencyLemmas.{consistent_not_inconsistent, inconsistency_is_unique, consistent_or_not}
 
 pub data Standing : Type 0 where
@@ -109,41 +109,41 @@ module _ (order : Endianness) (bound : SectionSize) (offset : ℕ) (attrs : List
 
   -- a first record determines the record type of the bytes
   prefix_kind : (p : List ℕ) → StartsWithRecord order offset rest p → record_type_of order rest ≡ record_type_of order p
-  prefix_kind p fronts = ap (record_type_of order) fronts.split ∙ record_type_front order p fronts.after_record (record_least order p fronts.is_record)
+  prefix_kind p starts_with_record = ap (record_type_of order) starts_with_record.split ∙ record_type_prefix order p starts_with_record.after_record (record_least order p starts_with_record.is_record)
 
   prefix_size : (p : List ℕ) → StartsWithRecord order offset rest p → record_size_of order rest ≡ record_size_of order p
-  prefix_size p fronts = ap (record_size_of order) fronts.split ∙ size_first_part order p fronts.after_record (record_least order p fronts.is_record)
+  prefix_size p starts_with_record = ap (record_size_of order) starts_with_record.split ∙ size_first_part order p starts_with_record.after_record (record_least order p starts_with_record.is_record)
 
   prefix_extent : (p : List ℕ) → StartsWithRecord order offset rest p → total_size_of order rest ≡ length p
-  prefix_extent p fronts = ap (total_size_of order) fronts.split ∙ record_length order p fronts.after_record fronts.is_record
+  prefix_extent p starts_with_record = ap (total_size_of order) starts_with_record.split ∙ record_length order p starts_with_record.after_record starts_with_record.is_record
 
   prefix_length : (p : List ℕ) → StartsWithRecord order offset rest p → length p ≤ length rest
-  prefix_length p fronts = let l = ap length fronts.split in omega (arith, l, length-append p fronts.after_record)
+  prefix_length p starts_with_record = let l = ap length starts_with_record.split in omega (arith, l, length-append p starts_with_record.after_record)
 
   prefix_body : (p : List ℕ) → StartsWithRecord order offset rest p → HasCompleteBody order offset rest
-  prefix_body p fronts =
-      let least = fronts.is_record.min_size in
-      let fits = fronts.end_fits in
-      let size = prefix_size p fronts in
-      let extent = prefix_extent p fronts in
+  prefix_body p starts_with_record =
+      let least = starts_with_record.is_record.min_size in
+      let fits = starts_with_record.end_fits in
+      let size = prefix_size p starts_with_record in
+      let extent = prefix_extent p starts_with_record in
       let inside = size_in_total_size order rest in
-      let long = prefix_length p fronts in
+      let long = prefix_length p starts_with_record in
       record {
-        header = record { complete_header = omega (arith, long, record_least order p fronts.is_record); min_size = omega (arith, size, least); end_fits = omega (arith, fits, extent, inside) };
+        header = record { complete_header = omega (arith, long, record_least order p starts_with_record.is_record); min_size = omega (arith, size, least); end_fits = omega (arith, fits, extent, inside) };
         complete = omega (arith, extent, inside, long);
       }
 
   past_record : (s : Standing) (p : List ℕ) → MayStartAt bound offset → StartsWithRecord order offset rest p → OfRecord s → OfAll s
-  past_record s p begins fronts x =
-      let extent = prefix_extent p fronts in
-      let fits = fronts.end_fits in
-      let long = prefix_length p fronts in
-      let kind = prefix_kind p fronts in
-      let size = prefix_size p fronts in
-      past_body s begins (prefix_body p fronts) (inr (
-        (λ packed. fronts.is_record.not_compressed (subst IsCompressed kind packed)),
+  past_record s p begins starts_with_record x =
+      let extent = prefix_extent p starts_with_record in
+      let fits = starts_with_record.end_fits in
+      let long = prefix_length p starts_with_record in
+      let kind = prefix_kind p starts_with_record in
+      let size = prefix_size p starts_with_record in
+      past_body s begins (prefix_body p starts_with_record) (inr (
+        (λ packed. starts_with_record.is_record.not_compressed (subst IsCompressed kind packed)),
         inr (
-          (λ traced. let least = fronts.is_record.aux_min_size (sym kind ∙ traced) in omega (arith, size, least)),
+          (λ traced. let least = starts_with_record.is_record.aux_min_size (sym kind ∙ traced) in omega (arith, size, least)),
           inr (
             (λ traced. omega (arith, extent, fits)),
             inr (
@@ -340,21 +340,21 @@ record_or_error order p is = elim (cases_eq (record_type_of order p) 64) as (λ 
 ]
 
 found_record : (order : Endianness) (bound : SectionSize) (offset : ℕ) (attrs : List Attribute) (rest p : List ℕ) → AreConsistent attrs → MayStartAt bound offset → StartsWithRecord order offset rest p → Found order bound offset attrs rest
-found_record order (Some size) offset attrs rest p rule begins fronts =
-    (piece p, (begins, fronts, record { is_record = fronts.is_record; valid_attribute = λ e. absurd (cc); valid_feature = λ e. absurd (cc); valid_event_desc = λ e. absurd (cc) }, subst AreConsistent (sym (append-nil attrs)) rule))
-found_record order None offset attrs rest p rule begins fronts = elim (record_or_error order p fronts.is_record) [
-  | inr (inl bad) ↦ (ended (ends_with_error (invalid_metadata bad.0)), (begins, (refl, (p, fronts, bad.1))))
-  | inr (inr none) ↦ (ended (ends_with_error (invalid_event_desc order none.0)), (begins, (refl, refl, (p, fronts, none.1))))
+found_record order (Some size) offset attrs rest p rule begins starts_with_record =
+    (piece p, (begins, starts_with_record, record { is_record = starts_with_record.is_record; valid_attribute = λ e. absurd (cc); valid_feature = λ e. absurd (cc); valid_event_desc = λ e. absurd (cc) }, subst AreConsistent (sym (append-nil attrs)) rule))
+found_record order None offset attrs rest p rule begins starts_with_record = elim (record_or_error order p starts_with_record.is_record) [
+  | inr (inl bad) ↦ (ended (ends_with_error (invalid_metadata bad.0)), (begins, (refl, (p, starts_with_record, bad.1))))
+  | inr (inr none) ↦ (ended (ends_with_error (invalid_event_desc order none.0)), (begins, (refl, refl, (p, starts_with_record, none.1))))
   | inl is ↦ elim (consistent_or_not (attrs ++ attributes_in_record order None (record_type_of order p) (drop 8 p))) [
-    | inl kept ↦ (piece p, (begins, fronts, is, kept))
-    | inr broken ↦ (ended (ends_with_error (inconsistent_attributes broken.0)), (begins, (refl, (p, fronts, is, broken.1))))
+    | inl kept ↦ (piece p, (begins, starts_with_record, is, kept))
+    | inr broken ↦ (ended (ends_with_error (inconsistent_attributes broken.0)), (begins, (refl, (p, starts_with_record, is, broken.1))))
   ]
 ]
 
 -- a complete record at the start of the bytes
-pub fronts_of : (order : Endianness) (offset : ℕ) (rest : List ℕ) → HasCompleteBody order offset rest → ¬ IsCompressed (record_type_of order rest) → (record_type_of order rest ≡ 71 → 48 ≤ record_size_of order rest)
+pub starts_with_record_of : (order : Endianness) (offset : ℕ) (rest : List ℕ) → HasCompleteBody order offset rest → ¬ IsCompressed (record_type_of order rest) → (record_type_of order rest ≡ 71 → 48 ≤ record_size_of order rest)
     → offset + total_size_of order rest < 2 ^ 64 → total_size_of order rest ≤ length rest → StartsWithRecord order offset rest (take (total_size_of order rest) rest)
-fronts_of order offset rest body plain aux end_fits_u64 there =
+starts_with_record_of order offset rest body plain aux end_fits_u64 there =
     let p = take (total_size_of order rest) rest in
     let suffix = drop (total_size_of order rest) rest in
     let cut : p ++ suffix ≡ rest = take-append-drop (total_size_of order rest) rest in
@@ -362,7 +362,7 @@ fronts_of order offset rest body plain aux end_fits_u64 there =
     let inside = size_in_total_size order rest in
     let least = body.header.min_size in
     let header_bytes : 8 ≤ length p = omega (arith, long, inside, least) in
-    let kind : record_type_of order rest ≡ record_type_of order p = ap (record_type_of order) (sym cut) ∙ record_type_front order p suffix header_bytes in
+    let kind : record_type_of order rest ≡ record_type_of order p = ap (record_type_of order) (sym cut) ∙ record_type_prefix order p suffix header_bytes in
     let size : record_size_of order rest ≡ record_size_of order p = ap (record_size_of order) (sym cut) ∙ size_first_part order p suffix header_bytes in
     let extent : total_size_of order rest ≡ total_size_of order p =
     ap (total_size_of order) (sym cut) ∙ total_size_front order p suffix header_bytes (λ traced. let t = aux (kind ∙ traced) in omega (arith, t, long, inside)) in
@@ -396,7 +396,7 @@ found_aux order bound offset attrs rest rule begins body traced = elim (cases_lt
     | inl end_fits_u64 ↦ elim (cases_lt (length rest) (total_size_of order rest)) [
       | inl cut ↦ (ended (ends_with_error truncated_aux_data), (begins, (record { complete_body = body; record_type = traced; min_size = least }, end_fits_u64, cut)))
       | inr there ↦ found_record order bound offset attrs rest (take (total_size_of order rest) rest) rule begins
-          (fronts_of order offset rest body (not_compressed order bound offset attrs rest traced) (λ _. least) end_fits_u64 there)
+          (starts_with_record_of order offset rest body (not_compressed order bound offset attrs rest traced) (λ _. least) end_fits_u64 there)
     ]
   ]
 ]
@@ -411,7 +411,7 @@ found_body order bound offset attrs rest rule begins body = elim (packed_or_not 
         let end_fits_u64 = body.header.end_fits in
         let there = body.complete in
         found_record order bound offset attrs rest (take (total_size_of order rest) rest) rule begins
-        (fronts_of order offset rest body plain (λ traced. absurd (untraced traced)) (omega (arith, extent, end_fits_u64)) (omega (arith, extent, there)))
+        (starts_with_record_of order offset rest body plain (λ traced. absurd (untraced traced)) (omega (arith, extent, end_fits_u64)) (omega (arith, extent, there)))
   ]
 ]
 
@@ -451,8 +451,8 @@ ended_or_record e p same = cc
 
 pub no_error : (order : Endianness) (bound : SectionSize) (offset : ℕ) (attrs : List Attribute) (rest p : List ℕ) (f : LayoutError) → MayStartAt bound offset → StartsWithRecord order offset rest p → IsValidRecord order bound p
     → AreConsistent (attrs ++ attributes_in_record order bound (record_type_of order p) (drop 8 p)) → ErrorAt order bound offset attrs rest f → ⊥
-no_error order bound offset attrs rest p f begins fronts is rule fault =
-    ended_or_record (ends_with_error f) p (stands_one order bound offset attrs rest (ended (ends_with_error f)) (piece p) (begins, fault) (begins, fronts, is, rule))
+no_error order bound offset attrs rest p f begins starts_with_record is rule fault =
+    ended_or_record (ends_with_error f) p (stands_one order bound offset attrs rest (ended (ends_with_error f)) (piece p) (begins, fault) (begins, starts_with_record, is, rule))
 
 abbrev EndFaultOrPiece : Endianness → SectionSize → ℕ → List Attribute → List ℕ → Type 0
 EndFaultOrPiece order bound offset attrs rest =

@@ -12,7 +12,7 @@ use Rattle.perfdata_base.specs.declared.raw.Endianness.{Endianness}
 use Rattle.perfdata_events.proofs.Offsets.{set_or_not, after_length, value_from_start, value_from_end}
 use Rattle.perfdata_events.specs.EventFormat.{event_format_of, trailing_size, trailing}
 use Rattle.perfdata_events.specs.Fields.{u64_at}
-use Rattle.perfdata_events.specs.RecordId.{IsHeadId, IsTrailingId, IsSampleIdOf}
+use Rattle.perfdata_events.specs.RecordId.{IsLeadingId, IsTrailingId, IsSampleIdOf}
 use Rattle.perfdata_events.specs.Words.{words_size, word_if, after, word_after}
 use Rattle.perfdata_events.specs.declared.sample_id.SampleId.{SampleId}
 
@@ -47,14 +47,14 @@ module _ (attr : PerfEventAttr) (order : Endianness) where
   flags = attr.flags.0
 
   module _ (body : List ℕ) (id : SampleId) where
-    sample_time : IsHeadId (event_format_of attr order) body id → id.timestamp ≡ from_start order body (offset_from_start (sample_words bits) 2)
+    sample_time : IsLeadingId (event_format_of attr order) body id → id.timestamp ≡ from_start order body (offset_from_start (sample_words bits) 2)
     sample_time is =
         let origin = is.header_bytes_is.starts in
         let enough = origin.enough in
         ap (λ (v : SampleId). v.timestamp) is.id_is ∙ origin.timestamp_is
         ∙ value_from_start bits 2 (16 ∷ 0 ∷ 1 ∷ []) (3 ∷ 6 ∷ []) refl refl refl order body (omega (arith, enough))
 
-    sample_identifier : IsHeadId (event_format_of attr order) body id → option_or id.identifier id.id ≡ from_start order body (offset_from_start (sample_words bits) (identifier_word bits))
+    sample_identifier : IsLeadingId (event_format_of attr order) body id → option_or id.identifier id.id ≡ from_start order body (offset_from_start (sample_words bits) (identifier_word bits))
     sample_identifier is =
         let origin = is.header_bytes_is.starts in
         let event = is.header_bytes_is.goes_on in

@@ -27,7 +27,7 @@ module _ (format : EventFormat) where
   abbrev pub sample_header : List ℕ → Outcome (OriginWords × EventWords) → Type 0
   sample_header = both (origin_words (number_in format.endian) format.sample_format) (λ _. event_words (number_in format.endian) format.sample_format)
 
-  pub record IsHeadId (body : List ℕ) (id : SampleId) : Type 0 where
+  pub record IsLeadingId (body : List ℕ) (id : SampleId) : Type 0 where
     pub origin : OriginWords
     pub event : EventWords
     pub rest : List ℕ
@@ -35,7 +35,7 @@ module _ (format : EventFormat) where
     pub id_is : id ≡ id_of_words origin event
 
   abbrev pub ReadsHead : List ℕ → Result SampleId Error → Type 0
-  ReadsHead body (Ok id) = IsHeadId body id
+  ReadsHead body (Ok id) = IsLeadingId body id
   ReadsHead body (Err e) = sample_header body (fails (error_kind e))
 
   -- The sample_id fields end the body.
@@ -47,7 +47,7 @@ module _ (format : EventFormat) where
   module _ (raw : RawEventRecord) where
     abbrev pub IsSampleIdOf : SampleId → Type 0
     IsSampleIdOf id =
-        ((raw.record_type.0 ≡ 9) × IsHeadId (bytes_of raw.body) id)
+        ((raw.record_type.0 ≡ 9) × IsLeadingId (bytes_of raw.body) id)
         ⊎ (((raw.record_type.0 ≢ 9) × (format.sample_id_all ≡ true) × IsTrailingId (bytes_of raw.body) id)
         ⊎ ((raw.record_type.0 ≢ 9) × (format.sample_id_all ≡ false) × (id ≡ no_sample_id)))
 

@@ -35,15 +35,15 @@ records-preserved c =
     let long = length-map before.entries_written.0 (record_entry_at base) in
     let more = map_push (record_entry_at base) before.entries_written.0 h in
     let entry = c.new.ensures in
-    let room : length some < length array = (let test = c.records-test.true in let same = ap length before.entries_written.3 in omega (arith, long, count, length-with_prefix some array, same, test)) in
+    let below_capacity : length some < length array = (let test = c.records-test.true in let same = ap length before.entries_written.3 in omega (arith, long, count, length-with_prefix some array, same, test)) in
     record {
       is_walk = c.take_whole_record.ensures.walk;
       same_input = record { input = kept.input ∙ before.same_input.input; first_record_offset = kept.first_record_offset ∙ before.same_input.first_record_offset };
       entries_written = (
         before.entries_written.0 ++ h ∷ [],
         omega (arith, count, length-append before.entries_written.0 (h ∷ [])),
-        omega (arith, long, room, length-append before.entries_written.0 (h ∷ [])),
-        (λ i. slice_set (before.entries_written.3 i) ((count ∙ sym long) i) (entry i)) ∙ sym (with_prefix-snoc some array (record_entry_at base h) room) ∙ ap (λ l. with_prefix l array) (sym more),
+        omega (arith, long, below_capacity, length-append before.entries_written.0 (h ∷ [])),
+        (λ i. slice_set (before.entries_written.3 i) ((count ∙ sym long) i) (entry i)) ∙ sym (with_prefix-snoc some array (record_entry_at base h) below_capacity) ∙ ap (λ l. with_prefix l array) (sym more),
         λ file. one_call_more start c.records.self c.take_whole_record.new.self file file file before.entries_written.0 place found (before.entries_written.4 file) (step file),
         has_bodies-snoc input base before.entries_written.0 h before.entries_written.5
             (subst (λ l. HasBytesAt l (base + h.offset + 8) h.body) before.same_input.input
