@@ -23,6 +23,7 @@ pub mod LastBuildIds
 pub mod BuildIdRuns
 pub mod BuildIdUniqueness
 pub mod FileUniqueness
+pub mod FileWalkEnds
 pub mod IdPairLemmas
 pub mod IdTableInserts
 pub mod OneMoreAttribute

@@ -19,6 +19,10 @@ abbrev pub WholeRecordLength : Endianness → List ℕ → Option ℕ → Type 0
 WholeRecordLength order bytes (Some n) = (8 ≤ n) × (n ≤ length bytes) × IsRecord order (take n bytes)
 WholeRecordLength order bytes None = (p r : List ℕ) → IsRecord order p → bytes ≢ p ++ r
 
+-- `bytes` start with this record header.
+abbrev pub StartsWithHeader : Endianness → List ℕ → PerfEventHeader → Type 0
+StartsWithHeader order bytes header = (8 ≤ length bytes) × (header ≡ record_header_of (number_in order) bytes)
+
 -- The header of the whole record at the start of `bytes`, and its total size.
 abbrev pub PeeksWholeRecord : Endianness → List ℕ → Option (PerfEventHeader × ℕ) → Type 0
 PeeksWholeRecord order bytes (Some r) = (r.0 ≡ record_header_of (number_in order) bytes) × WholeRecordLength order bytes (Some r.1)

@@ -1,11 +1,15 @@
 -- The entries of records in memory.
-use Rattle.std.specs.Prelude.{◌≡◌, ℕ, ◌+◌, ◌≤◌, List, [], ◌∷◌, length, take, drop, map, Option, None, Some}
+use Rattle.std.specs.Prelude.{◌≡◌, ℕ, ◌+◌, ◌<◌, ◌≤◌, List, [], ◌∷◌, length, take, drop, map, Option, None, Some}
 use Rattle.linux_perf_data.specs.declared.in_memory.InMemoryRecords.{InMemoryRecords}
 use Rattle.linux_perf_data.specs.declared.in_memory.entries.RecordEntry.{RecordEntry}
 use Rattle.linux_perf_data.specs.declared.perf_file.PerfFile.{PerfFile}
 use Rattle.linux_perf_data.specs.Attribute.{EventRef}
+use Rattle.linux_perf_data.specs.declared.records.iter.Stage.TheVariants.{Running}
+use Rattle.linux_perf_data.specs.InMemory.{memory_state}
 use Rattle.linux_perf_data.specs.InMemoryReading.{KeepsInput, ReturnsRecordsInMemory, first_record_offset_of, input_of}
-use Rattle.linux_perf_data.specs.Layout.{RecordView}
+use Rattle.linux_perf_data.specs.Iter.{section_size_of}
+use Rattle.linux_perf_data.specs.Layout.{RecordView, StartsWithRecord, record_type_of}
+use Rattle.perfdata_sections.specs.RecordTypes.{finished_round}
 
 -- ---- entries
 
@@ -60,7 +64,13 @@ with_prefix [] old = old
 with_prefix (e ∷ es) [] = []
 with_prefix (e ∷ es) (o ∷ os) = e ∷ with_prefix es os
 
+-- In a file in which a record may start here: if the remaining bytes start with a whole record, it is a marker.
+abbrev pub StartsWithMarkerAtMost : InMemoryRecords → Type 0
+StartsWithMarkerAtMost records = records.iter.stage ≡ Running → (size : ℕ) → section_size_of memory_state records.iter ≡ Some size → records.iter.offset < size
+    → (rest p : List ℕ) → (memory_state records.iter.source).bytes ≡ Some rest → StartsWithRecord records.iter.endian records.iter.offset rest p → record_type_of records.iter.endian p ≡ finished_round
+
 -- The next records were returned and their entries written. Each body is at the offset in its entry. No `PerfFile` is changed.
+-- If the array has capacity for more, no whole record follows but a marker.
 pub record ReadsEntries (old : InMemoryRecords) (before : List RecordEntry) (count : ℕ) (new : InMemoryRecords) (after : List RecordEntry) : Type 0 where
   pub records : List RecordView
   pub returned : (file : PerfFile) → ReturnsRecordsInMemory old file records new file
@@ -69,3 +79,4 @@ pub record ReadsEntries (old : InMemoryRecords) (before : List RecordEntry) (cou
   pub written : after ≡ with_prefix (record_entries_at (first_record_offset_of old) records) before
   pub body_bytes_at : HasBodiesAt (input_of old) (first_record_offset_of old) records
   pub same_input : KeepsInput old new
+  pub stops : length records < length before → StartsWithMarkerAtMost new

@@ -6,7 +6,7 @@ ghost use Rattle.linux_perf_data.specs.RecordEntries.{record_entry_at};
 ghost use Rattle.linux_perf_data.specs.RecordViews.{record_view_of};
 
 use crate::in_memory::InMemoryRecords;
-use crate::in_memory::file_walk::{FileWalk, WholeRecord};
+use crate::in_memory::file_walk::{FileWalk, WholeRecord, in_order};
 use crate::perf_file::PerfFile;
 use crate::records::iter::RecordPlace;
 use perfdata_base::event::PerfEventHeader;
@@ -134,11 +134,36 @@ impl<'a> InMemoryRecords<'a> {
         // One loop for each byte order.
         match walk.endian() {
             Endianness::LittleEndian => {
-                let walk = walk.in_order(Endianness::LittleEndian);
-                self.read_entries_of(walk, perf_file, entries)
+                self.read_entries_in(Endianness::LittleEndian, walk, perf_file, entries)
             }
             Endianness::BigEndian => {
-                let walk = walk.in_order(Endianness::BigEndian);
+                self.read_entries_in(Endianness::BigEndian, walk, perf_file, entries)
+            }
+        }
+    }
+
+    // Writes the entries of the next records of a walk, whose byte order the compiler knows.
+    #[inline(always)]
+    fn read_entries_in(
+        &mut self,
+        endian: Endianness,
+        walk: FileWalk<'a>,
+        perf_file: &PerfFile,
+        entries: &mut [RecordEntry],
+    ) -> usize
+        requires walk { IsWalkOf self.old.iter walk }
+        requires same_endian { endian ≡ walk.endian }
+        ensures { ReadsEntries self.old entries.old result self.new entries.new }
+    {
+        // One loop for a single attribute, and one for several.
+        match walk.only_parse_info() {
+            Some(parse_info) => {
+                let only = Some(in_order(endian, parse_info));
+                let walk = walk.specialized(endian, only);
+                self.read_entries_of(walk, perf_file, entries)
+            }
+            None => {
+                let walk = walk.specialized(endian, None);
                 self.read_entries_of(walk, perf_file, entries)
             }
         }

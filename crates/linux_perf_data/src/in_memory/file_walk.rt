@@ -2,7 +2,7 @@
 //! registers.
 ghost use Rattle.std.specs.Prelude.{◌≡◌, IfSome, Some};
 ghost use Rattle.linux_perf_data.specs.InMemory.{TakesFileRecord};
-ghost use Rattle.linux_perf_data.specs.FileWalk.{IsNextRecord, IsWalkOf, MovesInPlace};
+ghost use Rattle.linux_perf_data.specs.FileWalk.{IsNextRecord, IsWalkOf, MovesInPlace, PeeksNextRecord, StartsWalk};
 
 use crate::in_memory::framing::remaining;
 use crate::records::framing::peek_record;
@@ -43,6 +43,21 @@ fn parse_info_in(endian: Endianness, parse_info: Option<RecordParseInfo>) -> Opt
     }
 }
 
+// The parse info, with its byte order as a value that the compiler knows.
+#[inline(always)]
+pub(crate) fn in_order(endian: Endianness, parse_info: RecordParseInfo) -> RecordParseInfo
+    requires { endian ≡ parse_info.endian }
+    ensures { result ≡ parse_info }
+{
+    RecordParseInfo {
+        endian,
+        sample_format: parse_info.sample_format,
+        id_parse_info: parse_info.id_parse_info,
+        sample_time_from_start: parse_info.sample_time_from_start,
+        other_time_from_end: parse_info.other_time_from_end,
+    }
+}
+
 // A whole record that is no marker: its header, its size with aux data, and its end offset.
 #[derive(Clone, Copy)]
 pub(crate) struct WholeRecord {
@@ -54,7 +69,7 @@ pub(crate) struct WholeRecord {
 impl<'a> FileWalk<'a> {
     // The walk from the next record on. `None` if the iterator isn't running, or if it reads a pipe.
     pub(crate) fn of(iter: &PerfRecordIter<Cursor<&'a [u8]>>) -> Option<FileWalk<'a>>
-        ensures { IfSome result (λ walk. IsWalkOf iter.now walk) }
+        ensures { StartsWalk iter.now result }
     {
         match iter.stage {
             Stage::Running => {}
@@ -85,23 +100,25 @@ impl<'a> FileWalk<'a> {
         self.endian
     }
 
-    // The same walk, with the byte order as a value that the compiler knows.
+    // The parse info of the only attribute, in the byte order of the walk.
     #[inline(always)]
-    pub(crate) fn in_order(self, endian: Endianness) -> FileWalk<'a>
-        requires same { endian ≡ self.endian }
-        requires only { IfSome self.only_parse_info (λ p. p.endian ≡ endian) }
+    pub(crate) fn only_parse_info(&self) -> Option<RecordParseInfo>
+        ensures { result ≡ self.now.only_parse_info }
+    {
+        self.only_parse_info
+    }
+
+    // The same walk, with the byte order and the parse info as values that the compiler knows.
+    #[inline(always)]
+    pub(crate) fn specialized(
+        self,
+        endian: Endianness,
+        only_parse_info: Option<RecordParseInfo>,
+    ) -> FileWalk<'a>
+        requires same_endian { endian ≡ self.endian }
+        requires same_parse_info { only_parse_info ≡ self.only_parse_info }
         ensures { result ≡ self.entry }
     {
-        let only_parse_info = match self.only_parse_info {
-            Some(parse_info) => Some(RecordParseInfo {
-                endian,
-                sample_format: parse_info.sample_format,
-                id_parse_info: parse_info.id_parse_info,
-                sample_time_from_start: parse_info.sample_time_from_start,
-                other_time_from_end: parse_info.other_time_from_end,
-            }),
-            None => None,
-        };
         FileWalk {
             endian,
             section_size: self.section_size,
@@ -115,7 +132,7 @@ impl<'a> FileWalk<'a> {
     // The next record, if the remaining bytes start with a whole one that is no marker.
     #[inline(always)]
     pub(crate) fn peek(&self) -> Option<WholeRecord>
-        ensures { IfSome result (IsNextRecord self.now) }
+        ensures { PeeksNextRecord self.now result }
     {
         if self.offset >= self.section_size {
             return None;

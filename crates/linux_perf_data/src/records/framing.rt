@@ -3,7 +3,7 @@ ghost use Rattle.std.specs.Prelude.{◌≡◌, ◌+◌, ◌<◌, ◌≤◌, [], 
 ghost use Rattle.perfdata_base.specs.Endian.{number_in};
 ghost use Rattle.perfdata_sections.specs.declared.error.Error.TheVariants.{Memory};
 ghost use Rattle.perfdata_base.specs.Source.{PausesOnlyOnError};
-ghost use Rattle.linux_perf_data.specs.BufferedRecord.{PeeksWholeRecord};
+ghost use Rattle.linux_perf_data.specs.BufferedRecord.{PeeksWholeRecord, StartsWithHeader, WholeRecordLength};
 ghost use Rattle.linux_perf_data.specs.Input.{TakesPendingHeader, input_source_state};
 ghost use Rattle.linux_perf_data.specs.Pauses.{PausesOnlyAtEndOrError, PausesOnlyIfTruncated};
 ghost use Rattle.linux_perf_data.specs.RecordFraming.{ChecksBodySize, ChecksRecordEnd, SkipsBody, AppendsBody, BodyExceedsCapacity, ReadsRecordBody, ReadsRecordHeader, ReadsAuxData, TestsCompressed};
@@ -49,13 +49,12 @@ pub(crate) fn is_compressed(record_type: u32) -> bool
     record_type == PERF_RECORD_COMPRESSED || record_type == PERF_RECORD_COMPRESSED2
 }
 
-// The header of the record at the start of `bytes`, and its total size with aux data. `None` if they don't start with a whole
-// record.
+// The total size with aux data of the record with this header at the start of `bytes`. `None` if the record isn't whole.
 #[inline(always)]
-pub(crate) fn peek_record(endian: Endianness, bytes: &[u8]) -> Option<(PerfEventHeader, usize)>
-    ensures { PeeksWholeRecord endian bytes.now result }
+fn whole_record_length(endian: Endianness, header: PerfEventHeader, bytes: &[u8]) -> Option<usize>
+    requires { StartsWithHeader endian bytes.now header }
+    ensures { WholeRecordLength endian bytes.now result }
 {
-    let header = PerfEventHeader::peek(endian, bytes)?;
     let body_size = match body_size(header) {
         Ok(size) => size as usize,
         Err(_) => return None,
@@ -66,13 +65,13 @@ pub(crate) fn peek_record(endian: Endianness, bytes: &[u8]) -> Option<(PerfEvent
     }
     // No record of the kernel is compressed or has aux data.
     if RecordType(header.type_).is_builtin_type() {
-        return Some((header, size));
+        return Some(size);
     }
     if is_compressed(header.type_) {
         return None;
     }
     if header.type_ != PERF_RECORD_AUXTRACE {
-        return Some((header, size));
+        return Some(size);
     }
     if body_size < Auxtrace::FIXED_SIZE {
         return None;
@@ -81,7 +80,18 @@ pub(crate) fn peek_record(endian: Endianness, bytes: &[u8]) -> Option<(PerfEvent
     if ((bytes.len() - size) as u64) < aux_size {
         return None;
     }
-    Some((header, size + aux_size as usize))
+    Some(size + aux_size as usize)
+}
+
+// The header of the record at the start of `bytes`, and its total size with aux data. `None` if they don't start with a whole
+// record.
+#[inline(always)]
+pub(crate) fn peek_record(endian: Endianness, bytes: &[u8]) -> Option<(PerfEventHeader, usize)>
+    ensures { PeeksWholeRecord endian bytes.now result }
+{
+    let header = PerfEventHeader::peek(endian, bytes)?;
+    let length = whole_record_length(endian, header, bytes)?;
+    Some((header, length))
 }
 
 // The pending header, or the record header at the position of the source. `None` if the source has fewer bytes.

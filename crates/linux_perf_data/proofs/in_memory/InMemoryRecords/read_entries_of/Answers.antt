@@ -5,6 +5,8 @@ use Rattle.linux_perf_data.specs.InMemoryReading.{first_record_offset_of, input_
 use Rattle.linux_perf_data.specs.RecordEntries.{HasBytesAt, record_entries_at, record_entry_at, with_prefix}
 use Rattle.linux_perf_data.specs.RecordViews.{record_view_of}
 use Rattle.linux_perf_data.proofs.EntryLemmas.{body-returned, has_bodies-snoc, length-with_prefix, with_prefix-snoc}
+use Rattle.linux_perf_data.proofs.FileWalkEnds.{marker_at_most}
+use Rattle.linux_perf_data.specs.FileWalk.{PeeksNextRecord}
 use Rattle.linux_perf_data.proofs.InMemoryReadings.{one_call_more}
 use Rattle.linux_perf_data.proofs.in_memory.InMemoryRecords.read_entries_of.Goals as goal
 
@@ -54,9 +56,23 @@ records-preserved c =
 pub returns-in-None : goal.returns-in-None
 returns-in-None c =
     let before = c.records.invariant in
-    record { records = before.entries_written.0; returned = before.entries_written.4; count_is = before.entries_written.1; fits = before.entries_written.2; written = before.entries_written.3; body_bytes_at = before.entries_written.5; same_input = before.same_input }
+    record { records = before.entries_written.0; returned = before.entries_written.4; count_is = before.entries_written.1; fits = before.entries_written.2; written = before.entries_written.3; body_bytes_at = before.entries_written.5; same_input = before.same_input; stops = λ short. marker_at_most c.records.self c.records.walk before.is_walk (subst (λ r. PeeksNextRecord c.records.walk r) c.in-None.is c.peek.ensures) }
 
 pub returns-after-records : goal.returns-after-records
 returns-after-records c =
     let before = c.records.invariant in
-    record { records = before.entries_written.0; returned = before.entries_written.4; count_is = before.entries_written.1; fits = before.entries_written.2; written = before.entries_written.3; body_bytes_at = before.entries_written.5; same_input = before.same_input }
+    record {
+      records = before.entries_written.0;
+      returned = before.entries_written.4;
+      count_is = before.entries_written.1;
+      fits = before.entries_written.2;
+      written = before.entries_written.3;
+      body_bytes_at = before.entries_written.5;
+      same_input = before.same_input;
+      stops = λ short.
+          let full = c.records-test.false in
+          let same = ap length before.entries_written.3 in
+          let long = length-with_prefix (record_entries_at (first_record_offset_of c.args.self.now) before.entries_written.0) c.args.entries.now in
+          let count = before.entries_written.1 in
+          absurd (omega (arith, full, same, long, count, short));
+    }
