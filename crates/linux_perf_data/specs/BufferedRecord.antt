@@ -1,5 +1,5 @@
 -- What buffered bytes show about the remaining records.
-use Rattle.std.specs.Prelude.{◌≡◌, ◌≢◌, ◌⊎◌, ◌↔◌, ℕ, ◌+◌, ◌≤◌, Bool, IsTrue, List, ◌++◌, length, take, Option, None, Some}
+use Rattle.std.specs.Prelude.{◌≡◌, ◌≢◌, ◌⊎◌, ◌↔◌, ℕ, ◌+◌, ◌<◌, ◌≤◌, Bool, IsTrue, List, ◌++◌, length, take, Option, None, Some}
 use Rattle.std.specs.List.{concat}
 use Rattle.perfdata_base.specs.Source.{State}
 use Rattle.perfdata_base.specs.Buffered.{IsPrefixOfRemaining}
@@ -27,6 +27,10 @@ StartsWithHeader order bytes header = (8 ≤ length bytes) × (header ≡ record
 abbrev pub PeeksWholeRecord : Endianness → List ℕ → Option (PerfEventHeader × ℕ) → Type 0
 PeeksWholeRecord order bytes (Some r) = (r.0 ≡ record_header_of (number_in order) bytes) × WholeRecordLength order bytes (Some r.1)
 PeeksWholeRecord order bytes None = WholeRecordLength order bytes None
+
+-- The header of the whole record of the kernel at the start of `bytes`, and its size.
+abbrev pub PeeksKernelRecord : Endianness → List ℕ → PerfEventHeader × ℕ → Type 0
+PeeksKernelRecord order bytes r = (r.0.type_ < 64) × PeeksWholeRecord order bytes (Some r)
 
 -- From `offset` on, the bytes are markers and then a whole record that isn't a marker and starts where a record may. Any bytes
 -- may follow.

@@ -92,7 +92,7 @@ impl<'a> InMemoryRecords<'a> {
     ghost use Rattle.linux_perf_data.specs.declared.perf_file.PerfFile.{PerfFile};
     ghost use Rattle.linux_perf_data.specs.FileWalk.{IsNextRecord};
     ghost use Rattle.linux_perf_data.specs.InMemoryReading.{KeepsInput, ReturnsRecordInMemory};
-    ghost use Rattle.linux_perf_data.specs.RecordEntries.{ReadsEntries};
+    ghost use Rattle.linux_perf_data.specs.RecordEntries.{ReadsEntries, TakesEntry};
 
     // Takes the next record of a walk over the records.
     #[inline(always)]
@@ -115,6 +115,23 @@ impl<'a> InMemoryRecords<'a> {
         let parse_info = *self.iter.attribute_lookup.parse_info_of(found.attr_index());
         let record = found.into_record(parse_info, endian, RawData::Single(body));
         (found.place, record)
+    }
+
+    // Takes the next record of a walk over the records, and returns its entry.
+    #[inline(always)]
+    fn take_entry(
+        &mut self,
+        walk: &mut FileWalk<'a>,
+        next: WholeRecord,
+        perf_file: &PerfFile,
+    ) -> RecordEntry
+        requires walk { IsWalkOf self.old.iter walk.old }
+        requires next { IsNextRecord walk.old next }
+        ensures taken { TakesEntry self.old result self.new }
+        ensures walk { IsWalkOf self.new.iter walk.new }
+    {
+        let (place, record) = self.take_whole_record(walk, next);
+        RecordEntry::new(self.first_record_offset, place, &record)
     }
 
     /// Writes the entries of the next records of a file, and returns their number.
@@ -180,16 +197,21 @@ impl<'a> InMemoryRecords<'a> {
         requires { IsWalkOf self.old.iter walk }
         ensures { ReadsEntries self.old entries.old result self.new entries.new }
     {
-        let first_record_offset = self.first_record_offset;
         let mut count = 0;
         'records: while count < entries.len() {
-            let next = match walk.peek() {
-                Some(next) => next,
+            // Most records are the kernel's. For these, the compiler leaves out the tests that others need.
+            if let Some(next) = walk.peek_kernel() {
+                entries[count] = self.take_entry(&mut walk, next, perf_file);
+                count += 1;
+                continue;
+            }
+            match walk.peek() {
+                Some(next) => {
+                    entries[count] = self.take_entry(&mut walk, next, perf_file);
+                    count += 1;
+                }
                 None => break,
-            };
-            let (place, record) = self.take_whole_record(&mut walk, next);
-            entries[count] = RecordEntry::new(first_record_offset, place, &record);
-            count += 1;
+            }
         }
         count
     }

@@ -5,7 +5,7 @@ ghost use Rattle.linux_perf_data.specs.InMemory.{TakesFileRecord};
 ghost use Rattle.linux_perf_data.specs.FileWalk.{IsNextRecord, IsWalkOf, MovesInPlace, PeeksNextRecord, StartsWalk};
 
 use crate::in_memory::framing::remaining;
-use crate::records::framing::peek_record;
+use crate::records::framing::{peek_kernel_record, peek_record};
 use crate::records::input::Input;
 use crate::records::iter::{PerfRecordIter, RecordInfo, Stage};
 use perfdata_base::event::PerfEventHeader;
@@ -127,6 +127,23 @@ impl<'a> FileWalk<'a> {
             remaining: self.remaining,
             only_parse_info,
         }
+    }
+
+    // The next record, if the remaining bytes start with a whole one of the kernel.
+    #[inline(always)]
+    pub(crate) fn peek_kernel(&self) -> Option<WholeRecord>
+        ensures { IfSome result (IsNextRecord self.now) }
+    {
+        if self.offset >= self.section_size {
+            return None;
+        }
+        let (header, length) = peek_kernel_record(self.endian, self.remaining)?;
+        let end = self.offset.checked_add(length as u64)?;
+        Some(WholeRecord {
+            header,
+            length,
+            end,
+        })
     }
 
     // The next record, if the remaining bytes start with a whole one that is no marker.

@@ -1,9 +1,9 @@
 //! Reads the parts of a record from a source: record header, body, aux data.
-ghost use Rattle.std.specs.Prelude.{◌≡◌, ◌+◌, ◌<◌, ◌≤◌, [], length, IfErr, vec_capacity};
+ghost use Rattle.std.specs.Prelude.{◌≡◌, ◌+◌, ◌<◌, ◌≤◌, [], length, IfErr, IfSome, vec_capacity};
 ghost use Rattle.perfdata_base.specs.Endian.{number_in};
 ghost use Rattle.perfdata_sections.specs.declared.error.Error.TheVariants.{Memory};
 ghost use Rattle.perfdata_base.specs.Source.{PausesOnlyOnError};
-ghost use Rattle.linux_perf_data.specs.BufferedRecord.{PeeksWholeRecord, StartsWithHeader, WholeRecordLength};
+ghost use Rattle.linux_perf_data.specs.BufferedRecord.{PeeksKernelRecord, PeeksWholeRecord, StartsWithHeader, WholeRecordLength};
 ghost use Rattle.linux_perf_data.specs.Input.{TakesPendingHeader, input_source_state};
 ghost use Rattle.linux_perf_data.specs.Pauses.{PausesOnlyAtEndOrError, PausesOnlyIfTruncated};
 ghost use Rattle.linux_perf_data.specs.RecordFraming.{ChecksBodySize, ChecksRecordEnd, SkipsBody, AppendsBody, BodyExceedsCapacity, ReadsRecordBody, ReadsRecordHeader, ReadsAuxData, TestsCompressed};
@@ -49,6 +49,25 @@ pub(crate) fn is_compressed(record_type: u32) -> bool
     record_type == PERF_RECORD_COMPRESSED || record_type == PERF_RECORD_COMPRESSED2
 }
 
+// The header of the kernel's record at the start of `bytes`, and its size. `None` if they don't start with a whole one.
+#[inline(always)]
+pub(crate) fn peek_kernel_record(
+    endian: Endianness,
+    bytes: &[u8],
+) -> Option<(PerfEventHeader, usize)>
+    ensures { IfSome result (PeeksKernelRecord endian bytes.now) }
+{
+    let header = PerfEventHeader::peek(endian, bytes)?;
+    let size = header.size as usize;
+    if size < PerfEventHeader::STRUCT_SIZE || bytes.len() < size {
+        return None;
+    }
+    if !RecordType(header.type_).is_builtin_type() {
+        return None;
+    }
+    Some((header, size))
+}
+
 // The total size with aux data of the record with this header at the start of `bytes`. `None` if the record isn't whole.
 #[inline(always)]
 fn whole_record_length(endian: Endianness, header: PerfEventHeader, bytes: &[u8]) -> Option<usize>
@@ -62,10 +81,6 @@ fn whole_record_length(endian: Endianness, header: PerfEventHeader, bytes: &[u8]
     let size = header.size as usize;
     if bytes.len() < size {
         return None;
-    }
-    // No record of the kernel is compressed or has aux data.
-    if RecordType(header.type_).is_builtin_type() {
-        return Some(size);
     }
     if is_compressed(header.type_) {
         return None;

@@ -6,21 +6,6 @@ use Rattle.linux_perf_data.proofs.BufferedRecords.{whole_first_part}
 use Rattle.linux_perf_data.proofs.RecordHeaders.{total_size_plain, total_size_auxtrace}
 use Rattle.linux_perf_data.proofs.records.framing.whole_record_length.Goals as goal
 
-pub returns-then-is_builtin_type : goal.returns-then-is_builtin_type
-returns-then-is_builtin_type c =
-    let order = c.args.endian in
-    let bytes = c.args.bytes.now in
-    let header = c.args.header in
-    let n = header.size in
-    let kind : header.type_ ≡ record_type_of order bytes = ap (λ h. h.type_) c.requires.1 in
-    let size : n ≡ record_size_of order bytes = ap (λ h. h.size) c.requires.1 in
-    let least : 8 ≤ n = c.in-Ok.ensures.0 in
-    let within : n ≤ length bytes = search rules in
-    let kernel : header.type_ < 64 = search rules in
-    let plain : ¬ IsCompressed header.type_ = λ k. elim k [ inl one ↦ omega (arith, one, kernel) | inr two ↦ omega (arith, two, kernel) ] in
-    let isnt : record_type_of order bytes ≢ 71 = λ e. omega (arith, e, kind, kernel) in
-    (least, within, whole_first_part order bytes n least within (omega (arith, size, least)) (λ k. plain (subst IsCompressed (sym kind) k)) (λ t. absurd (isnt t)) (λ t. absurd (isnt t)) (size ∙ sym (total_size_plain order bytes isnt)))
-
 pub returns-then-header-ne-PERF_RECORD_AUXTRACE : goal.returns-then-header-ne-PERF_RECORD_AUXTRACE
 returns-then-header-ne-PERF_RECORD_AUXTRACE c =
     let order = c.args.endian in
