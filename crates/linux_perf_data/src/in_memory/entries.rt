@@ -6,7 +6,7 @@ ghost use Rattle.linux_perf_data.specs.RecordEntries.{record_entry_at};
 ghost use Rattle.linux_perf_data.specs.RecordViews.{record_view_of};
 
 use crate::in_memory::InMemoryRecords;
-use crate::in_memory::file_walk::{FileWalk, WholeRecord, in_order};
+use crate::in_memory::file_walk::{FileWalk, WholeRecord, in_order, with_sample_time};
 use crate::perf_file::PerfFile;
 use crate::records::iter::RecordPlace;
 use perfdata_base::event::PerfEventHeader;
@@ -172,17 +172,22 @@ impl<'a> InMemoryRecords<'a> {
         requires same_endian { endian ≡ walk.endian }
         ensures { ReadsEntries self.old entries.old result self.new entries.new }
     {
-        // One loop for a single attribute, and one for several.
+        // Loops of their own for one attribute whose samples have a time, for one without, and for several attributes.
         match walk.only_parse_info() {
             Some(parse_info) => {
-                let only = Some(in_order(endian, parse_info));
-                let walk = walk.specialized(endian, only);
-                self.read_entries_of(walk, perf_file, entries)
+                let only = in_order(endian, parse_info);
+                match only.sample_time_from_start {
+                    Some(time) if time <= u32::MAX as u64 => {
+                        let only = Some(with_sample_time(only, time));
+                        self.read_entries_of(walk.specialized(endian, only), perf_file, entries)
+                    }
+                    _ => {
+                        let walk = walk.specialized(endian, Some(only));
+                        self.read_entries_of(walk, perf_file, entries)
+                    }
+                }
             }
-            None => {
-                let walk = walk.specialized(endian, None);
-                self.read_entries_of(walk, perf_file, entries)
-            }
+            None => { self.read_entries_of(walk.specialized(endian, None), perf_file, entries) }
         }
     }
 

@@ -58,6 +58,21 @@ pub(crate) fn in_order(endian: Endianness, parse_info: RecordParseInfo) -> Recor
     }
 }
 
+// The parse info, with the offset of a sample's time as a value whose bounds the compiler knows.
+#[inline(always)]
+pub(crate) fn with_sample_time(parse_info: RecordParseInfo, time: u64) -> RecordParseInfo
+    requires { Some time ≡ parse_info.sample_time_from_start }
+    ensures { result ≡ parse_info }
+{
+    RecordParseInfo {
+        endian: parse_info.endian,
+        sample_format: parse_info.sample_format,
+        id_parse_info: parse_info.id_parse_info,
+        sample_time_from_start: Some(time),
+        other_time_from_end: parse_info.other_time_from_end,
+    }
+}
+
 // A whole record that is no marker: its header, its size with aux data, and its end offset.
 #[derive(Clone, Copy)]
 pub(crate) struct WholeRecord {
