@@ -9,8 +9,9 @@ use crate::in_memory::InMemoryRecords;
 use crate::in_memory::file_walk::{FileWalk, WholeRecord, in_order, with_sample_time};
 use crate::perf_file::PerfFile;
 use crate::records::iter::RecordPlace;
+use byteorder::{BigEndian, LittleEndian};
 use perfdata_base::event::PerfEventHeader;
-use perfdata_base::raw::{Endianness, RawData};
+use perfdata_base::raw::{Endianness, FileOrder, RawData};
 use perfdata_parts::record::PerfFileRecord;
 
 /// The position and the header fields of a record, as plain numbers.
@@ -151,43 +152,40 @@ impl<'a> InMemoryRecords<'a> {
         // One loop for each byte order.
         match walk.endian() {
             Endianness::LittleEndian => {
-                self.read_entries_in(Endianness::LittleEndian, walk, perf_file, entries)
+                self.read_entries_in::<LittleEndian>(walk, perf_file, entries)
             }
-            Endianness::BigEndian => {
-                self.read_entries_in(Endianness::BigEndian, walk, perf_file, entries)
-            }
+            Endianness::BigEndian => { self.read_entries_in::<BigEndian>(walk, perf_file, entries) }
         }
     }
 
     // Writes the entries of the next records of a walk, whose byte order the compiler knows.
     #[inline(always)]
-    fn read_entries_in(
+    fn read_entries_in<T: FileOrder>(
         &mut self,
-        endian: Endianness,
         walk: FileWalk<'a>,
         perf_file: &PerfFile,
         entries: &mut [RecordEntry],
     ) -> usize
         requires walk { IsWalkOf self.old.iter walk }
-        requires same_endian { endian ≡ walk.endian }
+        requires same_endian { T.ENDIAN ≡ walk.endian }
         ensures { ReadsEntries self.old entries.old result self.new entries.new }
     {
         // Loops of their own for one attribute whose samples have a time, for one without, and for several attributes.
         match walk.only_parse_info() {
             Some(parse_info) => {
-                let only = in_order(endian, parse_info);
+                let only = in_order(T::ENDIAN, parse_info);
                 match only.sample_time_from_start {
                     Some(time) if time <= u32::MAX as u64 => {
                         let only = Some(with_sample_time(only, time));
-                        self.read_entries_of(walk.specialized(endian, only), perf_file, entries)
+                        self.read_entries_of(walk.specialized(T::ENDIAN, only), perf_file, entries)
                     }
                     _ => {
-                        let walk = walk.specialized(endian, Some(only));
+                        let walk = walk.specialized(T::ENDIAN, Some(only));
                         self.read_entries_of(walk, perf_file, entries)
                     }
                 }
             }
-            None => { self.read_entries_of(walk.specialized(endian, None), perf_file, entries) }
+            None => { self.read_entries_of(walk.specialized(T::ENDIAN, None), perf_file, entries) }
         }
     }
 
