@@ -4,7 +4,6 @@ use lib.Ieee.Fits.{and_l, and_r}
 use Rattle.std.proofs.Math.Seq.{take-append_seam}
 use borrow.Author.Tests.{eq-eqb, ne_eqb}
 use Rattle.std.specs.Fmt.{digits, digits_onto, digit_glyph}
-use Rattle.std.specs.Prelude.{◌==◌, if◌then◌else◌}
 use Rattle.json_writer.specs.Values.{byte_digits}
 use Rattle.json_writer.specs.declared.scalar.TheConstants.{HEX_PAIRS}
 

@@ -1,6 +1,6 @@
 -- Lemmas on JSON text.
-use Rattle.std.proofs.Common.{◌≡◌, ℕ, ◌+◌, ◌-◌, ◌*◌, ◌/◌, ◌%◌, ◌^◌, ◌<◌, ◌≤◌, Bool, true, false, List, [], ◌∷◌, ◌++◌, length, take, drop, get_or, refl, sym, ap, ◌∙◌, subst, append_assoc, append-nil, arith, rules, zero, suc, ◌≢◌, ℤ, pos, negsuc}
-use Rattle.std.specs.Prelude.{◌&&◌, ◌||◌, codes, encode_utf8, ◌==◌, nat_le, nat_lt, not, decimal, if◌then◌else◌}
+use Rattle.std.proofs.Common.{◌≡◌, ℕ, ◌+◌, ◌/◌, ◌%◌, ◌^◌, ◌<◌, ◌≤◌, Bool, true, false, List, [], ◌∷◌, ◌++◌, length, get_or, refl, sym, ap, ◌∙◌, subst, append_assoc, append-nil, arith, zero, suc, ◌≢◌, ℤ, pos, negsuc}
+use Rattle.std.specs.Prelude.{◌&&◌, ◌||◌, codes, encode_utf8, ◌==◌, nat_lt, decimal, if◌then◌else◌}
 use Rattle.std.specs.Fmt.{digits, digits_onto, digit_glyph, signed_decimal}
 use Rattle.std.specs.List.{list_all, flat_map}
 use Rattle.std.specs.Char.{IsScalar}
@@ -12,7 +12,7 @@ use Rattle.std.proofs.lemmas.List.Folds.{list_all-append}
 use Rattle.std.proofs.lemmas.Str.{encode_ascii, chars-encodes, encodes-IsAscii, IsUtf8-from_ascii, IsUtf8-from_is_utf8, is_utf8-from_IsUtf8}
 use Rattle.std.proofs.lemmas.Fmt.{decimal_by_steps, decimal_nonempty, decimal_digit, first_decimal, length-decimal-le}
 use Rattle.std.proofs.lemmas.Slice.Eq.{bytes_eq-Decides}
-use Rattle.json_writer.specs.Json.{IsJson, IsJsonChars, IsJsonInteger, is_digit, is_hex_digit, is_escape_letter, true_literal, false_literal, end, unescaped, escaped, escaped_unit, first_member, next_member, first_element, next_element, object, empty_object, array, empty_array, string, number, positive, negative, value, members, elements, quoted}
+use Rattle.json_writer.specs.Json.{IsJson, IsJsonChars, IsJsonInteger, is_digit, is_hex_digit, true_literal, false_literal, end, unescaped, escaped, escaped_unit, first_member, next_member, first_element, next_element, object, empty_object, array, empty_array, string, number, positive, negative, value, members, quoted}
 use Rattle.json_writer.specs.Writing.{is_plain_byte, is_plain, content_in, is_plain_string, is_member_start, member_start, key_in, AreMembers, no_members, some_members, AreElements, no_elements, some_elements}
 use Rattle.json_writer.specs.Values.{address_text, boolean_text, byte_digits, hex_text, escape, string_text, hex_object_text, text_value, bytes_text, object_text, array_text}
 

@@ -2,4 +2,5 @@ pub mod CharacterLemmas
 pub mod DecimalLemmas
 pub mod HexLemmas
 pub mod JsonLemmas
+pub mod ShortLemmas
 pub mod WritingLemmas

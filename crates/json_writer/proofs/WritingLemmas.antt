@@ -1,5 +1,5 @@
 -- Lemmas on what the writer appends.
-use Rattle.std.proofs.Common.{◌≡◌, ℕ, Bool, true, false, List, [], ◌∷◌, ◌++◌, ap, ◌∙◌, append_assoc, subst, sym, Result, Ok, Err}
+use Rattle.std.proofs.Common.{◌≡◌, ℕ, true, List, [], ◌∷◌, ◌++◌, ap, ◌∙◌, append_assoc, subst, sym, Result, Ok, Err}
 use Rattle.std.specs.Prelude.{if◌then◌else◌, is_ok, OnOk, OnErr}
 use Rattle.std.proofs.Math.Logic.{∥∥₁_elim}
 use Rattle.json_writer.specs.Writing.{AreMembers, no_members, no_elements, AreElements, is_member_start, is_short_member_start}

@@ -1,8 +1,8 @@
 -- What the writer of JSON appends.
-use Rattle.std.specs.Prelude.{◌≡◌, ◌≢◌, ℕ, ◌-◌, ◌<◌, ◌≤◌, ◌&&◌, ◌||◌, ◌==◌, nat_le, not, Bool, List, [], ◌∷◌, ◌++◌, length, take, drop, Result, Ok, Err}
+use Rattle.std.specs.Prelude.{ℕ, ◌-◌, ◌&&◌, ◌==◌, nat_le, not, Bool, List, [], ◌∷◌, ◌++◌, length, take, drop}
 use Rattle.std.specs.Str.{bytes_eq}
 use Rattle.std.specs.List.{list_all}
-use Rattle.json_writer.specs.Json.{IsJson, IsJsonChars, value, members, elements, quoted}
+use Rattle.json_writer.specs.Json.{IsJson, members, elements, quoted}
 
 -- a printable ASCII character that needs no escape
 abbrev pub is_plain_byte : ℕ → Bool

@@ -1,27 +1,34 @@
 //! Members of an object in an array of fixed size. They are written from the last to the first, so that the number of a number's
 //! digits isn't needed before they are written.
-ghost use Rattle.std.specs.Prelude.{◌≡◌, ◌+◌, ◌≤◌, ◌++◌, ◌==◌, [], length, drop, decimal, IsTrue, nat_le, ◌&&◌, if◌then◌else◌};
-ghost use Rattle.json_writer.specs.Json.{quoted};
+ghost use Rattle.std.specs.Prelude.{◌≡◌, ◌≢◌, ◌+◌, ◌-◌, ◌≤◌, ◌∷◌, ◌++◌, ◌==◌, [], length, take, drop, decimal, IsTrue, nat_le, ◌&&◌, if◌then◌else◌};
+ghost use Rattle.json_writer.specs.Json.{IsJson, value, quoted};
 ghost use Rattle.std.specs.Fmt.{signed_decimal};
 ghost use Rattle.json_writer.specs.Writing.{is_plain, is_short_member_start, is_short_string, AreMembers};
-ghost use Rattle.json_writer.specs.Values.{address_text, text_value, optional_text};
+ghost use Rattle.json_writer.specs.Values.{address_text, text_value, optional_text, object_text};
 
 use crate::scalar::{prepend_address, prepend_byte, prepend_number, prepend_signed};
 use crate::text::is_plain;
 
-/// The size of the array in bytes.
+/// The number of bytes for the members.
 const SIZE: usize = 1024;
+
+/// The size of the array in bytes: after the members is the end of an object and of its line.
+const ARRAY_SIZE: usize = SIZE + 2;
 
 /// The length in bytes of the longest text that is put before members.
 const MAX_TEXT_SIZE: usize = 256;
 
-/// Members of an object, each after a comma, in an array of 1,024 bytes.
+/// Members of an object, each after a comma, with 1,024 bytes for them in an array, or the line of the object of former members.
 #[derive(Drop)]
 pub struct ShortMembers {
-    bytes: [u8; SIZE],
+    bytes: [u8; ARRAY_SIZE],
     start: usize,
+    // where the line of former members starts
+    line_start: usize,
     ghost in_range: { start ≤ 1024 },
-    ghost valid: { ∥ AreMembers (drop start bytes) ∥₁ },
+    ghost line_in_range: { line_start ≤ 1024 },
+    ghost end: { drop 1024 bytes ≡ 125 ∷ 10 ∷ [] },
+    ghost valid: { ∥ AreMembers (take (1024 - start) (drop start bytes)) ∥₁ },
 }
 
 /// Writes a text before index `end`, and returns the index of its first byte.
@@ -49,16 +56,20 @@ fn prepend_plain_string(buf: &mut [u8], end: usize, text: &[u8]) -> usize
 }
 
 impl ShortMembers {
-    ghost use Rattle.json_writer.specs.ShortTexts.{short_text, free_size};
+    ghost use Rattle.json_writer.specs.ShortTexts.{short_text, line_text, free_size};
 
     /// Creates an empty list of members.
     pub fn new() -> ShortMembers
         ensures text { short_text result ≡ [] }
         ensures free { free_size result ≡ 1024 }
     {
+        let mut bytes = [0; ARRAY_SIZE];
+        bytes[SIZE] = b'}';
+        bytes[SIZE + 1] = b'\n';
         ShortMembers {
-            bytes: [0; SIZE],
+            bytes,
             start: SIZE,
+            line_start: SIZE,
         }
     }
 
@@ -85,7 +96,29 @@ impl ShortMembers {
         ensures text { result.now ≡ short_text self.now }
         ensures valid { ∥ AreMembers result.now ∥₁ }
     {
-        &self.bytes[self.start..]
+        &self.bytes[self.start..SIZE]
+    }
+
+    /// Removes all members, and writes the line of their object in their place. There is at least one. The line is kept until the next
+    /// call that puts a member before the others.
+    #[inline(always)]
+    pub fn move_to_line(&mut self)
+        requires { short_text self.old ≢ [] }
+        ensures members { short_text self.new ≡ [] }
+        ensures line { line_text self.new ≡ object_text (short_text self.old) ++ (10 ∷ []) }
+        ensures valid { ∥ IsJson value (object_text (short_text self.old)) ∥₁ }
+    {
+        self.bytes[self.start] = b'{';
+        self.line_start = self.start;
+        self.start = SIZE;
+    }
+
+    /// The line of the members that were moved to it.
+    #[inline(always)]
+    pub fn line(&self) -> &[u8]
+        ensures { result.now ≡ line_text self.now }
+    {
+        &self.bytes[self.line_start..]
     }
 
     /// Puts a number before the members. A key has its comma, quotation marks and colon.

@@ -1,4 +1,3 @@
-use Rattle.std.proofs.Common.{◌≡◌, ◌∷◌, [], ap, ◌∙◌}
 use Rattle.json_writer.proofs.HexLemmas.{HEX_PAIRS_at}
 use Rattle.json_writer.proofs.scalar.byte_digits.Goals as goal
 

@@ -1,4 +1,4 @@
-use Rattle.std.proofs.Common.{◌≡◌, ℕ, ◌+◌, ◌-◌, ◌/◌, ◌%◌, ◌^◌, ◌<◌, ◌≤◌, ◌++◌, List, length, drop, false, arith, ap, sym, ◌∙◌, append_assoc, subst}
+use Rattle.std.proofs.Common.{◌≡◌, ◌-◌, ◌/◌, ◌%◌, ◌^◌, ◌<◌, ◌++◌, drop, false, arith, ap, sym, ◌∙◌, append_assoc, subst}
 use Rattle.std.specs.Fmt.{digits}
 use Rattle.json_writer.specs.Values.{byte_digits}
 use Rattle.json_writer.proofs.HexLemmas.{hex_pair, two_digits_fewer}

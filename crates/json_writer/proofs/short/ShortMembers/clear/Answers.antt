@@ -1,10 +1,8 @@
-use Rattle.std.proofs.Common.{arith}
-use Rattle.std.proofs.lemmas.List.{drop_all}
+use Rattle.std.proofs.Common.{refl, arith}
 use Rattle.json_writer.proofs.WritingLemmas.{members_none}
 use Rattle.json_writer.proofs.short.ShortMembers.clear.Goals as goal
 
 pub invariant_of-self : goal.invariant_of-self
-invariant_of-self c = record { in_range = omega arith; valid = members_none (drop_all 1024 c.args.self.now.bytes (omega arith)) }
-
-pub returns-clause-text : goal.returns-clause-text
-returns-clause-text c = drop_all 1024 c.args.self.now.bytes (omega arith)
+invariant_of-self c =
+    let old = c.args.self.now in
+    record { in_range = omega arith; line_in_range = old.line_in_range; end = old.end; valid = members_none refl }

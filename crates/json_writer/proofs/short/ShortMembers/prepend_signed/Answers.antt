@@ -1,14 +1,32 @@
 use Rattle.std.proofs.Common.{◌≡◌, ◌++◌, drop, arith, rules, ap, ◌∙◌}
 use Rattle.std.specs.Fmt.{signed_decimal}
 use Rattle.json_writer.proofs.JsonLemmas.{signed_value}
+use Rattle.json_writer.proofs.ShortLemmas.{member_before, end_after_member, short_key}
 use Rattle.json_writer.proofs.WritingLemmas.{members_before}
 use Rattle.json_writer.proofs.short.ShortMembers.prepend_signed.Goals as goal
 
+pub prepend_bytes-self-requires : goal.prepend_bytes-self-requires
+prepend_bytes-self-requires c = let short = short_key c.args.key.now c.requires.key in (omega arith, omega arith)
+
+pub returns-clause-free : goal.returns-clause-free
+returns-clause-free c = let short = short_key c.args.key.now c.requires.key in omega arith
+
 pub invariant_of-self : goal.invariant_of-self
 invariant_of-self c =
-    let old = drop c.args.self.now.start c.args.self.now.bytes in
-    let written : drop c.prepend_signed-end.result c.prepend_signed-end.new.buf ≡ signed_decimal c.args.n ++ old = search (rules, c.prepend_signed-end.ensures.written) in
+    let old = c.args.self.now in
+    let new = c.prepend_bytes-self.new.buf in
+    let number : drop c.prepend_signed-end.result c.prepend_signed-end.new.buf ≡ signed_decimal c.args.n ++ drop old.start old.bytes = search (rules, c.prepend_signed-end.ensures.written) in
+    let written = c.prepend_bytes-self.ensures.written ∙ ap (λ l. c.args.key.now ++ l) number in
     record {
       in_range = omega arith;
-      valid = members_before c.args.key.now (signed_decimal c.args.n) c.args.self.now.valid c.requires.key (signed_value c.args.n (omega (arith, c.ranges.n.sfits))) (c.prepend_bytes-self.ensures.written ∙ ap (λ l. c.args.key.now ++ l) written);
+      line_in_range = old.line_in_range;
+      end = end_after_member new old.bytes c.args.key.now (signed_decimal c.args.n) c.prepend_bytes-self.result old.start written (omega arith) (omega arith) (omega arith) (omega arith) ∙ old.end;
+      valid = members_before c.args.key.now (signed_decimal c.args.n) old.valid c.requires.key (signed_value c.args.n (omega (arith, c.ranges.n.sfits))) (member_before new old.bytes c.args.key.now (signed_decimal c.args.n) c.prepend_bytes-self.result old.start written (omega arith) (omega arith) (omega arith) (omega arith));
     }
+
+pub returns-clause-text : goal.returns-clause-text
+returns-clause-text c =
+    let old = c.args.self.now in
+    let number : drop c.prepend_signed-end.result c.prepend_signed-end.new.buf ≡ signed_decimal c.args.n ++ drop old.start old.bytes = search (rules, c.prepend_signed-end.ensures.written) in
+    let written = c.prepend_bytes-self.ensures.written ∙ ap (λ l. c.args.key.now ++ l) number in
+    member_before c.prepend_bytes-self.new.buf old.bytes c.args.key.now (signed_decimal c.args.n) c.prepend_bytes-self.result old.start written (omega arith) (omega arith) (omega arith) (omega arith)
