@@ -1,0 +1,15 @@
+use Rattle.std.proofs.Common.{rules, arith, ◌≡◌, true, sym, ◌∙◌, inl}
+use Rattle.std.proofs.lemmas.Result.{err_from_is_err_and}
+use Rattle.perfdata_base.specs.Raw.{bytes_of}
+use Rattle.perfdata_events.proofs.format.EventFormat.parse_sample.Goals as goal
+
+pub returns-in_err-sample-clause-error : goal.returns-in_err-sample-clause-error
+returns-in_err-sample-clause-error c =
+    let p = err_from_is_err_and c.from_residual.result c.from_residual.ensures.1 in
+    let known : c.has_known_fields.result ≡ true = search rules in
+    rw (p.1, p.2) (inl (omega arith, sym c.has_known_fields.ensures ∙ known, c.in_err-sample.ensures))
+
+pub returns-clause-value : goal.returns-clause-value
+returns-clause-value c =
+    let known : c.has_known_fields.result ≡ true = search rules in
+    record { is_type = omega arith; known = sym c.has_known_fields.ensures ∙ known; padding = bytes_of c.parse.new.fields; event_is = c.in_ok-sample.ensures }
