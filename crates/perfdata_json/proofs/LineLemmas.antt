@@ -1,5 +1,5 @@
 -- Lemmas on the line of a record.
-use Rattle.std.proofs.Common.{◌≡◌, refl, List, ℕ, [], ◌∷◌, ◌++◌, sym, ap, ◌∙◌, subst, append_assoc, Result, Ok, Err}
+use Rattle.std.proofs.Common.{◌≡◌, refl, List, ℕ, [], ◌∷◌, ◌++◌, sym, ap, ◌∙◌, subst, append_assoc, append-nil, Result, Ok, Err}
 use Rattle.std.specs.Prelude.{codes, OnOk}
 use Rattle.std.specs.Fmt.{decimal}
 use Rattle.json_writer.specs.Json.{IsJson, value}
@@ -31,3 +31,9 @@ line_of h s first others all text same all_is valid is =
 pub line_set : {T E : Type 0} (r : Result T E) (h : RecordView) (s : LineStart) (first others all text : List ℕ) → start_text s ≡ record_start h → all ≡ start_members s ++ first → OnOk r ∥ IsJson value (object_text (all ++ others)) ∥₁ → OnOk r (text ≡ object_text (all ++ others) ++ (10 ∷ [])) → OnOk r (IsLineOf h text)
 line_set (Ok x) h s first others all text same all_is valid is = line_of h s first others all text same all_is valid is
 line_set (Err e) h s first others all text same all_is valid is = tt
+
+-- the line of a record whose body has no members
+pub short_line : (h : RecordView) (s : LineStart) (first all text : List ℕ) → start_text s ≡ record_start h → all ≡ start_members s ++ first → ∥ IsJson value (object_text all) ∥₁ → text ≡ object_text all ++ (10 ∷ []) → IsLineOf h text
+short_line h s first all text same all_is valid is =
+    let whole : object_text (all ++ []) ≡ object_text all = ap object_text (append-nil all) in
+    line_of h s first [] all text same all_is (subst (λ l. ∥ IsJson value l ∥₁) (sym whole) valid) (is ∙ ap (λ l. l ++ (10 ∷ [])) (sym whole))

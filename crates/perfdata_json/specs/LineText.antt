@@ -1,13 +1,14 @@
 -- The text that a line contains.
-use Rattle.std.specs.Prelude.{List, ℕ, ◌++◌, codes}
+use Rattle.std.specs.Prelude.{List, ℕ, ◌++◌, codes, if◌then◌else◌}
 use Rattle.std.specs.Fmt.{decimal}
 use Rattle.json_writer.specs.Values.{optional_text}
+use Rattle.json_writer.specs.ShortTexts.{line_text}
 use Rattle.perfdata_json.specs.declared.line.JsonLine.{JsonLine}
 use Rattle.perfdata_json.specs.declared.line.LineStart.{LineStart}
 use Rattle.perfdata_json.specs.Line.{line_start}
 
 abbrev pub json_text : JsonLine → List ℕ
-json_text line = line.bytes.items
+json_text line = if line.is_short then line_text line.first else line.bytes.items
 
 -- the text of a line's first members, after the object's brace
 abbrev pub start_text : LineStart → List ℕ

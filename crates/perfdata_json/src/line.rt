@@ -30,10 +30,12 @@ struct LineStart {
 /// The line of a record as JSON, in a buffer for one line after another.
 #[derive(Drop)]
 pub struct JsonLine {
+    // the line if the body has members
     bytes: Vec<u8>,
-    // the members before those of the body
+    // the members before those of the body, or the line if the body has none
     first: ShortMembers,
     body: Body,
+    is_short: bool,
     alloc: Global,
 }
 
@@ -181,6 +183,7 @@ impl JsonLine {
             bytes: Vec::new(alloc),
             first: ShortMembers::new(),
             body: Body::new(alloc, byte_limit),
+            is_short: false,
             alloc,
         }
     }
@@ -197,6 +200,11 @@ impl JsonLine {
         self.body
             .set_record(self.alloc, file, record, &mut self.first)?;
         prepend_start(&mut self.first, line_start_of(place, record));
+        self.is_short = self.body.members.is_empty();
+        if self.is_short {
+            self.first.move_to_line();
+            return Ok(());
+        }
         set_line(&mut self.bytes, &self.first, &self.body.members)
     }
 
@@ -204,6 +212,9 @@ impl JsonLine {
     pub fn as_bytes(&self) -> &[u8]
         ensures { result.now ≡ json_text self.now }
     {
+        if self.is_short {
+            return self.first.line();
+        }
         self.bytes.as_slice()
     }
 }
