@@ -1,12 +1,9 @@
 -- The fields of an event before the sample_id fields.
-use Rattle.std.proofs.Common.{◌≡◌, ◌≢◌, ℕ, ◌≤◌, List, length, subst, inr, Result, Ok, Err}
-use Rattle.std.specs.Prelude.{IfOk, IfErr}
-use Rattle.std.specs.IoError.{error_kind}
-use Rattle.std.specs.declared.io.Error.{Error}
+use Rattle.std.proofs.Common.{◌≡◌, ℕ, ◌≤◌, List, length, subst}
 use Rattle.perfdata_base.specs.Raw.{bytes_of}
 use Rattle.perfdata_base.specs.declared.event.RawEventRecord.{RawEventRecord}
 use Rattle.perfdata_events.specs.EventFormat.{trailing_size, before_trailing}
-use Rattle.perfdata_events.specs.Event.{kind_of, IsEvent, EventFails, DecodesEvent, IsParsed, ParseFails}
+use Rattle.perfdata_events.specs.Event.{IsEvent, IsParsed}
 use Rattle.perfdata_events.specs.declared.format.EventFormat.{EventFormat}
 use Rattle.perfdata_events.specs.declared.event.EventRecord.{EventRecord}
 use Rattle.perfdata_events.specs.declared.event.EventRecord.TheVariants.{Mmap, Lost, Comm, Exit, Throttle, Unthrottle, Fork, Read, Mmap2, Aux, ItraceStart, LostSamples, ContextSwitch, Namespaces, Ksymbol, BpfEvent, Cgroup, TextPoke, AuxOutputHwId, Sample, Raw}
@@ -35,14 +32,3 @@ parsed_split format raw (BpfEvent v) enough fields same padding is = record { en
 parsed_split format raw (Cgroup v) enough fields same padding is = record { enough = enough; padding = padding; event_is = subst (λ (l : List ℕ). IsEvent format raw l (Cgroup v) padding) same is }
 parsed_split format raw (TextPoke v) enough fields same padding is = record { enough = enough; padding = padding; event_is = subst (λ (l : List ℕ). IsEvent format raw l (TextPoke v) padding) same is }
 parsed_split format raw (AuxOutputHwId v) enough fields same padding is = record { enough = enough; padding = padding; event_is = subst (λ (l : List ℕ). IsEvent format raw l (AuxOutputHwId v) padding) same is }
-
--- The same of the result of a parser.
-pub parsed_result : (format : EventFormat) (raw : RawEventRecord) (result : Result EventRecord Error) → trailing_size format ≤ length (bytes_of raw.body)
-    → (fields : List ℕ) → fields ≡ before_trailing format (bytes_of raw.body) → (padding : List ℕ) → DecodesEvent format raw fields result padding → IfOk result (λ event. IsParsed format raw event)
-parsed_result format raw (Ok event) enough fields same padding is = parsed_split format raw event enough fields same padding is
-parsed_result format raw (Err e) enough fields same padding is = tt
-
-pub failed_result : (format : EventFormat) (raw : RawEventRecord) (result : Result EventRecord Error) → 1 ≤ kind_of format raw → kind_of format raw ≤ 21 → kind_of format raw ≢ 9 → trailing_size format ≤ length (bytes_of raw.body)
-    → (fields : List ℕ) → fields ≡ before_trailing format (bytes_of raw.body) → (padding : List ℕ) → DecodesEvent format raw fields result padding → IfErr result (λ error. ParseFails format raw (error_kind error))
-failed_result format raw (Ok event) from to no_sample enough fields same padding is = tt
-failed_result format raw (Err e) from to no_sample enough fields same padding is = inr (from, to, no_sample, inr (enough, subst (λ (l : List ℕ). EventFails format raw l (error_kind e)) same is))

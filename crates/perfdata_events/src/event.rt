@@ -120,7 +120,7 @@ fn copy_of<'a>(raw: &RawEventRecord<'a>) -> RawEventRecord<'a>
     }
 }
 
-// The fields of the types are parsed in four functions that aren't inlined, because all locals of a function are set to zero when it
+// The fields of the types are parsed in three functions that aren't inlined, because all locals of a function are set to zero when it
 // is called.
 impl EventFormat {
     ghost use Rattle.perfdata_events.specs.Event.{DecodesEvent, IsParsed, ParseFails, has_known_fields};
@@ -289,21 +289,6 @@ impl EventFormat {
             && (!has_bits(self.sample_format, 1 << 11) || self.branch_sample_type < 1 << 20)
     }
 
-    // Parses a sample.
-    #[inline(never)]
-    fn parse_sample<'a>(&self, raw: &RawEventRecord<'a>) -> Result<EventRecord<'a>>
-        requires { raw.now.record_type.0 ≡ 9 }
-        ensures value { IfOk result (λ event. IsParsed self.now raw.now event) }
-        ensures error { IfErr result (λ error. ParseFails self.now raw.now (error_kind error)) }
-    {
-        if !self.has_known_fields() {
-            return Ok(EventRecord::Raw(copy_of(raw)));
-        }
-        let mut body = raw.body;
-        let sample = SampleRecord::parse(self, &mut body)?;
-        Ok(EventRecord::Sample(sample))
-    }
-
     /// Parses the body of a record by its type. Nothing is allocated; what has no fixed size is borrowed from the body.
     ///
     /// A record of a type that isn't parsed remains raw. So does a sample if its attribute selects a field whose offset
@@ -318,13 +303,19 @@ impl EventFormat {
     {
         let record_type = raw.record_type.0;
         if record_type == RecordType::SAMPLE.0 {
-            return self.parse_sample(raw);
+            if !self.has_known_fields() {
+                return Ok(EventRecord::Raw(copy_of(raw)));
+            }
+            let mut body = raw.body;
+            let sample = SampleRecord::parse(self, &mut body)?;
+            return Ok(EventRecord::Sample(sample));
         }
         if record_type == 0 || record_type > LAST_TYPE {
             return Ok(EventRecord::Raw(copy_of(raw)));
         }
         let (fields, _) = self.split_trailing(raw.body)?;
         let mut rest = fields;
-        self.parse_fields(raw, &mut rest)
+        let event = self.parse_fields(raw, &mut rest)?;
+        Ok(event)
     }
 }
