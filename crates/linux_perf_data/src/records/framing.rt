@@ -151,6 +151,11 @@ fn append_body<R: Source>(source: &mut R, body: &mut Vec<u8>, count: usize) -> R
     ensures pauses { PausesOnlyIfTruncated (R.state source.old) result (R.state source.new) }
     ensures same_loan { R.loan source.new ≡ R.loan source.old }
 {
+    match source.append_buffered(body, count) {
+        Ok(true) => return Ok(true),
+        Ok(false) => {}
+        Err(_) => return Err(Error::Memory),
+    }
     match append_up_to(source, body, count) {
         Ok(appended) => {
             if appended < count {

@@ -34,6 +34,9 @@ pub(crate) fn read_header_bytes<R: Source>(source: &mut R) -> Result<Option<Head
     ensures same_loan { R.loan source.new ≡ R.loan source.old }
 {
     let mut bytes = [0u8; PerfEventHeader::STRUCT_SIZE];
+    if source.read_buffered(&mut bytes) {
+        return Ok(Some(bytes));
+    }
     let read_count = fill(source, &mut bytes)?;
     if read_count < PerfEventHeader::STRUCT_SIZE {
         return Ok(None);
