@@ -1,5 +1,5 @@
 -- Entries that are written one by one over the start of an array, and the bodies of their records.
-use Rattle.std.proofs.Common.{◌≡◌, ℕ, suc, ◌+◌, ◌<◌, ◌≤◌, ◌++◌, List, [], ◌∷◌, length, length-append, refl, sym, ap, ◌∙◌, subst, arith}
+use Rattle.std.proofs.Common.{◌≡◌, ℕ, suc, ◌+◌, ◌<◌, ◌++◌, List, [], ◌∷◌, length, length-append, refl, sym, ap, ◌∙◌, subst, arith}
 use Rattle.std.specs.Prelude.{slice_set}
 use Rattle.perfdata_records.specs.declared.record.PerfFileRecord.{PerfFileRecord}
 use Rattle.perfdata_records.specs.declared.record.PerfFileRecord.TheVariants.{EventRecord, UserRecord}
@@ -7,10 +7,11 @@ use Rattle.linux_perf_data.specs.declared.in_memory.InMemoryRecords.{InMemoryRec
 use Rattle.linux_perf_data.specs.declared.records.iter.RecordPlace.{RecordPlace}
 use Rattle.linux_perf_data.specs.declared.in_memory.entries.RecordEntry.{RecordEntry}
 use Rattle.linux_perf_data.specs.declared.perf_file.PerfFile.{PerfFile}
-use Rattle.linux_perf_data.specs.InMemoryReading.{IsSliceOfInput, KeepsInput, ReturnsRecordsInMemory, first_record_offset_of, input_of}
+use Rattle.linux_perf_data.specs.InMemoryReading.{IsSliceOfInput, first_record_offset_of, input_of}
 use Rattle.linux_perf_data.specs.Layout.{RecordView}
 use Rattle.linux_perf_data.specs.RecordEntries.{HasBodiesAt, HasBytesAt, TakesEntry, record_entries_at, record_entry_at, with_prefix}
 use Rattle.linux_perf_data.specs.RecordViews.{record_view_of}
+use Rattle.linux_perf_data.specs.WalkEntries.{EntriesSoFar}
 use Rattle.linux_perf_data.proofs.InMemoryReadings.{one_call_more}
 use Rattle.std.proofs.lemmas.List.{length-map, map_push}
 
@@ -35,16 +36,6 @@ body-returned input p (UserRecord r) slice = sym slice.bytes
 pub has_bodies-snoc : (bytes : List ℕ) (base : ℕ) (records : List RecordView) (h : RecordView) → HasBodiesAt bytes base records → HasBytesAt bytes (base + h.offset + 8) h.body → HasBodiesAt bytes base (records ++ h ∷ [])
 has_bodies-snoc bytes base [] h stand one = (one, tt)
 has_bodies-snoc bytes base (k ∷ ks) h (first, more) one = (first, has_bodies-snoc bytes base ks h more one)
-
--- The next records were returned and their entries written, as `ReadsEntries` says, wherever the calls stop.
-pub record EntriesSoFar (start : InMemoryRecords) (array : List RecordEntry) (now : InMemoryRecords) (entries : List RecordEntry) (count : ℕ) : Type 0 where
-  pub records : List RecordView
-  pub count_is : count ≡ length records
-  pub fits : length records ≤ length array
-  pub written : entries ≡ with_prefix (record_entries_at (first_record_offset_of start) records) array
-  pub returned : (file : PerfFile) → ReturnsRecordsInMemory start file records now file
-  pub body_bytes_at : HasBodiesAt (input_of start) (first_record_offset_of start) records
-  pub same_input : KeepsInput start now
 
 -- one more entry
 pub one_entry_more : (start now new : InMemoryRecords) (file : PerfFile) (array entries : List RecordEntry) (count : ℕ) (entry : RecordEntry)

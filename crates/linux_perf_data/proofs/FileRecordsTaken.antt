@@ -17,14 +17,13 @@ use Rattle.linux_perf_data.specs.declared.records.iter.Stage.TheVariants.{Runnin
 use Rattle.linux_perf_data.specs.AttributeLookup.{KeepsAttributes, Represents}
 use Rattle.linux_perf_data.specs.BufferedRecord.{WholeRecordLength}
 use Rattle.linux_perf_data.specs.Input.{HasNoPendingHeader, section_size_in}
-use Rattle.linux_perf_data.specs.InMemory.{MemoryIter, RecordTaken, memory_state, with_buffer}
+use Rattle.linux_perf_data.specs.InMemory.{IsInPlace, MemoryIter, RecordTaken, memory_state, with_buffer}
 use Rattle.linux_perf_data.specs.Iter.{iter_source_state, section_size_of}
 use Rattle.linux_perf_data.specs.IterSteps.{RawRecordRead, RecordProcessed, SameButLookup}
 use Rattle.linux_perf_data.specs.LateMetadata.{UpdatesPerfFile}
 use Rattle.linux_perf_data.specs.Layout.{MayStartAt, attributes_in_record}
 use Rattle.linux_perf_data.specs.PerfFile.{attributes_of_file}
 use Rattle.linux_perf_data.specs.RecordViews.{IdentifiesRecord}
-use Rattle.linux_perf_data.specs.FileWalk.{MovesInPlace}
 use Rattle.linux_perf_data.proofs.InMemoryCalls.{buffer_of}
 use Rattle.linux_perf_data.proofs.InMemoryPlaces.{rest_in_place, section_view}
 use Rattle.linux_perf_data.proofs.IterCalls.{Idles, markers_none, returns_record}
@@ -87,6 +86,14 @@ file_record_consumed old new size file header found bytes n running section more
     let same : SameButLookup memory_state piece final = record { source = refl; same_endian = refl; body = refl; offset = refl; round = refl; input = refl } in
     let processed : RecordProcessed memory_state piece file old.offset old.round header found final file = file_record_processed piece final size file old.offset old.round header found (input ∙ section) same refl identifies keeps in
     record { buffer = buffer; returns = returns_record memory_state old now piece final file file header found idles read other starts processed }
+
+-- the record with an equal body
+pub taken_with_body : (old new : MemoryIter) (file : PerfFile) (found : RecordInfo) (body same_body : List ℕ) → same_body ≡ body → RecordTaken old file found body new file → RecordTaken old file found same_body new file
+taken_with_body old new file found body same_body same taken = subst (λ b. RecordTaken old file found b new file) (sym same) taken
+
+-- if the remaining bytes of the old iterator are those of an input from its offset on, so are those of the new one
+abbrev pub MovesInPlace : MemoryIter → MemoryIter → Type 0
+MovesInPlace old new = (input : List ℕ) (first_record_offset : ℕ) → IsInPlace old input first_record_offset → IsInPlace new input first_record_offset
 
 -- the iterator after a whole record of a file is in place
 pub moved_in_place : (old new : MemoryIter) (size : ℕ) (bytes : List ℕ) (n : ℕ) → old.input ≡ Section size → new.input ≡ old.input → old.stage ≡ Running → Consumed (memory_state old.source) (take n bytes) (memory_state new.source) → n ≤ length bytes → new.offset ≡ old.offset + n → MovesInPlace old new

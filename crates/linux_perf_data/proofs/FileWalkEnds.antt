@@ -1,5 +1,5 @@
 -- What follows where a walk finds no record.
-use Rattle.std.proofs.Common.{◌≡◌, ◌^◌, ◌<◌, List, ℕ, ◌+◌, ◌≤◌, take, drop, length, sym, ap, ◌∙◌, subst, arith, None, Some}
+use Rattle.std.proofs.Common.{◌≡◌, ◌^◌, ◌<◌, ℕ, ◌+◌, ◌≤◌, take, drop, length, sym, ap, ◌∙◌, subst, arith, None, Some}
 use Rattle.std.proofs.lemmas.Option.{same_Some}
 use Rattle.std.specs.Io.Cursor.{cursor_inner, cursor_position}
 use Rattle.std.proofs.lemmas.List.{length-take-le, take-append-drop}

@@ -57,3 +57,5 @@ pub mod InMemoryReadings
 pub mod WholeRecordsTaken
 pub mod FilePositions
 pub mod EntryLemmas
+pub mod WalksAhead
+pub mod WalkedEntries

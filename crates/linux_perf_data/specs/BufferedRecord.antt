@@ -1,5 +1,5 @@
 -- What buffered bytes show about the remaining records.
-use Rattle.std.specs.Prelude.{◌≡◌, ◌≢◌, ◌⊎◌, ◌↔◌, ℕ, ◌+◌, ◌<◌, ◌≤◌, Bool, IsTrue, List, ◌++◌, length, take, Option, None, Some}
+use Rattle.std.specs.Prelude.{◌≡◌, ◌^◌, ◌≢◌, ◌⊎◌, ◌↔◌, ℕ, ◌+◌, ◌<◌, ◌≤◌, Bool, IsTrue, List, ◌++◌, length, take, Option, None, Some}
 use Rattle.std.specs.List.{concat}
 use Rattle.perfdata_base.specs.Source.{State}
 use Rattle.perfdata_base.specs.Buffered.{IsPrefixOfRemaining}
@@ -30,7 +30,7 @@ PeeksWholeRecord order bytes None = WholeRecordLength order bytes None
 
 -- The header of the whole record of the kernel at the start of `bytes`, and its size.
 abbrev pub PeeksKernelRecord : Endianness → List ℕ → PerfEventHeader × ℕ → Type 0
-PeeksKernelRecord order bytes r = (r.0.type_ < 64) × PeeksWholeRecord order bytes (Some r)
+PeeksKernelRecord order bytes r = (r.0.type_ < 64) × (r.1 < 2 ^ 16) × PeeksWholeRecord order bytes (Some r)
 
 -- From `offset` on, the bytes are markers and then a whole record that isn't a marker and starts where a record may. Any bytes
 -- may follow.

@@ -1,9 +1,11 @@
 -- The state of an iterator over a file in memory, as a walk over its records has it.
-use Rattle.std.specs.Prelude.{◌≡◌, ◌≢◌, ℕ, ◌+◌, ◌^◌, ◌<◌, List, [], length, drop, Option, None, Some, IfSome}
+use Rattle.std.specs.Prelude.{◌≡◌, ◌≢◌, ℕ, ◌+◌, ◌-◌, ◌^◌, ◌<◌, ◌≤◌, List, [], length, drop, Option, None, Some, IfSome}
 use Rattle.std.specs.Io.Cursor.{cursor_inner, cursor_position}
 use Rattle.perfdata_base.specs.Endian.{number_in}
 use Rattle.perfdata_base.specs.Event.{record_header_of}
 use Rattle.perfdata_sections.specs.RecordTypes.{finished_round}
+use Rattle.linux_perf_data.specs.declared.attributes.lookup.AttributeLookup.{AttributeLookup}
+use Rattle.linux_perf_data.specs.declared.in_memory.InMemoryRecords.{InMemoryRecords}
 use Rattle.linux_perf_data.specs.declared.in_memory.file_walk.FileWalk.{FileWalk}
 use Rattle.linux_perf_data.specs.declared.in_memory.file_walk.WholeRecord.{WholeRecord}
 use Rattle.linux_perf_data.specs.declared.records.input.Input.TheVariants.{Section}
@@ -49,6 +51,44 @@ abbrev pub PeeksNextRecord : FileWalk → Option WholeRecord → Type 0
 PeeksNextRecord walk (Some next) = IsNextRecord walk next
 PeeksNextRecord walk None = StartsWithMarkerOnly walk
 
--- If the remaining bytes of the old iterator are those of an input from its offset on, so are those of the new one.
-abbrev pub MovesInPlace : MemoryIter → MemoryIter → Type 0
-MovesInPlace old new = (input : List ℕ) (first_record_offset : ℕ) → IsInPlace old input first_record_offset → IsInPlace new input first_record_offset
+-- The walk after the next record.
+pub record MovesPast (old : FileWalk) (next : WholeRecord) (new : FileWalk) : Type 0 where
+  pub same_endian : new.endian ≡ old.endian
+  pub same_section_size : new.section_size ≡ old.section_size
+  pub same_round : new.round ≡ old.round
+  pub offset_is : new.offset ≡ next.end
+  pub remaining_is : new.remaining.now ≡ drop next.length old.remaining.now
+  pub same_parse_info : new.only_parse_info ≡ old.only_parse_info
+
+-- ---- a walk that is ahead of its iterator
+
+-- The remaining bytes of an iterator.
+abbrev pub remaining_in : MemoryIter → List ℕ
+remaining_in it = drop (cursor_position it.source) (cursor_inner it.source).now
+
+-- The position that a walk from this iterator has reached.
+abbrev pub position_of_walk : MemoryIter → FileWalk → ℕ
+position_of_walk it walk = cursor_position it.source + (length (remaining_in it) - length walk.remaining.now)
+
+-- The iterator with another state of the lookup.
+abbrev pub with_lookup : MemoryIter → AttributeLookup → MemoryIter
+with_lookup it lookup = record it { attribute_lookup = lookup }
+
+-- The iterator with another position and another offset.
+abbrev pub iter_at : (it : MemoryIter) (position offset : ℕ) → it.round ≤ offset → MemoryIter
+iter_at it position offset rounds_fit = record it { source = record it.source { pos = position }; offset = offset; rounds_fit = rounds_fit }
+
+-- The iterator was moved to the position of the walk.
+abbrev pub MovesIter : MemoryIter → FileWalk → MemoryIter → Type 0
+MovesIter old walk new = (rounds_fit : old.round ≤ walk.offset) → new ≡ iter_at old (position_of_walk old walk) walk.offset rounds_fit
+
+-- The walk has taken the records that follow. The iterator of these records is where the walk started.
+pub record IsWalkAhead (records : InMemoryRecords) (walk : FileWalk) : Type 0 where
+  pub rounds_fit : records.iter.round ≤ walk.offset
+  pub in_place : IsInPlace (iter_at records.iter (position_of_walk records.iter walk) walk.offset rounds_fit) records.input.now records.first_record_offset
+  pub within : length walk.remaining.now ≤ length (remaining_in records.iter)
+  pub is_walk : IsWalkOf (iter_at records.iter (position_of_walk records.iter walk) walk.offset rounds_fit) walk
+
+-- The records that follow the walk.
+abbrev pub records_at_walk : (records : InMemoryRecords) (walk : FileWalk) → IsWalkAhead records walk → InMemoryRecords
+records_at_walk records walk ahead = record records { iter = iter_at records.iter (position_of_walk records.iter walk) walk.offset ahead.rounds_fit; in_place = ahead.in_place }

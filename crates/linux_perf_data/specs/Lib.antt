@@ -42,4 +42,5 @@ pub mod InMemoryReading
 pub mod InMemoryWholeRecords
 pub mod FileWalk
 pub mod RecordEntries
+pub mod WalkEntries
 pub mod InMemoryPositions

@@ -1,7 +1,7 @@
 //! Records in memory as entries of an array: plain numbers that outlive the reader.
-ghost use Rattle.std.specs.Prelude.{◌≡◌, ◌+◌, ◌<◌, ◌^◌, length};
+ghost use Rattle.std.specs.Prelude.{◌≡◌, ◌+◌, ◌<◌, ◌≤◌, ◌^◌, length};
 ghost use Rattle.linux_perf_data.specs.FileWalk.{IsWalkOf};
-ghost use Rattle.linux_perf_data.specs.InMemoryReading.{input_of};
+ghost use Rattle.linux_perf_data.specs.InMemoryReading.{first_record_offset_of, input_of};
 ghost use Rattle.linux_perf_data.specs.RecordEntries.{record_entry_at};
 ghost use Rattle.linux_perf_data.specs.RecordViews.{record_view_of};
 
@@ -59,7 +59,8 @@ impl RecordEntry {
             Some(timestamp) => (timestamp, 1),
             None => (0, 0),
         };
-        let body_offset = first_record_offset + place.offset + PerfEventHeader::STRUCT_SIZE as u64;
+        let first_body_offset = first_record_offset + PerfEventHeader::STRUCT_SIZE as u64;
+        let body_offset = first_body_offset + place.offset;
         match file_record {
             PerfFileRecord::EventRecord { attr_index, event } => RecordEntry {
                 offset: place.offset,
@@ -90,49 +91,48 @@ impl RecordEntry {
 }
 
 impl<'a> InMemoryRecords<'a> {
-    ghost use Rattle.linux_perf_data.specs.declared.perf_file.PerfFile.{PerfFile};
-    ghost use Rattle.linux_perf_data.specs.FileWalk.{IsNextRecord};
-    ghost use Rattle.linux_perf_data.specs.InMemoryReading.{KeepsInput, ReturnsRecordInMemory};
-    ghost use Rattle.linux_perf_data.specs.RecordEntries.{ReadsEntries, TakesEntry};
+    ghost use Rattle.linux_perf_data.specs.FileWalk.{IsNextRecord, IsWalkAhead};
+    ghost use Rattle.linux_perf_data.specs.RecordEntries.{ReadsEntries};
+    ghost use Rattle.linux_perf_data.specs.WalkEntries.{ReadsEntriesOfWalk, TakesEntryOfWalk, TakesRecordOfWalk, WritesMoreEntries};
 
-    // Takes the next record of a walk over the records.
+    // Takes the next record of a walk from these records, which stay where the walk started.
     #[inline(always)]
     fn take_whole_record(
         &mut self,
         walk: &mut FileWalk<'a>,
         next: WholeRecord,
     ) -> (RecordPlace, PerfFileRecord<'a>)
-        requires walk { IsWalkOf self.old.iter walk.old }
+        requires ahead { IsWalkAhead self.old walk.old }
         requires next { IsNextRecord walk.old next }
-        ensures returns { (file : PerfFile) → ReturnsRecordInMemory self.old file result.0 result.1 self.new file }
-        ensures walk { IsWalkOf self.new.iter walk.new }
-        ensures same_input { KeepsInput self.old self.new }
+        ensures taken { TakesRecordOfWalk self.old walk.old result.0 result.1 self.new walk.new }
         ensures input_len_fits { length (input_of self.old) < 2 ^ 63 }
     {
         // For the prover.
         let _size = self.input.len();
-        let (found, body) = walk.take(&mut self.iter, next);
+        let (found, body) = walk.take_ahead(&mut self.iter, next);
         let endian = self.iter.endian;
         let parse_info = *self.iter.attribute_lookup.parse_info_of(found.attr_index());
         let record = found.into_record(parse_info, endian, RawData::Single(body));
         (found.place, record)
     }
 
-    // Takes the next record of a walk over the records, and returns its entry.
+    // Takes the next record of a walk from these records, and returns its entry. `perf_file` is for the prover: it shows that there
+    // is one.
     #[inline(always)]
     fn take_entry(
         &mut self,
         walk: &mut FileWalk<'a>,
         next: WholeRecord,
+        first_record_offset: u64,
         perf_file: &PerfFile,
     ) -> RecordEntry
-        requires walk { IsWalkOf self.old.iter walk.old }
+        requires ahead { IsWalkAhead self.old walk.old }
+        requires first { first_record_offset ≡ first_record_offset_of self.old }
         requires next { IsNextRecord walk.old next }
-        ensures taken { TakesEntry self.old result self.new }
-        ensures walk { IsWalkOf self.new.iter walk.new }
+        ensures { TakesEntryOfWalk self.old walk.old result self.new walk.new }
     {
         let (place, record) = self.take_whole_record(walk, next);
-        RecordEntry::new(self.first_record_offset, place, &record)
+        RecordEntry::new(first_record_offset, place, &record)
     }
 
     /// Writes the entries of the next records of a file, and returns their number.
@@ -189,7 +189,7 @@ impl<'a> InMemoryRecords<'a> {
         }
     }
 
-    // Writes the entries of the next records of a walk.
+    // Writes the entries of the next records of a walk. Then moves the records to its position.
     #[inline(always)]
     fn read_entries_of(
         &mut self,
@@ -200,21 +200,66 @@ impl<'a> InMemoryRecords<'a> {
         requires { IsWalkOf self.old.iter walk }
         ensures { ReadsEntries self.old entries.old result self.new entries.new }
     {
+        let count = self.walk_entries(&mut walk, perf_file, entries);
+        walk.move_iter(&mut self.iter);
+        count
+    }
+
+    // Writes the entries of the next records of a walk.
+    #[inline(always)]
+    fn walk_entries(
+        &mut self,
+        walk: &mut FileWalk<'a>,
+        perf_file: &PerfFile,
+        entries: &mut [RecordEntry],
+    ) -> usize
+        requires { IsWalkOf self.old.iter walk.old }
+        ensures { ReadsEntriesOfWalk self.old entries.old result self.new walk.new entries.new }
+    {
+        let first = self.first_record_offset;
         let mut count = 0;
         'records: while count < entries.len() {
-            // Most records are the kernel's. For these, the compiler leaves out the tests that others need.
-            if let Some(next) = walk.peek_kernel() {
-                entries[count] = self.take_entry(&mut walk, next, perf_file);
-                count += 1;
-                continue;
+            count = self.walk_kernel_entries(walk, first, perf_file, entries, count);
+            if count >= entries.len() {
+                break;
             }
             match walk.peek() {
                 Some(next) => {
-                    entries[count] = self.take_entry(&mut walk, next, perf_file);
+                    entries[count] = self.take_entry(walk, next, first, perf_file);
                     count += 1;
                 }
-                None => break,
+                None => return count,
             }
+        }
+        count
+    }
+
+    // Writes the entries of the kernel's records that follow, from index `count` on. Returns the index after them. Most records are the
+    // kernel's: in a loop of their own the compiler leaves out the tests that others need. It stores nothing but entries, since the
+    // records stay where the walk started.
+    #[inline(always)]
+    fn walk_kernel_entries(
+        &mut self,
+        walk: &mut FileWalk<'a>,
+        first_record_offset: u64,
+        perf_file: &PerfFile,
+        entries: &mut [RecordEntry],
+        count: usize,
+    ) -> usize
+        requires ahead { IsWalkAhead self.old walk.old }
+        requires first { first_record_offset ≡ first_record_offset_of self.old }
+        ensures more { WritesMoreEntries self.old walk.old entries.old count self.new walk.new entries.new result }
+        ensures from_count { count ≤ result }
+        ensures same_length { length entries.new ≡ length entries.old }
+    {
+        let mut count = count;
+        'records: while count < entries.len() {
+            let next = match walk.peek_kernel() {
+                Some(next) => next,
+                None => break,
+            };
+            entries[count] = self.take_entry(walk, next, first_record_offset, perf_file);
+            count += 1;
         }
         count
     }

@@ -1,9 +1,13 @@
 //! A walk over the whole records of a file in memory. It has what it reads for each record in values of its own, which stay in
 //! registers.
-ghost use Rattle.std.specs.Prelude.{◌≡◌, IfSome, Some};
+ghost use Rattle.std.specs.Prelude.{◌≡◌, ◌≤◌, ◌<◌, ◌^◌, IfSome, Some, length};
+ghost use Rattle.std.specs.List.{slice_range};
+ghost use Rattle.linux_perf_data.specs.AttributeLookup.{HasOnly, KeepsAttributes};
 ghost use Rattle.linux_perf_data.specs.InMemory.{TakesFileRecord};
-ghost use Rattle.linux_perf_data.specs.FileWalk.{IsNextRecord, IsWalkOf, MovesInPlace, PeeksNextRecord, StartsWalk};
+ghost use Rattle.linux_perf_data.specs.FileWalk.{IsNextRecord, IsWalkOf, MovesIter, MovesPast, PeeksNextRecord, StartsWalk, remaining_in, with_lookup};
+ghost use Rattle.linux_perf_data.specs.RecordViews.{IdentifiesRecord};
 
+use crate::attributes::lookup::AttributeLookup;
 use crate::in_memory::framing::remaining;
 use crate::records::framing::{peek_kernel_record, peek_record};
 use crate::records::input::Input;
@@ -144,20 +148,21 @@ impl<'a> FileWalk<'a> {
         }
     }
 
-    // The next record, if the remaining bytes start with a whole one of the kernel.
+    // The next record, if the remaining bytes start with a whole one of the kernel. (Or `None`: then `peek` decides.)
     #[inline(always)]
     pub(crate) fn peek_kernel(&self) -> Option<WholeRecord>
         ensures { IfSome result (IsNextRecord self.now) }
     {
-        if self.offset >= self.section_size {
+        // A record that starts below ends below 2^64, without a test.
+        let limit = self.section_size.min(u64::MAX - u16::MAX as u64);
+        if self.offset >= limit {
             return None;
         }
         let (header, length) = peek_kernel_record(self.endian, self.remaining)?;
-        let end = self.offset.checked_add(length as u64)?;
         Some(WholeRecord {
             header,
             length,
-            end,
+            end: self.offset + length as u64,
         })
     }
 
@@ -185,25 +190,71 @@ impl<'a> FileWalk<'a> {
     #[inline(always)]
     pub(crate) fn take(
         &mut self,
-        iter: &mut PerfRecordIter<Cursor<&'a [u8]>>,
+        lookup: &mut AttributeLookup,
         next: WholeRecord,
     ) -> (RecordInfo, &'a [u8])
-        requires walk { IsWalkOf iter.old self.old }
         requires next { IsNextRecord self.old next }
-        ensures taken { TakesFileRecord iter.old (Some result) iter.new }
-        ensures in_place { MovesInPlace iter.old iter.new }
-        ensures walk { IsWalkOf iter.new self.new }
+        requires only { IfSome self.old.only_parse_info (HasOnly lookup.old) }
+        ensures walk { MovesPast self.old next self.new }
+        ensures body { result.1.now ≡ slice_range self.old.remaining.now 8 next.length }
+        ensures identifies { IdentifiesRecord lookup.old self.old.offset self.old.round next.header result.1.now result.0 lookup.new }
+        ensures keeps_attributes { KeepsAttributes lookup.old lookup.new }
+        ensures keeps_only { IfSome self.old.only_parse_info (HasOnly lookup.new) }
     {
         let (offset, bytes) = (self.offset, self.remaining);
-        let position = iter.source.position();
-        iter.source.set_position(position + next.length as u64);
-        iter.offset = next.end;
         self.offset = next.end;
         self.remaining = &bytes[next.length..];
         let body = &bytes[PerfEventHeader::STRUCT_SIZE..next.length];
-        let lookup = &mut iter.attribute_lookup;
         let only = &self.only_parse_info;
         let found = RecordInfo::identify_with(only, lookup, body, offset, self.round, next.header);
         (found, body)
+    }
+
+    // Takes the next record, with its body. Of the iterator, nothing changes but its lookup.
+    #[inline(always)]
+    pub(crate) fn take_ahead(
+        &mut self,
+        iter: &mut PerfRecordIter<Cursor<&'a [u8]>>,
+        next: WholeRecord,
+    ) -> (RecordInfo, &'a [u8])
+        requires next { IsNextRecord self.old next }
+        requires only { IfSome self.old.only_parse_info (HasOnly iter.old.attribute_lookup) }
+        ensures same_but_lookup { iter.new ≡ with_lookup iter.old iter.new.attribute_lookup }
+        ensures walk { MovesPast self.old next self.new }
+        ensures body { result.1.now ≡ slice_range self.old.remaining.now 8 next.length }
+        ensures identifies { IdentifiesRecord iter.old.attribute_lookup self.old.offset self.old.round next.header result.1.now result.0 iter.new.attribute_lookup }
+        ensures keeps_attributes { KeepsAttributes iter.old.attribute_lookup iter.new.attribute_lookup }
+        ensures keeps_only { IfSome self.old.only_parse_info (HasOnly iter.new.attribute_lookup) }
+    {
+        self.take(&mut iter.attribute_lookup, next)
+    }
+
+    // Takes the next record of the iterator, with its body.
+    #[inline(always)]
+    pub(crate) fn take_from(
+        mut self,
+        iter: &mut PerfRecordIter<Cursor<&'a [u8]>>,
+        next: WholeRecord,
+    ) -> (RecordInfo, &'a [u8])
+        requires walk { IsWalkOf iter.old self }
+        requires next { IsNextRecord self next }
+        ensures { TakesFileRecord iter.old (Some result) iter.new }
+    {
+        let position = iter.source.position();
+        iter.source.set_position(position + next.length as u64);
+        iter.offset = next.end;
+        self.take(&mut iter.attribute_lookup, next)
+    }
+
+    // Moves the iterator to the position of the walk, which is ahead of it.
+    pub(crate) fn move_iter(self, iter: &mut PerfRecordIter<Cursor<&'a [u8]>>)
+        requires rounds_fit { iter.old.round ≤ self.offset }
+        requires remaining { length self.remaining.now ≤ length (remaining_in iter.old) }
+        ensures { MovesIter iter.old self.entry iter.new }
+    {
+        let walked = remaining(&iter.source).len() - self.remaining.len();
+        let position = iter.source.position();
+        iter.source.set_position(position + walked as u64);
+        iter.offset = self.offset;
     }
 }

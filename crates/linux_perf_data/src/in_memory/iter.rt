@@ -112,9 +112,9 @@ fn take_file_record<'a>(
 ) -> Option<(RecordInfo, &'a [u8])>
     ensures { TakesFileRecord iter.old result iter.new }
 {
-    let mut walk = FileWalk::of(iter)?;
+    let walk = FileWalk::of(iter)?;
     let next = walk.peek()?;
-    Some(walk.take(iter, next))
+    Some(walk.take_from(iter, next))
 }
 
 // Takes the next record of a file or a pipe, with its body, after the markers before it.

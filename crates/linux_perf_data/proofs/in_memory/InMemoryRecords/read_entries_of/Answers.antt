@@ -1,22 +1,18 @@
-use Rattle.std.proofs.Common.{arith, [], length, refl, ap, subst}
-use Rattle.linux_perf_data.specs.FileWalk.{PeeksNextRecord}
-use Rattle.linux_perf_data.specs.InMemoryReading.{first_record_offset_of}
-use Rattle.linux_perf_data.specs.RecordEntries.{record_entries_at}
-use Rattle.linux_perf_data.proofs.EntryLemmas.{length-with_prefix, one_entry_more}
-use Rattle.linux_perf_data.proofs.FileWalkEnds.{marker_at_most}
+use Rattle.std.proofs.Common.{sym, subst}
+use Rattle.linux_perf_data.specs.InMemory.{IsInPlace}
+use Rattle.linux_perf_data.specs.RecordEntries.{ReadsEntries}
+use Rattle.linux_perf_data.proofs.WalksAhead.{same_records}
 use Rattle.linux_perf_data.proofs.in_memory.InMemoryRecords.read_entries_of.Goals as goal
 
-pub records-init : goal.records-init
-records-init c = record { is_walk = c.requires; so_far = record { records = []; count_is = refl; fits = omega arith; written = refl; returned = λ file. (refl, refl); body_bytes_at = tt; same_input = record { input = refl; first_record_offset = refl } } }
+pub invariant_of-self : goal.invariant_of-self
+invariant_of-self c =
+    let ahead = c.walk_entries-count.ensures.ahead in
+    let records = c.walk_entries-count.new.self in
+    record { in_place = subst (λ i. IsInPlace i records.input.now records.first_record_offset) (sym (c.move_iter.ensures ahead.rounds_fit)) ahead.in_place }
 
-pub records-preserved-in-Some : goal.records-preserved-in-Some
-records-preserved-in-Some c = record {
-  is_walk = c.take_entry.ensures.walk;
-  so_far = one_entry_more c.args.self.now c.records.self c.take_entry.new.self c.args.perf_file.now c.args.entries.now c.records.entries c.records.count c.take_entry.result c.records.invariant.so_far c.take_entry.ensures.taken c.records-test.true;
-}
-
-pub records-preserved : goal.records-preserved
-records-preserved c = record {
-  is_walk = c.take_entry-in-Some-peek.ensures.walk;
-  so_far = one_entry_more c.args.self.now c.records.self c.take_entry-in-Some-peek.new.self c.args.perf_file.now c.args.entries.now c.records.entries c.records.count c.take_entry-in-Some-peek.result c.records.invariant.so_far c.take_entry-in-Some-peek.ensures.taken c.records-test.true;
-}
+pub returns : goal.returns
+returns c =
+    let ahead = c.walk_entries-count.ensures.ahead in
+    let records = c.walk_entries-count.new.self in
+    let same = c.move_iter.ensures ahead.rounds_fit in
+    same_records (λ r. ReadsEntries c.args.self.now c.args.entries.now c.walk_entries-count.result r c.walk_entries-count.new.entries) records _ c.move_iter.new.iter (sym same) ahead.in_place _ c.walk_entries-count.ensures.reads

@@ -1,9 +1,7 @@
-use Rattle.std.proofs.Common.{rules, arith, ◌≡◌, ◌≢◌, ◌+◌, ◌<◌, ◌≤◌, length, inl, inr, sym, ap, ◌∙◌, subst}
-use Rattle.std.proofs.lemmas.List.{take_rest}
-use Rattle.perfdata_base.specs.Endian.{number_in}
-use Rattle.linux_perf_data.specs.Layout.{IsCompressed, record_type_of, record_size_of, aux_size_of}
+use Rattle.std.proofs.Common.{rules, arith, ◌≡◌, ◌≢◌, ◌^◌, ◌<◌, ◌≤◌, length, inl, inr, sym, ap, ◌∙◌, subst}
+use Rattle.linux_perf_data.specs.Layout.{IsCompressed, record_type_of, record_size_of}
 use Rattle.linux_perf_data.proofs.BufferedRecords.{whole_first_part}
-use Rattle.linux_perf_data.proofs.RecordHeaders.{total_size_plain, total_size_auxtrace}
+use Rattle.linux_perf_data.proofs.RecordHeaders.{total_size_plain}
 use Rattle.linux_perf_data.proofs.records.framing.peek_kernel_record.Goals as goal
 
 pub returns : goal.returns
@@ -19,4 +17,5 @@ returns c =
     let kernel : header.type_ < 64 = search rules in
     let plain : ¬ IsCompressed header.type_ = λ k. elim k [ inl one ↦ omega (arith, one, kernel) | inr two ↦ omega (arith, two, kernel) ] in
     let isnt : record_type_of order bytes ≢ 71 = λ e. omega (arith, e, kind, kernel) in
-    (kernel, (c.in_ok-header.ensures.1, (least, within, whole_first_part order bytes n least within (omega (arith, size, least)) (λ k. plain (subst IsCompressed (sym kind) k)) (λ t. absurd (isnt t)) (λ t. absurd (isnt t)) (size ∙ sym (total_size_plain order bytes isnt)))))
+    let small : n < 2 ^ 16 = search rules in
+    (kernel, small, (c.in_ok-header.ensures.1, (least, within, whole_first_part order bytes n least within (omega (arith, size, least)) (λ k. plain (subst IsCompressed (sym kind) k)) (λ t. absurd (isnt t)) (λ t. absurd (isnt t)) (size ∙ sym (total_size_plain order bytes isnt)))))

@@ -9,17 +9,17 @@ use Rattle.perfdata_base.specs.Source.{Consumed}
 use Rattle.perfdata_sections.specs.RecordTypes.{finished_round}
 use Rattle.linux_perf_data.specs.BufferedRecord.{WholeRecordLength}
 use Rattle.linux_perf_data.specs.Input.{HasNoPendingHeader}
-use Rattle.linux_perf_data.specs.InMemory.{MemoryIter, memory_state}
-use Rattle.linux_perf_data.proofs.FileRecordsTaken.{file_record_consumed, moved_in_place}
+use Rattle.linux_perf_data.specs.InMemory.{memory_state}
+use Rattle.linux_perf_data.proofs.FileRecordsTaken.{file_record_consumed, taken_with_body}
 use Rattle.linux_perf_data.proofs.WholeRecordsTaken.{first_consumed}
-use Rattle.linux_perf_data.proofs.in_memory.file_walk.FileWalk.take.Goals as goal
+use Rattle.linux_perf_data.proofs.in_memory.file_walk.FileWalk.take_from.Goals as goal
 
-pub returns-clause-taken : goal.returns-clause-taken
-returns-clause-taken c = λ file.
+pub returns : goal.returns
+returns c = λ file.
     let it = c.args.iter.now in
     let is = c.requires.walk in
     let next = c.requires.next in
-    let bytes = c.args.self.now.remaining.now in
+    let bytes = c.args.self.remaining.now in
     let n = c.args.next.length in
     let header = c.args.next.header in
     let whole : WholeRecordLength it.endian bytes (Some n) = subst (λ e. WholeRecordLength e bytes (Some n)) is.same_endian next.whole in
@@ -28,24 +28,10 @@ returns-clause-taken c = λ file.
     let inner : cursor_inner c.set_position.new.self ≡ cursor_inner it.source = search rules in
     let there : cursor_position c.set_position.new.self ≡ cursor_position it.source + n = search rules in
     let consumes : Consumed (memory_state it.source) (take n bytes) (memory_state c.set_position.new.self) = rw (inner, there) (first_consumed (cursor_inner it.source).now bytes (cursor_position it.source) n is.remaining whole.1) in
-    let more : it.offset < c.args.self.now.section_size = (let may = next.may_start in let same = is.offset in omega (arith, may, same)) in
+    let more : it.offset < c.args.self.section_size = (let may = next.may_start in let same = is.offset in omega (arith, may, same)) in
     let end : c.args.next.end ≡ it.offset + n = (let end = next.end_is in let same = is.offset in omega (arith, end, same)) in
     let round : it.round ≡ (if header.type_ == finished_round then it.round + 1 else it.round) = (let other = next.not_marker in search rules) in
     let small : length (slice_range bytes 8 n) < 2 ^ 63 = (let fits = is.remaining_fits in omega (arith, fits, length-take (n - 8) (drop 8 bytes), length-drop 8 bytes)) in
-    file_record_consumed it _ c.args.self.now.section_size file header c.identify_with-found.result bytes n is.running is.section more (omega arith) small whole header_is next.not_marker none consumes refl refl refl end (omega arith) refl round
-    (rw (is.offset, is.round) at c.identify_with-found.ensures.identifies) c.identify_with-found.ensures.keeps_attributes
-
-pub returns-clause-in_place : goal.returns-clause-in_place
-returns-clause-in_place c =
-    let it = c.args.iter.now in
-    let is = c.requires.walk in
-    let next = c.requires.next in
-    let bytes = c.args.self.now.remaining.now in
-    let n = c.args.next.length in
-    let inner : cursor_inner c.set_position.new.self ≡ cursor_inner it.source = search rules in
-    let there : cursor_position c.set_position.new.self ≡ cursor_position it.source + n = search rules in
-    let consumes : Consumed (memory_state it.source) (take n bytes) (memory_state c.set_position.new.self) = rw (inner, there) (first_consumed (cursor_inner it.source).now bytes (cursor_position it.source) n is.remaining next.whole.1) in
-    let end : c.args.next.end ≡ it.offset + n = (let end = next.end_is in let same = is.offset in omega (arith, end, same)) in
-    let rounds = it.rounds_fit in
-    let new : MemoryIter = record it { source = c.set_position.new.self; offset = c.args.next.end; rounds_fit = omega (arith, rounds, end) } in
-    moved_in_place it new c.args.self.now.section_size bytes n is.section refl is.running consumes next.whole.1 end
+    taken_with_body it _ file c.take.result.0 (slice_range bytes 8 n) c.take.result.1.now c.take.ensures.body
+    (file_record_consumed it _ c.args.self.section_size file header c.take.result.0 bytes n is.running is.section more (omega arith) small whole header_is next.not_marker none consumes refl refl refl end (omega arith) refl round
+    (rw (c.take.ensures.body, is.offset, is.round) at c.take.ensures.identifies) c.take.ensures.keeps_attributes)
