@@ -11,8 +11,8 @@ use std::alloc::{AllocError, Global};
 /// The size in bytes of an id.
 const ID_SIZE: usize = 8;
 
-/// The maximum number of bytes per read.
-const ID_BUFFER_SIZE: usize = 4096;
+/// The maximum number of bytes per read. The buffer is cleared for each list, and most lists are short.
+const ID_BUFFER_SIZE: usize = 512;
 
 // Appends the ids in `bytes`.
 fn push_ids<T: FileOrder>(ids: &mut Vec<u64>, bytes: &[u8]) -> Result<(), AllocError>
@@ -43,7 +43,7 @@ fn append_ids<R: Source, T: FileOrder>(
     Ok(())
 }
 
-// Reads `count` ids at the source's position, at most 512 per read.
+// Reads `count` ids at the source's position, at most 64 per read.
 pub(crate) fn read_ids<R: Source, T: FileOrder>(
     alloc: Global,
     source: &mut R,
