@@ -388,6 +388,7 @@ impl<R: Source> PerfRecordIter<R> {
     /// - The error of `parse_event_desc_section` if EVENT_DESC can't be parsed.
     /// - `NoIdentifierDespiteMultiEvent` or `InconsistentSampleIdAllWithMultiEvent` if the attributes are inconsistent.
     /// - `Memory` if memory runs out.
+    #[inline(always)]
     pub fn next_record(
         &mut self,
         perf_file: &mut PerfFile,
