@@ -10,7 +10,7 @@ use Rattle.perfdata_sections.specs.RecordTypes.{finished_round}
 use Rattle.linux_perf_data.specs.declared.in_memory.file_walk.FileWalk.{FileWalk}
 use Rattle.linux_perf_data.specs.BufferedRecord.{WholeRecordLength}
 use Rattle.linux_perf_data.specs.declared.in_memory.InMemoryRecords.{InMemoryRecords}
-use Rattle.linux_perf_data.specs.FileWalk.{IsWalkOf, StartsWithMarkerOnly}
+use Rattle.linux_perf_data.specs.FileWalk.{IsWalkOf, WalkStartsWithMarkerAtMost}
 use Rattle.linux_perf_data.specs.Input.{section_size_in}
 use Rattle.linux_perf_data.specs.Layout.{StartsWithRecord, record_type_of}
 use Rattle.linux_perf_data.specs.RecordEntries.{StartsWithMarkerAtMost}
@@ -18,17 +18,17 @@ use Rattle.linux_perf_data.proofs.BufferedRecords.{says}
 use Rattle.linux_perf_data.proofs.RecordHeaders.{same_prefix}
 
 -- no whole record
-pub marker_only_without_record : (walk : FileWalk) → WholeRecordLength walk.endian walk.remaining.now None → StartsWithMarkerOnly walk
-marker_only_without_record walk none = λ may_start p starts. absurd (none p starts.after_record starts.is_record starts.split)
+pub marker_at_most_without_record : (walk : FileWalk) → WholeRecordLength walk.endian walk.remaining.now None → WalkStartsWithMarkerAtMost walk
+marker_at_most_without_record walk none = λ may_start p starts. absurd (none p starts.after_record starts.is_record starts.split)
 
 -- a marker
-pub marker_only_at_marker : (walk : FileWalk) (header : PerfEventHeader) → header ≡ record_header_of (number_in walk.endian) walk.remaining.now → header.type_ ≡ finished_round → StartsWithMarkerOnly walk
-marker_only_at_marker walk header header_is marker = λ may_start p starts.
+pub marker_at_most_at_marker : (walk : FileWalk) (header : PerfEventHeader) → header ≡ record_header_of (number_in walk.endian) walk.remaining.now → header.type_ ≡ finished_round → WalkStartsWithMarkerAtMost walk
+marker_at_most_at_marker walk header header_is marker = λ may_start p starts.
     sym (says walk.endian walk.remaining.now p starts.after_record starts.is_record starts.split).kind ∙ sym (ap (λ h. h.type_) header_is) ∙ marker
 
 -- a record that ends at 2 ^ 64 or later
-pub marker_only_if_end_overflows : (walk : FileWalk) (n : ℕ) → WholeRecordLength walk.endian walk.remaining.now (Some n) → 2 ^ 64 ≤ walk.offset + n → StartsWithMarkerOnly walk
-marker_only_if_end_overflows walk n whole overflows = λ may_start p starts.
+pub marker_at_most_if_end_overflows : (walk : FileWalk) (n : ℕ) → WholeRecordLength walk.endian walk.remaining.now (Some n) → 2 ^ 64 ≤ walk.offset + n → WalkStartsWithMarkerAtMost walk
+marker_at_most_if_end_overflows walk n whole overflows = λ may_start p starts.
     let bytes = walk.remaining.now in
     let same = same_prefix walk.endian p (take n bytes) starts.after_record (drop n bytes) starts.is_record whole.2 (sym starts.split ∙ sym (take-append-drop n bytes)) in
     let long = ap length same.0 in
@@ -36,8 +36,8 @@ marker_only_if_end_overflows walk n whole overflows = λ may_start p starts.
     absurd (omega (arith, long, length-take-le n bytes whole.1, fits, overflows))
 
 -- what the walk says, of the records in memory
-pub marker_at_most : (records : InMemoryRecords) (walk : FileWalk) → IsWalkOf records.iter walk → StartsWithMarkerOnly walk → StartsWithMarkerAtMost records
-marker_at_most records walk is only = λ running size section may_start rest p bytes starts.
+pub marker_at_most_of_records : (records : InMemoryRecords) (walk : FileWalk) → IsWalkOf records.iter walk → WalkStartsWithMarkerAtMost walk → StartsWithMarkerAtMost records
+marker_at_most_of_records records walk is only = λ running size section may_start rest p bytes starts.
     let order = records.iter.endian in
     let start = records.iter.offset in
     let size_is : size ≡ walk.section_size = same_Some size walk.section_size (sym section ∙ ap section_size_in is.section) in

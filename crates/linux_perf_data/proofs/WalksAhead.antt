@@ -157,28 +157,40 @@ walk_moves records walk walk' next lookup ahead is_next moves only =
     }
 
 -- a streaming iterator at the position of the walk takes the same record
+pub record_taken_by_walk : (old new : MemoryIter) (walk : FileWalk) (next : WholeRecord) (found : RecordInfo) (file : PerfFile) → IsWalkOf old walk → IsNextRecord walk next
+    → Consumed (memory_state old.source) (take next.length walk.remaining.now) (memory_state new.source) → new.input ≡ old.input → new.endian ≡ old.endian → new.stage ≡ old.stage → new.offset ≡ next.end → next.end < 2 ^ 64 → new.round ≡ old.round
+    → IdentifiesRecord old.attribute_lookup walk.offset walk.round next.header (slice_range walk.remaining.now 8 next.length) found new.attribute_lookup → KeepsAttributes old.attribute_lookup new.attribute_lookup
+    → RecordTaken old file found (slice_range walk.remaining.now 8 next.length) new file
+record_taken_by_walk old new walk next found file is is_next consumes input endian stage new_offset fits same_round identifies keeps =
+    let n = next.length in
+    let bytes = walk.remaining.now in
+    let header = next.header in
+    let end = is_next.end_is in
+    let offset = is.offset in
+    let other = is_next.not_marker in
+    let small_rest = is.remaining_fits in
+    let may = is_next.may_start in
+    let section = is.section in
+    let whole : WholeRecordLength old.endian bytes (Some n) = subst (λ e. WholeRecordLength e bytes (Some n)) is.same_endian is_next.whole in
+    let header_is : header ≡ record_header_of (number_in old.endian) bytes = subst (λ e. header ≡ record_header_of (number_in e) bytes) is.same_endian is_next.header_is in
+    let none : HasNoPendingHeader old.input = search rules in
+    let more : old.offset < walk.section_size = omega (arith, may, offset) in
+    let ends : new.offset ≡ old.offset + n = omega (arith, new_offset, end, offset) in
+    let round : old.round ≡ (if header.type_ == finished_round then old.round + 1 else old.round) = search rules in
+    let small : length (slice_range bytes 8 n) < 2 ^ 63 = omega (arith, small_rest, length-take (n - 8) (drop 8 bytes), length-drop 8 bytes) in
+    let same_place : IdentifiesRecord old.attribute_lookup old.offset old.round header (slice_range bytes 8 n) found new.attribute_lookup = subst (λ o. IdentifiesRecord old.attribute_lookup o old.round header (slice_range bytes 8 n) found new.attribute_lookup) offset
+    (subst (λ r. IdentifiesRecord old.attribute_lookup walk.offset r header (slice_range bytes 8 n) found new.attribute_lookup) is.round identifies) in
+    file_record_consumed old new walk.section_size file header found bytes n is.running section more (omega (arith, fits, end, offset)) small whole header_is other none consumes input endian stage ends (omega (arith, new_offset, fits)) same_round round same_place keeps
+
+-- the records at the position of the walk take the same record
 pub record_of_walk : (records : InMemoryRecords) (walk walk' : FileWalk) (next : WholeRecord) (found : RecordInfo) (lookup : AttributeLookup) (file : PerfFile) (ahead : IsWalkAhead records walk) (ahead' : IsWalkAhead (records_with_lookup records lookup) walk') → IsNextRecord walk next → MovesPast walk next walk' → walk'.offset < 2 ^ 64
     → IdentifiesRecord records.iter.attribute_lookup walk.offset walk.round next.header (slice_range walk.remaining.now 8 next.length) found lookup → KeepsAttributes records.iter.attribute_lookup lookup
     → RecordTaken (records_at_walk records walk ahead).iter file found (slice_range walk.remaining.now 8 next.length) (records_at_walk (records_with_lookup records lookup) walk' ahead').iter file
 record_of_walk records walk walk' next found lookup file ahead ahead' is_next moves fits identifies keeps =
     let it = records.iter in
     let is = ahead.is_walk in
-    let n = next.length in
-    let bytes = walk.remaining.now in
-    let whole = is_next.whole in
-    let end = is_next.end_is in
     let offset = moves.offset_is in
-    let other = is_next.not_marker in
-    let small_rest = is.remaining_fits in
-    let may = is_next.may_start in
-    let after = position_after it walk walk' next ahead.within whole.1 moves.remaining_is in
-    let consumes = record_bytes_consumed it walk walk' next lookup ahead.rounds_fit ahead'.rounds_fit is.remaining after whole.1 in
-    let header = next.header in
-    let header_is : header ≡ record_header_of (number_in it.endian) bytes = subst (λ e. header ≡ record_header_of (number_in e) bytes) is.same_endian is_next.header_is in
-    let whole_record : WholeRecordLength it.endian bytes (Some n) = subst (λ e. WholeRecordLength e bytes (Some n)) is.same_endian whole in
-    let section = is.section in
-    let none : HasNoPendingHeader it.input = search rules in
-    let round : it.round ≡ (if header.type_ == finished_round then it.round + 1 else it.round) = search rules in
-    let small : length (slice_range bytes 8 n) < 2 ^ 63 = omega (arith, small_rest, length-take (n - 8) (drop 8 bytes), length-drop 8 bytes) in
-    file_record_consumed (records_at_walk records walk ahead).iter (records_at_walk (records_with_lookup records lookup) walk' ahead').iter walk.section_size file header found bytes n is.running is.section may (omega (arith, fits, end, offset)) small whole_record header_is other none consumes refl refl refl (omega (arith, end, offset)) fits refl round
-    (subst (λ r. IdentifiesRecord it.attribute_lookup walk.offset r header (slice_range bytes 8 n) found lookup) is.round identifies) keeps
+    let whole = is_next.whole.1 in
+    let after = position_after it walk walk' next ahead.within whole moves.remaining_is in
+    let consumes = record_bytes_consumed it walk walk' next lookup ahead.rounds_fit ahead'.rounds_fit is.remaining after whole in
+    record_taken_by_walk (records_at_walk records walk ahead).iter (records_at_walk (records_with_lookup records lookup) walk' ahead').iter walk next found file is is_next consumes refl refl refl offset (omega (arith, fits, offset)) refl identifies keeps

@@ -28,7 +28,7 @@ abbrev pub PeeksWholeRecord : Endianness → List ℕ → Option (PerfEventHeade
 PeeksWholeRecord order bytes (Some r) = (r.0 ≡ record_header_of (number_in order) bytes) × WholeRecordLength order bytes (Some r.1)
 PeeksWholeRecord order bytes None = WholeRecordLength order bytes None
 
--- The header of the whole record of the kernel at the start of `bytes`, and its size.
+-- The header of the whole record of the kernel at the start of `bytes`, and its size, which is below 2^16 bytes.
 abbrev pub PeeksKernelRecord : Endianness → List ℕ → PerfEventHeader × ℕ → Type 0
 PeeksKernelRecord order bytes r = (r.0.type_ < 64) × (r.1 < 2 ^ 16) × PeeksWholeRecord order bytes (Some r)
 

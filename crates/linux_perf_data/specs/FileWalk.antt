@@ -43,13 +43,13 @@ pub record IsNextRecord (walk : FileWalk) (next : WholeRecord) : Type 0 where
   pub end_is : next.end ≡ walk.offset + next.length
 
 -- If the remaining bytes start with a whole record, it is a marker.
-abbrev pub StartsWithMarkerOnly : FileWalk → Type 0
-StartsWithMarkerOnly walk = walk.offset < walk.section_size → (p : List ℕ) → StartsWithRecord walk.endian walk.offset walk.remaining.now p → record_type_of walk.endian p ≡ finished_round
+abbrev pub WalkStartsWithMarkerAtMost : FileWalk → Type 0
+WalkStartsWithMarkerAtMost walk = walk.offset < walk.section_size → (p : List ℕ) → StartsWithRecord walk.endian walk.offset walk.remaining.now p → record_type_of walk.endian p ≡ finished_round
 
 -- The next record, if the remaining bytes start with a whole one that isn't a marker.
 abbrev pub PeeksNextRecord : FileWalk → Option WholeRecord → Type 0
 PeeksNextRecord walk (Some next) = IsNextRecord walk next
-PeeksNextRecord walk None = StartsWithMarkerOnly walk
+PeeksNextRecord walk None = WalkStartsWithMarkerAtMost walk
 
 -- The walk after the next record.
 pub record MovesPast (old : FileWalk) (next : WholeRecord) (new : FileWalk) : Type 0 where

@@ -109,7 +109,7 @@ impl<'a> InMemoryRecords<'a> {
     {
         // For the prover.
         let _size = self.input.len();
-        let (found, body) = walk.take_ahead(&mut self.iter, next);
+        let (found, body) = walk.take_ahead_of(&mut self.iter, next);
         let endian = self.iter.endian;
         let parse_info = *self.iter.attribute_lookup.parse_info_of(found.attr_index());
         let record = found.into_record(parse_info, endian, RawData::Single(body));

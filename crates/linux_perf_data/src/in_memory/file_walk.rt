@@ -212,7 +212,7 @@ impl<'a> FileWalk<'a> {
 
     // Takes the next record, with its body. Of the iterator, nothing changes but its lookup.
     #[inline(always)]
-    pub(crate) fn take_ahead(
+    pub(crate) fn take_ahead_of(
         &mut self,
         iter: &mut PerfRecordIter<Cursor<&'a [u8]>>,
         next: WholeRecord,
