@@ -110,6 +110,7 @@ pub(crate) fn peek_record(endian: Endianness, bytes: &[u8]) -> Option<(PerfEvent
 }
 
 // The pending header, or the record header at the position of the source. `None` if the source has fewer bytes.
+#[inline(always)]
 pub(crate) fn read_header<R: Source>(
     source: &mut R,
     input: &mut Input,
@@ -197,6 +198,7 @@ fn read_aux_data<R: Source>(
 
 // Reads the body and the aux data of a record that is no marker into an empty `body`. Returns the end offset of the record,
 // or `None` if the source has fewer bytes than the size in the record header.
+#[inline(always)]
 pub(crate) fn read_record_body<R: Source>(
     source: &mut R,
     endian: Endianness,

@@ -203,6 +203,8 @@ impl<R> PerfRecordIter<R> {
     }
 }
 
+// What reads a record is inlined into each caller of `next_record`, however many a program has: the results are large, and go through
+// memory from one function to another.
 impl<R: Source> PerfRecordIter<R> {
     ghost use Rattle.linux_perf_data.specs.BufferedRecord.{IsFinished, IsNextBuffered, ContainsNextRecord, TestsNextBuffered};
     ghost use Rattle.linux_perf_data.specs.Iter.{MemoryOnlyToGrow, TestsMayStart, Advances, NextRecord, section_size_of, iter_source_state};
@@ -257,6 +259,7 @@ impl<R: Source> PerfRecordIter<R> {
     }
 
     // Reads the next raw record: a marker, or a record whose body is then in `self.body`. `None` if a pipe ends.
+    #[inline(always)]
     fn next_raw_record(&mut self) -> Result<Option<PerfEventHeader>, Error>
         requires empty { self.old.body.items ≡ [] }
         ensures raw_record { ReadsRawRecord R.state self.old result self.new }
@@ -289,6 +292,7 @@ impl<R: Source> PerfRecordIter<R> {
     }
 
     // Identifies the record whose body is in `self.body` by the attributes before it, and then applies its metadata.
+    #[inline(always)]
     fn process_record(
         &mut self,
         file: &mut PerfFile,
@@ -314,6 +318,7 @@ impl<R: Source> PerfRecordIter<R> {
     }
 
     // Reads up to the end of the next record, whose body is then in `self.body`.
+    #[inline(always)]
     fn advance(&mut self, file: &mut PerfFile) -> Result<Option<RecordInfo>, Error>
         ensures advances { Advances R.state self.old file.old result self.new file.new }
         ensures memory_only_to_grow { MemoryOnlyToGrow R.state self.old result self.new }
