@@ -4,6 +4,7 @@ pub mod OneOutcomes
 pub mod RecordOutcomes
 pub mod Frames
 pub mod Offsets
+pub mod Optional
 pub mod Prefixes
 pub mod SampleIdOffsets
 pub mod Unselected

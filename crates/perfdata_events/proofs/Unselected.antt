@@ -1,13 +1,12 @@
 -- Fields that no attribute selects take no bytes.
-use Rattle.std.proofs.Common.{◌≡◌, ℕ, ◌+◌, Bool, true, false, List, [], length, drop, refl, sym, arith}
+use Rattle.std.proofs.Common.{◌≡◌, ℕ, Bool, true, false, List, refl, sym, arith}
 use Rattle.std.specs.Prelude.{◌||◌, not, Option, None}
-use Rattle.std.proofs.lemmas.Bool.{false≢true}
 use Rattle.perfdata_base.specs.ParseInfo.{is_set}
-use Rattle.perfdata_events.specs.Format.{encodes, fails}
+use Rattle.perfdata_events.specs.Format.{encodes}
 use Rattle.perfdata_events.specs.Fields.{u64_at}
 use Rattle.perfdata_events.specs.Words.{word}
 use Rattle.perfdata_events.specs.Selection.{selects_middle, selects_data, selects_pages, selects_end, selects_parts}
-use Rattle.perfdata_events.specs.Sample.{AreDataWords, ArePageWords, sample_start, sample_middle, sample_end, sample, no_middle, no_end, origin_words, event_words}
+use Rattle.perfdata_events.specs.Sample.{AreDataWords, ArePageWords, sample_middle, sample_end, sample, no_middle, no_end, origin_words, event_words}
 use Rattle.perfdata_events.specs.declared.format.EventFormat.{EventFormat}
 use Rattle.perfdata_events.specs.declared.sample_words.OriginWords.{OriginWords}
 use Rattle.perfdata_events.specs.declared.sample_words.EventWords.{EventWords}

@@ -162,8 +162,7 @@ impl<'a> CallChain<'a> {
         if !present {
             return Ok(None);
         }
-        let value = CallChain::parse(endian, fields)?;
-        Ok(Some(value))
+        CallChain::parse(endian, fields).map(Some)
     }
 }
 

@@ -307,15 +307,13 @@ impl EventFormat {
                 return Ok(EventRecord::Raw(copy_of(raw)));
             }
             let mut body = raw.body;
-            let sample = SampleRecord::parse(self, &mut body)?;
-            return Ok(EventRecord::Sample(sample));
+            return SampleRecord::parse(self, &mut body).map(EventRecord::Sample);
         }
         if record_type == 0 || record_type > LAST_TYPE {
             return Ok(EventRecord::Raw(copy_of(raw)));
         }
         let (fields, _) = self.split_trailing(raw.body)?;
         let mut rest = fields;
-        let event = self.parse_fields(raw, &mut rest)?;
-        Ok(event)
+        self.parse_fields(raw, &mut rest)
     }
 }

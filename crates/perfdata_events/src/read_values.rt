@@ -276,8 +276,7 @@ impl<'a> ReadValues<'a> {
         if !present {
             return Ok(None);
         }
-        let value = ReadValues::parse(endian, read_format, fields)?;
-        Ok(Some(value))
+        ReadValues::parse(endian, read_format, fields).map(Some)
     }
 }
 

@@ -121,8 +121,7 @@ impl<'a> BranchStack<'a> {
         if !present {
             return Ok(None);
         }
-        let value = BranchStack::parse(endian, branch_sample_type, fields)?;
-        Ok(Some(value))
+        BranchStack::parse(endian, branch_sample_type, fields).map(Some)
     }
 }
 
@@ -166,8 +165,7 @@ impl<'a> Registers<'a> {
         if !present {
             return Ok(None);
         }
-        let value = Registers::parse(endian, mask, fields)?;
-        Ok(Some(value))
+        Registers::parse(endian, mask, fields).map(Some)
     }
 }
 
@@ -204,8 +202,7 @@ impl<'a> UserStack<'a> {
         if !present {
             return Ok(None);
         }
-        let value = UserStack::parse(endian, fields)?;
-        Ok(Some(value))
+        UserStack::parse(endian, fields).map(Some)
     }
 }
 
@@ -238,8 +235,7 @@ pub(crate) fn read_raw_data_if<'a>(
     if !present {
         return Ok(None);
     }
-    let data = read_raw_data(endian, fields)?;
-    Ok(Some(data))
+    read_raw_data(endian, fields).map(Some)
 }
 
 // Removes aux data if it is there.
@@ -253,6 +249,5 @@ pub(crate) fn read_aux_data_if<'a>(
     if !present {
         return Ok(None);
     }
-    let data = read_aux_data(endian, fields)?;
-    Ok(Some(data))
+    read_aux_data(endian, fields).map(Some)
 }

@@ -146,8 +146,7 @@ pub(crate) fn read_u64_list_if<'a>(
     if !present {
         return Ok(None);
     }
-    let values = read_u64_list(endian, fields, count)?;
-    Ok(Some(values))
+    read_u64_list(endian, fields, count).map(Some)
 }
 
 // Removes `len` bytes.

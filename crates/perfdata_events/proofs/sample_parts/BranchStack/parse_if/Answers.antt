@@ -1,8 +1,11 @@
-use Rattle.std.proofs.Common.{rules}
-use Rattle.std.proofs.lemmas.Result.{err_from_is_err_and}
+use Rattle.std.proofs.Common.{◌≡◌, true, rules}
+use Rattle.perfdata_base.specs.Raw.{bytes_of}
+use Rattle.perfdata_base.specs.Endian.{number_in}
+use Rattle.perfdata_events.specs.Sample.{branch_stack, branches_of}
+use Rattle.perfdata_events.proofs.Optional.{decodes_some}
 use Rattle.perfdata_events.proofs.sample_parts.BranchStack.parse_if.Goals as goal
 
-pub returns-in_err-value : goal.returns-in_err-value
-returns-in_err-value c =
-    let p = err_from_is_err_and c.from_residual.result c.from_residual.ensures.1 in
-    rw (p.1, p.2) (search rules, c.in_err-value.ensures)
+pub returns : goal.returns
+returns c =
+    let present : c.args.present ≡ true = search rules in
+    decodes_some (branch_stack (number_in c.args.endian) c.args.branch_sample_type) branches_of c.args.present (bytes_of c.args.fields.now) (bytes_of c.parse.new.fields) present c.parse.result c.map.result c.parse.ensures c.map.ensures.cases
