@@ -1,5 +1,5 @@
 -- The steps of a call over a source.
-use Rattle.std.proofs.Common.{◌≡◌, ℕ, ◌+◌, ◌-◌, ◌*◌, ◌^◌, ◌<◌, ◌≤◌, List, [], ◌∷◌, ◌++◌, length, min, Some, Result, Ok, Err, Bool, true, false, not, refl, sym, ap, ◌∙◌, subst, inl, inr, arith}
+use Rattle.std.proofs.Common.{◌≡◌, ℕ, ◌+◌, ◌-◌, ◌*◌, ◌^◌, ◌<◌, ◌≤◌, ◌⊎◌, List, [], ◌∷◌, ◌++◌, length, min, Some, Result, Ok, Err, Bool, true, false, not, refl, sym, ap, ◌∙◌, subst, inl, inr, arith}
 use Rattle.std.proofs.lemmas.List.Sorted.{length_permutation}
 use Rattle.std.specs.Ordering.{nat_cmp}
 use Rattle.std.specs.declared.alloc.AllocError.{AllocError}
@@ -19,7 +19,7 @@ use Rattle.perfdata_order.specs.declared.streaming.OrderedRecords.{OrderedRecord
 use Rattle.perfdata_order.specs.HeldRecord.{view_with, held_view, held_size}
 use Rattle.perfdata_order.specs.Sorter.{held_of, available_of, pending_of, IsUnchanged, TestsAvailable, Inserted, HalfReleased, EndsAllRounds}
 use Rattle.perfdata_order.specs.SorterLaws.Call.{inserts, ends_round, ends_all, releases, returns, keeps}
-use Rattle.perfdata_order.specs.StreamingOrder.{Unplaced, unplaced_by, unplaced_of, AfterPlacing, PlacesPending, IsUnplaced, IsOngoing, pending_records, EndReturned, RecordReturned, Step, returned_in, TakesStep, TakesSteps, Progress, Places, ReadsPending, ReadsUntimed, EndsRoundsBefore, KeepsSorter, EndsRounds, InsertsPending, ReturnsSorted, TakesEnd, FailsInOrder, IsOneRoundLater, IsLaterOrLast, SameBudget, FitsBudget, IsAdmitted, HasAvailable, AdmitsPending, ReleasesEarly, ReleasesForPending, budget_of, early_of, held_bytes_of}
+use Rattle.perfdata_order.specs.StreamingOrder.{Unplaced, unplaced_by, unplaced_of, AfterPlacing, PlacesPending, IsUnplaced, IsOngoing, pending_records, EndReturned, RecordReturned, Step, returned_in, TakesStep, TakesSteps, Progress, Places, ReadsPending, ReadsTimed, ReadsAndHolds, ReadsUntimed, EndsRoundsBefore, KeepsSorter, EndsRounds, InsertsPending, ReturnsSorted, TakesEnd, FailsInOrder, IsOneRoundLater, IsLaterOrLast, SameBudget, FitsBudget, IsAdmitted, HasAvailable, AdmitsPending, ReleasesEarly, ReleasesForPending, budget_of, early_of, held_bytes_of}
 use Rattle.perfdata_order.specs.StreamingOrder.Unplaced.{nothing, timed, ending, failing, failed}
 use Rattle.perfdata_order.specs.StreamingOrder.Step.{reads, passes, reads_end, reads_error, sorts, reports}
 use Rattle.perfdata_order.proofs.SorterCalls.{held_split}
@@ -99,7 +99,7 @@ module _ {R : Type 0} (state : R → State) where
 
   pub progress_read : (a b c : OrderedRecords R) (f g h : PerfFile) → Progress state a f b g → ReadsPending state b g c h → Progress state a f c h
   progress_read a b c f g h p (inl (pending, same, same_file)) = subst (λ s. Progress state a f s h) (sym same) (subst (λ q. Progress state a f b q) (sym same_file) p)
-  progress_read a b c f g h p (inr (inl (key, (view, read)))) = progress_more a b c f g h p (reads key view) refl read
+  progress_read a b c f g h p (inr (inl (key, (view, held)))) = progress_places a held.read c f h (progress_more a b held.read f g h p (reads key view) refl held.was_read) held.places
   progress_read a b c f g h p (inr (inr (inl read))) = progress_more a b c f g h p reads_end refl read
   progress_read a b c f g h p (inr (inr (inr (e, read)))) = progress_more a b c f g h p (reads_error e) refl read
 
@@ -238,6 +238,25 @@ module _ {R : Type 0} (state : R → State) where
       let placed = rounds_placed a b key h was ended in
       record { places = placed.places; pending = placed.pending; same_records = placed.same_records; available = some }
 
+  -- ---- holding a record that was read
+
+  -- The record was read, and then held.
+  pub read_held : (old read new : OrderedRecords R) (file file' : PerfFile) (key : ℕ) (h : RecordView) → ReadsTimed state old file key h read file' → ((held : HeldRecord) × InsertsPending read key held new) ⊎ KeepsSorter read new → ReadsAndHolds state old file key h new file'
+  read_held old read new file file' key h was_read (inl (held, inserted)) = record {
+    read = read;
+    was_read = was_read;
+    places = places_inserted read read new key held (places_none read read refl) inserted;
+    pending = inl inserted.pending;
+    same_records = inserted.same_records;
+  }
+  read_held old read new file file' key h was_read (inr kept) = record {
+    read = read;
+    was_read = was_read;
+    places = places_kept read read new (places_none read read refl) kept;
+    pending = inr (kept.pending ∙ was_read.pending);
+    same_records = kept.same_records;
+  }
+
   -- ---- what a record that was read shows of the offset
 
   pub offset_rises : (old new : PerfRecordIter R) (file file' : PerfFile) (h : RecordView) → ReturnsRecord state old file h new file' → (old.offset + 8 ≤ new.offset) × (new.offset < 2 ^ 64)
@@ -354,6 +373,11 @@ module _ {R : Type 0} (state : R → State) where
   none_after p (inl after) none = after
   none_after p (inr after) none = let same = ap length none in let some = after.1 in absurd (omega (arith, same, some))
 
+  -- A record that was read, and is in the sorter or was placed.
+  none_held_pending : (q : Unplaced) (p : OrderedRecords R) (key : ℕ) (h : RecordView) → (q ≡ nothing) ⊎ (q ≡ timed key h) → AfterPlacing state q p → available_of p.held.sorter ≡ [] → unplaced_of p ≡ nothing
+  none_held_pending q p key h (inl is) after none = subst (λ x. AfterPlacing state x p) is after
+  none_held_pending q p key h (inr is) after none = none_after {key = key} {h = h} p (subst (λ x. AfterPlacing state x p) is after) none
+
   placed_record : (q : Unplaced) (p : OrderedRecords R) → IsUnplaced q → AfterPlacing state q p → available_of p.held.sorter ≡ [] → IsOngoing (unplaced_of p) → (pending_records q ≡ 1) × (unplaced_of p ≡ nothing)
   placed_record nothing p pending after none ongoing = absurd pending
   placed_record (timed key h) p pending after none ongoing = (refl, none_after {key = key} {h = h} p after none)
@@ -372,10 +396,10 @@ module _ {R : Type 0} (state : R → State) where
       let placed = placed_record (unplaced_of s) p pending (subst (λ q. AfterPlacing state (unplaced_of q) p) same after) available (subst (λ x. IsOngoing x) unchanged.pending ongoing) in
       falls_by_record s.records.offset kept.records.offset (pending_records (unplaced_of s)) (pending_records (unplaced_of kept))
       (sym (ap (λ r. r.offset) unchanged.same_records ∙ ap (λ r. r.offset) same_records ∙ ap (λ q. q.records.offset) same)) placed.0 (ap pending_records (unchanged.pending ∙ placed.1))
-  work_falls s b p kept f g (inr (inl (key, (h, read)))) after same_records available unchanged ongoing =
-      let rises = offset_rises s.records b.records f g h read.returned in
-      let none = none_after {key = key} {h = h} p (subst (λ q. AfterPlacing state q p) read.pending after) available in
-      let same = ap (λ r. r.offset) unchanged.same_records ∙ ap (λ r. r.offset) same_records in
+  work_falls s b p kept f g (inr (inl (key, (h, held)))) after same_records available unchanged ongoing =
+      let rises = offset_rises s.records held.read.records f g h held.was_read.returned in
+      let none = none_held_pending (unplaced_of b) p key h held.pending after available in
+      let same = ap (λ r. r.offset) unchanged.same_records ∙ ap (λ r. r.offset) same_records ∙ ap (λ r. r.offset) held.same_records in
       falls_by_read s.records.offset kept.records.offset (pending_records (unplaced_of s)) (pending_records (unplaced_of kept))
       (subst (λ n. s.records.offset + 8 ≤ n) (sym same) rises.0) (subst (λ n. n < 2 ^ 64) (sym same) rises.1) (ap pending_records (unchanged.pending ∙ none))
   work_falls s b p kept f g (inr (inr (inl read))) after same_records available unchanged ongoing =

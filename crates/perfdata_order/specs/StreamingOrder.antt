@@ -252,6 +252,20 @@ module _ {R : Type 0} where
     pub none_held : held_bytes_of new ≡ 0
     pub none_early : early_of new ≡ 0
 
+  -- A record of this round may be inserted: no record is available, no round ends before it, and there is no budget.
+  pub record MayInsert (s : OrderedRecords R) (round : ℕ) : Type 0 where
+    pub in_round : round ≤ s.round
+    pub no_budget : budget_of s ≡ 0
+    pub none_available : available_of s.held.sorter ≡ []
+
+  -- The order in which this record is pending, after it was read.
+  abbrev pub with_pending : OrderedRecords R → ℕ → RecordInfo → OrderedRecords R
+  with_pending s key info = record s { pending = variant.Record key info }
+
+  -- The record that was read is in the sorter, or still pending.
+  abbrev pub HoldsRecord : OrderedRecords R → ℕ → RecordInfo → OrderedRecords R → Type 0
+  HoldsRecord old key info new = ((held : HeldRecord) × InsertsPending (with_pending old key info) key held new) ⊎ KeepsSorter (with_pending old key info) new
+
   -- The end or the error was taken, if one is pending. After an error, each call fails.
   abbrev pub TakesEnd : OrderedRecords R → Option (Result (Unit {0}) Error) → OrderedRecords R → Type 0
   TakesEnd old None new = (new ≡ old) × IsOngoing (unplaced_of old)
@@ -381,10 +395,24 @@ module _ {R : Type 0} where
 
     -- ---- the parts of a call
 
-    -- Something was pending before, or it was read.
+    -- Steps that read and returned nothing.
+    pub record Places (old new : OrderedRecords R) : Type 0 where
+      pub steps : List Step
+      pub none_returned : returned_in steps ≡ []
+      pub taken : (file : PerfFile) → TakesSteps steps old file new file
+
+    -- A timed record was read. It is in the sorter, or still pending.
+    pub record ReadsAndHolds (old : OrderedRecords R) (file : PerfFile) (key : ℕ) (h : RecordView) (new : OrderedRecords R) (file' : PerfFile) : Type 0 where
+      pub read : OrderedRecords R
+      pub was_read : ReadsTimed old file key h read file'
+      pub places : Places read new
+      pub pending : (unplaced_of new ≡ nothing) ⊎ (unplaced_of new ≡ timed key h)
+      pub same_records : new.records ≡ read.records
+
+    -- Something was pending before, or something was read.
     abbrev pub ReadsPending : OrderedRecords R → PerfFile → OrderedRecords R → PerfFile → Type 0
     ReadsPending old file new file' = (IsUnplaced (unplaced_of old) × (new ≡ old) × (file' ≡ file))
-        ⊎ (((key : ℕ) × ((h : RecordView) × ReadsTimed old file key h new file'))
+        ⊎ (((key : ℕ) × ((h : RecordView) × ReadsAndHolds old file key h new file'))
         ⊎ (ReadsEnd old file new file' ⊎ ((e : Error) × ReadsError old file e new file')))
 
     -- Reading, if nothing is pending. A record without a time is returned. If memory runs out, nothing was read.
@@ -392,12 +420,6 @@ module _ {R : Type 0} where
     ReadsNext old file (Ok (Some info)) new file' = ReadsUntimed old file (view_with info (body_in Read new)) new file'
     ReadsNext old file (Ok None) new file' = ReadsPending old file new file'
     ReadsNext old file (Err e) new file' = KeepsSorter old new × (file' ≡ file)
-
-    -- Steps that read and returned nothing.
-    pub record Places (old new : OrderedRecords R) : Type 0 where
-      pub steps : List Step
-      pub none_returned : returned_in steps ≡ []
-      pub taken : (file : PerfFile) → TakesSteps steps old file new file
 
     -- The rounds before that of the pending record ended, and the record may be inserted.
     pub record IsAdmitted (old : OrderedRecords R) (h : RecordView) (new : OrderedRecords R) : Type 0 where

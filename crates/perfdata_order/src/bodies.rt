@@ -190,6 +190,7 @@ impl Bodies {
     }
 
     // Copies a body, which is then held.
+    #[inline(always)]
     pub(crate) fn append(&mut self, body: &[u8]) -> Result<HeldBody, AllocError>
         ensures { AppendsBody self.old body.now result self.new }
     {

@@ -81,6 +81,7 @@ pub(crate) enum HeldWriter {
 impl HeldWriter {
     ghost use Rattle.perfdata_order.specs.HeldRecord.{HoldsWriter};
 
+    #[inline(always)]
     pub(crate) fn of(writer: Writer, parse_infos: &mut ParseInfos) -> Result<HeldWriter, AllocError>
         ensures { HoldsWriter parse_infos.old writer result parse_infos.new }
     {

@@ -72,6 +72,7 @@ impl ParseInfos {
     }
 
     // Returns the index of the parse info of an attribute, which is added if it isn't found.
+    #[inline(always)]
     pub(crate) fn index_of(
         &mut self,
         attr_index: usize,

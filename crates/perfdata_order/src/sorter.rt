@@ -85,6 +85,7 @@ impl<K: Ord + Copy, V> Sorter<K, V> {
     /// # Errors
     ///
     /// If memory runs out, the error contains the key and the value, and the sorter is unchanged.
+    #[inline(always)]
     pub fn insert_unordered(&mut self, key: K, value: V) -> Result<(), AllocFailed<(K, V)>>
         ensures { InsertsEntry K.cmp self.old key value result self.new }
     {

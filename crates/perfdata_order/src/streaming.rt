@@ -1,5 +1,5 @@
 //! The records of a source, in order of time.
-ghost use Rattle.std.specs.Prelude.{◌≡◌, ℕ, ◌+◌, ◌^◌, ◌<◌, ◌≤◌, [], MatchBool, vec_capacity};
+ghost use Rattle.std.specs.Prelude.{◌≡◌, ℕ, ◌+◌, ◌^◌, ◌<◌, ◌≤◌, [], IsTrue, MatchBool, vec_capacity};
 ghost use Rattle.perfdata_order.specs.StreamingOrder.{ReadsRecord};
 
 use crate::bodies::BodyRange;
@@ -57,7 +57,8 @@ pub struct OrderedRecords<R> {
 }
 
 impl<R> OrderedRecords<R> {
-    ghost use Rattle.perfdata_order.specs.StreamingOrder.{IsNewOrder, EndsRoundsBefore, ReleasesEarly, TakesEnd, TakesSorted, body_in, early_of};
+    ghost use Rattle.perfdata_order.specs.declared.streaming.Pending.TheVariants.{Nothing};
+    ghost use Rattle.perfdata_order.specs.StreamingOrder.{IsNewOrder, EndsRoundsBefore, ReleasesEarly, MayInsert, HoldsRecord, TakesEnd, TakesSorted, body_in, early_of};
 
     /// Returns the records of `records` in order of time. The order allocates with `alloc`.
     pub fn new(alloc: Global, records: PerfRecordIter<R>) -> OrderedRecords<R>
@@ -143,6 +144,34 @@ impl<R> OrderedRecords<R> {
         }
         self.round = round;
         Ok(())
+    }
+
+    // Whether a record of this round may be inserted as soon as it is read: no record is available, no round ends, and there is
+    // no budget.
+    fn may_insert(&self, round: u64) -> bool
+        ensures { IsTrue result → MayInsert self.now round }
+    {
+        round <= self.round && self.budget == 0 && !self.held.has_more()
+    }
+
+    // Inserts the record that was read, whose body is in `self.body`. It is pending if it may not be inserted yet, or if memory
+    // runs out. Most records aren't pending: `Pending` is large, and dear to write.
+    #[inline(always)]
+    fn hold(&mut self, key: u64, info: RecordInfo)
+        requires { self.old.pending ≡ Nothing }
+        ensures { HoldsRecord self.old key info self.new }
+    {
+        let size = held_size(self.body.len());
+        if self.may_insert(info.place.round) {
+            match self.held.insert(key, info, self.body.as_slice()) {
+                Ok(()) => {
+                    self.held_bytes = self.held_bytes.saturating_add(size);
+                    return;
+                }
+                Err(_) => {}
+            }
+        }
+        self.pending = Pending::Record(key, info);
     }
 
     // Takes the next available record from the sorter. `self.returned` is then its body.
@@ -231,7 +260,8 @@ impl<R: Source> OrderedRecords<R> {
     ghost use Rattle.perfdata_order.specs.HeldRecord.{held_size as size_of};
     ghost use Rattle.linux_perf_data.specs.Layout.{RecordView};
 
-    // Reads the next record, unless something is pending. Its body is then in `self.body`. Returns it if it has no time.
+    // Reads the next record, unless something is pending. Its body is then in `self.body`. Returns it if it has no time, and
+    // holds it otherwise.
     fn read(&mut self, perf_file: &mut PerfFile) -> Result<Option<RecordInfo>, AllocError>
         ensures { ReadsNext R.state self.old perf_file.old result self.new perf_file.new }
     {
@@ -247,7 +277,7 @@ impl<R: Source> OrderedRecords<R> {
         match read_record(&mut self.records, perf_file, &mut self.body) {
             Ok(Some(info)) => match time_key(info.place) {
                 Some(key) => {
-                    self.pending = Pending::Record(key, info);
+                    self.hold(key, info);
                     Ok(None)
                 }
                 None => Ok(Some(info)),
