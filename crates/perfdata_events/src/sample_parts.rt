@@ -154,6 +154,7 @@ impl<'a> Registers<'a> {
     }
 
     // The same if it is there.
+    #[inline(always)]
     pub(crate) fn parse_if(
         endian: Endianness,
         present: bool,
@@ -239,6 +240,7 @@ pub(crate) fn read_raw_data_if<'a>(
 }
 
 // Removes aux data if it is there.
+#[inline(always)]
 pub(crate) fn read_aux_data_if<'a>(
     endian: Endianness,
     present: bool,
