@@ -12,7 +12,7 @@ use perfdata_base::raw::{Endianness, RawData};
 use std::io::Result;
 
 // Removes a number of eight bytes if it is there.
-#[inline(always)]
+#[inline]
 pub(crate) fn read_u64_if(
     endian: Endianness,
     fields: &mut RawData<'_>,
@@ -29,7 +29,7 @@ pub(crate) fn read_u64_if(
 }
 
 // Removes a number of four bytes and four reserved bytes if they are there.
-#[inline(always)]
+#[inline]
 pub(crate) fn read_u32_if(
     endian: Endianness,
     fields: &mut RawData<'_>,
@@ -46,7 +46,7 @@ pub(crate) fn read_u32_if(
 }
 
 // Removes a process id and a thread id if they are there.
-#[inline(always)]
+#[inline]
 pub(crate) fn read_task_if(
     endian: Endianness,
     fields: &mut RawData<'_>,
