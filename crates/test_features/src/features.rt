@@ -13,9 +13,10 @@ use test_support::recordings::{
 
 pub const ENDIANS: [Endianness; 2] = [Endianness::LittleEndian, Endianness::BigEndian];
 
-pub fn open_file_state(alloc: Global, image: &Image) -> Result<PerfFile, Error> {
+/// The metadata of a file, in a box, because proofs over an owned `PerfFile` are expensive.
+pub fn open_file_state(alloc: Global, image: &Image) -> Result<Box<PerfFile>, Error> {
     let reader = PerfFileReader::parse_file(alloc, Cursor::new(image.bytes.as_slice()))?;
-    Ok(reader.perf_file)
+    Ok(Box::new(alloc, reader.perf_file)?)
 }
 
 /// `first_file`, little-endian, opened with one feature whose section contains these bytes.
@@ -23,7 +24,7 @@ pub fn open_with_section(
     alloc: Global,
     feature: Feature,
     content: &[u8],
-) -> Result<PerfFile, Fail> {
+) -> Result<Box<PerfFile>, Fail> {
     let image = file_with_section(alloc, Endianness::LittleEndian, feature, content)?;
     Ok(open_file_state(alloc, &image)?)
 }
@@ -292,7 +293,7 @@ fn file_with_integers(
     endian: Endianness,
     feature: Feature,
     words: &[(u64, u32)],
-) -> Result<PerfFile, Fail> {
+) -> Result<Box<PerfFile>, Fail> {
     let mut content = Image::empty(alloc, endian);
     for (number, bytes) in words {
         if *bytes == 8 {
