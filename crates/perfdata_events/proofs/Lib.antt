@@ -1,8 +1,7 @@
-pub mod Elements
+pub mod Blocks
 pub mod Events
 pub mod OneOutcomes
 pub mod RecordOutcomes
-pub mod Frames
 pub mod Offsets
 pub mod Optional
 pub mod Prefixes

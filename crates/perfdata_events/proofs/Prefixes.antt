@@ -4,15 +4,21 @@ use Rattle.std.specs.Prelude.{None, Some}
 use Rattle.std.proofs.lemmas.List.{take-append-drop}
 use Rattle.perfdata_base.specs.ParseInfo.{is_set}
 use Rattle.perfdata_events.specs.Prefix.{ConsumesPrefix}
-use Rattle.perfdata_events.specs.Format.{Outcome, block, text, fixed, fixed_and_text, fixed_and_block, both, led, optional}
-use Rattle.perfdata_events.specs.Fields.{u32_at, u64_at}
-use Rattle.perfdata_events.specs.Words.{u64s, word, word_size, after, fixed_and_u64s}
-use Rattle.perfdata_events.specs.SampleId.{task_at, sample_id}
-use Rattle.perfdata_events.specs.ReadValues.{details, times, single_values, group_values, read_values, single, group}
+use Rattle.perfdata_event_fields.specs.Format.{Outcome, block, text, fixed, fixed_and_text, fixed_and_block, both, led, optional}
+use Rattle.perfdata_event_fields.specs.Fields.{u32_at, u64_at}
+use Rattle.perfdata_event_fields.specs.Words.{u64s, word, word_size, after, fixed_and_u64s}
+use Rattle.perfdata_events.specs.SampleId.{sample_id}
+use Rattle.perfdata_event_fields.specs.Task.{task_at}
+use Rattle.perfdata_event_fields.specs.ReadValues.{details, times, single_values, group_values, read_values, single, group}
 use Rattle.perfdata_events.specs.Read.{read}
 use Rattle.perfdata_events.specs.Mmap.{mapping_at}
-use Rattle.perfdata_events.specs.Mmap2.{file_id, protection_at, mmap2}
-use Rattle.perfdata_events.specs.Sample.{origin_words, event_words, data_words, page_words, chain, raw_data, branch_stack, registers, user_stack, aux_data, sample_start, sample_middle, sample_end, sample}
+use Rattle.perfdata_events.specs.Mmap2.{protection_at, mmap2}
+use Rattle.perfdata_event_fields.specs.FileId.{file_id}
+use Rattle.perfdata_events.specs.Sample.{origin_words, event_words, raw_data, branch_stack, user_stack, sample_start, sample_middle, sample}
+use Rattle.perfdata_event_fields.specs.SampleEnd.{data_words, page_words, aux_data, sample_end}
+use Rattle.perfdata_event_fields.specs.CallChain.{chain}
+use Rattle.perfdata_event_fields.specs.Registers.{registers}
+use Rattle.perfdata_events.specs.EventFormat.{register_masks_of}
 use Rattle.perfdata_events.specs.declared.format.EventFormat.{EventFormat}
 
 -- The bytes before a rest that drops n bytes.
@@ -145,7 +151,7 @@ module _ (number : ℕ → List ℕ → ℕ) where
         prefix_both _ _ (prefix_optional (registers number format.sample_regs_user) (prefix_registers format.sample_regs_user) (is_set format.sample_format 12)) (λ _.
         prefix_optional (user_stack number) prefix_user_stack (is_set format.sample_format 13))))
 
-    prefix_end : ConsumesPrefix (sample_end number format)
+    prefix_end : ConsumesPrefix (sample_end number format.sample_format (register_masks_of format))
     prefix_end =
         prefix_both _ _ (prefix_word _ _) (λ _.
         prefix_both _ _ (prefix_data_words format.sample_format) (λ _.

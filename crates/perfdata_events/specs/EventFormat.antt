@@ -7,8 +7,9 @@ use Rattle.perfdata_base.specs.ParseInfo.{is_set}
 use Rattle.perfdata_base.specs.declared.attr.PerfEventAttr.{PerfEventAttr}
 use Rattle.perfdata_base.specs.declared.raw.Endianness.{Endianness}
 use Rattle.perfdata_base.specs.declared.raw.RawData.{RawData}
-use Rattle.perfdata_events.specs.Format.{IsTruncated}
-use Rattle.perfdata_events.specs.Words.{words_size}
+use Rattle.perfdata_event_fields.specs.Format.{IsTruncated}
+use Rattle.perfdata_event_fields.specs.Words.{words_size}
+use Rattle.perfdata_event_fields.specs.declared.registers.RegisterMasks.{RegisterMasks}
 use Rattle.perfdata_events.specs.declared.format.EventFormat.{EventFormat}
 
 -- The format of an attribute's records in a byte order.
@@ -22,6 +23,10 @@ event_format_of attr order = record {
   sample_regs_intr = attr.sample_regs_intr;
   sample_id_all = is_set attr.flags.0 18;
 }
+
+-- The masks of the registers in a sample.
+abbrev pub register_masks_of : EventFormat → RegisterMasks
+register_masks_of format = record { user = format.sample_regs_user; interrupt = format.sample_regs_intr }
 
 -- The size of the sample_id fields at the end of a record that isn't a sample, in bytes.
 abbrev pub trailing_size : EventFormat → ℕ

@@ -1,5 +1,3 @@
-pub mod Format
-pub mod Fields
 pub mod Lost
 pub mod LostSamples
 pub mod Throttle
@@ -15,16 +13,13 @@ pub mod BpfEvent
 pub mod TextPoke
 pub mod ContextSwitch
 pub mod Selection
-pub mod Words
 pub mod Namespaces
 pub mod SampleId
 pub mod Mmap2
-pub mod ReadValues
 pub mod Read
 pub mod EventFormat
 pub mod Sample
 pub mod Event
 pub mod RecordId
 pub mod OneOutcome
-pub mod CallChain
 pub mod Prefix

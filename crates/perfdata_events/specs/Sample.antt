@@ -3,38 +3,29 @@
 -- BRANCH_STACK 11, REGS_USER 12, STACK_USER 13, WEIGHT 14 or WEIGHT_STRUCT 24, DATA_SRC 15, TRANSACTION 17, REGS_INTR 18,
 -- PHYS_ADDR 19, CGROUP 21, DATA_PAGE_SIZE 22, CODE_PAGE_SIZE 23, AUX 20. The kernel writes them in this order
 -- (`perf_output_sample`); a comment in `perf_event.h` puts AUX before the page sizes.
-use Rattle.std.specs.Prelude.{◌≡◌, ℕ, ◌+◌, ◌*◌, ◌/◌, ◌≤◌, ◌==◌, ◌||◌, not, List, [], ◌∷◌, length, slice_index, Option, None, if◌then◌else◌, count_ones}
+use Rattle.std.specs.Prelude.{◌≡◌, ℕ, ◌+◌, ◌*◌, ◌/◌, ◌≤◌, ◌==◌, not, List, [], ◌∷◌, length, slice_index, Option, None}
 use Rattle.std.specs.Option.{option_map}
 use Rattle.perfdata_base.specs.Raw.{bytes_of}
 use Rattle.perfdata_base.specs.ParseInfo.{is_set}
-use Rattle.perfdata_events.specs.Fields.{u32_at, u64_at}
-use Rattle.perfdata_events.specs.Format.{Outcome, encodes, fails, IsTruncated, block, fixed, both, led, optional}
-use Rattle.perfdata_events.specs.Words.{u64s, u64s_in, word, words_size, after, word_after}
-use Rattle.perfdata_events.specs.SampleId.{task_at}
-use Rattle.perfdata_events.specs.ReadValues.{Values, values_of, read_values}
+use Rattle.perfdata_event_fields.specs.Fields.{u32_at, u64_at}
+use Rattle.perfdata_event_fields.specs.Format.{Outcome, encodes, fails, IsTruncated, block, fixed, both, led, optional}
+use Rattle.perfdata_event_fields.specs.Words.{u64s, u64s_in, word, words_size, after, word_after}
+use Rattle.perfdata_event_fields.specs.Task.{task_at}
+use Rattle.perfdata_event_fields.specs.ReadValues.{Values, values_of, read_values}
+use Rattle.perfdata_event_fields.specs.CallChain.{chain, chain_values_of}
+use Rattle.perfdata_event_fields.specs.Registers.{registers, registers_of}
+use Rattle.perfdata_event_fields.specs.SampleEnd.{End, sample_end}
+use Rattle.perfdata_events.specs.EventFormat.{register_masks_of}
 use Rattle.perfdata_events.specs.declared.format.EventFormat.{EventFormat}
-use Rattle.perfdata_events.specs.declared.call_chain.CallChain.{CallChain}
 use Rattle.perfdata_events.specs.declared.sample_parts.BranchEntry.{BranchEntry}
 use Rattle.perfdata_events.specs.declared.sample_parts.BranchStack.{BranchStack}
-use Rattle.perfdata_events.specs.declared.sample_parts.Registers.{Registers}
 use Rattle.perfdata_events.specs.declared.sample_parts.UserStack.{UserStack}
 use Rattle.perfdata_events.specs.declared.sample_words.OriginWords.{OriginWords}
 use Rattle.perfdata_events.specs.declared.sample_words.EventWords.{EventWords}
-use Rattle.perfdata_events.specs.declared.sample_words.DataWords.{DataWords}
-use Rattle.perfdata_events.specs.declared.sample_words.PageWords.{PageWords}
 use Rattle.perfdata_events.specs.declared.sample.SampleStart.{SampleStart}
 use Rattle.perfdata_events.specs.declared.sample.SampleMiddle.{SampleMiddle}
-use Rattle.perfdata_events.specs.declared.sample.SampleEnd.{SampleEnd}
 use Rattle.perfdata_events.specs.declared.sample.SampleWords.{SampleWords}
 use Rattle.perfdata_events.specs.declared.sample.SampleRecord.{SampleRecord}
-
--- The values of a chain, those that are context changes too.
-abbrev pub chain_values_of : CallChain → List ℕ
-chain_values_of v = u64s_in v.values
-
--- The abi of registers, and their values.
-abbrev pub registers_of : Registers → ℕ × List ℕ
-registers_of v = (v.abi, u64s_in v.values)
 
 -- The hardware index, the numbers of the entries (three each: from, to, flags), and the counters.
 abbrev pub branches_of : BranchStack → Option ℕ × (List ℕ × Option (List ℕ))
@@ -55,15 +46,7 @@ branch_at v index = record {
 abbrev pub stack_of : UserStack → List ℕ × Option ℕ
 stack_of v = (bytes_of v.bytes, v.dynamic_size)
 
--- With an abi of 0 there are no registers; else there is one for each bit of the mask.
-abbrev pub register_count : ℕ → ℕ → ℕ
-register_count abi mask = if abi == 0 then 0 else count_ones mask
-
 module _ (number : ℕ → List ℕ → ℕ) where
-  -- { u64 nr; u64 ips[nr]; }
-  abbrev pub chain : List ℕ → Outcome (List ℕ) → Type 0
-  chain = led (fixed 8 (u64_at number 0)) (λ count. u64s number count)
-
   -- { u32 size; char data[size]; }
   abbrev pub raw_data : List ℕ → Outcome (List ℕ) → Type 0
   raw_data = led (fixed 4 (u32_at number 0)) block
@@ -76,17 +59,9 @@ module _ (number : ℕ → List ℕ → ℕ) where
       both (u64s number (3 * count)) (λ _.
       optional (is_set branch_type 19) (u64s number count))))
 
-  -- { u64 abi; u64 regs[weight(mask)]; }
-  abbrev pub registers : ℕ → List ℕ → Outcome (ℕ × List ℕ) → Type 0
-  registers mask = both (fixed 8 (u64_at number 0)) (λ abi. u64s number (register_count abi mask))
-
   -- { u64 size; char data[size]; u64 dyn_size; }, the last only if the size isn't 0
   abbrev pub user_stack : List ℕ → Outcome (List ℕ × Option ℕ) → Type 0
   user_stack = led (fixed 8 (u64_at number 0)) (λ size. both (block size) (λ _. word (not (size == 0)) (u64_at number 0)))
-
-  -- { u64 size; char data[size]; }
-  abbrev pub aux_data : List ℕ → Outcome (List ℕ) → Type 0
-  aux_data = led (fixed 8 (u64_at number 0)) block
 
   module _ (format : ℕ) where
     -- The words with the bits 16, 0, 1, 2.
@@ -115,30 +90,6 @@ module _ (number : ℕ → List ℕ → ℕ) where
     event_words xs (encodes value rest) = AreEventWords xs value rest
     event_words xs (fails kind) = IsTruncated (words_size format (3 ∷ 6 ∷ 9 ∷ 7 ∷ [])) xs kind
 
-    -- The words with the bits 15, 17.
-    pub record AreDataWords (xs : List ℕ) (value : DataWords) (rest : List ℕ) : Type 0 where
-      pub enough : words_size format (15 ∷ 17 ∷ []) ≤ length xs
-      pub data_source_is : value.data_source ≡ word_after format [] 15 (u64_at number 0) xs
-      pub transaction_is : value.transaction ≡ word_after format (15 ∷ []) 17 (u64_at number 0) xs
-      pub rest_is : rest ≡ after format (15 ∷ 17 ∷ []) xs
-
-    abbrev pub data_words : List ℕ → Outcome DataWords → Type 0
-    data_words xs (encodes value rest) = AreDataWords xs value rest
-    data_words xs (fails kind) = IsTruncated (words_size format (15 ∷ 17 ∷ [])) xs kind
-
-    -- The words with the bits 19, 21, 22, 23.
-    pub record ArePageWords (xs : List ℕ) (value : PageWords) (rest : List ℕ) : Type 0 where
-      pub enough : words_size format (19 ∷ 21 ∷ 22 ∷ 23 ∷ []) ≤ length xs
-      pub physical_address_is : value.physical_address ≡ word_after format [] 19 (u64_at number 0) xs
-      pub cgroup_is : value.cgroup ≡ word_after format (19 ∷ []) 21 (u64_at number 0) xs
-      pub data_page_size_is : value.data_page_size ≡ word_after format (19 ∷ 21 ∷ []) 22 (u64_at number 0) xs
-      pub code_page_size_is : value.code_page_size ≡ word_after format (19 ∷ 21 ∷ 22 ∷ []) 23 (u64_at number 0) xs
-      pub rest_is : rest ≡ after format (19 ∷ 21 ∷ 22 ∷ 23 ∷ []) xs
-
-    abbrev pub page_words : List ℕ → Outcome PageWords → Type 0
-    page_words xs (encodes value rest) = ArePageWords xs value rest
-    page_words xs (fails kind) = IsTruncated (words_size format (19 ∷ 21 ∷ 22 ∷ 23 ∷ [])) xs kind
-
 -- The values of a sample in three parts, each a value and then the others.
 abbrev pub Start : Type 0
 Start = OriginWords × (EventWords × (Option ℕ × (Option Values × Option (List ℕ))))
@@ -146,17 +97,11 @@ Start = OriginWords × (EventWords × (Option ℕ × (Option Values × Option (L
 abbrev pub Middle : Type 0
 Middle = Option (List ℕ) × (Option (Option ℕ × (List ℕ × Option (List ℕ))) × (Option (ℕ × List ℕ) × Option (List ℕ × Option ℕ)))
 
-abbrev pub End : Type 0
-End = Option ℕ × (DataWords × (Option (ℕ × List ℕ) × (PageWords × Option (List ℕ))))
-
 abbrev pub start_of : SampleStart → Start
 start_of v = (v.origin, (v.event, (v.period, (option_map values_of v.values, option_map chain_values_of v.call_chain))))
 
 abbrev pub middle_of : SampleMiddle → Middle
 middle_of v = (option_map bytes_of v.raw, (option_map branches_of v.branch_stack, (option_map registers_of v.user_registers, option_map stack_of v.user_stack)))
-
-abbrev pub end_of : SampleEnd → End
-end_of v = (v.weight, (v.data, (option_map registers_of v.interrupt_registers, (v.pages, option_map bytes_of v.aux_data))))
 
 -- Fields that the attribute doesn't select have no values.
 abbrev pub no_middle : Middle
@@ -216,17 +161,8 @@ module _ (number : ℕ → List ℕ → ℕ) (format : EventFormat) where
   sample_middle =
       both (optional (is_set format.sample_format 10) (raw_data number)) (λ _.
       both (optional (is_set format.sample_format 11) (branch_stack number format.branch_sample_type)) (λ _.
-      both (optional (is_set format.sample_format 12) (registers number format.sample_regs_user)) (λ _.
+      both (optional (is_set format.sample_format 12) (registers number (register_masks_of format).user)) (λ _.
       optional (is_set format.sample_format 13) (user_stack number))))
 
-  -- The fields from the weight on.
-  abbrev pub sample_end : List ℕ → Outcome End → Type 0
-  sample_end =
-      both (word (is_set format.sample_format 14 || is_set format.sample_format 24) (u64_at number 0)) (λ _.
-      both (data_words number format.sample_format) (λ _.
-      both (optional (is_set format.sample_format 18) (registers number format.sample_regs_intr)) (λ _.
-      both (page_words number format.sample_format) (λ _.
-      optional (is_set format.sample_format 20) (aux_data number)))))
-
   abbrev pub sample : List ℕ → Outcome (Start × (Middle × End)) → Type 0
-  sample = both sample_start (λ _. both sample_middle (λ _. sample_end))
+  sample = both sample_start (λ _. both sample_middle (λ _. sample_end number format.sample_format (register_masks_of format)))

@@ -4,21 +4,18 @@
 -- { u64 id; } && PERF_SAMPLE_IDENTIFIER. A word is named by its bit of the sample format: TID 1, TIME 2, ID 6, STREAM_ID 9, CPU 7,
 -- IDENTIFIER 16.
 use Rattle.std.specs.Prelude.{◌≡◌, ℕ, ◌≤◌, List, [], ◌∷◌, length}
-use Rattle.perfdata_events.specs.Fields.{i32_at, u32_at, u64_at}
-use Rattle.perfdata_events.specs.Format.{Outcome, encodes, fails, IsTruncated}
-use Rattle.perfdata_events.specs.Words.{words_size, after, word_after}
+use Rattle.perfdata_event_fields.specs.Fields.{u32_at, u64_at}
+use Rattle.perfdata_event_fields.specs.Format.{Outcome, encodes, fails, IsTruncated}
+use Rattle.perfdata_event_fields.specs.Words.{words_size, after, word_after}
+use Rattle.perfdata_event_fields.specs.Task.{task_at}
 use Rattle.perfdata_events.specs.declared.sample_id.SampleId.{SampleId}
-use Rattle.perfdata_events.specs.declared.sample_id.Task.{Task}
 
 module _ (number : ℕ → List ℕ → ℕ) where
-  abbrev pub task_at : List ℕ → Task
-  task_at bytes = record { pid = i32_at number 0 bytes; tid = i32_at number 4 bytes }
-
   module _ (format : ℕ) where
     -- The fields, in the order of the bits 1, 2, 6, 9, 7, 16.
     pub record IsSampleId (xs : List ℕ) (value : SampleId) (rest : List ℕ) : Type 0 where
       pub enough : words_size format (1 ∷ 2 ∷ 6 ∷ 9 ∷ 7 ∷ 16 ∷ []) ≤ length xs
-      pub task_is : value.task ≡ word_after format [] 1 task_at xs
+      pub task_is : value.task ≡ word_after format [] 1 (task_at number) xs
       pub timestamp_is : value.timestamp ≡ word_after format (1 ∷ []) 2 (u64_at number 0) xs
       pub id_is : value.id ≡ word_after format (1 ∷ 2 ∷ []) 6 (u64_at number 0) xs
       pub stream_id_is : value.stream_id ≡ word_after format (1 ∷ 2 ∷ 6 ∷ []) 9 (u64_at number 0) xs

@@ -10,12 +10,12 @@ use crate::kernel::{BpfEventRecord, KsymbolRecord, TextPokeRecord};
 use crate::lost::{LostRecord, LostSamplesRecord, ThrottleRecord};
 use crate::mmap::MmapRecord;
 use crate::mmap2::Mmap2Record;
-use crate::numbers::has_bits;
 use crate::read_values::ReadRecord;
 use crate::sample::SampleRecord;
 use crate::task::{CgroupRecord, CommOrExecRecord, ForkOrExitRecord, NamespacesRecord};
 use perfdata_base::event::{RawEventRecord, RecordType};
 use perfdata_base::raw::RawData;
+use perfdata_event_fields::numbers::has_bits;
 use std::io::Result;
 
 const PERF_RECORD_MMAP: u32 = 1;

@@ -1,12 +1,13 @@
 //! What the bodies of one attribute's records hold.
 ghost use Rattle.std.specs.Prelude.{◌≡◌, [], ◌∷◌};
 ghost use Rattle.perfdata_base.specs.Raw.{bytes_of};
-ghost use Rattle.perfdata_events.specs.Words.{word_size, words_size};
+ghost use Rattle.perfdata_event_fields.specs.Words.{word_size, words_size};
 
-use crate::numbers::has_bits;
 use perfdata_base::attr::PerfEventAttr;
 use perfdata_base::raw::{Endianness, RawData};
 use perfdata_base::source::unexpected_eof;
+use perfdata_event_fields::numbers::has_bits;
+use perfdata_event_fields::registers::RegisterMasks;
 use std::io::Result;
 
 /// The bit of an attribute's flags for sample_id fields in all records.
@@ -52,7 +53,7 @@ fn sample_id_size(format: u64) -> usize
 }
 
 impl EventFormat {
-    ghost use Rattle.perfdata_events.specs.EventFormat.{event_format_of, trailing_size, SplitsTrailing};
+    ghost use Rattle.perfdata_events.specs.EventFormat.{event_format_of, register_masks_of, trailing_size, SplitsTrailing};
 
     /// Returns the format of the records of an attribute, with numbers in the byte order `endian`.
     pub fn new(attr: &PerfEventAttr, endian: Endianness) -> EventFormat
@@ -66,6 +67,17 @@ impl EventFormat {
             sample_regs_user: attr.sample_regs_user,
             sample_regs_intr: attr.sample_regs_intr,
             sample_id_all: has_bits(attr.flags.0, SAMPLE_ID_ALL),
+        }
+    }
+
+    /// Returns the masks of the registers in a sample.
+    #[inline(always)]
+    pub fn register_masks(&self) -> RegisterMasks
+        ensures { result ≡ register_masks_of self.now }
+    {
+        RegisterMasks {
+            user: self.sample_regs_user,
+            interrupt: self.sample_regs_intr,
         }
     }
 

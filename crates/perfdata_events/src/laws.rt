@@ -1,5 +1,5 @@
 //! Laws on the definitions of formats.
-ghost use Rattle.std.specs.Prelude.{ℕ, List, Bool, ◌≡◌, ◌<◌, ◌++◌, not, map, filter};
+ghost use Rattle.std.specs.Prelude.{ℕ, List, Bool, ◌≡◌, ◌<◌};
 ghost use Rattle.std.specs.Option.{option_or};
 ghost use Rattle.perfdata_base.specs.Raw.{bytes_of};
 ghost use Rattle.perfdata_base.specs.ParseInfo.{parse_info_of, id_parse_info_of, time_of, identifier_of};
@@ -9,9 +9,6 @@ ghost use Rattle.perfdata_base.specs.declared.raw.Endianness.{Endianness};
 ghost use Rattle.perfdata_events.specs.EventFormat.{event_format_of};
 ghost use Rattle.perfdata_events.specs.RecordId.{IsSampleIdOf};
 ghost use Rattle.perfdata_events.specs.declared.sample_id.SampleId.{SampleId};
-ghost use Rattle.perfdata_events.specs.CallChain.{is_context_change, frames_of, last_context};
-ghost use Rattle.perfdata_events.specs.declared.call_chain.CallContext.{CallContext};
-ghost use Rattle.perfdata_events.specs.declared.call_chain.Frame.{Frame};
 ghost use Rattle.perfdata_events.specs.OneOutcome.{HasOneOutcome};
 ghost use Rattle.perfdata_events.specs.Prefix.{ConsumesPrefix};
 ghost use Rattle.perfdata_events.specs.Mmap.{mmap};
@@ -34,6 +31,8 @@ ghost use Rattle.perfdata_events.specs.AuxOutputHwId.{aux_output_hw_id};
 ghost use Rattle.perfdata_events.specs.Sample.{sample};
 ghost use Rattle.perfdata_events.specs.SampleId.{sample_id};
 ghost use Rattle.perfdata_events.specs.declared.format.EventFormat.{EventFormat};
+
+pub use perfdata_event_fields::laws::frames_are_values_in_context;
 
 /// Bytes either start with exactly one value of a record's fields, which are followed by exactly one rest, or have exactly one
 /// first error. `number` parses a number of a given size, in either byte order.
@@ -82,12 +81,6 @@ pub fn fields_are_a_prefix()
     ensures aux_output_hw_id { (number : ℕ → List ℕ → ℕ) → ConsumesPrefix (aux_output_hw_id number) }
     ensures sample { (number : ℕ → List ℕ → ℕ) (format : EventFormat) → ConsumesPrefix (sample number format) }
     ensures sample_id { (number : ℕ → List ℕ → ℕ) (sample_format : ℕ) → ConsumesPrefix (sample_id number sample_format) }
-{}
-
-/// The frames of a call chain are its values that change no context, in order, each with the last context before it.
-pub fn frames_are_values_in_context()
-    ensures addresses { (context : CallContext) (values : List ℕ) → map (λ (f : Frame). f.address) (frames_of context values) ≡ filter (λ v. not (is_context_change v)) values }
-    ensures contexts { (context : CallContext) (before later : List ℕ) → frames_of context (before ++ later) ≡ frames_of context before ++ frames_of (last_context context before) later }
 {}
 
 /// The time and the identifier that `sample_id` returns are those that the reader finds at their offsets in the record: the

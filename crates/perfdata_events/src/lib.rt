@@ -5,7 +5,6 @@
 #![tactic(auto)]
 
 pub mod aux_area;
-pub mod call_chain;
 pub mod context_switch;
 pub mod event;
 pub mod format;
@@ -14,7 +13,6 @@ pub mod laws;
 pub mod lost;
 pub mod mmap;
 pub mod mmap2;
-mod numbers;
 pub mod read_values;
 pub mod record_id;
 pub mod sample;
@@ -22,6 +20,5 @@ pub mod sample_id;
 pub mod sample_parts;
 pub mod sample_words;
 pub mod task;
-mod text;
-pub mod u64s;
-mod words;
+
+pub use perfdata_event_fields::{call_chain, u64s};

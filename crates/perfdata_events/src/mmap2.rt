@@ -1,43 +1,17 @@
 //! Records on mappings with the identity of the mapped file.
-ghost use Rattle.std.specs.Prelude.{◌≡◌, length};
 ghost use Rattle.perfdata_base.specs.Raw.{bytes_of};
 ghost use Rattle.perfdata_base.specs.Endian.{number_in};
 ghost use Rattle.perfdata_base.specs.ParseInfo.{is_set};
-ghost use Rattle.perfdata_events.specs.Format.{Decodes, fixed, fixed_and_text};
-ghost use Rattle.perfdata_events.specs.Mmap2.{ReadsBuildId};
+ghost use Rattle.perfdata_event_fields.specs.Format.{Decodes, fixed, fixed_and_text};
 
-use crate::numbers::{has_bits, i32_at, u32_at, u64_at};
-use crate::text::{invalid_data, read_text};
 use perfdata_base::raw::{Endianness, RawData};
+pub use perfdata_event_fields::file_id::{Mmap2FileId, Mmap2InodeAndVersion};
+use perfdata_event_fields::numbers::{has_bits, i32_at, u32_at, u64_at};
+use perfdata_event_fields::text::read_text;
 use std::io::Result;
 
 /// The bit of a record header's `misc` that marks a build id (`PERF_RECORD_MISC_MMAP_BUILD_ID`).
 const MISC_MMAP_BUILD_ID: u64 = 1 << 14;
-
-/// The maximum size of a build id in bytes.
-const MAX_BUILD_ID_SIZE: u8 = 20;
-
-/// The device and the inode of a mapped file.
-#[derive(Clone, Copy, Debug, PartialEq, Eq)]
-pub struct Mmap2InodeAndVersion {
-    /// The device's major number.
-    pub major: u32,
-    /// The device's minor number.
-    pub minor: u32,
-    /// The inode.
-    pub inode: u64,
-    /// The generation of the inode.
-    pub inode_generation: u64,
-}
-
-/// The identity of a mapped file.
-#[derive(Clone, Copy, Debug, PartialEq, Eq)]
-pub enum Mmap2FileId<'a> {
-    /// Its device and inode.
-    InodeAndVersion(Mmap2InodeAndVersion),
-    /// The bytes of its build id, at most 20.
-    BuildId(RawData<'a>),
-}
 
 /// An executable mapping with the identity of the mapped file (`PERF_RECORD_MMAP2`).
 #[derive(Clone, Copy, Debug, PartialEq, Eq)]
@@ -80,21 +54,6 @@ struct ProtectedPath<'a> {
     path: RawData<'a>,
 }
 
-// The build id in 24 bytes.
-fn read_build_id(bytes: RawData<'_>) -> Result<RawData<'_>>
-    requires { length (bytes_of bytes) ≡ 24 }
-    ensures { ReadsBuildId (bytes_of bytes.entry) result }
-{
-    let mut rest = bytes;
-    let size = rest.read_u8()?;
-    if size > MAX_BUILD_ID_SIZE {
-        return Err(invalid_data());
-    }
-    let mut padded = bytes;
-    padded.skip(4)?;
-    padded.split_off_prefix(size as usize)
-}
-
 impl AddressRange {
     ghost use Rattle.perfdata_events.specs.Mmap.{mapping_at};
     ghost use Rattle.perfdata_events.specs.Mmap2.{address_range_of};
@@ -128,33 +87,6 @@ impl<'a> ProtectedPath<'a> {
             flags: u32_at(endian, &bytes, 4),
             path,
         })
-    }
-}
-
-impl<'a> Mmap2FileId<'a> {
-    ghost use Rattle.perfdata_events.specs.Mmap2.{file_id, file_id_of};
-
-    // Removes a file id of 24 bytes.
-    fn parse(
-        endian: Endianness,
-        is_build_id: bool,
-        fields: &mut RawData<'a>,
-    ) -> Result<Mmap2FileId<'a>>
-        ensures { Decodes (file_id (number_in endian) is_build_id) file_id_of (bytes_of fields.old) result (bytes_of fields.new) }
-    {
-        if is_build_id {
-            let id = fields.split_off_prefix(24)?;
-            let build_id = read_build_id(id)?;
-            return Ok(Mmap2FileId::BuildId(build_id));
-        }
-        let mut bytes = [0u8; 24];
-        fields.read_exact(&mut bytes)?;
-        Ok(Mmap2FileId::InodeAndVersion(Mmap2InodeAndVersion {
-            major: u32_at(endian, &bytes, 0),
-            minor: u32_at(endian, &bytes, 4),
-            inode: u64_at(endian, &bytes, 8),
-            inode_generation: u64_at(endian, &bytes, 16),
-        }))
     }
 }
 

@@ -3,18 +3,20 @@ ghost use Rattle.std.specs.Prelude.{◌≡◌, ◌||◌};
 ghost use Rattle.perfdata_base.specs.Raw.{bytes_of};
 ghost use Rattle.perfdata_base.specs.Endian.{number_in};
 ghost use Rattle.perfdata_base.specs.ParseInfo.{is_set};
-ghost use Rattle.perfdata_events.specs.Format.{Decodes};
+ghost use Rattle.perfdata_event_fields.specs.Format.{Decodes};
 ghost use Rattle.perfdata_events.specs.Selection.{selects_middle, selects_data, selects_pages, selects_end, selects_parts};
 
-use crate::call_chain::CallChain;
 use crate::format::EventFormat;
-use crate::numbers::has_bits;
-use crate::read_values::ReadValues;
-use crate::sample_id::Task;
-use crate::sample_parts::{BranchStack, Registers, UserStack, read_aux_data_if, read_raw_data_if};
-use crate::sample_words::{DataWords, EventWords, OriginWords, PageWords};
-use crate::words::read_u64_if;
+use crate::sample_parts::{BranchStack, UserStack, read_raw_data_if};
+use crate::sample_words::{EventWords, OriginWords};
 use perfdata_base::raw::RawData;
+use perfdata_event_fields::call_chain::CallChain;
+use perfdata_event_fields::numbers::has_bits;
+use perfdata_event_fields::read_values::ReadValues;
+use perfdata_event_fields::registers::Registers;
+use perfdata_event_fields::sample_end::{SampleEnd, has_weight};
+use perfdata_event_fields::task::Task;
+use perfdata_event_fields::words::read_u64_if;
 use std::io::Result;
 
 /// A sample of an event (`PERF_RECORD_SAMPLE`). A field is `None` if the attribute doesn't select it.
@@ -89,16 +91,6 @@ struct SampleMiddle<'a> {
     user_stack: Option<UserStack<'a>>,
 }
 
-// The fields from the weight on.
-#[derive(Clone, Copy)]
-struct SampleEnd<'a> {
-    weight: Option<u64>,
-    data: DataWords,
-    interrupt_registers: Option<Registers<'a>>,
-    pages: PageWords,
-    aux_data: Option<RawData<'a>>,
-}
-
 /// The words of a sample that has no other fields, as in [`SampleRecord`]. They take less time to parse.
 #[derive(Clone, Copy, Debug, PartialEq, Eq)]
 pub struct SampleWords {
@@ -163,12 +155,7 @@ impl<'a> SampleMiddle<'a> {
             format.branch_sample_type,
             fields,
         )?;
-        let user_registers = Registers::parse_if(
-            endian,
-            has_bits(bits, 1 << 12),
-            format.sample_regs_user,
-            fields,
-        )?;
+        let user_registers = Registers::parse_user(endian, bits, format.register_masks(), fields)?;
         let user_stack = UserStack::parse_if(endian, has_bits(bits, 1 << 13), fields)?;
         Ok(SampleMiddle {
             raw,
@@ -177,13 +164,6 @@ impl<'a> SampleMiddle<'a> {
             user_stack,
         })
     }
-}
-
-// Whether a sample has a weight, in one of its two forms.
-fn has_weight(bits: u64) -> bool
-    ensures { result ≡ (is_set bits 14 || is_set bits 24) }
-{
-    has_bits(bits, 1 << 14) || has_bits(bits, 1 << 24)
 }
 
 // Whether a sample has a word or registers from the data source to the interrupt registers.
@@ -209,34 +189,6 @@ fn has_end(bits: u64) -> bool
     ensures { result ≡ selects_end bits }
 {
     has_weight(bits) || has_data(bits) || has_pages(bits)
-}
-
-impl<'a> SampleEnd<'a> {
-    ghost use Rattle.perfdata_events.specs.Sample.{sample_end, end_of};
-
-    fn parse(format: &EventFormat, fields: &mut RawData<'a>) -> Result<SampleEnd<'a>>
-        ensures { Decodes (sample_end (number_in format.now.endian) format.now) end_of (bytes_of fields.old) result (bytes_of fields.new) }
-    {
-        let endian = format.endian;
-        let bits = format.sample_format;
-        let weight = read_u64_if(endian, fields, has_weight(bits))?;
-        let data = DataWords::parse(endian, bits, fields)?;
-        let interrupt_registers = Registers::parse_if(
-            endian,
-            has_bits(bits, 1 << 18),
-            format.sample_regs_intr,
-            fields,
-        )?;
-        let pages = PageWords::parse(endian, bits, fields)?;
-        let aux_data = read_aux_data_if(endian, has_bits(bits, 1 << 20), fields)?;
-        Ok(SampleEnd {
-            weight,
-            data,
-            interrupt_registers,
-            pages,
-            aux_data,
-        })
-    }
 }
 
 // Whether a sample has a field after its period.
@@ -295,7 +247,12 @@ impl<'a> SampleRecord<'a> {
     {
         let start = SampleStart::parse(format, fields)?;
         let middle = SampleMiddle::parse(format, fields)?;
-        let end = SampleEnd::parse(format, fields)?;
+        let end = SampleEnd::parse(
+            format.endian,
+            format.sample_format,
+            format.register_masks(),
+            fields,
+        )?;
         Ok(SampleRecord {
             identifier: start.origin.identifier,
             ip: start.origin.ip,

@@ -2,13 +2,15 @@
 ghost use Rattle.std.specs.Prelude.{◌≡◌, ◌==◌, not};
 ghost use Rattle.perfdata_base.specs.Raw.{bytes_of};
 ghost use Rattle.perfdata_base.specs.Endian.{number_in};
-ghost use Rattle.perfdata_events.specs.Format.{Decodes, optional};
+ghost use Rattle.perfdata_event_fields.specs.Format.{Decodes, optional};
+ghost use Rattle.perfdata_event_fields.specs.Words.{u64s, u64s_in};
 ghost use Rattle.std.specs.Option.{option_map};
 
-use crate::numbers::has_bits;
-use crate::u64s::{RawDataU64, read_block, read_u64_list, read_u64_list_if, read_u64s};
-use crate::words::{read_u32, read_u64, read_u64_if};
 use perfdata_base::raw::{Endianness, RawData};
+use perfdata_event_fields::numbers::has_bits;
+pub use perfdata_event_fields::registers::{RegisterMasks, Registers};
+use perfdata_event_fields::u64s::{RawDataU64, read_block, read_u64_list, read_u64s};
+use perfdata_event_fields::words::{read_u32, read_u64, read_u64_if};
 use std::io::Result;
 
 /// The bit of the branch sample type for the hardware index (`PERF_SAMPLE_BRANCH_HW_INDEX`).
@@ -39,15 +41,6 @@ pub struct BranchEntry {
     pub flags: u64,
 }
 
-/// The registers of a program or at an interrupt.
-#[derive(Clone, Copy, Debug)]
-pub struct Registers<'a> {
-    /// The kind of the program: 0 none, 1 of 32 bits, 2 of 64 bits.
-    pub abi: u64,
-    /// The registers of the attribute's mask, by ascending bit; none if `abi` is 0.
-    pub values: RawDataU64<'a>,
-}
-
 /// A copy of the start of a program's stack.
 #[derive(Clone, Copy, Debug)]
 pub struct UserStack<'a> {
@@ -55,6 +48,21 @@ pub struct UserStack<'a> {
     pub bytes: RawData<'a>,
     /// The number of these bytes that the kernel could copy; `None` if there are none.
     pub dynamic_size: Option<u64>,
+}
+
+// Removes `count` numbers if they are there.
+fn read_u64_list_if<'a>(
+    endian: Endianness,
+    fields: &mut RawData<'a>,
+    present: bool,
+    count: u64,
+) -> Result<Option<RawDataU64<'a>>>
+    ensures { Decodes (optional present (u64s (number_in endian) count)) (option_map u64s_in) (bytes_of fields.old) result (bytes_of fields.new) }
+{
+    if !present {
+        return Ok(None);
+    }
+    read_u64_list(endian, fields, count).map(Some)
 }
 
 impl<'a> BranchStack<'a> {
@@ -125,51 +133,6 @@ impl<'a> BranchStack<'a> {
     }
 }
 
-impl<'a> Registers<'a> {
-    ghost use Rattle.perfdata_events.specs.Sample.{registers, registers_of, register_count};
-
-    // The number of registers.
-    fn count(abi: u64, mask: u64) -> u64
-        ensures { result ≡ register_count abi mask }
-    {
-        if abi == 0 {
-            0
-        } else {
-            mask.count_ones() as u64
-        }
-    }
-
-    // Removes the registers of a mask.
-    pub(crate) fn parse(
-        endian: Endianness,
-        mask: u64,
-        fields: &mut RawData<'a>,
-    ) -> Result<Registers<'a>>
-        ensures { Decodes (registers (number_in endian) mask) registers_of (bytes_of fields.old) result (bytes_of fields.new) }
-    {
-        let abi = read_u64(endian, fields)?;
-        let count = Registers::count(abi, mask);
-        let values = read_u64_list(endian, fields, count)?;
-        Ok(Registers { abi, values })
-    }
-
-    // The same if it is there.
-    #[inline(always)]
-    pub(crate) fn parse_if(
-        endian: Endianness,
-        present: bool,
-        mask: u64,
-        fields: &mut RawData<'a>,
-    ) -> Result<Option<Registers<'a>>>
-        ensures { Decodes (optional present (registers (number_in endian) mask)) (option_map registers_of) (bytes_of fields.old) result (bytes_of fields.new) }
-    {
-        if !present {
-            return Ok(None);
-        }
-        Registers::parse(endian, mask, fields).map(Some)
-    }
-}
-
 fn is_nonzero(size: u64) -> bool
     ensures { result ≡ not (size == 0) }
 {
@@ -207,21 +170,13 @@ impl<'a> UserStack<'a> {
     }
 }
 
-ghost use Rattle.perfdata_events.specs.Sample.{raw_data, aux_data};
+ghost use Rattle.perfdata_events.specs.Sample.{raw_data};
 
 // Removes raw data, whose size is four bytes before it.
 pub(crate) fn read_raw_data<'a>(endian: Endianness, fields: &mut RawData<'a>) -> Result<RawData<'a>>
     ensures { Decodes (raw_data (number_in endian)) bytes_of (bytes_of fields.old) result (bytes_of fields.new) }
 {
     let size = read_u32(endian, fields)?;
-    read_block(fields, size as usize)
-}
-
-// Removes aux data, whose size is eight bytes before it.
-pub(crate) fn read_aux_data<'a>(endian: Endianness, fields: &mut RawData<'a>) -> Result<RawData<'a>>
-    ensures { Decodes (aux_data (number_in endian)) bytes_of (bytes_of fields.old) result (bytes_of fields.new) }
-{
-    let size = read_u64(endian, fields)?;
     read_block(fields, size as usize)
 }
 
@@ -237,19 +192,4 @@ pub(crate) fn read_raw_data_if<'a>(
         return Ok(None);
     }
     read_raw_data(endian, fields).map(Some)
-}
-
-// Removes aux data if it is there.
-#[inline(always)]
-pub(crate) fn read_aux_data_if<'a>(
-    endian: Endianness,
-    present: bool,
-    fields: &mut RawData<'a>,
-) -> Result<Option<RawData<'a>>>
-    ensures { Decodes (optional present (aux_data (number_in endian))) (option_map bytes_of) (bytes_of fields.old) result (bytes_of fields.new) }
-{
-    if !present {
-        return Ok(None);
-    }
-    read_aux_data(endian, fields).map(Some)
 }

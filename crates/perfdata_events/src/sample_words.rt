@@ -1,12 +1,13 @@
-//! The fixed words of samples.
+//! The words of a sample up to its processor.
 ghost use Rattle.perfdata_base.specs.Raw.{bytes_of};
 ghost use Rattle.perfdata_base.specs.Endian.{number_in};
-ghost use Rattle.perfdata_events.specs.Format.{Decodes};
+ghost use Rattle.perfdata_event_fields.specs.Format.{Decodes};
 
-use crate::numbers::has_bits;
-use crate::sample_id::Task;
-use crate::words::{read_task_if, read_u32_if, read_u64_if};
 use perfdata_base::raw::{Endianness, RawData};
+use perfdata_event_fields::numbers::has_bits;
+pub use perfdata_event_fields::sample_end::{DataWords, PageWords};
+use perfdata_event_fields::task::Task;
+use perfdata_event_fields::words::{read_task_if, read_u32_if, read_u64_if};
 use std::io::Result;
 
 /// The first words of a sample. A field is `None` if the attribute doesn't select it.
@@ -33,28 +34,6 @@ pub struct EventWords {
     pub stream_id: Option<u64>,
     /// The processor.
     pub cpu: Option<u32>,
-}
-
-/// The words of a sample on its data. A field is `None` if the attribute doesn't select it.
-#[derive(Clone, Copy, Debug, PartialEq, Eq)]
-pub struct DataWords {
-    /// Where the data came from, as bits (`union perf_mem_data_src`).
-    pub data_source: Option<u64>,
-    /// Why a transaction was aborted, as bits.
-    pub transaction: Option<u64>,
-}
-
-/// The words of a sample on its pages. A field is `None` if the attribute doesn't select it.
-#[derive(Clone, Copy, Debug, PartialEq, Eq)]
-pub struct PageWords {
-    /// The physical address of the data.
-    pub physical_address: Option<u64>,
-    /// The id of the control group.
-    pub cgroup: Option<u64>,
-    /// The size of the page of the data, in bytes.
-    pub data_page_size: Option<u64>,
-    /// The size of the page of the instruction, in bytes.
-    pub code_page_size: Option<u64>,
 }
 
 impl OriginWords {
@@ -103,52 +82,6 @@ impl EventWords {
             id,
             stream_id,
             cpu,
-        })
-    }
-}
-
-impl DataWords {
-    ghost use Rattle.perfdata_events.specs.Sample.{data_words};
-
-    // Removes the words that a sample format selects.
-    #[inline(always)]
-    pub(crate) fn parse(
-        endian: Endianness,
-        format: u64,
-        fields: &mut RawData<'_>,
-    ) -> Result<DataWords>
-        ensures { Decodes (data_words (number_in endian) format) (λ v. v) (bytes_of fields.old) result (bytes_of fields.new) }
-    {
-        let data_source = read_u64_if(endian, fields, has_bits(format, 1 << 15))?;
-        let transaction = read_u64_if(endian, fields, has_bits(format, 1 << 17))?;
-        Ok(DataWords {
-            data_source,
-            transaction,
-        })
-    }
-}
-
-impl PageWords {
-    ghost use Rattle.perfdata_events.specs.Sample.{page_words};
-
-    // Removes the words that a sample format selects.
-    #[inline(always)]
-    pub(crate) fn parse(
-        endian: Endianness,
-        format: u64,
-        fields: &mut RawData<'_>,
-    ) -> Result<PageWords>
-        ensures { Decodes (page_words (number_in endian) format) (λ v. v) (bytes_of fields.old) result (bytes_of fields.new) }
-    {
-        let physical_address = read_u64_if(endian, fields, has_bits(format, 1 << 19))?;
-        let cgroup = read_u64_if(endian, fields, has_bits(format, 1 << 21))?;
-        let data_page_size = read_u64_if(endian, fields, has_bits(format, 1 << 22))?;
-        let code_page_size = read_u64_if(endian, fields, has_bits(format, 1 << 23))?;
-        Ok(PageWords {
-            physical_address,
-            cgroup,
-            data_page_size,
-            code_page_size,
         })
     }
 }

@@ -2,7 +2,8 @@ use Rattle.std.proofs.Common.{inl, inr}
 use Rattle.std.proofs.lemmas.Result.{err_from_is_err_and}
 use Rattle.perfdata_base.specs.Raw.{bytes_of}
 use Rattle.std.specs.Option.{option_map}
-use Rattle.perfdata_events.specs.Sample.{branches_of, registers_of}
+use Rattle.perfdata_events.specs.Sample.{branches_of}
+use Rattle.perfdata_event_fields.specs.Registers.{registers_of}
 use Rattle.perfdata_events.proofs.sample.SampleMiddle.parse.Goals as goal
 
 pub returns-in_err-branch_stack : goal.returns-in_err-branch_stack
@@ -13,12 +14,12 @@ returns-in_err-branch_stack c =
 pub returns-in_err-user_registers : goal.returns-in_err-user_registers
 returns-in_err-user_registers c =
     let p = err_from_is_err_and c.from_residual-in_err-user_registers.result c.from_residual-in_err-user_registers.ensures.1 in
-    rw (p.1, p.2) (inr record { value = option_map bytes_of c.in_ok-raw.raw; middle = bytes_of c.read_raw_data_if.new.fields; starts = (rw c.has_bits.ensures at c.in_ok-raw.ensures); error = (inr record { value = option_map branches_of c.in_ok-branch_stack.branch_stack; middle = bytes_of c.parse_if.new.fields; starts = (rw c.has_bits-2.ensures at c.in_ok-branch_stack.ensures); error = (inl (rw c.has_bits-3.ensures at c.in_err-user_registers.ensures)) }) })
+    rw (p.1, p.2) (inr record { value = option_map bytes_of c.in_ok-raw.raw; middle = bytes_of c.read_raw_data_if.new.fields; starts = (rw c.has_bits.ensures at c.in_ok-raw.ensures); error = (inr record { value = option_map branches_of c.in_ok-branch_stack.branch_stack; middle = bytes_of c.parse_if.new.fields; starts = (rw c.has_bits-2.ensures at c.in_ok-branch_stack.ensures); error = (inl (rw c.register_masks.ensures at c.in_err-user_registers.ensures)) }) })
 
 pub returns-in_err-user_stack : goal.returns-in_err-user_stack
 returns-in_err-user_stack c =
     let p = err_from_is_err_and c.from_residual-in_err-user_stack.result c.from_residual-in_err-user_stack.ensures.1 in
-    rw (p.1, p.2) (inr record { value = option_map bytes_of c.in_ok-raw.raw; middle = bytes_of c.read_raw_data_if.new.fields; starts = (rw c.has_bits.ensures at c.in_ok-raw.ensures); error = (inr record { value = option_map branches_of c.in_ok-branch_stack.branch_stack; middle = bytes_of c.parse_if.new.fields; starts = (rw c.has_bits-2.ensures at c.in_ok-branch_stack.ensures); error = (inr record { value = option_map registers_of c.in_ok-user_registers.user_registers; middle = bytes_of c.parse_if-2.new.fields; starts = (rw c.has_bits-3.ensures at c.in_ok-user_registers.ensures); error = (rw c.has_bits-4.ensures at c.in_err-user_stack.ensures) }) }) })
+    rw (p.1, p.2) (inr record { value = option_map bytes_of c.in_ok-raw.raw; middle = bytes_of c.read_raw_data_if.new.fields; starts = (rw c.has_bits.ensures at c.in_ok-raw.ensures); error = (inr record { value = option_map branches_of c.in_ok-branch_stack.branch_stack; middle = bytes_of c.parse_if.new.fields; starts = (rw c.has_bits-2.ensures at c.in_ok-branch_stack.ensures); error = (inr record { value = option_map registers_of c.in_ok-user_registers.user_registers; middle = bytes_of c.parse_user.new.fields; starts = (rw c.register_masks.ensures at c.in_ok-user_registers.ensures); error = (rw c.has_bits-3.ensures at c.in_err-user_stack.ensures) }) }) })
 
 pub returns : goal.returns
-returns c = record { middle = bytes_of c.read_raw_data_if.new.fields; starts = (rw c.has_bits.ensures at c.in_ok-raw.ensures); goes_on = record { middle = bytes_of c.parse_if.new.fields; starts = (rw c.has_bits-2.ensures at c.in_ok-branch_stack.ensures); goes_on = record { middle = bytes_of c.parse_if-2.new.fields; starts = (rw c.has_bits-3.ensures at c.in_ok-user_registers.ensures); goes_on = (rw c.has_bits-4.ensures at c.in_ok-user_stack.ensures) } } }
+returns c = record { middle = bytes_of c.read_raw_data_if.new.fields; starts = (rw c.has_bits.ensures at c.in_ok-raw.ensures); goes_on = record { middle = bytes_of c.parse_if.new.fields; starts = (rw c.has_bits-2.ensures at c.in_ok-branch_stack.ensures); goes_on = record { middle = bytes_of c.parse_user.new.fields; starts = (rw c.register_masks.ensures at c.in_ok-user_registers.ensures); goes_on = (rw c.has_bits-3.ensures at c.in_ok-user_stack.ensures) } } }

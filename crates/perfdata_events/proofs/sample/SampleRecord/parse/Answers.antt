@@ -17,7 +17,7 @@ returns-in_err-middle c =
 pub returns-in_err-end : goal.returns-in_err-end
 returns-in_err-end c =
     let p = err_from_is_err_and c.from_residual-in_err-end.result c.from_residual-in_err-end.ensures.1 in
-    rw (p.1, p.2) (inr record { value = start_of c.in_ok-start.start; middle = bytes_of c.parse.new.fields; starts = c.in_ok-start.ensures; error = (inr record { value = middle_of c.in_ok-middle.middle; middle = bytes_of c.parse-2.new.fields; starts = c.in_ok-middle.ensures; error = c.in_err-end.ensures }) })
+    rw (p.1, p.2) (inr record { value = start_of c.in_ok-start.start; middle = bytes_of c.parse.new.fields; starts = c.in_ok-start.ensures; error = (inr record { value = middle_of c.in_ok-middle.middle; middle = bytes_of c.parse-2.new.fields; starts = c.in_ok-middle.ensures; error = (rw c.register_masks.ensures at c.in_err-end.ensures) }) })
 
 pub returns : goal.returns
-returns c = record { middle = bytes_of c.parse.new.fields; starts = c.in_ok-start.ensures; goes_on = record { middle = bytes_of c.parse-2.new.fields; starts = c.in_ok-middle.ensures; goes_on = c.in_ok-end.ensures } }
+returns c = record { middle = bytes_of c.parse.new.fields; starts = c.in_ok-start.ensures; goes_on = record { middle = bytes_of c.parse-2.new.fields; starts = c.in_ok-middle.ensures; goes_on = (rw c.register_masks.ensures at c.in_ok-end.ensures) } }
