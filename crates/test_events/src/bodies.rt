@@ -74,6 +74,18 @@ pub fn raw_record(record_type: u32, misc: u16, body: &[u8]) -> RawEventRecord<'_
     }
 }
 
+/// The text of what a record is parsed to, or the kind of the error.
+pub fn outcome_of(
+    alloc: Global,
+    format: &EventFormat,
+    record: &RawEventRecord<'_>,
+) -> Result<Result<String, ErrorKind>, AllocError> {
+    match format.parse(record) {
+        Ok(event) => Ok(Ok(format!(in alloc; "{event:?}")?)),
+        Err(error) => Ok(Err(error.kind())),
+    }
+}
+
 /// Fails if a record isn't parsed to the value with this text.
 pub fn expect_parsed(
     alloc: Global,
@@ -81,34 +93,34 @@ pub fn expect_parsed(
     record: &RawEventRecord<'_>,
     text: &str,
 ) -> Result<(), Fail> {
-    match format.parse(record) {
-        Ok(event) => {
-            let have = format!(in alloc; "{event:?}")?;
-            expect_eq(&have.as_str(), &text)
-        }
-        Err(error) => Err(Fail::new(format_args!("{error}, not {text}"))),
+    match outcome_of(alloc, format, record)? {
+        Ok(have) => expect_eq(&have.as_str(), &text),
+        Err(kind) => Err(Fail::new(format_args!("{kind:?}, not {text}"))),
     }
 }
 
 /// Fails if parsing a record doesn't fail with this kind of error.
 pub fn expect_error(
+    alloc: Global,
     format: &EventFormat,
     record: &RawEventRecord<'_>,
     kind: ErrorKind,
 ) -> Result<(), Fail> {
-    let have = match format.parse(record) {
-        Ok(_) => None,
-        Err(error) => Some(error.kind()),
-    };
+    let have = outcome_of(alloc, format, record)?.err();
     let case = (record.record_type.0, record.body.len());
     expect_eq_at(&case, &have, &Some(kind))
 }
 
 /// Fails if a truncated body isn't an unexpected end at each length.
-pub fn expect_truncations(format: &EventFormat, record_type: u32, body: &[u8]) -> Result<(), Fail> {
+pub fn expect_truncations(
+    alloc: Global,
+    format: &EventFormat,
+    record_type: u32,
+    body: &[u8],
+) -> Result<(), Fail> {
     for len in 0..body.len() {
         let record = raw_record(record_type, 0, &body[..len]);
-        expect_error(format, &record, ErrorKind::UnexpectedEof)?;
+        expect_error(alloc, format, &record, ErrorKind::UnexpectedEof)?;
     }
     Ok(())
 }

@@ -1,12 +1,15 @@
 //! Counter values: each bit of the read format alone and all together, with and without a group.
 use crate::bodies::{
-    ENDIANS, Field, encode, expect_parsed, expect_truncations, raw_record, sample_format,
+    Field, expect_parsed, expect_truncations, push_fields, raw_record, sample_format,
 };
 use perfdata_base::raw::{Endianness, RawData};
 use perfdata_events::format::EventFormat;
-use perfdata_events::read_values::{CounterValue, ReadValues};
+use perfdata_events::read_values::{CounterValue, GroupValues};
+use perfdata_events::u64s::RawDataU64;
+use std::alloc::Global;
 use std::test::Fail;
-use test_support::expect::{expect, expect_eq};
+use test_support::expect::expect_eq;
+use test_support::image::Image;
 
 // A read format, the fields of a READ record, and the text of what its values are parsed to.
 #[derive(Clone, Copy)]
@@ -16,7 +19,7 @@ struct Case {
     text: &'static str,
 }
 
-const CASES: [Case; 13] = [
+const CASES: &[Case] = &[
     Case {
         read_format: 0,
         fields: &[Field::U64(0x0102_0304_0506_0708)],
@@ -105,71 +108,77 @@ const CASES: [Case; 13] = [
 ];
 
 // The process and the thread of a READ record.
-const TASK: [Field; 2] = [Field::U32(1), Field::U32(0xffff_ffff)];
+const TASK: &[Field] = &[Field::U32(1), Field::U32(0xffff_ffff)];
 
-#[test]
-fn parses_read_records(rt: HostRuntime) -> Result<(), Fail> {
-    let alloc = rt.alloc();
-    for endian in ENDIANS {
-        for case in &CASES {
-            let format = EventFormat {
-                read_format: case.read_format,
-                ..sample_format(endian, 0)
-            };
-            let mut body = encode(alloc, endian, &TASK)?;
-            body.extend_from_slice(&encode(alloc, endian, case.fields)?)?;
-            let text = format!(in alloc;
-                "Read(ReadRecord {{ task: Task {{ pid: 1, tid: -1 }}, values: {} }})",
-                case.text
-            )?;
-            expect_parsed(alloc, &format, &raw_record(8, 0, &body), text.as_str())?;
-            expect_truncations(&format, 8, &body)?;
-        }
+// Fails if a case isn't parsed to its values, or a truncation isn't an unexpected end.
+fn expect_case(alloc: Global, endian: Endianness, case: &Case) -> Result<(), Fail> {
+    let format = EventFormat {
+        read_format: case.read_format,
+        ..sample_format(endian, 0)
+    };
+    let mut image = Image::empty(alloc, endian);
+    push_fields(&mut image, TASK)?;
+    push_fields(&mut image, case.fields)?;
+    let text = format!(in alloc;
+        "Read(ReadRecord {{ task: Task {{ pid: 1, tid: -1 }}, values: {} }})",
+        case.text
+    )?;
+    expect_parsed(
+        alloc,
+        &format,
+        &raw_record(8, 0, &image.bytes),
+        text.as_str(),
+    )?;
+    expect_truncations(alloc, &format, 8, &image.bytes)
+}
+
+// Fails if a case isn't parsed to its values in either byte order.
+fn expect_cases(alloc: Global, cases: &[Case]) -> Result<(), Fail> {
+    for case in cases {
+        expect_case(alloc, Endianness::LittleEndian, case)?;
+        expect_case(alloc, Endianness::BigEndian, case)?;
     }
     Ok(())
 }
 
-// The number of counters of a group and the counter at an index.
-fn counter(values: &ReadValues<'_>, index: usize) -> (usize, Option<CounterValue>) {
-    match values {
-        ReadValues::Group(group) => (group.len(), group.get(index)),
-        ReadValues::Single(_) => (0, None),
-    }
+#[test]
+fn parses_read_records(rt: HostRuntime) -> Result<(), Fail> {
+    expect_cases(rt.alloc(), CASES)
+}
+
+// The number of counters of a group of these numbers, each with a number of lost samples, and the counter at an index.
+fn counter(numbers: &[u8], has_id: bool, index: usize) -> (usize, Option<CounterValue>) {
+    let group = GroupValues {
+        time_enabled: None,
+        time_running: None,
+        has_id,
+        has_lost: true,
+        numbers: RawDataU64 {
+            endian: Endianness::BigEndian,
+            bytes: RawData::Single(numbers),
+        },
+    };
+    (group.len(), group.get(index))
 }
 
 #[test]
 fn splits_groups_into_counters(rt: HostRuntime) -> Result<(), Fail> {
-    let numbers = [
-        Field::U64(2),
-        Field::U64(5),
-        Field::U64(6),
-        Field::U64(7),
-        Field::U64(8),
-        Field::U64(9),
-        Field::U64(10),
-    ];
-    let body = encode(rt.alloc(), Endianness::BigEndian, &numbers)?;
-    let values = ReadValues::parse(Endianness::BigEndian, 0x1c, &mut RawData::Single(&body))?;
-    let first = CounterValue {
-        value: 5,
-        id: Some(6),
-        lost: Some(7),
-    };
+    let mut numbers = Image::empty(rt.alloc(), Endianness::BigEndian);
+    for number in 5..11 {
+        numbers.push_u64(number)?;
+    }
     let second = CounterValue {
         value: 8,
         id: Some(9),
         lost: Some(10),
     };
-    expect_eq(&counter(&values, 0), &(2, Some(first)))?;
-    expect_eq(&counter(&values, 1), &(2, Some(second)))?;
-    expect_eq(&counter(&values, 2), &(2, None))?;
-    let shorter = encode(rt.alloc(), Endianness::BigEndian, &numbers[..5])?;
-    let values = ReadValues::parse(Endianness::BigEndian, 0x18, &mut RawData::Single(&shorter))?;
-    let second = CounterValue {
-        value: 7,
+    expect_eq(&counter(&numbers.bytes, true, 1), &(2, Some(second)))?;
+    expect_eq(&counter(&numbers.bytes, true, 2), &(2, None))?;
+    let third = CounterValue {
+        value: 9,
         id: None,
-        lost: Some(8),
+        lost: Some(10),
     };
-    expect_eq(&counter(&values, 1), &(2, Some(second)))?;
-    expect(counter(&values, usize::MAX).1.is_none())
+    expect_eq(&counter(&numbers.bytes, false, 2), &(3, Some(third)))?;
+    expect_eq(&counter(&numbers.bytes, false, usize::MAX), &(3, None))
 }

@@ -4,9 +4,9 @@ use crate::bodies::{
     sample_format,
 };
 use perfdata_base::raw::{Endianness, RawData};
-use perfdata_events::event::EventRecord;
 use perfdata_events::format::EventFormat;
 use perfdata_events::sample_parts::{BranchEntry, BranchStack};
+use perfdata_events::u64s::RawDataU64;
 use std::alloc::{AllocError, Global};
 use std::test::Fail;
 use test_support::expect::{expect, expect_eq};
@@ -22,7 +22,7 @@ struct Case {
 }
 
 // The fields in the order of the kernel.
-const CASES: [Case; 24] = [
+const CASES: &[Case] = &[
     Case {
         mask: 1 << 16,
         fields: &[Field::U64(0x0102_0304_0506_0708)],
@@ -201,6 +201,11 @@ const CASES: [Case; 24] = [
     },
 ];
 
+// The table, by a call, since a proof over a function that names the table follows each of its rows.
+fn cases() -> &'static [Case] {
+    CASES
+}
+
 // A format with these fields: groups with the time that they were enabled and with ids, branches with the hardware index and
 // counters, three user registers and two registers at the interrupt.
 fn format_of(endian: Endianness, bits: u64) -> EventFormat {
@@ -215,12 +220,13 @@ fn format_of(endian: Endianness, bits: u64) -> EventFormat {
     }
 }
 
-// The text of a sample with the fields of these bits.
-fn text_of(alloc: Global, bits: u64) -> Result<String, AllocError> {
-    let mut text = String::new(alloc);
+// Appends the text of each field of a sample with the fields of these bits, and with another field in place of the one with its name.
+fn push_texts(text: &mut String, bits: u64, other: &Case) -> Result<(), AllocError> {
     let mut separator = "Sample(SampleRecord { ";
-    for case in &CASES {
-        let value = if bits & case.mask == 0 {
+    for case in cases() {
+        let value = if case.name == other.name {
+            other.text
+        } else if bits & case.mask == 0 {
             "None"
         } else {
             case.text
@@ -231,134 +237,178 @@ fn text_of(alloc: Global, bits: u64) -> Result<String, AllocError> {
         text.push_str(value)?;
         separator = ", ";
     }
-    text.push_str(" })")?;
+    text.push_str(" })")
+}
+
+// The text of a sample with these fields.
+fn text_of(alloc: Global, bits: u64, other: &Case) -> Result<String, AllocError> {
+    let mut text = String::new(alloc);
+    push_texts(&mut text, bits, other)?;
     Ok(text)
+}
+
+// Appends the bytes of the fields of these bits.
+fn push_bodies(image: &mut Image, bits: u64) -> Result<(), AllocError> {
+    for case in cases() {
+        if bits & case.mask != 0 {
+            push_fields(image, case.fields)?;
+        }
+    }
+    Ok(())
 }
 
 // The body of a sample with the fields of these bits.
 fn body_of(alloc: Global, endian: Endianness, bits: u64) -> Result<Vec<u8>, AllocError> {
     let mut image = Image::empty(alloc, endian);
-    for case in &CASES {
-        if bits & case.mask != 0 {
-            push_fields(&mut image, case.fields)?;
-        }
-    }
+    push_bodies(&mut image, bits)?;
     Ok(image.bytes)
 }
+
+// No other field.
+const NO_OTHER: Case = Case {
+    mask: 0,
+    fields: &[],
+    name: "",
+    text: "",
+};
 
 // Fails if the fields of these bits aren't parsed to their values, or a truncation isn't an unexpected end.
 fn expect_fields(alloc: Global, endian: Endianness, bits: u64) -> Result<(), Fail> {
     let body = body_of(alloc, endian, bits)?;
-    let text = text_of(alloc, bits)?;
+    let text = text_of(alloc, bits, &NO_OTHER)?;
     let format = format_of(endian, bits);
     expect_parsed(alloc, &format, &raw_record(9, 0, &body), text.as_str())?;
-    expect_truncations(&format, 9, &body)
+    expect_truncations(alloc, &format, 9, &body)
 }
 
 // All bits of `CASES`.
 const ALL: u64 = 0xff_ffff;
 
+// Fails if a field alone, or all others, aren't parsed to their values.
+fn expect_alone(alloc: Global, endian: Endianness, case: &Case) -> Result<(), Fail> {
+    expect_fields(alloc, endian, case.mask)?;
+    expect_fields(alloc, endian, ALL ^ case.mask)
+}
+
 #[test]
-fn parses_each_field_alone_and_all(rt: HostRuntime) -> Result<(), Fail> {
-    let alloc = rt.alloc();
+fn parses_each_field_alone(rt: HostRuntime) -> Result<(), Fail> {
     for endian in ENDIANS {
-        for case in &CASES {
-            expect_fields(alloc, endian, case.mask)?;
-            expect_fields(alloc, endian, ALL ^ case.mask)?;
+        for case in cases() {
+            expect_alone(rt.alloc(), endian, case)?;
         }
-        expect_fields(alloc, endian, ALL)?;
-        expect_fields(alloc, endian, 0)?;
     }
     Ok(())
 }
 
-// The text of the weight of a sample whose weight is a struct of three numbers.
-fn weight_struct(alloc: Global, endian: Endianness) -> Result<Option<u64>, Fail> {
-    let numbers = [Field::U64(0x0102_0304_0506_0708)];
-    let body = encode(alloc, endian, &numbers)?;
-    match sample_format(endian, 1 << 24).parse(&raw_record(9, 0, &body))? {
-        EventRecord::Sample(sample) => Ok(sample.weight),
-        _ => Ok(None),
-    }
-}
-
-// Fails if a sample with a field of this bit, that isn't selected otherwise, doesn't consist of these bytes.
-fn expect_variant(
-    alloc: Global,
-    format: &EventFormat,
-    fields: &[Field],
-    text: &str,
-) -> Result<(), Fail> {
-    let body = encode(alloc, format.endian, fields)?;
-    let have = match format.parse(&raw_record(9, 0, &body))? {
-        EventRecord::Sample(sample) => format!(in alloc;
-            "{:?} {:?} {:?}",
-            sample.branch_stack, sample.user_registers, sample.user_stack
-        )?,
-        _ => String::new(alloc),
-    };
-    expect_eq(&have.as_str(), &text)?;
-    expect_truncations(format, 9, &body)
-}
-
 #[test]
-fn parses_empty_parts(rt: HostRuntime) -> Result<(), Fail> {
-    let alloc = rt.alloc();
+fn parses_all_fields_and_none(rt: HostRuntime) -> Result<(), Fail> {
     for endian in ENDIANS {
-        let no_registers = format_of(endian, 1 << 12);
-        let text = "None Some(Registers { abi: 0, values: [] }) None";
-        expect_variant(alloc, &no_registers, &[Field::U64(0)], text)?;
-        let no_stack = format_of(endian, 1 << 13);
-        let text = "None None Some(UserStack { bytes: Single([]), dynamic_size: None })";
-        expect_variant(alloc, &no_stack, &[Field::U64(0)], text)?;
-        let no_branches = format_of(endian, 1 << 11);
-        let text =
-            "Some(BranchStack { hw_index: Some(9), entries: [], counters: Some([]) }) None None";
-        expect_variant(alloc, &no_branches, &[Field::U64(0), Field::U64(9)], text)?;
-        let plain_branches = sample_format(endian, 1 << 11);
-        let fields = [Field::U64(1), Field::U64(2), Field::U64(3), Field::U64(4)];
-        let text =
-            "Some(BranchStack { hw_index: None, entries: [2, 3, 4], counters: None }) None None";
-        expect_variant(alloc, &plain_branches, &fields, text)?;
-        expect_eq(&weight_struct(alloc, endian)?, &Some(0x0102_0304_0506_0708))?;
+        expect_fields(rt.alloc(), endian, ALL)?;
+        expect_fields(rt.alloc(), endian, 0)?;
     }
     Ok(())
 }
 
-// The branch stack of a sample.
-fn branches_of(body: &[u8]) -> Result<Option<BranchStack<'_>>, Fail> {
-    let format = sample_format(Endianness::BigEndian, 1 << 11);
-    match format.parse(&raw_record(9, 0, body))? {
-        EventRecord::Sample(sample) => Ok(sample.branch_stack),
-        _ => Ok(None),
-    }
+// A field that isn't as in `CASES`, and the branch sample type of its attribute.
+#[derive(Clone, Copy)]
+struct Variant {
+    branch_sample_type: u64,
+    field: Case,
+}
+
+// Empty parts, branches without an index and counters, and a weight that is a struct of three numbers.
+const VARIANTS: &[Variant] = &[
+    Variant {
+        branch_sample_type: 0,
+        field: Case {
+            mask: 1 << 12,
+            fields: &[Field::U64(0)],
+            name: "user_registers",
+            text: "Some(Registers { abi: 0, values: [] })",
+        },
+    },
+    Variant {
+        branch_sample_type: 0,
+        field: Case {
+            mask: 1 << 13,
+            fields: &[Field::U64(0)],
+            name: "user_stack",
+            text: "Some(UserStack { bytes: Single([]), dynamic_size: None })",
+        },
+    },
+    Variant {
+        branch_sample_type: 1 << 17 | 1 << 19,
+        field: Case {
+            mask: 1 << 11,
+            fields: &[Field::U64(0), Field::U64(9)],
+            name: "branch_stack",
+            text: "Some(BranchStack { hw_index: Some(9), entries: [], counters: Some([]) })",
+        },
+    },
+    Variant {
+        branch_sample_type: 0,
+        field: Case {
+            mask: 1 << 11,
+            fields: &[Field::U64(1), Field::U64(2), Field::U64(3), Field::U64(4)],
+            name: "branch_stack",
+            text: "Some(BranchStack { hw_index: None, entries: [2, 3, 4], counters: None })",
+        },
+    },
+    Variant {
+        branch_sample_type: 0,
+        field: Case {
+            mask: 1 << 24,
+            fields: &[Field::U64(0x0102_0304_0506_0708)],
+            name: "weight",
+            text: "Some(72623859790382856)",
+        },
+    },
+];
+
+// Fails if a sample with this field alone isn't parsed to its value, or a truncation isn't an unexpected end.
+fn expect_variant(alloc: Global, endian: Endianness, variant: &Variant) -> Result<(), Fail> {
+    let body = encode(alloc, endian, variant.field.fields)?;
+    let text = text_of(alloc, 0, &variant.field)?;
+    let format = EventFormat {
+        branch_sample_type: variant.branch_sample_type,
+        ..format_of(endian, variant.field.mask)
+    };
+    expect_parsed(alloc, &format, &raw_record(9, 0, &body), text.as_str())?;
+    expect_truncations(alloc, &format, 9, &body)
 }
 
 #[test]
-fn splits_branch_stacks(rt: HostRuntime) -> Result<(), Fail> {
-    let fields = [
-        Field::U64(2),
-        Field::U64(1),
-        Field::U64(2),
-        Field::U64(3),
-        Field::U64(4),
-        Field::U64(5),
-        Field::U64(6),
+fn parses_variants(rt: HostRuntime) -> Result<(), Fail> {
+    for endian in ENDIANS {
+        for variant in VARIANTS {
+            expect_variant(rt.alloc(), endian, variant)?;
+        }
+    }
+    Ok(())
+}
+
+#[test]
+fn splits_branch_stacks() -> Result<(), Fail> {
+    let bytes = [
+        0, 0, 0, 0, 0, 0, 0, 1, 0, 0, 0, 0, 0, 0, 0, 2, 0, 0, 0, 0, 0, 0, 0, 3, 0, 0, 0, 0, 0, 0,
+        0, 4, 0, 0, 0, 0, 0, 0, 0, 5, 0, 0, 0, 0, 0, 0, 0, 6,
     ];
-    let body = encode(rt.alloc(), Endianness::BigEndian, &fields)?;
-    let Some(branches) = branches_of(&body)? else {
-        return expect(false);
+    let entries = RawDataU64 {
+        endian: Endianness::BigEndian,
+        bytes: RawData::Single(&bytes),
+    };
+    let stack = BranchStack {
+        hw_index: None,
+        entries,
+        counters: None,
     };
     let second = BranchEntry {
         from: 4,
         to: 5,
         flags: 6,
     };
-    expect_eq(&(branches.len(), branches.get(1)), &(2, Some(second)))?;
-    expect_eq(&branches.get(2), &None)?;
-    expect_eq(
-        &(branches.entries.get(5), branches.entries.get(6)),
-        &(Some(6), None),
-    )?;
-    expect(!branches.entries.is_empty())
+    expect_eq(&(stack.len(), stack.get(1)), &(2, Some(second)))?;
+    expect_eq(&stack.get(2), &None)?;
+    expect_eq(&(entries.get(5), entries.get(6)), &(Some(6), None))?;
+    expect(!entries.is_empty())
 }
