@@ -13,8 +13,8 @@ use Rattle.linux_perf_data.specs.PerfFile.{attributes_of_file}
 use Rattle.linux_perf_data.specs.PipeReading.{HoldsForPipeRest, IsCompletePipe}
 use Rattle.linux_perf_data.specs.Reading.{AreFirstRecords}
 use Rattle.linux_perf_data.proofs.PipeReadings.{error_there, first_after, first_none, first_there, opening_prefix, holds_all, parsed_none, parsed_there, source_error_there, pauses, whole_none, whole_there}
-use Rattle.perfdata_json.specs.Listing.{ListedAll, ListedUntilFlushError, ListsLiveRecords, ListingFails}
-use Rattle.perfdata_json.specs.PipeListing.{ListedPipeUntilFlushError, ListedPipe, ListsLivePipe, ListedPipeUntilError, PipeListingFails}
+use Rattle.perfdata_json.specs.Listing.{ListedAll, ListedUntilFlushError, ListsRecords, ListsLiveRecords, ListingFails}
+use Rattle.perfdata_json.specs.PipeListing.{ListedPipeUntilFlushError, ListedPipe, ListsPipe, ListsLivePipe, ListedPipeUntilError, PipeListingFails}
 use Rattle.perfdata_listing.specs.declared.list.ListFault.{ListFault}
 use Rattle.perfdata_listing.specs.declared.list.ListCause.{ListCause}
 use Rattle.perfdata_listing.specs.declared.list.ListCause.TheVariants.{Perf, Jit, Read, Write}
@@ -106,6 +106,10 @@ module _ {R : Type 0} (state : R → State) (old : State) (file : PerfFile) (it 
 
   pub lists_pipe_until_error : (new : PerfRecordIter R) (before after : Option (List ℕ)) (lines : ℕ) (cause : ListCause) → ListingFails state it before after lines cause new → PipeListingFails old before after lines cause
   lists_pipe_until_error new before after lines cause l = elim o.end_of_opening [ inl k ↦ pipe_listing_fails new before after lines cause k l | inr e ↦ absurd (running_or_ended new before after lines cause e l) ]
+
+  pub whole_pipe : (new : PerfRecordIter R) (file' : PerfFile) (before after : Option (List ℕ)) (r : Result ℕ ListFault) → ListsRecords state it file before r after new file' → ListsPipe old before r after
+  whole_pipe new file' before after (Ok lines) l = (file', lists_pipe new file' before after lines l)
+  whole_pipe new file' before after (Err error) l = lists_pipe_until_error new before after error.lines error.cause l
 
   -- the records are listed live, and then the flush of their lines fails
   pipe_until_flush_error : (before after : Option (List ℕ)) (lines : ℕ) → KeepsPendingHeader state old before_first it → ListedUntilFlushError state it before after lines → ListedPipeUntilFlushError old before after lines

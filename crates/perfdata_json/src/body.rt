@@ -7,7 +7,6 @@ use json_writer::members::{Elements, Members};
 use json_writer::short::ShortMembers;
 use perfdata_base::endian::read_u64;
 use perfdata_base::raw::RawData;
-use perfdata_events::sample_id::Task;
 use perfdata_events::u64s::RawDataU64;
 use std::alloc::{AllocError, Global};
 use std::io::ErrorKind;
@@ -126,9 +125,9 @@ impl Body {
     }
 
     /// Appends a process id and a thread id.
-    pub(crate) fn task(&mut self, task: Task) -> Result<(), AllocError> {
-        self.members.signed(br#","pid":"#, task.pid)?;
-        self.members.signed(br#","tid":"#, task.tid)
+    pub(crate) fn task(&mut self, pid: i32, tid: i32) -> Result<(), AllocError> {
+        self.members.signed(br#","pid":"#, pid)?;
+        self.members.signed(br#","tid":"#, tid)
     }
 
     /// Sets the array to numbers in hexadecimal.

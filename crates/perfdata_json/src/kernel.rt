@@ -33,13 +33,16 @@ fn prepend_sample_id(members: &mut ShortMembers, id: &SampleId)
 }
 
 impl Body {
+    /// Appends the range of a mapping.
+    fn range(&mut self, address: u64, length: u64, page_offset: u64) -> Result<(), AllocError> {
+        self.members.address(br#","address":"#, address)?;
+        self.members.number(br#","length":"#, length)?;
+        self.members.address(br#","page_offset":"#, page_offset)
+    }
+
     fn mmap(&mut self, mmap: &MmapRecord<'_>) -> Result<(), AllocError> {
-        self.members.signed(br#","pid":"#, mmap.pid)?;
-        self.members.signed(br#","tid":"#, mmap.tid)?;
-        self.members.address(br#","address":"#, mmap.address)?;
-        self.members.number(br#","length":"#, mmap.length)?;
-        self.members
-            .address(br#","page_offset":"#, mmap.page_offset)?;
+        self.task(mmap.pid, mmap.tid)?;
+        self.range(mmap.address, mmap.length, mmap.page_offset)?;
         self.text(br#","path":"#, mmap.path)
     }
 
@@ -57,12 +60,8 @@ impl Body {
     }
 
     fn mmap2(&mut self, mmap: &Mmap2Record<'_>) -> Result<(), AllocError> {
-        self.members.signed(br#","pid":"#, mmap.pid)?;
-        self.members.signed(br#","tid":"#, mmap.tid)?;
-        self.members.address(br#","address":"#, mmap.address)?;
-        self.members.number(br#","length":"#, mmap.length)?;
-        self.members
-            .address(br#","page_offset":"#, mmap.page_offset)?;
+        self.task(mmap.pid, mmap.tid)?;
+        self.range(mmap.address, mmap.length, mmap.page_offset)?;
         self.file_id(&mmap.file_id)?;
         self.members
             .number(br#","protection":"#, mmap.protection as u64)?;
@@ -76,8 +75,7 @@ impl Body {
     }
 
     fn comm(&mut self, comm: &CommOrExecRecord<'_>) -> Result<(), AllocError> {
-        self.members.signed(br#","pid":"#, comm.pid)?;
-        self.members.signed(br#","tid":"#, comm.tid)?;
+        self.task(comm.pid, comm.tid)?;
         self.text(br#","name":"#, comm.name)?;
         self.members.boolean(br#","is_execve":"#, comm.is_execve)
     }
@@ -104,8 +102,7 @@ impl Body {
     }
 
     fn itrace_start(&mut self, start: &ItraceStartRecord) -> Result<(), AllocError> {
-        self.members.signed(br#","pid":"#, start.pid)?;
-        self.members.signed(br#","tid":"#, start.tid)
+        self.task(start.pid, start.tid)
     }
 
     fn lost_samples(&mut self, lost: &LostSamplesRecord) -> Result<(), AllocError> {
@@ -125,8 +122,7 @@ impl Body {
     }
 
     fn namespaces(&mut self, record: &NamespacesRecord<'_>) -> Result<(), AllocError> {
-        self.members.signed(br#","pid":"#, record.pid)?;
-        self.members.signed(br#","tid":"#, record.tid)?;
+        self.task(record.pid, record.tid)?;
         self.elements.clear();
         let mut rest = record.namespaces;
         for _ in 0..count_of(&record.namespaces) / 2 {

@@ -12,5 +12,5 @@ mod sample;
 mod user;
 
 pub use line::JsonLine;
-pub use list::{list_file, list_live_pipe, list_pipe};
+pub use list::{list_file, list_live_pipe, list_pipe, write_record};
 pub use output::finish;

@@ -3,7 +3,7 @@ ghost use Rattle.linux_perf_data.specs.RecordViews.{record_view_of};
 ghost use Rattle.linux_perf_data.specs.Reading.{HasMatchingFile, HasNotFailed};
 ghost use Rattle.perfdata_listing.specs.Listing.{MayBlock};
 ghost use Rattle.perfdata_json.specs.Listing.{WritesRecord, ListsNext, ListsRecords, ListsLiveRecords, ListsFile};
-ghost use Rattle.perfdata_json.specs.PipeListing.{ListsPipe, ListsLivePipe, ListsPipeWithFile};
+ghost use Rattle.perfdata_json.specs.PipeListing.{ListsPipe, ListsLivePipe};
 
 use crate::line::JsonLine;
 use linux_perf_data::source::{PlacedSource, Source};
@@ -14,8 +14,11 @@ use perfdata_listing::{FlushPending, ListCause, ListFault, flush_before_blocking
 use std::alloc::Global;
 use std::io::Write;
 
-/// Writes the line of a record. Nothing of it is written if memory runs out.
-fn write_record<W: Write>(
+/// Writes the line of a record. `file` contains the record's attribute, and `line` is set to the line.
+///
+/// Fails if memory runs out, and nothing of the line is written then, or if the writer fails, and a prefix of the line is
+/// written then.
+pub fn write_record<W: Write>(
     file: &PerfFile,
     place: RecordPlace,
     record: &PerfFileRecord<'_>,
@@ -147,31 +150,6 @@ pub fn list_file<C: PlacedSource + Drop, W: Write>(
     }
 }
 
-/// Lists a whole pipe as [`list_pipe`] does. Returns the number of records and all metadata of the pipe, from its opening
-/// and from later records.
-fn list_pipe_with_file<R: Source + Drop, W: Write>(
-    alloc: Global,
-    source: R,
-    byte_limit: usize,
-    out: &mut W,
-) -> Result<(u64, PerfFile), ListFault>
-    ensures { ListsPipeWithFile (R.state source) (W.contents out.old) result (W.contents out.new) }
-{
-    match PerfFileReader::parse_pipe(alloc, source) {
-        Ok(reader) => {
-            let mut file = reader.perf_file;
-            let mut iter = reader.record_iter;
-            let mut line = JsonLine::new(alloc, byte_limit);
-            let lines = list_records(&mut iter, &mut file, &mut line, out)?;
-            Ok((lines, file))
-        }
-        Err(error) => {
-            let cause = ListCause::Perf(error);
-            Err(ListFault { lines: 0, cause })
-        }
-    }
-}
-
 /// Writes a line for each record of a pipe, as [`list_file`] does, and returns the number of lines.
 ///
 /// No byte after the records is read: after the last record, the source's position is that record's end; after a truncated
@@ -189,8 +167,18 @@ pub fn list_pipe<R: Source + Drop, W: Write>(
 ) -> Result<u64, ListFault>
     ensures { ListsPipe (R.state source) (W.contents out.old) result (W.contents out.new) }
 {
-    let (lines, _file) = list_pipe_with_file(alloc, source, byte_limit, out)?;
-    Ok(lines)
+    match PerfFileReader::parse_pipe(alloc, source) {
+        Ok(reader) => {
+            let mut file = reader.perf_file;
+            let mut iter = reader.record_iter;
+            let mut line = JsonLine::new(alloc, byte_limit);
+            list_records(&mut iter, &mut file, &mut line, out)
+        }
+        Err(error) => Err(ListFault {
+            lines: 0,
+            cause: ListCause::Perf(error),
+        }),
+    }
 }
 
 /// Lists a live pipe as [`list_pipe`] does, into a writer that may buffer lines. The lines are flushed before each record

@@ -111,7 +111,7 @@ impl Body {
     }
 
     pub(crate) fn read(&mut self, read: &ReadRecord<'_>) -> Result<(), AllocError> {
-        self.task(read.task)?;
+        self.task(read.task.pid, read.task.tid)?;
         self.values(&read.values)
     }
 

@@ -1,9 +1,9 @@
 //! Lists the records of an input in memory in order of time.
 
+use linux_perf_data::PerfFile;
 use linux_perf_data::in_memory::InMemoryReader;
-use linux_perf_data::{Error, PerfFile};
-use perfdata_json::JsonLine;
-use perfdata_listing::{ListCause, ListFault, write_line};
+use perfdata_json::{JsonLine, write_record};
+use perfdata_listing::{ListCause, ListFault};
 use perfdata_order::in_memory::InMemoryOrderedRecords;
 use std::alloc::Global;
 use std::io::Write;
@@ -15,14 +15,16 @@ fn list_next<W: Write>(
     line: &mut JsonLine,
     out: &mut W,
 ) -> Result<bool, ListCause> {
-    let Some((place, record)) = records.next_record(file).map_err(ListCause::Perf)? else {
-        return Ok(false);
-    };
-    if line.set_record(file, place, &record).is_err() {
-        return Err(ListCause::Perf(Error::Memory));
+    match records.next_record(file) {
+        Ok(Some((place, record))) => {
+            match write_record(file, place, &record, line, out) {
+                Ok(()) => Ok(true),
+                Err(cause) => Err(cause),
+            }
+        }
+        Ok(None) => Ok(false),
+        Err(error) => Err(ListCause::Perf(error)),
     }
-    write_line(out, line.as_bytes()).map_err(ListCause::Write)?;
-    Ok(true)
 }
 
 /// Writes the lines of all records in order of time. Returns their number.
