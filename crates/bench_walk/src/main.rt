@@ -11,7 +11,7 @@ mod memory;
 use linux_perf_data::event::RecordType;
 use linux_perf_data::jitdump::JitDumpReader;
 use linux_perf_data::source::{Script, Source, Step};
-use linux_perf_data::{Error, PerfFile, PerfFileReader, PerfFileRecord};
+use linux_perf_data::{Error, PerfFile, PerfFileReader, PerfFileRecord, PerfRecordIter};
 use perfdata_cli::args::{Command, parse_args};
 use perfdata_cli::input::{open_file, open_stdin};
 use perfdata_events::event::EventRecord;
@@ -85,21 +85,32 @@ fn add_sample(sums: &mut SampleSum, formats: &[EventFormat], record: &PerfFileRe
     }
 }
 
+/// Parses the remaining samples, and adds up their fields.
+fn add_samples<R: Source>(
+    sums: &mut SampleSum,
+    formats: &[EventFormat],
+    records: &mut PerfRecordIter<R>,
+    file: &mut PerfFile,
+) -> Result<(), Error> {
+    for _ in 0..u64::MAX {
+        let Some((_, record)) = records.next_record(file)? else {
+            break;
+        };
+        add_sample(sums, formats, &record);
+    }
+    Ok(())
+}
+
 /// Parses the samples of a file, and adds up their fields.
 fn sum_samples<R: Source + Drop>(
     alloc: Global,
     reader: PerfFileReader<R>,
 ) -> Result<SampleSum, Error> {
-    let mut perf_file = reader.perf_file;
+    let mut file = reader.perf_file;
     let mut records = reader.record_iter;
-    let formats = event_formats(alloc, &perf_file)?;
+    let formats = event_formats(alloc, &file)?;
     let mut sums = SampleSum { count: 0, sum: 0 };
-    for _ in 0..u64::MAX {
-        let Some((_, record)) = records.next_record(&mut perf_file)? else {
-            break;
-        };
-        add_sample(&mut sums, &formats, &record);
-    }
+    add_samples(&mut sums, &formats, &mut records, &mut file)?;
     Ok(sums)
 }
 

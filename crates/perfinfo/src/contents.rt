@@ -239,14 +239,26 @@ impl Contents {
         Ok(())
     }
 
+    /// Adds the build id of a mapped file, unless it has a path.
+    fn add_build_id(
+        &mut self,
+        alloc: Global,
+        id: RawData<'_>,
+        path: RawData<'_>,
+    ) -> Result<(), AllocError> {
+        let id = to_vec(alloc, id)?;
+        let path = to_vec(alloc, path)?;
+        self.build_ids.entry(id)?.or_insert(path);
+        Ok(())
+    }
+
     /// Adds a mapping of a file, and the file's build id if the record has it.
     fn add_mapping2(&mut self, alloc: Global, mapping: &Mmap2Record<'_>) -> Result<(), AllocError> {
         self.add_mapping(alloc, mapping.path)?;
-        if let Mmap2FileId::BuildId(id) = mapping.file_id {
-            let (id, path) = (to_vec(alloc, id)?, to_vec(alloc, mapping.path)?);
-            self.build_ids.entry(id)?.or_insert(path);
+        match mapping.file_id {
+            Mmap2FileId::BuildId(id) => self.add_build_id(alloc, id, mapping.path),
+            Mmap2FileId::InodeAndVersion(_) => Ok(()),
         }
-        Ok(())
     }
 }
 
@@ -317,19 +329,31 @@ fn show_processes<W: Write>(contents: &Contents, report: &mut Report<W>) {
     }
 }
 
+/// Writes the files that have most of the mappings.
+fn show_files<W: Write>(entries: &[FileEntry<'_>], report: &mut Report<W>) {
+    for (path, count) in entries {
+        report.item(Escaped(path.as_slice()), **count);
+    }
+}
+
 /// Writes the number of mappings and the files that have most of them.
 fn show_mappings<W: Write>(alloc: Global, contents: &Contents, report: &mut Report<W>) {
     report.line("mappings", contents.mappings);
     report.line("mapped files", contents.files.len());
     let by_count = report.value_or_note("mapped files", files_by_count(alloc, &contents.files));
     if let Some(entries) = by_count {
-        for (path, count) in entries.iter() {
-            report.item(Escaped(path.as_slice()), **count);
-        }
+        show_files(&entries, report);
     }
     report.line("build ids of mappings", contents.build_ids.len());
     for (id, path) in contents.build_ids.iter() {
         report.item(Hex(id.as_slice()), Escaped(path.as_slice()));
+    }
+}
+
+/// Writes a line for each count.
+fn show_counts<W: Write>(counts: &[(&str, u64)], report: &mut Report<W>) {
+    for (name, count) in counts {
+        report.line(*name, *count);
     }
 }
 
@@ -340,14 +364,24 @@ pub(crate) fn show<W: Write>(alloc: Global, contents: &Contents, report: &mut Re
     for (cpu, count) in contents.samples_by_cpu.iter() {
         report.item(format_args!("CPU {cpu}"), *count);
     }
-    report.line("frames of call chains", contents.frames);
-    report.line("counter values in samples", contents.counter_values);
-    report.line("bytes of user stacks", contents.stack_bytes);
+    show_counts(
+        &[
+            ("frames of call chains", contents.frames),
+            ("counter values in samples", contents.counter_values),
+            ("bytes of user stacks", contents.stack_bytes),
+        ],
+        report,
+    );
     show_mappings(alloc, contents, report);
-    report.line("lost records", contents.lost_records);
-    report.line("lost samples", contents.lost_samples);
-    report.line("switches to a task", contents.switches.into);
-    report.line("switches from a task", contents.switches.out);
-    report.line("switches by preemption", contents.switches.preempted);
-    report.line("bodies that can't be parsed", contents.unparsed);
+    show_counts(
+        &[
+            ("lost records", contents.lost_records),
+            ("lost samples", contents.lost_samples),
+            ("switches to a task", contents.switches.into),
+            ("switches from a task", contents.switches.out),
+            ("switches by preemption", contents.switches.preempted),
+            ("bodies that can't be parsed", contents.unparsed),
+        ],
+        report,
+    );
 }
