@@ -1,4 +1,4 @@
-use Rattle.std.proofs.Common.{◌∙◌, ◌+◌, slice_range, arith}
+use Rattle.std.proofs.Common.{◌∙◌, ◌+◌, slice_range, arith, rules}
 use Rattle.perfdata_jit.proofs.RingFillings.{read_after}
 use Rattle.perfdata_jit.proofs.BufferRanges.{main_grows, prefix_grows, no_prefix, take_range}
 use Rattle.perfdata_jit.proofs.ring.Ring.fill.Goals as goal
@@ -18,3 +18,9 @@ returns-in_ok-front_count-clause-fills g c =
     let n = c.in_ok-front_count.front_count in
     read_after _ _ _ _ _ (slice_range ys r.front (r.front + n)) n c.in_ok-front_count.ensures.reads (take_range ys r.front _ n (omega (arith, c.in_ok-front_count.ensures.bound)))
     (prefix_grows r.buffer.items ys r.start r.end r.front n c.read_into_range-else-self-size.ensures.after c.read_into_range-else-self-size.ensures.before)
+
+pub returns-in_err-front_count-clause-fills : goal.returns-in_err-front_count-clause-fills
+returns-in_err-front_count-clause-fills g c = search rules
+
+pub invariant_of-self-else-self-size : goal.invariant_of-self-else-self-size
+invariant_of-self-else-self-size g c = search rules
