@@ -51,10 +51,7 @@ fn sorted_by_path(
     alloc: Global,
     ids: &HashMap<DsoKey, DsoInfo>,
 ) -> Result<Option<Vec<DsoEntry<'_>>>, Error> {
-    let mut objects = Vec::with_capacity(alloc, ids.len())?;
-    for object in ids.iter() {
-        objects.push(object)?;
-    }
+    let mut objects: Vec<DsoEntry<'_>> = ids.iter().collect(alloc)?;
     objects.sort_by(|a: &DsoEntry<'_>, b: &DsoEntry<'_>| a.1.path.cmp(&b.1.path))?;
     Ok(Some(objects))
 }

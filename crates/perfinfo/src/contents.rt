@@ -1,4 +1,5 @@
 //! Counts what the bodies of kernel records contain: processes and threads, processors, mappings, lost records, switches.
+use crate::counting::{count_one, to_vec};
 use crate::escape::{Escaped, Hex};
 use crate::report::Report;
 use linux_perf_data::Error;
@@ -83,11 +84,6 @@ pub struct Contents {
     unparsed: u64,
 }
 
-/// Copies the bytes to a `Vec`.
-fn to_vec(alloc: Global, bytes: RawData<'_>) -> Result<Vec<u8>, AllocError> {
-    bytes.as_slice(alloc)?.into_owned(alloc)
-}
-
 impl Contents {
     /// Creates counts with no records.
     pub(crate) fn new(alloc: Global) -> Contents {
@@ -157,8 +153,7 @@ impl Contents {
             self.add_task_sample(alloc, task.pid, task.tid)?;
         }
         if let Some(cpu) = sample.cpu {
-            let count = self.samples_by_cpu.entry(cpu)?.or_insert(0);
-            *count = count.saturating_add(1);
+            count_one(&mut self.samples_by_cpu, cpu)?;
         }
         self.add_sizes(sample);
         Ok(())
@@ -233,10 +228,7 @@ impl Contents {
     /// Adds a mapping of a file.
     fn add_mapping(&mut self, alloc: Global, path: RawData<'_>) -> Result<(), AllocError> {
         self.mappings = self.mappings.saturating_add(1);
-        let path = to_vec(alloc, path)?;
-        let count = self.files.entry(path)?.or_insert(0);
-        *count = count.saturating_add(1);
-        Ok(())
+        count_one(&mut self.files, to_vec(alloc, path)?)
     }
 
     /// Adds the build id of a mapped file, unless it has a path.
@@ -301,10 +293,7 @@ fn files_by_count(
     alloc: Global,
     files: &BTreeMap<Vec<u8>, u64>,
 ) -> Result<Option<Vec<FileEntry<'_>>>, Error> {
-    let mut entries = Vec::with_capacity(alloc, files.len())?;
-    for entry in files.iter() {
-        entries.push(entry)?;
-    }
+    let mut entries: Vec<FileEntry<'_>> = files.iter().collect(alloc)?;
     entries.sort_by_key(|entry: &FileEntry<'_>| Reverse(*entry.1))?;
     entries.truncate(MAX_FILES);
     Ok(Some(entries))

@@ -4,10 +4,11 @@ ghost use Rattle.std.specs.Prelude.{◌≡◌, ◌⊎◌, OnOk, OnErr, IsErrOf};
 use linux_perf_data::Error;
 use linux_perf_data::jitdump::JitDumpError;
 use perfdata_cli::args::ArgsError;
+use std::fmt::Display;
 use std::{fmt, io};
 
 /// An error that ends the program or makes its report incomplete.
-#[derive(Debug, Drop)]
+#[derive(Drop)]
 pub enum InfoError {
     /// The command-line arguments are invalid.
     Usage,
@@ -47,36 +48,47 @@ impl From<ArgsError> for InfoError {
 impl fmt::Display for InfoError {
     fn fmt<W: fmt::Write>(&self, f: &mut fmt::Formatter<W>) -> fmt::Result {
         match self {
-            InfoError::Usage => write!(f, "usage: perfinfo file PATH | pipe | jit PATH"),
-            InfoError::Open(error) => write!(f, "perfinfo: can't open: {error}"),
-            InfoError::Parse(error) => write!(f, "perfinfo: can't open: {error}"),
-            InfoError::JitParse(error) => write!(f, "perfinfo: can't open: {error}"),
+            InfoError::Usage => f.write_str("usage: perfinfo file PATH | pipe | jit PATH"),
+            InfoError::Open(error) => write_cause(f, "can't open", error),
+            InfoError::Parse(error) => write_cause(f, "can't open", error),
+            InfoError::JitParse(error) => write_cause(f, "can't open", error),
             InfoError::Record {
                 bytes_before,
                 source_error,
-            } => {
-                write!(
-                    f,
-                    "perfinfo: error after {bytes_before} bytes of records: {source_error}"
-                )
-            }
+            } => write_end(f, *bytes_before, "records", source_error),
             InfoError::JitRecord {
                 bytes_before,
                 source_error,
-            } => {
-                write!(
-                    f,
-                    "perfinfo: error after {bytes_before} bytes of the file: {source_error}"
-                )
+            } => write_end(f, *bytes_before, "the file", source_error),
+            InfoError::UnreadableSections(count) => {
+                write_cause(f, "sections that can't be read", count)
             }
-            InfoError::UnreadableSections(count) => write!(
-                f,
-                "perfinfo: sections that can't be read: {count}"
-            ),
-            InfoError::Write(error) => write!(f, "perfinfo: can't write: {error}"),
-            InfoError::OutOfMemory => write!(f, "perfinfo: out of memory"),
+            InfoError::Write(error) => write_cause(f, "can't write", error),
+            InfoError::OutOfMemory => f.write_str("perfinfo: out of memory"),
         }
     }
+}
+
+/// Writes what the program can't do, and the cause.
+fn write_cause<W: fmt::Write, E: Display>(
+    f: &mut fmt::Formatter<W>,
+    failure: &str,
+    cause: &E,
+) -> fmt::Result {
+    write!(f, "perfinfo: {failure}: {cause}")
+}
+
+/// Writes the error that ends the records, and the number of bytes before it.
+fn write_end<W: fmt::Write, E: Display>(
+    f: &mut fmt::Formatter<W>,
+    bytes_before: u64,
+    unit: &str,
+    error: &E,
+) -> fmt::Result {
+    write!(
+        f,
+        "perfinfo: error after {bytes_before} bytes of {unit}: {error}"
+    )
 }
 
 /// Returns the exit status: 0 on success, 1 for invalid arguments, 2 for other errors.

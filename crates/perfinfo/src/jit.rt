@@ -1,6 +1,7 @@
 //! Prints a jitdump file: its header, its records by type, and its code.
-ghost use Rattle.std.specs.Prelude.{◌↔◌, IsOk, IsNone};
+ghost use Rattle.std.specs.Prelude.{◌↔◌, IsOk};
 
+use crate::counting::{count_one, to_vec};
 use crate::error::InfoError;
 use crate::escape::Escaped;
 use crate::header_info::byte_order_name;
@@ -27,7 +28,7 @@ struct JitFunction {
 
 /// Counts of a jitdump file's records.
 #[derive(Drop)]
-struct JitCounts {
+pub struct JitCounts {
     per_type: BTreeMap<u32, u64>,
     code_bytes: u64,
     /// The largest functions, ordered by decreasing size.
@@ -36,22 +37,9 @@ struct JitCounts {
     end: u64,
 }
 
-/// A jitdump file that was read to its end or to the first error.
-#[derive(Drop)]
-pub struct JitSummary<R> {
-    reader: JitDumpReader<R>,
-    counts: JitCounts,
-    error: Option<io::Error>,
-}
-
-/// Copies the bytes to a `Vec`.
-fn to_vec(alloc: Global, bytes: RawData<'_>) -> Result<Vec<u8>, AllocError> {
-    bytes.as_slice(alloc)?.into_owned(alloc)
-}
-
 impl JitCounts {
     /// Creates counts with no records.
-    fn new(alloc: Global) -> JitCounts {
+    pub(crate) fn new(alloc: Global) -> JitCounts {
         JitCounts {
             per_type: BTreeMap::new(alloc),
             code_bytes: 0,
@@ -81,70 +69,40 @@ impl JitCounts {
         if let JitDumpRecord::CodeLoad(load) = raw.parse(alloc)? {
             self.add_function(alloc, load.code_bytes.len() as u64, load.function_name)?;
         }
-        let count = self.per_type.entry(raw.record_type.0)?.or_insert(0);
-        *count = count.saturating_add(1);
+        count_one(&mut self.per_type, raw.record_type.0)?;
         self.end = raw.start_offset.saturating_add(raw.record_size as u64);
         Ok(())
     }
-}
 
-/// Counts the remaining records until the end or the first error.
-fn count_records<R: Source>(
-    alloc: Global,
-    reader: &mut JitDumpReader<R>,
-    counts: &mut JitCounts,
-) -> io::Result<()> {
-    for _ in 0..u64::MAX {
-        let Some(raw) = reader.next_record()? else {
-            break;
-        };
-        counts.add(alloc, &raw)?;
-    }
-    Ok(())
-}
-
-impl<R: Source + Drop> JitSummary<R> {
-    /// Reads a jitdump file until its last complete record or the first error. Fails if the header can't be parsed.
-    pub(crate) fn read(alloc: Global, source: R) -> Result<JitSummary<R>, InfoError> {
-        let mut reader = JitDumpReader::new(alloc, source).map_err(InfoError::JitParse)?;
-        let mut counts = JitCounts::new(alloc);
-        counts.end = reader.next_record_offset();
-        let error = count_records(alloc, &mut reader, &mut counts).err();
-        Ok(JitSummary {
-            reader,
-            counts,
-            error,
-        })
+    /// Adds the remaining records until the last complete one or the first error.
+    pub(crate) fn read<R: Source>(
+        &mut self,
+        alloc: Global,
+        reader: &mut JitDumpReader<R>,
+    ) -> io::Result<()> {
+        self.end = reader.next_record_offset();
+        for _ in 0..u64::MAX {
+            let Some(raw) = reader.next_record()? else {
+                break;
+            };
+            self.add(alloc, &raw)?;
+        }
+        Ok(())
     }
 
-    /// Fails with the error that ends the records, if there is one.
-    pub fn into_result(self) -> Result<(), InfoError>
-        ensures { IsOk result ↔ IsNone self.error }
+    /// Fails with the error that ends the records, if `read` returned one.
+    pub fn outcome(&self, read: io::Result<()>) -> Result<(), InfoError>
+        ensures { IsOk result ↔ IsOk read }
     {
-        let bytes_before = self.counts.end;
-        match self.error {
-            Some(source_error) => Err(InfoError::JitRecord {
-                bytes_before,
+        match read {
+            Ok(()) => Ok(()),
+            Err(source_error) => Err(InfoError::JitRecord {
+                bytes_before: self.end,
                 source_error,
             }),
-            None => Ok(()),
         }
     }
 
-    /// Writes the header and the counts.
-    pub(crate) fn show<W: Write>(&self, report: &mut Report<W>) {
-        let header = self.reader.header();
-        report.line("byte order", byte_order_name(self.reader.endian()));
-        report.line("version", header.version);
-        report.line("machine number", header.elf_machine_arch);
-        report.line("process", header.pid);
-        report.line("time", header.timestamp);
-        report.line("flags", header.flags);
-        self.counts.show(report);
-    }
-}
-
-impl JitCounts {
     /// Writes the counts.
     fn show<W: Write>(&self, report: &mut Report<W>) {
         report.line("records by type", self.per_type.len());
@@ -161,4 +119,20 @@ impl JitCounts {
             report.item(function.size, Escaped(function.name.as_slice()));
         }
     }
+}
+
+/// Writes the header and the counts.
+pub(crate) fn show<R: Source, W: Write>(
+    reader: &JitDumpReader<R>,
+    counts: &JitCounts,
+    report: &mut Report<W>,
+) {
+    let header = reader.header();
+    report.line("byte order", byte_order_name(reader.endian()));
+    report.line("version", header.version);
+    report.line("machine number", header.elf_machine_arch);
+    report.line("process", header.pid);
+    report.line("time", header.timestamp);
+    report.line("flags", header.flags);
+    counts.show(report);
 }

@@ -3,6 +3,7 @@
 
 mod build_ids;
 mod contents;
+mod counting;
 mod error;
 mod escape;
 mod events;
@@ -16,63 +17,106 @@ mod report;
 
 use error::{InfoError, exit_status};
 use help::requested_text;
-use linux_perf_data::PerfFileReader;
+use jit::JitCounts;
+use linux_perf_data::jitdump::JitDumpReader;
+use linux_perf_data::source::Source;
+use linux_perf_data::{PerfFile, PerfFileReader};
 use perfdata_cli::args::{Command, parse_args};
 use perfdata_cli::input::{open_file, open_stdin};
 use progress::Progress;
-use records::Recording;
+use records::RecordCounts;
 use report::Report;
 use std::fs;
 use std::io::{BufWriter, Write};
 use std::process::ExitCode;
 
-/// Reads a perf.data file to its end or to the first error.
-fn read_file(rt: &HostRuntime, path: &str) -> Result<Recording, InfoError> {
+/// Returns the size of a file in bytes, if it is known.
+fn file_size(rt: &HostRuntime, path: &str) -> Option<u64> {
+    match fs::metadata(rt, path) {
+        Ok(metadata) => Some(metadata.len()),
+        Err(_) => None,
+    }
+}
+
+/// Prints the report on a perf.data file.
+fn report_file(rt: &HostRuntime, path: &str) -> Result<(), InfoError> {
     let file = open_file(rt, path).map_err(InfoError::Open)?;
-    let size = fs::metadata(rt, path).ok().map(|metadata| metadata.len());
-    let reader = PerfFileReader::parse_file(rt.alloc(), file).map_err(InfoError::Parse)?;
-    let mut progress = Progress::start(rt, size);
-    Ok(Recording::read(rt.alloc(), reader, &mut progress))
+    let size = file_size(rt, path);
+    match PerfFileReader::parse_file(rt.alloc(), file) {
+        Ok(mut reader) => report_records(rt, &mut reader, size),
+        Err(error) => Err(InfoError::Parse(error)),
+    }
 }
 
-/// Reads a pipe from standard input to its end or to the first error.
-fn read_pipe(rt: &HostRuntime) -> Result<Recording, InfoError> {
+/// Prints the report on a pipe from standard input.
+fn report_pipe(rt: &HostRuntime) -> Result<(), InfoError> {
     let input = open_stdin(rt).map_err(InfoError::Open)?;
-    let reader = PerfFileReader::parse_pipe(rt.alloc(), input).map_err(InfoError::Parse)?;
-    let mut progress = Progress::start(rt, None);
-    Ok(Recording::read(rt.alloc(), reader, &mut progress))
+    match PerfFileReader::parse_pipe(rt.alloc(), input) {
+        Ok(mut reader) => report_records(rt, &mut reader, None),
+        Err(error) => Err(InfoError::Parse(error)),
+    }
 }
 
-/// Writes the report on a file or pipe.
-fn show<W: Write>(rt: &HostRuntime, recording: &Recording, report: &mut Report<W>) {
-    header_info::show(rt.alloc(), &recording.file, report);
-    events::show(&recording.file, &recording.counts, report);
-    records::show(&recording.counts, report);
-    contents::show(rt.alloc(), &recording.counts.contents, report);
-    build_ids::show(rt.alloc(), &recording.file, report);
-}
-
-/// Prints the report on a file or pipe. A read error takes precedence over an error of the report.
-fn report_recording(rt: &HostRuntime, read: Result<Recording, InfoError>) -> Result<(), InfoError> {
-    let recording = read?;
-    let out = BufWriter::new(rt.alloc(), rt.stdout()).map_err(InfoError::Write)?;
-    let mut report = Report::new(out);
-    show(rt, &recording, &mut report);
-    let printed = report.finish();
-    recording.into_result()?;
+/// Reads the records of a file or pipe to their end or to the first error, and prints the report. A read error takes precedence
+/// over an error of the report.
+fn report_records<R: Source>(
+    rt: &HostRuntime,
+    reader: &mut PerfFileReader<R>,
+    size: Option<u64>,
+) -> Result<(), InfoError> {
+    let mut progress = Progress::start(rt, size);
+    let mut counts = RecordCounts::new(rt.alloc());
+    let read = counts.read(rt.alloc(), reader, &mut progress);
+    progress.finish();
+    let printed = print_report(rt, &reader.perf_file, &counts);
+    counts.outcome(read)?;
     printed
 }
 
-/// Reads a jitdump file and prints the report on it. A read error takes precedence over an error of the report.
+/// Prints the report on the metadata and the records of a file or pipe.
+fn print_report(rt: &HostRuntime, file: &PerfFile, counts: &RecordCounts) -> Result<(), InfoError> {
+    let out = BufWriter::new(rt.alloc(), rt.stdout()).map_err(InfoError::Write)?;
+    let mut report = Report::new(out);
+    header_info::show(rt.alloc(), file, &mut report);
+    events::show(file, counts, &mut report);
+    records::show(counts, &mut report);
+    contents::show(rt.alloc(), &counts.contents, &mut report);
+    build_ids::show(rt.alloc(), file, &mut report);
+    report.finish()
+}
+
+/// Prints the report on a jitdump file.
 fn report_jitdump(rt: &HostRuntime, path: &str) -> Result<(), InfoError> {
     let file = open_file(rt, path).map_err(InfoError::Open)?;
-    let dump = jit::JitSummary::read(rt.alloc(), file)?;
+    match JitDumpReader::new(rt.alloc(), file) {
+        Ok(mut reader) => report_jit_records(rt, &mut reader),
+        Err(error) => Err(InfoError::JitParse(error)),
+    }
+}
+
+/// Reads the records of a jitdump file to the last complete one or to the first error, and prints the report. A read error takes
+/// precedence over an error of the report.
+fn report_jit_records<R: Source>(
+    rt: &HostRuntime,
+    reader: &mut JitDumpReader<R>,
+) -> Result<(), InfoError> {
+    let mut counts = JitCounts::new(rt.alloc());
+    let read = counts.read(rt.alloc(), reader);
+    let printed = print_jit_report(rt, reader, &counts);
+    counts.outcome(read)?;
+    printed
+}
+
+/// Prints the report on the header and the records of a jitdump file.
+fn print_jit_report<R: Source>(
+    rt: &HostRuntime,
+    reader: &JitDumpReader<R>,
+    counts: &JitCounts,
+) -> Result<(), InfoError> {
     let out = BufWriter::new(rt.alloc(), rt.stdout()).map_err(InfoError::Write)?;
     let mut report = Report::new(out);
-    dump.show(&mut report);
-    let printed = report.finish();
-    dump.into_result()?;
-    printed
+    jit::show(reader, counts, &mut report);
+    report.finish()
 }
 
 /// Prints a text.
@@ -88,8 +132,8 @@ fn run(rt: &HostRuntime) -> Result<(), InfoError> {
         return print_text(rt, text);
     }
     match parse_args(rt)? {
-        Command::File(path) => report_recording(rt, read_file(rt, path.as_str())),
-        Command::Pipe => report_recording(rt, read_pipe(rt)),
+        Command::File(path) => report_file(rt, path.as_str()),
+        Command::Pipe => report_pipe(rt),
         Command::Jit(path) => report_jitdump(rt, path.as_str()),
     }
 }

@@ -1,8 +1,9 @@
 //! Counts the records by event and by type.
-ghost use Rattle.std.specs.Prelude.{◌≡◌, ◌≢◌, ◌+◌, ◌-◌, ◌^◌, ◌<◌, ◌↔◌, IsOk, IsNone, IfSome, IfNone};
+ghost use Rattle.std.specs.Prelude.{◌≡◌, ◌≢◌, ◌+◌, ◌-◌, ◌^◌, ◌<◌, ◌↔◌, IsOk, IfSome, IfNone};
 ghost use Rattle.perfinfo.specs.Times.{IsEarliest, IsLatest};
 
 use crate::contents::Contents;
+use crate::counting::count_one;
 use crate::error::InfoError;
 use crate::names::record_type_name;
 use crate::progress::Progress;
@@ -10,8 +11,8 @@ use crate::report::Report;
 use linux_perf_data::event::{PerfEventHeader, RecordType};
 use linux_perf_data::source::Source;
 use linux_perf_data::{
-    Error, PerfFile, PerfFileReader, PerfFileRecord, PerfRecordIter, RawUserRecord, UserRecord,
-    UserRecordType,
+    Error, PerfFile, PerfFileReader, PerfFileRecord, PerfRecordIter, RawUserRecord, RecordPlace,
+    UserRecord, UserRecordType,
 };
 use perfdata_events::format::EventFormat;
 use std::alloc::{AllocError, Global};
@@ -73,6 +74,24 @@ struct RecordSummary {
     aux_size: u64,
 }
 
+impl RecordSummary {
+    /// Returns the values of a record with this size of aux data.
+    fn new(place: &RecordPlace, file_record: &PerfFileRecord<'_>, aux_size: u64) -> RecordSummary {
+        let end = place
+            .offset
+            .saturating_add(file_record.body().len() as u64)
+            .saturating_add(PerfEventHeader::STRUCT_SIZE as u64);
+        RecordSummary {
+            record_type: file_record.record_type().0,
+            attr_index: file_record.attr_index(),
+            timestamp: place.timestamp,
+            round: place.round,
+            end,
+            aux_size,
+        }
+    }
+}
+
 /// Counts of all records.
 #[derive(Drop)]
 pub struct RecordCounts {
@@ -87,7 +106,7 @@ pub struct RecordCounts {
 
 impl RecordCounts {
     /// Creates counts with no records.
-    fn new(alloc: Global) -> RecordCounts {
+    pub(crate) fn new(alloc: Global) -> RecordCounts {
         RecordCounts {
             per_event: Vec::new(alloc),
             per_type: BTreeMap::new(alloc),
@@ -123,12 +142,42 @@ impl RecordCounts {
         if let Some(index) = summary.attr_index {
             self.count_for_event(index, summary)?;
         }
-        let count = self.per_type.entry(summary.record_type)?.or_insert(0);
-        *count = count.saturating_add(1);
+        count_one(&mut self.per_type, summary.record_type)?;
         self.rounds = summary.round;
         self.aux_bytes = self.aux_bytes.saturating_add(summary.aux_size);
         self.end = summary.end;
         Ok(())
+    }
+
+    /// Adds the remaining records until the end or the first error.
+    pub(crate) fn read<R: Source>(
+        &mut self,
+        alloc: Global,
+        reader: &mut PerfFileReader<R>,
+        progress: &mut Progress<'_>,
+    ) -> Result<(), Error> {
+        let (records, file) = (&mut reader.record_iter, &mut reader.perf_file);
+        for _ in 0..u64::MAX {
+            let Some(summary) = next_summary(alloc, records, file, &mut self.contents)? else {
+                break;
+            };
+            self.add(summary)?;
+            progress.add_record(summary.end);
+        }
+        Ok(())
+    }
+
+    /// Fails with the error that ends the records, if `read` returned one.
+    pub fn outcome(&self, read: Result<(), Error>) -> Result<(), InfoError>
+        ensures { IsOk result ↔ IsOk read }
+    {
+        match read {
+            Ok(()) => Ok(()),
+            Err(source_error) => Err(InfoError::Record {
+                bytes_before: self.end,
+                source_error,
+            }),
+        }
     }
 }
 
@@ -180,79 +229,7 @@ fn next_summary<R: Source>(
         return Ok(None);
     };
     let aux_size = count_body(alloc, file, &record, contents)?;
-    Ok(Some(RecordSummary {
-        record_type: record.record_type().0,
-        attr_index: record.attr_index(),
-        timestamp: place.timestamp,
-        round: place.round,
-        end: place
-            .offset
-            .saturating_add(record.body().len() as u64)
-            .saturating_add(PerfEventHeader::STRUCT_SIZE as u64),
-        aux_size,
-    }))
-}
-
-/// A file or pipe that was read to its end or to the first error.
-#[derive(Drop)]
-pub struct Recording {
-    /// The metadata of the file or pipe.
-    pub file: PerfFile,
-    /// Counts of the records before the first error.
-    pub counts: RecordCounts,
-    error: Option<Error>,
-}
-
-impl Recording {
-    /// Reads records until the end or the first error.
-    pub(crate) fn read<R: Source + Drop>(
-        alloc: Global,
-        reader: PerfFileReader<R>,
-        progress: &mut Progress<'_>,
-    ) -> Recording {
-        let mut file = reader.perf_file;
-        let mut records = reader.record_iter;
-        let mut counts = RecordCounts::new(alloc);
-        let error = count_records(alloc, &mut records, &mut file, &mut counts, progress).err();
-        progress.finish();
-        Recording {
-            file,
-            counts,
-            error,
-        }
-    }
-
-    /// Fails with the error that ends the records, if there is one.
-    pub fn into_result(self) -> Result<(), InfoError>
-        ensures { IsOk result ↔ IsNone self.error }
-    {
-        let bytes_before = self.counts.end;
-        match self.error {
-            Some(source_error) => Err(InfoError::Record {
-                bytes_before,
-                source_error,
-            }),
-            None => Ok(()),
-        }
-    }
-}
-
-/// Counts the remaining records until the end or the first error.
-fn count_records<R: Source>(
-    alloc: Global,
-    records: &mut PerfRecordIter<R>,
-    file: &mut PerfFile,
-    counts: &mut RecordCounts,
-    progress: &mut Progress<'_>,
-) -> Result<(), Error> {
-    for _ in 0..u64::MAX {
-        let Some(summary) = next_summary(alloc, records, file, &mut counts.contents)? else {
-            break;
-        };
-        counts.add(summary)?;
-        progress.add_record(summary.end);
-    }
-    Ok(())
+    Ok(Some(RecordSummary::new(&place, &record, aux_size)))
 }
 
 /// Writes the number of records of each type, the number of rounds, and the total sizes of aux data and of all records.
