@@ -4,13 +4,16 @@ DESTDIR ?=
 FILE ?= data/several.data
 export DESTDIR PREFIX
 
-.PHONY: help try check programs lib install dist clean
+.PHONY: help try test check programs lib install dist clean
 
 help: ## lists the targets
 	@sed -n 's/^\([a-z]*\):.*## /\1\t/p' Makefile
 
 try: ## lists FILE before any proof: make try FILE=perf.data
 	packaging/try "$(FILE)"
+
+test: ## runs the cases in crates/conformance*/data before any proof: two minutes
+	packaging/test
 
 check: ## the gate: every proof, must-fail edit and test, the programs and the C library
 	.ci/run

@@ -1,0 +1,132 @@
+//! The calls that write lines: their text, the buffer of lines, and the end of a program.
+use crate::sink::Sink;
+use crate::sources::{Pushed, Run};
+use conformance_cases::{Case, CaseError, push_io_result, push_line};
+use linux_perf_data::Error;
+use perfdata_listing::line::{Line, RecordFields};
+use perfdata_listing::list::{ListCause, ListFault, flush_listing, list_file};
+use perfdata_listing::output::{CountingBufWriter, finish, write_line};
+use std::alloc::{AllocError, Global};
+use std::io::{Cursor, Error as IoError, ErrorKind, Write};
+
+// The number that is the option with this index; `None` for `-`.
+fn word(case: &Case<'_>, index: usize) -> Option<u64> {
+    case.options.get(index)?.parse::<u64>().ok()
+}
+
+// Sets a line to that of a record whose numbers are the options.
+fn set_record(case: &Case<'_>, line: &mut Line) {
+    line.set_record(RecordFields {
+        offset: word(case, 0).unwrap_or(0),
+        round: word(case, 1).unwrap_or(0),
+        timestamp: word(case, 2),
+        attr_index: word(case, 3),
+        record_type: u32::try_from(word(case, 4).unwrap_or(0)).unwrap_or(0),
+        misc: u16::try_from(word(case, 5).unwrap_or(0)).unwrap_or(0),
+        body_length: word(case, 6).unwrap_or(0),
+    });
+}
+
+// Sets a line to that of a jitdump record whose numbers are the options.
+fn set_jit_record(case: &Case<'_>, line: &mut Line) {
+    let (offset, time) = (word(case, 0).unwrap_or(0), word(case, 1).unwrap_or(0));
+    let record_type = u32::try_from(word(case, 2).unwrap_or(0)).unwrap_or(0);
+    line.set_jit_record(offset, time, record_type, word(case, 3).unwrap_or(0));
+}
+
+/// Prints the line of the numbers that are the options: those of a record, of a jitdump record, or of an error.
+pub fn push_numbers(case: &Case<'_>, out: &mut String) -> Pushed {
+    let mut line = Line::for_error(word(case, 0).unwrap_or(0));
+    match case.call {
+        "record-line" => set_record(case, &mut line),
+        "jit-line" => set_jit_record(case, &mut line),
+        _ => {}
+    }
+    Ok(out.push_str(str::from_utf8(line.as_bytes()).unwrap_or(""))?)
+}
+
+// The number of records of a listed file, or of the lines before its error.
+fn listed_count(alloc: Global, bytes: &[u8]) -> Result<Result<u64, u64>, AllocError> {
+    let mut buffer = CountingBufWriter::new(alloc, Vec::new(alloc))?;
+    let listed = list_file(alloc, Cursor::new(bytes), &mut buffer);
+    Ok(flush_listing(listed, &mut buffer))
+}
+
+/// Prints the exit status after a listing, and what is written to standard error. The listing has `records=N` records, or fails
+/// after `fault=N`, or is that of the input.
+pub fn push_finish(run: Run<'_>, out: &mut String) -> Pushed {
+    let listed = match (run.case.number("records")?, run.case.number("fault")?) {
+        (Some(records), _) => Ok(records),
+        (None, Some(records)) => Err(records),
+        (None, None) => listed_count(run.alloc, run.input.bytes)?,
+    };
+    let mut sink = Sink::of_case(run)?;
+    push_io_result(out, &finish(listed, &mut sink))?;
+    sink.push_text(out)
+}
+
+/// Writes a line, and prints the result and the written text.
+pub fn push_write(run: Run<'_>, out: &mut String) -> Pushed {
+    let mut sink = Sink::of_case(run)?;
+    push_io_result(out, &write_line(&mut sink, run.input.bytes))?;
+    sink.push_text(out)?;
+    sink.push_counts(out)
+}
+
+// The result of a listing of this name, with this number of lines.
+fn listing_of(name: &str, lines: u64) -> Result<u64, ListFault> {
+    let cause = match name {
+        "ok" => return Ok(lines),
+        "write" => ListCause::Write(IoError::from(ErrorKind::StorageFull)),
+        _ => ListCause::Perf(Error::Failed),
+    };
+    Err(ListFault { lines, cause })
+}
+
+// Writes a line this many times. Returns whether all writes succeed, and appends the error of one that fails.
+fn write_lines<W: Write>(
+    buffer: &mut CountingBufWriter<W>,
+    line: &[u8],
+    count: u64,
+    out: &mut String,
+) -> Result<bool, CaseError> {
+    for _ in 0..count {
+        let written = write_line(buffer, line);
+        if written.is_err() {
+            push_io_result(out, &written)?;
+            return Ok(false);
+        }
+    }
+    Ok(true)
+}
+
+// Flushes the buffer, or ends the listings that the option `listed` names.
+fn push_flushes<W: Write>(
+    case: &Case<'_>,
+    buffer: &mut CountingBufWriter<W>,
+    lines: u64,
+    out: &mut String,
+) -> Pushed {
+    let Some(names) = case.option("listed") else {
+        return push_io_result(out, &buffer.flush());
+    };
+    for name in names.split(',') {
+        push_line(out, &flush_listing(listing_of(name, lines), buffer))?;
+    }
+    Ok(())
+}
+
+/// Writes the input `lines=N` times into a buffer of lines, and flushes it; with `listed=NAMES` as the end of listings that return
+/// `ok`, or fail with `perf` or `write`. Prints the number of lines that reach the writer before and after that.
+pub fn push_flush(run: Run<'_>, out: &mut String) -> Pushed {
+    let lines = run.case.number("lines")?.unwrap_or(1);
+    let mut sink = Sink::of_case(run)?;
+    let mut buffer = CountingBufWriter::new(run.alloc, &mut sink)?;
+    if write_lines(&mut buffer, run.input.bytes, lines, out)? {
+        push_line(out, &buffer.lines_written())?;
+        push_flushes(run.case, &mut buffer, lines, out)?;
+    }
+    push_line(out, &buffer.lines_written())?;
+    drop(buffer);
+    sink.push_counts(out)
+}
