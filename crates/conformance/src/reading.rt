@@ -1,7 +1,7 @@
 //! The calls that read the records of files and pipes one by one.
 use crate::metadata::push_accessors;
 use crate::sources::{Pushed, Run, SourceCall, push_other};
-use conformance_cases::push_error;
+use conformance_cases::{CaseError, push_error};
 use linux_perf_data::in_memory::{InMemoryReader, InMemoryRecords};
 use linux_perf_data::raw::RawData;
 use linux_perf_data::source::{PlacedSource, Source};
@@ -249,6 +249,7 @@ impl SourceCall for Reading<'_> {
 pub fn push_reading(run: Run<'_>, format: Format, out: &mut String) -> Pushed {
     let first_offset = match open_in_memory(run.alloc, format, run.input.bytes) {
         Ok(reader) => reader.records.first_record_offset(),
+        Err(Error::Memory) => return Err(CaseError::OutOfMemory),
         Err(_) => 0,
     };
     let reading = Reading {
