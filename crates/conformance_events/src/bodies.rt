@@ -1,8 +1,10 @@
 //! Event bodies, and those of their fields that consist of numbers.
-use crate::names::attr_of;
+use byteorder::{BigEndian, LittleEndian};
 use conformance_cases::{Case, CaseError, Input, push_io_result, push_line};
+use perfdata_base::attr::PerfEventAttr;
 use perfdata_base::event::{CpuMode, RawEventRecord, RecordType};
 use perfdata_base::place::RecordParseInfo;
+use perfdata_base::raw::Endianness;
 use perfdata_events::call_chain::CallChain;
 use perfdata_events::event::EventRecord;
 use perfdata_events::format::EventFormat;
@@ -17,6 +19,23 @@ use std::io;
 fn number_of(case: &Case<'_>, name: &str) -> Result<u16, CaseError> {
     let number = case.number(name)?.unwrap_or(0);
     Ok(u16::try_from(number).unwrap_or(u16::MAX))
+}
+
+// The attribute after the body; without one an attribute of zeros.
+fn attr_of(input: &Input<'_>) -> Result<PerfEventAttr, CaseError> {
+    let zeros = [0; 64];
+    let bytes = match input.others {
+        [] => &zeros,
+        _ => input.argument(1),
+    };
+    let parsed = match input.endian {
+        Endianness::LittleEndian => PerfEventAttr::parse::<&[u8], LittleEndian>(bytes),
+        Endianness::BigEndian => PerfEventAttr::parse::<&[u8], BigEndian>(bytes),
+    };
+    match parsed {
+        Ok((attr, _)) => Ok(attr),
+        Err(_) => Err(CaseError::Invalid("a truncated attribute")),
+    }
 }
 
 // Appends a record in the form of `{:?}`, without fields that are `None`.
@@ -41,7 +60,7 @@ pub fn body_case(
     input: &Input<'_>,
     out: &mut String,
 ) -> Result<(), CaseError> {
-    let attr = attr_of(case)?;
+    let attr = attr_of(input)?;
     let format = EventFormat::new(&attr, input.endian);
     let mut record = RawEventRecord {
         record_type: RecordType(u32::from(number_of(case, "type")?)),

@@ -2,7 +2,6 @@
 #![tactic(auto)]
 
 mod bodies;
-mod names;
 mod orders;
 mod sorting;
 

@@ -1,5 +1,5 @@
 //! Records in order of time.
-use conformance_cases::{Case, CaseError, Input, push_error};
+use conformance_cases::{Case, CaseError, Input, push_error, push_line};
 use linux_perf_data::in_memory::InMemoryReader;
 use linux_perf_data::source::Script;
 use linux_perf_data::{Error, PerfFile, PerfFileReader, PerfFileRecord, RecordPlace};
@@ -8,29 +8,25 @@ use perfdata_order::streaming::OrderedRecords;
 use std::alloc::Global;
 use std::fmt::Write;
 
-// Appends the line of a record: its offset, round, time, attribute, type and misc, and its body.
-fn push_record(
-    out: &mut String,
-    place: RecordPlace,
-    record: &PerfFileRecord<'_>,
-) -> Result<(), CaseError> {
-    let (time, attribute) = (place.timestamp, record.attr_index());
-    write!(
-        out,
-        "{} {} {time:?} {attribute:?} ",
-        place.offset, place.round
-    )?;
-    let (record_type, misc, body) = (record.record_type().0, record.misc(), record.body());
-    Ok(writeln!(out, "{record_type} {misc} {body:?}")?)
-}
-
 // Appends the line of a record, or how the records end. Returns whether there is a record.
 fn push_next(
     out: &mut String,
     next: &Result<Option<(RecordPlace, PerfFileRecord<'_>)>, Error>,
 ) -> Result<bool, CaseError> {
     match next {
-        Ok(Some((place, record))) => push_record(out, *place, record)?,
+        Ok(Some((place, record))) => {
+            let kind = (record.attr_index(), record.record_type().0, record.misc());
+            push_line(
+                out,
+                &(
+                    place.offset,
+                    place.round,
+                    place.timestamp,
+                    kind,
+                    record.body(),
+                ),
+            )?;
+        }
         Ok(None) => out.push_str("end\n")?,
         Err(error) => {
             push_error(out, error)?;
@@ -91,7 +87,10 @@ fn open(
     } else {
         PerfFileReader::parse_file(alloc, source)?
     };
-    let records = OrderedRecords::with_budget(alloc, reader.record_iter, budget);
+    let records = match budget {
+        0 => OrderedRecords::new(alloc, reader.record_iter),
+        _ => OrderedRecords::with_budget(alloc, reader.record_iter, budget),
+    };
     Ok((reader.perf_file, records))
 }
 

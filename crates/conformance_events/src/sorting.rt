@@ -10,13 +10,14 @@ type Keys = Sorter<u64, (u64, usize)>;
 
 // Appends all values that are available.
 fn push_available(sorter: &mut Keys, out: &mut String) -> Result<(), CaseError> {
+    out.push_str("values")?;
     for _ in 0..u64::MAX {
         let Some((key, index)) = sorter.get_next() else {
             break;
         };
-        write!(out, "{key}#{index} ")?;
+        write!(out, " {key}#{index}")?;
     }
-    Ok(out.push_str("-\n")?)
+    Ok(out.push_str("\n")?)
 }
 
 // Makes a call, or inserts a key.
