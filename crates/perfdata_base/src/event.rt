@@ -88,9 +88,6 @@ fn record_header_at(endian: Endianness, bytes: &[u8]) -> PerfEventHeader
 pub struct RecordType(pub u32);
 
 impl RecordType {
-    /// A sample of an event.
-    pub const SAMPLE: RecordType = RecordType(9);
-
     /// Returns whether the kernel writes records of this type: those below 64.
     pub fn is_builtin_type(&self) -> bool
         ensures { IsTrue result ↔ (self.now.0 < 64) }

@@ -84,7 +84,27 @@ pub fn feature_numbers()
     ensures simpleperf_file2 { Feature.SIMPLEPERF_FILE2.0 ≡ 132 }
 {}
 
-/// The type of the kernel's samples.
-pub fn sample_type()
-    ensures { RecordType.SAMPLE.0 ≡ 9 }
+/// The numbers of the types of the kernel's records.
+pub fn record_type_numbers()
+    ensures mmap { RecordType.MMAP.0 ≡ 1 }
+    ensures lost { RecordType.LOST.0 ≡ 2 }
+    ensures comm { RecordType.COMM.0 ≡ 3 }
+    ensures exit { RecordType.EXIT.0 ≡ 4 }
+    ensures throttle { RecordType.THROTTLE.0 ≡ 5 }
+    ensures unthrottle { RecordType.UNTHROTTLE.0 ≡ 6 }
+    ensures fork { RecordType.FORK.0 ≡ 7 }
+    ensures read { RecordType.READ.0 ≡ 8 }
+    ensures sample { RecordType.SAMPLE.0 ≡ 9 }
+    ensures mmap2 { RecordType.MMAP2.0 ≡ 10 }
+    ensures aux { RecordType.AUX.0 ≡ 11 }
+    ensures itrace_start { RecordType.ITRACE_START.0 ≡ 12 }
+    ensures lost_samples { RecordType.LOST_SAMPLES.0 ≡ 13 }
+    ensures switch { RecordType.SWITCH.0 ≡ 14 }
+    ensures switch_cpu_wide { RecordType.SWITCH_CPU_WIDE.0 ≡ 15 }
+    ensures namespaces { RecordType.NAMESPACES.0 ≡ 16 }
+    ensures ksymbol { RecordType.KSYMBOL.0 ≡ 17 }
+    ensures bpf_event { RecordType.BPF_EVENT.0 ≡ 18 }
+    ensures cgroup { RecordType.CGROUP.0 ≡ 19 }
+    ensures text_poke { RecordType.TEXT_POKE.0 ≡ 20 }
+    ensures aux_output_hw_id { RecordType.AUX_OUTPUT_HW_ID.0 ≡ 21 }
 {}

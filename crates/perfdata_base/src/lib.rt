@@ -9,5 +9,6 @@ pub mod header;
 pub mod laws;
 pub mod place;
 pub mod raw;
+pub mod record_type;
 pub mod section;
 pub mod source;
