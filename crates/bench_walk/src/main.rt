@@ -1,9 +1,10 @@
-//! Counts records without printing them, for `bench/run`. `bench_walk file PATH`, `bench_walk pipe` and `bench_walk jit PATH`
-//! read an input as perflist does. `bench_walk decode PATH` also parses the samples of a file and adds up their fields.
-//! `bench_walk memory PATH` and `bench_walk by-time PATH` read a file in memory, in the order of the file and in order of time.
-//! `bench_walk sort PATH` sorts the times of the records of a file in memory, without the records. `bench_walk streamed PATH` reads a
-//! file as a source in order of time.
-//! `bench_walk paused PATH PAUSES` reads a jitdump that arrives in parts, with a pause after each.
+//! Counts records without printing them, for `bench/run`. `bench_walk file PATH`, `bench_walk pipe` and
+//! `bench_walk jit PATH` read an input as perflist does. `bench_walk decode PATH` also parses the samples of
+//! a file and adds up their fields. `bench_walk memory PATH` and `bench_walk by-time PATH` read a file in
+//! memory, in the order of the file and in order of time. `bench_walk sort PATH` sorts the times of the
+//! records of a file in memory, without the records. `bench_walk streamed PATH` reads a file as a source in
+//! order of time. `bench_walk paused PATH PAUSES` reads a jitdump that arrives in parts, with a pause after
+//! each.
 #![tactic(auto)]
 
 mod memory;

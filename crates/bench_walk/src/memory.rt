@@ -1,5 +1,5 @@
-//! Counts the records of a file in memory, in the order of the file or in order of time, and those of a source in order of time. Also
-//! sorts the times of the records alone.
+//! Counts the records of a file in memory, in the order of the file or in order of time, and those of a
+//! source in order of time. Also sorts the times of the records alone.
 
 use linux_perf_data::in_memory::InMemoryReader;
 use linux_perf_data::source::Source;
@@ -53,7 +53,8 @@ fn take_times(times: &mut Sorter<u64, u64>) -> u64 {
     count
 }
 
-/// Sorts the times of the records with their offsets, round by round, as the order in memory sorts records. Returns their number.
+/// Sorts the times of the records with their offsets, round by round, as the order in memory sorts records.
+/// Returns their number.
 fn count_sorted_times(alloc: Global, bytes: &[u8]) -> Result<u64, Error> {
     let reader = InMemoryReader::parse_file(alloc, bytes)?;
     let mut file = reader.perf_file;

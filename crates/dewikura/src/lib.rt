@@ -1,7 +1,7 @@
 //! C exports of the calls of `perfdata_arrays`; `include/dewikura.h` declares them.
 //!
-//! The names end in `_raw` where a call takes pointers: no pointer may be NULL. The functions of the header that have the names
-//! without `_raw` accept NULL.
+//! The names end in `_raw` where a call takes pointers: no pointer may be NULL. The functions of the header
+//! that have the names without `_raw` accept NULL.
 #![tactic(auto)]
 
 ghost use Rattle.std.specs.Prelude.{◌≡◌, ◌-◌, ◌++◌, ◌∷◌, [], length, take};
@@ -44,7 +44,8 @@ use perfdata_arrays::{
 };
 use std::alloc::Global;
 
-/// The version of the library: 10,000 times the major number, 100 times the minor number, and the patch number.
+/// The version of the library: 10,000 times the major number, 100 times the minor number, and the patch
+/// number.
 const VERSION: u32 = 100;
 
 // The byte order is little-endian for 0 and big-endian for all other values.
@@ -75,7 +76,8 @@ pub extern "C" fn dewikura_status_text_raw(code: u32, buf: &mut [u8]) -> usize
     status::status_text(code, buf)
 }
 
-/// Returns 1 if the numbers of a perf.data file or pipe are big-endian, otherwise 0, as `byte_order::is_big_endian` does.
+/// Returns 1 if the numbers of a perf.data file or pipe are big-endian, otherwise 0, as
+/// `byte_order::is_big_endian` does.
 #[unsafe(no_mangle)]
 pub extern "C" fn dewikura_is_big_endian_raw(input: &[u8]) -> u32
     ensures { result ≡ number_of_bool (starts_with nat_eq input.now (magic_of BigEndian)) }
@@ -92,7 +94,8 @@ pub extern "C" fn dewikura_read_file_records_raw(
     entries: &mut [RecordEntry],
     count: &mut u64,
 ) -> u32
-    ensures { IsCodeOf result (λ s. ReadsFilePage input.now cursor.old entries.old (record { count = count.new; status = s }) cursor.new entries.new) }
+    ensures { IsCodeOf result (λ s. ReadsFilePage input.now cursor.old entries.old
+        (record { count = count.new; status = s }) cursor.new entries.new) }
 {
     let outcome = records::file_records(alloc, input, cursor, entries);
     *count = outcome.count;
@@ -108,7 +111,8 @@ pub extern "C" fn dewikura_read_pipe_records_raw(
     entries: &mut [RecordEntry],
     count: &mut u64,
 ) -> u32
-    ensures { IsCodeOf result (λ s. ReadsPipeRecords input.now start entries.old (record { count = count.new; status = s }) entries.new) }
+    ensures { IsCodeOf result (λ s. ReadsPipeRecords input.now start entries.old
+        (record { count = count.new; status = s }) entries.new) }
 {
     let outcome = records::pipe_records(alloc, input, start, entries);
     *count = outcome.count;
@@ -133,7 +137,8 @@ pub extern "C" fn dewikura_read_file_attrs_raw(
     ids: &mut [u64],
     totals: &mut AttrTotals,
 ) -> u32
-    ensures { IsCodeOf result (λ s. ReadsFileAttrs input.now entries.old names.old ids.old (record { totals = totals.new; status = s }) entries.new names.new ids.new) }
+    ensures { IsCodeOf result (λ s. ReadsFileAttrs input.now entries.old names.old ids.old
+        (record { totals = totals.new; status = s }) entries.new names.new ids.new) }
 {
     let outcome = attrs::file_attrs(alloc, input, entries, names, ids);
     *totals = outcome.totals;
@@ -150,7 +155,8 @@ pub extern "C" fn dewikura_read_pipe_attrs_raw(
     ids: &mut [u64],
     totals: &mut AttrTotals,
 ) -> u32
-    ensures { IsCodeOf result (λ s. ReadsPipeAttrs input.now entries.old names.old ids.old (record { totals = totals.new; status = s }) entries.new names.new ids.new) }
+    ensures { IsCodeOf result (λ s. ReadsPipeAttrs input.now entries.old names.old ids.old
+        (record { totals = totals.new; status = s }) entries.new names.new ids.new) }
 {
     let outcome = attrs::pipe_attrs(alloc, input, entries, names, ids);
     *totals = outcome.totals;
@@ -195,7 +201,8 @@ pub extern "C" fn dewikura_read_file_feature_raw(
     is_present: &mut u8,
     feature_size: &mut u64,
 ) -> u32
-    ensures { IsCodeOf result (λ s. ReadsFileFeature input.now feature buf.old (record { size = feature_size.new; is_present = is_present.new; status = s }) buf.new) }
+    ensures { IsCodeOf result (λ s. ReadsFileFeature input.now feature buf.old
+        (record { size = feature_size.new; is_present = is_present.new; status = s }) buf.new) }
 {
     let outcome = features::file_feature(alloc, input, feature, buf);
     *is_present = outcome.is_present;
@@ -213,7 +220,8 @@ pub extern "C" fn dewikura_read_pipe_feature_raw(
     is_present: &mut u8,
     feature_size: &mut u64,
 ) -> u32
-    ensures { IsCodeOf result (λ s. ReadsPipeFeature input.now feature buf.old (record { size = feature_size.new; is_present = is_present.new; status = s }) buf.new) }
+    ensures { IsCodeOf result (λ s. ReadsPipeFeature input.now feature buf.old
+        (record { size = feature_size.new; is_present = is_present.new; status = s }) buf.new) }
 {
     let outcome = features::pipe_feature(alloc, input, feature, buf);
     *is_present = outcome.is_present;
@@ -230,7 +238,8 @@ pub extern "C" fn dewikura_read_build_id_raw(
     offset: u64,
     entry: &mut BuildId,
 ) -> u32
-    ensures { IsCodeOf result (λ s. ReadsBuildId (endian_from is_big_endian) section.now offset entry.old s entry.new) }
+    ensures { IsCodeOf result (λ s. ReadsBuildId
+        (endian_from is_big_endian) section.now offset entry.old s entry.new) }
 {
     build_ids::build_id_at(alloc, endian_of(is_big_endian), section, offset, entry).code()
 }
@@ -243,7 +252,8 @@ pub extern "C" fn dewikura_read_string_raw(
     offset: u64,
     entry: &mut StringEntry,
 ) -> u32
-    ensures { IsCodeOf result (λ s. ReadsString (endian_from is_big_endian) section.now offset entry.old s entry.new) }
+    ensures { IsCodeOf result (λ s. ReadsString
+        (endian_from is_big_endian) section.now offset entry.old s entry.new) }
 {
     strings::string_at(endian_of(is_big_endian), section, offset, entry).code()
 }
@@ -255,7 +265,8 @@ pub extern "C" fn dewikura_read_meta_info_raw(
     entries: &mut [MetaPair],
     count: &mut u64,
 ) -> u32
-    ensures { IsCodeOf result (λ s. ReadsMetaInfo section.now entries.old (record { count = count.new; status = s }) entries.new) }
+    ensures { IsCodeOf result (λ s. ReadsMetaInfo section.now entries.old
+        (record { count = count.new; status = s }) entries.new) }
 {
     let outcome = meta_info::meta_info(section, entries);
     *count = outcome.count;
@@ -275,7 +286,10 @@ pub extern "C" fn dewikura_read_symbol_tables_raw(
     offsets: &mut [u64],
     totals: &mut SymbolTotals,
 ) -> u32
-    ensures { IsCodeOf result (λ s. ReadsSymbolTables feature (endian_from is_big_endian) section.now (record { files = files.old; symbols = symbols.old; names = names.old; offsets = offsets.old }) (record { totals = totals.new; status = s }) (record { files = files.new; symbols = symbols.new; names = names.new; offsets = offsets.new })) }
+    ensures { IsCodeOf result (λ s. ReadsSymbolTables feature (endian_from is_big_endian) section.now
+        (record { files = files.old; symbols = symbols.old; names = names.old; offsets = offsets.old })
+        (record { totals = totals.new; status = s })
+        (record { files = files.new; symbols = symbols.new; names = names.new; offsets = offsets.new })) }
 {
     let endian = endian_of(is_big_endian);
     let outcome = symbol_tables::symbol_tables(
@@ -302,7 +316,8 @@ pub extern "C" fn dewikura_read_jit_records_raw(
     count: &mut u64,
     next_offset: &mut u64,
 ) -> u32
-    ensures { IsCodeOf result (λ s. ReadsJitRecords input.now start_offset entries.old (record { count = count.new; next_offset = next_offset.new; status = s }) entries.new) }
+    ensures { IsCodeOf result (λ s. ReadsJitRecords input.now start_offset entries.old
+        (record { count = count.new; next_offset = next_offset.new; status = s }) entries.new) }
 {
     let outcome = jit::jit_records(input, start_offset, entries);
     *count = outcome.count;
@@ -348,7 +363,8 @@ pub extern "C" fn dewikura_read_jit_debug_info_raw(
     entries: &mut [JitDebugEntry],
     count: &mut u64,
 ) -> u32
-    ensures { IsCodeOf result (λ s. ReadsJitDebugInfo input.now offset entries.old (record { code_address = code_address.new; count = count.new; status = s }) entries.new) }
+    ensures { IsCodeOf result (λ s. ReadsJitDebugInfo input.now offset entries.old
+        (record { code_address = code_address.new; count = count.new; status = s }) entries.new) }
 {
     let outcome = jit_debug::jit_debug_info(alloc, input, offset, entries);
     *code_address = outcome.code_address;

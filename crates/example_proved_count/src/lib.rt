@@ -1,6 +1,6 @@
-//! Formally verified functions that use the library: they count the records of a file and of a pipe in memory. They prove from
-//! the library's public specifications alone that a count is the number of records in the layout, and that an error is one of
-//! the bytes.
+//! Formally verified functions that use the library: they count the records of a file and of a pipe in
+//! memory. They prove from the library's public specifications alone that a count is the number of records in
+//! the layout, and that an error is one of the bytes.
 #![tactic(auto)]
 
 ghost use Rattle.std.specs.Prelude.{IfOk, IfErr};
@@ -10,7 +10,8 @@ use linux_perf_data::{Error, PerfFileReader, laws};
 use std::alloc::Global;
 use std::io::Cursor;
 
-/// Returns the number of records in the layout of a perf.data file, without round markers, if the layout is complete.
+/// Returns the number of records in the layout of a perf.data file, without round markers, if the layout is
+/// complete.
 ///
 /// Fails if the file doesn't open, its layout has an error, or an allocation fails.
 pub fn count_records(alloc: Global, bytes: &[u8]) -> Result<u64, Error>
@@ -32,8 +33,8 @@ pub fn count_records(alloc: Global, bytes: &[u8]) -> Result<u64, Error>
     }
 }
 
-/// Returns the number of records in the layout of a perf.data pipe, without round markers and without the metadata records of
-/// the opening, if the layout is complete.
+/// Returns the number of records in the layout of a perf.data pipe, without round markers and without the
+/// metadata records of the opening, if the layout is complete.
 ///
 /// Fails if the pipe doesn't open, its layout has an error, or an allocation fails.
 pub fn count_pipe_records(alloc: Global, bytes: &[u8]) -> Result<u64, Error>

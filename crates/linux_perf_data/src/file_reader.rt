@@ -63,35 +63,38 @@ impl<C: PlacedSource + Drop> PerfFileReader<C> {
         })
     }
 
-    /// Opens a perf.data file: reads the header at the position of `source`, the feature sections and the attributes, and
-    /// seeks to the first record.
+    /// Opens a perf.data file: reads the header at the position of `source`, the feature sections and the
+    /// attributes, and seeks to the first record.
     ///
-    /// Offsets in the file are in bytes from the first byte of the source. The bytes that the header's size counts beyond 104
-    /// are skipped before the magic is checked. A table directly after the data section has an entry of 16 bytes for each
-    /// feature, in ascending order. An entry contains the offset and the size of the feature's section.
+    /// Offsets in the file are in bytes from the first byte of the source. The bytes that the header's size
+    /// counts beyond 104 are skipped before the magic is checked. A table directly after the data section has
+    /// an entry of 16 bytes for each feature, in ascending order. An entry contains the offset and the size
+    /// of the feature's section.
     ///
     /// The attributes are those of the first of these sections that the file has:
     ///
     /// - the section EVENT_DESC,
     /// - the event types section, if it isn't empty,
-    /// - the attribute section. In a file with simpleperf's meta info, the event types of the meta info name the attributes.
+    /// - the attribute section. In a file with simpleperf's meta info, the event types of the meta info name
+    ///   the attributes.
     ///
     /// # Errors
     ///
     /// The error is the first one in the file, or an I/O error of the source:
     ///
-    /// - [`Error::IoError`] if the header, the table or a section can't be read, or if a seek fails. It is of kind
-    ///   `InvalidInput` if the header's size counts 2^63 or more bytes beyond 104.
+    /// - [`Error::IoError`] if the header, the table or a section can't be read, or if a seek fails. It is of
+    ///   kind `InvalidInput` if the header's size counts 2^63 or more bytes beyond 104.
     /// - [`Error::UnrecognizedMagicValue`] if the magic is unknown.
     /// - [`ReadError::FeatureSection`] if the data section ends past 2^64 - 1.
-    /// - The errors of `parse_event_desc_section`, `parse_event_types_section`, `parse_simpleperf_attr_section` and
-    ///   `parse_attr_section` for the attributes, and of `parse_meta_info_map` for the meta info.
+    /// - The errors of `parse_event_desc_section`, `parse_event_types_section`,
+    ///   `parse_simpleperf_attr_section` and `parse_attr_section` for the attributes, and of
+    ///   `parse_meta_info_map` for the meta info.
     /// - [`Error::NoEventTypesInSimpleperfMetaInfo`] if the meta info contains no event types.
     /// - [`Error::NoAttributes`] if the file has no attributes.
     /// - If the records of several attributes don't all have their identifiers at the same offsets:
-    ///   [`Error::NoIdentifierDespiteMultiEvent`] with the index of the first attribute without IDENTIFIER, or
-    ///   [`Error::InconsistentSampleIdAllWithMultiEvent`] with the index of the first attribute whose SAMPLE_ID_ALL differs
-    ///   from that of attribute 0, whichever attribute is first.
+    ///   [`Error::NoIdentifierDespiteMultiEvent`] with the index of the first attribute without IDENTIFIER,
+    ///   or [`Error::InconsistentSampleIdAllWithMultiEvent`] with the index of the first attribute whose
+    ///   SAMPLE_ID_ALL differs from that of attribute 0, whichever attribute is first.
     /// - [`Error::Memory`] if memory runs out.
     pub fn parse_file(alloc: Global, source: C) -> Result<PerfFileReader<C>, Error>
         ensures named_error { IfErr result IsFileOpeningError }
@@ -139,25 +142,28 @@ impl<R: Source + Drop> PerfFileReader<R> {
         })
     }
 
-    /// Opens a perf.data pipe, as `perf record -o -` writes it: reads its header and the metadata records after it.
+    /// Opens a perf.data pipe, as `perf record -o -` writes it: reads its header and the metadata records
+    /// after it.
     ///
-    /// Metadata records have the types HEADER_ATTR and HEADER_FEATURE. The opening ends with the record header of the first
-    /// record of another type. The iterator keeps this pending header, and the offsets of records count from it.
+    /// Metadata records have the types HEADER_ATTR and HEADER_FEATURE. The opening ends with the record
+    /// header of the first record of another type. The iterator keeps this pending header, and the offsets of
+    /// records count from it.
     ///
-    /// The bytes that the pipe header's size counts beyond 16 are skipped. If the pipe ends within them, or has fewer than
-    /// eight bytes for the next record header, the opening ends, and so do the records. If a feature occurs more than once,
-    /// its last data count. An attribute with an id has the name of the first event of EVENT_DESC whose first id is the first
-    /// id of the attribute.
+    /// The bytes that the pipe header's size counts beyond 16 are skipped. If the pipe ends within them, or
+    /// has fewer than eight bytes for the next record header, the opening ends, and so do the records. If a
+    /// feature occurs more than once, its last data count. An attribute with an id has the name of the first
+    /// event of EVENT_DESC whose first id is the first id of the attribute.
     ///
     /// # Errors
     ///
     /// The error is the first one in the pipe, or an I/O error of the source:
     ///
-    /// - [`Error::IoError`] of kind `UnexpectedEof` if the pipe header or a metadata record is truncated, or if its body is too
-    ///   small for `HeaderAttr` or `HeaderFeature`, and of kind `InvalidData` if the size field of an attribute is below 64.
-    ///   An I/O error of the source is also an [`Error::IoError`].
+    /// - [`Error::IoError`] of kind `UnexpectedEof` if the pipe header or a metadata record is truncated, or
+    ///   if its body is too small for `HeaderAttr` or `HeaderFeature`, and of kind `InvalidData` if the size
+    ///   field of an attribute is below 64. An I/O error of the source is also an [`Error::IoError`].
     /// - [`Error::UnrecognizedMagicValue`] if the magic is unknown.
-    /// - [`Error::InvalidPerfEventSize`] if the size in a record header is below 8, the size of the record header.
+    /// - [`Error::InvalidPerfEventSize`] if the size in a record header is below 8, the size of the record
+    ///   header.
     /// - [`ReadError::PerfEventData`] if a metadata record ends past 2^64 - 1.
     /// - After the metadata records: [`Error::NoAttributes`] if there are no attributes, the errors of
     ///   `parse_event_desc_section`, and the errors of inconsistent attributes that `parse_file` describes.
@@ -165,7 +171,8 @@ impl<R: Source + Drop> PerfFileReader<R> {
     pub fn parse_pipe(alloc: Global, source: R) -> Result<PerfFileReader<R>, Error>
         ensures named_error { IfErr result IsPipeOpeningError }
         ensures parses { ParsesPipe R.state (R.state source) result }
-        ensures pauses { IfOk result (λ r. (R.state r.record_iter.source).pauses ≤ (R.state source).pauses + 1) }
+        ensures pauses { IfOk result (λ r. (R.state r.record_iter.source).pauses ≤ (R.state source).pauses
+            + 1) }
         ensures same_loan { IfOk result (λ r. R.loan r.record_iter.source ≡ R.loan source) }
     {
         let mut source = source;

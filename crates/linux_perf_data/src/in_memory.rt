@@ -60,8 +60,8 @@ impl<'a> InMemoryRecords<'a> {
 
     /// Returns the offset of the first record's header in the input, in bytes.
     ///
-    /// The body of the record at offset `o` starts at `first_record_offset() + o + 8`. If the input has no records, the result is
-    /// unspecified.
+    /// The body of the record at offset `o` starts at `first_record_offset() + o + 8`. If the input has no
+    /// records, the result is unspecified.
     pub fn first_record_offset(&self) -> u64
         ensures { result ≡ first_record_offset_of self.now }
     {
@@ -70,15 +70,16 @@ impl<'a> InMemoryRecords<'a> {
 
     /// Returns the next record with its [`RecordPlace`], or `Ok(None)` at the end of the records.
     ///
-    /// The records, their end and the errors are those of `PerfRecordIter::next_record` over the same bytes. The body is a part
-    /// of the input, in one slice, and nothing is copied. After the end, each call returns `Ok(None)`.
+    /// The records, their end and the errors are those of `PerfRecordIter::next_record` over the same bytes.
+    /// The body is a part of the input, in one slice, and nothing is copied. After the end, each call returns
+    /// `Ok(None)`.
     ///
     /// # Errors
     ///
     /// An error is returned once with its cause. Each later call returns [`Error::Failed`].
     ///
-    /// The errors are those of `PerfRecordIter::next_record`. A record needs no memory: [`Error::Memory`] is returned for a
-    /// pipe only, if memory runs out for the metadata in a record.
+    /// The errors are those of `PerfRecordIter::next_record`. A record needs no memory: [`Error::Memory`] is
+    /// returned for a pipe only, if memory runs out for the metadata in a record.
     #[inline(always)]
     pub fn next_record(
         &mut self,

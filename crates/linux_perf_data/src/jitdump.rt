@@ -1,7 +1,8 @@
-//! Jitdump files, which the runtimes of just-in-time compilers write beside a profile, usually as `jit-PID.dump`.
+//! Jitdump files, which the runtimes of just-in-time compilers write beside a profile, usually as
+//! `jit-PID.dump`.
 //!
-//! A jitdump file has a header and records. The records describe code that is generated or moved, the source locations of
-//! the code, and its unwinding information.
+//! A jitdump file has a header and records. The records describe code that is generated or moved, the source
+//! locations of the code, and its unwinding information.
 pub use perfdata_jit::buffered_reader::BufferedReader;
 pub use perfdata_jit::error::JitDumpError;
 pub use perfdata_jit::header::JitDumpHeader;

@@ -1,8 +1,8 @@
 //! Reads `perf.data` files and pipes of Linux perf and Android simpleperf, and jitdump files.
 //!
 //! [`PerfFileReader`] consists of the metadata of the input ([`PerfFile`]) and an iterator over its records
-//! ([`PerfRecordIter`]). The iterator returns each record with its [`RecordPlace`], and a kernel record also with the index
-//! of its event's attribute:
+//! ([`PerfRecordIter`]). The iterator returns each record with its [`RecordPlace`], and a kernel record also
+//! with the index of its event's attribute:
 //!
 //! ```
 //! use linux_perf_data::source::Counted;

@@ -41,7 +41,8 @@ pub struct PerfFile {
     pub(crate) attributes: Vec<AttributeDescription>,
     // The table that contains the names of all attributes, if it is kept. The table of a file isn't kept.
     pub(crate) name_table: Option<NameTable>,
-    // The attributes by their first ids. Attributes that were added since the last late EVENT_DESC are missing.
+    // The attributes by their first ids. Attributes that were added since the last late EVENT_DESC are
+    // missing.
     pub(crate) first_id_index: FirstIdIndex,
     ghost nonempty: { 0 < vec_len attributes },
     ghost names_match_table: { TableNamesAll name_table attributes.items },
@@ -62,7 +63,8 @@ impl PerfFile {
         self.attributes.as_slice()
     }
 
-    /// Returns the features that the file declares, or that were read from the pipe so far. All are below 256.
+    /// Returns the features that the file declares, or that were read from the pipe so far. All are below
+    /// 256.
     pub fn features(&self) -> FeatureSet
         ensures { result ≡ features_of_file self.now }
     {
@@ -94,7 +96,8 @@ impl PerfFile {
 
     // The text of a section that contains one string.
     fn string_of(&self, feature: Feature) -> Result<Option<&str>, Error>
-        ensures { AnswersOf (ParsesStringSection (endian_of_file self.now)) (feature_data_in_file self.now feature.0) result }
+        ensures { AnswersOf (ParsesStringSection (endian_of_file self.now))
+            (feature_data_in_file self.now feature.0) result }
     {
         match self.feature_section_data(feature) {
             Some(bytes) => Ok(Some(parse::parse_string(self.endian, bytes)?)),
@@ -104,7 +107,8 @@ impl PerfFile {
 
     // The number of a section that contains one u64.
     fn number_of_feature(&self, feature: Feature) -> Result<Option<u64>, Error>
-        ensures { AnswersOf (ParsesU64 (endian_of_file self.now)) (feature_data_in_file self.now feature.0) result }
+        ensures { AnswersOf (ParsesU64 (endian_of_file self.now))
+            (feature_data_in_file self.now feature.0) result }
     {
         match self.feature_section_data(feature) {
             Some(bytes) => Ok(Some(parse::parse_u64(self.endian, bytes)?)),
@@ -114,13 +118,14 @@ impl PerfFile {
 
     /// Returns the name of the machine (section HOSTNAME), as `uname -n` prints it.
     ///
-    /// A section with a string contains a length of four bytes, and then that many bytes. The text is the bytes before the
-    /// first NUL.
+    /// A section with a string contains a length of four bytes, and then that many bytes. The text is the
+    /// bytes before the first NUL.
     ///
-    /// Fails with `NotEnoughSpaceForStringLen` if there are fewer than four bytes, with `StringLengthTooLong` if fewer bytes
-    /// than the length follow, and with `StringUtf8` if the text isn't UTF-8.
+    /// Fails with `NotEnoughSpaceForStringLen` if there are fewer than four bytes, with `StringLengthTooLong`
+    /// if fewer bytes than the length follow, and with `StringUtf8` if the text isn't UTF-8.
     pub fn hostname(&self) -> Result<Option<&str>, Error>
-        ensures { AnswersOf (ParsesStringSection (endian_of_file self.now)) (feature_data_in_file self.now hostname) result }
+        ensures { AnswersOf (ParsesStringSection (endian_of_file self.now))
+            (feature_data_in_file self.now hostname) result }
     {
         self.string_of(Feature::HOSTNAME)
     }
@@ -129,7 +134,8 @@ impl PerfFile {
     ///
     /// The errors are those of `hostname`.
     pub fn os_release(&self) -> Result<Option<&str>, Error>
-        ensures { AnswersOf (ParsesStringSection (endian_of_file self.now)) (feature_data_in_file self.now os_release) result }
+        ensures { AnswersOf (ParsesStringSection (endian_of_file self.now))
+            (feature_data_in_file self.now os_release) result }
     {
         self.string_of(Feature::OSRELEASE)
     }
@@ -138,7 +144,8 @@ impl PerfFile {
     ///
     /// The errors are those of `hostname`.
     pub fn perf_version(&self) -> Result<Option<&str>, Error>
-        ensures { AnswersOf (ParsesStringSection (endian_of_file self.now)) (feature_data_in_file self.now version) result }
+        ensures { AnswersOf (ParsesStringSection (endian_of_file self.now))
+            (feature_data_in_file self.now version) result }
     {
         self.string_of(Feature::VERSION)
     }
@@ -147,7 +154,8 @@ impl PerfFile {
     ///
     /// The errors are those of `hostname`.
     pub fn arch(&self) -> Result<Option<&str>, Error>
-        ensures { AnswersOf (ParsesStringSection (endian_of_file self.now)) (feature_data_in_file self.now arch) result }
+        ensures { AnswersOf (ParsesStringSection (endian_of_file self.now))
+            (feature_data_in_file self.now arch) result }
     {
         self.string_of(Feature::ARCH)
     }
@@ -156,7 +164,8 @@ impl PerfFile {
     ///
     /// The errors are those of `hostname`.
     pub fn cpu_desc(&self) -> Result<Option<&str>, Error>
-        ensures { AnswersOf (ParsesStringSection (endian_of_file self.now)) (feature_data_in_file self.now cpu_desc) result }
+        ensures { AnswersOf (ParsesStringSection (endian_of_file self.now))
+            (feature_data_in_file self.now cpu_desc) result }
     {
         self.string_of(Feature::CPUDESC)
     }
@@ -165,7 +174,8 @@ impl PerfFile {
     ///
     /// The errors are those of `hostname`.
     pub fn cpu_id(&self) -> Result<Option<&str>, Error>
-        ensures { AnswersOf (ParsesStringSection (endian_of_file self.now)) (feature_data_in_file self.now cpuid) result }
+        ensures { AnswersOf (ParsesStringSection (endian_of_file self.now))
+            (feature_data_in_file self.now cpuid) result }
     {
         self.string_of(Feature::CPUID)
     }
@@ -174,10 +184,11 @@ impl PerfFile {
     ///
     /// The section contains the number of arguments in four bytes, and a string for each.
     ///
-    /// Fails with `NotEnoughSpaceForStringListLen` if there are fewer than four bytes, with the errors of `hostname` for a
-    /// string, and with `Memory` if memory runs out.
+    /// Fails with `NotEnoughSpaceForStringListLen` if there are fewer than four bytes, with the errors of
+    /// `hostname` for a string, and with `Memory` if memory runs out.
     pub fn cmdline(&self, alloc: Global) -> Result<Option<Vec<&str>>, Error>
-        ensures { AnswersOf (ParsesStringList (endian_of_file self.now)) (feature_data_in_file self.now cmd_line) result }
+        ensures { AnswersOf (ParsesStringList (endian_of_file self.now))
+            (feature_data_in_file self.now cmd_line) result }
     {
         match self.feature_section_data(Feature::CMDLINE) {
             Some(bytes) => Ok(Some(parse::parse_string_list(alloc, self.endian, bytes)?)),
@@ -189,16 +200,19 @@ impl PerfFile {
     ///
     /// Fails with `FeatureSectionTooSmall` if there are fewer bytes.
     pub fn total_mem(&self) -> Result<Option<u64>, Error>
-        ensures { AnswersOf (ParsesU64 (endian_of_file self.now)) (feature_data_in_file self.now total_mem) result }
+        ensures { AnswersOf (ParsesU64 (endian_of_file self.now))
+            (feature_data_in_file self.now total_mem) result }
     {
         self.number_of_feature(Feature::TOTAL_MEM)
     }
 
-    /// Returns the duration of a tick of the timestamps' clock in nanoseconds (section CLOCKID, of eight bytes).
+    /// Returns the duration of a tick of the timestamps' clock in nanoseconds (section CLOCKID, of eight
+    /// bytes).
     ///
     /// Fails with `FeatureSectionTooSmall` if there are fewer bytes.
     pub fn clock_frequency(&self) -> Result<Option<u64>, Error>
-        ensures { AnswersOf (ParsesU64 (endian_of_file self.now)) (feature_data_in_file self.now clock_id) result }
+        ensures { AnswersOf (ParsesU64 (endian_of_file self.now))
+            (feature_data_in_file self.now clock_id) result }
     {
         self.number_of_feature(Feature::CLOCKID)
     }
@@ -207,7 +221,8 @@ impl PerfFile {
     ///
     /// Fails with an `IoError` of kind `UnexpectedEof` if there are fewer than 8 bytes.
     pub fn nr_cpus(&self) -> Result<Option<NrCpus>, Error>
-        ensures { AnswersOf (ParsesNrCpus (endian_of_file self.now)) (feature_data_in_file self.now nr_cpus) result }
+        ensures { AnswersOf (ParsesNrCpus (endian_of_file self.now))
+            (feature_data_in_file self.now nr_cpus) result }
     {
         match self.feature_section_data(Feature::NRCPUS) {
             Some(bytes) => Ok(Some(parse::parse_nr_cpus(self.endian, bytes)?)),
@@ -219,7 +234,8 @@ impl PerfFile {
     ///
     /// Fails with an `IoError` of kind `UnexpectedEof` if there are fewer than 16 bytes.
     pub fn sample_time_range(&self) -> Result<Option<SampleTimeRange>, Error>
-        ensures { AnswersOf (ParsesSampleTimes (endian_of_file self.now)) (feature_data_in_file self.now sample_time) result }
+        ensures { AnswersOf (ParsesSampleTimes (endian_of_file self.now))
+            (feature_data_in_file self.now sample_time) result }
     {
         match self.feature_section_data(Feature::SAMPLE_TIME) {
             Some(bytes) => Ok(Some(parse::parse_sample_times(self.endian, bytes)?)),
@@ -229,10 +245,11 @@ impl PerfFile {
 
     /// Returns the clock of the timestamps, and its time at a time of the wall clock (section CLOCK_DATA).
     ///
-    /// Fails with an `IoError` of kind `InvalidData` if the version isn't 1, and of kind `UnexpectedEof` if there are fewer
-    /// than 24 bytes.
+    /// Fails with an `IoError` of kind `InvalidData` if the version isn't 1, and of kind `UnexpectedEof` if
+    /// there are fewer than 24 bytes.
     pub fn clock_data(&self) -> Result<Option<ClockData>, Error>
-        ensures { AnswersOf (ParsesClockData (endian_of_file self.now)) (feature_data_in_file self.now clock_data) result }
+        ensures { AnswersOf (ParsesClockData (endian_of_file self.now))
+            (feature_data_in_file self.now clock_data) result }
     {
         match self.feature_section_data(Feature::CLOCK_DATA) {
             Some(bytes) => Ok(Some(parse::parse_clock_data(self.endian, bytes)?)),
@@ -244,7 +261,8 @@ impl PerfFile {
     ///
     /// Fails with an `IoError` of kind `UnexpectedEof` if there are fewer than 20 bytes.
     pub fn compression_info(&self) -> Result<Option<CompressionInfo>, Error>
-        ensures { AnswersOf (ParsesCompression (endian_of_file self.now)) (feature_data_in_file self.now compressed) result }
+        ensures { AnswersOf (ParsesCompression (endian_of_file self.now))
+            (feature_data_in_file self.now compressed) result }
     {
         match self.feature_section_data(Feature::COMPRESSED) {
             Some(bytes) => Ok(Some(parse::parse_compression(self.endian, bytes)?)),
@@ -254,9 +272,11 @@ impl PerfFile {
 
     /// Returns the names of the performance monitoring units (section PMU_MAPPINGS).
     ///
-    /// Fails with an `IoError` of kind `UnexpectedEof` if the section is truncated, and with `Memory` if memory runs out.
+    /// Fails with an `IoError` of kind `UnexpectedEof` if the section is truncated, and with `Memory` if
+    /// memory runs out.
     pub fn pmu_mappings(&self, alloc: Global) -> Result<Option<PmuMappings>, Error>
-        ensures { AnswersOf (ParsesPmuMappings (endian_of_file self.now)) (feature_data_in_file self.now pmu_mappings) result }
+        ensures { AnswersOf (ParsesPmuMappings (endian_of_file self.now))
+            (feature_data_in_file self.now pmu_mappings) result }
     {
         match self.feature_section_data(Feature::PMU_MAPPINGS) {
             Some(bytes) => Ok(Some(parse::parse_pmu_mappings(alloc, self.endian, bytes)?)),
@@ -266,8 +286,9 @@ impl PerfFile {
 
     /// Returns the build ids of mapped objects by their keys (section BUILD_ID).
     ///
-    /// Each key maps to the path and the build id of the last entry with that key. The map is empty if the file doesn't have
-    /// the section. The section is read up to the first truncated entry. An entry whose path has no key is skipped.
+    /// Each key maps to the path and the build id of the last entry with that key. The map is empty if the
+    /// file doesn't have the section. The section is read up to the first truncated entry. An entry whose
+    /// path has no key is skipped.
     ///
     /// Fails with `Memory` if memory runs out.
     pub fn build_ids(&self, alloc: Global) -> Result<HashMap<DsoKey, DsoInfo>, Error>
@@ -279,7 +300,8 @@ impl PerfFile {
         }
     }
 
-    /// Returns simpleperf's meta info on the recording by key (section SIMPLEPERF_META_INFO), as `parse_meta_info_map` parses it.
+    /// Returns simpleperf's meta info on the recording by key (section SIMPLEPERF_META_INFO), as
+    /// `parse_meta_info_map` parses it.
     ///
     /// Fails with `StringUtf8` if a key or a value isn't UTF-8, and with `Memory` if memory runs out.
     pub fn simpleperf_meta_info(&self, alloc: Global) -> Result<Option<HashMap<&str, &str>>, Error>
@@ -293,13 +315,15 @@ impl PerfFile {
 
     /// Returns the files that simpleperf recorded, with their symbols.
     ///
-    /// They are in the section SIMPLEPERF_FILE2, or in SIMPLEPERF_FILE if SIMPLEPERF_FILE2 isn't present. The errors are those
-    /// of `parse_file2_section` and `parse_file_section`.
+    /// They are in the section SIMPLEPERF_FILE2, or in SIMPLEPERF_FILE if SIMPLEPERF_FILE2 isn't present. The
+    /// errors are those of `parse_file2_section` and `parse_file_section`.
     pub fn simpleperf_symbol_tables(
         &self,
         alloc: Global,
     ) -> Result<Option<Vec<SimpleperfFileRecord>>, Error>
-        ensures { AnswersSymbolTables (endian_of_file self.now) (feature_data_in_file self.now simpleperf_file2) (feature_data_in_file self.now simpleperf_file) result }
+        ensures { AnswersSymbolTables (endian_of_file self.now)
+            (feature_data_in_file self.now simpleperf_file2)
+            (feature_data_in_file self.now simpleperf_file) result }
     {
         if let Some(bytes) = self.feature_section_data(Feature::SIMPLEPERF_FILE2) {
             return match parse_file2_section(alloc, bytes, self.endian) {

@@ -9,7 +9,8 @@ use linux_perf_data::AttributeDescription;
 use linux_perf_data::in_memory::InMemoryReader;
 use std::alloc::Global;
 
-/// An attribute as plain numbers (`perf_event_attr` in Linux's `perf_event.h`), with the positions of its name and its IDs.
+/// An attribute as plain numbers (`perf_event_attr` in Linux's `perf_event.h`), with the positions of its
+/// name and its IDs.
 #[repr(C)]
 #[derive(Clone, Copy, Debug, PartialEq, Eq)]
 pub struct Attr {
@@ -45,7 +46,8 @@ pub struct Attr {
     pub ids_start: u64,
     /// The number of its IDs.
     pub ids_count: u64,
-    /// The type of event: 0 hardware, 1 software, 2 tracepoint, 3 cache, 4 raw, 5 breakpoint, otherwise a monitoring unit.
+    /// The type of event: 0 hardware, 1 software, 2 tracepoint, 3 cache, 4 raw, 5 breakpoint, otherwise a
+    /// monitoring unit.
     pub type_: u32,
     /// The size of the attribute in bytes.
     pub size: u32,
@@ -147,8 +149,8 @@ fn attr_entry(description: &AttributeDescription, name_offset: u64, ids_start: u
     }
 }
 
-// The end of the attribute's name and the end of its IDs, or `None` if one of them doesn't fit in 64 bits. The name starts at
-// offset `name_offset`, the IDs start at index `ids_start`.
+// The end of the attribute's name and the end of its IDs, or `None` if one of them doesn't fit in 64 bits.
+// The name starts at offset `name_offset`, the IDs start at index `ids_start`.
 fn end_offsets(
     description: &AttributeDescription,
     name_offset: u64,
@@ -161,8 +163,8 @@ fn end_offsets(
     Some((names_end, ids_end))
 }
 
-// Writes the entries of attributes, their names and their IDs, each up to the capacity of its array. Ends with `OutOfMemory`
-// before the first attribute whose name end or ID end doesn't fit in 64 bits.
+// Writes the entries of attributes, their names and their IDs, each up to the capacity of its array. Ends
+// with `OutOfMemory` before the first attribute whose name end or ID end doesn't fit in 64 bits.
 fn write_attrs(
     all: &[AttributeDescription],
     entries: &mut [Attr],
@@ -170,7 +172,8 @@ fn write_attrs(
     ids: &mut [u64],
     status: Status,
 ) -> AttrsResult
-    ensures { WritesAttrsOrPrefix all.now status entries.old names.old ids.old result entries.new names.new ids.new }
+    ensures { WritesAttrsOrPrefix all.now status entries.old names.old ids.old result entries.new names.new
+        ids.new }
 {
     let mut index = 0;
     let mut name_offset = 0u64;
@@ -219,8 +222,9 @@ fn no_attrs(status: Status) -> AttrsResult
 ///
 /// Each array receives as many elements as it has capacity for. The totals count all elements.
 ///
-/// The status is `Success` if the file opens. If it doesn't open, the status is that of the error, the totals are 0 and the arrays are
-/// unchanged. The status is `OutOfMemory` if a total doesn't fit in 64 bits; then the totals count the attributes before.
+/// The status is `Success` if the file opens. If it doesn't open, the status is that of the error, the totals
+/// are 0 and the arrays are unchanged. The status is `OutOfMemory` if a total doesn't fit in 64 bits; then
+/// the totals count the attributes before.
 pub fn file_attrs(
     alloc: Global,
     bytes: &[u8],
@@ -244,8 +248,9 @@ pub fn file_attrs(
 
 /// Writes the attributes of a perf.data pipe, including late ones, as [`file_attrs`] does.
 ///
-/// Reads the pipe to its end or to its first error. If an error follows the opening, the status is that of the error, and the
-/// attributes are those read before it. If the pipe doesn't open, the totals are 0 and the arrays are unchanged.
+/// Reads the pipe to its end or to its first error. If an error follows the opening, the status is that of
+/// the error, and the attributes are those read before it. If the pipe doesn't open, the totals are 0 and the
+/// arrays are unchanged.
 pub fn pipe_attrs(
     alloc: Global,
     bytes: &[u8],

@@ -34,8 +34,8 @@ pub struct BuildId {
     pub next_offset: u64,
     /// The process ID, usually -1.
     pub pid: i32,
-    /// The DSO kind of the path: 0 no mapped file, 1 the kernel, 2 a guest kernel, 3 the 32-bit vDSO, 4 the x32 vDSO, 5 the
-    /// 64-bit vDSO, 6 the vsyscall page, 7 a kernel module, 8 a file that a program maps.
+    /// The DSO kind of the path: 0 no mapped file, 1 the kernel, 2 a guest kernel, 3 the 32-bit vDSO, 4 the
+    /// x32 vDSO, 5 the 64-bit vDSO, 6 the vsyscall page, 7 a kernel module, 8 a file that a program maps.
     pub dso_kind: u32,
 }
 
@@ -60,8 +60,8 @@ fn dso_kind(key: &Option<DsoKey>) -> u32
 
 /// Parses the entry at byte `offset` of a BUILD_ID section into `out`.
 ///
-/// Returns `Truncated` if the section has no complete entry at `offset`, and `OutOfMemory` if memory runs out. On an error `out`
-/// is unchanged.
+/// Returns `Truncated` if the section has no complete entry at `offset`, and `OutOfMemory` if memory runs
+/// out. On an error `out` is unchanged.
 pub fn build_id_at(
     alloc: Global,
     endian: Endianness,

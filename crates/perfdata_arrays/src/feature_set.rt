@@ -60,7 +60,8 @@ fn no_features(status: Status) -> FeaturesResult
 
 /// Returns the features of a perf.data file.
 ///
-/// The status is `Success` if the file opens. If it doesn't open, the status is that of the error, and the set is empty.
+/// The status is `Success` if the file opens. If it doesn't open, the status is that of the error, and the
+/// set is empty.
 pub fn file_features(alloc: Global, bytes: &[u8]) -> FeaturesResult
     ensures { ReadsFileFeatures bytes.now result }
 {

@@ -45,7 +45,8 @@ fn copy_feature(file: &PerfFile, feature: u32, buf: &mut [u8], status: Status) -
 
 /// Copies the bytes of a feature of a perf.data file into `buf`, up to its capacity.
 ///
-/// The status is `Success` if the file opens. If it doesn't open, the status is that of the error, `size` is 0 and `buf` is unchanged.
+/// The status is `Success` if the file opens. If it doesn't open, the status is that of the error, `size` is
+/// 0 and `buf` is unchanged.
 pub fn file_feature(alloc: Global, bytes: &[u8], feature: u32, buf: &mut [u8]) -> FeatureResult
     ensures { ReadsFileFeature bytes.now feature buf.old result buf.new }
 {
@@ -64,8 +65,8 @@ pub fn file_feature(alloc: Global, bytes: &[u8], feature: u32, buf: &mut [u8]) -
 
 /// Copies the bytes of a feature of a perf.data pipe into `buf`, up to its capacity.
 ///
-/// Reads the pipe to its end or to its first error, and uses the last bytes of the feature up to there. If the pipe doesn't open,
-/// the status is that of the error, `size` is 0 and `buf` is unchanged.
+/// Reads the pipe to its end or to its first error, and uses the last bytes of the feature up to there. If
+/// the pipe doesn't open, the status is that of the error, `size` is 0 and `buf` is unchanged.
 pub fn pipe_feature(alloc: Global, bytes: &[u8], feature: u32, buf: &mut [u8]) -> FeatureResult
     ensures { ReadsPipeFeature bytes.now feature buf.old result buf.new }
 {

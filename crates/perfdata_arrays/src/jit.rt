@@ -125,8 +125,8 @@ fn endian_number(endian: Endianness) -> u32
 
 /// Parses the header of a jitdump into `out`.
 ///
-/// Returns `Success`, or the status of the header's error. On an error `out` is unchanged. A header of more than
-/// 4,096 bytes is an error.
+/// Returns `Success`, or the status of the header's error. On an error `out` is unchanged. A header of more
+/// than 4,096 bytes is an error.
 pub fn jit_header(bytes: &[u8], out: &mut JitHeader) -> Status
     ensures { ReadsJitHeader bytes.now out.old result out.new }
 {
@@ -148,8 +148,8 @@ pub fn jit_header(bytes: &[u8], out: &mut JitHeader) -> Status
     }
 }
 
-// Returns the record at `offset`, `None` if the bytes contain no complete record there, and `JitBadRecordSize` if no record can have
-// its size.
+// Returns the record at `offset`, `None` if the bytes contain no complete record there, and
+// `JitBadRecordSize` if no record can have its size.
 pub(crate) fn record_at(
     endian: Endianness,
     bytes: &[u8],
@@ -181,13 +181,13 @@ pub(crate) fn record_at(
 
 /// Writes the entries of a jitdump's complete records, starting at byte `start_offset`.
 ///
-/// Starts at the first record if `start_offset` is within the header. Writes as many entries as `entries` has capacity for.
-/// `count` is the number of entries written. A later call continues at `next_offset`, with new capacity or after the file has
-/// grown.
+/// Starts at the first record if `start_offset` is within the header. Writes as many entries as `entries` has
+/// capacity for. `count` is the number of entries written. A later call continues at `next_offset`, with new
+/// capacity or after the file has grown.
 ///
-/// The status is `Success` if the next record is truncated or doesn't fit in `entries`, and `JitBadRecordSize` if no record can start at
-/// `next_offset`. If the header has an error, the status is that of [`jit_header`], `count` is 0 and `next_offset` is
-/// `start_offset`.
+/// The status is `Success` if the next record is truncated or doesn't fit in `entries`, and
+/// `JitBadRecordSize` if no record can start at `next_offset`. If the header has an error, the status is that
+/// of [`jit_header`], `count` is 0 and `next_offset` is `start_offset`.
 pub fn jit_records(bytes: &[u8], start_offset: u64, entries: &mut [JitRecord]) -> JitRecordsResult
     ensures { ReadsJitRecords bytes.now start_offset entries.old result entries.new }
 {
@@ -233,8 +233,8 @@ pub fn jit_records(bytes: &[u8], start_offset: u64, entries: &mut [JitRecord]) -
     }
 }
 
-// Parses the load record of an entry. The error is `JitWrongType` if the record has another type, and `JitBadBody` if its body is
-// invalid.
+// Parses the load record of an entry. The error is `JitWrongType` if the record has another type, and
+// `JitBadBody` if its body is invalid.
 fn parse_load(endian: Endianness, bytes: &[u8], entry: &JitRecord) -> Result<JitLoad, Status>
     requires found_at { FindsRecord endian bytes.now entry.now.offset (Ok (Some entry.now)) }
     requires min_size { 16 ≤ entry.now.size }
@@ -270,9 +270,9 @@ fn parse_load(endian: Endianness, bytes: &[u8], entry: &JitRecord) -> Result<Jit
 
 /// Parses the load record at byte `offset` of a jitdump into `out`.
 ///
-/// Returns the status of [`jit_header`] if the header has an error, `Truncated` if the bytes contain no complete record at `offset`,
-/// `JitBadRecordSize` if no record can have its size, `JitWrongType` if the record has another type, and `JitBadBody` if its body is
-/// invalid. On an error `out` is unchanged.
+/// Returns the status of [`jit_header`] if the header has an error, `Truncated` if the bytes contain no
+/// complete record at `offset`, `JitBadRecordSize` if no record can have its size, `JitWrongType` if the
+/// record has another type, and `JitBadBody` if its body is invalid. On an error `out` is unchanged.
 pub fn jit_load(bytes: &[u8], offset: u64, out: &mut JitLoad) -> Status
     ensures { ReadsJitLoad bytes.now offset out.old result out.new }
 {

@@ -85,7 +85,8 @@ fn debug_entry(offset: u64, entry: &JitCodeDebugInfoEntry<'_>) -> JitDebugEntry
     }
 }
 
-// Writes the entries of consecutive source locations, the first of which is at an offset, up to the capacity of `out`.
+// Writes the entries of consecutive source locations, the first of which is at an offset, up to the capacity
+// of `out`.
 fn write_entries(
     entries: &[JitCodeDebugInfoEntry<'_>],
     first_offset: u64,
@@ -104,12 +105,13 @@ fn write_entries(
     }
 }
 
-/// Writes the source locations in the debug info record at byte `offset` of a jitdump, up to the capacity of `entries`.
+/// Writes the source locations in the debug info record at byte `offset` of a jitdump, up to the capacity of
+/// `entries`.
 ///
 /// The elements after the last written entry are unchanged. `count` includes the entries that aren't written.
 ///
-/// The statuses are those of [`crate::jit::jit_load`], and `OutOfMemory` if an allocation fails. At an error the address and `count`
-/// are 0, and `entries` is unchanged.
+/// The statuses are those of [`crate::jit::jit_load`], and `OutOfMemory` if an allocation fails. At an error
+/// the address and `count` are 0, and `entries` is unchanged.
 pub fn jit_debug_info(
     alloc: Global,
     bytes: &[u8],

@@ -1,7 +1,8 @@
-//! Parses recordings in memory into tables of plain numbers, which a caller in any language can read from an array.
+//! Parses recordings in memory into tables of plain numbers, which a caller in any language can read from an
+//! array.
 //!
-//! Each call keeps no state. It fills arrays that the caller passes, and returns counts. A slice in memory never fails and never
-//! pauses: the entries are exactly those of the records of the input's layout.
+//! Each call keeps no state. It fills arrays that the caller passes, and returns counts. A slice in memory
+//! never fails and never pauses: the entries are exactly those of the records of the input's layout.
 #![tactic(auto)]
 
 mod array;

@@ -33,7 +33,8 @@ pub struct MetaInfoResult {
     pub status: Status,
 }
 
-// The segment that starts at an offset and ends before a NUL or at the end of the section, or `None` past the end.
+// The segment that starts at an offset and ends before a NUL or at the end of the section, or `None` past the
+// end.
 fn segment_at(section: &[u8], offset: u64) -> Option<&[u8]>
     ensures { FindsSegment section.now offset result }
 {
@@ -82,13 +83,16 @@ fn pair_entry(offset: u64, key: &[u8], value: &[u8]) -> MetaPair
     }
 }
 
-/// Writes the positions of the keys and values of simpleperf's meta info (section SIMPLEPERF_META_INFO), in order.
+/// Writes the positions of the keys and values of simpleperf's meta info (section SIMPLEPERF_META_INFO), in
+/// order.
 ///
-/// The segments between NULs are alternately a key and its value. A last segment without a partner is ignored. If a key occurs more
-/// than once, its last value counts. Writes as many entries as `entries` has capacity for; the elements after the last written entry
-/// are unchanged. `count` includes the pairs that aren't written.
+/// The segments between NULs are alternately a key and its value. A last segment without a partner is
+/// ignored. If a key occurs more than once, its last value counts. Writes as many entries as `entries` has
+/// capacity for; the elements after the last written entry are unchanged. `count` includes the pairs that
+/// aren't written.
 ///
-/// The status is `InvalidUtf8` if a key or a value isn't UTF-8. Then `count` is the number of pairs before it.
+/// The status is `InvalidUtf8` if a key or a value isn't UTF-8. Then `count` is the number of pairs before
+/// it.
 pub fn meta_info(section: &[u8], entries: &mut [MetaPair]) -> MetaInfoResult
     ensures { ReadsMetaInfo section.now entries.old result entries.new }
 {

@@ -28,8 +28,8 @@ pub(crate) struct WalkResult {
     pub(crate) end: Result<(), Error>,
 }
 
-// Writes the entries of whole records that follow record `count`, those from index `start` on, while they fit in `entries`. Returns
-// their number.
+// Writes the entries of whole records that follow record `count`, those from index `start` on, while they fit
+// in `entries`. Returns their number.
 fn read_more_entries(
     input: &mut InMemoryRecords<'_>,
     file: &PerfFile,
@@ -46,7 +46,8 @@ fn read_more_entries(
     input.read_entries(file, &mut entries[written..]) as u64
 }
 
-// Reads all records and writes the entries of the records from index `start` on, up to the capacity of `entries`.
+// Reads all records and writes the entries of the records from index `start` on, up to the capacity of
+// `entries`.
 pub(crate) fn walk(
     input: &mut InMemoryRecords<'_>,
     file: &mut PerfFile,
@@ -140,17 +141,19 @@ pub(crate) fn walk_page(
     }
 }
 
-/// Writes the entries of a perf.data file's records from a position on, and moves the position past the last of them.
+/// Writes the entries of a perf.data file's records from a position on, and moves the position past the last
+/// of them.
 ///
-/// Writes at most as many entries as `entries` has capacity for, and reads no record after them. The elements after the last
-/// written entry are unchanged. `count` is the number of written entries. FINISHED_ROUND markers aren't records.
+/// Writes at most as many entries as `entries` has capacity for, and reads no record after them. The elements
+/// after the last written entry are unchanged. `count` is the number of written entries. FINISHED_ROUND
+/// markers aren't records.
 ///
-/// If `count` is the capacity and the status is `Success`, a call with the moved position writes the records that follow. If
-/// `count` is smaller and the status is `Success`, the file has no more records.
+/// If `count` is the capacity and the status is `Success`, a call with the moved position writes the records
+/// that follow. If `count` is smaller and the status is `Success`, the file has no more records.
 ///
-/// The errors are those of `InMemoryReader::parse_file` and of `InMemoryRecords::next_record`. If the file doesn't open, `count`
-/// is 0 and the position is unchanged. At an error, the position is that of the record in error or of the markers before it:
-/// the next call returns the same status, and `count` is 0.
+/// The errors are those of `InMemoryReader::parse_file` and of `InMemoryRecords::next_record`. If the file
+/// doesn't open, `count` is 0 and the position is unchanged. At an error, the position is that of the record
+/// in error or of the markers before it: the next call returns the same status, and `count` is 0.
 pub fn file_records(
     alloc: Global,
     bytes: &[u8],
@@ -178,14 +181,15 @@ pub fn file_records(
 
 /// Writes the entries of a perf.data pipe's records, starting with the record of index `start`.
 ///
-/// The records are those after the metadata records that open the pipe. Offsets count from the first of them. Writes as many
-/// entries as `entries` has capacity for. The elements after the last written entry are unchanged. `count` includes the records
-/// that aren't written. If the pipe doesn't open, `count` is 0. At an error, `count` is the number of records before it.
+/// The records are those after the metadata records that open the pipe. Offsets count from the first of them.
+/// Writes as many entries as `entries` has capacity for. The elements after the last written entry are
+/// unchanged. `count` includes the records that aren't written. If the pipe doesn't open, `count` is 0. At an
+/// error, `count` is the number of records before it.
 ///
 /// A pipe is read in one call, because late metadata determine what the records after them belong to.
 ///
-/// A truncated record ends a pipe without an error. The errors are those of `InMemoryReader::parse_pipe` and of
-/// `InMemoryRecords::next_record`.
+/// A truncated record ends a pipe without an error. The errors are those of `InMemoryReader::parse_pipe` and
+/// of `InMemoryRecords::next_record`.
 pub fn pipe_records(
     alloc: Global,
     bytes: &[u8],

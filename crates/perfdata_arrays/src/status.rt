@@ -166,9 +166,11 @@ fn write_c_text(buf: &mut [u8], text: &[u8])
     write_entry(buf, count as u64, 0, 0);
 }
 
-/// Writes the text of a status code into `buf`, with a NUL after it, and returns the size of the text in bytes.
+/// Writes the text of a status code into `buf`, with a NUL after it, and returns the size of the text in
+/// bytes.
 ///
-/// The text is truncated to the capacity of `buf`. The text of a number that is the code of no status is `unknown status`.
+/// The text is truncated to the capacity of `buf`. The text of a number that is the code of no status is
+/// `unknown status`.
 pub fn status_text(code: u32, buf: &mut [u8]) -> usize
     ensures size { result ≡ length (code_text code) }
     ensures written { buf.new ≡ with_prefix (take (length buf.old - 1) (code_text code) ++ 0 ∷ []) buf.old }

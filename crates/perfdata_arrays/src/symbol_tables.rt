@@ -29,14 +29,15 @@ pub struct SymbolFile {
     pub symbols_start: u64,
     /// The number of its symbols.
     pub symbols_count: u64,
-    /// For an ELF file the offset in the file of the bytes at the lowest address; for a kernel module that in the module's memory;
-    /// otherwise 0.
+    /// For an ELF file the offset in the file of the bytes at the lowest address; for a kernel module that in
+    /// the module's memory; otherwise 0.
     pub min_vaddr_offset: u64,
     /// The index of its first DEX offset in the DEX offsets of all files.
     pub dex_offsets_start: u64,
     /// The number of its DEX offsets.
     pub dex_offsets_count: u64,
-    /// The type of the file: 0 kernel, 1 kernel module, 2 ELF file, 3 DEX file, 4 symbol map, otherwise another file.
+    /// The type of the file: 0 kernel, 1 kernel module, 2 ELF file, 3 DEX file, 4 symbol map, otherwise
+    /// another file.
     pub type_: u32,
     /// The type of file that its offsets are for: 1 kernel module, 2 ELF file, 3 DEX file; 0 without offsets.
     pub info_type: u32,
@@ -181,8 +182,8 @@ fn file_entry(before: SymbolTotals, file: &SimpleperfFileRecord) -> SymbolFile
     }
 }
 
-// Writes the entries of a file's symbols from index `start` on, and their names from offset `name_start` on, each up to the capacity
-// of its array.
+// Writes the entries of a file's symbols from index `start` on, and their names from offset `name_start` on,
+// each up to the capacity of its array.
 fn write_symbols(
     all: &[SimpleperfSymbol],
     start: u64,
@@ -192,8 +193,10 @@ fn write_symbols(
 )
     requires count_fits { start + length all.now < 2 ^ 64 }
     requires names_fit { name_start + length (symbol_names (map symbol_value all.now)) < 2 ^ 64 }
-    ensures symbols { symbols.new ≡ with_entries_at start (symbol_entries_at name_start (map symbol_value all.now)) symbols.old }
-    ensures names { names.new ≡ with_entries_at name_start (symbol_names (map symbol_value all.now)) names.old }
+    ensures symbols { symbols.new ≡ with_entries_at start
+        (symbol_entries_at name_start (map symbol_value all.now)) symbols.old }
+    ensures names { names.new ≡ with_entries_at name_start
+        (symbol_names (map symbol_value all.now)) names.old }
 {
     let mut index = 0;
     let mut name_offset = name_start;
@@ -214,8 +217,8 @@ fn write_symbols(
     }
 }
 
-// Writes the entries of files, their symbols, their names and their DEX offsets, each up to the capacity of its array. Ends with
-// `OutOfMemory` before the first file with which a total doesn't fit in 64 bits.
+// Writes the entries of files, their symbols, their names and their DEX offsets, each up to the capacity of
+// its array. Ends with `OutOfMemory` before the first file with which a total doesn't fit in 64 bits.
 fn write_files(
     all: &[SimpleperfFileRecord],
     files: &mut [SymbolFile],
@@ -223,7 +226,9 @@ fn write_files(
     names: &mut [u8],
     offsets: &mut [u64],
 ) -> SymbolTablesResult
-    ensures { WritesFilesOrPrefix (map record_value all.now) (record { files = files.old; symbols = symbols.old; names = names.old; offsets = offsets.old }) result (record { files = files.new; symbols = symbols.new; names = names.new; offsets = offsets.new }) }
+    ensures { WritesFilesOrPrefix (map record_value all.now)
+        (record { files = files.old; symbols = symbols.old; names = names.old; offsets = offsets.old }) result
+        (record { files = files.new; symbols = symbols.new; names = names.new; offsets = offsets.new }) }
 {
     let mut totals = no_totals();
     let mut index = 0;
@@ -268,7 +273,8 @@ fn parse_tables(
     section: &[u8],
 ) -> Result<Vec<SimpleperfFileRecord>, Error>
     ensures parses { ParsesSymbolTables feature endian section.now result }
-    ensures no_other { (vs : List FileValue) → IsSymbolSection feature endian section.now vs → MatchResult result (λ v. map record_value v.items ≡ vs) (λ e. e ≡ Memory) }
+    ensures no_other { (vs : List FileValue) → IsSymbolSection feature endian section.now vs
+        → MatchResult result (λ v. map record_value v.items ≡ vs) (λ e. e ≡ Memory) }
 {
     if feature == Feature::SIMPLEPERF_FILE2.0 {
         parse_file2_section(alloc, section, endian)
@@ -277,15 +283,17 @@ fn parse_tables(
     }
 }
 
-/// Writes the files of a symbol table section of simpleperf, their symbols, their paths and names, and their DEX offsets.
+/// Writes the files of a symbol table section of simpleperf, their symbols, their paths and names, and their
+/// DEX offsets.
 ///
-/// `section` contains the bytes of section SIMPLEPERF_FILE2 if `feature` is its number, and otherwise those of SIMPLEPERF_FILE. The
-/// names are the path of each file followed by the names of its symbols, without a separator. Each array receives as many elements as
-/// it has capacity for. The totals count all elements.
+/// `section` contains the bytes of section SIMPLEPERF_FILE2 if `feature` is its number, and otherwise those
+/// of SIMPLEPERF_FILE. The names are the path of each file followed by the names of its symbols, without a
+/// separator. Each array receives as many elements as it has capacity for. The totals count all elements.
 ///
-/// At an error the totals are 0 and the arrays are unchanged. The status is `Truncated` if a record or its length is truncated by the
-/// end of the section, and `BadSymbolTable` if a record is malformed. It is `OutOfMemory` if an allocation fails, and also if a total
-/// doesn't fit in 64 bits; then the totals count the files before.
+/// At an error the totals are 0 and the arrays are unchanged. The status is `Truncated` if a record or its
+/// length is truncated by the end of the section, and `BadSymbolTable` if a record is malformed. It is
+/// `OutOfMemory` if an allocation fails, and also if a total doesn't fit in 64 bits; then the totals count
+/// the files before.
 pub fn symbol_tables(
     alloc: Global,
     feature: u32,
@@ -296,7 +304,9 @@ pub fn symbol_tables(
     names: &mut [u8],
     offsets: &mut [u64],
 ) -> SymbolTablesResult
-    ensures { ReadsSymbolTables feature endian section.now (record { files = files.old; symbols = symbols.old; names = names.old; offsets = offsets.old }) result (record { files = files.new; symbols = symbols.new; names = names.new; offsets = offsets.new }) }
+    ensures { ReadsSymbolTables feature endian section.now
+        (record { files = files.old; symbols = symbols.old; names = names.old; offsets = offsets.old }) result
+        (record { files = files.new; symbols = symbols.new; names = names.new; offsets = offsets.new }) }
 {
     match parse_tables(alloc, feature, endian, section) {
         Ok(records) => write_files(records.as_slice(), files, symbols, names, offsets),

@@ -11,8 +11,8 @@ use crate::source::{Source, read_exact, skip_exact};
 use bitflags::{Flag, Flags, bitflag_items};
 use std::io::{Error, ErrorKind, Result};
 
-/// The fields of an event's samples, as bits (`perf_event_sample_format` in Linux's `perf_event.h`). Bits without a
-/// constant here are preserved.
+/// The fields of an event's samples, as bits (`perf_event_sample_format` in Linux's `perf_event.h`). Bits
+/// without a constant here are preserved.
 #[derive(Clone, Copy, Debug, PartialEq, Eq)]
 pub struct SampleFormat(pub u64);
 
@@ -95,7 +95,8 @@ impl Flags for AttrFlags {
 /// The attribute of an event (`perf_event_attr` in Linux's `perf_event.h`).
 #[derive(Clone, Copy, Debug)]
 pub struct PerfEventAttr {
-    /// The type of event: 0 hardware, 1 software, 2 tracepoint, 3 cache, 4 raw, 5 breakpoint, or a monitoring unit.
+    /// The type of event: 0 hardware, 1 software, 2 tracepoint, 3 cache, 4 raw, 5 breakpoint, or a monitoring
+    /// unit.
     pub type_: u32,
     /// The size of the attribute in bytes.
     pub size: u32,
@@ -256,7 +257,8 @@ pub fn read_after_own_size<R: Source, T: FileOrder>(
 ) -> Result<PerfEventAttr>
     requires exact_len { length bytes.old ≡ 136 }
     requires min_size { 64 ≤ own_size }
-    ensures reads { ReadsAttrRest T.number_of (R.state source.old) (take 8 bytes.old) own_size result (R.state source.new) }
+    ensures reads { ReadsAttrRest T.number_of (R.state source.old) (take 8 bytes.old) own_size result
+        (R.state source.new) }
     ensures pauses { PausesOnlyOnError (R.state source.old) result (R.state source.new) }
     ensures same_loan { R.loan source.new ≡ R.loan source.old }
 {
@@ -267,11 +269,12 @@ pub fn read_after_own_size<R: Source, T: FileOrder>(
 }
 
 impl PerfEventAttr {
-    /// Parses an attribute from a borrowed source, and returns it with its own size, the number of bytes consumed.
+    /// Parses an attribute from a borrowed source, and returns it with its own size, the number of bytes
+    /// consumed.
     ///
-    /// The own size is the second u32 field, where 0 means 64. A field that isn't completely within the own bytes is 0.
-    /// Own bytes after the last field are skipped. It fails with `UnexpectedEof` if fewer bytes are read, and with
-    /// `InvalidData` if the own size is 1 to 63.
+    /// The own size is the second u32 field, where 0 means 64. A field that isn't completely within the own
+    /// bytes is 0. Own bytes after the last field are skipped. It fails with `UnexpectedEof` if fewer bytes
+    /// are read, and with `InvalidData` if the own size is 1 to 63.
     pub fn parse_from<R: Source, T: FileOrder>(source: &mut R) -> Result<(PerfEventAttr, u64)>
         ensures parses { ParsesAttr T.number_of (R.state source.old) result (R.state source.new) }
         ensures pauses { PausesOnlyOnError (R.state source.old) result (R.state source.new) }

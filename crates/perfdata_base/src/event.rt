@@ -53,7 +53,8 @@ impl PerfEventHeader {
         record_header_at(endian, bytes)
     }
 
-    /// Returns the record header in the first eight of `bytes`, in the byte order `endian`; `None` if there are fewer.
+    /// Returns the record header in the first eight of `bytes`, in the byte order `endian`; `None` if there
+    /// are fewer.
     pub fn peek(endian: Endianness, bytes: &[u8]) -> Option<PerfEventHeader>
         ensures { PeeksRecordHeader (number_in endian) bytes.now result }
     {
@@ -124,8 +125,9 @@ pub enum CpuMode {
 }
 
 impl CpuMode {
-    /// Returns the mode in the lowest three bits of a record header's `misc` (`PERF_RECORD_MISC_CPUMODE_MASK`): 1 is
-    /// the kernel, 2 a program, 3 the hypervisor, 4 a guest's kernel and 5 a guest's program.
+    /// Returns the mode in the lowest three bits of a record header's `misc`
+    /// (`PERF_RECORD_MISC_CPUMODE_MASK`): 1 is the kernel, 2 a program, 3 the hypervisor, 4 a guest's kernel
+    /// and 5 a guest's program.
     pub fn from_misc(misc: u16) -> CpuMode
         ensures { result ≡ cpu_mode_of (misc % 8) }
     {

@@ -114,8 +114,8 @@ pub const HEADER_SIMPLEPERF_DEBUG_UNWIND_FILE: u32 = 131;
 /// The symbols of files, as protobuf messages of simpleperf.
 pub const HEADER_SIMPLEPERF_FILE2: u32 = 132;
 
-/// The number of a kind of data that has a section of its own in a perf.data file (`perf_header` features of Linux's
-/// perf, and those of simpleperf from 128 on).
+/// The number of a kind of data that has a section of its own in a perf.data file (`perf_header` features of
+/// Linux's perf, and those of simpleperf from 128 on).
 #[derive(Clone, Copy, PartialEq, Eq, Hash, PartialOrd, Ord)]
 pub struct Feature(pub u32);
 

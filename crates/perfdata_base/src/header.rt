@@ -99,9 +99,9 @@ fn skip_extra<C: PlacedSource>(source: &mut C, header_size: u64) -> Result<()>
 impl PerfHeader {
     /// Parses the header at the position of a borrowed source, and leaves the source after it.
     ///
-    /// Its numbers are little-endian if the first byte of the magic is `P`, else big-endian. If its size is more than
-    /// 104 bytes, a seek skips the bytes after these. It fails with `UnexpectedEof` if fewer than 104 bytes are read,
-    /// and with `InvalidInput` if 2^63 bytes or more are to be skipped.
+    /// Its numbers are little-endian if the first byte of the magic is `P`, else big-endian. If its size is
+    /// more than 104 bytes, a seek skips the bytes after these. It fails with `UnexpectedEof` if fewer than
+    /// 104 bytes are read, and with `InvalidInput` if 2^63 bytes or more are to be skipped.
     pub fn parse_from<C: PlacedSource>(source: &mut C) -> Result<PerfHeader>
         ensures parses { ParsesFileHeader (C.state source.old) result (C.state source.new) }
         ensures pauses { PausesOnlyOnError (C.state source.old) result (C.state source.new) }

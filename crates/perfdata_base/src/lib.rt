@@ -1,4 +1,5 @@
-//! Byte sources, numbers, record headers, attributes and parse infos: the base of the perf.data and jitdump readers.
+//! Byte sources, numbers, record headers, attributes and parse infos: the base of the perf.data and jitdump
+//! readers.
 #![tactic(auto)]
 
 pub mod attr;

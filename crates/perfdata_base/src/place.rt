@@ -112,8 +112,8 @@ fn identifier_field(format: SampleFormat) -> SampleFormat
 }
 
 impl RecordIdParseInfo {
-    /// Returns the offsets of the identifier in the records of an attribute. They are those of the field IDENTIFIER if
-    /// the format selects it, else of ID, and `None` if it selects neither.
+    /// Returns the offsets of the identifier in the records of an attribute. They are those of the field
+    /// IDENTIFIER if the format selects it, else of ID, and `None` if it selects neither.
     pub fn new(attr: &PerfEventAttr) -> RecordIdParseInfo
         ensures { result ≡ id_parse_info_of attr.now }
     {
@@ -126,8 +126,8 @@ impl RecordIdParseInfo {
 
     /// Returns the identifier of a record whose body is contiguous.
     ///
-    /// It is `None` if the record has no such offset, or if the number at the offset isn't completely in the body. A
-    /// user record has none.
+    /// It is `None` if the record has no such offset, or if the number at the offset isn't completely in the
+    /// body. A user record has none.
     pub fn identifier_of(
         &self,
         endian: Endianness,
@@ -147,7 +147,8 @@ impl RecordIdParseInfo {
 }
 
 impl RecordParseInfo {
-    /// Returns the offsets of the identifier and the time in the records of an attribute, with the byte order `endian`.
+    /// Returns the offsets of the identifier and the time in the records of an attribute, with the byte order
+    /// `endian`.
     pub fn new(attr: &PerfEventAttr, endian: Endianness) -> RecordParseInfo
         ensures { result ≡ parse_info_of attr.now endian }
     {
@@ -166,8 +167,8 @@ impl RecordParseInfo {
 
     /// Returns the time of a record whose body is contiguous.
     ///
-    /// It is `None` if the record has no such offset, or if the number at the offset isn't completely in the body. A
-    /// user record has none.
+    /// It is `None` if the record has no such offset, or if the number at the offset isn't completely in the
+    /// body. A user record has none.
     pub fn time_of(&self, record_type: RecordType, body: &[u8]) -> Option<u64>
         ensures { result ≡ time_of self.now record_type.0 body.now }
     {
@@ -181,8 +182,8 @@ impl RecordParseInfo {
     }
 }
 
-/// The offset of an eight-byte number that starts `at` bytes after the start of a body of `len` bytes. `None` if it
-/// isn't completely in the body.
+/// The offset of an eight-byte number that starts `at` bytes after the start of a body of `len` bytes. `None`
+/// if it isn't completely in the body.
 fn checked_offset_from_start(len: usize, at: u64) -> Option<usize>
     ensures { result ≡ checked_offset_from_start len at }
 {
@@ -192,8 +193,8 @@ fn checked_offset_from_start(len: usize, at: u64) -> Option<usize>
     }
 }
 
-/// The offset of an eight-byte number that starts `back` bytes before the end of a body of `len` bytes. `None` if it
-/// isn't completely in the body.
+/// The offset of an eight-byte number that starts `back` bytes before the end of a body of `len` bytes.
+/// `None` if it isn't completely in the body.
 fn checked_offset_from_end(len: usize, back: u64) -> Option<usize>
     ensures { result ≡ checked_offset_from_end len back }
 {
@@ -256,8 +257,8 @@ fn field_in_body<T: FileOrder>(
 
 /// Returns the identifier of a record, at the offset from its attribute.
 ///
-/// It is `None` if the record has no such offset, or if the number at the offset isn't completely in the body. A user
-/// record has none.
+/// It is `None` if the record has no such offset, or if the number at the offset isn't completely in the
+/// body. A user record has none.
 pub fn get_record_id<T: FileOrder>(
     record_type: RecordType,
     body: RawData<'_>,
@@ -275,9 +276,9 @@ pub fn get_record_id<T: FileOrder>(
 
 /// Returns the identifier of a record in an input whose records all have the field IDENTIFIER.
 ///
-/// The identifier is the first eight bytes of a sample. It is the last eight bytes of another kernel record if
-/// `sample_id_all` is true, which means that such records end with sample_id fields. It is `None` if the body is
-/// shorter. A user record has none.
+/// The identifier is the first eight bytes of a sample. It is the last eight bytes of another kernel record
+/// if `sample_id_all` is true, which means that such records end with sample_id fields. It is `None` if the
+/// body is shorter. A user record has none.
 pub fn get_record_identifier<T: FileOrder>(
     record_type: RecordType,
     body: RawData<'_>,
@@ -291,8 +292,8 @@ pub fn get_record_identifier<T: FileOrder>(
 
 /// Returns the time of a record, at the offset from its attribute.
 ///
-/// It is `None` if the record has no such offset, or if the number at the offset isn't completely in the body. A user
-/// record has none.
+/// It is `None` if the record has no such offset, or if the number at the offset isn't completely in the
+/// body. A user record has none.
 pub fn get_record_timestamp<T: FileOrder>(
     record_type: RecordType,
     body: RawData<'_>,

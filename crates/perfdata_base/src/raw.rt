@@ -183,8 +183,10 @@ impl<'a> RawData<'a> {
     /// Returns the bytes of a range, or `None` if the range isn't within the bytes.
     pub fn get(&self, range: Range<usize>) -> Option<RawData<'a>>
         ensures none { IfNone result ((range.end < range.start) ⊎ (length (bytes_of self.now) < range.end)) }
-        ensures within { IfSome result (λ _. (range.start ≤ range.end) × (range.end ≤ length (bytes_of self.now))) }
-        ensures bytes { IfSome result (λ part. bytes_of part ≡ slice_range (bytes_of self.now) range.start range.end) }
+        ensures within { IfSome result (λ _. (range.start ≤ range.end)
+            × (range.end ≤ length (bytes_of self.now))) }
+        ensures bytes { IfSome result (λ part. bytes_of part
+            ≡ slice_range (bytes_of self.now) range.start range.end) }
         ensures single { IfSome result (λ part. IsSingle self.now → IsSingle part) }
     {
         if range.end < range.start {

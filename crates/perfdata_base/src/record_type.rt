@@ -70,9 +70,9 @@ impl RecordType {
     /// The hardware's identifier of an event whose output is in the AUX area.
     pub const AUX_OUTPUT_HW_ID: RecordType = RecordType(21);
 
-    /// Returns the name of the type: that of the kernel's constant without `PERF_RECORD_` below 64; that of perf's from 64
-    /// on (`perf_user_event_type` in Linux's `tools/perf`); that of simpleperf's from 32,769 on, after `SIMPLEPERF_`. `None` if
-    /// it has none.
+    /// Returns the name of the type: that of the kernel's constant without `PERF_RECORD_` below 64; that of
+    /// perf's from 64 on (`perf_user_event_type` in Linux's `tools/perf`); that of simpleperf's from 32,769
+    /// on, after `SIMPLEPERF_`. `None` if it has none.
     pub fn name(&self) -> Option<&'static str>
         ensures { option_map (λ s. s.now) result ≡ record_type_name self.now.0 }
     {

@@ -30,10 +30,10 @@ static NOT_BUFFERED: &[u8] = &[];
 
 /// A source of bytes.
 ///
-/// Contracts describe a source by its `state`: its remaining bytes if they are known, the number of I/O errors and of
-/// empty reads so far, whether it is steady (it never fails and never pauses), and its position among all of its bytes
-/// if it can seek. `loan` identifies the source that a `&mut` borrows. With it a caller that lends its source knows the
-/// source's state after the loan.
+/// Contracts describe a source by its `state`: its remaining bytes if they are known, the number of I/O
+/// errors and of empty reads so far, whether it is steady (it never fails and never pauses), and its position
+/// among all of its bytes if it can seek. `loan` identifies the source that a `&mut` borrows. With it a
+/// caller that lends its source knows the source's state after the loan.
 pub trait Source {
     /// The state of the source as contracts see it.
     ghost state: { Self → State };
@@ -46,9 +46,10 @@ pub trait Source {
 
     /// Reads the next bytes into the start of `buf`, and returns their number.
     ///
-    /// If `buf` isn't empty, it receives a prefix of the remaining bytes. A result of 0 is the end, or a pause, which
-    /// is counted. If `buf` is empty, the result is 0 and nothing is counted. On an error no byte is consumed, and the
-    /// error is counted. Each count saturates at `u64::MAX`. The content of `buf` after the bytes read is unspecified.
+    /// If `buf` isn't empty, it receives a prefix of the remaining bytes. A result of 0 is the end, or a
+    /// pause, which is counted. If `buf` is empty, the result is 0 and nothing is counted. On an error no
+    /// byte is consumed, and the error is counted. Each count saturates at `u64::MAX`. The content of `buf`
+    /// after the bytes read is unspecified.
     fn read_front(&mut self, buf: &mut [u8]) -> Result<usize>
         ensures idle { length buf.old ≡ 0 → (result ≡ Ok 0) × (state self.new ≡ state self.old) }
         ensures reads { 0 < length buf.old → Reads (state self.old) buf.new result (state self.new) }
@@ -57,8 +58,8 @@ pub trait Source {
 
     /// Returns the buffered bytes of the source, a prefix of the remaining bytes.
     ///
-    /// To consume them, the source calls no underlying reader. The slice is empty if nothing is buffered, and always
-    /// for a source that has no buffer.
+    /// To consume them, the source calls no underlying reader. The slice is empty if nothing is buffered, and
+    /// always for a source that has no buffer.
     fn buffer(&self) -> &[u8]
         ensures prefix { IsPrefixOfRemaining (state self.now) result.now }
         ensures buffered { result.now ≡ buffered self.now };
@@ -75,15 +76,17 @@ pub trait Source {
 
     /// Appends the next `count` bytes to `buffer` if that many are buffered, and returns whether it did.
     ///
-    /// If the result is `false` or out of memory, `buffer` and the source are unchanged. Memory can run out only if the
-    /// capacity of `buffer` is smaller than its content and `count` bytes.
+    /// If the result is `false` or out of memory, `buffer` and the source are unchanged. Memory can run out
+    /// only if the capacity of `buffer` is smaller than its content and `count` bytes.
     fn append_buffered(
         &mut self,
         buffer: &mut Vec<u8>,
         count: usize,
     ) -> std::result::Result<bool, AllocError>
-        ensures appends { AppendsBuffered (state self.old) buffer.old.items count result buffer.new.items (state self.new) }
-        ensures memory_only_to_grow { OnErr result (vec_capacity buffer.old < length buffer.old.items + count) }
+        ensures appends { AppendsBuffered (state self.old) buffer.old.items count result buffer.new.items
+            (state self.new) }
+        ensures memory_only_to_grow { OnErr result
+            (vec_capacity buffer.old < length buffer.old.items + count) }
         ensures capacity { vec_capacity buffer.old ≤ vec_capacity buffer.new }
         ensures same_loan { loan self.new ≡ loan self.old }
     {
@@ -316,12 +319,12 @@ impl Source for Cursor<&[u8]> {
 
 /// A reader of std as a source.
 ///
-/// Contracts know none of its bytes. It counts the reader's I/O errors and empty reads, up to `u64::MAX` each. Each
-/// `Err` of a read or a seek counts as an I/O error, whatever its kind.
+/// Contracts know none of its bytes. It counts the reader's I/O errors and empty reads, up to `u64::MAX`
+/// each. Each `Err` of a read or a seek counts as an I/O error, whatever its kind.
 ///
-/// Once a seek has reported the position, later seeks go by an offset from it. A `BufReader` performs such a seek
-/// inside its buffer if the buffer contains the target. If the target is the current position, the reader isn't called.
-/// See [`CountedBuffer`] for a source that exposes the buffer of its reader.
+/// Once a seek has reported the position, later seeks go by an offset from it. A `BufReader` performs such a
+/// seek inside its buffer if the buffer contains the target. If the target is the current position, the
+/// reader isn't called. See [`CountedBuffer`] for a source that exposes the buffer of its reader.
 #[derive(Drop)]
 pub struct Counted<R> {
     reader: R,
@@ -352,12 +355,16 @@ impl<R: Read> Source for Counted<R> {
     ghost buffered = { λ _. [] };
 
     fn read_front(&mut self, buf: &mut [u8]) -> Result<usize>
-        ensures idle { length buf.old ≡ 0 → (result ≡ Ok 0) × (counted_state self.new ≡ counted_state self.old) }
-        ensures reads { 0 < length buf.old → Reads (counted_state self.old) buf.new result (counted_state self.new) }
+        ensures idle { length buf.old ≡ 0 → (result ≡ Ok 0)
+            × (counted_state self.new ≡ counted_state self.old) }
+        ensures reads { 0 < length buf.old
+            → Reads (counted_state self.old) buf.new result (counted_state self.new) }
         ensures counts { CountsRead (counted_state self.old) result (counted_state self.new) }
-        ensures position { 0 < length buf.old → ReadUpdatesPosition self.old.position result self.new.position }
+        ensures position { 0 < length buf.old
+            → ReadUpdatesPosition self.old.position result self.new.position }
         ensures unchanged_if_empty { length buf.old ≡ 0 → self.new ≡ self.old }
-        ensures reader_consumes { ReadConsumes (R.remaining self.old.reader) (R.remaining self.new.reader) result buf.new }
+        ensures reader_consumes { ReadConsumes (R.remaining self.old.reader)
+            (R.remaining self.new.reader) result buf.new }
     {
         if buf.is_empty() {
             return Ok(0);
@@ -389,12 +396,12 @@ impl<R: Read> Source for Counted<R> {
 pub trait PlacedSource: Source {
     /// Seeks to `to`, and returns the new position in bytes from the first byte.
     ///
-    /// A position past the last byte is valid, and no byte remains there. A seek from the end uses the length that the
-    /// source shows at that moment, which is at most the length of all bytes.
+    /// A position past the last byte is valid, and no byte remains there. A seek from the end uses the length
+    /// that the source shows at that moment, which is at most the length of all bytes.
     ///
-    /// It fails if the target isn't in 0 to `u64::MAX`, or if the source fails, which is counted. After an error the
-    /// position is unspecified. In every case all bytes stay the same, and they are fewer than 2^63. The position
-    /// before the call is at most `u64::MAX`.
+    /// It fails if the target isn't in 0 to `u64::MAX`, or if the source fails, which is counted. After an
+    /// error the position is unspecified. In every case all bytes stay the same, and they are fewer than
+    /// 2^63. The position before the call is at most `u64::MAX`.
     fn seek_to(&mut self, to: SeekFrom) -> Result<u64>
         ensures seeks { Seeks (Self.state self.old) to result (Self.state self.new) }
         ensures counts { CountsSeek (Self.state self.old) result (Self.state self.new) }
@@ -431,7 +438,9 @@ impl<R: Read + Seek> PlacedSource for Counted<R> {
         ensures size_fits { SizeFitsI64 (counted_state self.old) }
         ensures position_fits { PositionFitsU64 (counted_state self.old) }
         ensures position { SeekUpdatesPosition result self.new.position }
-        ensures reader_moves { AgreesWithPosition self.old.position (R.stream_position self.old.reader) → SeekMoves (R.stream_position self.old.reader) (R.stream_position self.new.reader) (R.stream_bytes self.old.reader) to result }
+        ensures reader_moves { AgreesWithPosition self.old.position (R.stream_position self.old.reader)
+            → SeekMoves (R.stream_position self.old.reader) (R.stream_position self.new.reader)
+            (R.stream_bytes self.old.reader) to result }
         ensures reader_keeps_bytes { Keeps (R.stream_bytes self.old.reader) (R.stream_bytes self.new.reader) }
     {
         match seek_from(&mut self.reader, self.position, to) {
@@ -469,7 +478,8 @@ fn is_interrupted(error: &Error) -> bool
 
 fn fill_by_reads<S: Source>(source: &mut S, buf: &mut [u8]) -> Result<usize>
     ensures fills { FillsBuffer (S.state source.old) buf.new result (S.state source.new) }
-    ensures pauses { PausesOnlyIfIncomplete (length buf.new) (S.state source.old) result (S.state source.new) }
+    ensures pauses { PausesOnlyIfIncomplete (length buf.new) (S.state source.old) result
+        (S.state source.new) }
     ensures same_loan { S.loan source.new ≡ S.loan source.old }
 {
     let mut filled = 0;
@@ -494,12 +504,13 @@ fn fill_by_reads<S: Source>(source: &mut S, buf: &mut [u8]) -> Result<usize>
 
 /// Reads until `buf` is full or the source ends or pauses, and returns the number of bytes read.
 ///
-/// If enough bytes are buffered, they fill `buf` without a read. An interrupted read is retried up to 16 times in a
-/// row. Every other error, and a 17th interruption in a row, is returned as the source reports it; a part of `buf` may
-/// be filled then.
+/// If enough bytes are buffered, they fill `buf` without a read. An interrupted read is retried up to 16
+/// times in a row. Every other error, and a 17th interruption in a row, is returned as the source reports it;
+/// a part of `buf` may be filled then.
 pub fn fill<S: Source>(source: &mut S, buf: &mut [u8]) -> Result<usize>
     ensures fills { FillsBuffer (S.state source.old) buf.new result (S.state source.new) }
-    ensures pauses { PausesOnlyIfIncomplete (length buf.new) (S.state source.old) result (S.state source.new) }
+    ensures pauses { PausesOnlyIfIncomplete (length buf.new) (S.state source.old) result
+        (S.state source.new) }
     ensures same_loan { S.loan source.new ≡ S.loan source.old }
 {
     if source.read_buffered(buf) {
@@ -511,7 +522,8 @@ pub fn fill<S: Source>(source: &mut S, buf: &mut [u8]) -> Result<usize>
 /// The maximum number of bytes that one read skips.
 const SKIP_BUFFER_SIZE: usize = 512;
 
-/// Skips `count` bytes, or fewer if the source ends or pauses before, and returns the number of bytes skipped.
+/// Skips `count` bytes, or fewer if the source ends or pauses before, and returns the number of bytes
+/// skipped.
 ///
 /// It allocates no memory. Errors are those of [`fill`]; some of the bytes may have been skipped then.
 pub fn skip_up_to<S: Source>(source: &mut S, count: u64) -> Result<u64>
@@ -578,7 +590,8 @@ impl From<AppendError> for Error {
     }
 }
 
-/// The maximum number of bytes per read. It bounds the memory that a stated length costs if its bytes are missing.
+/// The maximum number of bytes per read. It bounds the memory that a stated length costs if its bytes are
+/// missing.
 const APPEND_CHUNK_SIZE: usize = 4096;
 
 static ZEROS: [u8; APPEND_CHUNK_SIZE] = [0; APPEND_CHUNK_SIZE];
@@ -596,8 +609,10 @@ fn append_chunk<S: Source>(
     count: usize,
 ) -> std::result::Result<usize, AppendError>
     requires { count ≤ 4096 }
-    ensures appends { 0 < count → AppendsUpTo (S.state source.old) buffer.old.items count result buffer.new.items (S.state source.new) }
-    ensures memory_only_to_grow { IfErr result (λ e. e ≡ Memory → vec_capacity buffer.old < length buffer.old.items + count) }
+    ensures appends { 0 < count → AppendsUpTo
+        (S.state source.old) buffer.old.items count result buffer.new.items (S.state source.new) }
+    ensures memory_only_to_grow { IfErr result
+        (λ e. e ≡ Memory → vec_capacity buffer.old < length buffer.old.items + count) }
     ensures capacity { vec_capacity buffer.old ≤ vec_capacity buffer.new }
     ensures pauses { PausesOnlyIfIncomplete count (S.state source.old) result (S.state source.new) }
     ensures same_loan { S.loan source.new ≡ S.loan source.old }
@@ -615,8 +630,10 @@ fn append_by_reads<S: Source>(
     buffer: &mut Vec<u8>,
     count: usize,
 ) -> std::result::Result<usize, AppendError>
-    ensures appends { AppendsUpTo (S.state source.old) buffer.old.items count result buffer.new.items (S.state source.new) }
-    ensures memory_only_to_grow { IfErr result (λ e. e ≡ Memory → vec_capacity buffer.old < length buffer.old.items + count) }
+    ensures appends { AppendsUpTo (S.state source.old) buffer.old.items count result buffer.new.items
+        (S.state source.new) }
+    ensures memory_only_to_grow { IfErr result
+        (λ e. e ≡ Memory → vec_capacity buffer.old < length buffer.old.items + count) }
     ensures capacity { vec_capacity buffer.old ≤ vec_capacity buffer.new }
     ensures pauses { PausesOnlyIfIncomplete count (S.state source.old) result (S.state source.new) }
     ensures same_loan { S.loan source.new ≡ S.loan source.old }
@@ -633,23 +650,25 @@ fn append_by_reads<S: Source>(
     Ok(appended)
 }
 
-/// Appends `count` bytes to `buffer`, or fewer if the source ends or pauses before, and returns the number of bytes
-/// appended.
+/// Appends `count` bytes to `buffer`, or fewer if the source ends or pauses before, and returns the number of
+/// bytes appended.
 ///
-/// If all of them are buffered, the source copies them from its buffer. Otherwise the function reads chunks of at most
-/// 4,096 bytes, and allocates the memory for a chunk before it reads the chunk. `buffer` is never more than 4,096 bytes
-/// longer than its old content with the bytes read so far, whatever `count` is.
+/// If all of them are buffered, the source copies them from its buffer. Otherwise the function reads chunks
+/// of at most 4,096 bytes, and allocates the memory for a chunk before it reads the chunk. `buffer` is never
+/// more than 4,096 bytes longer than its old content with the bytes read so far, whatever `count` is.
 ///
-/// Errors are [`AppendError::Memory`], only if the capacity of `buffer` is smaller than its content and `count` bytes, and
-/// those of [`fill`] in [`AppendError::Source`]. After an error some of the
-/// bytes may have been consumed, and `buffer` may be up to 4,096 bytes longer than its old content with these bytes.
+/// Errors are [`AppendError::Memory`], only if the capacity of `buffer` is smaller than its content and
+/// `count` bytes, and those of [`fill`] in [`AppendError::Source`]. After an error some of the bytes may have
+/// been consumed, and `buffer` may be up to 4,096 bytes longer than its old content with these bytes.
 pub fn append_up_to<S: Source>(
     source: &mut S,
     buffer: &mut Vec<u8>,
     count: usize,
 ) -> std::result::Result<usize, AppendError>
-    ensures appends { AppendsUpTo (S.state source.old) buffer.old.items count result buffer.new.items (S.state source.new) }
-    ensures memory_only_to_grow { IfErr result (λ e. e ≡ Memory → vec_capacity buffer.old < length buffer.old.items + count) }
+    ensures appends { AppendsUpTo (S.state source.old) buffer.old.items count result buffer.new.items
+        (S.state source.new) }
+    ensures memory_only_to_grow { IfErr result
+        (λ e. e ≡ Memory → vec_capacity buffer.old < length buffer.old.items + count) }
     ensures capacity { vec_capacity buffer.old ≤ vec_capacity buffer.new }
     ensures pauses { PausesOnlyIfIncomplete count (S.state source.old) result (S.state source.new) }
     ensures same_loan { S.loan source.new ≡ S.loan source.old }
@@ -673,8 +692,8 @@ pub fn unexpected_eof() -> Error
 
 /// Reads until `buf` is full.
 ///
-/// If the source ends or pauses before, it fails with an error of kind [`ErrorKind::UnexpectedEof`]. Other errors are
-/// those of [`fill`].
+/// If the source ends or pauses before, it fails with an error of kind [`ErrorKind::UnexpectedEof`]. Other
+/// errors are those of [`fill`].
 pub fn read_exact<S: Source>(source: &mut S, buf: &mut [u8]) -> Result<()>
     ensures reads { ReadsExactly (S.state source.old) buf.new result (S.state source.new) }
     ensures pauses { PausesOnlyOnError (S.state source.old) result (S.state source.new) }
@@ -689,16 +708,19 @@ pub fn read_exact<S: Source>(source: &mut S, buf: &mut [u8]) -> Result<()>
 
 /// Appends exactly `count` bytes to `buffer`, by reads of at most 4,096 bytes as [`append_up_to`] makes them.
 ///
-/// If the source ends or pauses before, it fails with [`AppendError::Source`] of kind [`ErrorKind::UnexpectedEof`].
-/// Other errors are those of [`append_up_to`]. After an error some of the bytes may have been consumed, and `buffer`
-/// may be up to 4,096 bytes longer than its old content with these bytes.
+/// If the source ends or pauses before, it fails with [`AppendError::Source`] of kind
+/// [`ErrorKind::UnexpectedEof`]. Other errors are those of [`append_up_to`]. After an error some of the bytes
+/// may have been consumed, and `buffer` may be up to 4,096 bytes longer than its old content with these
+/// bytes.
 pub fn append_exact<S: Source>(
     source: &mut S,
     buffer: &mut Vec<u8>,
     count: usize,
 ) -> std::result::Result<(), AppendError>
-    ensures appends { AppendsExactly (S.state source.old) buffer.old.items count result buffer.new.items (S.state source.new) }
-    ensures memory_only_to_grow { IfErr result (λ e. e ≡ Memory → vec_capacity buffer.old < length buffer.old.items + count) }
+    ensures appends { AppendsExactly (S.state source.old) buffer.old.items count result buffer.new.items
+        (S.state source.new) }
+    ensures memory_only_to_grow { IfErr result
+        (λ e. e ≡ Memory → vec_capacity buffer.old < length buffer.old.items + count) }
     ensures capacity { vec_capacity buffer.old ≤ vec_capacity buffer.new }
     ensures pauses { PausesOnlyOnError (S.state source.old) result (S.state source.new) }
     ensures same_loan { S.loan source.new ≡ S.loan source.old }
@@ -712,8 +734,8 @@ pub fn append_exact<S: Source>(
 
 /// Skips exactly `count` bytes.
 ///
-/// If the source ends or pauses before, it fails with an error of kind [`ErrorKind::UnexpectedEof`]. Other errors are
-/// those of [`fill`].
+/// If the source ends or pauses before, it fails with an error of kind [`ErrorKind::UnexpectedEof`]. Other
+/// errors are those of [`fill`].
 pub fn skip_exact<S: Source>(source: &mut S, count: u64) -> Result<()>
     ensures skips { SkipsExactly (S.state source.old) count result (S.state source.new) }
     ensures pauses { PausesOnlyOnError (S.state source.old) result (S.state source.new) }

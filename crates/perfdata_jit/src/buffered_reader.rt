@@ -20,8 +20,9 @@ use std::io::{Error, ErrorKind, Result, SeekFrom};
 
 /// A reader that lends the bytes of a source from its buffers, each time in one or two slices.
 ///
-/// The reader has a buffer of fixed size, which it uses as a ring. It allocates memory only for calls that need more bytes
-/// than that. The source may pause, fail and grow: no byte is lost, and a call can be repeated.
+/// The reader has a buffer of fixed size, which it uses as a ring. It allocates memory only for calls that
+/// need more bytes than that. The source may pause, fail and grow: no byte is lost, and a call can be
+/// repeated.
 #[derive(Drop)]
 pub struct BufferedReader<R> {
     source: R,
@@ -30,8 +31,8 @@ pub struct BufferedReader<R> {
 }
 
 impl<R: Source> BufferedReader<R> {
-    /// Creates a reader of `buffer[consumed..written]` followed by the source. `buffer` is the buffer of fixed size and
-    /// must not be empty.
+    /// Creates a reader of `buffer[consumed..written]` followed by the source. `buffer` is the buffer of
+    /// fixed size and must not be empty.
     pub fn new_with_partially_read_buffer(
         alloc: Global,
         source: R,
@@ -58,7 +59,8 @@ impl<R: Source> BufferedReader<R> {
     // Fails with kind `Other` once a seek has failed.
     pub(crate) fn check_no_seek_failed(&self) -> Result<()>
         ensures ok { OnOk result (has_seek_failed self.now ≡ false) }
-        ensures seek_failed { IfErr result (λ error. (has_seek_failed self.now ≡ true) × (error_kind error ≡ Other)) }
+        ensures seek_failed { IfErr result
+            (λ error. (has_seek_failed self.now ≡ true) × (error_kind error ≡ Other)) }
     {
         if self.seek_failed {
             return Err(Error::from(ErrorKind::Other));
@@ -97,21 +99,24 @@ impl<R: Source> BufferedReader<R> {
         requires { count ≤ length (buffered_in self.old) }
         ensures part { bytes_of result ≡ take count (buffered_in self.old) }
         ensures single { IsContiguous count self.old.buffer → IsSingle result }
-        ensures* after_borrow { sem 𝓛 (Rests (the_row R.row) self.entry (λ new. ConsumesBuffered R.state count self.old new)) }
+        ensures* after_borrow { sem 𝓛 (Rests (the_row R.row) self.entry
+            (λ new. ConsumesBuffered R.state count self.old new)) }
     {
         self.buffer.consume(count)
     }
 
     /// Returns the next `count` bytes, or `None` if a read is empty before they are buffered.
     ///
-    /// Reading stops as soon as `count` bytes are buffered. The source is not read if they are buffered before the call. They
-    /// are in one slice if they are buffered in one piece before the call.
-    /// Fails at once with the source's own error, and with kind `OutOfMemory` if `count` exceeds the size of the fixed
-    /// buffer and an allocation fails. No byte is lost by `None` or by an error, and the call can be repeated. Once a seek
-    /// has failed, each call fails with kind `Other` and does nothing.
+    /// Reading stops as soon as `count` bytes are buffered. The source is not read if they are buffered
+    /// before the call. They are in one slice if they are buffered in one piece before the call. Fails at
+    /// once with the source's own error, and with kind `OutOfMemory` if `count` exceeds the size of the fixed
+    /// buffer and an allocation fails. No byte is lost by `None` or by an error, and the call can be
+    /// repeated. Once a seek has failed, each call fails with kind `Other` and does nothing.
     pub fn consume_data(&mut self, count: usize) -> Result<Option<RawData<'_>>>
         ensures single { IsContiguous count self.old.buffer → IfOk result (λ part. IfSome part IsSingle) }
-        ensures* after_borrow { sem 𝓛 (Rests (the_row R.row) self.entry (λ new. ConsumesData R.state count self.old result new × (R.loan (source_of new) ≡ R.loan (source_of self.old)))) }
+        ensures* after_borrow { sem 𝓛 (Rests (the_row R.row) self.entry
+            (λ new. ConsumesData R.state count self.old result new
+            × (R.loan (source_of new) ≡ R.loan (source_of self.old)))) }
     {
         self.check_no_seek_failed()?;
         let is_buffered = self.ensure_buffered(count)?;
@@ -155,9 +160,10 @@ fn skip_by_seek<R: PlacedSource>(source: &mut R, count: u64) -> Result<bool>
 impl<R: PlacedSource> BufferedReader<R> {
     /// Skips the next `count` bytes. Returns whether it does.
     ///
-    /// If the bytes are buffered, the source is not used. Otherwise the source seeks to its end to find its number of
-    /// bytes, and then to the end of the skipped bytes, or back if it has too few. Fails with the error of a seek. The
-    /// position of the source is then unspecified, and each later call fails with kind `Other` and does nothing.
+    /// If the bytes are buffered, the source is not used. Otherwise the source seeks to its end to find its
+    /// number of bytes, and then to the end of the skipped bytes, or back if it has too few. Fails with the
+    /// error of a seek. The position of the source is then unspecified, and each later call fails with kind
+    /// `Other` and does nothing.
     pub fn skip_bytes(&mut self, count: usize) -> Result<bool>
         ensures skips { SkipsBytes R.state count self.old result self.new }
         ensures same_loan { R.loan (source_of self.new) ≡ R.loan (source_of self.old) }

@@ -11,7 +11,8 @@ pub enum JitDumpError {
     /// The file or the buffer ends before the end of the header.
     #[error("The file does not contain enough bytes to parse the jitdump header.")]
     NotEnoughBytesForHeader,
-    /// The size field of the header, which is the value of this variant, is less than the minimum size of a header.
+    /// The size field of the header, which is the value of this variant, is less than the minimum size of a
+    /// header.
     #[error("Invalid jitdump header size: {0}")]
     InvalidHeaderSize(u32),
     /// The first four bytes, which are the value of this variant, are not the magic of a jitdump file.

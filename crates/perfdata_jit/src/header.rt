@@ -75,8 +75,10 @@ fn parse_after_magic_in(
     magic: [u8; 4],
     rest: RawData<'_>,
 ) -> io::Result<JitDumpHeader>
-    ensures value { IfOk result (λ header. IsHeaderAfterMagic (number_in endian) magic (bytes_of rest.entry) header) }
-    ensures error { IfErr result (λ error. IsTruncatedAfterMagic (number_in endian) (bytes_of rest.entry) error) }
+    ensures value { IfOk result (λ header. IsHeaderAfterMagic (number_in endian) magic
+        (bytes_of rest.entry) header) }
+    ensures error { IfErr result (λ error. IsTruncatedAfterMagic (number_in endian)
+        (bytes_of rest.entry) error) }
 {
     match endian {
         Endianness::LittleEndian => {
@@ -90,7 +92,8 @@ impl JitDumpHeader {
     /// Number of header bytes with a defined meaning, and the minimum size of a header.
     pub const SIZE: usize = 40;
 
-    /// The byte order of the file, by the first byte of its magic: `D` in a little-endian file, any other in a big-endian one.
+    /// The byte order of the file, by the first byte of its magic: `D` in a little-endian file, any other in
+    /// a big-endian one.
     pub fn endian(&self) -> Endianness
         ensures { IsEndianOfMagic self.now.magic result }
     {
@@ -101,13 +104,13 @@ impl JitDumpHeader {
         }
     }
 
-    /// Parses the header at the start of the bytes. The bytes must contain the whole header, including the part after the
-    /// first 40 bytes.
+    /// Parses the header at the start of the bytes. The bytes must contain the whole header, including the
+    /// part after the first 40 bytes.
     ///
-    /// Returns the first error that applies: `NotEnoughBytesForHeader` if there are fewer than 4 bytes, `InvalidMagicBytes`
-    /// if the first 4 bytes are not a magic, `NotEnoughBytesForHeader` if there are fewer than 40 bytes,
-    /// `InvalidHeaderSize` if the header's size field is less than 40, `NotEnoughBytesForHeader` if the size field is
-    /// greater than the number of bytes.
+    /// Returns the first error that applies: `NotEnoughBytesForHeader` if there are fewer than 4 bytes,
+    /// `InvalidMagicBytes` if the first 4 bytes are not a magic, `NotEnoughBytesForHeader` if there are fewer
+    /// than 40 bytes, `InvalidHeaderSize` if the header's size field is less than 40,
+    /// `NotEnoughBytesForHeader` if the size field is greater than the number of bytes.
     pub fn parse(bytes: RawData<'_>) -> Result<JitDumpHeader, JitDumpError>
         ensures value { IfOk result (λ header. BeginsWithJitHeader (bytes_of bytes.entry) header) }
         ensures error { IfErr result (λ error. IsJitHeaderError (bytes_of bytes.entry) error) }
@@ -132,17 +135,19 @@ impl JitDumpHeader {
         }
     }
 
-    /// Parses the header from its magic and the bytes after it, in the byte order `O`. A header whose size field is less
-    /// than 40 is accepted.
+    /// Parses the header from its magic and the bytes after it, in the byte order `O`. A header whose size
+    /// field is less than 40 is accepted.
     ///
-    /// Returns an `UnexpectedEof` error if there are fewer than 36 bytes, or fewer than the header's size field minus the 4
-    /// bytes of the magic.
+    /// Returns an `UnexpectedEof` error if there are fewer than 36 bytes, or fewer than the header's size
+    /// field minus the 4 bytes of the magic.
     pub fn parse_after_magic<O: FileOrder>(
         magic: [u8; 4],
         bytes: RawData<'_>,
     ) -> io::Result<JitDumpHeader>
-        ensures value { IfOk result (λ header. IsHeaderAfterMagic O.number_of magic (bytes_of bytes.entry) header) }
-        ensures error { IfErr result (λ error. IsTruncatedAfterMagic O.number_of (bytes_of bytes.entry) error) }
+        ensures value { IfOk result (λ header. IsHeaderAfterMagic O.number_of magic
+            (bytes_of bytes.entry) header) }
+        ensures error { IfErr result (λ error. IsTruncatedAfterMagic O.number_of
+            (bytes_of bytes.entry) error) }
     {
         let mut rest = bytes;
         let mut fixed = [0u8; SIZE_AFTER_MAGIC];

@@ -24,8 +24,8 @@ const BUFFER_SIZE: usize = 4096;
 
 /// A reader that returns the records of a jitdump file one by one, also while the file grows.
 ///
-/// A record is borrowed from the buffers until the next call. `Ok(None)` means that the next record is not complete yet. No
-/// byte is lost by `Ok(None)` or by a read error, and the call can be repeated.
+/// A record is borrowed from the buffers until the next call. `Ok(None)` means that the next record is not
+/// complete yet. No byte is lost by `Ok(None)` or by a read error, and the call can be repeated.
 #[derive(Drop)]
 pub struct JitDumpReader<R> {
     reader: BufferedReader<R>,
@@ -64,12 +64,12 @@ impl<R: Source + Drop> JitDumpReader<R> {
         JitDumpReader::new_with_buffer_size(alloc, source, BUFFER_SIZE)
     }
 
-    /// Creates a reader of the jitdump file in `source`, with a buffer of `buffer_size` bytes. The file header must fit in
-    /// the buffer.
+    /// Creates a reader of the jitdump file in `source`, with a buffer of `buffer_size` bytes. The file
+    /// header must fit in the buffer.
     ///
-    /// The call reads until the buffer is full or a read is empty, and parses the file header from these bytes. Returns the
-    /// first error that applies: `Io` if the source fails or the allocation of the buffer fails, otherwise an error of
-    /// [`JitDumpHeader::parse`].
+    /// The call reads until the buffer is full or a read is empty, and parses the file header from these
+    /// bytes. Returns the first error that applies: `Io` if the source fails or the allocation of the buffer
+    /// fails, otherwise an error of [`JitDumpHeader::parse`].
     pub fn new_with_buffer_size(
         alloc: Global,
         mut source: R,
@@ -125,10 +125,11 @@ impl<R: Source> JitDumpReader<R> {
         self.offset // unchanged by a pending header
     }
 
-    /// Whether the next `count` unread bytes are buffered. A call that needs only these bytes doesn't read the source.
+    /// Whether the next `count` unread bytes are buffered. A call that needs only these bytes doesn't read
+    /// the source.
     ///
-    /// The first 16 of them are the next record header. [`JitDumpReader::next_record_header`] returns the size of its
-    /// record.
+    /// The first 16 of them are the next record header. [`JitDumpReader::next_record_header`] returns the
+    /// size of its record.
     pub fn has_buffered(&self, count: usize) -> bool
         ensures { IsTrue result ↔ count ≤ length (jit_buffered self.now) }
     {
@@ -197,11 +198,11 @@ impl<R: Source> JitDumpReader<R> {
         }
     }
 
-    /// Returns the header of the next record without consuming the record, or `Ok(None)` if its 16 bytes are not available
-    /// yet.
+    /// Returns the header of the next record without consuming the record, or `Ok(None)` if its 16 bytes are
+    /// not available yet.
     ///
-    /// Fails with the source's own error. No byte is lost then, and the call can be repeated. Once a seek has failed, the
-    /// call fails with kind `Other`.
+    /// Fails with the source's own error. No byte is lost then, and the call can be repeated. Once a seek has
+    /// failed, the call fails with kind `Other`.
     pub fn next_record_header(&mut self) -> io::Result<Option<JitDumpRecordHeader>>
         ensures returns_header { ReturnsHeader R.state (λ header. header) self.old result self.new }
         ensures same_loan { R.loan (jit_source self.new) ≡ R.loan (jit_source self.old) }
@@ -225,7 +226,8 @@ impl<R: Source> JitDumpReader<R> {
 
     /// Returns the type of the next record, as [`JitDumpReader::next_record_header`] does.
     pub fn next_record_type(&mut self) -> io::Result<Option<JitDumpRecordType>>
-        ensures returns_header { ReturnsHeader R.state (λ header. header.record_type) self.old result self.new }
+        ensures returns_header { ReturnsHeader R.state
+            (λ header. header.record_type) self.old result self.new }
         ensures same_loan { R.loan (jit_source self.new) ≡ R.loan (jit_source self.old) }
     {
         let Some(header) = self.next_record_header()? else {
@@ -234,17 +236,20 @@ impl<R: Source> JitDumpReader<R> {
         Ok(Some(header.record_type))
     }
 
-    /// Returns the next record, borrowed until the next call, or `Ok(None)` if a read is empty before the record is
-    /// complete.
+    /// Returns the next record, borrowed until the next call, or `Ok(None)` if a read is empty before the
+    /// record is complete.
     ///
-    /// Reading stops as soon as the record is buffered. The source is not read if the record is buffered before the call. The
-    /// body is in one slice if the record is buffered before the call and its body doesn't wrap around the end of the buffer.
-    /// Fails with `InvalidData` if the size in the record header is less than 16, or if the record's end exceeds 2^64 - 1;
-    /// the header stays pending. Fails with the source's own error if a read fails, and with `OutOfMemory` only if the
-    /// record's body is longer than the buffer. No byte is lost by an error or by `Ok(None)`, and the call can be repeated.
-    /// Once a seek has failed, the call fails with kind `Other`.
+    /// Reading stops as soon as the record is buffered. The source is not read if the record is buffered
+    /// before the call. The body is in one slice if the record is buffered before the call and its body
+    /// doesn't wrap around the end of the buffer. Fails with `InvalidData` if the size in the record header
+    /// is less than 16, or if the record's end exceeds 2^64 - 1; the header stays pending. Fails with the
+    /// source's own error if a read fails, and with `OutOfMemory` only if the record's body is longer than
+    /// the buffer. No byte is lost by an error or by `Ok(None)`, and the call can be repeated. Once a seek
+    /// has failed, the call fails with kind `Other`.
     pub fn next_record(&mut self) -> io::Result<Option<JitDumpRawRecord<'_>>>
-        ensures* after_borrow { sem 𝓛 (Rests (the_row R.row) self.entry (λ new. NextJitRecord R.state self.old result new × (R.loan (jit_source new) ≡ R.loan (jit_source self.old)))) }
+        ensures* after_borrow { sem 𝓛 (Rests (the_row R.row) self.entry
+            (λ new. NextJitRecord R.state self.old result new
+            × (R.loan (jit_source new) ≡ R.loan (jit_source self.old)))) }
     {
         let Some(header) = self.buffer_record()? else {
             return Ok(None);
@@ -269,18 +274,22 @@ impl<R: Source> JitDumpReader<R> {
 }
 
 impl<R: PlacedSource> JitDumpReader<R> {
-    /// Skips the next record without reading its body. Returns whether it does: `Ok(false)` means that the record header is
-    /// not available, or that the source has too few bytes. No complete record is buffered then, and the record remains the
-    /// next one.
+    /// Skips the next record without reading its body. Returns whether it does: `Ok(false)` means that the
+    /// record header is not available, or that the source has too few bytes. No complete record is buffered
+    /// then, and the record remains the next one.
     ///
-    /// If the record is buffered, the source is not used. Otherwise the source seeks as in [`BufferedReader::skip_bytes`].
-    /// Fails as [`JitDumpReader::next_record`] does, except that it allocates nothing for a body, and with the error of a
-    /// seek. After the error of a seek, each call that can fail fails with kind `Other`.
+    /// If the record is buffered, the source is not used. Otherwise the source seeks as in
+    /// [`BufferedReader::skip_bytes`]. Fails as [`JitDumpReader::next_record`] does, except that it allocates
+    /// nothing for a body, and with the error of a seek. After the error of a seek, each call that can fail
+    /// fails with kind `Other`.
     pub fn skip_next_record(&mut self) -> io::Result<bool>
         ensures skips { SkipsRecord R.state self.old result self.new }
         ensures same_loan { R.loan (jit_source self.new) ≡ R.loan (jit_source self.old) }
-        ensures no_whole_record { IfOk result (λ is_skipped. is_skipped ≡ false → HasNoWholeRecord (jit_endian self.old) (jit_offset self.old) (jit_buffered self.new)) }
-        ensures buffered { HasWholeRecord (jit_endian self.old) (jit_offset self.old) (jit_buffered self.old) → jit_seek_failed self.old ≡ false → SkipsBuffered self.old result self.new }
+        ensures no_whole_record { IfOk result
+            (λ is_skipped. is_skipped ≡ false
+            → HasNoWholeRecord (jit_endian self.old) (jit_offset self.old) (jit_buffered self.new)) }
+        ensures buffered { HasWholeRecord (jit_endian self.old) (jit_offset self.old) (jit_buffered self.old)
+            → jit_seek_failed self.old ≡ false → SkipsBuffered self.old result self.new }
     {
         let Some(header) = self.peek_valid_header()? else {
             return Ok(false);

@@ -5,8 +5,8 @@ ghost use Rattle.perfdata_jit.specs.Trace.{NothingIsLost};
 use crate::record::JitDumpRecordType;
 use perfdata_base::source::Source;
 
-/// Proves that calls in any order return or skip the first unread records in order, and leave all bytes after them unread.
-/// The law holds unless a seek fails.
+/// Proves that calls in any order return or skip the first unread records in order, and leave all bytes after
+/// them unread. The law holds unless a seek fails.
 pub fn nothing_is_lost<R: Source>()
     ensures { NothingIsLost R.state }
 {}

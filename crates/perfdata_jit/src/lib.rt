@@ -1,5 +1,5 @@
-//! Jitdump files, which runtimes with just-in-time compilers write beside a profile: their records, and a reader that works
-//! while a file grows and loses no bytes.
+//! Jitdump files, which runtimes with just-in-time compilers write beside a profile: their records, and a
+//! reader that works while a file grows and loses no bytes.
 #![tactic(auto)]
 
 pub mod buffered_reader;

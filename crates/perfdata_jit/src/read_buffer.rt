@@ -12,8 +12,8 @@ use perfdata_base::source::Source;
 use std::alloc::AllocError;
 use std::io::Result;
 
-// The buffer contains `overflow[overflow_start..]` followed by the ring's bytes. The ring starts at index 0 while the
-// unread overflow isn't empty. Thus the bytes of a call are in at most two slices.
+// The buffer contains `overflow[overflow_start..]` followed by the ring's bytes. The ring starts at index 0
+// while the unread overflow isn't empty. Thus the bytes of a call are in at most two slices.
 #[derive(Drop)]
 pub struct ReadBuffer {
     ring: Ring,
@@ -23,8 +23,8 @@ pub struct ReadBuffer {
     ghost ring_at_start: { overflow_start < vec_len overflow → ring.start ≡ 0 },
 }
 
-// The position of consumed bytes: a range of the overflow buffer, a range of the ring's buffer, and the length of a prefix
-// of the ring's buffer.
+// The position of consumed bytes: a range of the overflow buffer, a range of the ring's buffer, and the
+// length of a prefix of the ring's buffer.
 #[derive(Drop)]
 pub(crate) struct Span {
     overflow_from: usize,
@@ -75,7 +75,8 @@ impl ReadBuffer {
     // Reads once into the ring's free space.
     pub(crate) fn fill<R: Source>(&mut self, source: &mut R) -> Result<usize>
         requires { ring_len self.old.ring < ring_capacity self.old }
-        ensures fills { FillsRing (R.state source.old) (read_buffer_bytes self.old) result (read_buffer_bytes self.new) (R.state source.new) }
+        ensures fills { FillsRing (R.state source.old) (read_buffer_bytes self.old) result
+            (read_buffer_bytes self.new) (R.state source.new) }
         ensures counts { CountsRead (R.state source.old) result (R.state source.new) }
         ensures same_loan { R.loan source.new ≡ R.loan source.old }
         ensures overflow { overflow_len self.new ≡ overflow_len self.old }
@@ -141,11 +142,13 @@ impl ReadBuffer {
         requires { self.old.overflow_start ≡ 0 }
         ensures bytes { read_buffer_bytes self.new ≡ read_buffer_bytes self.old }
         ensures overflow { overflow_len self.new ≤ length (read_buffer_bytes self.old) }
-        ensures fits { length (read_buffer_bytes self.old) < ring_capacity self.old → overflow_len self.new ≤ overflow_len self.old }
+        ensures fits { length (read_buffer_bytes self.old) < ring_capacity self.old → overflow_len self.new
+            ≤ overflow_len self.old }
         ensures free_space { OnOk result (ring_len self.new.ring < ring_capacity self.new) }
         ensures full { OnErr result (ring_capacity self.old ≤ length (read_buffer_bytes self.old)) }
         ensures unchanged { ring_len self.old.ring < ring_capacity self.old → self.new ≡ self.old }
-        ensures no_allocation { length (read_buffer_bytes self.old) < ring_capacity self.old → overflow_capacity self.new ≡ overflow_capacity self.old }
+        ensures no_allocation { length (read_buffer_bytes self.old) < ring_capacity self.old
+            → overflow_capacity self.new ≡ overflow_capacity self.old }
         ensures overflow_start { self.new.overflow_start ≡ 0 }
         ensures size { ring_capacity self.new ≡ ring_capacity self.old }
     {

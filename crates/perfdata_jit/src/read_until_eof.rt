@@ -9,8 +9,8 @@ use std::io::Result;
 pub trait ReadExactOrUntilEof: Source {
     /// Reads until the buffer is full or a read is empty, and returns the number of bytes read.
     ///
-    /// Returns the source's own error at once, also one of kind `Interrupted`. The prefix of the buffer then contains the
-    /// bytes that were read before. Their number is not reported.
+    /// Returns the source's own error at once, also one of kind `Interrupted`. The prefix of the buffer then
+    /// contains the bytes that were read before. Their number is not reported.
     fn read_exact_or_until_eof(&mut self, buf: &mut [u8]) -> Result<usize>
         ensures fills { FillsUntilEof (Self.state self.old) buf.new result (Self.state self.new) }
         ensures counts { CountsFill (Self.state self.old) buf.new result (Self.state self.new) }

@@ -58,13 +58,14 @@ impl JitDumpRecordHeader {
     /// The size of a record header in bytes.
     pub const SIZE: usize = 16;
 
-    /// Parses the record header at the start of the bytes: the record's type and total size of 4 bytes each, and its
-    /// timestamp of 8.
+    /// Parses the record header at the start of the bytes: the record's type and total size of 4 bytes each,
+    /// and its timestamp of 8.
     ///
     /// Returns an `UnexpectedEof` error if there are fewer than 16 bytes.
     pub fn parse(endian: Endianness, bytes: RawData<'_>) -> Result<JitDumpRecordHeader>
         ensures enough { IfOk result (λ _. 16 ≤ length (bytes_of bytes.entry)) }
-        ensures value { IfOk result (λ header. header ≡ jit_record_header_of (number_in endian) (bytes_of bytes.entry)) }
+        ensures value { IfOk result (λ header. header
+            ≡ jit_record_header_of (number_in endian) (bytes_of bytes.entry)) }
         ensures too_short { IfErr result (λ error. EndsBefore 16 (bytes_of bytes.entry) error) }
     {
         let mut rest = bytes;
@@ -76,7 +77,8 @@ impl JitDumpRecordHeader {
     /// Parses the record header at the start of the bytes as `parse` does, in the byte order `O`.
     pub fn parse_impl<O: FileOrder>(bytes: RawData<'_>) -> Result<JitDumpRecordHeader>
         ensures enough { IfOk result (λ _. 16 ≤ length (bytes_of bytes.entry)) }
-        ensures value { IfOk result (λ header. header ≡ jit_record_header_of O.number_of (bytes_of bytes.entry)) }
+        ensures value { IfOk result (λ header. header
+            ≡ jit_record_header_of O.number_of (bytes_of bytes.entry)) }
         ensures too_short { IfErr result (λ error. EndsBefore 16 (bytes_of bytes.entry) error) }
     {
         JitDumpRecordHeader::parse(O::ENDIAN, bytes)
@@ -132,8 +134,8 @@ pub struct JitDumpRawRecord<'a> {
 }
 
 impl<'a> JitDumpRawRecord<'a> {
-    /// Parses the body in the format of the record's type. The body of a `JIT_CODE_CLOSE` record is not read. A record of
-    /// none of the five types is returned unparsed as `Other`. Only debug info allocates memory.
+    /// Parses the body in the format of the record's type. The body of a `JIT_CODE_CLOSE` record is not read.
+    /// A record of none of the five types is returned unparsed as `Other`. Only debug info allocates memory.
     ///
     /// Fails as the `parse` of the record's type does.
     pub fn parse(&self, alloc: Global) -> Result<JitDumpRecord<'a>>

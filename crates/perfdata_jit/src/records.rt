@@ -105,10 +105,11 @@ impl<'a> JitCodeLoadRecord<'a> {
     /// The offset of the function's name from the start of the record header, in bytes.
     pub const NAME_OFFSET_FROM_RECORD_START: usize = JitDumpRecordHeader::SIZE + LOAD_FIXED_SIZE;
 
-    /// Parses a body: pid and tid of 4 bytes each, mapping address, code address, code size and code index of 8 bytes each,
-    /// the function's name up to a NUL, and the code. Bytes after the code are ignored.
+    /// Parses a body: pid and tid of 4 bytes each, mapping address, code address, code size and code index of
+    /// 8 bytes each, the function's name up to a NUL, and the code. Bytes after the code are ignored.
     ///
-    /// Returns an `UnexpectedEof` error if the first 40 bytes or the code are truncated, or if no NUL ends the name.
+    /// Returns an `UnexpectedEof` error if the first 40 bytes or the code are truncated, or if no NUL ends
+    /// the name.
     pub fn parse(endian: Endianness, bytes: RawData<'a>) -> Result<JitCodeLoadRecord<'a>>
         ensures value { IfOk result (λ load. IsLoad (number_in endian) (bytes_of bytes.entry) load) }
         ensures error { IfErr result (λ error. IsLoadError (number_in endian) (bytes_of bytes.entry) error) }
@@ -144,8 +145,8 @@ impl<'a> JitCodeLoadRecord<'a> {
         })
     }
 
-    /// Returns the offset of the code from the start of the record header, in bytes. It depends on the length of the name,
-    /// whose NUL it includes.
+    /// Returns the offset of the code from the start of the record header, in bytes. It depends on the length
+    /// of the name, whose NUL it includes.
     pub fn code_bytes_offset_from_record_header_start(&self) -> usize
         requires { 57 + length (bytes_of self.now.function_name) < 2 ^ 64 }
         ensures { result ≡ 57 + length (bytes_of self.now.function_name) }
@@ -154,15 +155,15 @@ impl<'a> JitCodeLoadRecord<'a> {
     }
 }
 
-/// Proves that `code_bytes_offset_from_record_header_start` is the offset of the code in the bytes of the record whose body
-/// is given to `parse`. The call does nothing.
+/// Proves that `code_bytes_offset_from_record_header_start` is the offset of the code in the bytes of the
+/// record whose body is given to `parse`. The call does nothing.
 pub fn code_is_at_offset()
     ensures { CodeIsAtOffset }
 {}
 
 impl JitCodeMoveRecord {
-    /// Parses a body: pid and tid of 4 bytes each, new mapping address, old code address, new code address, code size and
-    /// code index of 8 bytes each. Bytes after them are ignored.
+    /// Parses a body: pid and tid of 4 bytes each, new mapping address, old code address, new code address,
+    /// code size and code index of 8 bytes each. Bytes after them are ignored.
     ///
     /// Returns an `UnexpectedEof` error if there are fewer than 48 bytes.
     pub fn parse(endian: Endianness, bytes: RawData<'_>) -> Result<JitCodeMoveRecord>
@@ -199,8 +200,10 @@ impl JitCodeMoveRecord {
 
 // Parses the entry at the start of the bytes and removes it from them.
 fn read_entry<'a, O: FileOrder>(bytes: &mut RawData<'a>) -> Result<JitCodeDebugInfoEntry<'a>>
-    ensures value { IfOk result (λ entry. IsDebugEntry O.number_of (bytes_of bytes.old) entry (bytes_of bytes.new)) }
-    ensures error { IfErr result (λ error. (error_kind error ≡ UnexpectedEof) × IsTruncatedDebugEntry (bytes_of bytes.old)) }
+    ensures value { IfOk result (λ entry. IsDebugEntry O.number_of (bytes_of bytes.old) entry
+        (bytes_of bytes.new)) }
+    ensures error { IfErr result (λ error. (error_kind error ≡ UnexpectedEof)
+        × IsTruncatedDebugEntry (bytes_of bytes.old)) }
 {
     let mut fixed = [0u8; ENTRY_FIXED_SIZE];
     bytes.read_exact(&mut fixed)?;
@@ -216,14 +219,15 @@ fn read_entry<'a, O: FileOrder>(bytes: &mut RawData<'a>) -> Result<JitCodeDebugI
     })
 }
 
-// Parses `count` entries at the start of the bytes and removes them. The count comes from the file, and no memory is
-// reserved for it in advance.
+// Parses `count` entries at the start of the bytes and removes them. The count comes from the file, and no
+// memory is reserved for it in advance.
 fn read_entries<'a, O: FileOrder>(
     alloc: Global,
     count: u64,
     bytes: &mut RawData<'a>,
 ) -> Result<Vec<JitCodeDebugInfoEntry<'a>>>
-    ensures value { IfOk result (λ entries. ReadsDebugEntries O.number_of count (bytes_of bytes.old) entries.items (bytes_of bytes.new)) }
+    ensures value { IfOk result (λ entries. ReadsDebugEntries O.number_of count
+        (bytes_of bytes.old) entries.items (bytes_of bytes.new)) }
     ensures error { IfErr result (λ error. IsDebugEntriesError O.number_of count (bytes_of bytes.old) error) }
 {
     let mut entries = Vec::new(alloc);
@@ -235,19 +239,21 @@ fn read_entries<'a, O: FileOrder>(
 }
 
 impl<'a> JitCodeDebugInfoRecord<'a> {
-    /// Parses a body: code address and number of entries of 8 bytes each, and the entries. An entry has an address of 8
-    /// bytes, a line and a column of 4 bytes each, and a path up to a NUL. Bytes after the entries are ignored.
+    /// Parses a body: code address and number of entries of 8 bytes each, and the entries. An entry has an
+    /// address of 8 bytes, a line and a column of 4 bytes each, and a path up to a NUL. Bytes after the
+    /// entries are ignored.
     ///
-    /// Returns an `UnexpectedEof` error if the first 16 bytes or an entry are truncated, and an `OutOfMemory` error if the
-    /// allocation of memory for the entries fails. Memory is allocated as entries are parsed, not by the number of entries
-    /// that the body declares.
+    /// Returns an `UnexpectedEof` error if the first 16 bytes or an entry are truncated, and an `OutOfMemory`
+    /// error if the allocation of memory for the entries fails. Memory is allocated as entries are parsed,
+    /// not by the number of entries that the body declares.
     pub fn parse(
         alloc: Global,
         endian: Endianness,
         bytes: RawData<'a>,
     ) -> Result<JitCodeDebugInfoRecord<'a>>
         ensures value { IfOk result (λ info. IsDebugInfo (number_in endian) (bytes_of bytes.entry) info) }
-        ensures error { IfErr result (λ error. IsDebugInfoError (number_in endian) (bytes_of bytes.entry) error) }
+        ensures error { IfErr result (λ error. IsDebugInfoError (number_in endian)
+            (bytes_of bytes.entry) error) }
     {
         match endian {
             Endianness::LittleEndian => {
@@ -275,11 +281,13 @@ impl<'a> JitCodeDebugInfoRecord<'a> {
         })
     }
 
-    /// Returns an entry with the greatest address that is not above `addr`, or `None` if all addresses are above it.
+    /// Returns an entry with the greatest address that is not above `addr`, or `None` if all addresses are
+    /// above it.
     ///
     /// This requires that the entries are sorted by address. Otherwise the result is any entry or `None`.
     pub fn lookup(&self, addr: u64) -> Option<&JitCodeDebugInfoEntry<'a>>
-        ensures { IsNonDecreasingBy (λ e. e.code_addr) self.now.entries.items → IsLookup self.now.entries.items addr (option_copied result) }
+        ensures { IsNonDecreasingBy (λ e. e.code_addr) self.now.entries.items
+            → IsLookup self.now.entries.items addr (option_copied result) }
     {
         let above = self
             .entries
@@ -292,14 +300,16 @@ impl<'a> JitCodeDebugInfoRecord<'a> {
 }
 
 impl<'a> JitCodeUnwindingInfoRecord<'a> {
-    /// Parses a body: the sizes of the data, of its index and of its mapped part of 8 bytes each, and the data, which
-    /// starts with the index. Bytes after the data are ignored.
+    /// Parses a body: the sizes of the data, of its index and of its mapped part of 8 bytes each, and the
+    /// data, which starts with the index. Bytes after the data are ignored.
     ///
-    /// Returns an `UnexpectedEof` error if the first 24 bytes or the data are truncated, or if the index is longer than the
-    /// data.
+    /// Returns an `UnexpectedEof` error if the first 24 bytes or the data are truncated, or if the index is
+    /// longer than the data.
     pub fn parse(endian: Endianness, bytes: RawData<'a>) -> Result<JitCodeUnwindingInfoRecord<'a>>
-        ensures value { IfOk result (λ unwinding. IsUnwinding (number_in endian) (bytes_of bytes.entry) unwinding) }
-        ensures error { IfErr result (λ error. IsUnwindingError (number_in endian) (bytes_of bytes.entry) error) }
+        ensures value { IfOk result (λ unwinding. IsUnwinding (number_in endian)
+            (bytes_of bytes.entry) unwinding) }
+        ensures error { IfErr result (λ error. IsUnwindingError (number_in endian)
+            (bytes_of bytes.entry) error) }
     {
         match endian {
             Endianness::LittleEndian => {

@@ -6,8 +6,8 @@ ghost use Rattle.perfdata_jit.specs.RingFilling.{FillsRing};
 use perfdata_base::source::Source;
 use std::io::Result;
 
-// The ring contains `buffer[start..end]` followed by `buffer[..front]`. The second part is empty unless `end` is the
-// buffer's end.
+// The ring contains `buffer[start..end]` followed by `buffer[..front]`. The second part is empty unless `end`
+// is the buffer's end.
 #[derive(Drop)]
 pub struct Ring {
     buffer: Vec<u8>,
@@ -79,14 +79,15 @@ impl Ring {
         self.front = 0;
     }
 
-    // Removes the first n bytes. Returns their position: the start and end of a range of the buffer, and the length of a
-    // prefix of the buffer.
+    // Removes the first n bytes. Returns their position: the start and end of a range of the buffer, and the
+    // length of a prefix of the buffer.
     pub(crate) fn advance(&mut self, n: usize) -> (usize, usize, usize)
         requires { n ≤ ring_len self.old }
         ensures order { result.0 ≤ result.1 }
         ensures within { result.1 ≤ ring_size self.new }
         ensures front_within { result.2 ≤ ring_size self.new }
-        ensures taken_bytes { slice_range self.new.buffer.items result.0 result.1 ++ take result.2 self.new.buffer.items ≡ take n (ring_bytes self.old) }
+        ensures taken_bytes { slice_range self.new.buffer.items result.0 result.1
+            ++ take result.2 self.new.buffer.items ≡ take n (ring_bytes self.old) }
         ensures bytes { ring_bytes self.new ≡ drop n (ring_bytes self.old) }
         ensures size { ring_size self.new ≡ ring_size self.old }
         ensures at_front { self.old.start ≡ 0 → (result.0 ≡ 0) × (result.2 ≡ 0) × (result.1 ≡ n) }
@@ -120,7 +121,8 @@ impl Ring {
     // Reads once into the free space after the ring's bytes.
     pub(crate) fn fill<R: Source>(&mut self, source: &mut R) -> Result<usize>
         requires { ring_len self.old < ring_size self.old }
-        ensures fills { FillsRing (R.state source.old) (ring_bytes self.old) result (ring_bytes self.new) (R.state source.new) }
+        ensures fills { FillsRing (R.state source.old) (ring_bytes self.old) result (ring_bytes self.new)
+            (R.state source.new) }
         ensures counts { CountsRead (R.state source.old) result (R.state source.new) }
         ensures same_loan { R.loan source.new ≡ R.loan source.old }
         ensures size { ring_size self.new ≡ ring_size self.old }
@@ -152,7 +154,8 @@ fn read_into_range<R: Source>(
     ensures before { take start buffer.new.items ≡ take start buffer.old.items }
     ensures after { drop end buffer.new.items ≡ drop end buffer.old.items }
     ensures bound { IfOk result (λ n. start + n ≤ end) }
-    ensures reads { Reads (R.state source.old) (slice_range buffer.new.items start end) result (R.state source.new) }
+    ensures reads { Reads (R.state source.old) (slice_range buffer.new.items start end) result
+        (R.state source.new) }
     ensures counts { CountsRead (R.state source.old) result (R.state source.new) }
     ensures same_loan { R.loan source.new ≡ R.loan source.old }
 {

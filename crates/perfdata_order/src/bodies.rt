@@ -84,7 +84,8 @@ pub(crate) struct HeldBody {
     block: Snapshot<Vec<u8>>,
 }
 
-// The bodies of held records. A block is used again once none of its bodies is held, so each held body keeps at most one block.
+// The bodies of held records. A block is used again once none of its bodies is held, so each held body keeps
+// at most one block.
 #[derive(Drop)]
 pub(crate) struct Bodies {
     alloc: Global,

@@ -19,12 +19,14 @@ pub(crate) enum Pending<'a> {
 
 /// Returns the records of an input in memory in order of time. No byte of a record is copied.
 ///
-/// A record is timed if its timestamp is neither missing, nor 0, nor 2^64 - 1, which stand for no time. Records without a time
-/// are returned as soon as they are read, before all timed records that were read before them.
+/// A record is timed if its timestamp is neither missing, nor 0, nor 2^64 - 1, which stand for no time.
+/// Records without a time are returned as soon as they are read, before all timed records that were read
+/// before them.
 ///
-/// The timed records ascend as long as the recording keeps perf's rule: no record of round n + 2 or of a later round is older
-/// than a record of round n. The records of two rounds are held, as references into the input. If the recording has no rounds,
-/// all timed records are held. Equal timestamps keep the order of the input.
+/// The timed records ascend as long as the recording keeps perf's rule: no record of round n + 2 or of a
+/// later round is older than a record of round n. The records of two rounds are held, as references into the
+/// input. If the recording has no rounds, all timed records are held. Equal timestamps keep the order of the
+/// input.
 #[derive(Drop)]
 pub struct InMemoryOrderedRecords<'a> {
     records: InMemoryRecords<'a>,
@@ -158,15 +160,17 @@ impl<'a> InMemoryOrderedRecords<'a> {
         }
     }
 
-    /// Returns the next record in order of time with its [`RecordPlace`], or `Ok(None)` at the end of the records.
+    /// Returns the next record in order of time with its [`RecordPlace`], or `Ok(None)` at the end of the
+    /// records.
     ///
-    /// The attribute and the timestamp of a record are determined as it is read. `perf_file` contains the metadata of all
-    /// records that were read, which may come after the returned record.
+    /// The attribute and the timestamp of a record are determined as it is read. `perf_file` contains the
+    /// metadata of all records that were read, which may come after the returned record.
     ///
     /// # Errors
     ///
-    /// An error of the input is returned after all records before it, once. Each later call returns [`Error::Failed`].
-    /// [`Error::Memory`] is also returned if memory runs out for the order. Then nothing is lost, and the call can be repeated.
+    /// An error of the input is returned after all records before it, once. Each later call returns
+    /// [`Error::Failed`]. [`Error::Memory`] is also returned if memory runs out for the order. Then nothing
+    /// is lost, and the call can be repeated.
     pub fn next_record(
         &mut self,
         perf_file: &mut PerfFile,

@@ -6,10 +6,11 @@ ghost use Rattle.perfdata_order.specs.SorterLaws.{AscendsUnderRule, KeepsInserti
 use linux_perf_data::laws::offsets_increase;
 use linux_perf_data::source::Source;
 
-/// A [`Sorter`](crate::sorter::Sorter) returns each inserted value once. Equal keys keep the order of insertion, and consecutive
-/// calls of `get_next` ascend.
+/// A [`Sorter`](crate::sorter::Sorter) returns each inserted value once. Equal keys keep the order of
+/// insertion, and consecutive calls of `get_next` ascend.
 ///
-/// All returned values ascend if no key of round n + 2 or later is smaller than a key of round n, and no half was released.
+/// All returned values ascend if no key of round n + 2 or later is smaller than a key of round n, and no half
+/// was released.
 pub fn sorter<K: Ord, V>()
     ensures each_once { ReturnsEachOnce V K.cmp }
     ensures insertion_order { KeepsInsertionOrder V K.cmp }
@@ -17,9 +18,9 @@ pub fn sorter<K: Ord, V>()
     ensures ascends_under_rule { AscendsUnderRule V K.cmp }
 {}
 
-/// Over an input in memory, each record that the iterator over the input returns is returned once, or is still held. The timed
-/// records are those of a sorter, so its laws apply to them. The times that are returned ascend if the records are those of a layout
-/// and keep perf's rule.
+/// Over an input in memory, each record that the iterator over the input returns is returned once, or is
+/// still held. The timed records are those of a sorter, so its laws apply to them. The times that are
+/// returned ascend if the records are those of a layout and keep perf's rule.
 pub fn in_memory()
     ensures each_once { ReturnsEachRecordOnce }
     ensures of_input { ReadsRecordsOfInput }
@@ -29,10 +30,11 @@ pub fn in_memory()
     offsets_increase();
 }
 
-/// Over a source, each record that the iterator over the source returns is returned once, or is still held. The timed records
-/// are those of a sorter, so its laws apply to them. The times that are returned ascend if the records are those of a layout and keep
-/// perf's rule, and none was returned early. With a budget, the records in the sorter are within it, or there is only one. Without
-/// a budget, those that aren't available are of the current round or of the one before it.
+/// Over a source, each record that the iterator over the source returns is returned once, or is still held.
+/// The timed records are those of a sorter, so its laws apply to them. The times that are returned ascend if
+/// the records are those of a layout and keep perf's rule, and none was returned early. With a budget, the
+/// records in the sorter are within it, or there is only one. Without a budget, those that aren't available
+/// are of the current round or of the one before it.
 pub fn streaming<R: Source>()
     ensures each_once { ReturnsEachRecordOnceOf R.state }
     ensures of_source { ReadsRecordsOfSource R.state }

@@ -1,8 +1,8 @@
 //! Records in order of time.
 //!
-//! The records of a recording stand in the order in which the buffers of the kernel were read. [`streaming`] returns those of
-//! a source in order of time, and [`in_memory`] those of an input in memory. [`sorter::Sorter`] sorts any values whose rounds end
-//! one after another.
+//! The records of a recording stand in the order in which the buffers of the kernel were read. [`streaming`]
+//! returns those of a source in order of time, and [`in_memory`] those of an input in memory.
+//! [`sorter::Sorter`] sorts any values whose rounds end one after another.
 #![tactic(auto)]
 
 mod bodies;

@@ -4,7 +4,8 @@ ghost use Rattle.std.specs.Prelude.{◌≡◌, Some, IsTrue};
 use linux_perf_data::place::RecordParseInfo;
 use std::alloc::{AllocError, Global};
 
-// The parse infos of the records so far. An attribute has one for all of its records, and most attributes have the same.
+// The parse infos of the records so far. An attribute has one for all of its records, and most attributes
+// have the same.
 #[derive(Drop)]
 pub(crate) struct ParseInfos {
     found: Vec<RecordParseInfo>,

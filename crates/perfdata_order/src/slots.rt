@@ -4,8 +4,8 @@ ghost use Rattle.std.specs.Prelude.{◌≡◌, ◌<◌, None, Some, [], length, 
 use std::alloc::{AllocError, Global};
 use std::mem::replace;
 
-// Values in slots. A quarter of the slots or more may be vacant, so the next vacant one is found after few others, and consecutive
-// values are in consecutive slots.
+// Values in slots. A quarter of the slots or more may be vacant, so the next vacant one is found after few
+// others, and consecutive values are in consecutive slots.
 #[derive(Drop)]
 pub(crate) struct Slots<V> {
     values: Vec<Option<V>>,

@@ -12,8 +12,9 @@ use std::collections::VecDeque;
 
 /// Sorts values that are inserted in rounds.
 ///
-/// Once a round ends, the values whose keys are at most the greatest key of the rounds before it are available, in ascending
-/// order of their keys. Values with equal keys are returned in the order in which they were inserted.
+/// Once a round ends, the values whose keys are at most the greatest key of the rounds before it are
+/// available, in ascending order of their keys. Values with equal keys are returned in the order in which
+/// they were inserted.
 ///
 /// Sorting moves keys and no values.
 #[derive(Drop)]
@@ -124,8 +125,10 @@ impl<K: Ord + Copy, V> Sorter<K, V> {
     fn count_within_limit(&self) -> usize
         requires { Ascends K.cmp self.now.order.items }
         ensures in_range { result ≤ deque_len self.now.order }
-        ensures within { All (λ e. is_within K.cmp (limit_of self.now) e ≡ true) (take result self.now.order.items) }
-        ensures beyond { All (λ e. is_within K.cmp (limit_of self.now) e ≡ false) (drop result self.now.order.items) }
+        ensures within { All (λ e. is_within K.cmp (limit_of self.now) e ≡ true)
+            (take result self.now.order.items) }
+        ensures beyond { All (λ e. is_within K.cmp (limit_of self.now) e ≡ false)
+            (drop result self.now.order.items) }
     {
         match self.limit {
             Some(limit) => self
@@ -135,7 +138,8 @@ impl<K: Ord + Copy, V> Sorter<K, V> {
         }
     }
 
-    /// Ends the current round: the values whose keys are at most the greatest key of the rounds before it are available.
+    /// Ends the current round: the values whose keys are at most the greatest key of the rounds before it are
+    /// available.
     ///
     /// All values that the sorter contains are sorted, so take the available ones before the next round ends.
     ///
@@ -165,8 +169,8 @@ impl<K: Ord + Copy, V> Sorter<K, V> {
         Ok(())
     }
 
-    /// Makes the first half of the values available, in ascending order of their keys, though their rounds haven't ended. Of an
-    /// odd number of values, the half has one more than the rest.
+    /// Makes the first half of the values available, in ascending order of their keys, though their rounds
+    /// haven't ended. Of an odd number of values, the half has one more than the rest.
     ///
     /// A value that is inserted later may have a smaller key than those.
     ///

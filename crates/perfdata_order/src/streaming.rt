@@ -11,7 +11,8 @@ use linux_perf_data::{Error, PerfFile, PerfFileRecord, PerfRecordIter, RecordPla
 use std::alloc::{AllocError, Global};
 use std::mem::replace;
 
-// What was read from the source, and isn't in the sorter. The body of the record is in `OrderedRecords::body`.
+// What was read from the source, and isn't in the sorter. The body of the record is in
+// `OrderedRecords::body`.
 #[derive(Drop)]
 pub(crate) enum Pending {
     Nothing,
@@ -21,26 +22,29 @@ pub(crate) enum Pending {
     Failed,
 }
 
-// Where the body of a record to be returned is: in the buffer of the record that was read last, or among those of held records.
+// Where the body of a record to be returned is: in the buffer of the record that was read last, or among
+// those of held records.
 #[derive(Clone, Copy)]
 pub(crate) enum BodyBuffer {
     Read,
     Sorted,
 }
 
-// The capacity of the buffer into which records are read. The size field of a record header has 16 bits, so only a body with aux
-// data is larger.
+// The capacity of the buffer into which records are read. The size field of a record header has 16 bits, so
+// only a body with aux data is larger.
 const BODY_CAPACITY: usize = 65536;
 
 /// Returns the records of a source in order of time.
 ///
-/// A record is timed if its timestamp is neither missing, nor 0, nor 2^64 - 1, which stand for no time. Records without a time
-/// are returned as soon as they are read, before all timed records that were read before them.
+/// A record is timed if its timestamp is neither missing, nor 0, nor 2^64 - 1, which stand for no time.
+/// Records without a time are returned as soon as they are read, before all timed records that were read
+/// before them.
 ///
-/// The timed records ascend as long as the recording keeps perf's rule: no record of round n + 2 or of a later round is older
-/// than a record of round n. The records of two rounds are held, with their bodies. If the recording has no rounds, all timed
-/// records are held, unless there is a budget ([`OrderedRecords::with_budget`]). Equal timestamps keep the order of the source.
-/// The memory of returned bodies is used again.
+/// The timed records ascend as long as the recording keeps perf's rule: no record of round n + 2 or of a
+/// later round is older than a record of round n. The records of two rounds are held, with their bodies. If
+/// the recording has no rounds, all timed records are held, unless there is a budget
+/// ([`OrderedRecords::with_budget`]). Equal timestamps keep the order of the source. The memory of returned
+/// bodies is used again.
 #[derive(Drop)]
 pub struct OrderedRecords<R> {
     records: PerfRecordIter<R>,
@@ -67,12 +71,12 @@ impl<R> OrderedRecords<R> {
         OrderedRecords::with_budget(alloc, records, 0)
     }
 
-    /// Returns the records of `records` in order of time, and holds at most `budget` bytes of them. The order allocates with
-    /// `alloc`. 0 is no budget.
+    /// Returns the records of `records` in order of time, and holds at most `budget` bytes of them. The order
+    /// allocates with `alloc`. 0 is no budget.
     ///
-    /// A held record counts as the length of its body and 192 bytes. If the next record would exceed the budget, the older half
-    /// of the held records is returned early, though older records may follow. A record that exceeds the budget alone is held
-    /// alone.
+    /// A held record counts as the length of its body and 192 bytes. If the next record would exceed the
+    /// budget, the older half of the held records is returned early, though older records may follow. A
+    /// record that exceeds the budget alone is held alone.
     pub fn with_budget(alloc: Global, records: PerfRecordIter<R>, budget: u64) -> OrderedRecords<R>
         ensures { IsNewOrder records budget result }
     {
@@ -89,8 +93,8 @@ impl<R> OrderedRecords<R> {
         }
     }
 
-    /// Returns how often a half of the held records was returned early, because the next record would exceed the budget. It
-    /// counts to 2^64 - 1.
+    /// Returns how often a half of the held records was returned early, because the next record would exceed
+    /// the budget. It counts to 2^64 - 1.
     ///
     /// While it is 0, the records are in the order that they have without a budget.
     pub fn early(&self) -> u64
@@ -101,7 +105,8 @@ impl<R> OrderedRecords<R> {
 
     // Whether a record of this size is within the budget, which isn't 0.
     fn is_within_budget(&self, size: u64) -> bool
-        ensures { MatchBool result (self.now.held_bytes + size ≤ self.now.budget) (self.now.budget < self.now.held_bytes + size) }
+        ensures { MatchBool result (self.now.held_bytes + size ≤ self.now.budget)
+            (self.now.budget < self.now.held_bytes + size) }
     {
         let budget = self.budget;
         match self.held_bytes.checked_add(size) {
@@ -146,16 +151,16 @@ impl<R> OrderedRecords<R> {
         Ok(())
     }
 
-    // Whether a record of this round may be inserted as soon as it is read: no record is available, no round ends, and there is
-    // no budget.
+    // Whether a record of this round may be inserted as soon as it is read: no record is available, no round
+    // ends, and there is no budget.
     fn may_insert(&self, round: u64) -> bool
         ensures { IsTrue result → MayInsert self.now round }
     {
         round <= self.round && self.budget == 0 && !self.held.has_more()
     }
 
-    // Inserts the record that was read, whose body is in `self.body`. It is pending if it may not be inserted yet, or if memory
-    // runs out. Most records aren't pending: `Pending` is large, and dear to write.
+    // Inserts the record that was read, whose body is in `self.body`. It is pending if it may not be inserted
+    // yet, or if memory runs out. Most records aren't pending: `Pending` is large, and dear to write.
     #[inline(always)]
     fn hold(&mut self, key: u64, info: RecordInfo)
         requires { self.old.pending ≡ Nothing }
@@ -260,8 +265,8 @@ impl<R: Source> OrderedRecords<R> {
     ghost use Rattle.perfdata_order.specs.HeldRecord.{held_size as size_of};
     ghost use Rattle.linux_perf_data.specs.Layout.{RecordView};
 
-    // Reads the next record, unless something is pending. Its body is then in `self.body`. Returns it if it has no time, and
-    // holds it otherwise.
+    // Reads the next record, unless something is pending. Its body is then in `self.body`. Returns it if it
+    // has no time, and holds it otherwise.
     fn read(&mut self, perf_file: &mut PerfFile) -> Result<Option<RecordInfo>, AllocError>
         ensures { ReadsNext R.state self.old perf_file.old result self.new perf_file.new }
     {
@@ -293,10 +298,11 @@ impl<R: Source> OrderedRecords<R> {
         }
     }
 
-    // Ends the rounds before the round of the pending record, and releases records early if it exceeds the budget.
-    // Returns whether it may be inserted: if not, records are available that are returned before.
+    // Ends the rounds before the round of the pending record, and releases records early if it exceeds the
+    // budget. Returns whether it may be inserted: if not, records are available that are returned before.
     fn admit_pending(&mut self, round: u64, size: u64) -> Result<bool, AllocError>
-        ensures { (key : ℕ) (h : RecordView) → unplaced_of self.old ≡ timed key h → h.round ≡ round → size_of h ≡ size → AdmitsPending R.state self.old h result self.new }
+        ensures { (key : ℕ) (h : RecordView) → unplaced_of self.old ≡ timed key h → h.round ≡ round
+            → size_of h ≡ size → AdmitsPending R.state self.old h result self.new }
     {
         if self.held.has_more() {
             return Ok(false);
@@ -382,23 +388,27 @@ impl<R: Source> OrderedRecords<R> {
         }
     }
 
-    /// Returns the next record in order of time with its [`RecordPlace`], or `Ok(None)` at the end of the records.
+    /// Returns the next record in order of time with its [`RecordPlace`], or `Ok(None)` at the end of the
+    /// records.
     ///
-    /// The record borrows the order until the next call. Its attribute and its timestamp are determined as it is read.
-    /// `perf_file` contains the metadata of all records that were read, which may come after the returned record.
+    /// The record borrows the order until the next call. Its attribute and its timestamp are determined as it
+    /// is read. `perf_file` contains the metadata of all records that were read, which may come after the
+    /// returned record.
     ///
     /// # Errors
     ///
-    /// An error of the source is returned after all records before it, once. Each later call returns [`Error::Failed`].
+    /// An error of the source is returned after all records before it, once. Each later call returns
+    /// [`Error::Failed`].
     ///
-    /// [`Error::Memory`] is also returned if memory runs out for the order. Then nothing is lost, and the call can be repeated.
-    /// If memory runs out for the copy of a body of more than 65,536 bytes, [`Error::Memory`] is returned as an error of the
-    /// source.
+    /// [`Error::Memory`] is also returned if memory runs out for the order. Then nothing is lost, and the
+    /// call can be repeated. If memory runs out for the copy of a body of more than 65,536 bytes,
+    /// [`Error::Memory`] is returned as an error of the source.
     pub fn next_record(
         &mut self,
         perf_file: &mut PerfFile,
     ) -> Result<Option<(RecordPlace, PerfFileRecord<'_>)>, Error>
-        ensures* after_borrow { sem 𝓛 (Rests (the_row R.row) self.entry (λ new. ReturnsInOrder R.state self.old perf_file.old result new perf_file.new)) }
+        ensures* after_borrow { sem 𝓛 (Rests (the_row R.row) self.entry
+            (λ new. ReturnsInOrder R.state self.old perf_file.old result new perf_file.new)) }
     {
         match self.advance(perf_file) {
             Ok(Some((info, buffer))) => {

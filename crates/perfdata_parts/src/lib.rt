@@ -1,5 +1,5 @@
-//! The parts of perf.data files under one roof: errors, constants, the sections that describe a file, what simpleperf adds, and the
-//! records that tools write.
+//! The parts of perf.data files under one roof: errors, constants, the sections that describe a file, what
+//! simpleperf adds, and the records that tools write.
 #![tactic(auto)]
 
 pub use perfdata_records::{

@@ -33,11 +33,11 @@ impl<'a> Auxtrace<'a> {
 
     /// Parses the body of an auxtrace record and the aux data after it.
     ///
-    /// The body is a size, an offset and a reference of eight bytes each, and an index, a thread id, a CPU and a
-    /// reserved number of four bytes each. The aux data follows.
+    /// The body is a size, an offset and a reference of eight bytes each, and an index, a thread id, a CPU
+    /// and a reserved number of four bytes each. The aux data follows.
     ///
-    /// Fails with an `UnexpectedEof` error if these 40 bytes are truncated, and with an `InvalidData` error unless
-    /// exactly `size` bytes follow them.
+    /// Fails with an `UnexpectedEof` error if these 40 bytes are truncated, and with an `InvalidData` error
+    /// unless exactly `size` bytes follow them.
     pub fn parse<T: FileOrder>(body: RawData<'a>) -> Result<Auxtrace<'a>>
         ensures accepts { IsOk result ↔ HoldsAuxtrace T.number_of (bytes_of body.entry) }
         ensures value { IfOk result (λ parsed. IsAuxtrace T.number_of (bytes_of body.entry) parsed) }
@@ -65,8 +65,8 @@ impl<'a> Auxtrace<'a> {
 
 /// A law of the format, without code to run.
 ///
-/// `Auxtrace::parse` accepts the body and aux data of every complete auxtrace record with a size of 48 bytes in its
-/// record header, which are the 8 of the record header and the 40 of the body.
+/// `Auxtrace::parse` accepts the body and aux data of every complete auxtrace record with a size of 48 bytes
+/// in its record header, which are the 8 of the record header and the 40 of the body.
 pub fn auxtrace_bodies_parse()
     ensures { AuxtraceBodiesParse }
 {}

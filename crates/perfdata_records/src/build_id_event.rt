@@ -72,15 +72,15 @@ fn truncate_at_nul(bytes: Vec<u8>) -> Vec<u8>
 impl BuildIdEvent {
     /// Reads the entry at the position of a borrowed source.
     ///
-    /// An entry is a record header of 8 bytes, a process id of 4 bytes, a field of 24 bytes with the build id, and the
-    /// path. The path has the bytes by which the size in the record header exceeds these 36. The 36 bytes are read
-    /// whatever that size is. `file_path` ends at the first NUL of the path.
+    /// An entry is a record header of 8 bytes, a process id of 4 bytes, a field of 24 bytes with the build
+    /// id, and the path. The path has the bytes by which the size in the record header exceeds these 36. The
+    /// 36 bytes are read whatever that size is. `file_path` ends at the first NUL of the path.
     ///
-    /// If bit 15 of `misc` is set, byte 20 of the field is the size of the build id, which is limited to 20. Otherwise
-    /// the build id is the first 20 bytes of the field without trailing groups of four zero bytes.
+    /// If bit 15 of `misc` is set, byte 20 of the field is the size of the build id, which is limited to 20.
+    /// Otherwise the build id is the first 20 bytes of the field without trailing groups of four zero bytes.
     ///
-    /// Fails with an `UnexpectedEof` source error if the entry is truncated, and with `AppendError::Memory` if memory runs
-    /// out.
+    /// Fails with an `UnexpectedEof` source error if the entry is truncated, and with `AppendError::Memory`
+    /// if memory runs out.
     pub fn read_from<R: Source, T: FileOrder>(
         alloc: Global,
         source: &mut R,
@@ -104,11 +104,11 @@ impl BuildIdEvent {
         })
     }
 
-    /// Reads the entry at the start of `bytes`, whose numbers have the byte order `endian`, and leaves the bytes after it
-    /// in `bytes`. See `read_from`.
+    /// Reads the entry at the start of `bytes`, whose numbers have the byte order `endian`, and leaves the
+    /// bytes after it in `bytes`. See `read_from`.
     ///
-    /// Fails with an `UnexpectedEof` source error if the entry is truncated, and with `AppendError::Memory` if memory runs
-    /// out.
+    /// Fails with an `UnexpectedEof` source error if the entry is truncated, and with `AppendError::Memory`
+    /// if memory runs out.
     pub fn read_from_in(
         alloc: Global,
         endian: Endianness,
@@ -126,8 +126,8 @@ impl BuildIdEvent {
 
     /// Reads the entry at the position of an owned source. See `read_from`.
     ///
-    /// Fails with an `UnexpectedEof` error if the entry is truncated, and with an `OutOfMemory` error if memory runs
-    /// out.
+    /// Fails with an `UnexpectedEof` error if the entry is truncated, and with an `OutOfMemory` error if
+    /// memory runs out.
     pub fn parse<R: Source + Drop, T: FileOrder>(
         alloc: Global,
         mut reader: R,

@@ -9,8 +9,8 @@ use std::alloc::{AllocError, Global};
 
 /// The key that an object's mappings and its build id have in common, even if their paths differ.
 ///
-/// The mappings of the kernel have the path `[kernel.kallsyms]_text`, and its build id has `[kernel.kallsyms]` or
-/// `/boot/vmlinux`.
+/// The mappings of the kernel have the path `[kernel.kallsyms]_text`, and its build id has
+/// `[kernel.kallsyms]` or `/boot/vmlinux`.
 #[derive(Debug, PartialEq, Eq, Hash, Drop)]
 pub enum DsoKey {
     /// The kernel.
@@ -93,8 +93,8 @@ fn module_name(alloc: Global, path: &[u8]) -> Result<Option<String>, AllocError>
 impl DsoKey {
     ghost use Rattle.perfdata_records.specs.DsoKey.{key_in};
 
-    // Returns the key for the special names of the kernel, the vDSOs and the vsyscall page. Only the kernel's key
-    // depends on the mode.
+    // Returns the key for the special names of the kernel, the vDSOs and the vsyscall page. Only the kernel's
+    // key depends on the mode.
     fn from_special_name(path: &[u8], mode: CpuMode) -> Option<DsoKey>
         ensures { FindsSpecialName path.now mode result }
     {
@@ -124,15 +124,15 @@ impl DsoKey {
 
     /// Returns the key of the object with this path in a CPU mode.
     ///
-    /// Returns `None` for paths without an object, such as `//anon`, and for files in the modes `Hypervisor` and
-    /// `Unknown`. Fails if memory for the strings of the key runs out.
+    /// Returns `None` for paths without an object, such as `//anon`, and for files in the modes `Hypervisor`
+    /// and `Unknown`. Fails if memory for the strings of the key runs out.
     ///
-    /// The first matching case counts: `//anon`, `[stack]`, `[heap]` and `[vvar]` have no key. A path that starts with
-    /// `[kernel.kallsyms]` is the kernel, or the guest's kernel in `CpuMode::GuestKernel`. A path that starts with
-    /// `[guest.kernel.kallsyms` is the guest's kernel. `[vdso32]`, `[vdsox32]`, `[vdso]` and `[vsyscall]` have their
-    /// own keys. In a kernel mode, a path that starts with `[` is the module of that name, a file `NAME.ko` is the
-    /// module `[NAME]`, and every other path is the kernel of that mode. In a user mode, every other path is a file
-    /// with its name and path.
+    /// The first matching case counts: `//anon`, `[stack]`, `[heap]` and `[vvar]` have no key. A path that
+    /// starts with `[kernel.kallsyms]` is the kernel, or the guest's kernel in `CpuMode::GuestKernel`. A path
+    /// that starts with `[guest.kernel.kallsyms` is the guest's kernel. `[vdso32]`, `[vdsox32]`, `[vdso]` and
+    /// `[vsyscall]` have their own keys. In a kernel mode, a path that starts with `[` is the module of that
+    /// name, a file `NAME.ko` is the module `[NAME]`, and every other path is the kernel of that mode. In a
+    /// user mode, every other path is a file with its name and path.
     pub fn detect(alloc: Global, path: &[u8], mode: CpuMode) -> Result<Option<DsoKey>, AllocError>
         ensures { Detects path.now mode result }
     {

@@ -6,7 +6,8 @@ use crate::record::UserRecordType;
 
 /// Returns the types of the records that perf writes, with their numbers.
 pub fn perf_record_types() -> [UserRecordType; 19]
-    ensures { map user_type_number result ≡ 64 ∷ 65 ∷ 66 ∷ 67 ∷ 68 ∷ 69 ∷ 70 ∷ 71 ∷ 72 ∷ 73 ∷ 74 ∷ 75 ∷ 76 ∷ 77 ∷ 78 ∷ 79 ∷ 80 ∷ 81 ∷ 83 ∷ [] }
+    ensures { map user_type_number result ≡ 64 ∷ 65 ∷ 66 ∷ 67 ∷ 68 ∷ 69 ∷ 70 ∷ 71 ∷ 72 ∷ 73 ∷ 74 ∷ 75 ∷ 76
+        ∷ 77 ∷ 78 ∷ 79 ∷ 80 ∷ 81 ∷ 83 ∷ [] }
 {
     [
         UserRecordType::PERF_HEADER_ATTR,
@@ -33,7 +34,8 @@ pub fn perf_record_types() -> [UserRecordType; 19]
 
 /// Returns the types of the records that simpleperf writes, with their numbers.
 pub fn simpleperf_record_types() -> [UserRecordType; 9]
-    ensures { map user_type_number result ≡ 32769 ∷ 32770 ∷ 32771 ∷ 32772 ∷ 32773 ∷ 32774 ∷ 32775 ∷ 32776 ∷ 32777 ∷ [] }
+    ensures { map user_type_number result ≡ 32769 ∷ 32770 ∷ 32771 ∷ 32772 ∷ 32773 ∷ 32774 ∷ 32775 ∷ 32776
+        ∷ 32777 ∷ [] }
 {
     [
         UserRecordType::SIMPLEPERF_KERNEL_SYMBOL,

@@ -17,7 +17,8 @@ const ENTRY_SIZE: usize = 24;
 /// The size of the name in bytes.
 const NAME_SIZE: usize = 16;
 
-/// The recorded threads (`PERF_RECORD_THREAD_MAP` of Linux's perf). Contracts describe them with `threads_of`.
+/// The recorded threads (`PERF_RECORD_THREAD_MAP` of Linux's perf). Contracts describe them with
+/// `threads_of`.
 #[derive(Debug, Drop, PartialEq, Eq)]
 pub struct ThreadMap<'a> {
     endian: Endianness,
@@ -35,7 +36,8 @@ pub struct ThreadMapEntry<'a> {
     pub name: RawData<'a>,
 }
 
-/// An iterator over the threads of a thread map, in order. Contracts describe the rest with `remaining_threads`.
+/// An iterator over the threads of a thread map, in order. Contracts describe the rest with
+/// `remaining_threads`.
 #[derive(Drop)]
 pub struct ThreadMapIter<'a> {
     endian: Endianness,
@@ -47,13 +49,15 @@ impl<'a> ThreadMap<'a> {
 
     /// Parses the body of a record: a count of eight bytes, and that many entries of 24 bytes.
     ///
-    /// Bytes after the entries are ignored and not kept. Two maps with the same byte order and entries are equal.
+    /// Bytes after the entries are ignored and not kept. Two maps with the same byte order and entries are
+    /// equal.
     ///
-    /// Fails with an `InvalidData` error if the count times 24 exceeds 2^64 - 1, and with an `UnexpectedEof` error if
-    /// the count or the entries are truncated.
+    /// Fails with an `InvalidData` error if the count times 24 exceeds 2^64 - 1, and with an `UnexpectedEof`
+    /// error if the count or the entries are truncated.
     pub fn parse<T: FileOrder>(body: RawData<'a>) -> Result<ThreadMap<'a>>
         ensures value { IfOk result (λ map. IsThreadMap T.number_of (bytes_of body.entry) (threads_of map)) }
-        ensures entries { IfOk result (λ map. AreThreadEntries T.number_of (bytes_of body.entry) (entry_bytes_of map)) }
+        ensures entries { IfOk result (λ map. AreThreadEntries T.number_of (bytes_of body.entry)
+            (entry_bytes_of map)) }
         ensures error { IfErr result (λ error. IsThreadMapError T.number_of (bytes_of body.entry) error) }
     {
         let mut rest = body;
@@ -136,7 +140,8 @@ fn split_first_entry(
 ) -> Option<(ThreadMapEntry<'_>, RawData<'_>)>
     ensures none { IfNone result (length (bytes_of bytes.entry) < 24) }
     ensures some { IfSome result (λ _. 24 ≤ length (bytes_of bytes.entry)) }
-    ensures entry { IfSome result (λ parts. thread_of parts.0 ≡ thread_at (number_in endian) (bytes_of bytes.entry)) }
+    ensures entry { IfSome result (λ parts. thread_of parts.0
+        ≡ thread_at (number_in endian) (bytes_of bytes.entry)) }
     ensures rest { IfSome result (λ parts. bytes_of parts.1 ≡ drop 24 (bytes_of bytes.entry)) }
 {
     let mut rest = bytes;

@@ -70,7 +70,8 @@ pub enum UserRecord<'a> {
 // Parses ids of eight bytes each, to the end of the bytes.
 fn parse_ids<T: FileOrder>(alloc: Global, bytes: RawData<'_>) -> Result<Vec<u64>>
     ensures whole { IfOk result (λ _. length (bytes_of bytes.entry) % 8 ≡ 0) }
-    ensures ids { IfOk result (λ ids. ids.items ≡ u64s_of T.number_of (length (bytes_of bytes.entry) / 8) (bytes_of bytes.entry)) }
+    ensures ids { IfOk result (λ ids. ids.items
+        ≡ u64s_of T.number_of (length (bytes_of bytes.entry) / 8) (bytes_of bytes.entry)) }
     ensures error { IfErr result (λ error. IsIdsError (bytes_of bytes.entry) error) }
 {
     if bytes.len() % 8 != 0 {
@@ -88,12 +89,13 @@ fn parse_ids<T: FileOrder>(alloc: Global, bytes: RawData<'_>) -> Result<Vec<u64>
 impl HeaderAttr {
     /// Parses the body of a record: an attribute, and ids of eight bytes each to the end of the body.
     ///
-    /// Fails with an `UnexpectedEof` error if the attribute or the last id is truncated, with an `InvalidData` error if
-    /// the attribute's own size is 1 to 63, and with an `OutOfMemory` error if there are ids and memory runs out for
-    /// them.
+    /// Fails with an `UnexpectedEof` error if the attribute or the last id is truncated, with an
+    /// `InvalidData` error if the attribute's own size is 1 to 63, and with an `OutOfMemory` error if there
+    /// are ids and memory runs out for them.
     pub fn parse<T: FileOrder>(alloc: Global, body: RawData<'_>) -> Result<HeaderAttr>
         ensures valid { IfOk result (λ _. HoldsAttributeWith T.number_of (bytes_of body.entry)) }
-        ensures value { IfOk result (λ header. attribute_of header ≡ attribute_with T.number_of (bytes_of body.entry)) }
+        ensures value { IfOk result (λ header. attribute_of header
+            ≡ attribute_with T.number_of (bytes_of body.entry)) }
         ensures error { IfErr result (λ error. IsHeaderAttrError T.number_of (bytes_of body.entry) error) }
     {
         let mut rest = body;
@@ -104,11 +106,11 @@ impl HeaderAttr {
 }
 
 impl HeaderFeature {
-    /// Parses the body of a record: a number of eight bytes, and the feature's data. The low 32 bits of the number are
-    /// the feature.
+    /// Parses the body of a record: a number of eight bytes, and the feature's data. The low 32 bits of the
+    /// number are the feature.
     ///
-    /// Fails with an `UnexpectedEof` error if the number is truncated, and with an `OutOfMemory` error if there is data
-    /// and memory runs out for it.
+    /// Fails with an `UnexpectedEof` error if the number is truncated, and with an `OutOfMemory` error if
+    /// there is data and memory runs out for it.
     pub fn parse<T: FileOrder>(alloc: Global, body: RawData<'_>) -> Result<HeaderFeature>
         ensures value { IfOk result (λ header. IsHeaderFeature T.number_of (bytes_of body.entry) header) }
         ensures error { IfErr result (λ error. IsHeaderFeatureError (bytes_of body.entry) error) }
@@ -129,10 +131,11 @@ impl HeaderFeature {
 }
 
 impl<'a> RawUserRecord<'a> {
-    /// Parses the body by the record's type. Types 64, 71, 73 and 80 are parsed, and records of other types remain raw.
+    /// Parses the body by the record's type. Types 64, 71, 73 and 80 are parsed, and records of other types
+    /// remain raw.
     ///
-    /// Fails with the error of `HeaderAttr::parse`, `Auxtrace::parse`, `ThreadMap::parse` or `HeaderFeature::parse` if
-    /// the body is invalid for its type.
+    /// Fails with the error of `HeaderAttr::parse`, `Auxtrace::parse`, `ThreadMap::parse` or
+    /// `HeaderFeature::parse` if the body is invalid for its type.
     pub fn parse(&self, alloc: Global) -> Result<UserRecord<'a>>
         ensures value { IfOk result (λ parsed. IsUserRecord (number_in self.now.endian) self.now parsed) }
         ensures error { IfErr result (λ error. IsUserRecordError (number_in self.now.endian) self.now error) }

@@ -8,8 +8,8 @@ use std::alloc::Global;
 
 /// Reads `count` bytes into a new `Vec`, in chunks of at most 4,096 bytes.
 ///
-/// Fails with an `UnexpectedEof` source error if the source returns fewer bytes. If memory runs out or the source
-/// fails, some of the bytes may be consumed.
+/// Fails with an `UnexpectedEof` source error if the source returns fewer bytes. If memory runs out or the
+/// source fails, some of the bytes may be consumed.
 pub fn read_bytes<R: Source>(
     alloc: Global,
     source: &mut R,

@@ -36,13 +36,15 @@ pub enum ReadError {
     /// The attribute section. Never returned: see `PerfEventAttr`.
     #[error("Could not read AttrsSection")]
     AttrsSection,
-    /// An attribute is truncated, invalid or unreadable, or it or its ids can't be at the offset that the file states.
+    /// An attribute is truncated, invalid or unreadable, or it or its ids can't be at the offset that the
+    /// file states.
     #[error("Could not read PerfEventAttr")]
     PerfEventAttr,
     /// A record header. Never returned: a truncated record header is an `IoError`.
     #[error("Could not read PerfEventHeader")]
     PerfEventHeader,
-    /// A record's body or aux data is truncated or ends past 2^64 - 1, or the source failed while it was read.
+    /// A record's body or aux data is truncated or ends past 2^64 - 1, or the source failed while it was
+    /// read.
     #[error("Could not read PerfEvent data")]
     PerfEventData,
 }
@@ -65,7 +67,8 @@ pub enum Error {
     /// The input has no attribute, or the attribute section is too small for one.
     #[error("The file declares no perf event attributes, so samples cannot be parsed")]
     NoAttributes,
-    /// The own size of an attribute and the attribute size of its section, in bytes. The first is above the second.
+    /// The own size of an attribute and the attribute size of its section, in bytes. The first is above the
+    /// second.
     #[error("Inconsistent attribute sizes: The self-reported size in the attribute was {0} bytes, which is larger than the the attribute size specified in the file header ({1} bytes)")]
     InconsistentAttributeSizes(u64, u64),
     /// The index of the first attribute without IDENTIFIER in a file with several attributes.

@@ -130,20 +130,21 @@ impl AttributeDescription {
 
     /// Reads a section that consists of attr frames only, from a borrowed source.
     ///
-    /// Frames of `attr_size` bytes each start at the section's offset, as many as fit into the section's size. A frame
-    /// starts with its attribute. The descriptions have no names and no ids.
+    /// Frames of `attr_size` bytes each start at the section's offset, as many as fit into the section's
+    /// size. A frame starts with its attribute. The descriptions have no names and no ids.
     ///
-    /// Errors: `Read(PerfEventAttr)` if `attr_size` is 0 or the section ends past 2^64 - 1, in which case the source is
-    /// unchanged; also if an attribute's own size is 1 to 63, or if the bytes of an attribute are truncated or a read
-    /// of them fails. `InconsistentAttributeSizes(own, attr_size)` if an attribute's own size is above `attr_size`.
-    /// `IoError` if a seek fails. `Memory` if memory runs out.
+    /// Errors: `Read(PerfEventAttr)` if `attr_size` is 0 or the section ends past 2^64 - 1, in which case the
+    /// source is unchanged; also if an attribute's own size is 1 to 63, or if the bytes of an attribute are
+    /// truncated or a read of them fails. `InconsistentAttributeSizes(own, attr_size)` if an attribute's own
+    /// size is above `attr_size`. `IoError` if a seek fails. `Memory` if memory runs out.
     pub fn parse_attr_section_from<C: PlacedSource, T: FileOrder>(
         alloc: Global,
         c: &mut C,
         section: &PerfFileSection,
         attr_size: u64,
     ) -> Result<Vec<AttributeDescription>, Error>
-        ensures reads { ReadsAttrSection T.number_of attr_size section.now (C.state c.old) result (C.state c.new) }
+        ensures reads { ReadsAttrSection T.number_of attr_size section.now (C.state c.old) result
+            (C.state c.new) }
         ensures pauses { PausesOnlyOnError (C.state c.old) result (C.state c.new) }
         ensures same_loan { C.loan c.new ≡ C.loan c.old }
     {
@@ -168,29 +169,31 @@ impl AttributeDescription {
         Ok(all)
     }
 
-    /// Reads a section that consists of attr frames only, from an owned source. See `parse_attr_section_from`.
+    /// Reads a section that consists of attr frames only, from an owned source. See
+    /// `parse_attr_section_from`.
     pub fn parse_attr_section<C: PlacedSource + Drop, T: FileOrder>(
         alloc: Global,
         mut c: C,
         section: &PerfFileSection,
         attr_size: u64,
     ) -> Result<Vec<AttributeDescription>, Error>
-        ensures { (final : State) × ReadsAttrSection T.number_of attr_size section.now (C.state c) result final }
+        ensures { (final : State) × ReadsAttrSection T.number_of attr_size section.now
+            (C.state c) result final }
     {
         AttributeDescription::parse_attr_section_from::<C, T>(alloc, &mut c, section, attr_size)
     }
 
     /// Reads the section EVENT_DESC at the position of a borrowed source.
     ///
-    /// The section is a count of events and the size of a frame, of four bytes each, and then the events. An event is
-    /// an attribute in a frame of that size, a four-byte count of ids, a string, and the ids, of eight bytes each. The
-    /// string is the event's name; an event whose string isn't UTF-8 has no name.
+    /// The section is a count of events and the size of a frame, of four bytes each, and then the events. An
+    /// event is an attribute in a frame of that size, a four-byte count of ids, a string, and the ids, of
+    /// eight bytes each. The string is the event's name; an event whose string isn't UTF-8 has no name.
     ///
-    /// Errors: `Read(PerfEventAttr)` if an attribute's own size is 1 to 63, or if the bytes of an attribute are
-    /// truncated or a read of them fails. `InconsistentAttributeSizes(own, attr_size)` if an attribute's own size is
-    /// above that of its frame. `IoError` if other bytes are truncated or a read of them fails, or if the seek from an
-    /// attribute to the end of its frame fails. `Memory` if memory runs out. A failed seek reports the source's own
-    /// error, also if the source can't reach the target.
+    /// Errors: `Read(PerfEventAttr)` if an attribute's own size is 1 to 63, or if the bytes of an attribute
+    /// are truncated or a read of them fails. `InconsistentAttributeSizes(own, attr_size)` if an attribute's
+    /// own size is above that of its frame. `IoError` if other bytes are truncated or a read of them fails,
+    /// or if the seek from an attribute to the end of its frame fails. `Memory` if memory runs out. A failed
+    /// seek reports the source's own error, also if the source can't reach the target.
     pub fn parse_event_desc_section_from<C: PlacedSource, T: FileOrder>(
         alloc: Global,
         cursor: &mut C,
@@ -214,22 +217,23 @@ impl AttributeDescription {
 
     /// Reads the event types section from a borrowed source.
     ///
-    /// An entry is an attribute in a frame of `attr_size` bytes, and the offset and size of a section of ids, of eight
-    /// bytes each. A rest of a section that is smaller than an entry or an id is ignored. All entries are read before
-    /// any ids. The descriptions have no names.
+    /// An entry is an attribute in a frame of `attr_size` bytes, and the offset and size of a section of ids,
+    /// of eight bytes each. A rest of a section that is smaller than an entry or an id is ignored. All
+    /// entries are read before any ids. The descriptions have no names.
     ///
-    /// Errors: `Read(PerfEventAttr)` if the size of an entry or the end of a section is past 2^64 - 1, which is checked
-    /// before the source is used for it; also if an attribute's own size is 1 to 63, or if the bytes of an attribute
-    /// are truncated or a read of them fails. `InconsistentAttributeSizes(own, attr_size)` if an attribute's own size
-    /// is above `attr_size`. `IoError` if a seek fails, or if other bytes are truncated or a read of them fails.
-    /// `Memory` if memory runs out.
+    /// Errors: `Read(PerfEventAttr)` if the size of an entry or the end of a section is past 2^64 - 1, which
+    /// is checked before the source is used for it; also if an attribute's own size is 1 to 63, or if the
+    /// bytes of an attribute are truncated or a read of them fails. `InconsistentAttributeSizes(own,
+    /// attr_size)` if an attribute's own size is above `attr_size`. `IoError` if a seek fails, or if other
+    /// bytes are truncated or a read of them fails. `Memory` if memory runs out.
     pub fn parse_event_types_section_from<C: PlacedSource, T: FileOrder>(
         alloc: Global,
         cursor: &mut C,
         section: &PerfFileSection,
         attr_size: u64,
     ) -> Result<Vec<AttributeDescription>, Error>
-        ensures reads { ReadsEventTypes T.number_of attr_size section.now (C.state cursor.old) result (C.state cursor.new) }
+        ensures reads { ReadsEventTypes T.number_of attr_size section.now (C.state cursor.old) result
+            (C.state cursor.new) }
         ensures pauses { PausesOnlyOnError (C.state cursor.old) result (C.state cursor.new) }
         ensures same_loan { C.loan cursor.new ≡ C.loan cursor.old }
     {
@@ -243,7 +247,8 @@ impl AttributeDescription {
         section: &PerfFileSection,
         attr_size: u64,
     ) -> Result<Vec<AttributeDescription>, Error>
-        ensures { (final : State) × ReadsEventTypes T.number_of attr_size section.now (C.state cursor) result final }
+        ensures { (final : State) × ReadsEventTypes T.number_of attr_size section.now
+            (C.state cursor) result final }
     {
         AttributeDescription::parse_event_types_section_from::<C, T>(
             alloc,
@@ -255,11 +260,12 @@ impl AttributeDescription {
 
     /// Reads the attribute section of a simpleperf file from a borrowed source.
     ///
-    /// The entries are those of `parse_event_types_section_from`, with frames of `attr_size - 16` bytes. The name of an
-    /// entry is that of the element of `types` with the same index. An entry has no name if there is no such element.
+    /// The entries are those of `parse_event_types_section_from`, with frames of `attr_size - 16` bytes. The
+    /// name of an entry is that of the element of `types` with the same index. An entry has no name if there
+    /// is no such element.
     ///
-    /// Errors: `Read(PerfEventAttr)` if `attr_size` is below 16; the source is unchanged then. Otherwise the errors of
-    /// `parse_event_types_section_from` with `attr_size - 16`.
+    /// Errors: `Read(PerfEventAttr)` if `attr_size` is below 16; the source is unchanged then. Otherwise the
+    /// errors of `parse_event_types_section_from` with `attr_size - 16`.
     pub fn parse_simpleperf_attr_section_from<C: PlacedSource, T: FileOrder>(
         alloc: Global,
         cursor: &mut C,
@@ -267,14 +273,16 @@ impl AttributeDescription {
         attr_size: u64,
         types: &[SimplePerfEventType],
     ) -> Result<Vec<AttributeDescription>, Error>
-        ensures reads { ReadsSimpleperfAttrs T.number_of attr_size section.now types.now (C.state cursor.old) result (C.state cursor.new) }
+        ensures reads { ReadsSimpleperfAttrs T.number_of attr_size section.now types.now
+            (C.state cursor.old) result (C.state cursor.new) }
         ensures pauses { PausesOnlyOnError (C.state cursor.old) result (C.state cursor.new) }
         ensures same_loan { C.loan cursor.new ≡ C.loan cursor.old }
     {
         read_simpleperf_attrs::<C, T>(alloc, cursor, section, attr_size, types)
     }
 
-    /// Reads the attribute section of a simpleperf file from an owned source. See `parse_simpleperf_attr_section_from`.
+    /// Reads the attribute section of a simpleperf file from an owned source. See
+    /// `parse_simpleperf_attr_section_from`.
     pub fn parse_simpleperf_attr_section<C: PlacedSource + Drop, T: FileOrder>(
         alloc: Global,
         mut cursor: C,
@@ -282,7 +290,8 @@ impl AttributeDescription {
         attr_size: u64,
         types: &[SimplePerfEventType],
     ) -> Result<Vec<AttributeDescription>, Error>
-        ensures { (final : State) × ReadsSimpleperfAttrs T.number_of attr_size section.now types.now (C.state cursor) result final }
+        ensures { (final : State) × ReadsSimpleperfAttrs T.number_of attr_size section.now types.now
+            (C.state cursor) result final }
     {
         AttributeDescription::parse_simpleperf_attr_section_from::<C, T>(
             alloc,

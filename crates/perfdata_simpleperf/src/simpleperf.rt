@@ -1,4 +1,5 @@
-//! Parsers for what Android's simpleperf adds to a file: meta info, event names, and symbol tables of the sampled files.
+//! Parsers for what Android's simpleperf adds to a file: meta info, event names, and symbol tables of the
+//! sampled files.
 
 pub(crate) mod chunks;
 mod event_types;

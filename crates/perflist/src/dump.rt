@@ -4,11 +4,12 @@ use linux_perf_data::raw::RawData;
 use std::alloc::Global;
 use std::io::{self, Read};
 
-/// The maximum size of a header in bytes, which is the buffer size of `JitDumpReader::new`. The listing of a jitdump with a
-/// longer header fails, as `list_jit` does.
+/// The maximum size of a header in bytes, which is the buffer size of `JitDumpReader::new`. The listing of a
+/// jitdump with a longer header fails, as `list_jit` does.
 const HEADER_LIMIT: usize = 4096;
 
-/// A jitdump whose file header is already read. A reader of it reads the header, then one empty read, and then the rest.
+/// A jitdump whose file header is already read. A reader of it reads the header, then one empty read, and
+/// then the rest.
 #[derive(Drop)]
 pub struct Dump<R> {
     header: Vec<u8>,

@@ -16,8 +16,8 @@ use std::process::ExitCode;
 /// The text on standard error for invalid arguments.
 const USAGE: &[u8] = b"usage: perflist file PATH | pipe | jit PATH\n";
 
-/// Lists a perf.data file on standard output. Returns the number of its records, or the number of lines that were written
-/// before an error.
+/// Lists a perf.data file on standard output. Returns the number of its records, or the number of lines that
+/// were written before an error.
 fn run_file(rt: &HostRuntime, path: &str) -> Result<u64, u64> {
     let Ok(file) = open_file(rt, path) else {
         return Err(0);

@@ -1,4 +1,5 @@
-//! Attribute consistency: if the identifiers of records are at different offsets, each attribute needs IDENTIFIER.
+//! Attribute consistency: if the identifiers of records are at different offsets, each attribute needs
+//! IDENTIFIER.
 ghost use Rattle.std.specs.Prelude.{◌≡◌, if◌then◌else◌, None, Some};
 ghost use Rattle.std.specs.Option.{option_or};
 ghost use Rattle.perfdata_base.specs.ParseInfo.{is_set};
@@ -11,7 +12,8 @@ use perfdata_base::place::RecordIdParseInfo;
 use perfdata_parts::error::Error;
 use perfdata_parts::feature_sections::AttributeDescription;
 
-// Whether the records of all attributes have their identifiers at the offsets of the first attribute's records.
+// Whether the records of all attributes have their identifiers at the offsets of the first attribute's
+// records.
 fn id_offsets_agree(first: &AttributeDescription, attributes: &[AttributeDescription]) -> bool
     ensures { TestsIdOffsets (described_attribute first.now) (described_attributes attributes.now) result }
 {
@@ -95,9 +97,9 @@ fn check_each(
     Ok(())
 }
 
-// Checks attribute consistency. If the identifiers of records are at different offsets, each attribute needs IDENTIFIER, and
-// all attributes or none need SAMPLE_ID_ALL. Attributes that meet both conditions have their identifiers at the same
-// offsets, and therefore `check_each` always finds an error here.
+// Checks attribute consistency. If the identifiers of records are at different offsets, each attribute needs
+// IDENTIFIER, and all attributes or none need SAMPLE_ID_ALL. Attributes that meet both conditions have their
+// identifiers at the same offsets, and therefore `check_each` always finds an error here.
 pub(crate) fn check_consistency(attributes: &[AttributeDescription]) -> Result<(), Error>
     ensures { ChecksConsistency (described_attributes attributes.now) result }
 {

@@ -5,7 +5,8 @@ use perfdata_parts::feature_sections::AttributeDescription;
 use std::alloc::{AllocError, Global};
 use std::collections::BTreeMap;
 
-// Finds the attributes with a first id. It contains the first attributes of a list, as many as `previous` has elements.
+// Finds the attributes with a first id. It contains the first attributes of a list, as many as `previous` has
+// elements.
 #[derive(Drop)]
 pub(crate) struct FirstIdIndex {
     // Maps an id to the last attribute whose first id it is.

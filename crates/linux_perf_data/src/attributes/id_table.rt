@@ -8,8 +8,9 @@ use perfdata_parts::feature_sections::AttributeDescription;
 use std::alloc::{AllocError, Global};
 use std::collections::BTreeMap;
 
-// Maps an identifier to the index of the attribute that lists it. `late_ids` contains the identifiers of late attributes,
-// and is searched first. `pairs` contains the identifiers of the opening with their indices, ascending, each identifier once.
+// Maps an identifier to the index of the attribute that lists it. `late_ids` contains the identifiers of late
+// attributes, and is searched first. `pairs` contains the identifiers of the opening with their indices,
+// ascending, each identifier once.
 #[derive(Drop)]
 pub(crate) struct IdTable {
     late_ids: BTreeMap<u64, usize>,
@@ -62,7 +63,8 @@ fn is_last_of_id(ordered: &[(u64, usize)], at: usize) -> bool
 // The last pair of each identifier.
 fn last_of_each(alloc: Global, ordered: &[(u64, usize)]) -> Result<Vec<(u64, usize)>, AllocError>
     requires { AreOrdered ordered.now }
-    ensures { IfOk result (λ v. AreAscending v.items × ((id : ℕ) → rank_of_id id v.items ≡ rank_of_id id ordered.now)) }
+    ensures { IfOk result (λ v. AreAscending v.items
+        × ((id : ℕ) → rank_of_id id v.items ≡ rank_of_id id ordered.now)) }
 {
     let mut last = Vec::new(alloc);
     'pairs: for at in 0..ordered.len() {
@@ -86,12 +88,14 @@ impl IdTable {
         }
     }
 
-    // Builds the table of the identifiers of these attributes. If several list an identifier, it maps to the last one.
+    // Builds the table of the identifiers of these attributes. If several list an identifier, it maps to the
+    // last one.
     pub(crate) fn new(
         alloc: Global,
         attributes: &[AttributeDescription],
     ) -> Result<IdTable, AllocError>
-        ensures { IfOk result (λ t. (id : ℕ) → id_lookup t id ≡ last_index_of_id id 0 (described_attributes attributes.now)) }
+        ensures { IfOk result (λ t. (id : ℕ) → id_lookup t id
+            ≡ last_index_of_id id 0 (described_attributes attributes.now)) }
     {
         let mut pairs = id_pairs_of(alloc, attributes)?;
         sort_pairs(&mut pairs);

@@ -16,8 +16,8 @@ use perfdata_parts::error::Error;
 use perfdata_parts::feature_sections::AttributeDescription;
 use std::alloc::{AllocError, Global};
 
-// The data on attributes that an iterator needs: the parse infos of their records, the lookup of an attribute by an
-// identifier, and what the consistency check of a late attribute uses.
+// The data on attributes that an iterator needs: the parse infos of their records, the lookup of an attribute
+// by an identifier, and what the consistency check of a late attribute uses.
 #[derive(Drop)]
 pub(crate) struct AttributeLookup {
     // The parse info of attribute 0. Identifiers are read with it.
@@ -81,9 +81,10 @@ impl AttributeLookup {
         })
     }
 
-    // Checks one more attribute for consistency, in constant time. It is consistent if its identifiers are at the offsets of
-    // those of the earlier attributes. Otherwise the error names the first earlier attribute without IDENTIFIER. If all of them
-    // have it, the error names the new attribute: it lacks IDENTIFIER or, as the offsets differ, its SAMPLE_ID_ALL differs.
+    // Checks one more attribute for consistency, in constant time. It is consistent if its identifiers are at
+    // the offsets of those of the earlier attributes. Otherwise the error names the first earlier attribute
+    // without IDENTIFIER. If all of them have it, the error names the new attribute: it lacks IDENTIFIER or,
+    // as the offsets differ, its SAMPLE_ID_ALL differs.
     fn check_next(&self, attr: &PerfEventAttr) -> Result<(), Error>
         ensures { ChecksNextAttribute self.now attr.now result }
     {
@@ -102,7 +103,8 @@ impl AttributeLookup {
         }
     }
 
-    // Adds one more attribute, with the identifiers of its records. The lookup must not be used after an error.
+    // Adds one more attribute, with the identifiers of its records. The lookup must not be used after an
+    // error.
     pub(crate) fn add(
         &mut self,
         attr: &PerfEventAttr,
@@ -124,10 +126,12 @@ impl AttributeLookup {
         Ok(())
     }
 
-    // The index of the attribute that lists an identifier, or 0 if none does. The cache is searched before the table.
+    // The index of the attribute that lists an identifier, or 0 if none does. The cache is searched before
+    // the table.
     fn attr_index_by_id(&mut self, id: u64) -> usize
         ensures index_in_bounds { result < vec_len self.old.parse_infos }
-        ensures same_parse_infos { (self.new.parse_infos ≡ self.old.parse_infos) × (self.new.first_parse_info ≡ self.old.first_parse_info) }
+        ensures same_parse_infos { (self.new.parse_infos ≡ self.old.parse_infos)
+            × (self.new.first_parse_info ≡ self.old.first_parse_info) }
         ensures resolves { ResolvesId self.old id result }
         ensures keeps_attributes { KeepsAttributes self.old self.new }
     {
@@ -157,7 +161,8 @@ impl AttributeLookup {
         }
     }
 
-    // The parse info of the records of the attribute with this index, or that of attribute 0 if the index is out of range.
+    // The parse info of the records of the attribute with this index, or that of attribute 0 if the index is
+    // out of range.
     #[inline(always)]
     pub(crate) fn parse_info_of(&self, index: usize) -> &RecordParseInfo
         ensures { result.now ≡ parse_info_at self.now index }

@@ -11,8 +11,8 @@ use perfdata_parts::feature_sections::AttributeDescription;
 use std::alloc::{AllocError, Global};
 use std::collections::BTreeMap;
 
-// The events of the section EVENT_DESC, parsed in the byte order `endian`. `index_by_first_id` maps each id that is the first
-// one of an event to the index of the first such event.
+// The events of the section EVENT_DESC, parsed in the byte order `endian`. `index_by_first_id` maps each id
+// that is the first one of an event to the index of the first such event.
 #[derive(Drop)]
 pub(crate) struct NameTable {
     endian: Endianness,

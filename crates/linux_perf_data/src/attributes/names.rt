@@ -48,15 +48,16 @@ pub(crate) fn set_names(attributes: &mut [AttributeDescription], names: Vec<Opti
     }
 }
 
-// Sets the name of each attribute by the section EVENT_DESC, and to `None` without that section. Returns the table of those
-// names.
+// Sets the name of each attribute by the section EVENT_DESC, and to `None` without that section. Returns the
+// table of those names.
 pub(crate) fn name_attributes(
     alloc: Global,
     endian: Endianness,
     event_desc: Option<&[u8]>,
     attributes: &mut [AttributeDescription],
 ) -> Result<NameTable, Error>
-    ensures { NamesAttributes endian (option_map (λ s. s.now) event_desc.entry) attributes.old result attributes.new }
+    ensures { NamesAttributes endian (option_map (λ s. s.now) event_desc.entry) attributes.old result
+        attributes.new }
 {
     let table = NameTable::read(alloc, endian, event_desc)?;
     let names = table.clone_names(alloc, attributes)?;

@@ -15,7 +15,8 @@ use std::alloc::Global;
 
 // Whether two names are equal.
 fn is_same_name(first: Option<&str>, second: Option<&str>) -> bool
-    ensures { TestsSameName (option_map (λ s. s.now) first.entry) (option_map (λ s. s.now) second.entry) result }
+    ensures { TestsSameName (option_map (λ s. s.now) first.entry)
+        (option_map (λ s. s.now) second.entry) result }
 {
     match (first, second) {
         (None, None) => true,
@@ -33,7 +34,8 @@ fn push_rename(
     renames: &mut Vec<(usize, Option<String>)>,
 ) -> Result<(), Error>
     requires { index < length attributes.now }
-    ensures { AppendsRenames attributes.now table.now (λ k. k ≢ index) renames.old.items result renames.new.items }
+    ensures { AppendsRenames attributes.now table.now
+        (λ k. k ≢ index) renames.old.items result renames.new.items }
 {
     let name = table.clone_name(alloc, attributes[index].ids())?;
     renames.push((index, name))?;
@@ -50,7 +52,8 @@ fn push_renames_of(
     renames: &mut Vec<(usize, Option<String>)>,
 ) -> Result<(), Error>
     requires { IndexesAll first_ids.now attributes.now }
-    ensures { AppendsRenames attributes.now table.now (HasOtherFirstId attributes.now id) renames.old.items result renames.new.items }
+    ensures { AppendsRenames attributes.now table.now
+        (HasOtherFirstId attributes.now id) renames.old.items result renames.new.items }
 {
     let mut next = first_ids.last_with(id);
     'chain: while let Some(index) = next {
@@ -71,7 +74,9 @@ fn push_changed(
     renames: &mut Vec<(usize, Option<String>)>,
 ) -> Result<(), Error>
     requires { IndexesAll first_ids.now attributes.now }
-    ensures { AppendsRenames attributes.now new.now (IsUnlistedOrKept attributes.now listed.now old.now new.now) renames.old.items result renames.new.items }
+    ensures { AppendsRenames attributes.now new.now
+        (IsUnlistedOrKept attributes.now listed.now old.now new.now) renames.old.items result
+        renames.new.items }
 {
     'ids: for id in listed.index_by_first_id.keys() {
         let ids = [*id];
@@ -120,7 +125,8 @@ pub(crate) fn apply_renames(
     renames: Vec<(usize, Option<String>)>,
 )
     requires { All (λ r. r.0 < length attributes.old) renames.items }
-    ensures names { (t : NameTable) → AreRenamesFor attributes.old t renames.items → NamedBy t.events.items attributes.new }
+    ensures names { (t : NameTable) → AreRenamesFor attributes.old t renames.items
+        → NamedBy t.events.items attributes.new }
     ensures same { described_attributes attributes.new ≡ described_attributes attributes.old }
 {
     let mut renames = renames;

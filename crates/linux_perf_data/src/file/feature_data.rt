@@ -50,7 +50,8 @@ fn read_section_table<C: PlacedSource>(
     endian: Endianness,
     features: &FeatureSet,
 ) -> Result<Vec<(Feature, PerfFileSection)>, Error>
-    ensures reads { ReadsFeatureTable endian (features_of features.now) (C.state source.old) result (C.state source.new) }
+    ensures reads { ReadsFeatureTable endian (features_of features.now) (C.state source.old) result
+        (C.state source.new) }
     ensures pauses { PausesOnlyOnError (C.state source.old) result (C.state source.new) }
     ensures same_loan { C.loan source.new ≡ C.loan source.old }
 {
@@ -85,7 +86,8 @@ fn read_feature_data<C: PlacedSource>(
     source: &mut C,
     table: &[(Feature, PerfFileSection)],
 ) -> Result<IndexMap<Feature, Vec<u8>>, Error>
-    ensures reads { ReadsFeatureData (feature_entries_of table.now) (C.state source.old) result (C.state source.new) }
+    ensures reads { ReadsFeatureData (feature_entries_of table.now) (C.state source.old) result
+        (C.state source.new) }
     ensures pauses { PausesOnlyOnError (C.state source.old) result (C.state source.new) }
     ensures same_loan { C.loan source.new ≡ C.loan source.old }
 {
@@ -98,7 +100,8 @@ fn read_feature_data<C: PlacedSource>(
     Ok(sections)
 }
 
-// Reads the sections of these features. The table starts at the offset `offset`, with one entry for each feature, ascending.
+// Reads the sections of these features. The table starts at the offset `offset`, with one entry for each
+// feature, ascending.
 pub(crate) fn read_features<C: PlacedSource>(
     alloc: Global,
     source: &mut C,
@@ -106,7 +109,8 @@ pub(crate) fn read_features<C: PlacedSource>(
     features: &FeatureSet,
     offset: u64,
 ) -> Result<IndexMap<Feature, Vec<u8>>, Error>
-    ensures reads { ReadsFeatures endian offset (features_of features.now) (C.state source.old) result (C.state source.new) }
+    ensures reads { ReadsFeatures endian offset (features_of features.now) (C.state source.old) result
+        (C.state source.new) }
     ensures pauses { PausesOnlyOnError (C.state source.old) result (C.state source.new) }
     ensures same_loan { C.loan source.new ≡ C.loan source.old }
 {

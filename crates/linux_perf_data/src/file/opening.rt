@@ -70,7 +70,8 @@ fn read_event_types<C: PlacedSource>(
     section: &PerfFileSection,
     attr_size: u64,
 ) -> Result<Vec<AttributeDescription>, Error>
-    ensures reads { ReadsTypesSection endian attr_size section.now (C.state source.old) result (C.state source.new) }
+    ensures reads { ReadsTypesSection endian attr_size section.now (C.state source.old) result
+        (C.state source.new) }
     ensures pauses { PausesOnlyOnError (C.state source.old) result (C.state source.new) }
     ensures same_loan { C.loan source.new ≡ C.loan source.old }
 {
@@ -96,7 +97,8 @@ fn read_attr_section<C: PlacedSource>(
     section: &PerfFileSection,
     attr_size: u64,
 ) -> Result<Vec<AttributeDescription>, Error>
-    ensures reads { ReadsAttrsSection endian attr_size section.now (C.state source.old) result (C.state source.new) }
+    ensures reads { ReadsAttrsSection endian attr_size section.now (C.state source.old) result
+        (C.state source.new) }
     ensures pauses { PausesOnlyOnError (C.state source.old) result (C.state source.new) }
     ensures same_loan { C.loan source.new ≡ C.loan source.old }
 {
@@ -131,7 +133,8 @@ fn read_simpleperf_attrs<C: PlacedSource>(
     header: &PerfHeader,
     types: &[SimplePerfEventType],
 ) -> Result<Vec<AttributeDescription>, Error>
-    ensures reads { ReadsSimpleperfSection endian header.now.attr_size header.now.attr_section types.now (C.state source.old) result (C.state source.new) }
+    ensures reads { ReadsSimpleperfSection endian header.now.attr_size header.now.attr_section types.now
+        (C.state source.old) result (C.state source.new) }
     ensures pauses { PausesOnlyOnError (C.state source.old) result (C.state source.new) }
     ensures same_loan { C.loan source.new ≡ C.loan source.old }
 {
@@ -162,7 +165,9 @@ fn read_attributes<C: PlacedSource>(
     meta_info: Option<&[u8]>,
 ) -> Result<Vec<AttributeDescription>, Error>
     ensures named_error { IfErr result IsFileOpeningError }
-    ensures reads { ReadsAttributes endian header.now (known_sections (option_map (λ s. s.now) event_desc.entry) (option_map (λ s. s.now) meta_info.entry)) (C.state source.old) result (C.state source.new) }
+    ensures reads { ReadsAttributes endian header.now
+        (known_sections (option_map (λ s. s.now) event_desc.entry) (option_map (λ s. s.now) meta_info.entry))
+        (C.state source.old) result (C.state source.new) }
     ensures pauses { PausesOnlyOnError (C.state source.old) result (C.state source.new) }
     ensures same_loan { C.loan source.new ≡ C.loan source.old }
 {

@@ -26,7 +26,8 @@ pub struct RecordEntry {
     pub body_size: u64,
     /// The number of round markers (FINISHED_ROUND) before the record.
     pub round: u64,
-    /// The time at which the record was written, in nanoseconds of the recording's clock; 0 if it has no time.
+    /// The time at which the record was written, in nanoseconds of the recording's clock; 0 if it has no
+    /// time.
     pub timestamp: u64,
     /// The index of the record's attribute; 0 if it has none.
     pub attr_index: u64,
@@ -116,8 +117,8 @@ impl<'a> InMemoryRecords<'a> {
         (found.place, record)
     }
 
-    // Takes the next record of a walk from these records, and returns its entry. `perf_file` is for the prover: it shows that there
-    // is one.
+    // Takes the next record of a walk from these records, and returns its entry. `perf_file` is for the
+    // prover: it shows that there is one.
     #[inline(always)]
     fn take_entry(
         &mut self,
@@ -137,9 +138,10 @@ impl<'a> InMemoryRecords<'a> {
 
     /// Writes the entries of the next records of a file, and returns their number.
     ///
-    /// Writes at most as many entries as `entries` has capacity for. Stops before a round marker, before a record that is
-    /// truncated or in error, and at the end of the records: then [`InMemoryRecords::next_record`] returns the next record, the
-    /// error or the end. Reads nothing from a pipe. The elements after the last written entry are unchanged.
+    /// Writes at most as many entries as `entries` has capacity for. Stops before a round marker, before a
+    /// record that is truncated or in error, and at the end of the records: then
+    /// [`InMemoryRecords::next_record`] returns the next record, the error or the end. Reads nothing from a
+    /// pipe. The elements after the last written entry are unchanged.
     ///
     /// `perf_file` is the metadata of the file. Records of a file don't change it.
     pub fn read_entries(&mut self, perf_file: &PerfFile, entries: &mut [RecordEntry]) -> usize
@@ -170,7 +172,8 @@ impl<'a> InMemoryRecords<'a> {
         requires same_endian { T.ENDIAN ≡ walk.endian }
         ensures { ReadsEntries self.old entries.old result self.new entries.new }
     {
-        // Loops of their own for one attribute whose samples have a time, for one without, and for several attributes.
+        // Loops of their own for one attribute whose samples have a time, for one without, and for several
+        // attributes.
         match walk.only_parse_info() {
             Some(parse_info) => {
                 let only = in_order(T::ENDIAN, parse_info);
@@ -234,9 +237,9 @@ impl<'a> InMemoryRecords<'a> {
         count
     }
 
-    // Writes the entries of the kernel's records that follow, from index `count` on. Returns the index after them. Most records are the
-    // kernel's: in a loop of their own the compiler leaves out the tests that others need. It stores nothing but entries, since the
-    // records stay where the walk started.
+    // Writes the entries of the kernel's records that follow, from index `count` on. Returns the index after
+    // them. Most records are the kernel's: in a loop of their own the compiler leaves out the tests that
+    // others need. It stores nothing but entries, since the records stay where the walk started.
     #[inline(always)]
     fn walk_kernel_entries(
         &mut self,
@@ -248,7 +251,8 @@ impl<'a> InMemoryRecords<'a> {
     ) -> usize
         requires ahead { IsWalkAhead self.old walk.old }
         requires first { first_record_offset ≡ first_record_offset_of self.old }
-        ensures more { WritesMoreEntries self.old walk.old entries.old count self.new walk.new entries.new result }
+        ensures more { WritesMoreEntries self.old walk.old entries.old count self.new walk.new entries.new
+            result }
         ensures from_count { count ≤ result }
         ensures same_length { length entries.new ≡ length entries.old }
     {

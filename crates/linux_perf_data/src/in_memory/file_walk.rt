@@ -1,5 +1,5 @@
-//! A walk over the whole records of a file in memory. It has what it reads for each record in values of its own, which stay in
-//! registers.
+//! A walk over the whole records of a file in memory. It has what it reads for each record in values of its
+//! own, which stay in registers.
 ghost use Rattle.std.specs.Prelude.{◌≡◌, ◌≤◌, ◌<◌, ◌^◌, IfSome, Some, length};
 ghost use Rattle.std.specs.List.{slice_range};
 ghost use Rattle.linux_perf_data.specs.AttributeLookup.{HasOnly, KeepsAttributes};
@@ -148,7 +148,8 @@ impl<'a> FileWalk<'a> {
         }
     }
 
-    // The next record, if the remaining bytes start with a whole one of the kernel. (Or `None`: then `peek` decides.)
+    // The next record, if the remaining bytes start with a whole one of the kernel. (Or `None`: then `peek`
+    // decides.)
     #[inline(always)]
     pub(crate) fn peek_kernel(&self) -> Option<WholeRecord>
         ensures { IfSome result (IsNextRecord self.now) }
@@ -197,7 +198,8 @@ impl<'a> FileWalk<'a> {
         requires only { IfSome self.old.only_parse_info (HasOnly lookup.old) }
         ensures walk { MovesPast self.old next self.new }
         ensures body { result.1.now ≡ slice_range self.old.remaining.now 8 next.length }
-        ensures identifies { IdentifiesRecord lookup.old self.old.offset self.old.round next.header result.1.now result.0 lookup.new }
+        ensures identifies { IdentifiesRecord lookup.old self.old.offset self.old.round next.header
+            result.1.now result.0 lookup.new }
         ensures keeps_attributes { KeepsAttributes lookup.old lookup.new }
         ensures keeps_only { IfSome self.old.only_parse_info (HasOnly lookup.new) }
     {
@@ -222,7 +224,8 @@ impl<'a> FileWalk<'a> {
         ensures same_but_lookup { iter.new ≡ with_lookup iter.old iter.new.attribute_lookup }
         ensures walk { MovesPast self.old next self.new }
         ensures body { result.1.now ≡ slice_range self.old.remaining.now 8 next.length }
-        ensures identifies { IdentifiesRecord iter.old.attribute_lookup self.old.offset self.old.round next.header result.1.now result.0 iter.new.attribute_lookup }
+        ensures identifies { IdentifiesRecord iter.old.attribute_lookup self.old.offset self.old.round
+            next.header result.1.now result.0 iter.new.attribute_lookup }
         ensures keeps_attributes { KeepsAttributes iter.old.attribute_lookup iter.new.attribute_lookup }
         ensures keeps_only { IfSome self.old.only_parse_info (HasOnly iter.new.attribute_lookup) }
     {

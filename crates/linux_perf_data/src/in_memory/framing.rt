@@ -39,8 +39,8 @@ pub(crate) fn skip_bytes(source: &mut Cursor<&[u8]>, count: u64) -> bool
     true
 }
 
-// Consumes the aux data after a record's body, whose first eight bytes contain their size. Returns the size of the body with
-// them, and the end offset of the record.
+// Consumes the aux data after a record's body, whose first eight bytes contain their size. Returns the size
+// of the body with them, and the end offset of the record.
 fn skip_aux_data(
     source: &mut Cursor<&[u8]>,
     endian: Endianness,
@@ -63,8 +63,8 @@ fn skip_aux_data(
     Ok((body.len() as u64 + aux_size, aux_end))
 }
 
-// Takes the body and the aux data of a record that is no marker. Returns them with the end offset of the record, or `None` if
-// fewer bytes remain than the size in the record header.
+// Takes the body and the aux data of a record that is no marker. Returns them with the end offset of the
+// record, or `None` if fewer bytes remain than the size in the record header.
 pub(crate) fn take_record_body<'a>(
     source: &mut Cursor<&'a [u8]>,
     endian: Endianness,

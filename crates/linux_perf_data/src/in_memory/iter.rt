@@ -1,4 +1,5 @@
-//! Takes records from bytes in memory. The calls are those of a `PerfRecordIter` over a cursor, but the body buffer stays empty.
+//! Takes records from bytes in memory. The calls are those of a `PerfRecordIter` over a cursor, but the body
+//! buffer stays empty.
 ghost use Rattle.std.specs.Prelude.{◌≡◌, []};
 ghost use Rattle.linux_perf_data.specs.InMemory.{EndsOrFails, ProcessesBody, TakesFileRecord, TakesRawRecord, TakesRecord};
 
@@ -89,7 +90,8 @@ fn process_record(
     header: PerfEventHeader,
     body: &[u8],
 ) -> Result<RecordInfo, Error>
-    ensures processes { ProcessesBody iter.old file.old offset round header body.now result iter.new file.new }
+    ensures processes { ProcessesBody iter.old file.old offset round header body.now result iter.new
+        file.new }
     ensures same_buffer { iter.new.body ≡ iter.old.body }
 {
     let found = RecordInfo::identify(&mut iter.attribute_lookup, body, offset, round, header);
@@ -104,8 +106,8 @@ fn process_record(
     }
 }
 
-// Takes the next record of a file, with its body, if the remaining bytes start with a whole one that is no marker. Otherwise
-// takes nothing.
+// Takes the next record of a file, with its body, if the remaining bytes start with a whole one that is no
+// marker. Otherwise takes nothing.
 #[inline(always)]
 fn take_file_record<'a>(
     iter: &mut PerfRecordIter<Cursor<&'a [u8]>>,

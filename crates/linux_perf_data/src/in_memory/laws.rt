@@ -7,7 +7,8 @@ pub fn consecutive_calls()
     ensures more { OneCallMoreInMemory }
 {}
 
-/// Over the same bytes, `PerfRecordIter::next_record` returns the same records and then the same end or the same error.
+/// Over the same bytes, `PerfRecordIter::next_record` returns the same records and then the same end or the
+/// same error.
 ///
 /// With `laws::file_reading` and `laws::pipe_reading`, the records are therefore those of the layout.
 pub fn same_as_streaming()

@@ -36,8 +36,8 @@ impl<'a> InMemoryReader<'a> {
 
     /// Opens a perf.data file in memory, as `parse_file` does, with the records from a position on.
     ///
-    /// The first record header is read at the offset, also if no record starts there. No records are there if the offset is past
-    /// the end of the data section. A round above the offset is replaced by the offset.
+    /// The first record header is read at the offset, also if no record starts there. No records are there if
+    /// the offset is past the end of the data section. A round above the offset is replaced by the offset.
     ///
     /// # Errors
     ///

@@ -1,4 +1,5 @@
-//! Takes whole raw records from bytes in memory at once. All records of an input without an error are taken this way.
+//! Takes whole raw records from bytes in memory at once. All records of an input without an error are taken
+//! this way.
 ghost use Rattle.std.specs.Prelude.{◌≡◌, []};
 ghost use Rattle.linux_perf_data.specs.InMemoryWholeRecords.{TakesWholeRecord};
 
@@ -11,7 +12,8 @@ use perfdata_base::event::PerfEventHeader;
 use perfdata_parts::constants::PERF_RECORD_FINISHED_ROUND;
 use std::io::Cursor;
 
-// Takes the next raw record if the remaining bytes start with a whole one, and no header is pending. Otherwise takes nothing.
+// Takes the next raw record if the remaining bytes start with a whole one, and no header is pending.
+// Otherwise takes nothing.
 #[inline(always)]
 pub(crate) fn take_whole_record<'a>(
     iter: &mut PerfRecordIter<Cursor<&'a [u8]>>,

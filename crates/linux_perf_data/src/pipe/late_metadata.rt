@@ -64,7 +64,8 @@ impl PerfFile {
         Ok(LateNames::All(table, names, own))
     }
 
-    // The names to set for a late attribute with these ids: only its own if `name_table` is present in this byte order.
+    // The names to set for a late attribute with these ids: only its own if `name_table` is present in this
+    // byte order.
     fn find_names(&self, alloc: Global, endian: Endianness, ids: &[u64]) -> Result<LateNames, Error>
         ensures { FindsLateNames endian self.now ids.now result }
     {
@@ -226,9 +227,10 @@ fn apply_feature(
     file.replace_feature(header.feature, header.bytes)
 }
 
-// Applies a metadata record of a pipe. Any other record changes nothing. What the accessors of the `PerfFile` return is
-// unchanged after an error: an `IoError` of kind `InvalidInput` if the number of attributes isn't that of the input, an error
-// of the body, of the EVENT_DESC that names the attributes, or of attribute consistency, or `Memory`.
+// Applies a metadata record of a pipe. Any other record changes nothing. What the accessors of the `PerfFile`
+// return is unchanged after an error: an `IoError` of kind `InvalidInput` if the number of attributes isn't
+// that of the input, an error of the body, of the EVENT_DESC that names the attributes, or of attribute
+// consistency, or `Memory`.
 #[inline(never)]
 pub(crate) fn apply_metadata(
     alloc: Global,
@@ -238,7 +240,8 @@ pub(crate) fn apply_metadata(
     record_type: u32,
     body: &[u8],
 ) -> Result<(), Error>
-    ensures applies { AppliesMetadata endian lookup.old file.old record_type body.now result lookup.new file.new }
+    ensures applies { AppliesMetadata endian lookup.old file.old record_type body.now result lookup.new
+        file.new }
     ensures other { record_type ≢ 64 → record_type ≢ 80 → (lookup.new ≡ lookup.old) × (file.new ≡ file.old) }
 {
     if !is_metadata(record_type) {

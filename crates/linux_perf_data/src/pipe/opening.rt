@@ -35,8 +35,8 @@ pub(crate) struct PipeMetadata {
     attributes: Vec<AttributeDescription>,
 }
 
-// The next part of a pipe opening: a metadata record, added, with its end offset; or the end of the metadata records, with
-// the record header that ends them, if the pipe has one.
+// The next part of a pipe opening: a metadata record, added, with its end offset; or the end of the metadata
+// records, with the record header that ends them, if the pipe has one.
 #[derive(Clone, Copy)]
 pub(crate) enum NextInOpening {
     Record(u64),
@@ -160,7 +160,8 @@ impl PipeMetadata {
     }
 }
 
-// Reads the next metadata record and adds it to `metadata`, or reads the record header that ends the metadata records.
+// Reads the next metadata record and adds it to `metadata`, or reads the record header that ends the metadata
+// records.
 fn read_next<R: Source>(
     alloc: Global,
     source: &mut R,
@@ -169,7 +170,8 @@ fn read_next<R: Source>(
     body: &mut Vec<u8>,
     metadata: &mut PipeMetadata,
 ) -> Result<NextInOpening, Error>
-    ensures reads { ReadsNext endian offset (R.state source.old) metadata.old result (R.state source.new) metadata.new }
+    ensures reads { ReadsNext endian offset (R.state source.old) metadata.old result
+        (R.state source.new) metadata.new }
     ensures pauses { PausesOnlyWithoutHeader (R.state source.old) result (R.state source.new) }
     ensures same_loan { R.loan source.new ≡ R.loan source.old }
 {
@@ -188,7 +190,8 @@ fn read_next<R: Source>(
     Ok(NextInOpening::Record(end))
 }
 
-// Reads all metadata records and the record header that ends them, which is `None` if no whole record header remains.
+// Reads all metadata records and the record header that ends them, which is `None` if no whole record header
+// remains.
 fn read_metadata<R: Source>(
     alloc: Global,
     source: &mut R,
@@ -254,7 +257,8 @@ fn open_after_header<R: Source>(
     finish_opening(alloc, endian, metadata, pending_header)
 }
 
-// Opens a pipe. Consumes its header, its metadata records and the record header that ends them, and no byte more.
+// Opens a pipe. Consumes its header, its metadata records and the record header that ends them, and no byte
+// more.
 pub(crate) fn open_pipe<R: Source>(alloc: Global, source: &mut R) -> Result<PipeOpening, Error>
     ensures reads { OpensPerfPipe (R.state source.old) result (R.state source.new) }
     ensures pauses { PausesOnlyInEndedOpening (R.state source.old) result (R.state source.new) }

@@ -10,7 +10,8 @@ use perfdata_base::features::{Feature, FeatureSet};
 use perfdata_base::raw::Endianness;
 use perfdata_parts::feature_sections::AttributeDescription;
 
-// The metadata of a pipe. `pending_header` is the record header that ends the metadata records, or `None` if the pipe ends.
+// The metadata of a pipe. `pending_header` is the record header that ends the metadata records, or `None` if
+// the pipe ends.
 #[derive(Drop)]
 pub(crate) struct PipeOpening {
     pub(crate) endian: Endianness,

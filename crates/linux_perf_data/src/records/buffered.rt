@@ -38,7 +38,8 @@ pub(crate) fn has_no_pending_header(input: Input) -> bool
     }
 }
 
-// Whether the bytes, which start at `offset`, contain any number of markers and then a whole record that is no marker.
+// Whether the bytes, which start at `offset`, contain any number of markers and then a whole record that is
+// no marker.
 pub(crate) fn contains_next_record(
     endian: Endianness,
     input: Input,

@@ -49,7 +49,8 @@ pub(crate) fn is_compressed(record_type: u32) -> bool
     record_type == PERF_RECORD_COMPRESSED || record_type == PERF_RECORD_COMPRESSED2
 }
 
-// The header of the kernel's record at the start of `bytes`, and its size. `None` if they don't start with a whole one.
+// The header of the kernel's record at the start of `bytes`, and its size. `None` if they don't start with a
+// whole one.
 #[inline(always)]
 pub(crate) fn peek_kernel_record(
     endian: Endianness,
@@ -68,7 +69,8 @@ pub(crate) fn peek_kernel_record(
     Some((header, size))
 }
 
-// The total size with aux data of the record with this header at the start of `bytes`. `None` if the record isn't whole.
+// The total size with aux data of the record with this header at the start of `bytes`. `None` if the record
+// isn't whole.
 #[inline(always)]
 fn whole_record_length(endian: Endianness, header: PerfEventHeader, bytes: &[u8]) -> Option<usize>
     requires { StartsWithHeader endian bytes.now header }
@@ -98,8 +100,8 @@ fn whole_record_length(endian: Endianness, header: PerfEventHeader, bytes: &[u8]
     Some(size + aux_size as usize)
 }
 
-// The header of the record at the start of `bytes`, and its total size with aux data. `None` if they don't start with a whole
-// record.
+// The header of the record at the start of `bytes`, and its total size with aux data. `None` if they don't
+// start with a whole record.
 #[inline(always)]
 pub(crate) fn peek_record(endian: Endianness, bytes: &[u8]) -> Option<(PerfEventHeader, usize)>
     ensures { PeeksWholeRecord endian bytes.now result }
@@ -109,7 +111,8 @@ pub(crate) fn peek_record(endian: Endianness, bytes: &[u8]) -> Option<(PerfEvent
     Some((header, length))
 }
 
-// The pending header, or the record header at the position of the source. `None` if the source has fewer bytes.
+// The pending header, or the record header at the position of the source. `None` if the source has fewer
+// bytes.
 #[inline(always)]
 pub(crate) fn read_header<R: Source>(
     source: &mut R,
@@ -117,7 +120,8 @@ pub(crate) fn read_header<R: Source>(
     endian: Endianness,
 ) -> Result<Option<PerfEventHeader>, Error>
     ensures pending_header { TakesPendingHeader input.old input.new }
-    ensures header { ReadsRecordHeader endian (input_source_state input.old (R.state source.old)) result (input_source_state input.new (R.state source.new)) }
+    ensures header { ReadsRecordHeader endian (input_source_state input.old (R.state source.old)) result
+        (input_source_state input.new (R.state source.new)) }
     ensures pauses { PausesOnlyAtEndOrError (R.state source.old) result (R.state source.new) }
     ensures same_loan { R.loan source.new ≡ R.loan source.old }
 {
@@ -146,8 +150,10 @@ pub(crate) fn skip_body<R: Source>(source: &mut R, count: u64) -> Result<bool, E
 
 // Appends `count` bytes of the source to `body`. `false` if the source has fewer.
 fn append_body<R: Source>(source: &mut R, body: &mut Vec<u8>, count: usize) -> Result<bool, Error>
-    ensures appends { AppendsBody (R.state source.old) body.old.items count result body.new.items (R.state source.new) }
-    ensures memory_only_to_grow { IfErr result (λ e. e ≡ Memory → vec_capacity body.old < length body.old.items + count) }
+    ensures appends { AppendsBody (R.state source.old) body.old.items count result body.new.items
+        (R.state source.new) }
+    ensures memory_only_to_grow { IfErr result
+        (λ e. e ≡ Memory → vec_capacity body.old < length body.old.items + count) }
     ensures capacity { vec_capacity body.old ≤ vec_capacity body.new }
     ensures pauses { PausesOnlyIfTruncated (R.state source.old) result (R.state source.new) }
     ensures same_loan { R.loan source.new ≡ R.loan source.old }
@@ -169,15 +175,19 @@ fn append_body<R: Source>(source: &mut R, body: &mut Vec<u8>, count: usize) -> R
     }
 }
 
-// Appends the aux data to `body`, whose first eight bytes contain their size. Returns the end offset of the record with them.
+// Appends the aux data to `body`, whose first eight bytes contain their size. Returns the end offset of the
+// record with them.
 fn read_aux_data<R: Source>(
     source: &mut R,
     endian: Endianness,
     body: &mut Vec<u8>,
     end: u64,
 ) -> Result<u64, Error>
-    ensures reads { ReadsAuxData endian (R.state source.old) body.old.items end result body.new.items (R.state source.new) }
-    ensures memory_only_to_grow { IfErr result (λ e. e ≡ Memory → vec_capacity body.old < length body.old.items + number_in endian 8 body.old.items) }
+    ensures reads { ReadsAuxData endian (R.state source.old) body.old.items end result body.new.items
+        (R.state source.new) }
+    ensures memory_only_to_grow { IfErr result
+        (λ e. e ≡ Memory → vec_capacity body.old < length body.old.items
+        + number_in endian 8 body.old.items) }
     ensures capacity { vec_capacity body.old ≤ vec_capacity body.new }
     ensures pauses { PausesOnlyOnError (R.state source.old) result (R.state source.new) }
     ensures same_loan { R.loan source.new ≡ R.loan source.old }
@@ -196,8 +206,8 @@ fn read_aux_data<R: Source>(
     Ok(aux_end)
 }
 
-// Reads the body and the aux data of a record that is no marker into an empty `body`. Returns the end offset of the record,
-// or `None` if the source has fewer bytes than the size in the record header.
+// Reads the body and the aux data of a record that is no marker into an empty `body`. Returns the end offset
+// of the record, or `None` if the source has fewer bytes than the size in the record header.
 #[inline(always)]
 pub(crate) fn read_record_body<R: Source>(
     source: &mut R,
@@ -208,8 +218,11 @@ pub(crate) fn read_record_body<R: Source>(
 ) -> Result<Option<u64>, Error>
     requires size { 8 ≤ header.size }
     requires empty { body.old.items ≡ [] }
-    ensures reads { ReadsRecordBody endian (R.state source.old) header end result body.new.items (R.state source.new) }
-    ensures memory_only_to_grow { IfErr result (λ e. e ≡ Memory → BodyExceedsCapacity endian (vec_capacity body.old) (R.state source.old) header (R.state source.new)) }
+    ensures reads { ReadsRecordBody endian (R.state source.old) header end result body.new.items
+        (R.state source.new) }
+    ensures memory_only_to_grow { IfErr result
+        (λ e. e ≡ Memory → BodyExceedsCapacity endian (vec_capacity body.old) (R.state source.old) header
+        (R.state source.new)) }
     ensures capacity { vec_capacity body.old ≤ vec_capacity body.new }
     ensures pauses { PausesOnlyAtEndOrError (R.state source.old) result (R.state source.new) }
     ensures same_loan { R.loan source.new ≡ R.loan source.old }

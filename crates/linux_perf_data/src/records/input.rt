@@ -44,13 +44,15 @@ pub(crate) fn read_header_bytes<R: Source>(source: &mut R) -> Result<Option<Head
     Ok(Some(bytes))
 }
 
-// The bytes of the next record header: the pending header, or the next bytes of the source. `None` if fewer remain.
+// The bytes of the next record header: the pending header, or the next bytes of the source. `None` if fewer
+// remain.
 pub(crate) fn next_header_bytes<R: Source>(
     source: &mut R,
     input: &mut Input,
 ) -> Result<Option<HeaderBytes>, Error>
     ensures pending_header { TakesPendingHeader input.old input.new }
-    ensures reads { ReadsHeaderBytes (input_source_state input.old (R.state source.old)) result (input_source_state input.new (R.state source.new)) }
+    ensures reads { ReadsHeaderBytes (input_source_state input.old (R.state source.old)) result
+        (input_source_state input.new (R.state source.new)) }
     ensures pauses { PausesOnlyAtEndOrError (R.state source.old) result (R.state source.new) }
     ensures same_loan { R.loan source.new ≡ R.loan source.old }
 {

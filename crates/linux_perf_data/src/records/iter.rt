@@ -23,8 +23,8 @@ use std::alloc::Global;
 /// The offset, the round and the time of a record.
 #[derive(Clone, Copy, Debug, PartialEq, Eq)]
 pub struct RecordPlace {
-    /// The time in nanoseconds of the recording's clock. `None` for a record of a tool, and if the records of the attribute have
-    /// no time.
+    /// The time in nanoseconds of the recording's clock. `None` for a record of a tool, and if the records of
+    /// the attribute have no time.
     pub timestamp: Option<u64>,
     /// The offset in bytes from the first record.
     pub offset: u64,
@@ -132,7 +132,8 @@ impl RecordInfo {
         endian: Endianness,
         body: RawData<'a>,
     ) -> PerfFileRecord<'a>
-        ensures view { record_view_of self.place result ≡ record_view_at places self endian (bytes_of body.entry) }
+        ensures view { record_view_of self.place result
+            ≡ record_view_at places self endian (bytes_of body.entry) }
         ensures same_body { file_record_body result ≡ body.entry }
     {
         match self.writer {
@@ -155,7 +156,8 @@ impl RecordInfo {
     }
 }
 
-/// Returns the records of a source one by one, in the order of the source, and reuses one buffer for their bodies.
+/// Returns the records of a source one by one, in the order of the source, and reuses one buffer for their
+/// bodies.
 ///
 /// It reads nothing ahead: after a record, the source is positioned directly after that record.
 #[derive(Drop)]
@@ -203,8 +205,8 @@ impl<R> PerfRecordIter<R> {
     }
 }
 
-// What reads a record is inlined into each caller of `next_record`, however many a program has: the results are large, and go through
-// memory from one function to another.
+// What reads a record is inlined into each caller of `next_record`, however many a program has: the results
+// are large, and go through memory from one function to another.
 impl<R: Source> PerfRecordIter<R> {
     ghost use Rattle.linux_perf_data.specs.BufferedRecord.{IsFinished, IsNextBuffered, ContainsNextRecord, TestsNextBuffered};
     ghost use Rattle.linux_perf_data.specs.Iter.{MemoryOnlyToGrow, TestsMayStart, Advances, NextRecord, section_size_of, iter_source_state};
@@ -230,18 +232,22 @@ impl<R: Source> PerfRecordIter<R> {
         &self.source
     }
 
-    /// Returns whether all bytes that the next call of `next_record` reads are buffered. That call then doesn't wait.
+    /// Returns whether all bytes that the next call of `next_record` reads are buffered. That call then
+    /// doesn't wait.
     ///
-    /// If it returns true, [`Source::buffer`] contains the whole next record, with the markers before it and its aux data; or
-    /// the next call reads nothing, because an earlier call failed, an earlier call returned the end, or the section of a file
-    /// ends at the current offset.
+    /// If it returns true, [`Source::buffer`] contains the whole next record, with the markers before it and
+    /// its aux data; or the next call reads nothing, because an earlier call failed, an earlier call returned
+    /// the end, or the section of a file ends at the current offset.
     ///
-    /// Otherwise it returns false, because the next call may wait, the next bytes are no valid record, or the source ends. It
-    /// also returns false while the record header that the opening of a pipe read ahead is pending.
+    /// Otherwise it returns false, because the next call may wait, the next bytes are no valid record, or the
+    /// source ends. It also returns false while the record header that the opening of a pipe read ahead is
+    /// pending.
     pub fn is_next_buffered(&self) -> bool
         ensures exact { IsTrue result ↔ IsNextBuffered R.state R.buffered self.now }
         ensures prefix_of_remaining { TestsNextBuffered R.state self.now result }
-        ensures contains_next { IsTrue result → ¬ IsFinished R.state self.now → IfSome (iter_source_state R.state self.now).bytes (ContainsNextRecord self.now.endian (section_size_of R.state self.now) self.now.offset) }
+        ensures contains_next { IsTrue result → ¬ IsFinished R.state self.now
+            → IfSome (iter_source_state R.state self.now).bytes
+            (ContainsNextRecord self.now.endian (section_size_of R.state self.now) self.now.offset) }
     {
         let buffered = self.source.buffer();
         match self.stage {
@@ -258,12 +264,14 @@ impl<R: Source> PerfRecordIter<R> {
         contains_next_record(self.endian, self.input, self.offset, buffered)
     }
 
-    // Reads the next raw record: a marker, or a record whose body is then in `self.body`. `None` if a pipe ends.
+    // Reads the next raw record: a marker, or a record whose body is then in `self.body`. `None` if a pipe
+    // ends.
     #[inline(always)]
     fn next_raw_record(&mut self) -> Result<Option<PerfEventHeader>, Error>
         requires empty { self.old.body.items ≡ [] }
         ensures raw_record { ReadsRawRecord R.state self.old result self.new }
-        ensures memory_only_to_grow { IfErr result (λ e. e ≡ Memory → RawRecordExceedsBuffer R.state self.old self.new) }
+        ensures memory_only_to_grow { IfErr result
+            (λ e. e ≡ Memory → RawRecordExceedsBuffer R.state self.old self.new) }
         ensures capacity { vec_capacity self.old.body ≤ vec_capacity self.new.body }
         ensures pauses { PausesOnlyAtEndOrError (R.state self.old.source) result (R.state self.new.source) }
         ensures same_loan { R.loan self.new.source ≡ R.loan self.old.source }
@@ -291,7 +299,8 @@ impl<R: Source> PerfRecordIter<R> {
         }
     }
 
-    // Identifies the record whose body is in `self.body` by the attributes before it, and then applies its metadata.
+    // Identifies the record whose body is in `self.body` by the attributes before it, and then applies its
+    // metadata.
     #[inline(always)]
     fn process_record(
         &mut self,
@@ -300,7 +309,8 @@ impl<R: Source> PerfRecordIter<R> {
         round: u64,
         header: PerfEventHeader,
     ) -> Result<RecordInfo, Error>
-        ensures processes { ProcessesRecord R.state self.old file.old offset round header result self.new file.new }
+        ensures processes { ProcessesRecord R.state self.old file.old offset round header result self.new
+            file.new }
         ensures pauses { R.state self.new.source ≡ R.state self.old.source }
         ensures same_loan { R.loan self.new.source ≡ R.loan self.old.source }
     {
@@ -364,34 +374,38 @@ impl<R: Source> PerfRecordIter<R> {
 
     /// Returns the next record with its [`RecordPlace`], or `Ok(None)` at the end of the records.
     ///
-    /// The record borrows the iterator until the next call. The call consumes the markers before the record, its record
-    /// header, its body and its aux data, and no byte more. After the end, each call returns `Ok(None)` and reads nothing.
+    /// The record borrows the iterator until the next call. The call consumes the markers before the record,
+    /// its record header, its body and its aux data, and no byte more. After the end, each call returns
+    /// `Ok(None)` and reads nothing.
     ///
-    /// A pipe ends if a record header, or a body of the size in the record header, is truncated, which is no error there.
-    /// A metadata record of a pipe (types 64 and 80) is applied to `perf_file` before the call returns it. Its attribute is
-    /// appended to the previous ones, and EVENT_DESC then names all attributes again. The data of its feature replace the
-    /// previous data of that feature.
+    /// A pipe ends if a record header, or a body of the size in the record header, is truncated, which is no
+    /// error there. A metadata record of a pipe (types 64 and 80) is applied to `perf_file` before the call
+    /// returns it. Its attribute is appended to the previous ones, and EVENT_DESC then names all attributes
+    /// again. The data of its feature replace the previous data of that feature.
     ///
     /// # Errors
     ///
     /// An error is returned once with its cause. Each later call returns [`Error::Failed`] and reads nothing.
     ///
-    /// - `IoError` of kind `UnexpectedEof` if a record header is truncated, or if the body of an auxtrace record has fewer
-    ///   than 40 bytes.
+    /// - `IoError` of kind `UnexpectedEof` if a record header is truncated, or if the body of an auxtrace
+    ///   record has fewer than 40 bytes.
     /// - `IoError` of the source if it fails within a record header.
     /// - `InvalidPerfEventSize` if the size in a record header is below 8, the size of the record header.
-    /// - `Read(PerfEventData)` if a body or aux data are truncated or can't be read, or would end past 2^64 - 1.
+    /// - `Read(PerfEventData)` if a body or aux data are truncated or can't be read, or would end past 2^64 -
+    ///   1.
     /// - `IoError` of kind `Unsupported` for a compressed record (types 81 and 83), whose bytes are consumed.
     /// - `Memory` if memory runs out for a body. The body with its aux data is then larger than the
     ///   capacity of the buffer.
     ///
     /// If a metadata record can't be applied, the metadata in `perf_file` is unchanged, and the error is:
     ///
-    /// - `IoError` of kind `InvalidInput` if `perf_file` has another number of attributes than the input so far.
+    /// - `IoError` of kind `InvalidInput` if `perf_file` has another number of attributes than the input so
+    ///   far.
     /// - `IoError` of kind `UnexpectedEof` if the body of the record ends early.
     /// - `IoError` of kind `InvalidData` if the size field of an attribute is below 64.
     /// - The error of `parse_event_desc_section` if EVENT_DESC can't be parsed.
-    /// - `NoIdentifierDespiteMultiEvent` or `InconsistentSampleIdAllWithMultiEvent` if the attributes are inconsistent.
+    /// - `NoIdentifierDespiteMultiEvent` or `InconsistentSampleIdAllWithMultiEvent` if the attributes are
+    ///   inconsistent.
     /// - `Memory` if memory runs out.
     #[inline(always)]
     pub fn next_record(
@@ -399,7 +413,8 @@ impl<R: Source> PerfRecordIter<R> {
         perf_file: &mut PerfFile,
     ) -> Result<Option<(RecordPlace, PerfFileRecord<'_>)>, Error>
         ensures named_error { IfErr result IsRecordError }
-        ensures* after_borrow { sem 𝓛 (Rests (the_row R.row) self.entry (λ new. NextRecord R.state R.loan self.old perf_file.old result new perf_file.new)) }
+        ensures* after_borrow { sem 𝓛 (Rests (the_row R.row) self.entry
+            (λ new. NextRecord R.state R.loan self.old perf_file.old result new perf_file.new)) }
     {
         match self.advance(perf_file) {
             Ok(Some(found)) => {

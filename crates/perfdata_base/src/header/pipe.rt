@@ -41,9 +41,9 @@ fn parse_header(bytes: &[u8]) -> PerfPipeHeader
 impl PerfPipeHeader {
     /// Parses a pipe header from a source, and returns it with whether all bytes of its size were read.
     ///
-    /// Its size is little-endian if the first byte of the magic is `P`, else big-endian. If its size is more than 16
-    /// bytes, the bytes after these are read and discarded. It fails with `UnexpectedEof` if fewer than 16 bytes are
-    /// read, and with the source's error if the source fails.
+    /// Its size is little-endian if the first byte of the magic is `P`, else big-endian. If its size is more
+    /// than 16 bytes, the bytes after these are read and discarded. It fails with `UnexpectedEof` if fewer
+    /// than 16 bytes are read, and with the source's error if the source fails.
     pub fn parse_with_extra<R: Source>(source: &mut R) -> Result<(PerfPipeHeader, bool)>
         ensures parses { ParsesPipeHeaderWithExtra (R.state source.old) result (R.state source.new) }
         ensures pauses { PausesOnlyInExtra (R.state source.old) result (R.state source.new) }

@@ -13,8 +13,8 @@ struct Pair {
 
 /// The attribute indices of recent identifiers: a map of at most 64 pairs that allocates no memory.
 ///
-/// Identifiers with the same remainder modulo 64 share a slot, which contains the last of them that was put. An empty
-/// slot matches no identifier.
+/// Identifiers with the same remainder modulo 64 share a slot, which contains the last of them that was put.
+/// An empty slot matches no identifier.
 #[derive(Drop)]
 pub struct IdCache {
     slots: [Option<Pair>; SLOTS as usize],
@@ -52,8 +52,10 @@ impl IdCache {
     /// Puts the index of an identifier, and replaces the pair in its slot.
     pub fn put(&mut self, id: u64, index: usize)
         ensures stored { cached_index self.new id ≡ Some index }
-        ensures evicted { (other : ℕ) → other ≢ id → other % 64 ≡ id % 64 → cached_index self.new other ≡ None }
-        ensures others { (other : ℕ) → other % 64 ≢ id % 64 → cached_index self.new other ≡ cached_index self.old other }
+        ensures evicted { (other : ℕ) → other ≢ id → other % 64 ≡ id % 64 → cached_index self.new other
+            ≡ None }
+        ensures others { (other : ℕ) → other % 64 ≢ id % 64 → cached_index self.new other
+            ≡ cached_index self.old other }
     {
         self.slots[(id % SLOTS) as usize] = Some(Pair { id, index });
     }

@@ -15,10 +15,11 @@ use std::io::{BufRead, BufReader, Read, Result, Seek, SeekFrom};
 
 /// A buffered reader of std as a source that exposes the reader's buffer.
 ///
-/// Contracts know none of its bytes. Like [`Counted`](crate::source::Counted), it counts the reader's I/O errors and
-/// empty reads, up to `u64::MAX` each. Each `Err` of a read or a seek counts as an I/O error, whatever its kind.
-/// Buffered bytes are consumed without a read. Once a seek has reported the position, a seek to a target in the buffer
-/// stays inside the buffer, and a seek to the current position doesn't call the reader.
+/// Contracts know none of its bytes. Like [`Counted`](crate::source::Counted), it counts the reader's I/O
+/// errors and empty reads, up to `u64::MAX` each. Each `Err` of a read or a seek counts as an I/O error,
+/// whatever its kind. Buffered bytes are consumed without a read. Once a seek has reported the position, a
+/// seek to a target in the buffer stays inside the buffer, and a seek to the current position doesn't call
+/// the reader.
 #[derive(Drop)]
 pub struct CountedBuffer<R> {
     reader: BufReader<R>,
@@ -55,12 +56,16 @@ impl<R: Read> Source for CountedBuffer<R> {
     ghost buffered = { counted_buffer_bytes };
 
     fn read_front(&mut self, buf: &mut [u8]) -> Result<usize>
-        ensures idle { length buf.old ≡ 0 → (result ≡ Ok 0) × (buffered_state self.new ≡ buffered_state self.old) }
-        ensures reads { 0 < length buf.old → Reads (buffered_state self.old) buf.new result (buffered_state self.new) }
+        ensures idle { length buf.old ≡ 0 → (result ≡ Ok 0)
+            × (buffered_state self.new ≡ buffered_state self.old) }
+        ensures reads { 0 < length buf.old
+            → Reads (buffered_state self.old) buf.new result (buffered_state self.new) }
         ensures counts { CountsRead (buffered_state self.old) result (buffered_state self.new) }
-        ensures position { 0 < length buf.old → ReadUpdatesPosition self.old.position result self.new.position }
+        ensures position { 0 < length buf.old
+            → ReadUpdatesPosition self.old.position result self.new.position }
         ensures unchanged_if_empty { length buf.old ≡ 0 → self.new ≡ self.old }
-        ensures reader_consumes { ReadConsumes (reader_remaining R.remaining self.old.reader) (reader_remaining R.remaining self.new.reader) result buf.new }
+        ensures reader_consumes { ReadConsumes (reader_remaining R.remaining self.old.reader)
+            (reader_remaining R.remaining self.new.reader) result buf.new }
     {
         if buf.is_empty() {
             return Ok(0);
@@ -89,7 +94,8 @@ impl<R: Read> Source for CountedBuffer<R> {
     }
 
     fn read_buffered(&mut self, buf: &mut [u8]) -> bool
-        ensures reads_buffered { ReadsBuffered (buffered_state self.old) buf.old result buf.new (buffered_state self.new) }
+        ensures reads_buffered { ReadsBuffered (buffered_state self.old) buf.old result buf.new
+            (buffered_state self.new) }
         ensures takes_from_buffer { TakesFromBuffer self.old buf.new result self.new }
     {
         let buffered = self.reader.buffer();
@@ -108,10 +114,14 @@ impl<R: Read> Source for CountedBuffer<R> {
         buffer: &mut Vec<u8>,
         count: usize,
     ) -> std::result::Result<bool, AllocError>
-        ensures appends { AppendsBuffered (buffered_state self.old) buffer.old.items count result buffer.new.items (buffered_state self.new) }
-        ensures memory_only_to_grow { OnErr result (vec_capacity buffer.old < length buffer.old.items + count) }
+        ensures appends { AppendsBuffered
+            (buffered_state self.old) buffer.old.items count result buffer.new.items
+            (buffered_state self.new) }
+        ensures memory_only_to_grow { OnErr result
+            (vec_capacity buffer.old < length buffer.old.items + count) }
         ensures capacity { vec_capacity buffer.old ≤ vec_capacity buffer.new }
-        ensures takes_from_buffer { AppendsFromBuffer self.old buffer.old.items count result buffer.new.items self.new }
+        ensures takes_from_buffer { AppendsFromBuffer self.old buffer.old.items count result buffer.new.items
+            self.new }
     {
         let buffered = self.reader.buffer();
         if buffered.len() < count {
@@ -135,8 +145,13 @@ impl<R: Read + Seek> PlacedSource for CountedBuffer<R> {
         ensures size_fits { SizeFitsI64 (buffered_state self.old) }
         ensures position_fits { PositionFitsU64 (buffered_state self.old) }
         ensures position { SeekUpdatesPosition result self.new.position }
-        ensures reader_moves { AgreesWithPosition self.old.position (reader_position R.stream_position self.old.reader) → SeekMoves (reader_position R.stream_position self.old.reader) (reader_position R.stream_position self.new.reader) (R.stream_bytes (reader_inner self.old.reader)) to result }
-        ensures reader_keeps_bytes { Keeps (R.stream_bytes (reader_inner self.old.reader)) (R.stream_bytes (reader_inner self.new.reader)) }
+        ensures reader_moves { AgreesWithPosition self.old.position
+            (reader_position R.stream_position self.old.reader)
+            → SeekMoves (reader_position R.stream_position self.old.reader)
+            (reader_position R.stream_position self.new.reader)
+            (R.stream_bytes (reader_inner self.old.reader)) to result }
+        ensures reader_keeps_bytes { Keeps (R.stream_bytes (reader_inner self.old.reader))
+            (R.stream_bytes (reader_inner self.new.reader)) }
     {
         match seek_from(&mut self.reader, self.position, to) {
             Ok(at) => {

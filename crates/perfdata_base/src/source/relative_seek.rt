@@ -46,10 +46,11 @@ fn position_at_offset(position: u64, offset: i64) -> Option<u64>
     position.checked_sub(size)
 }
 
-// The relative seek from a known position to the target of `to`. `None` if the position is unknown, if only the reader
-// knows the target, or if either isn't a position of a file.
+// The relative seek from a known position to the target of `to`. `None` if the position is unknown, if only
+// the reader knows the target, or if either isn't a position of a file.
 fn relative_seek_to(known_position: Option<u64>, to: SeekFrom) -> Option<RelativeSeek>
-    ensures { IfSome result (λ relative. IsSomeAnd known_position (λ position. IsRelativeSeek position to relative.offset relative.target)) }
+    ensures { IfSome result (λ relative. IsSomeAnd known_position
+        (λ position. IsRelativeSeek position to relative.offset relative.target)) }
 {
     let position = match known_position {
         Some(position) => position,
@@ -79,14 +80,16 @@ pub(super) fn position_after(position: Option<u64>, count: usize) -> Option<u64>
     }
 }
 
-/// Seeks to `to`, and returns the new position. If the position and the target are known, the seek is relative, and a
-/// seek to the current position doesn't call the reader.
+/// Seeks to `to`, and returns the new position. If the position and the target are known, the seek is
+/// relative, and a seek to the current position doesn't call the reader.
 pub(super) fn seek_from<R: Seek>(
     reader: &mut R,
     known_position: Option<u64>,
     to: SeekFrom,
 ) -> Result<u64>
-    ensures position { AgreesWithPosition known_position (R.stream_position reader.old) → SeekMoves (R.stream_position reader.old) (R.stream_position reader.new) (R.stream_bytes reader.old) to result }
+    ensures position { AgreesWithPosition known_position (R.stream_position reader.old)
+        → SeekMoves (R.stream_position reader.old) (R.stream_position reader.new)
+        (R.stream_bytes reader.old) to result }
     ensures bytes { Keeps (R.stream_bytes reader.old) (R.stream_bytes reader.new) }
 {
     match relative_seek_to(known_position, to) {

@@ -43,11 +43,11 @@ impl SeekErrors {
     }
 }
 
-/// A source for tests that shows a growing prefix of its bytes. A script decides which reads return bytes, pause or
-/// fail, and which seeks fail.
+/// A source for tests that shows a growing prefix of its bytes. A script decides which reads return bytes,
+/// pause or fail, and which seeks fail.
 ///
-/// Each read into a buffer that isn't empty performs the next step. After the last step a read returns all shown bytes
-/// that fit.
+/// Each read into a buffer that isn't empty performs the next step. After the last step a read returns all
+/// shown bytes that fit.
 #[derive(Drop)]
 pub struct Script {
     bytes: Vec<u8>,
@@ -67,8 +67,8 @@ impl Script {
 
     /// Makes a source of `bytes` that shows the first `shown` of them, at most all.
     ///
-    /// A seek fails with an error of kind [`ErrorKind::Other`] if its number is in `failing_seeks`. The first seek has
-    /// number 0.
+    /// A seek fails with an error of kind [`ErrorKind::Other`] if its number is in `failing_seeks`. The first
+    /// seek has number 0.
     pub fn new(bytes: Vec<u8>, shown: usize, steps: Vec<Step>, failing_seeks: Vec<u64>) -> Script
         ensures { script_state result ≡ unread_script_state bytes.items }
     {
@@ -77,8 +77,8 @@ impl Script {
 
     /// Makes a source of `bytes` that shows the first `shown` of them, at most all.
     ///
-    /// A seek fails if its number is in `seek_errors`, with an error of the kind that is paired with the number. The
-    /// first seek has number 0. If a number is there twice, its first kind counts.
+    /// A seek fails if its number is in `seek_errors`, with an error of the kind that is paired with the
+    /// number. The first seek has number 0. If a number is there twice, its first kind counts.
     pub fn with_seek_errors(
         bytes: Vec<u8>,
         shown: usize,
@@ -108,8 +108,8 @@ impl Script {
         }
     }
 
-    // Performs the `Grow` steps before the next read. Returns the maximum number of bytes of that read, or the kind of
-    // its error.
+    // Performs the `Grow` steps before the next read. Returns the maximum number of bytes of that read, or
+    // the kind of its error.
     fn next_read_limit(&mut self) -> std::result::Result<usize, ErrorKind>
         ensures { script_state self.new ≡ script_state self.old }
     {

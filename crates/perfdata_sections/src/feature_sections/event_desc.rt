@@ -38,8 +38,8 @@ fn read_name_and_ids<R: Source, T: FileOrder>(
     Ok(NameAndIds { name, event_ids })
 }
 
-// Reads the attribute of a frame and seeks to the end of the frame. The padding after the attribute may be missing from
-// the source.
+// Reads the attribute of a frame and seeks to the end of the frame. The padding after the attribute may be
+// missing from the source.
 fn read_padded_frame<C: PlacedSource, T: FileOrder>(
     source: &mut C,
     attr_size: u32,

@@ -16,7 +16,8 @@ const ID_BUFFER_SIZE: usize = 512;
 
 // Appends the ids in `bytes`.
 fn push_ids<T: FileOrder>(ids: &mut Vec<u64>, bytes: &[u8]) -> Result<(), AllocError>
-    ensures ids { OnOk result (ids.new.items ≡ ids.old.items ++ u64s_of T.number_of (length bytes.now / 8) bytes.now) }
+    ensures ids { OnOk result (ids.new.items ≡ ids.old.items
+        ++ u64s_of T.number_of (length bytes.now / 8) bytes.now) }
     ensures memory { OnErr result (8 ≤ length bytes.now) }
 {
     let mut rest = bytes;
@@ -33,7 +34,8 @@ fn append_ids<R: Source, T: FileOrder>(
     buf: &mut [u8],
     ids: &mut Vec<u64>,
 ) -> Result<(), AppendError>
-    ensures reads { AppendsIds T.number_of (length buf.new) (R.state source.old) ids.old.items result ids.new.items (R.state source.new) }
+    ensures reads { AppendsIds T.number_of (length buf.new)
+        (R.state source.old) ids.old.items result ids.new.items (R.state source.new) }
     ensures pauses { PausesOnlyOnError (R.state source.old) result (R.state source.new) }
     ensures memory { NoPauseIfOutOfMemory (R.state source.old) result (R.state source.new) }
     ensures same_loan { R.loan source.new ≡ R.loan source.old }

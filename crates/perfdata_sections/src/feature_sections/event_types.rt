@@ -31,7 +31,8 @@ fn read_section_entry_at<C: PlacedSource, T: FileOrder>(
     at: u64,
 ) -> Result<PerfFileSection, Error>
     ensures reads { ReadsSectionEntryAt T.number_of (C.state source.old) at result (C.state source.new) }
-    ensures position { OnOk result ((C.state source.new).position ≡ at_offset (at + 16) (C.state source.old).position) }
+    ensures position { OnOk result ((C.state source.new).position
+        ≡ at_offset (at + 16) (C.state source.old).position) }
     ensures pauses { PausesOnlyOnError (C.state source.old) result (C.state source.new) }
     ensures same_loan { C.loan source.new ≡ C.loan source.old }
 {
@@ -46,8 +47,10 @@ fn read_entry_at<C: PlacedSource, T: FileOrder>(
     attr_size: u64,
 ) -> Result<EventTypeEntry, Error>
     requires { at + attr_size < 2 ^ 64 }
-    ensures reads { ReadsEventTypeEntryAt T.number_of attr_size (C.state source.old) at result (C.state source.new) }
-    ensures position { OnOk result ((C.state source.new).position ≡ at_offset (at + attr_size + 16) (C.state source.old).position) }
+    ensures reads { ReadsEventTypeEntryAt T.number_of attr_size (C.state source.old) at result
+        (C.state source.new) }
+    ensures position { OnOk result ((C.state source.new).position
+        ≡ at_offset (at + attr_size + 16) (C.state source.old).position) }
     ensures pauses { PausesOnlyOnError (C.state source.old) result (C.state source.new) }
     ensures same_loan { C.loan source.new ≡ C.loan source.old }
 {
@@ -65,8 +68,11 @@ fn read_entries<C: PlacedSource, T: FileOrder>(
 ) -> Result<Vec<EventTypeEntry>, Error>
     requires end_fits { section.now.offset + section.now.size < 2 ^ 64 }
     requires step_fits { attr_size + 16 < 2 ^ 64 }
-    ensures reads { ReadsEventTypeEntries T.number_of attr_size (C.state source.old) section.now result (C.state source.new) }
-    ensures position { IfOk result (λ all. 0 < length all.items → (C.state source.new).position ≡ at_offset (section.now.offset + length all.items * (attr_size + 16)) (C.state source.old).position) }
+    ensures reads { ReadsEventTypeEntries T.number_of attr_size (C.state source.old) section.now result
+        (C.state source.new) }
+    ensures position { IfOk result (λ all. 0 < length all.items → (C.state source.new).position
+        ≡ at_offset (section.now.offset + length all.items * (attr_size + 16))
+        (C.state source.old).position) }
     ensures pauses { PausesOnlyOnError (C.state source.old) result (C.state source.new) }
     ensures same_loan { C.loan source.new ≡ C.loan source.old }
 {
@@ -89,7 +95,8 @@ fn read_section_ids<C: PlacedSource, T: FileOrder>(
     section: &PerfFileSection,
 ) -> Result<Vec<u64>, Error>
     ensures reads { ReadsSectionIds T.number_of (C.state source.old) section.now result (C.state source.new) }
-    ensures position { OnOk result ((C.state source.new).position ≡ at_offset (ids_end section.now) (C.state source.old).position) }
+    ensures position { OnOk result ((C.state source.new).position
+        ≡ at_offset (ids_end section.now) (C.state source.old).position) }
     ensures pauses { PausesOnlyOnError (C.state source.old) result (C.state source.new) }
     ensures same_loan { C.loan source.new ≡ C.loan source.old }
 {
@@ -117,7 +124,8 @@ fn describe_entries<C: PlacedSource, T: FileOrder>(
     entries: &[EventTypeEntry],
     types: &[SimplePerfEventType],
 ) -> Result<Vec<AttributeDescription>, Error>
-    ensures reads { DescribesEntries T.number_of (type_name_at types.now) (C.state source.old) entries.now result (C.state source.new) }
+    ensures reads { DescribesEntries T.number_of (type_name_at types.now)
+        (C.state source.old) entries.now result (C.state source.new) }
     ensures pauses { PausesOnlyOnError (C.state source.old) result (C.state source.new) }
     ensures same_loan { C.loan source.new ≡ C.loan source.old }
 {
@@ -135,8 +143,8 @@ fn describe_entries<C: PlacedSource, T: FileOrder>(
     Ok(all)
 }
 
-// Reads the attributes of a section of entries with frames of `attr_size` bytes. The event types with the same indices
-// provide the names. All entries are read before any ids.
+// Reads the attributes of a section of entries with frames of `attr_size` bytes. The event types with the
+// same indices provide the names. All entries are read before any ids.
 pub(crate) fn read_descriptions<C: PlacedSource, T: FileOrder>(
     alloc: Global,
     source: &mut C,
@@ -144,7 +152,8 @@ pub(crate) fn read_descriptions<C: PlacedSource, T: FileOrder>(
     attr_size: u64,
     types: &[SimplePerfEventType],
 ) -> Result<Vec<AttributeDescription>, Error>
-    ensures reads { ReadsDescriptions T.number_of attr_size (type_name_at types.now) section.now (C.state source.old) result (C.state source.new) }
+    ensures reads { ReadsDescriptions T.number_of attr_size (type_name_at types.now) section.now
+        (C.state source.old) result (C.state source.new) }
     ensures pauses { PausesOnlyOnError (C.state source.old) result (C.state source.new) }
     ensures same_loan { C.loan source.new ≡ C.loan source.old }
 {

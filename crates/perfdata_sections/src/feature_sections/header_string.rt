@@ -43,8 +43,8 @@ pub struct HeaderString;
 impl HeaderString {
     /// Reads the text of the string at the position of a borrowed source.
     ///
-    /// Returns `None` if the text isn't UTF-8. Fails with an `UnexpectedEof` source error if the string is truncated, and
-    /// with `AppendError::Memory` if memory runs out.
+    /// Returns `None` if the text isn't UTF-8. Fails with an `UnexpectedEof` source error if the string is
+    /// truncated, and with `AppendError::Memory` if memory runs out.
     pub fn read_from<R: Source, T: FileOrder>(
         alloc: Global,
         source: &mut R,
@@ -62,8 +62,8 @@ impl HeaderString {
 
     /// Reads the text of the string at the position of an owned source. See `read_from`.
     ///
-    /// Fails with an `UnexpectedEof` error if the string is truncated, and with an `OutOfMemory` error if memory runs
-    /// out.
+    /// Fails with an `UnexpectedEof` error if the string is truncated, and with an `OutOfMemory` error if
+    /// memory runs out.
     pub fn parse<R: Source + Drop, T: FileOrder>(
         alloc: Global,
         mut reader: R,

@@ -25,12 +25,13 @@ impl NrCpus {
     /// The size of the section in bytes.
     pub const STRUCT_SIZE: usize = 8;
 
-    /// Reads the CPU counts at the position of a borrowed source: available and online, of four bytes each in the byte
-    /// order `endian`.
+    /// Reads the CPU counts at the position of a borrowed source: available and online, of four bytes each in
+    /// the byte order `endian`.
     ///
     /// Fails with an `UnexpectedEof` error if the source returns fewer than 8 bytes.
     pub fn parse_in<R: Source>(endian: Endianness, source: &mut R) -> Result<NrCpus>
-        ensures parses { ParsesPart 8 (nr_cpus_of (number_in endian)) (R.state source.old) result (R.state source.new) }
+        ensures parses { ParsesPart 8 (nr_cpus_of (number_in endian)) (R.state source.old) result
+            (R.state source.new) }
         ensures pauses { PausesOnlyOnError (R.state source.old) result (R.state source.new) }
         ensures same_loan { R.loan source.new ≡ R.loan source.old }
     {
@@ -44,7 +45,8 @@ impl NrCpus {
 
     /// Reads the CPU counts at the position of a borrowed source. See `parse_in`.
     pub fn parse_from<R: Source, T: FileOrder>(source: &mut R) -> Result<NrCpus>
-        ensures parses { ParsesPart 8 (nr_cpus_of T.number_of) (R.state source.old) result (R.state source.new) }
+        ensures parses { ParsesPart 8 (nr_cpus_of T.number_of) (R.state source.old) result
+            (R.state source.new) }
         ensures pauses { PausesOnlyOnError (R.state source.old) result (R.state source.new) }
         ensures same_loan { R.loan source.new ≡ R.loan source.old }
     {
@@ -72,12 +74,13 @@ impl SampleTimeRange {
     /// The size of the section in bytes.
     pub const STRUCT_SIZE: usize = 16;
 
-    /// Reads the times at the position of a borrowed source: the first and the last, of eight bytes each in the byte order
-    /// `endian`.
+    /// Reads the times at the position of a borrowed source: the first and the last, of eight bytes each in
+    /// the byte order `endian`.
     ///
     /// Fails with an `UnexpectedEof` error if the source returns fewer than 16 bytes.
     pub fn parse_in<R: Source>(endian: Endianness, source: &mut R) -> Result<SampleTimeRange>
-        ensures parses { ParsesPart 16 (sample_times_of (number_in endian)) (R.state source.old) result (R.state source.new) }
+        ensures parses { ParsesPart 16 (sample_times_of (number_in endian)) (R.state source.old) result
+            (R.state source.new) }
         ensures pauses { PausesOnlyOnError (R.state source.old) result (R.state source.new) }
         ensures same_loan { R.loan source.new ≡ R.loan source.old }
     {
@@ -91,7 +94,8 @@ impl SampleTimeRange {
 
     /// Reads the times at the position of a borrowed source. See `parse_in`.
     pub fn parse_from<R: Source, T: FileOrder>(source: &mut R) -> Result<SampleTimeRange>
-        ensures parses { ParsesPart 16 (sample_times_of T.number_of) (R.state source.old) result (R.state source.new) }
+        ensures parses { ParsesPart 16 (sample_times_of T.number_of) (R.state source.old) result
+            (R.state source.new) }
         ensures pauses { PausesOnlyOnError (R.state source.old) result (R.state source.new) }
         ensures same_loan { R.loan source.new ≡ R.loan source.old }
     {
@@ -100,7 +104,8 @@ impl SampleTimeRange {
 
     /// Reads the times at the position of an owned source. See `parse_from`.
     pub fn parse<R: Source + Drop, T: FileOrder>(mut reader: R) -> Result<SampleTimeRange>
-        ensures { (final : State) × ParsesPart 16 (sample_times_of T.number_of) (R.state reader) result final }
+        ensures { (final : State) × ParsesPart 16 (sample_times_of T.number_of)
+            (R.state reader) result final }
     {
         SampleTimeRange::parse_from::<R, T>(&mut reader)
     }
@@ -130,11 +135,13 @@ impl CompressionInfo {
 
     /// Reads the compression info at the position of a borrowed source.
     ///
-    /// The fields are version, type, level, ratio and mapped size, of four bytes each in the byte order `endian`.
+    /// The fields are version, type, level, ratio and mapped size, of four bytes each in the byte order
+    /// `endian`.
     ///
     /// Fails with an `UnexpectedEof` error if the source returns fewer than 20 bytes.
     pub fn parse_in<R: Source>(endian: Endianness, source: &mut R) -> Result<CompressionInfo>
-        ensures parses { ParsesPart 20 (compression_of (number_in endian)) (R.state source.old) result (R.state source.new) }
+        ensures parses { ParsesPart 20 (compression_of (number_in endian)) (R.state source.old) result
+            (R.state source.new) }
         ensures pauses { PausesOnlyOnError (R.state source.old) result (R.state source.new) }
         ensures same_loan { R.loan source.new ≡ R.loan source.old }
     {
@@ -151,7 +158,8 @@ impl CompressionInfo {
 
     /// Reads the compression info at the position of a borrowed source. See `parse_in`.
     pub fn parse_from<R: Source, T: FileOrder>(source: &mut R) -> Result<CompressionInfo>
-        ensures parses { ParsesPart 20 (compression_of T.number_of) (R.state source.old) result (R.state source.new) }
+        ensures parses { ParsesPart 20 (compression_of T.number_of) (R.state source.old) result
+            (R.state source.new) }
         ensures pauses { PausesOnlyOnError (R.state source.old) result (R.state source.new) }
         ensures same_loan { R.loan source.new ≡ R.loan source.old }
     {
@@ -189,11 +197,11 @@ impl ClockData {
 
     /// Reads the clock data at the position of a borrowed source.
     ///
-    /// The fields are the version (1) and the clock id, of four bytes each, and the two times, of eight bytes each, in the
-    /// byte order `endian`.
+    /// The fields are the version (1) and the clock id, of four bytes each, and the two times, of eight bytes
+    /// each, in the byte order `endian`.
     ///
-    /// Fails with an `InvalidData` error if the version isn't 1, before the rest is read, and with an `UnexpectedEof`
-    /// error if the source returns fewer than 24 bytes.
+    /// Fails with an `InvalidData` error if the version isn't 1, before the rest is read, and with an
+    /// `UnexpectedEof` error if the source returns fewer than 24 bytes.
     pub fn parse_in<R: Source>(endian: Endianness, source: &mut R) -> Result<ClockData>
         ensures parses { ParsesClock (number_in endian) (R.state source.old) result (R.state source.new) }
         ensures pauses { PausesOnlyOnError (R.state source.old) result (R.state source.new) }

@@ -13,8 +13,8 @@ use std::alloc::{AllocError, Global};
 use std::collections::BTreeMap;
 use std::io;
 
-/// The names of the performance monitoring units (PMUs) in ascending order of their numbers (section PMU_MAPPINGS of
-/// perf).
+/// The names of the performance monitoring units (PMUs) in ascending order of their numbers (section
+/// PMU_MAPPINGS of perf).
 #[derive(Drop)]
 pub struct PmuMappings(pub IndexMap<u32, String>);
 
@@ -88,11 +88,11 @@ fn into_index_map(
 impl PmuMappings {
     /// Reads the units at the position of a borrowed source.
     ///
-    /// The section is a count of four bytes, and for each unit a number of four bytes and a string. A name that isn't
-    /// UTF-8 is dropped. A number with several names maps to the last of them.
+    /// The section is a count of four bytes, and for each unit a number of four bytes and a string. A name
+    /// that isn't UTF-8 is dropped. A number with several names maps to the last of them.
     ///
-    /// Fails with an `UnexpectedEof` source error if the section is truncated, and with `AppendError::Memory` if memory runs
-    /// out.
+    /// Fails with an `UnexpectedEof` source error if the section is truncated, and with `AppendError::Memory`
+    /// if memory runs out.
     pub fn read_from<R: Source, T: FileOrder>(
         alloc: Global,
         source: &mut R,
@@ -110,8 +110,8 @@ impl PmuMappings {
 
     /// Reads the units at the position of an owned source. See `read_from`.
     ///
-    /// Fails with an `UnexpectedEof` error if the section is truncated, and with an `OutOfMemory` error if memory runs
-    /// out.
+    /// Fails with an `UnexpectedEof` error if the section is truncated, and with an `OutOfMemory` error if
+    /// memory runs out.
     pub fn parse<R: Source + Drop, T: FileOrder>(
         alloc: Global,
         mut reader: R,

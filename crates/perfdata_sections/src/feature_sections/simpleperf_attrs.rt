@@ -20,7 +20,8 @@ pub(crate) fn read_simpleperf_attrs<C: PlacedSource, T: FileOrder>(
     attr_size: u64,
     types: &[SimplePerfEventType],
 ) -> Result<Vec<AttributeDescription>, Error>
-    ensures reads { ReadsSimpleperfAttrs T.number_of attr_size section.now types.now (C.state source.old) result (C.state source.new) }
+    ensures reads { ReadsSimpleperfAttrs T.number_of attr_size section.now types.now
+        (C.state source.old) result (C.state source.new) }
     ensures pauses { PausesOnlyOnError (C.state source.old) result (C.state source.new) }
     ensures same_loan { C.loan source.new ≡ C.loan source.old }
 {

@@ -6,7 +6,8 @@ use crate::protobuf::groups::skip_group;
 use crate::protobuf::wire::{Value, WireType, read_key, read_value};
 use perfdata_sections::decode_error::DecodeError;
 
-/// The messages that the decoder knows. `Address` is the message of both the ELF file info and the kernel module info.
+/// The messages that the decoder knows. `Address` is the message of both the ELF file info and the kernel
+/// module info.
 #[derive(Clone, Copy, Debug, PartialEq, Eq)]
 pub(crate) enum Message {
     File,

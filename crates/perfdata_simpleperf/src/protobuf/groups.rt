@@ -9,14 +9,15 @@ use perfdata_sections::decode_error::DecodeError;
 /// The maximum number of unknown groups nested in one another.
 const MAX_GROUP_DEPTH: usize = 100;
 
-// Skips a field, or a key that starts or ends a group. `open_groups` contains the field numbers of the groups that are open
-// at `bytes`, the outermost first.
+// Skips a field, or a key that starts or ends a group. `open_groups` contains the field numbers of the groups
+// that are open at `bytes`, the outermost first.
 fn skip_group_item<'a>(
     open_groups: &mut ArrayVec<u32, MAX_GROUP_DEPTH>,
     bytes: &'a [u8],
 ) -> Result<&'a [u8], DecodeError>
     requires { 0 < length open_groups.old.items }
-    ensures on_ok { IfOk result (λ rest. GroupItem open_groups.old.items bytes.now open_groups.new.items rest.now) }
+    ensures on_ok { IfOk result (λ rest. GroupItem open_groups.old.items bytes.now open_groups.new.items
+        rest.now) }
     ensures on_error { IfErr result (λ e. GroupItemError open_groups.old.items bytes.now e) }
 {
     let (key, rest) = read_key(bytes)?;

@@ -39,9 +39,15 @@ fn merge_symbol_field(
     symbol: &mut SimpleperfSymbol,
     field: &Field<'_>,
 ) -> Result<(), DecodeError>
-    ensures value { OnOk result (symbol_value symbol.new ≡ symbol_from (symbol_value symbol.old) (field_value field.now ∷ [])) }
-    ensures valid_contents { OnOk result (IsValidContents NoNestedMessage (field_type messages.Symbol (field_value field.now).field_number) (field_value field.now).contents) }
-    ensures on_error { IfErr result (λ e. (e ≡ Memory) ⊎ IsInvalidContents NoNestedMessageError (field_type messages.Symbol (field_value field.now).field_number) (field_value field.now).contents e) }
+    ensures value { OnOk result (symbol_value symbol.new
+        ≡ symbol_from (symbol_value symbol.old) (field_value field.now ∷ [])) }
+    ensures valid_contents { OnOk result
+        (IsValidContents NoNestedMessage (field_type messages.Symbol (field_value field.now).field_number)
+        (field_value field.now).contents) }
+    ensures on_error { IfErr result (λ e. (e ≡ Memory)
+        ⊎ IsInvalidContents NoNestedMessageError
+        (field_type messages.Symbol (field_value field.now).field_number)
+        (field_value field.now).contents e) }
 {
     match (field.number, field.value) {
         (1, Value::Number(n)) => symbol.vaddr = n,
@@ -71,7 +77,8 @@ fn decode_symbol(alloc: Global, bytes: &[u8]) -> Result<SimpleperfSymbol, Decode
 }
 
 fn push_packed(offsets: &mut Vec<u64>, bytes: &[u8]) -> Result<(), DecodeError>
-    ensures on_ok { OnOk result ((ns : List ℕ) × ArePacked bytes.now ns × (offsets.new.items ≡ offsets.old.items ++ ns)) }
+    ensures on_ok { OnOk result ((ns : List ℕ) × ArePacked bytes.now ns
+        × (offsets.new.items ≡ offsets.old.items ++ ns)) }
     ensures on_error { IfErr result (λ e. (e ≡ Memory) ⊎ PackedError bytes.now e) }
 {
     let mut rest = bytes;
@@ -84,9 +91,14 @@ fn push_packed(offsets: &mut Vec<u64>, bytes: &[u8]) -> Result<(), DecodeError>
 }
 
 fn merge_dex_field(offsets: &mut Vec<u64>, field: &Field<'_>) -> Result<(), DecodeError>
-    ensures value { OnOk result ((ns : List ℕ) × AreOffsets (contents_of 1 (field_value field.now ∷ [])) ns × (offsets.new.items ≡ offsets.old.items ++ ns)) }
-    ensures valid_contents { OnOk result (IsValidContents NoNestedMessage (field_type messages.Dex (field_value field.now).field_number) (field_value field.now).contents) }
-    ensures on_error { IfErr result (λ e. (e ≡ Memory) ⊎ IsInvalidContents NoNestedMessageError (field_type messages.Dex (field_value field.now).field_number) (field_value field.now).contents e) }
+    ensures value { OnOk result ((ns : List ℕ) × AreOffsets (contents_of 1 (field_value field.now ∷ [])) ns
+        × (offsets.new.items ≡ offsets.old.items ++ ns)) }
+    ensures valid_contents { OnOk result
+        (IsValidContents NoNestedMessage (field_type messages.Dex (field_value field.now).field_number)
+        (field_value field.now).contents) }
+    ensures on_error { IfErr result (λ e. (e ≡ Memory)
+        ⊎ IsInvalidContents NoNestedMessageError
+        (field_type messages.Dex (field_value field.now).field_number) (field_value field.now).contents e) }
 {
     if field.number != 1 {
         return Ok(());
@@ -105,7 +117,8 @@ fn merge_dex_field(offsets: &mut Vec<u64>, field: &Field<'_>) -> Result<(), Deco
 }
 
 fn merge_dex(offsets: &mut Vec<u64>, bytes: &[u8]) -> Result<(), DecodeError>
-    ensures on_ok { OnOk result ((ns : List ℕ) × IsDex bytes.now ns × (offsets.new.items ≡ offsets.old.items ++ ns)) }
+    ensures on_ok { OnOk result ((ns : List ℕ) × IsDex bytes.now ns
+        × (offsets.new.items ≡ offsets.old.items ++ ns)) }
     ensures on_error { IfErr result (λ e. (e ≡ Memory) ⊎ LeafError messages.Dex bytes.now e) }
 {
     let mut rest = bytes;
@@ -176,9 +189,12 @@ fn merge_info(
     bytes: &[u8],
 ) -> Result<SimpleperfTypeSpecificInfo, DecodeError>
     requires { IsTrue (is_info field_number) }
-    ensures on_ok { IfOk result (λ new. MergesInfo field_number bytes.now (info_value info) (info_value (Some new))) }
-    ensures valid_contents { OnOk result (IsValidContents IsAnyLeaf (field_type messages.File field_number) (bytes_contents bytes.now)) }
-    ensures on_error { IfErr result (λ e. (e ≡ Memory) ⊎ IsInvalidContents LeafError (field_type messages.File field_number) (bytes_contents bytes.now) e) }
+    ensures on_ok { IfOk result (λ new. MergesInfo field_number bytes.now (info_value info)
+        (info_value (Some new))) }
+    ensures valid_contents { OnOk result
+        (IsValidContents IsAnyLeaf (field_type messages.File field_number) (bytes_contents bytes.now)) }
+    ensures on_error { IfErr result (λ e. (e ≡ Memory)
+        ⊎ IsInvalidContents LeafError (field_type messages.File field_number) (bytes_contents bytes.now) e) }
 {
     match field_number {
         5 => {
@@ -209,13 +225,23 @@ fn merge_record_field(
     file: &mut SimpleperfFileRecord,
     field: &Field<'_>,
 ) -> Result<(), DecodeError>
-    ensures path { OnOk result ((record_value file.new).path ≡ last_or (record_value file.old).path (texts_of 1 (field_value field.now ∷ []))) }
-    ensures type_ { OnOk result ((record_value file.new).type_ ≡ last_or (record_value file.old).type_ (map low_u32 (numbers_of 2 (field_value field.now ∷ [])))) }
-    ensures min_vaddr { OnOk result ((record_value file.new).min_vaddr ≡ last_or (record_value file.old).min_vaddr (numbers_of 3 (field_value field.now ∷ []))) }
-    ensures symbol { OnOk result ((ss : List SymbolValue) × AreSymbols (texts_of 4 (field_value field.now ∷ [])) ss × ((record_value file.new).symbol ≡ (record_value file.old).symbol ++ ss)) }
-    ensures info { OnOk result (MergesInfos (infos_of (field_value field.now ∷ [])) (record_value file.old).info (record_value file.new).info) }
-    ensures valid_contents { OnOk result (IsValidContents IsAnyLeaf (field_type messages.File (field_value field.now).field_number) (field_value field.now).contents) }
-    ensures on_error { IfErr result (λ e. (e ≡ Memory) ⊎ IsInvalidContents LeafError (field_type messages.File (field_value field.now).field_number) (field_value field.now).contents e) }
+    ensures path { OnOk result ((record_value file.new).path
+        ≡ last_or (record_value file.old).path (texts_of 1 (field_value field.now ∷ []))) }
+    ensures type_ { OnOk result ((record_value file.new).type_
+        ≡ last_or (record_value file.old).type_ (map low_u32 (numbers_of 2 (field_value field.now ∷ [])))) }
+    ensures min_vaddr { OnOk result ((record_value file.new).min_vaddr
+        ≡ last_or (record_value file.old).min_vaddr (numbers_of 3 (field_value field.now ∷ []))) }
+    ensures symbol { OnOk result ((ss : List SymbolValue)
+        × AreSymbols (texts_of 4 (field_value field.now ∷ [])) ss
+        × ((record_value file.new).symbol ≡ (record_value file.old).symbol ++ ss)) }
+    ensures info { OnOk result (MergesInfos (infos_of (field_value field.now ∷ []))
+        (record_value file.old).info (record_value file.new).info) }
+    ensures valid_contents { OnOk result
+        (IsValidContents IsAnyLeaf (field_type messages.File (field_value field.now).field_number)
+        (field_value field.now).contents) }
+    ensures on_error { IfErr result (λ e. (e ≡ Memory)
+        ⊎ IsInvalidContents LeafError (field_type messages.File (field_value field.now).field_number)
+        (field_value field.now).contents e) }
 {
     match (field.number, field.value) {
         (1, Value::Bytes(bytes)) => {

@@ -39,8 +39,8 @@ pub(crate) trait ChunkFormat {
 
 /// Splits the first chunk off a section, and returns its bytes after the length, and the rest of the section.
 ///
-/// A chunk is a length of 4 bytes in byte order `endian` and that many bytes. Fails with an unexpected end of file if the
-/// length is truncated, and with `FeatureSectionTooSmall` if the chunk exceeds the section.
+/// A chunk is a length of 4 bytes in byte order `endian` and that many bytes. Fails with an unexpected end of
+/// file if the length is truncated, and with `FeatureSectionTooSmall` if the chunk exceeds the section.
 pub(crate) fn split_chunk(endian: Endianness, bytes: &[u8]) -> Result<(&[u8], &[u8]), Error>
     ensures on_ok { IfOk result (λ x. ChunkAt endian bytes.now x.0.now x.1.now) }
     ensures on_error { IfErr result (λ e. IsChunkReadError endian bytes.now e) }
@@ -62,8 +62,12 @@ pub(crate) fn parse_chunks<S: ChunkFormat>(
     bytes: &[u8],
     endian: Endianness,
 ) -> Result<Vec<SimpleperfFileRecord>, Error>
-    ensures on_ok { IfOk result (λ v. AreChunks endian (S.decodes_to endian) bytes.now (map record_value v.items)) }
-    ensures on_error { IfErr result (λ e. (e ≡ Memory) ⊎ ((f : ChunkError S.FormatError) × FirstChunkError endian (S.decodes_to endian) (S.is_invalid_for endian) bytes.now f × ReportsChunkError S.is_reported_by f e)) }
+    ensures on_ok { IfOk result (λ v. AreChunks endian (S.decodes_to endian) bytes.now
+        (map record_value v.items)) }
+    ensures on_error { IfErr result (λ e. (e ≡ Memory)
+        ⊎ ((f : ChunkError S.FormatError)
+        × FirstChunkError endian (S.decodes_to endian) (S.is_invalid_for endian) bytes.now f
+        × ReportsChunkError S.is_reported_by f e)) }
 {
     let mut records = Vec::new(alloc);
     let mut rest = bytes;

@@ -57,11 +57,13 @@ fn parse_events(alloc: Global, text: &str) -> Result<Option<Vec<SimplePerfEventT
 
 /// Returns the event types that a file's meta info lists.
 ///
-/// The value of the key `event_type_info` has one line for each event: its name, type and config, separated by commas. Further
-/// fields of a line are ignored. A number has one decimal digit or more, optionally after a plus sign, and is below 2^64.
+/// The value of the key `event_type_info` has one line for each event: its name, type and config, separated
+/// by commas. Further fields of a line are ignored. A number has one decimal digit or more, optionally after
+/// a plus sign, and is below 2^64.
 ///
-/// Returns `None` if the key is missing, or if any line lacks one of the three fields or has an invalid number. An empty line
-/// after a final newline has none of them. Fails with `AllocError` if the key is there and memory runs out.
+/// Returns `None` if the key is missing, or if any line lacks one of the three fields or has an invalid
+/// number. An empty line after a final newline has none of them. Fails with `AllocError` if the key is there
+/// and memory runs out.
 pub fn get_event_types(
     alloc: Global,
     meta_info_map: &HashMap<&str, &str>,

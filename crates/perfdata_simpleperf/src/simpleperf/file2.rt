@@ -42,12 +42,12 @@ impl ChunkFormat for ProtobufRecords {
 
 /// Parses the files with their symbols (section FILE2 of Android's simpleperf).
 ///
-/// `bytes` is the whole section. Each of its chunks is a length of 4 bytes in byte order `endian`, and a message of that many
-/// bytes.
+/// `bytes` is the whole section. Each of its chunks is a length of 4 bytes in byte order `endian`, and a
+/// message of that many bytes.
 ///
-/// Returns the first error in the section, from left to right: `IoError` of kind `UnexpectedEof` if a length is truncated,
-/// `FeatureSectionTooSmall` if a message exceeds the section, `ProtobufParsingSimpleperfFileSection` if a message can't be
-/// decoded. Returns `Memory` if out of memory.
+/// Returns the first error in the section, from left to right: `IoError` of kind `UnexpectedEof` if a length
+/// is truncated, `FeatureSectionTooSmall` if a message exceeds the section,
+/// `ProtobufParsingSimpleperfFileSection` if a message can't be decoded. Returns `Memory` if out of memory.
 pub fn parse_file2_section(
     alloc: Global,
     bytes: &[u8],
@@ -56,11 +56,14 @@ pub fn parse_file2_section(
     // The records have the values of the section's messages.
     ensures on_ok { IfOk result (λ v. IsFile2Of endian bytes.now (map record_value v.items)) }
     // A valid section is parsed, unless memory runs out, and has no other values.
-    ensures no_other { (vs : List FileValue) → IsFile2Of endian bytes.now vs → MatchResult result (λ v. map record_value v.items ≡ vs) (λ e. e ≡ Memory) }
+    ensures no_other { (vs : List FileValue) → IsFile2Of endian bytes.now vs
+        → MatchResult result (λ v. map record_value v.items ≡ vs) (λ e. e ≡ Memory) }
     // Unless memory runs out, an error reports an error of the section with only valid messages before it.
-    ensures on_error { IfErr result (λ e. (e ≡ Memory) ⊎ ((f : ChunkError DecodeError) × File2Error endian bytes.now f × ReportsFile2Error f e)) }
+    ensures on_error { IfErr result (λ e. (e ≡ Memory)
+        ⊎ ((f : ChunkError DecodeError) × File2Error endian bytes.now f × ReportsFile2Error f e)) }
     // Such an error of the section is reported, unless memory runs out before it.
-    ensures first_error { (f : ChunkError DecodeError) → File2Error endian bytes.now f → IsErrAnd result (λ e. (e ≡ Memory) ⊎ ReportsFile2Error f e) }
+    ensures first_error { (f : ChunkError DecodeError) → File2Error endian bytes.now f
+        → IsErrAnd result (λ e. (e ≡ Memory) ⊎ ReportsFile2Error f e) }
 {
     parse_chunks::<ProtobufRecords>(alloc, bytes, endian)
 }

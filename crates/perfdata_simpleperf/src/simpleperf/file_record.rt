@@ -79,13 +79,16 @@ impl SimpleperfFileRecord {
         // The bytes are a valid message, and the record is its value.
         ensures on_ok { IfOk result (λ r. IsFileRecord bytes.now (record_value r)) }
         // A valid message is decoded, unless memory runs out.
-        ensures message { (ps : List FieldValue) → IsFileMessage bytes.now ps → MatchResult result (λ r. HasValue ps (record_value r)) (λ e. e ≡ Memory) }
+        ensures message { (ps : List FieldValue) → IsFileMessage bytes.now ps
+            → MatchResult result (λ r. HasValue ps (record_value r)) (λ e. e ≡ Memory) }
         // The message has no other value.
-        ensures no_other { (v : FileValue) → IsFileRecord bytes.now v → MatchResult result (λ r. record_value r ≡ v) (λ e. e ≡ Memory) }
+        ensures no_other { (v : FileValue) → IsFileRecord bytes.now v
+            → MatchResult result (λ r. record_value r ≡ v) (λ e. e ≡ Memory) }
         // Unless memory runs out, an error is an error of the message with only complete fields before it.
         ensures on_error { IfErr result (λ e. (e ≡ Memory) ⊎ FileMessageError bytes.now e) }
         // Such an error of the message is returned, unless memory runs out before it.
-        ensures first_error { (e : DecodeError) → FileMessageError bytes.now e → IsErrAnd result (λ f. (f ≡ Memory) ⊎ (f ≡ e)) }
+        ensures first_error { (e : DecodeError) → FileMessageError bytes.now e
+            → IsErrAnd result (λ f. (f ≡ Memory) ⊎ (f ≡ e)) }
     {
         decode_file_record(alloc, bytes)
     }

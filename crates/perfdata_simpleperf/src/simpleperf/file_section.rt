@@ -21,7 +21,8 @@ use std::io::{self, ErrorKind};
 // Decodes the record at the start of `bytes` in byte order `endian`.
 fn decode_v1_in(alloc: Global, endian: Endianness, bytes: &[u8]) -> io::Result<SimpleperfFileRecord>
     ensures on_ok { IfOk result (λ r. IsV1 (number_in endian) bytes.now (record_value r)) }
-    ensures on_error { IfErr result (λ e. (error_kind e ≡ OutOfMemory) ⊎ V1Error (number_in endian) bytes.now (error_kind e)) }
+    ensures on_error { IfErr result (λ e. (error_kind e ≡ OutOfMemory)
+        ⊎ V1Error (number_in endian) bytes.now (error_kind e)) }
 {
     match endian {
         Endianness::LittleEndian => SimpleperfFileRecord::decode_v1::<LittleEndian>(alloc, bytes),
@@ -58,12 +59,12 @@ impl ChunkFormat for V1Records {
 
 /// Parses the files with their symbols as older simpleperf writes them (section FILE).
 ///
-/// `bytes` is the whole section. Each of its chunks is a length of 4 bytes in byte order `endian`, and that many bytes with a
-/// record that `decode_v1` decodes.
+/// `bytes` is the whole section. Each of its chunks is a length of 4 bytes in byte order `endian`, and that
+/// many bytes with a record that `decode_v1` decodes.
 ///
-/// Returns the first error in the section, from left to right: `IoError` of kind `UnexpectedEof` if a length is truncated,
-/// `FeatureSectionTooSmall` if a chunk exceeds the section, `ParsingSimpleperfFileV1Section` if a record can't be decoded.
-/// Returns `Memory` if out of memory.
+/// Returns the first error in the section, from left to right: `IoError` of kind `UnexpectedEof` if a length
+/// is truncated, `FeatureSectionTooSmall` if a chunk exceeds the section, `ParsingSimpleperfFileV1Section` if
+/// a record can't be decoded. Returns `Memory` if out of memory.
 pub fn parse_file_section(
     alloc: Global,
     bytes: &[u8],
@@ -72,11 +73,14 @@ pub fn parse_file_section(
     // The records have the values of the section's records.
     ensures on_ok { IfOk result (λ v. IsFileSectionOf endian bytes.now (map record_value v.items)) }
     // A valid section is parsed, unless memory runs out, and has no other values.
-    ensures no_other { (vs : List FileValue) → IsFileSectionOf endian bytes.now vs → MatchResult result (λ v. map record_value v.items ≡ vs) (λ e. e ≡ Memory) }
+    ensures no_other { (vs : List FileValue) → IsFileSectionOf endian bytes.now vs
+        → MatchResult result (λ v. map record_value v.items ≡ vs) (λ e. e ≡ Memory) }
     // Unless memory runs out, an error reports an error of the section with only valid records before it.
-    ensures on_error { IfErr result (λ e. (e ≡ Memory) ⊎ ((f : ChunkError ErrorKind) × FileSectionError endian bytes.now f × ReportsFileSectionError f e)) }
+    ensures on_error { IfErr result (λ e. (e ≡ Memory)
+        ⊎ ((f : ChunkError ErrorKind) × FileSectionError endian bytes.now f × ReportsFileSectionError f e)) }
     // Such an error of the section is reported, unless memory runs out before it.
-    ensures first_error { (f : ChunkError ErrorKind) → FileSectionError endian bytes.now f → IsErrAnd result (λ e. (e ≡ Memory) ⊎ ReportsFileSectionError f e) }
+    ensures first_error { (f : ChunkError ErrorKind) → FileSectionError endian bytes.now f
+        → IsErrAnd result (λ e. (e ≡ Memory) ⊎ ReportsFileSectionError f e) }
 {
     parse_chunks::<V1Records>(alloc, bytes, endian)
 }

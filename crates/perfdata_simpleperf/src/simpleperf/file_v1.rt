@@ -43,7 +43,8 @@ fn split_u64<T: ByteOrder>(bytes: &[u8]) -> Result<(u64, &[u8])>
     Ok((T::read_u64(bytes), rest))
 }
 
-// Splits a file type, which is at most `DSO_UNKNOWN_FILE`, off the start of `bytes`. Returns it with the rest.
+// Splits a file type, which is at most `DSO_UNKNOWN_FILE`, off the start of `bytes`. Returns it with the
+// rest.
 fn split_file_type<T: ByteOrder>(bytes: &[u8]) -> Result<(u32, &[u8])>
     ensures on_ok { IfOk result (λ x. BoundedAt T.number_of (λ _. 5) bytes.now x.0 x.1.now) }
     ensures on_error { IfErr result (λ e. BoundedError T.number_of (λ _. 5) bytes.now (error_kind e)) }
@@ -55,8 +56,8 @@ fn split_file_type<T: ByteOrder>(bytes: &[u8]) -> Result<(u32, &[u8])>
     Ok((type_, rest))
 }
 
-// Splits a count of items off the start of `bytes`. Returns it with the rest. Each item has at least one byte: a count above
-// the number of bytes after it is invalid.
+// Splits a count of items off the start of `bytes`. Returns it with the rest. Each item has at least one
+// byte: a count above the number of bytes after it is invalid.
 fn split_count<T: ByteOrder>(bytes: &[u8]) -> Result<(u32, &[u8])>
     ensures on_ok { IfOk result (λ x. BoundedAt T.number_of length bytes.now x.0 x.1.now) }
     ensures on_error { IfErr result (λ e. BoundedError T.number_of length bytes.now (error_kind e)) }
@@ -71,7 +72,8 @@ fn split_count<T: ByteOrder>(bytes: &[u8]) -> Result<(u32, &[u8])>
 // Splits a symbol off the start of `bytes`. Returns it with the rest.
 fn split_symbol<T: ByteOrder>(alloc: Global, bytes: &[u8]) -> Result<(SimpleperfSymbol, &[u8])>
     ensures on_ok { IfOk result (λ x. SymbolAt T.number_of bytes.now (symbol_value x.0) x.1.now) }
-    ensures on_error { IfErr result (λ e. (error_kind e ≡ OutOfMemory) ⊎ SymbolError T.number_of bytes.now (error_kind e)) }
+    ensures on_error { IfErr result (λ e. (error_kind e ≡ OutOfMemory)
+        ⊎ SymbolError T.number_of bytes.now (error_kind e)) }
 {
     let (vaddr, rest) = split_u64::<T>(bytes)?;
     let (len, rest) = split_u32::<T>(rest)?;
@@ -85,8 +87,11 @@ fn split_symbols<T: ByteOrder>(
     alloc: Global,
     bytes: &[u8],
 ) -> Result<(Vec<SimpleperfSymbol>, &[u8])>
-    ensures on_ok { IfOk result (λ x. CountedAt T.number_of (SymbolAt T.number_of) bytes.now (map symbol_value x.0.items) x.1.now) }
-    ensures on_error { IfErr result (λ e. (error_kind e ≡ OutOfMemory) ⊎ CountedError T.number_of (SymbolAt T.number_of) (SymbolError T.number_of) bytes.now (error_kind e)) }
+    ensures on_ok { IfOk result (λ x. CountedAt T.number_of (SymbolAt T.number_of) bytes.now
+        (map symbol_value x.0.items) x.1.now) }
+    ensures on_error { IfErr result (λ e. (error_kind e ≡ OutOfMemory)
+        ⊎ CountedError T.number_of (SymbolAt T.number_of) (SymbolError T.number_of) bytes.now
+        (error_kind e)) }
 {
     let (count, start) = split_count::<T>(bytes)?;
     let mut symbols = Vec::new(alloc);
@@ -101,8 +106,11 @@ fn split_symbols<T: ByteOrder>(
 
 // Splits a count and that many offsets off the start of `bytes`. Returns the offsets with the rest.
 fn split_offsets<T: ByteOrder>(alloc: Global, bytes: &[u8]) -> Result<(Vec<u64>, &[u8])>
-    ensures on_ok { IfOk result (λ x. CountedAt T.number_of (IntegerAt T.number_of 8) bytes.now x.0.items x.1.now) }
-    ensures on_error { IfErr result (λ e. (error_kind e ≡ OutOfMemory) ⊎ CountedError T.number_of (IntegerAt T.number_of 8) (IntegerError T.number_of 8) bytes.now (error_kind e)) }
+    ensures on_ok { IfOk result (λ x. CountedAt T.number_of
+        (IntegerAt T.number_of 8) bytes.now x.0.items x.1.now) }
+    ensures on_error { IfErr result (λ e. (error_kind e ≡ OutOfMemory)
+        ⊎ CountedError T.number_of (IntegerAt T.number_of 8) (IntegerError T.number_of 8) bytes.now
+        (error_kind e)) }
 {
     let (count, start) = split_count::<T>(bytes)?;
     let mut offsets = Vec::new(alloc);
@@ -115,7 +123,8 @@ fn split_offsets<T: ByteOrder>(alloc: Global, bytes: &[u8]) -> Result<(Vec<u64>,
     Ok((offsets, rest))
 }
 
-// Splits an offset off the start of `bytes`. Returns it with the rest. If `bytes` is empty, the offset is `u64::MAX`.
+// Splits an offset off the start of `bytes`. Returns it with the rest. If `bytes` is empty, the offset is
+// `u64::MAX`.
 fn split_offset<T: ByteOrder>(bytes: &[u8]) -> Result<(u64, &[u8])>
     ensures on_ok { IfOk result (λ x. OffsetAt T.number_of bytes.now x.0 x.1.now) }
     ensures on_error { IfErr result (λ e. OffsetError T.number_of bytes.now (error_kind e)) }
@@ -133,7 +142,8 @@ fn split_info<T: ByteOrder>(
     bytes: &[u8],
 ) -> Result<(Option<SimpleperfTypeSpecificInfo>, &[u8])>
     ensures on_ok { IfOk result (λ x. InfoAt T.number_of type_ bytes.now (info_value x.0) x.1.now) }
-    ensures on_error { IfErr result (λ e. (error_kind e ≡ OutOfMemory) ⊎ InfoError T.number_of type_ bytes.now (error_kind e)) }
+    ensures on_error { IfErr result (λ e. (error_kind e ≡ OutOfMemory)
+        ⊎ InfoError T.number_of type_ bytes.now (error_kind e)) }
 {
     match type_ {
         DSO_DEX_FILE => {
@@ -165,7 +175,8 @@ fn split_info<T: ByteOrder>(
 // Decodes the record at the start of `bytes`.
 fn decode_v1_record<T: ByteOrder>(alloc: Global, bytes: &[u8]) -> Result<SimpleperfFileRecord>
     ensures on_ok { IfOk result (λ r. IsV1 T.number_of bytes.now (record_value r)) }
-    ensures on_error { IfErr result (λ e. (error_kind e ≡ OutOfMemory) ⊎ V1Error T.number_of bytes.now (error_kind e)) }
+    ensures on_error { IfErr result (λ e. (error_kind e ≡ OutOfMemory)
+        ⊎ V1Error T.number_of bytes.now (error_kind e)) }
 {
     let (text, rest) = split_nul_text(bytes)?;
     let (type_, rest) = split_file_type::<T>(rest)?;
@@ -185,23 +196,27 @@ fn decode_v1_record<T: ByteOrder>(alloc: Global, bytes: &[u8]) -> Result<Simplep
 impl SimpleperfFileRecord {
     /// Decodes the record at the start of `bytes` as older simpleperf writes it in section FILE.
     ///
-    /// `T` is the byte order. The record consists of the path up to a NUL, the type (4 bytes), the lowest address (8 bytes), the
-    /// number of symbols (4 bytes) and the symbols. A symbol is an address (8 bytes), a length (4 bytes) and a name up to a
-    /// NUL. A DEX file then has a count (4 bytes) and that many offsets (8 bytes each). An ELF file or a kernel module has an
-    /// offset (8 bytes), which is 2^64 - 1 if no bytes remain. Bytes after the record are ignored.
+    /// `T` is the byte order. The record consists of the path up to a NUL, the type (4 bytes), the lowest
+    /// address (8 bytes), the number of symbols (4 bytes) and the symbols. A symbol is an address (8 bytes),
+    /// a length (4 bytes) and a name up to a NUL. A DEX file then has a count (4 bytes) and that many offsets
+    /// (8 bytes each). An ELF file or a kernel module has an offset (8 bytes), which is 2^64 - 1 if no bytes
+    /// remain. Bytes after the record are ignored.
     ///
-    /// Returns the first error, from left to right. Its kind is `UnexpectedEof` if a part is truncated, and `InvalidData` if a
-    /// string isn't UTF-8, the type is above 5, or a count exceeds the number of bytes after it. The kind is `OutOfMemory` if
-    /// out of memory.
+    /// Returns the first error, from left to right. Its kind is `UnexpectedEof` if a part is truncated, and
+    /// `InvalidData` if a string isn't UTF-8, the type is above 5, or a count exceeds the number of bytes
+    /// after it. The kind is `OutOfMemory` if out of memory.
     pub fn decode_v1<T: ByteOrder>(alloc: Global, bytes: &[u8]) -> Result<Self>
         // The bytes begin with a record of this value.
         ensures on_ok { IfOk result (λ r. IsV1 T.number_of bytes.now (record_value r)) }
         // A valid record is decoded, unless memory runs out, and has no other value.
-        ensures no_other { (v : FileValue) → IsV1 T.number_of bytes.now v → MatchResult result (λ r. record_value r ≡ v) (λ e. error_kind e ≡ OutOfMemory) }
+        ensures no_other { (v : FileValue) → IsV1 T.number_of bytes.now v
+            → MatchResult result (λ r. record_value r ≡ v) (λ e. error_kind e ≡ OutOfMemory) }
         // Unless memory runs out, the error has the kind of the error in the first invalid part.
-        ensures on_error { IfErr result (λ e. (error_kind e ≡ OutOfMemory) ⊎ V1Error T.number_of bytes.now (error_kind e)) }
+        ensures on_error { IfErr result (λ e. (error_kind e ≡ OutOfMemory)
+            ⊎ V1Error T.number_of bytes.now (error_kind e)) }
         // Such an error is returned, by its kind, unless memory runs out.
-        ensures first_error { (k : ErrorKind) → V1Error T.number_of bytes.now k → IsErrAnd result (λ e. (error_kind e ≡ OutOfMemory) ⊎ (error_kind e ≡ k)) }
+        ensures first_error { (k : ErrorKind) → V1Error T.number_of bytes.now k
+            → IsErrAnd result (λ e. (error_kind e ≡ OutOfMemory) ⊎ (error_kind e ≡ k)) }
     {
         decode_v1_record::<T>(alloc, bytes)
     }

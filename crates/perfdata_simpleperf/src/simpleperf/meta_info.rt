@@ -57,8 +57,8 @@ fn insert_pair<'a>(
 
 /// Parses the pairs of simpleperf's meta info (section SIMPLEPERF_META_INFO).
 ///
-/// The segments between NULs are alternately a key and its value. The last value of a key counts. A last segment without a
-/// partner is ignored and isn't checked.
+/// The segments between NULs are alternately a key and its value. The last value of a key counts. A last
+/// segment without a partner is ignored and isn't checked.
 ///
 /// Fails with `StringUtf8` if a key or a value isn't UTF-8, and with `Memory` if out of memory.
 pub fn parse_meta_info_map(alloc: Global, bytes: &[u8]) -> Result<HashMap<&str, &str>, Error>

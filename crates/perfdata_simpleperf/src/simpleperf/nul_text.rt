@@ -18,7 +18,8 @@ pub(crate) fn split_at_nul(bytes: &[u8]) -> Option<(&[u8], &[u8])>
     }
 }
 
-// Splits a NUL-terminated string off the start of `bytes`. Returns it without its NUL, and the bytes after the NUL.
+// Splits a NUL-terminated string off the start of `bytes`. Returns it without its NUL, and the bytes after
+// the NUL.
 pub(crate) fn split_nul_text(bytes: &[u8]) -> Result<(&str, &[u8])>
     ensures on_ok { IfOk result (λ x. TextAt bytes.now x.0.now x.1.now) }
     ensures on_error { IfErr result (λ e. TextError bytes.now (error_kind e)) }
@@ -39,8 +40,8 @@ pub trait SliceReadStringExt<'a> {
 
     /// Reads the string up to the first NUL, and consumes it with the NUL.
     ///
-    /// Fails with `UnexpectedEof` if there is no NUL, and with `InvalidData` if the string isn't UTF-8. On error, nothing is
-    /// consumed.
+    /// Fails with `UnexpectedEof` if there is no NUL, and with `InvalidData` if the string isn't UTF-8. On
+    /// error, nothing is consumed.
     fn read_nul_terminated_str(&mut self) -> Result<&'a str>
         ensures { ReadsNulText (remaining_bytes self.old) result (remaining_bytes self.new) };
 }
