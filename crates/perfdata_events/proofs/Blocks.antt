@@ -2,7 +2,7 @@
 use Rattle.std.proofs.Common.{◌≡◌, ℕ, ◌+◌, List, ◌++◌, length, take, drop, sym, ap, subst, ◌∙◌, arith, length-drop}
 use Rattle.std.proofs.Math.Seq.{take-add}
 use Rattle.std.proofs.lemmas.List.{drop-drop, length-take-le}
-use Rattle.perfdata_event_fields.specs.Format.{IsBlock}
+use Rattle.perfdata_events.specs.Format.{IsBlock}
 
 -- Two blocks, one after the other.
 pub two_blocks : (n m : ℕ) (xs a ys b zs : List ℕ) → IsBlock n xs a ys → IsBlock m ys b zs → IsBlock (n + m) xs (a ++ b) zs

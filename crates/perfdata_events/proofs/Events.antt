@@ -8,7 +8,7 @@ use Rattle.perfdata_base.specs.Raw.{bytes_of}
 use Rattle.perfdata_base.specs.declared.event.RawEventRecord.{RawEventRecord}
 use Rattle.perfdata_events.specs.EventFormat.{trailing_size, before_trailing}
 use Rattle.perfdata_events.specs.Event.{IsEvent, IsParsed, EventFails, DecodesEvent, ParseFails, kind_of, number, has_known_fields}
-use Rattle.perfdata_event_fields.specs.Format.{Decodes}
+use Rattle.perfdata_events.specs.Format.{Decodes}
 use Rattle.perfdata_events.specs.Sample.{sample, sample_of}
 use Rattle.perfdata_events.specs.declared.format.EventFormat.{EventFormat}
 use Rattle.perfdata_events.specs.declared.sample.SampleRecord.{SampleRecord}

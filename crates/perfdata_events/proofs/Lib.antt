@@ -1,5 +1,7 @@
 pub mod Blocks
+pub mod Elements
 pub mod Events
+pub mod Frames
 pub mod OneOutcomes
 pub mod RecordOutcomes
 pub mod Offsets

@@ -9,8 +9,8 @@ use Rattle.perfdata_base.proofs.Numbers.{number_take}
 use Rattle.perfdata_base.specs.Endian.{number_in}
 use Rattle.perfdata_base.specs.ParseInfo.{is_set, offset_from_start, offset_from_end, checked_offset_from_start, checked_offset_from_end}
 use Rattle.perfdata_base.specs.declared.raw.Endianness.{Endianness}
-use Rattle.perfdata_event_fields.specs.Fields.{u64_at}
-use Rattle.perfdata_event_fields.specs.Words.{words_size, word_size, word_if, after, word_after}
+use Rattle.perfdata_events.specs.Fields.{u64_at}
+use Rattle.perfdata_events.specs.Words.{words_size, word_size, word_if, after, word_after}
 
 pub set_or_not : (b : Bool) → (b ≡ true) ⊎ (b ≡ false)
 set_or_not true = inl refl

@@ -6,8 +6,8 @@ use Rattle.std.specs.declared.io.ErrorKind.TheVariants.{UnexpectedEof, InvalidDa
 use Rattle.std.proofs.lemmas.Bool.{cases_eq, cases_lt}
 use Rattle.std.proofs.lemmas.List.Elements.{All-cons, All-tail}
 use Rattle.perfdata_base.specs.Raw.{HasNoNul, SplitsAtNul}
-use Rattle.perfdata_event_fields.specs.Format.{Outcome, encodes, fails, IsTruncated, IsUnterminated, block, text, fixed, fixed_and_text, fixed_and_block, both, led, optional}
-use Rattle.perfdata_event_fields.specs.Words.{u64s_of, word, word_size, word_if, fixed_and_u64s}
+use Rattle.perfdata_events.specs.Format.{Outcome, encodes, fails, IsTruncated, IsUnterminated, block, text, fixed, fixed_and_text, fixed_and_block, both, led, optional}
+use Rattle.perfdata_events.specs.Words.{u64s_of, word, word_size, word_if, fixed_and_u64s}
 use Rattle.perfdata_events.specs.OneOutcome.{HasOneOutcome}
 
 module _ {V : Type 0} (format : List ℕ → Outcome V → Type 0) (size : List ℕ → ℕ) (value : List ℕ → V) (rest : List ℕ → List ℕ) where

@@ -4,7 +4,7 @@ use Rattle.std.specs.Prelude.{Option, Some, Result, Ok, Err}
 use Rattle.std.specs.Option.{option_map}
 use Rattle.std.specs.Result.{MatchResult, IsOkAnd}
 use Rattle.std.specs.declared.io.Error.{Error}
-use Rattle.perfdata_event_fields.specs.Format.{Outcome, Decodes, optional}
+use Rattle.perfdata_events.specs.Format.{Outcome, Decodes, optional}
 
 module _ {V R : Type 0} (format : List ℕ → Outcome V → Type 0) (view : R → V) (present : Bool) (old new : List ℕ) (is_present : present ≡ true) where
   pub decodes_some : (decoded : Result R Error) (result : Result (Option R) Error) → Decodes format view old decoded new

@@ -4,20 +4,20 @@ use Rattle.std.specs.Prelude.{None, Some}
 use Rattle.std.proofs.lemmas.List.{take-append-drop}
 use Rattle.perfdata_base.specs.ParseInfo.{is_set}
 use Rattle.perfdata_events.specs.Prefix.{ConsumesPrefix}
-use Rattle.perfdata_event_fields.specs.Format.{Outcome, block, text, fixed, fixed_and_text, fixed_and_block, both, led, optional}
-use Rattle.perfdata_event_fields.specs.Fields.{u32_at, u64_at}
-use Rattle.perfdata_event_fields.specs.Words.{u64s, word, word_size, after, fixed_and_u64s}
+use Rattle.perfdata_events.specs.Format.{Outcome, block, text, fixed, fixed_and_text, fixed_and_block, both, led, optional}
+use Rattle.perfdata_events.specs.Fields.{u32_at, u64_at}
+use Rattle.perfdata_events.specs.Words.{u64s, word, word_size, after, fixed_and_u64s}
 use Rattle.perfdata_events.specs.SampleId.{sample_id}
-use Rattle.perfdata_event_fields.specs.Task.{task_at}
-use Rattle.perfdata_event_fields.specs.ReadValues.{details, times, single_values, group_values, read_values, single, group}
+use Rattle.perfdata_events.specs.Task.{task_at}
+use Rattle.perfdata_events.specs.ReadValues.{details, times, single_values, group_values, read_values, single, group}
 use Rattle.perfdata_events.specs.Read.{read}
 use Rattle.perfdata_events.specs.Mmap.{mapping_at}
 use Rattle.perfdata_events.specs.Mmap2.{protection_at, mmap2}
-use Rattle.perfdata_event_fields.specs.FileId.{file_id}
+use Rattle.perfdata_events.specs.FileId.{file_id}
 use Rattle.perfdata_events.specs.Sample.{origin_words, event_words, raw_data, branch_stack, user_stack, sample_start, sample_middle, sample}
-use Rattle.perfdata_event_fields.specs.SampleEnd.{data_words, page_words, aux_data, sample_end}
-use Rattle.perfdata_event_fields.specs.CallChain.{chain}
-use Rattle.perfdata_event_fields.specs.Registers.{registers}
+use Rattle.perfdata_events.specs.SampleEnd.{data_words, page_words, aux_data, sample_end}
+use Rattle.perfdata_events.specs.CallChain.{chain}
+use Rattle.perfdata_events.specs.Registers.{registers}
 use Rattle.perfdata_events.specs.EventFormat.{register_masks_of}
 use Rattle.perfdata_events.specs.declared.format.EventFormat.{EventFormat}
 

@@ -5,29 +5,29 @@ use Rattle.std.specs.declared.io.ErrorKind.TheVariants.{UnexpectedEof, InvalidDa
 use Rattle.std.proofs.lemmas.Bool.{cases_lt}
 use Rattle.perfdata_base.specs.ParseInfo.{is_set}
 use Rattle.perfdata_events.specs.OneOutcome.{HasOneOutcome}
-use Rattle.perfdata_event_fields.specs.Format.{Outcome, encodes, fails, fixed}
-use Rattle.perfdata_event_fields.specs.Fields.{u32_at, u64_at}
-use Rattle.perfdata_event_fields.specs.Words.{u64s, u64s_of, words_size, after, word_after}
+use Rattle.perfdata_events.specs.Format.{Outcome, encodes, fails, fixed}
+use Rattle.perfdata_events.specs.Fields.{u32_at, u64_at}
+use Rattle.perfdata_events.specs.Words.{u64s, u64s_of, words_size, after, word_after}
 use Rattle.perfdata_events.specs.SampleId.{sample_id}
-use Rattle.perfdata_event_fields.specs.Task.{task_at}
-use Rattle.perfdata_event_fields.specs.ReadValues.{details, times, single_values, group_values, read_values, Values, single, group}
+use Rattle.perfdata_events.specs.Task.{task_at}
+use Rattle.perfdata_events.specs.ReadValues.{details, times, single_values, group_values, read_values, Values, single, group}
 use Rattle.perfdata_events.specs.Read.{read}
 use Rattle.perfdata_events.specs.Mmap.{mapping_at}
 use Rattle.perfdata_events.specs.Mmap2.{protection_at, mmap2}
-use Rattle.perfdata_event_fields.specs.FileId.{file_id, file_id_at, FileId}
+use Rattle.perfdata_events.specs.FileId.{file_id, file_id_at, FileId}
 use Rattle.perfdata_events.specs.Sample.{origin_words, event_words, raw_data, branch_stack, user_stack, sample_start, sample_middle, sample}
-use Rattle.perfdata_event_fields.specs.SampleEnd.{data_words, page_words, aux_data, sample_end}
-use Rattle.perfdata_event_fields.specs.CallChain.{chain}
-use Rattle.perfdata_event_fields.specs.Registers.{registers}
+use Rattle.perfdata_events.specs.SampleEnd.{data_words, page_words, aux_data, sample_end}
+use Rattle.perfdata_events.specs.CallChain.{chain}
+use Rattle.perfdata_events.specs.Registers.{registers}
 use Rattle.perfdata_events.specs.EventFormat.{register_masks_of}
 use Rattle.perfdata_events.specs.declared.format.EventFormat.{EventFormat}
 use Rattle.perfdata_events.specs.declared.sample_id.SampleId.{SampleId}
-use Rattle.perfdata_event_fields.specs.declared.read_values.Details.{Details}
-use Rattle.perfdata_event_fields.specs.declared.read_values.Times.{Times}
+use Rattle.perfdata_events.specs.declared.fields.read_values.Details.{Details}
+use Rattle.perfdata_events.specs.declared.fields.read_values.Times.{Times}
 use Rattle.perfdata_events.specs.declared.sample_words.OriginWords.{OriginWords}
 use Rattle.perfdata_events.specs.declared.sample_words.EventWords.{EventWords}
-use Rattle.perfdata_event_fields.specs.declared.sample_end.DataWords.{DataWords}
-use Rattle.perfdata_event_fields.specs.declared.sample_end.PageWords.{PageWords}
+use Rattle.perfdata_events.specs.declared.fields.sample_end.DataWords.{DataWords}
+use Rattle.perfdata_events.specs.declared.fields.sample_end.PageWords.{PageWords}
 use Rattle.perfdata_events.proofs.OneOutcomes.{one_by_size, one_fixed, one_block, one_word, one_both, one_led, one_optional, one_fixed_and_text}
 
 true_or_false : (b : Bool) → (b ≡ true) ⊎ (b ≡ false)

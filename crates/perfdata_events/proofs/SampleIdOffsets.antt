@@ -11,9 +11,9 @@ use Rattle.perfdata_base.specs.declared.event.RawEventRecord.{RawEventRecord}
 use Rattle.perfdata_base.specs.declared.raw.Endianness.{Endianness}
 use Rattle.perfdata_events.proofs.Offsets.{set_or_not, after_length, value_from_start, value_from_end}
 use Rattle.perfdata_events.specs.EventFormat.{event_format_of, trailing_size, trailing}
-use Rattle.perfdata_event_fields.specs.Fields.{u64_at}
+use Rattle.perfdata_events.specs.Fields.{u64_at}
 use Rattle.perfdata_events.specs.RecordId.{IsLeadingId, IsTrailingId, IsSampleIdOf}
-use Rattle.perfdata_event_fields.specs.Words.{words_size, word_if, after, word_after}
+use Rattle.perfdata_events.specs.Words.{words_size, word_if, after, word_after}
 use Rattle.perfdata_events.specs.declared.sample_id.SampleId.{SampleId}
 
 abbrev trailing_bits : List ℕ

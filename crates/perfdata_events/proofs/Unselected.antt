@@ -2,12 +2,12 @@
 use Rattle.std.proofs.Common.{◌≡◌, ℕ, Bool, true, false, List, refl, sym, arith}
 use Rattle.std.specs.Prelude.{◌||◌, not, Option, None}
 use Rattle.perfdata_base.specs.ParseInfo.{is_set}
-use Rattle.perfdata_event_fields.specs.Format.{encodes}
-use Rattle.perfdata_event_fields.specs.Fields.{u64_at}
-use Rattle.perfdata_event_fields.specs.Words.{word}
+use Rattle.perfdata_events.specs.Format.{encodes}
+use Rattle.perfdata_events.specs.Fields.{u64_at}
+use Rattle.perfdata_events.specs.Words.{word}
 use Rattle.perfdata_events.specs.Selection.{selects_middle, selects_data, selects_pages, selects_end, selects_parts}
 use Rattle.perfdata_events.specs.Sample.{sample_middle, sample, no_middle, no_end, origin_words, event_words}
-use Rattle.perfdata_event_fields.specs.SampleEnd.{AreDataWords, ArePageWords, sample_end}
+use Rattle.perfdata_events.specs.SampleEnd.{AreDataWords, ArePageWords, sample_end}
 use Rattle.perfdata_events.specs.EventFormat.{register_masks_of}
 use Rattle.perfdata_events.specs.declared.format.EventFormat.{EventFormat}
 use Rattle.perfdata_events.specs.declared.sample_words.OriginWords.{OriginWords}

@@ -1,7 +1,7 @@
 -- PERF_RECORD_AUX of Linux's `perf_event.h`: { u64 aux_offset; u64 aux_size; u64 flags; }
 use Rattle.std.specs.Prelude.{ℕ, List}
-use Rattle.perfdata_event_fields.specs.Format.{Outcome, fixed}
-use Rattle.perfdata_event_fields.specs.Fields.{u64_at}
+use Rattle.perfdata_events.specs.Format.{Outcome, fixed}
+use Rattle.perfdata_events.specs.Fields.{u64_at}
 use Rattle.perfdata_events.specs.declared.aux_area.AuxRecord.{AuxRecord}
 
 module _ (number : ℕ → List ℕ → ℕ) where

@@ -1,7 +1,7 @@
 -- PERF_RECORD_AUX_OUTPUT_HW_ID of Linux's `perf_event.h`: { u64 hw_id; }
 use Rattle.std.specs.Prelude.{ℕ, List}
-use Rattle.perfdata_event_fields.specs.Format.{Outcome, fixed}
-use Rattle.perfdata_event_fields.specs.Fields.{u64_at}
+use Rattle.perfdata_events.specs.Format.{Outcome, fixed}
+use Rattle.perfdata_events.specs.Fields.{u64_at}
 use Rattle.perfdata_events.specs.declared.aux_area.AuxOutputHwIdRecord.{AuxOutputHwIdRecord}
 
 module _ (number : ℕ → List ℕ → ℕ) where

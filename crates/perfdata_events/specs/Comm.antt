@@ -3,8 +3,8 @@
 use Rattle.std.specs.Prelude.{ℕ, ℤ, Bool, List}
 use Rattle.perfdata_base.specs.Raw.{bytes_of}
 use Rattle.perfdata_base.specs.ParseInfo.{is_set}
-use Rattle.perfdata_event_fields.specs.Format.{Outcome, fixed_and_text}
-use Rattle.perfdata_event_fields.specs.Fields.{i32_at}
+use Rattle.perfdata_events.specs.Format.{Outcome, fixed_and_text}
+use Rattle.perfdata_events.specs.Fields.{i32_at}
 use Rattle.perfdata_events.specs.declared.task.CommOrExecRecord.{CommOrExecRecord}
 
 -- A named task without its name.

@@ -3,10 +3,10 @@
 -- (PERF_RECORD_MISC_SWITCH_OUT); 14, the task was preempted (PERF_RECORD_MISC_SWITCH_OUT_PREEMPT).
 use Rattle.std.specs.Prelude.{ℕ, List, Option, None, Some}
 use Rattle.perfdata_base.specs.ParseInfo.{is_set}
-use Rattle.perfdata_event_fields.specs.Format.{Outcome, fixed}
-use Rattle.perfdata_event_fields.specs.Fields.{i32_at}
+use Rattle.perfdata_events.specs.Format.{Outcome, fixed}
+use Rattle.perfdata_events.specs.Fields.{i32_at}
 use Rattle.perfdata_events.specs.declared.context_switch.ContextSwitchRecord.{ContextSwitchRecord}
-use Rattle.perfdata_event_fields.specs.declared.task.Task.{Task}
+use Rattle.perfdata_events.specs.declared.fields.task.Task.{Task}
 
 module _ (misc : ℕ) where
   -- A switch and the other task.

@@ -7,7 +7,7 @@ use Rattle.perfdata_base.specs.Raw.{bytes_of}
 use Rattle.perfdata_base.specs.Endian.{number_in}
 use Rattle.perfdata_base.specs.ParseInfo.{is_set}
 use Rattle.perfdata_base.specs.declared.event.RawEventRecord.{RawEventRecord}
-use Rattle.perfdata_event_fields.specs.Format.{encodes, fails, IsTruncated}
+use Rattle.perfdata_events.specs.Format.{encodes, fails, IsTruncated}
 use Rattle.perfdata_events.specs.EventFormat.{trailing_size, before_trailing}
 use Rattle.perfdata_events.specs.Mmap.{mmap, mapping_of}
 use Rattle.perfdata_events.specs.Lost.{lost}

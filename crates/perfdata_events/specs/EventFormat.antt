@@ -7,9 +7,9 @@ use Rattle.perfdata_base.specs.ParseInfo.{is_set}
 use Rattle.perfdata_base.specs.declared.attr.PerfEventAttr.{PerfEventAttr}
 use Rattle.perfdata_base.specs.declared.raw.Endianness.{Endianness}
 use Rattle.perfdata_base.specs.declared.raw.RawData.{RawData}
-use Rattle.perfdata_event_fields.specs.Format.{IsTruncated}
-use Rattle.perfdata_event_fields.specs.Words.{words_size}
-use Rattle.perfdata_event_fields.specs.declared.registers.RegisterMasks.{RegisterMasks}
+use Rattle.perfdata_events.specs.Format.{IsTruncated}
+use Rattle.perfdata_events.specs.Words.{words_size}
+use Rattle.perfdata_events.specs.declared.fields.registers.RegisterMasks.{RegisterMasks}
 use Rattle.perfdata_events.specs.declared.format.EventFormat.{EventFormat}
 
 -- The format of an attribute's records in a byte order.

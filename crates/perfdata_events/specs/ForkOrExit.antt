@@ -1,7 +1,7 @@
 -- PERF_RECORD_FORK and PERF_RECORD_EXIT of Linux's `perf_event.h`: { u32 pid, ppid; u32 tid, ptid; u64 time; }
 use Rattle.std.specs.Prelude.{ℕ, List}
-use Rattle.perfdata_event_fields.specs.Format.{Outcome, fixed}
-use Rattle.perfdata_event_fields.specs.Fields.{i32_at, u64_at}
+use Rattle.perfdata_events.specs.Format.{Outcome, fixed}
+use Rattle.perfdata_events.specs.Fields.{i32_at, u64_at}
 use Rattle.perfdata_events.specs.declared.task.ForkOrExitRecord.{ForkOrExitRecord}
 
 module _ (number : ℕ → List ℕ → ℕ) where

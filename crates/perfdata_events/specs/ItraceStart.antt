@@ -1,7 +1,7 @@
 -- PERF_RECORD_ITRACE_START of Linux's `perf_event.h`: { u32 pid; u32 tid; }
 use Rattle.std.specs.Prelude.{ℕ, List}
-use Rattle.perfdata_event_fields.specs.Format.{Outcome, fixed}
-use Rattle.perfdata_event_fields.specs.Fields.{i32_at}
+use Rattle.perfdata_events.specs.Format.{Outcome, fixed}
+use Rattle.perfdata_events.specs.Fields.{i32_at}
 use Rattle.perfdata_events.specs.declared.aux_area.ItraceStartRecord.{ItraceStartRecord}
 
 module _ (number : ℕ → List ℕ → ℕ) where

@@ -1,8 +1,8 @@
 -- PERF_RECORD_KSYMBOL of Linux's `perf_event.h`: { u64 addr; u32 len; u16 ksym_type; u16 flags; char name[]; }
 use Rattle.std.specs.Prelude.{ℕ, List}
 use Rattle.perfdata_base.specs.Raw.{bytes_of}
-use Rattle.perfdata_event_fields.specs.Format.{Outcome, fixed_and_text}
-use Rattle.perfdata_event_fields.specs.Fields.{u16_at, u32_at, u64_at}
+use Rattle.perfdata_events.specs.Format.{Outcome, fixed_and_text}
+use Rattle.perfdata_events.specs.Fields.{u16_at, u32_at, u64_at}
 use Rattle.perfdata_events.specs.declared.kernel.KsymbolRecord.{KsymbolRecord}
 
 -- A kernel symbol without its name.

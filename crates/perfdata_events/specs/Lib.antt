@@ -1,3 +1,12 @@
+pub mod Format
+pub mod Fields
+pub mod Words
+pub mod Task
+pub mod ReadValues
+pub mod CallChain
+pub mod Registers
+pub mod FileId
+pub mod SampleEnd
 pub mod Lost
 pub mod LostSamples
 pub mod Throttle

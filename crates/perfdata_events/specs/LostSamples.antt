@@ -1,7 +1,7 @@
 -- PERF_RECORD_LOST_SAMPLES of Linux's `perf_event.h`: { u64 lost; }
 use Rattle.std.specs.Prelude.{ℕ, List}
-use Rattle.perfdata_event_fields.specs.Format.{Outcome, fixed}
-use Rattle.perfdata_event_fields.specs.Fields.{u64_at}
+use Rattle.perfdata_events.specs.Format.{Outcome, fixed}
+use Rattle.perfdata_events.specs.Fields.{u64_at}
 use Rattle.perfdata_events.specs.declared.lost.LostSamplesRecord.{LostSamplesRecord}
 
 module _ (number : ℕ → List ℕ → ℕ) where

@@ -1,8 +1,8 @@
 -- PERF_RECORD_MMAP of Linux's `perf_event.h`: { u32 pid, tid; u64 addr; u64 len; u64 pgoff; char filename[]; }
 use Rattle.std.specs.Prelude.{ℕ, ℤ, List}
 use Rattle.perfdata_base.specs.Raw.{bytes_of}
-use Rattle.perfdata_event_fields.specs.Format.{Outcome, fixed_and_text}
-use Rattle.perfdata_event_fields.specs.Fields.{i32_at, u64_at}
+use Rattle.perfdata_events.specs.Format.{Outcome, fixed_and_text}
+use Rattle.perfdata_events.specs.Fields.{i32_at, u64_at}
 use Rattle.perfdata_events.specs.declared.mmap.MmapRecord.{MmapRecord}
 
 -- A mapping without its path.

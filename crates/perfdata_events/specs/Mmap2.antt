@@ -3,9 +3,9 @@
 -- char filename[]; }. The union is a build id if bit 14 of the record header's `misc` is set (PERF_RECORD_MISC_MMAP_BUILD_ID).
 use Rattle.std.specs.Prelude.{ℕ, Bool, List}
 use Rattle.perfdata_base.specs.Raw.{bytes_of}
-use Rattle.perfdata_event_fields.specs.Format.{Outcome, fixed, fixed_and_text, both}
-use Rattle.perfdata_event_fields.specs.Fields.{u32_at}
-use Rattle.perfdata_event_fields.specs.FileId.{FileId, file_id_of, file_id}
+use Rattle.perfdata_events.specs.Format.{Outcome, fixed, fixed_and_text, both}
+use Rattle.perfdata_events.specs.Fields.{u32_at}
+use Rattle.perfdata_events.specs.FileId.{FileId, file_id_of, file_id}
 use Rattle.perfdata_events.specs.Mmap.{Mapping, mapping_at}
 use Rattle.perfdata_events.specs.declared.mmap2.Mmap2Record.{Mmap2Record}
 use Rattle.perfdata_events.specs.declared.mmap2.ProtectedPath.{ProtectedPath}

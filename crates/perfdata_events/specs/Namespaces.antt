@@ -1,8 +1,8 @@
 -- PERF_RECORD_NAMESPACES of Linux's `perf_event.h`: { u32 pid; u32 tid; u64 nr_namespaces; { u64 dev, inode; } [nr_namespaces]; }
 use Rattle.std.specs.Prelude.{ℕ, ℤ, ◌+◌, ◌*◌, ◌/◌, List, length, slice_index}
-use Rattle.perfdata_event_fields.specs.Format.{Outcome}
-use Rattle.perfdata_event_fields.specs.Fields.{i32_at, u64_at}
-use Rattle.perfdata_event_fields.specs.Words.{fixed_and_u64s, u64s_in}
+use Rattle.perfdata_events.specs.Format.{Outcome}
+use Rattle.perfdata_events.specs.Fields.{i32_at, u64_at}
+use Rattle.perfdata_events.specs.Words.{fixed_and_u64s, u64s_in}
 use Rattle.perfdata_events.specs.declared.task.Namespace.{Namespace}
 use Rattle.perfdata_events.specs.declared.task.NamespacesRecord.{NamespacesRecord}
 

@@ -1,9 +1,9 @@
 -- PERF_RECORD_READ of Linux's `perf_event.h`: { u32 pid, tid; struct read_format values; }
 use Rattle.std.specs.Prelude.{ℕ, List}
-use Rattle.perfdata_event_fields.specs.Format.{Outcome, fixed, both}
-use Rattle.perfdata_event_fields.specs.Task.{task_at}
-use Rattle.perfdata_event_fields.specs.ReadValues.{Values, values_of, read_values}
-use Rattle.perfdata_event_fields.specs.declared.task.Task.{Task}
+use Rattle.perfdata_events.specs.Format.{Outcome, fixed, both}
+use Rattle.perfdata_events.specs.Task.{task_at}
+use Rattle.perfdata_events.specs.ReadValues.{Values, values_of, read_values}
+use Rattle.perfdata_events.specs.declared.fields.task.Task.{Task}
 use Rattle.perfdata_events.specs.declared.read_values.ReadRecord.{ReadRecord}
 
 -- The task of a record and its values.

@@ -7,14 +7,14 @@ use Rattle.std.specs.Prelude.{◌≡◌, ℕ, ◌+◌, ◌*◌, ◌/◌, ◌≤�
 use Rattle.std.specs.Option.{option_map}
 use Rattle.perfdata_base.specs.Raw.{bytes_of}
 use Rattle.perfdata_base.specs.ParseInfo.{is_set}
-use Rattle.perfdata_event_fields.specs.Fields.{u32_at, u64_at}
-use Rattle.perfdata_event_fields.specs.Format.{Outcome, encodes, fails, IsTruncated, block, fixed, both, led, optional}
-use Rattle.perfdata_event_fields.specs.Words.{u64s, u64s_in, word, words_size, after, word_after}
-use Rattle.perfdata_event_fields.specs.Task.{task_at}
-use Rattle.perfdata_event_fields.specs.ReadValues.{Values, values_of, read_values}
-use Rattle.perfdata_event_fields.specs.CallChain.{chain, chain_values_of}
-use Rattle.perfdata_event_fields.specs.Registers.{registers, registers_of}
-use Rattle.perfdata_event_fields.specs.SampleEnd.{End, sample_end}
+use Rattle.perfdata_events.specs.Fields.{u32_at, u64_at}
+use Rattle.perfdata_events.specs.Format.{Outcome, encodes, fails, IsTruncated, block, fixed, both, led, optional}
+use Rattle.perfdata_events.specs.Words.{u64s, u64s_in, word, words_size, after, word_after}
+use Rattle.perfdata_events.specs.Task.{task_at}
+use Rattle.perfdata_events.specs.ReadValues.{Values, values_of, read_values}
+use Rattle.perfdata_events.specs.CallChain.{chain, chain_values_of}
+use Rattle.perfdata_events.specs.Registers.{registers, registers_of}
+use Rattle.perfdata_events.specs.SampleEnd.{End, sample_end}
 use Rattle.perfdata_events.specs.EventFormat.{register_masks_of}
 use Rattle.perfdata_events.specs.declared.format.EventFormat.{EventFormat}
 use Rattle.perfdata_events.specs.declared.sample_parts.BranchEntry.{BranchEntry}

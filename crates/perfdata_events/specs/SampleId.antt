@@ -4,10 +4,10 @@
 -- { u64 id; } && PERF_SAMPLE_IDENTIFIER. A word is named by its bit of the sample format: TID 1, TIME 2, ID 6, STREAM_ID 9, CPU 7,
 -- IDENTIFIER 16.
 use Rattle.std.specs.Prelude.{◌≡◌, ℕ, ◌≤◌, List, [], ◌∷◌, length}
-use Rattle.perfdata_event_fields.specs.Fields.{u32_at, u64_at}
-use Rattle.perfdata_event_fields.specs.Format.{Outcome, encodes, fails, IsTruncated}
-use Rattle.perfdata_event_fields.specs.Words.{words_size, after, word_after}
-use Rattle.perfdata_event_fields.specs.Task.{task_at}
+use Rattle.perfdata_events.specs.Fields.{u32_at, u64_at}
+use Rattle.perfdata_events.specs.Format.{Outcome, encodes, fails, IsTruncated}
+use Rattle.perfdata_events.specs.Words.{words_size, after, word_after}
+use Rattle.perfdata_events.specs.Task.{task_at}
 use Rattle.perfdata_events.specs.declared.sample_id.SampleId.{SampleId}
 
 module _ (number : ℕ → List ℕ → ℕ) where

@@ -2,8 +2,8 @@
 -- ones and then `new_len` new ones.
 use Rattle.std.specs.Prelude.{ℕ, ◌+◌, ◌++◌, List, length}
 use Rattle.perfdata_base.specs.Raw.{bytes_of}
-use Rattle.perfdata_event_fields.specs.Format.{Outcome, fixed_and_block}
-use Rattle.perfdata_event_fields.specs.Fields.{u16_at, u64_at}
+use Rattle.perfdata_events.specs.Format.{Outcome, fixed_and_block}
+use Rattle.perfdata_events.specs.Fields.{u16_at, u64_at}
 use Rattle.perfdata_events.specs.declared.kernel.TextPokeRecord.{TextPokeRecord}
 
 -- The address of the code, and the numbers of old and new bytes.

@@ -1,7 +1,7 @@
 -- PERF_RECORD_THROTTLE and PERF_RECORD_UNTHROTTLE of Linux's `perf_event.h`: { u64 time; u64 id; u64 stream_id; }
 use Rattle.std.specs.Prelude.{ℕ, List}
-use Rattle.perfdata_event_fields.specs.Format.{Outcome, fixed}
-use Rattle.perfdata_event_fields.specs.Fields.{u64_at}
+use Rattle.perfdata_events.specs.Format.{Outcome, fixed}
+use Rattle.perfdata_events.specs.Fields.{u64_at}
 use Rattle.perfdata_events.specs.declared.lost.ThrottleRecord.{ThrottleRecord}
 
 module _ (number : ℕ → List ℕ → ℕ) where

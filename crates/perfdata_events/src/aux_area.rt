@@ -1,13 +1,13 @@
 //! Records on the aux area and its traces.
 ghost use Rattle.perfdata_base.specs.Raw.{bytes_of};
 ghost use Rattle.perfdata_base.specs.Endian.{number_in};
-ghost use Rattle.perfdata_event_fields.specs.Format.{Decodes};
+ghost use Rattle.perfdata_events.specs.Format.{Decodes};
 ghost use Rattle.perfdata_events.specs.Aux.{aux};
 ghost use Rattle.perfdata_events.specs.ItraceStart.{itrace_start};
 ghost use Rattle.perfdata_events.specs.AuxOutputHwId.{aux_output_hw_id};
 
 use perfdata_base::raw::{Endianness, RawData};
-use perfdata_event_fields::numbers::{i32_at, u64_at};
+use crate::fields::numbers::{i32_at, u64_at};
 use std::io::Result;
 
 /// New data in the aux area (`PERF_RECORD_AUX`).

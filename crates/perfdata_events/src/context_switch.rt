@@ -1,12 +1,12 @@
 //! Context switches.
 ghost use Rattle.perfdata_base.specs.Raw.{bytes_of};
 ghost use Rattle.perfdata_base.specs.Endian.{number_in};
-ghost use Rattle.perfdata_event_fields.specs.Format.{Decodes};
+ghost use Rattle.perfdata_events.specs.Format.{Decodes};
 ghost use Rattle.perfdata_events.specs.ContextSwitch.{switch, switch_cpu_wide};
 
 use crate::sample_id::Task;
 use perfdata_base::raw::{Endianness, RawData};
-use perfdata_event_fields::numbers::{has_bits, i32_at};
+use crate::fields::numbers::{has_bits, i32_at};
 use std::io::Result;
 
 /// The bit of a record header's `misc` that marks a switch out (`PERF_RECORD_MISC_SWITCH_OUT`).

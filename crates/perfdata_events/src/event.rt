@@ -15,7 +15,7 @@ use crate::sample::SampleRecord;
 use crate::task::{CgroupRecord, CommOrExecRecord, ForkOrExitRecord, NamespacesRecord};
 use perfdata_base::event::{RawEventRecord, RecordType};
 use perfdata_base::raw::RawData;
-use perfdata_event_fields::numbers::has_bits;
+use crate::fields::numbers::has_bits;
 use std::io::Result;
 
 const PERF_RECORD_MMAP: u32 = 1;

@@ -1,13 +1,13 @@
 //! What the bodies of one attribute's records hold.
 ghost use Rattle.std.specs.Prelude.{◌≡◌, [], ◌∷◌};
 ghost use Rattle.perfdata_base.specs.Raw.{bytes_of};
-ghost use Rattle.perfdata_event_fields.specs.Words.{word_size, words_size};
+ghost use Rattle.perfdata_events.specs.Words.{word_size, words_size};
 
 use perfdata_base::attr::PerfEventAttr;
 use perfdata_base::raw::{Endianness, RawData};
 use perfdata_base::source::unexpected_eof;
-use perfdata_event_fields::numbers::has_bits;
-use perfdata_event_fields::registers::RegisterMasks;
+use crate::fields::numbers::has_bits;
+use crate::fields::registers::RegisterMasks;
 use std::io::Result;
 
 /// The bit of an attribute's flags for sample_id fields in all records.

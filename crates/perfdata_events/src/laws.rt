@@ -1,5 +1,5 @@
 //! Laws on the definitions of formats.
-ghost use Rattle.std.specs.Prelude.{ℕ, List, Bool, ◌≡◌, ◌<◌};
+ghost use Rattle.std.specs.Prelude.{ℕ, List, Bool, ◌≡◌, ◌<◌, ◌++◌, not, map, filter};
 ghost use Rattle.std.specs.Option.{option_or};
 ghost use Rattle.perfdata_base.specs.Raw.{bytes_of};
 ghost use Rattle.perfdata_base.specs.ParseInfo.{parse_info_of, id_parse_info_of, time_of, identifier_of};
@@ -9,6 +9,9 @@ ghost use Rattle.perfdata_base.specs.declared.raw.Endianness.{Endianness};
 ghost use Rattle.perfdata_events.specs.EventFormat.{event_format_of};
 ghost use Rattle.perfdata_events.specs.RecordId.{IsSampleIdOf};
 ghost use Rattle.perfdata_events.specs.declared.sample_id.SampleId.{SampleId};
+ghost use Rattle.perfdata_events.specs.CallChain.{is_context_change, frames_of, last_context};
+ghost use Rattle.perfdata_events.specs.declared.fields.call_chain.CallContext.{CallContext};
+ghost use Rattle.perfdata_events.specs.declared.fields.call_chain.Frame.{Frame};
 ghost use Rattle.perfdata_events.specs.OneOutcome.{HasOneOutcome};
 ghost use Rattle.perfdata_events.specs.Prefix.{ConsumesPrefix};
 ghost use Rattle.perfdata_events.specs.Mmap.{mmap};
@@ -31,8 +34,6 @@ ghost use Rattle.perfdata_events.specs.AuxOutputHwId.{aux_output_hw_id};
 ghost use Rattle.perfdata_events.specs.Sample.{sample};
 ghost use Rattle.perfdata_events.specs.SampleId.{sample_id};
 ghost use Rattle.perfdata_events.specs.declared.format.EventFormat.{EventFormat};
-
-pub use perfdata_event_fields::laws::frames_are_values_in_context;
 
 /// Bytes either start with exactly one value of a record's fields, which are followed by exactly one rest, or have exactly one
 /// first error. `number` parses a number of a given size, in either byte order.
@@ -88,4 +89,10 @@ pub fn fields_are_a_prefix()
 pub fn sample_id_is_what_the_reader_finds()
     ensures timestamp { (attr : PerfEventAttr) (order : Endianness) (raw : RawEventRecord) (id : SampleId) → raw.record_type.0 < 64 → IsSampleIdOf (event_format_of attr order) raw id → id.timestamp ≡ time_of (parse_info_of attr order) raw.record_type.0 (bytes_of raw.body) }
     ensures identifier { (attr : PerfEventAttr) (order : Endianness) (raw : RawEventRecord) (id : SampleId) → raw.record_type.0 < 64 → IsSampleIdOf (event_format_of attr order) raw id → option_or id.identifier id.id ≡ identifier_of order (id_parse_info_of attr) raw.record_type.0 (bytes_of raw.body) }
+{}
+
+/// The frames of a call chain are its values that change no context, in order, each with the last context before it.
+pub fn frames_are_values_in_context()
+    ensures addresses { (context : CallContext) (values : List ℕ) → map (λ (f : Frame). f.address) (frames_of context values) ≡ filter (λ v. not (is_context_change v)) values }
+    ensures contexts { (context : CallContext) (before later : List ℕ) → frames_of context (before ++ later) ≡ frames_of context before ++ frames_of (last_context context before) later }
 {}

@@ -7,6 +7,7 @@
 pub mod aux_area;
 pub mod context_switch;
 pub mod event;
+pub mod fields;
 pub mod format;
 pub mod kernel;
 pub mod laws;
@@ -21,4 +22,4 @@ pub mod sample_parts;
 pub mod sample_words;
 pub mod task;
 
-pub use perfdata_event_fields::{call_chain, u64s};
+pub use fields::{call_chain, u64s};

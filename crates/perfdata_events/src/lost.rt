@@ -1,13 +1,13 @@
 //! Records on what the kernel dropped or limited.
 ghost use Rattle.perfdata_base.specs.Raw.{bytes_of};
 ghost use Rattle.perfdata_base.specs.Endian.{number_in};
-ghost use Rattle.perfdata_event_fields.specs.Format.{Decodes};
+ghost use Rattle.perfdata_events.specs.Format.{Decodes};
 ghost use Rattle.perfdata_events.specs.Lost.{lost};
 ghost use Rattle.perfdata_events.specs.LostSamples.{lost_samples};
 ghost use Rattle.perfdata_events.specs.Throttle.{throttle};
 
 use perfdata_base::raw::{Endianness, RawData};
-use perfdata_event_fields::numbers::u64_at;
+use crate::fields::numbers::u64_at;
 use std::io::Result;
 
 /// Records that the kernel dropped because the buffer was full (`PERF_RECORD_LOST`).

@@ -1,11 +1,11 @@
 //! Records on mappings.
 ghost use Rattle.perfdata_base.specs.Raw.{bytes_of};
 ghost use Rattle.perfdata_base.specs.Endian.{number_in};
-ghost use Rattle.perfdata_event_fields.specs.Format.{Decodes};
+ghost use Rattle.perfdata_events.specs.Format.{Decodes};
 
 use perfdata_base::raw::{Endianness, RawData};
-use perfdata_event_fields::numbers::{i32_at, u64_at};
-use perfdata_event_fields::text::read_text;
+use crate::fields::numbers::{i32_at, u64_at};
+use crate::fields::text::read_text;
 use std::io::Result;
 
 /// An executable mapping (`PERF_RECORD_MMAP`).

@@ -2,12 +2,12 @@
 ghost use Rattle.perfdata_base.specs.Raw.{bytes_of};
 ghost use Rattle.perfdata_base.specs.Endian.{number_in};
 ghost use Rattle.perfdata_base.specs.ParseInfo.{is_set};
-ghost use Rattle.perfdata_event_fields.specs.Format.{Decodes, fixed, fixed_and_text};
+ghost use Rattle.perfdata_events.specs.Format.{Decodes, fixed, fixed_and_text};
 
 use perfdata_base::raw::{Endianness, RawData};
-pub use perfdata_event_fields::file_id::{Mmap2FileId, Mmap2InodeAndVersion};
-use perfdata_event_fields::numbers::{has_bits, i32_at, u32_at, u64_at};
-use perfdata_event_fields::text::read_text;
+pub use crate::fields::file_id::{Mmap2FileId, Mmap2InodeAndVersion};
+use crate::fields::numbers::{has_bits, i32_at, u32_at, u64_at};
+use crate::fields::text::read_text;
 use std::io::Result;
 
 /// The bit of a record header's `misc` that marks a build id (`PERF_RECORD_MISC_MMAP_BUILD_ID`).

@@ -1,12 +1,12 @@
 //! The values of counters.
 ghost use Rattle.perfdata_base.specs.Raw.{bytes_of};
 ghost use Rattle.perfdata_base.specs.Endian.{number_in};
-ghost use Rattle.perfdata_event_fields.specs.Format.{Decodes};
+ghost use Rattle.perfdata_events.specs.Format.{Decodes};
 
 use perfdata_base::raw::{Endianness, RawData};
-pub use perfdata_event_fields::read_values::{CounterValue, GroupValues, ReadValues, SingleValues};
-use perfdata_event_fields::task::Task;
-use perfdata_event_fields::words::read_task;
+pub use crate::fields::read_values::{CounterValue, GroupValues, ReadValues, SingleValues};
+use crate::fields::task::Task;
+use crate::fields::words::read_task;
 use std::io::Result;
 
 /// The values of counters when a task ended (`PERF_RECORD_READ`).

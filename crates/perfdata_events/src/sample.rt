@@ -3,20 +3,20 @@ ghost use Rattle.std.specs.Prelude.{◌≡◌, ◌||◌};
 ghost use Rattle.perfdata_base.specs.Raw.{bytes_of};
 ghost use Rattle.perfdata_base.specs.Endian.{number_in};
 ghost use Rattle.perfdata_base.specs.ParseInfo.{is_set};
-ghost use Rattle.perfdata_event_fields.specs.Format.{Decodes};
+ghost use Rattle.perfdata_events.specs.Format.{Decodes};
 ghost use Rattle.perfdata_events.specs.Selection.{selects_middle, selects_data, selects_pages, selects_end, selects_parts};
 
 use crate::format::EventFormat;
 use crate::sample_parts::{BranchStack, UserStack, read_raw_data_if};
 use crate::sample_words::{EventWords, OriginWords};
 use perfdata_base::raw::RawData;
-use perfdata_event_fields::call_chain::CallChain;
-use perfdata_event_fields::numbers::has_bits;
-use perfdata_event_fields::read_values::ReadValues;
-use perfdata_event_fields::registers::Registers;
-use perfdata_event_fields::sample_end::{SampleEnd, has_weight};
-use perfdata_event_fields::task::Task;
-use perfdata_event_fields::words::read_u64_if;
+use crate::fields::call_chain::CallChain;
+use crate::fields::numbers::has_bits;
+use crate::fields::read_values::ReadValues;
+use crate::fields::registers::Registers;
+use crate::fields::sample_end::{SampleEnd, has_weight};
+use crate::fields::task::Task;
+use crate::fields::words::read_u64_if;
 use std::io::Result;
 
 /// A sample of an event (`PERF_RECORD_SAMPLE`). A field is `None` if the attribute doesn't select it.

@@ -1,13 +1,13 @@
 //! Who wrote a record, when and where.
 ghost use Rattle.perfdata_base.specs.Raw.{bytes_of};
 ghost use Rattle.perfdata_base.specs.Endian.{number_in};
-ghost use Rattle.perfdata_event_fields.specs.Format.{Decodes};
+ghost use Rattle.perfdata_events.specs.Format.{Decodes};
 ghost use Rattle.perfdata_events.specs.SampleId.{sample_id};
 
 use perfdata_base::raw::{Endianness, RawData};
-use perfdata_event_fields::numbers::has_bits;
-pub use perfdata_event_fields::task::Task;
-use perfdata_event_fields::words::{read_task_if, read_u32_if, read_u64_if};
+use crate::fields::numbers::has_bits;
+pub use crate::fields::task::Task;
+use crate::fields::words::{read_task_if, read_u32_if, read_u64_if};
 use std::io::Result;
 
 /// Who wrote a record, when and where. A field is `None` if the attribute doesn't select it.

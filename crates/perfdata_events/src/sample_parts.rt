@@ -2,15 +2,15 @@
 ghost use Rattle.std.specs.Prelude.{◌≡◌, ◌==◌, not};
 ghost use Rattle.perfdata_base.specs.Raw.{bytes_of};
 ghost use Rattle.perfdata_base.specs.Endian.{number_in};
-ghost use Rattle.perfdata_event_fields.specs.Format.{Decodes, optional};
-ghost use Rattle.perfdata_event_fields.specs.Words.{u64s, u64s_in};
+ghost use Rattle.perfdata_events.specs.Format.{Decodes, optional};
+ghost use Rattle.perfdata_events.specs.Words.{u64s, u64s_in};
 ghost use Rattle.std.specs.Option.{option_map};
 
 use perfdata_base::raw::{Endianness, RawData};
-use perfdata_event_fields::numbers::has_bits;
-pub use perfdata_event_fields::registers::{RegisterMasks, Registers};
-use perfdata_event_fields::u64s::{RawDataU64, read_block, read_u64_list, read_u64s};
-use perfdata_event_fields::words::{read_u32, read_u64, read_u64_if};
+use crate::fields::numbers::has_bits;
+pub use crate::fields::registers::{RegisterMasks, Registers};
+use crate::fields::u64s::{RawDataU64, read_block, read_u64_list, read_u64s};
+use crate::fields::words::{read_u32, read_u64, read_u64_if};
 use std::io::Result;
 
 /// The bit of the branch sample type for the hardware index (`PERF_SAMPLE_BRANCH_HW_INDEX`).

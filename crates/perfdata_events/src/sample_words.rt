@@ -1,13 +1,13 @@
 //! The words of a sample up to its processor.
 ghost use Rattle.perfdata_base.specs.Raw.{bytes_of};
 ghost use Rattle.perfdata_base.specs.Endian.{number_in};
-ghost use Rattle.perfdata_event_fields.specs.Format.{Decodes};
+ghost use Rattle.perfdata_events.specs.Format.{Decodes};
 
 use perfdata_base::raw::{Endianness, RawData};
-use perfdata_event_fields::numbers::has_bits;
-pub use perfdata_event_fields::sample_end::{DataWords, PageWords};
-use perfdata_event_fields::task::Task;
-use perfdata_event_fields::words::{read_task_if, read_u32_if, read_u64_if};
+use crate::fields::numbers::has_bits;
+pub use crate::fields::sample_end::{DataWords, PageWords};
+use crate::fields::task::Task;
+use crate::fields::words::{read_task_if, read_u32_if, read_u64_if};
 use std::io::Result;
 
 /// The first words of a sample. A field is `None` if the attribute doesn't select it.

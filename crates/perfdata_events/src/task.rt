@@ -1,13 +1,13 @@
 //! Records on tasks.
 ghost use Rattle.perfdata_base.specs.Raw.{bytes_of};
 ghost use Rattle.perfdata_base.specs.Endian.{number_in};
-ghost use Rattle.perfdata_event_fields.specs.Format.{Decodes};
+ghost use Rattle.perfdata_events.specs.Format.{Decodes};
 ghost use Rattle.perfdata_events.specs.ForkOrExit.{fork_or_exit};
 
 use perfdata_base::raw::{Endianness, RawData};
-use perfdata_event_fields::numbers::{has_bits, i32_at, u64_at};
-use perfdata_event_fields::text::read_text;
-use perfdata_event_fields::u64s::{RawDataU64, read_u64s};
+use crate::fields::numbers::{has_bits, i32_at, u64_at};
+use crate::fields::text::read_text;
+use crate::fields::u64s::{RawDataU64, read_u64s};
 use std::io::Result;
 
 /// A task that began or ended (`PERF_RECORD_FORK`, `PERF_RECORD_EXIT`).

@@ -2,7 +2,7 @@ use Rattle.std.proofs.Common.{inl, inr}
 use Rattle.std.proofs.lemmas.Result.{err_from_is_err_and}
 use Rattle.perfdata_base.specs.Raw.{bytes_of}
 use Rattle.std.specs.Option.{option_map}
-use Rattle.perfdata_event_fields.specs.ReadValues.{values_of}
+use Rattle.perfdata_events.specs.ReadValues.{values_of}
 use Rattle.perfdata_events.proofs.sample.SampleStart.parse.Goals as goal
 
 pub returns-in_err-values : goal.returns-in_err-values

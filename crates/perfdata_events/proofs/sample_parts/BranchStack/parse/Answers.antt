@@ -1,7 +1,7 @@
 use Rattle.std.proofs.Common.{inr}
 use Rattle.std.proofs.lemmas.Result.{err_from_is_err_and}
 use Rattle.perfdata_base.specs.Raw.{bytes_of}
-use Rattle.perfdata_event_fields.specs.Words.{u64s_in}
+use Rattle.perfdata_events.specs.Words.{u64s_in}
 use Rattle.perfdata_events.proofs.sample_parts.BranchStack.parse.Goals as goal
 
 pub returns-in_err-counters : goal.returns-in_err-counters

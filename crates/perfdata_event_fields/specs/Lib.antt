@@ -1,9 +1,0 @@
-pub mod Format
-pub mod Fields
-pub mod Words
-pub mod Task
-pub mod ReadValues
-pub mod CallChain
-pub mod Registers
-pub mod FileId
-pub mod SampleEnd

@@ -1,0 +1,12 @@
+use Rattle.std.proofs.Common.{◌≡◌, true, rules, sym, ◌∙◌}
+use Rattle.perfdata_base.specs.Raw.{bytes_of}
+use Rattle.perfdata_base.specs.Endian.{number_in}
+use Rattle.perfdata_base.specs.ParseInfo.{is_set}
+use Rattle.perfdata_events.specs.Registers.{registers, registers_of}
+use Rattle.perfdata_events.proofs.Optional.{decodes_some}
+use Rattle.perfdata_events.proofs.fields.registers.Registers.parse_interrupt.Goals as goal
+
+pub returns : goal.returns
+returns c =
+    let present : c.has_bits.result ≡ true = search rules in
+    decodes_some (registers (number_in c.args.endian) c.args.masks.interrupt) registers_of (is_set c.args.sample_format 18) (bytes_of c.args.fields.now) (bytes_of c.parse.new.fields) (sym c.has_bits.ensures ∙ present) c.parse.result c.map.result c.parse.ensures c.map.ensures.cases

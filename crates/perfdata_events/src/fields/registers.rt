@@ -1,0 +1,98 @@
+//! The registers in samples.
+ghost use Rattle.std.specs.Prelude.{◌≡◌};
+ghost use Rattle.std.specs.Option.{option_map};
+ghost use Rattle.perfdata_base.specs.Raw.{bytes_of};
+ghost use Rattle.perfdata_base.specs.Endian.{number_in};
+ghost use Rattle.perfdata_base.specs.ParseInfo.{is_set};
+ghost use Rattle.perfdata_events.specs.Format.{Decodes, optional};
+
+use crate::fields::numbers::has_bits;
+use crate::fields::u64s::{RawDataU64, read_u64_list};
+use crate::fields::words::read_u64;
+use perfdata_base::raw::{Endianness, RawData};
+use std::io::Result;
+
+/// The bit of the sample format for the registers of the program (`PERF_SAMPLE_REGS_USER`).
+const SAMPLE_REGS_USER: u64 = 1 << 12;
+
+/// The bit of the sample format for the registers at the interrupt (`PERF_SAMPLE_REGS_INTR`).
+const SAMPLE_REGS_INTR: u64 = 1 << 18;
+
+/// The masks of the registers that an attribute selects.
+#[derive(Clone, Copy, Debug, PartialEq, Eq)]
+pub struct RegisterMasks {
+    /// The registers of the program, as bits (`sample_regs_user`).
+    pub user: u64,
+    /// The registers at the interrupt, as bits (`sample_regs_intr`).
+    pub interrupt: u64,
+}
+
+/// The registers of a program or at an interrupt.
+#[derive(Clone, Copy, Debug)]
+pub struct Registers<'a> {
+    /// The kind of the program: 0 none, 1 of 32 bits, 2 of 64 bits.
+    pub abi: u64,
+    /// The registers of the attribute's mask, by ascending bit; none if `abi` is 0.
+    pub values: RawDataU64<'a>,
+}
+
+impl<'a> Registers<'a> {
+    ghost use Rattle.perfdata_events.specs.Registers.{registers, registers_of, register_count};
+
+    // The number of registers.
+    fn count(abi: u64, mask: u64) -> u64
+        ensures { result ≡ register_count abi mask }
+    {
+        if abi == 0 {
+            0
+        } else {
+            mask.count_ones() as u64
+        }
+    }
+
+    // Removes the registers of a mask.
+    fn parse(endian: Endianness, mask: u64, fields: &mut RawData<'a>) -> Result<Registers<'a>>
+        ensures { Decodes (registers (number_in endian) mask) registers_of (bytes_of fields.old) result (bytes_of fields.new) }
+    {
+        let abi = read_u64(endian, fields)?;
+        let count = Registers::count(abi, mask);
+        let values = read_u64_list(endian, fields, count)?;
+        Ok(Registers { abi, values })
+    }
+
+    /// Parses the registers of the program at the start of `fields` if the sample format selects them, and removes them.
+    ///
+    /// Fails with an `UnexpectedEof` error if they are truncated.
+    #[inline(always)]
+    pub fn parse_user(
+        endian: Endianness,
+        sample_format: u64,
+        masks: RegisterMasks,
+        fields: &mut RawData<'a>,
+    ) -> Result<Option<Registers<'a>>>
+        ensures { Decodes (optional (is_set sample_format 12) (registers (number_in endian) masks.user)) (option_map registers_of) (bytes_of fields.old) result (bytes_of fields.new) }
+    {
+        if !has_bits(sample_format, SAMPLE_REGS_USER) {
+            return Ok(None);
+        }
+        Registers::parse(endian, masks.user, fields).map(Some)
+    }
+
+    /// Parses the registers at the interrupt at the start of `fields` if the sample format selects them, and removes them.
+    ///
+    /// Fails with an `UnexpectedEof` error if they are truncated.
+    #[inline(always)]
+    pub fn parse_interrupt(
+        endian: Endianness,
+        sample_format: u64,
+        masks: RegisterMasks,
+        fields: &mut RawData<'a>,
+    ) -> Result<Option<Registers<'a>>>
+        ensures { Decodes (optional (is_set sample_format 18) (registers (number_in endian) masks.interrupt)) (option_map registers_of) (bytes_of fields.old) result (bytes_of fields.new) }
+    {
+        if !has_bits(sample_format, SAMPLE_REGS_INTR) {
+            return Ok(None);
+        }
+        Registers::parse(endian, masks.interrupt, fields).map(Some)
+    }
+}

@@ -1,0 +1,150 @@
+//! The fields of a sample from its weight on.
+ghost use Rattle.std.specs.Prelude.{◌≡◌, ◌||◌};
+ghost use Rattle.std.specs.Option.{option_map};
+ghost use Rattle.perfdata_base.specs.Raw.{bytes_of};
+ghost use Rattle.perfdata_base.specs.Endian.{number_in};
+ghost use Rattle.perfdata_base.specs.ParseInfo.{is_set};
+ghost use Rattle.perfdata_events.specs.Format.{Decodes, optional};
+ghost use Rattle.perfdata_events.specs.SampleEnd.{aux_data};
+
+use crate::fields::numbers::has_bits;
+use crate::fields::registers::{RegisterMasks, Registers};
+use crate::fields::u64s::read_block;
+use crate::fields::words::{read_u64, read_u64_if};
+use perfdata_base::raw::{Endianness, RawData};
+use std::io::Result;
+
+/// The words of a sample on its data. A field is `None` if the attribute doesn't select it.
+#[derive(Clone, Copy, Debug, PartialEq, Eq)]
+pub struct DataWords {
+    /// Where the data came from, as bits (`union perf_mem_data_src`).
+    pub data_source: Option<u64>,
+    /// Why a transaction was aborted, as bits.
+    pub transaction: Option<u64>,
+}
+
+/// The words of a sample on its pages. A field is `None` if the attribute doesn't select it.
+#[derive(Clone, Copy, Debug, PartialEq, Eq)]
+pub struct PageWords {
+    /// The physical address of the data.
+    pub physical_address: Option<u64>,
+    /// The id of the control group.
+    pub cgroup: Option<u64>,
+    /// The size of the page of the data, in bytes.
+    pub data_page_size: Option<u64>,
+    /// The size of the page of the instruction, in bytes.
+    pub code_page_size: Option<u64>,
+}
+
+/// The fields of a sample from its weight on. A field is `None` if the attribute doesn't select it.
+#[derive(Clone, Copy)]
+pub struct SampleEnd<'a> {
+    /// The weight: the cost of the access, in the unit of the hardware.
+    pub weight: Option<u64>,
+    /// The words on its data.
+    pub data: DataWords,
+    /// The registers at the interrupt.
+    pub interrupt_registers: Option<Registers<'a>>,
+    /// The words on its pages.
+    pub pages: PageWords,
+    /// Aux data.
+    pub aux_data: Option<RawData<'a>>,
+}
+
+impl DataWords {
+    ghost use Rattle.perfdata_events.specs.SampleEnd.{data_words};
+
+    // Removes the words that a sample format selects.
+    #[inline(always)]
+    fn parse(endian: Endianness, format: u64, fields: &mut RawData<'_>) -> Result<DataWords>
+        ensures { Decodes (data_words (number_in endian) format) (λ v. v) (bytes_of fields.old) result (bytes_of fields.new) }
+    {
+        let data_source = read_u64_if(endian, fields, has_bits(format, 1 << 15))?;
+        let transaction = read_u64_if(endian, fields, has_bits(format, 1 << 17))?;
+        Ok(DataWords {
+            data_source,
+            transaction,
+        })
+    }
+}
+
+impl PageWords {
+    ghost use Rattle.perfdata_events.specs.SampleEnd.{page_words};
+
+    // Removes the words that a sample format selects.
+    #[inline(always)]
+    fn parse(endian: Endianness, format: u64, fields: &mut RawData<'_>) -> Result<PageWords>
+        ensures { Decodes (page_words (number_in endian) format) (λ v. v) (bytes_of fields.old) result (bytes_of fields.new) }
+    {
+        let physical_address = read_u64_if(endian, fields, has_bits(format, 1 << 19))?;
+        let cgroup = read_u64_if(endian, fields, has_bits(format, 1 << 21))?;
+        let data_page_size = read_u64_if(endian, fields, has_bits(format, 1 << 22))?;
+        let code_page_size = read_u64_if(endian, fields, has_bits(format, 1 << 23))?;
+        Ok(PageWords {
+            physical_address,
+            cgroup,
+            data_page_size,
+            code_page_size,
+        })
+    }
+}
+
+/// Returns whether a sample has a weight, in one of its two forms.
+pub fn has_weight(bits: u64) -> bool
+    ensures { result ≡ (is_set bits 14 || is_set bits 24) }
+{
+    has_bits(bits, 1 << 14) || has_bits(bits, 1 << 24)
+}
+
+// Removes aux data, whose size is eight bytes before it.
+fn read_aux_data<'a>(endian: Endianness, fields: &mut RawData<'a>) -> Result<RawData<'a>>
+    ensures { Decodes (aux_data (number_in endian)) bytes_of (bytes_of fields.old) result (bytes_of fields.new) }
+{
+    let size = read_u64(endian, fields)?;
+    read_block(fields, size as usize)
+}
+
+// Removes aux data if it is there.
+#[inline(always)]
+fn read_aux_data_if<'a>(
+    endian: Endianness,
+    present: bool,
+    fields: &mut RawData<'a>,
+) -> Result<Option<RawData<'a>>>
+    ensures { Decodes (optional present (aux_data (number_in endian))) (option_map bytes_of) (bytes_of fields.old) result (bytes_of fields.new) }
+{
+    if !present {
+        return Ok(None);
+    }
+    read_aux_data(endian, fields).map(Some)
+}
+
+impl<'a> SampleEnd<'a> {
+    ghost use Rattle.perfdata_events.specs.SampleEnd.{sample_end, end_of};
+
+    /// Parses the fields that a sample format selects at the start of `fields`, and removes them. Aux data is the last one,
+    /// as the kernel writes it; a comment in `perf_event.h` puts it before the sizes of the pages.
+    ///
+    /// Fails with an `UnexpectedEof` error if they are truncated.
+    pub fn parse(
+        endian: Endianness,
+        sample_format: u64,
+        masks: RegisterMasks,
+        fields: &mut RawData<'a>,
+    ) -> Result<SampleEnd<'a>>
+        ensures { Decodes (sample_end (number_in endian) sample_format masks) end_of (bytes_of fields.old) result (bytes_of fields.new) }
+    {
+        let weight = read_u64_if(endian, fields, has_weight(sample_format))?;
+        let data = DataWords::parse(endian, sample_format, fields)?;
+        let interrupt_registers = Registers::parse_interrupt(endian, sample_format, masks, fields)?;
+        let pages = PageWords::parse(endian, sample_format, fields)?;
+        let aux_data = read_aux_data_if(endian, has_bits(sample_format, 1 << 20), fields)?;
+        Ok(SampleEnd {
+            weight,
+            data,
+            interrupt_registers,
+            pages,
+            aux_data,
+        })
+    }
+}
