@@ -138,26 +138,26 @@ module _ (number : ℕ → List ℕ → ℕ) where
   module _ (format : EventFormat) where
     prefix_start : ConsumesPrefix (sample_start number format)
     prefix_start =
-        prefix_both _ _ (prefix_origin_words format.sample_format) (λ _.
-        prefix_both _ _ (prefix_event_words format.sample_format) (λ _.
+        prefix_both _ _ (prefix_origin_words format.sample_format.0) (λ _.
+        prefix_both _ _ (prefix_event_words format.sample_format.0) (λ _.
         prefix_both _ _ (prefix_word _ _) (λ _.
-        prefix_both _ _ (prefix_optional (read_values number format.read_format) (prefix_values format.read_format) (is_set format.sample_format 4)) (λ _.
-        prefix_optional (chain number) prefix_chain (is_set format.sample_format 5)))))
+        prefix_both _ _ (prefix_optional (read_values number format.read_format.0) (prefix_values format.read_format.0) (is_set format.sample_format.0 4)) (λ _.
+        prefix_optional (chain number) prefix_chain (is_set format.sample_format.0 5)))))
 
     prefix_middle : ConsumesPrefix (sample_middle number format)
     prefix_middle =
-        prefix_both _ _ (prefix_optional (raw_data number) prefix_raw_data (is_set format.sample_format 10)) (λ _.
-        prefix_both _ _ (prefix_optional (branch_stack number format.branch_sample_type) (prefix_branch_stack format.branch_sample_type) (is_set format.sample_format 11)) (λ _.
-        prefix_both _ _ (prefix_optional (registers number format.sample_regs_user) (prefix_registers format.sample_regs_user) (is_set format.sample_format 12)) (λ _.
-        prefix_optional (user_stack number) prefix_user_stack (is_set format.sample_format 13))))
+        prefix_both _ _ (prefix_optional (raw_data number) prefix_raw_data (is_set format.sample_format.0 10)) (λ _.
+        prefix_both _ _ (prefix_optional (branch_stack number format.branch_sample_type.0) (prefix_branch_stack format.branch_sample_type.0) (is_set format.sample_format.0 11)) (λ _.
+        prefix_both _ _ (prefix_optional (registers number format.sample_regs_user) (prefix_registers format.sample_regs_user) (is_set format.sample_format.0 12)) (λ _.
+        prefix_optional (user_stack number) prefix_user_stack (is_set format.sample_format.0 13))))
 
-    prefix_end : ConsumesPrefix (sample_end number format.sample_format (register_masks_of format))
+    prefix_end : ConsumesPrefix (sample_end number format.sample_format.0 (register_masks_of format))
     prefix_end =
         prefix_both _ _ (prefix_word _ _) (λ _.
-        prefix_both _ _ (prefix_data_words format.sample_format) (λ _.
-        prefix_both _ _ (prefix_optional (registers number format.sample_regs_intr) (prefix_registers format.sample_regs_intr) (is_set format.sample_format 18)) (λ _.
-        prefix_both _ _ (prefix_page_words format.sample_format) (λ _.
-        prefix_optional (aux_data number) prefix_aux_data (is_set format.sample_format 20)))))
+        prefix_both _ _ (prefix_data_words format.sample_format.0) (λ _.
+        prefix_both _ _ (prefix_optional (registers number format.sample_regs_intr) (prefix_registers format.sample_regs_intr) (is_set format.sample_format.0 18)) (λ _.
+        prefix_both _ _ (prefix_page_words format.sample_format.0) (λ _.
+        prefix_optional (aux_data number) prefix_aux_data (is_set format.sample_format.0 20)))))
 
     pub prefix_sample : ConsumesPrefix (sample number format)
     prefix_sample = prefix_both _ _ prefix_start (λ _. prefix_both _ _ prefix_middle (λ _. prefix_end))

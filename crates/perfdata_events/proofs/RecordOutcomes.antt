@@ -253,25 +253,25 @@ module _ (number : ℕ → List ℕ → ℕ) where
   module _ (format : EventFormat) where
     pub one_sample_start : HasOneOutcome (sample_start number format)
     one_sample_start =
-        one_both _ _ (one_origin_words format.sample_format) (λ _.
-        one_both _ _ (one_event_words format.sample_format) (λ _.
+        one_both _ _ (one_origin_words format.sample_format.0) (λ _.
+        one_both _ _ (one_event_words format.sample_format.0) (λ _.
         one_both _ _ (one_word _ _) (λ _.
-        one_both _ _ (one_optional _ (one_read_values format.read_format) _) (λ _.
+        one_both _ _ (one_optional _ (one_read_values format.read_format.0) _) (λ _.
         one_optional _ one_chain _))))
 
     pub one_sample_middle : HasOneOutcome (sample_middle number format)
     one_sample_middle =
         one_both _ _ (one_optional _ one_raw_data _) (λ _.
-        one_both _ _ (one_optional _ (one_branch_stack format.branch_sample_type) _) (λ _.
+        one_both _ _ (one_optional _ (one_branch_stack format.branch_sample_type.0) _) (λ _.
         one_both _ _ (one_optional _ (one_registers format.sample_regs_user) _) (λ _.
         one_optional _ one_user_stack _)))
 
-    pub one_sample_end : HasOneOutcome (sample_end number format.sample_format (register_masks_of format))
+    pub one_sample_end : HasOneOutcome (sample_end number format.sample_format.0 (register_masks_of format))
     one_sample_end =
         one_both _ _ (one_word _ _) (λ _.
-        one_both _ _ (one_data_words format.sample_format) (λ _.
+        one_both _ _ (one_data_words format.sample_format.0) (λ _.
         one_both _ _ (one_optional _ (one_registers format.sample_regs_intr) _) (λ _.
-        one_both _ _ (one_page_words format.sample_format) (λ _.
+        one_both _ _ (one_page_words format.sample_format.0) (λ _.
         one_optional _ one_aux_data _))))
 
     pub one_sample : HasOneOutcome (sample number format)

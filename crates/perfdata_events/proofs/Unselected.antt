@@ -34,9 +34,9 @@ absent_word present value_of xs absent = record {
 
 module _ (number : ℕ → List ℕ → ℕ) (format : EventFormat) (xs : List ℕ) where
   abbrev bits : ℕ
-  bits = format.sample_format
+  bits = format.sample_format.0
 
-  middle_is : selects_middle format.sample_format ≡ false → sample_middle number format xs (encodes no_middle xs)
+  middle_is : selects_middle format.sample_format.0 ≡ false → sample_middle number format xs (encodes no_middle xs)
   middle_is none =
       let after_raw = or_second (is_set bits 10) _ none in
       let after_branches = or_second (is_set bits 11) _ after_raw in
@@ -72,7 +72,7 @@ module _ (number : ℕ → List ℕ → ℕ) (format : EventFormat) (xs : List �
     rest_is = rw (a, b, c, d) refl;
   }
 
-  end_is : selects_end format.sample_format ≡ false → sample_end number format.sample_format (register_masks_of format) xs (encodes no_end xs)
+  end_is : selects_end format.sample_format.0 ≡ false → sample_end number format.sample_format.0 (register_masks_of format) xs (encodes no_end xs)
   end_is none =
       let weight = or_first (is_set bits 14 || is_set bits 24) _ none in
       let others = or_second (is_set bits 14 || is_set bits 24) _ none in
@@ -102,11 +102,11 @@ module _ (number : ℕ → List ℕ → ℕ) (format : EventFormat) (xs : List �
 
 module _ (number : ℕ → List ℕ → ℕ) (format : EventFormat) where
   -- words, and nothing after them
-  pub only_words : selects_parts format.sample_format ≡ false → (xs origin_rest event_rest rest : List ℕ) (origin : OriginWords) (event : EventWords) (period : Option ℕ)
-      → origin_words number format.sample_format xs (encodes origin origin_rest) → event_words number format.sample_format origin_rest (encodes event event_rest) → word (is_set format.sample_format 8) (u64_at number 0) event_rest (encodes period rest)
+  pub only_words : selects_parts format.sample_format.0 ≡ false → (xs origin_rest event_rest rest : List ℕ) (origin : OriginWords) (event : EventWords) (period : Option ℕ)
+      → origin_words number format.sample_format.0 xs (encodes origin origin_rest) → event_words number format.sample_format.0 origin_rest (encodes event event_rest) → word (is_set format.sample_format.0 8) (u64_at number 0) event_rest (encodes period rest)
       → sample number format xs (encodes ((origin, (event, (period, (None, None)))), (no_middle, no_end)) rest)
   only_words none xs origin_rest event_rest rest origin event period o e p =
-      let bits = format.sample_format in
+      let bits = format.sample_format.0 in
       let after_values = or_second (is_set bits 4) _ none in
       let after_chain = or_second (is_set bits 5) _ after_values in
       record {

@@ -3,6 +3,7 @@
 use Rattle.std.specs.Prelude.{ℕ, ℤ, Bool, List}
 use Rattle.perfdata_base.specs.Raw.{bytes_of}
 use Rattle.perfdata_base.specs.ParseInfo.{is_set}
+use Rattle.perfdata_events.specs.Misc.{COMM_EXEC}
 use Rattle.perfdata_events.specs.Format.{Outcome, fixed_and_text}
 use Rattle.perfdata_events.specs.Fields.{i32_at}
 use Rattle.perfdata_events.specs.declared.task.CommOrExecRecord.{CommOrExecRecord}
@@ -19,7 +20,7 @@ named_task_of v = (record { pid = v.pid; tid = v.tid; is_execve = v.is_execve },
 
 module _ (number : ℕ → List ℕ → ℕ) (misc : ℕ) where
   abbrev pub named_task_at : List ℕ → NamedTask
-  named_task_at bytes = record { pid = i32_at number 0 bytes; tid = i32_at number 4 bytes; is_execve = is_set misc 13 }
+  named_task_at bytes = record { pid = i32_at number 0 bytes; tid = i32_at number 4 bytes; is_execve = is_set misc COMM_EXEC }
 
   abbrev pub comm : List ℕ → Outcome (NamedTask × List ℕ) → Type 0
   comm = fixed_and_text 8 named_task_at

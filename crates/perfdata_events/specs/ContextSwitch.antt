@@ -3,6 +3,7 @@
 -- (PERF_RECORD_MISC_SWITCH_OUT); 14, the task was preempted (PERF_RECORD_MISC_SWITCH_OUT_PREEMPT).
 use Rattle.std.specs.Prelude.{ℕ, List, Option, None, Some}
 use Rattle.perfdata_base.specs.ParseInfo.{is_set}
+use Rattle.perfdata_events.specs.Misc.{SWITCH_OUT, SWITCH_OUT_PREEMPT}
 use Rattle.perfdata_events.specs.Format.{Outcome, fixed}
 use Rattle.perfdata_events.specs.Fields.{i32_at}
 use Rattle.perfdata_events.specs.declared.context_switch.ContextSwitchRecord.{ContextSwitchRecord}
@@ -11,7 +12,7 @@ use Rattle.perfdata_events.specs.declared.fields.task.Task.{Task}
 module _ (misc : ℕ) where
   -- A switch and the other task.
   abbrev pub switch_with : Option Task → ContextSwitchRecord
-  switch_with task = record { is_out = is_set misc 13; preempted = is_set misc 14; other_task = task }
+  switch_with task = record { is_out = is_set misc SWITCH_OUT; preempted = is_set misc SWITCH_OUT_PREEMPT; other_task = task }
 
   abbrev pub switch : List ℕ → Outcome ContextSwitchRecord → Type 0
   switch = fixed 0 (λ _. switch_with None)

@@ -8,6 +8,8 @@ use Rattle.perfdata_base.specs.Endian.{number_in}
 use Rattle.perfdata_base.specs.ParseInfo.{is_set}
 use Rattle.perfdata_base.specs.declared.event.RawEventRecord.{RawEventRecord}
 use Rattle.perfdata_events.specs.Format.{encodes, fails, IsTruncated}
+use Rattle.perfdata_events.specs.Misc.{MMAP_BUILD_ID}
+use Rattle.perfdata_events.specs.SampleFormat.{READ, BRANCH_STACK}
 use Rattle.perfdata_events.specs.EventFormat.{trailing_size, before_trailing}
 use Rattle.perfdata_events.specs.Mmap.{mmap, mapping_of}
 use Rattle.perfdata_events.specs.Lost.{lost}
@@ -34,9 +36,9 @@ use Rattle.perfdata_events.specs.declared.event.EventRecord.TheVariants.{Mmap, L
 -- The offset of each field of a sample is known: no bit of the sample format from 25 on is set, none of the read format from 5 on
 -- where counter values are selected (bit 4), and none of the branch sample type from 20 on where a branch stack is (bit 11).
 abbrev pub has_known_fields : EventFormat → Bool
-has_known_fields format = nat_lt format.sample_format (2 ^ 25)
-    && ((not (is_set format.sample_format 4) || nat_lt format.read_format (2 ^ 5))
-    && (not (is_set format.sample_format 11) || nat_lt format.branch_sample_type (2 ^ 20)))
+has_known_fields format = nat_lt format.sample_format.0 (2 ^ 25)
+    && ((not (is_set format.sample_format.0 READ) || nat_lt format.read_format.0 (2 ^ 5))
+    && (not (is_set format.sample_format.0 BRANCH_STACK) || nat_lt format.branch_sample_type.0 (2 ^ 20)))
 
 module _ (format : EventFormat) (raw : RawEventRecord) where
   abbrev pub number : ℕ → List ℕ → ℕ
@@ -54,8 +56,8 @@ module _ (format : EventFormat) (raw : RawEventRecord) where
   IsEvent xs (Throttle v) rest = (kind_of ≡ 5) × throttle number xs (encodes v rest)
   IsEvent xs (Unthrottle v) rest = (kind_of ≡ 6) × throttle number xs (encodes v rest)
   IsEvent xs (Fork v) rest = (kind_of ≡ 7) × fork_or_exit number xs (encodes v rest)
-  IsEvent xs (Read v) rest = (kind_of ≡ 8) × read number format.read_format xs (encodes (task_values_of v) rest)
-  IsEvent xs (Mmap2 v) rest = (kind_of ≡ 10) × mmap2 number (is_set raw.misc 14) xs (encodes (mapping2_of v) rest)
+  IsEvent xs (Read v) rest = (kind_of ≡ 8) × read number format.read_format.0 xs (encodes (task_values_of v) rest)
+  IsEvent xs (Mmap2 v) rest = (kind_of ≡ 10) × mmap2 number (is_set raw.misc MMAP_BUILD_ID) xs (encodes (mapping2_of v) rest)
   IsEvent xs (Aux v) rest = (kind_of ≡ 11) × aux number xs (encodes v rest)
   IsEvent xs (ItraceStart v) rest = (kind_of ≡ 12) × itrace_start number xs (encodes v rest)
   IsEvent xs (LostSamples v) rest = (kind_of ≡ 13) × lost_samples number xs (encodes v rest)
@@ -83,8 +85,8 @@ module _ (format : EventFormat) (raw : RawEventRecord) where
   -- The first error of the fields of a record of type 8 or 10 to 15.
   abbrev pub FailsTo15 : List ℕ → ErrorKind → Type 0
   FailsTo15 xs kind =
-      ((kind_of ≡ 8) × read number format.read_format xs (fails kind))
-      ⊎ (((kind_of ≡ 10) × mmap2 number (is_set raw.misc 14) xs (fails kind))
+      ((kind_of ≡ 8) × read number format.read_format.0 xs (fails kind))
+      ⊎ (((kind_of ≡ 10) × mmap2 number (is_set raw.misc MMAP_BUILD_ID) xs (fails kind))
       ⊎ (((kind_of ≡ 11) × aux number xs (fails kind))
       ⊎ (((kind_of ≡ 12) × itrace_start number xs (fails kind))
       ⊎ (((kind_of ≡ 13) × lost_samples number xs (fails kind))

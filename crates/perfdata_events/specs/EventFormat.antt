@@ -7,6 +7,8 @@ use Rattle.perfdata_base.specs.ParseInfo.{is_set}
 use Rattle.perfdata_base.specs.declared.attr.PerfEventAttr.{PerfEventAttr}
 use Rattle.perfdata_base.specs.declared.raw.Endianness.{Endianness}
 use Rattle.perfdata_base.specs.declared.raw.RawData.{RawData}
+use Rattle.perfdata_events.specs.SampleFormat.{TID, TIME, ID, CPU, STREAM_ID, IDENTIFIER}
+use Rattle.perfdata_events.specs.AttributeFlags.{SAMPLE_ID_ALL}
 use Rattle.perfdata_events.specs.Format.{IsTruncated}
 use Rattle.perfdata_events.specs.Words.{words_size}
 use Rattle.perfdata_events.specs.declared.fields.registers.RegisterMasks.{RegisterMasks}
@@ -16,12 +18,12 @@ use Rattle.perfdata_events.specs.declared.format.EventFormat.{EventFormat}
 abbrev pub event_format_of : PerfEventAttr → Endianness → EventFormat
 event_format_of attr order = record {
   endian = order;
-  sample_format = attr.sample_format.0;
-  read_format = attr.read_format;
-  branch_sample_type = attr.branch_sample_type;
+  sample_format = record { 0 = attr.sample_format.0 };
+  read_format = record { 0 = attr.read_format };
+  branch_sample_type = record { 0 = attr.branch_sample_type };
   sample_regs_user = attr.sample_regs_user;
   sample_regs_intr = attr.sample_regs_intr;
-  sample_id_all = is_set attr.flags.0 18;
+  sample_id_all = is_set attr.flags.0 SAMPLE_ID_ALL;
 }
 
 -- The masks of the registers in a sample.
@@ -30,7 +32,7 @@ register_masks_of format = record { user = format.sample_regs_user; interrupt = 
 
 -- The size of the sample_id fields at the end of a record that isn't a sample, in bytes.
 abbrev pub trailing_size : EventFormat → ℕ
-trailing_size format = if format.sample_id_all then words_size format.sample_format (1 ∷ 2 ∷ 6 ∷ 9 ∷ 7 ∷ 16 ∷ []) else 0
+trailing_size format = if format.sample_id_all then words_size format.sample_format.0 (TID ∷ TIME ∷ ID ∷ STREAM_ID ∷ CPU ∷ IDENTIFIER ∷ []) else 0
 
 -- The bytes before and after the start of the sample_id fields.
 abbrev pub before_trailing : EventFormat → List ℕ → List ℕ

@@ -1,3 +1,8 @@
+pub mod SampleFormat
+pub mod ReadFormat
+pub mod BranchType
+pub mod Misc
+pub mod AttributeFlags
 pub mod Format
 pub mod Fields
 pub mod Words

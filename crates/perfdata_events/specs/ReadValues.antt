@@ -4,6 +4,7 @@
 -- { u64 id; } && (2) { u64 lost; } && (4) } cntr[nr]; }.
 use Rattle.std.specs.Prelude.{◌≡◌, ℕ, ◌+◌, ◌-◌, ◌*◌, ◌/◌, ◌≤◌, ◌⊎◌, Bool, true, false, List, [], ◌∷◌, length, slice_index, Some, None, if◌then◌else◌}
 use Rattle.perfdata_base.specs.ParseInfo.{is_set}
+use Rattle.perfdata_events.specs.ReadFormat.{TOTAL_TIME_ENABLED, TOTAL_TIME_RUNNING, ID, GROUP, LOST}
 use Rattle.perfdata_events.specs.Fields.{u64_at}
 use Rattle.perfdata_events.specs.Format.{Outcome, encodes, fails, IsTruncated, fixed, both, led}
 use Rattle.perfdata_events.specs.Words.{u64s, u64s_in, words_size, after, word_after}
@@ -50,27 +51,27 @@ counter_at v index = record {
 module _ (number : ℕ → List ℕ → ℕ) (format : ℕ) where
   -- The words with the bits 0, 1, 2, 4.
   pub record AreDetails (xs : List ℕ) (value : Details) (rest : List ℕ) : Type 0 where
-    pub enough : words_size format (0 ∷ 1 ∷ 2 ∷ 4 ∷ []) ≤ length xs
-    pub time_enabled_is : value.time_enabled ≡ word_after format [] 0 (u64_at number 0) xs
-    pub time_running_is : value.time_running ≡ word_after format (0 ∷ []) 1 (u64_at number 0) xs
-    pub id_is : value.id ≡ word_after format (0 ∷ 1 ∷ []) 2 (u64_at number 0) xs
-    pub lost_is : value.lost ≡ word_after format (0 ∷ 1 ∷ 2 ∷ []) 4 (u64_at number 0) xs
-    pub rest_is : rest ≡ after format (0 ∷ 1 ∷ 2 ∷ 4 ∷ []) xs
+    pub enough : words_size format (TOTAL_TIME_ENABLED ∷ TOTAL_TIME_RUNNING ∷ ID ∷ LOST ∷ []) ≤ length xs
+    pub time_enabled_is : value.time_enabled ≡ word_after format [] TOTAL_TIME_ENABLED (u64_at number 0) xs
+    pub time_running_is : value.time_running ≡ word_after format (TOTAL_TIME_ENABLED ∷ []) TOTAL_TIME_RUNNING (u64_at number 0) xs
+    pub id_is : value.id ≡ word_after format (TOTAL_TIME_ENABLED ∷ TOTAL_TIME_RUNNING ∷ []) ID (u64_at number 0) xs
+    pub lost_is : value.lost ≡ word_after format (TOTAL_TIME_ENABLED ∷ TOTAL_TIME_RUNNING ∷ ID ∷ []) LOST (u64_at number 0) xs
+    pub rest_is : rest ≡ after format (TOTAL_TIME_ENABLED ∷ TOTAL_TIME_RUNNING ∷ ID ∷ LOST ∷ []) xs
 
   abbrev pub details : List ℕ → Outcome Details → Type 0
   details xs (encodes value rest) = AreDetails xs value rest
-  details xs (fails kind) = IsTruncated (words_size format (0 ∷ 1 ∷ 2 ∷ 4 ∷ [])) xs kind
+  details xs (fails kind) = IsTruncated (words_size format (TOTAL_TIME_ENABLED ∷ TOTAL_TIME_RUNNING ∷ ID ∷ LOST ∷ [])) xs kind
 
   -- The words with the bits 0, 1.
   pub record AreTimes (xs : List ℕ) (value : Times) (rest : List ℕ) : Type 0 where
-    pub enough : words_size format (0 ∷ 1 ∷ []) ≤ length xs
-    pub time_enabled_is : value.time_enabled ≡ word_after format [] 0 (u64_at number 0) xs
-    pub time_running_is : value.time_running ≡ word_after format (0 ∷ []) 1 (u64_at number 0) xs
-    pub rest_is : rest ≡ after format (0 ∷ 1 ∷ []) xs
+    pub enough : words_size format (TOTAL_TIME_ENABLED ∷ TOTAL_TIME_RUNNING ∷ []) ≤ length xs
+    pub time_enabled_is : value.time_enabled ≡ word_after format [] TOTAL_TIME_ENABLED (u64_at number 0) xs
+    pub time_running_is : value.time_running ≡ word_after format (TOTAL_TIME_ENABLED ∷ []) TOTAL_TIME_RUNNING (u64_at number 0) xs
+    pub rest_is : rest ≡ after format (TOTAL_TIME_ENABLED ∷ TOTAL_TIME_RUNNING ∷ []) xs
 
   abbrev pub times : List ℕ → Outcome Times → Type 0
   times xs (encodes value rest) = AreTimes xs value rest
-  times xs (fails kind) = IsTruncated (words_size format (0 ∷ 1 ∷ [])) xs kind
+  times xs (fails kind) = IsTruncated (words_size format (TOTAL_TIME_ENABLED ∷ TOTAL_TIME_RUNNING ∷ [])) xs kind
 
   -- The value, and its details.
   abbrev pub single_values : List ℕ → Outcome (ℕ × Details) → Type 0
@@ -78,9 +79,9 @@ module _ (number : ℕ → List ℕ → ℕ) (format : ℕ) where
 
   -- The number of counters, the times, and the numbers of the counters.
   abbrev pub group_values : List ℕ → Outcome (Times × List ℕ) → Type 0
-  group_values = led (fixed 8 (u64_at number 0)) (λ count. both times (λ _. u64s number (counter_width (is_set format 2) (is_set format 4) * count)))
+  group_values = led (fixed 8 (u64_at number 0)) (λ count. both times (λ _. u64s number (counter_width (is_set format ID) (is_set format LOST) * count)))
 
   abbrev pub read_values : List ℕ → Outcome Values → Type 0
-  read_values xs (encodes (single value) rest) = (is_set format 3 ≡ false) × single_values xs (encodes value rest)
-  read_values xs (encodes (group value) rest) = (is_set format 3 ≡ true) × group_values xs (encodes value rest)
-  read_values xs (fails kind) = ((is_set format 3 ≡ false) × single_values xs (fails kind)) ⊎ ((is_set format 3 ≡ true) × group_values xs (fails kind))
+  read_values xs (encodes (single value) rest) = (is_set format GROUP ≡ false) × single_values xs (encodes value rest)
+  read_values xs (encodes (group value) rest) = (is_set format GROUP ≡ true) × group_values xs (encodes value rest)
+  read_values xs (fails kind) = ((is_set format GROUP ≡ false) × single_values xs (fails kind)) ⊎ ((is_set format GROUP ≡ true) × group_values xs (fails kind))

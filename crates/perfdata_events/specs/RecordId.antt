@@ -25,7 +25,7 @@ id_of_words o e = record { task = o.task; timestamp = o.timestamp; id = e.id; st
 module _ (format : EventFormat) where
   -- The first eight words of a sample.
   abbrev pub sample_header : List ℕ → Outcome (OriginWords × EventWords) → Type 0
-  sample_header = both (origin_words (number_in format.endian) format.sample_format) (λ _. event_words (number_in format.endian) format.sample_format)
+  sample_header = both (origin_words (number_in format.endian) format.sample_format.0) (λ _. event_words (number_in format.endian) format.sample_format.0)
 
   pub record IsLeadingId (body : List ℕ) (id : SampleId) : Type 0 where
     pub origin : OriginWords
@@ -42,7 +42,7 @@ module _ (format : EventFormat) where
   pub record IsTrailingId (body : List ℕ) (id : SampleId) : Type 0 where
     pub enough : trailing_size format ≤ length body
     pub rest : List ℕ
-    pub id_is : sample_id (number_in format.endian) format.sample_format (trailing format body) (encodes id rest)
+    pub id_is : sample_id (number_in format.endian) format.sample_format.0 (trailing format body) (encodes id rest)
 
   module _ (raw : RawEventRecord) where
     abbrev pub IsSampleIdOf : SampleId → Type 0

@@ -7,6 +7,8 @@ use Rattle.std.specs.Prelude.{◌≡◌, ℕ, ◌+◌, ◌*◌, ◌/◌, ◌≤�
 use Rattle.std.specs.Option.{option_map}
 use Rattle.perfdata_base.specs.Raw.{bytes_of}
 use Rattle.perfdata_base.specs.ParseInfo.{is_set}
+use Rattle.perfdata_events.specs.SampleFormat.{IP, TID, TIME, ADDR, READ, CALLCHAIN, ID, CPU, PERIOD, STREAM_ID, RAW, BRANCH_STACK, REGS_USER, STACK_USER, IDENTIFIER}
+use Rattle.perfdata_events.specs.BranchType.{HW_INDEX, COUNTERS}
 use Rattle.perfdata_events.specs.Fields.{u32_at, u64_at}
 use Rattle.perfdata_events.specs.Format.{Outcome, encodes, fails, IsTruncated, block, fixed, both, led, optional}
 use Rattle.perfdata_events.specs.Words.{u64s, u64s_in, word, words_size, after, word_after}
@@ -55,9 +57,9 @@ module _ (number : ℕ → List ℕ → ℕ) where
   -- { u64 counters[nr]; } && PERF_SAMPLE_BRANCH_COUNTERS (19) }
   abbrev pub branch_stack : ℕ → List ℕ → Outcome (Option ℕ × (List ℕ × Option (List ℕ))) → Type 0
   branch_stack branch_type = led (fixed 8 (u64_at number 0)) (λ count.
-      both (word (is_set branch_type 17) (u64_at number 0)) (λ _.
+      both (word (is_set branch_type HW_INDEX) (u64_at number 0)) (λ _.
       both (u64s number (3 * count)) (λ _.
-      optional (is_set branch_type 19) (u64s number count))))
+      optional (is_set branch_type COUNTERS) (u64s number count))))
 
   -- { u64 size; char data[size]; u64 dyn_size; }, the last only if the size isn't 0
   abbrev pub user_stack : List ℕ → Outcome (List ℕ × Option ℕ) → Type 0
@@ -66,29 +68,29 @@ module _ (number : ℕ → List ℕ → ℕ) where
   module _ (format : ℕ) where
     -- The words with the bits 16, 0, 1, 2.
     pub record AreOriginWords (xs : List ℕ) (value : OriginWords) (rest : List ℕ) : Type 0 where
-      pub enough : words_size format (16 ∷ 0 ∷ 1 ∷ 2 ∷ []) ≤ length xs
-      pub identifier_is : value.identifier ≡ word_after format [] 16 (u64_at number 0) xs
-      pub ip_is : value.ip ≡ word_after format (16 ∷ []) 0 (u64_at number 0) xs
-      pub task_is : value.task ≡ word_after format (16 ∷ 0 ∷ []) 1 (task_at number) xs
-      pub timestamp_is : value.timestamp ≡ word_after format (16 ∷ 0 ∷ 1 ∷ []) 2 (u64_at number 0) xs
-      pub rest_is : rest ≡ after format (16 ∷ 0 ∷ 1 ∷ 2 ∷ []) xs
+      pub enough : words_size format (IDENTIFIER ∷ IP ∷ TID ∷ TIME ∷ []) ≤ length xs
+      pub identifier_is : value.identifier ≡ word_after format [] IDENTIFIER (u64_at number 0) xs
+      pub ip_is : value.ip ≡ word_after format (IDENTIFIER ∷ []) IP (u64_at number 0) xs
+      pub task_is : value.task ≡ word_after format (IDENTIFIER ∷ IP ∷ []) TID (task_at number) xs
+      pub timestamp_is : value.timestamp ≡ word_after format (IDENTIFIER ∷ IP ∷ TID ∷ []) TIME (u64_at number 0) xs
+      pub rest_is : rest ≡ after format (IDENTIFIER ∷ IP ∷ TID ∷ TIME ∷ []) xs
 
     abbrev pub origin_words : List ℕ → Outcome OriginWords → Type 0
     origin_words xs (encodes value rest) = AreOriginWords xs value rest
-    origin_words xs (fails kind) = IsTruncated (words_size format (16 ∷ 0 ∷ 1 ∷ 2 ∷ [])) xs kind
+    origin_words xs (fails kind) = IsTruncated (words_size format (IDENTIFIER ∷ IP ∷ TID ∷ TIME ∷ [])) xs kind
 
     -- The words with the bits 3, 6, 9, 7.
     pub record AreEventWords (xs : List ℕ) (value : EventWords) (rest : List ℕ) : Type 0 where
-      pub enough : words_size format (3 ∷ 6 ∷ 9 ∷ 7 ∷ []) ≤ length xs
-      pub address_is : value.address ≡ word_after format [] 3 (u64_at number 0) xs
-      pub id_is : value.id ≡ word_after format (3 ∷ []) 6 (u64_at number 0) xs
-      pub stream_id_is : value.stream_id ≡ word_after format (3 ∷ 6 ∷ []) 9 (u64_at number 0) xs
-      pub cpu_is : value.cpu ≡ word_after format (3 ∷ 6 ∷ 9 ∷ []) 7 (u32_at number 0) xs
-      pub rest_is : rest ≡ after format (3 ∷ 6 ∷ 9 ∷ 7 ∷ []) xs
+      pub enough : words_size format (ADDR ∷ ID ∷ STREAM_ID ∷ CPU ∷ []) ≤ length xs
+      pub address_is : value.address ≡ word_after format [] ADDR (u64_at number 0) xs
+      pub id_is : value.id ≡ word_after format (ADDR ∷ []) ID (u64_at number 0) xs
+      pub stream_id_is : value.stream_id ≡ word_after format (ADDR ∷ ID ∷ []) STREAM_ID (u64_at number 0) xs
+      pub cpu_is : value.cpu ≡ word_after format (ADDR ∷ ID ∷ STREAM_ID ∷ []) CPU (u32_at number 0) xs
+      pub rest_is : rest ≡ after format (ADDR ∷ ID ∷ STREAM_ID ∷ CPU ∷ []) xs
 
     abbrev pub event_words : List ℕ → Outcome EventWords → Type 0
     event_words xs (encodes value rest) = AreEventWords xs value rest
-    event_words xs (fails kind) = IsTruncated (words_size format (3 ∷ 6 ∷ 9 ∷ 7 ∷ [])) xs kind
+    event_words xs (fails kind) = IsTruncated (words_size format (ADDR ∷ ID ∷ STREAM_ID ∷ CPU ∷ [])) xs kind
 
 -- The values of a sample in three parts, each a value and then the others.
 abbrev pub Start : Type 0
@@ -150,19 +152,19 @@ module _ (number : ℕ → List ℕ → ℕ) (format : EventFormat) where
   -- The fields up to the call chain.
   abbrev pub sample_start : List ℕ → Outcome Start → Type 0
   sample_start =
-      both (origin_words number format.sample_format) (λ _.
-      both (event_words number format.sample_format) (λ _.
-      both (word (is_set format.sample_format 8) (u64_at number 0)) (λ _.
-      both (optional (is_set format.sample_format 4) (read_values number format.read_format)) (λ _.
-      optional (is_set format.sample_format 5) (chain number)))))
+      both (origin_words number format.sample_format.0) (λ _.
+      both (event_words number format.sample_format.0) (λ _.
+      both (word (is_set format.sample_format.0 PERIOD) (u64_at number 0)) (λ _.
+      both (optional (is_set format.sample_format.0 READ) (read_values number format.read_format.0)) (λ _.
+      optional (is_set format.sample_format.0 CALLCHAIN) (chain number)))))
 
   -- The fields from the raw data to the user stack.
   abbrev pub sample_middle : List ℕ → Outcome Middle → Type 0
   sample_middle =
-      both (optional (is_set format.sample_format 10) (raw_data number)) (λ _.
-      both (optional (is_set format.sample_format 11) (branch_stack number format.branch_sample_type)) (λ _.
-      both (optional (is_set format.sample_format 12) (registers number (register_masks_of format).user)) (λ _.
-      optional (is_set format.sample_format 13) (user_stack number))))
+      both (optional (is_set format.sample_format.0 RAW) (raw_data number)) (λ _.
+      both (optional (is_set format.sample_format.0 BRANCH_STACK) (branch_stack number format.branch_sample_type.0)) (λ _.
+      both (optional (is_set format.sample_format.0 REGS_USER) (registers number (register_masks_of format).user)) (λ _.
+      optional (is_set format.sample_format.0 STACK_USER) (user_stack number))))
 
   abbrev pub sample : List ℕ → Outcome (Start × (Middle × End)) → Type 0
-  sample = both sample_start (λ _. both sample_middle (λ _. sample_end number format.sample_format (register_masks_of format)))
+  sample = both sample_start (λ _. both sample_middle (λ _. sample_end number format.sample_format.0 (register_masks_of format)))

@@ -6,6 +6,7 @@ use Rattle.std.specs.Prelude.{◌≡◌, ℕ, ◌≤◌, ◌||◌, List, [], ◌
 use Rattle.std.specs.Option.{option_map}
 use Rattle.perfdata_base.specs.Raw.{bytes_of}
 use Rattle.perfdata_base.specs.ParseInfo.{is_set}
+use Rattle.perfdata_events.specs.SampleFormat.{WEIGHT, DATA_SRC, TRANSACTION, REGS_INTR, PHYS_ADDR, AUX, CGROUP, DATA_PAGE_SIZE, CODE_PAGE_SIZE, WEIGHT_STRUCT}
 use Rattle.perfdata_events.specs.Fields.{u64_at}
 use Rattle.perfdata_events.specs.Format.{Outcome, encodes, fails, IsTruncated, block, fixed, both, led, optional}
 use Rattle.perfdata_events.specs.Words.{word, words_size, after, word_after}
@@ -30,34 +31,34 @@ module _ (number : ℕ → List ℕ → ℕ) where
   module _ (format : ℕ) where
     -- The words with the bits 15, 17.
     pub record AreDataWords (xs : List ℕ) (value : DataWords) (rest : List ℕ) : Type 0 where
-      pub enough : words_size format (15 ∷ 17 ∷ []) ≤ length xs
-      pub data_source_is : value.data_source ≡ word_after format [] 15 (u64_at number 0) xs
-      pub transaction_is : value.transaction ≡ word_after format (15 ∷ []) 17 (u64_at number 0) xs
-      pub rest_is : rest ≡ after format (15 ∷ 17 ∷ []) xs
+      pub enough : words_size format (DATA_SRC ∷ TRANSACTION ∷ []) ≤ length xs
+      pub data_source_is : value.data_source ≡ word_after format [] DATA_SRC (u64_at number 0) xs
+      pub transaction_is : value.transaction ≡ word_after format (DATA_SRC ∷ []) TRANSACTION (u64_at number 0) xs
+      pub rest_is : rest ≡ after format (DATA_SRC ∷ TRANSACTION ∷ []) xs
 
     abbrev pub data_words : List ℕ → Outcome DataWords → Type 0
     data_words xs (encodes value rest) = AreDataWords xs value rest
-    data_words xs (fails kind) = IsTruncated (words_size format (15 ∷ 17 ∷ [])) xs kind
+    data_words xs (fails kind) = IsTruncated (words_size format (DATA_SRC ∷ TRANSACTION ∷ [])) xs kind
 
     -- The words with the bits 19, 21, 22, 23.
     pub record ArePageWords (xs : List ℕ) (value : PageWords) (rest : List ℕ) : Type 0 where
-      pub enough : words_size format (19 ∷ 21 ∷ 22 ∷ 23 ∷ []) ≤ length xs
-      pub physical_address_is : value.physical_address ≡ word_after format [] 19 (u64_at number 0) xs
-      pub cgroup_is : value.cgroup ≡ word_after format (19 ∷ []) 21 (u64_at number 0) xs
-      pub data_page_size_is : value.data_page_size ≡ word_after format (19 ∷ 21 ∷ []) 22 (u64_at number 0) xs
-      pub code_page_size_is : value.code_page_size ≡ word_after format (19 ∷ 21 ∷ 22 ∷ []) 23 (u64_at number 0) xs
-      pub rest_is : rest ≡ after format (19 ∷ 21 ∷ 22 ∷ 23 ∷ []) xs
+      pub enough : words_size format (PHYS_ADDR ∷ CGROUP ∷ DATA_PAGE_SIZE ∷ CODE_PAGE_SIZE ∷ []) ≤ length xs
+      pub physical_address_is : value.physical_address ≡ word_after format [] PHYS_ADDR (u64_at number 0) xs
+      pub cgroup_is : value.cgroup ≡ word_after format (PHYS_ADDR ∷ []) CGROUP (u64_at number 0) xs
+      pub data_page_size_is : value.data_page_size ≡ word_after format (PHYS_ADDR ∷ CGROUP ∷ []) DATA_PAGE_SIZE (u64_at number 0) xs
+      pub code_page_size_is : value.code_page_size ≡ word_after format (PHYS_ADDR ∷ CGROUP ∷ DATA_PAGE_SIZE ∷ []) CODE_PAGE_SIZE (u64_at number 0) xs
+      pub rest_is : rest ≡ after format (PHYS_ADDR ∷ CGROUP ∷ DATA_PAGE_SIZE ∷ CODE_PAGE_SIZE ∷ []) xs
 
     abbrev pub page_words : List ℕ → Outcome PageWords → Type 0
     page_words xs (encodes value rest) = ArePageWords xs value rest
-    page_words xs (fails kind) = IsTruncated (words_size format (19 ∷ 21 ∷ 22 ∷ 23 ∷ [])) xs kind
+    page_words xs (fails kind) = IsTruncated (words_size format (PHYS_ADDR ∷ CGROUP ∷ DATA_PAGE_SIZE ∷ CODE_PAGE_SIZE ∷ [])) xs kind
 
     module _ (masks : RegisterMasks) where
       -- The fields from the weight on.
       abbrev pub sample_end : List ℕ → Outcome End → Type 0
       sample_end =
-          both (word (is_set format 14 || is_set format 24) (u64_at number 0)) (λ _.
+          both (word (is_set format WEIGHT || is_set format WEIGHT_STRUCT) (u64_at number 0)) (λ _.
           both data_words (λ _.
-          both (optional (is_set format 18) (registers number masks.interrupt)) (λ _.
+          both (optional (is_set format REGS_INTR) (registers number masks.interrupt)) (λ _.
           both page_words (λ _.
-          optional (is_set format 20) aux_data))))
+          optional (is_set format AUX) aux_data))))

@@ -6,8 +6,8 @@ ghost use Rattle.perfdata_events.specs.Aux.{aux};
 ghost use Rattle.perfdata_events.specs.ItraceStart.{itrace_start};
 ghost use Rattle.perfdata_events.specs.AuxOutputHwId.{aux_output_hw_id};
 
-use perfdata_base::raw::{Endianness, RawData};
 use crate::fields::numbers::{i32_at, u64_at};
+use perfdata_base::raw::{Endianness, RawData};
 use std::io::Result;
 
 /// New data in the aux area (`PERF_RECORD_AUX`).

@@ -4,16 +4,12 @@ ghost use Rattle.perfdata_base.specs.Endian.{number_in};
 ghost use Rattle.perfdata_events.specs.Format.{Decodes};
 ghost use Rattle.perfdata_events.specs.ContextSwitch.{switch, switch_cpu_wide};
 
+use crate::bits::MiscFlags;
+use crate::fields::numbers::i32_at;
 use crate::sample_id::Task;
+use bitflags::Flags;
 use perfdata_base::raw::{Endianness, RawData};
-use crate::fields::numbers::{has_bits, i32_at};
 use std::io::Result;
-
-/// The bit of a record header's `misc` that marks a switch out (`PERF_RECORD_MISC_SWITCH_OUT`).
-const MISC_SWITCH_OUT: u64 = 1 << 13;
-
-/// The bit of a record header's `misc` that marks a preempted task (`PERF_RECORD_MISC_SWITCH_OUT_PREEMPT`).
-const MISC_SWITCH_OUT_PREEMPT: u64 = 1 << 14;
 
 /// A switch of the recorded task (`PERF_RECORD_SWITCH`, `PERF_RECORD_SWITCH_CPU_WIDE`).
 #[derive(Clone, Copy, Debug, PartialEq, Eq)]
@@ -32,8 +28,8 @@ impl ContextSwitchRecord {
         ensures { Decodes (switch misc) (λ v. v) (bytes_of fields.old) result (bytes_of fields.new) }
     {
         Ok(ContextSwitchRecord {
-            is_out: has_bits(misc as u64, MISC_SWITCH_OUT),
-            preempted: has_bits(misc as u64, MISC_SWITCH_OUT_PREEMPT),
+            is_out: MiscFlags(misc).contains(MiscFlags::SWITCH_OUT),
+            preempted: MiscFlags(misc).contains(MiscFlags::SWITCH_OUT_PREEMPT),
             other_task: None,
         })
     }
@@ -51,8 +47,8 @@ impl ContextSwitchRecord {
         let mut bytes = [0u8; 8];
         fields.read_exact(&mut bytes)?;
         Ok(ContextSwitchRecord {
-            is_out: has_bits(misc as u64, MISC_SWITCH_OUT),
-            preempted: has_bits(misc as u64, MISC_SWITCH_OUT_PREEMPT),
+            is_out: MiscFlags(misc).contains(MiscFlags::SWITCH_OUT),
+            preempted: MiscFlags(misc).contains(MiscFlags::SWITCH_OUT_PREEMPT),
             other_task: Some(Task {
                 pid: i32_at(endian, &bytes, 0),
                 tid: i32_at(endian, &bytes, 4),

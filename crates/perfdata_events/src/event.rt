@@ -4,6 +4,7 @@ ghost use Rattle.std.specs.IoError.{error_kind};
 ghost use Rattle.perfdata_base.specs.Raw.{bytes_of};
 
 use crate::aux_area::{AuxOutputHwIdRecord, AuxRecord, ItraceStartRecord};
+use crate::bits::{BranchFields, ReadFields, SampleFields};
 use crate::context_switch::ContextSwitchRecord;
 use crate::format::EventFormat;
 use crate::kernel::{BpfEventRecord, KsymbolRecord, TextPokeRecord};
@@ -13,9 +14,9 @@ use crate::mmap2::Mmap2Record;
 use crate::read_values::ReadRecord;
 use crate::sample::SampleRecord;
 use crate::task::{CgroupRecord, CommOrExecRecord, ForkOrExitRecord, NamespacesRecord};
+use bitflags::Flags;
 use perfdata_base::event::{RawEventRecord, RecordType};
 use perfdata_base::raw::RawData;
-use crate::fields::numbers::has_bits;
 use std::io::Result;
 
 const PERF_RECORD_MMAP: u32 = 1;
@@ -60,6 +61,15 @@ const PERF_RECORD_AUX_OUTPUT_HW_ID: u32 = 21;
 
 /// The highest type that is parsed.
 const LAST_TYPE: u32 = PERF_RECORD_AUX_OUTPUT_HW_ID;
+
+/// The lowest bit of the sample format after the last one that has a name.
+const SAMPLE_FIELDS_END: u64 = SampleFields::WEIGHT_STRUCT.0 << 1;
+
+/// The lowest bit of the read format after the last one that has a name.
+const READ_FIELDS_END: u64 = ReadFields::LOST.0 << 1;
+
+/// The lowest bit of the branch sample type after the last one that has a name.
+const BRANCH_FIELDS_END: u64 = BranchFields::COUNTERS.0 << 1;
 
 /// A kernel record, parsed by its type.
 #[derive(Clone, Copy, Debug)]
@@ -284,9 +294,11 @@ impl EventFormat {
     pub fn has_known_fields(&self) -> bool
         ensures { result ≡ has_known_fields self.now }
     {
-        self.sample_format < 1 << 25
-            && (!has_bits(self.sample_format, 1 << 4) || self.read_format < 1 << 5)
-            && (!has_bits(self.sample_format, 1 << 11) || self.branch_sample_type < 1 << 20)
+        self.sample_format.0 < SAMPLE_FIELDS_END
+            && (!self.sample_format.contains(SampleFields::READ)
+                || self.read_format.0 < READ_FIELDS_END)
+            && (!self.sample_format.contains(SampleFields::BRANCH_STACK)
+                || self.branch_sample_type.0 < BRANCH_FIELDS_END)
     }
 
     /// Parses the body of a record by its type. Nothing is allocated; what has no fixed size is borrowed from the body.

@@ -2,28 +2,27 @@
 ghost use Rattle.std.specs.Prelude.{◌≡◌, [], ◌∷◌};
 ghost use Rattle.perfdata_base.specs.Raw.{bytes_of};
 ghost use Rattle.perfdata_events.specs.Words.{word_size, words_size};
+ghost use Rattle.perfdata_events.specs.SampleFormat.{TID, TIME, ID, STREAM_ID, CPU, IDENTIFIER};
 
+use crate::bits::{BranchFields, EventFlags, ReadFields, SampleFields};
+use crate::fields::registers::RegisterMasks;
+use bitflags::Flags;
 use perfdata_base::attr::PerfEventAttr;
 use perfdata_base::raw::{Endianness, RawData};
 use perfdata_base::source::unexpected_eof;
-use crate::fields::numbers::has_bits;
-use crate::fields::registers::RegisterMasks;
 use std::io::Result;
-
-/// The bit of an attribute's flags for sample_id fields in all records.
-const SAMPLE_ID_ALL: u64 = 1 << 18;
 
 /// What the bodies of one attribute's records hold.
 #[derive(Clone, Copy, Debug)]
 pub struct EventFormat {
     /// The byte order of numbers.
     pub endian: Endianness,
-    /// The fields of a sample, as bits.
-    pub sample_format: u64,
-    /// The fields of counter values, as bits.
-    pub read_format: u64,
-    /// The fields of a branch stack, as bits.
-    pub branch_sample_type: u64,
+    /// The fields of a sample.
+    pub sample_format: SampleFields,
+    /// The fields of counter values.
+    pub read_format: ReadFields,
+    /// The fields of a branch stack.
+    pub branch_sample_type: BranchFields,
     /// The user registers of a sample, as bits.
     pub sample_regs_user: u64,
     /// The registers at the interrupt of a sample, as bits.
@@ -40,15 +39,15 @@ fn word_size(present: bool) -> usize
 }
 
 // The size of the sample_id fields of a sample format in bytes.
-fn sample_id_size(format: u64) -> usize
-    ensures { result ≡ words_size format (1 ∷ 2 ∷ 6 ∷ 9 ∷ 7 ∷ 16 ∷ []) }
+fn sample_id_size(format: SampleFields) -> usize
+    ensures { result ≡ words_size format.0 (TID ∷ TIME ∷ ID ∷ STREAM_ID ∷ CPU ∷ IDENTIFIER ∷ []) }
 {
-    let task = word_size(has_bits(format, 1 << 1));
-    let time = word_size(has_bits(format, 1 << 2));
-    let id = word_size(has_bits(format, 1 << 6));
-    let stream_id = word_size(has_bits(format, 1 << 9));
-    let cpu = word_size(has_bits(format, 1 << 7));
-    let identifier = word_size(has_bits(format, 1 << 16));
+    let task = word_size(format.contains(SampleFields::TID));
+    let time = word_size(format.contains(SampleFields::TIME));
+    let id = word_size(format.contains(SampleFields::ID));
+    let stream_id = word_size(format.contains(SampleFields::STREAM_ID));
+    let cpu = word_size(format.contains(SampleFields::CPU));
+    let identifier = word_size(format.contains(SampleFields::IDENTIFIER));
     task + time + id + stream_id + cpu + identifier
 }
 
@@ -61,12 +60,14 @@ impl EventFormat {
     {
         EventFormat {
             endian,
-            sample_format: attr.sample_format.0,
-            read_format: attr.read_format,
-            branch_sample_type: attr.branch_sample_type,
+            sample_format: SampleFields::from_bits_retain(attr.sample_format.0),
+            read_format: ReadFields::from_bits_retain(attr.read_format),
+            branch_sample_type: BranchFields::from_bits_retain(attr.branch_sample_type),
             sample_regs_user: attr.sample_regs_user,
             sample_regs_intr: attr.sample_regs_intr,
-            sample_id_all: has_bits(attr.flags.0, SAMPLE_ID_ALL),
+            sample_id_all: EventFlags::from_bits_retain(attr.flags.0).contains(
+                EventFlags::SAMPLE_ID_ALL,
+            ),
         }
     }
 

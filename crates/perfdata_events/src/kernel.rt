@@ -3,9 +3,9 @@ ghost use Rattle.perfdata_base.specs.Raw.{bytes_of};
 ghost use Rattle.perfdata_base.specs.Endian.{number_in};
 ghost use Rattle.perfdata_events.specs.Format.{Decodes};
 
-use perfdata_base::raw::{Endianness, RawData};
 use crate::fields::numbers::{u16_at, u32_at, u64_at};
 use crate::fields::text::read_text;
+use perfdata_base::raw::{Endianness, RawData};
 use std::io::Result;
 
 /// A symbol that the kernel registered or removed (`PERF_RECORD_KSYMBOL`).

@@ -1,5 +1,5 @@
 //! Laws on the definitions of formats.
-ghost use Rattle.std.specs.Prelude.{ℕ, List, Bool, ◌≡◌, ◌<◌, ◌++◌, not, map, filter};
+ghost use Rattle.std.specs.Prelude.{ℕ, List, Bool, ◌≡◌, ◌<◌, ◌++◌, ◌*◌, ◌^◌, not, map, filter};
 ghost use Rattle.std.specs.Option.{option_or};
 ghost use Rattle.perfdata_base.specs.Raw.{bytes_of};
 ghost use Rattle.perfdata_base.specs.ParseInfo.{parse_info_of, id_parse_info_of, time_of, identifier_of};
@@ -34,6 +34,8 @@ ghost use Rattle.perfdata_events.specs.AuxOutputHwId.{aux_output_hw_id};
 ghost use Rattle.perfdata_events.specs.Sample.{sample};
 ghost use Rattle.perfdata_events.specs.SampleId.{sample_id};
 ghost use Rattle.perfdata_events.specs.declared.format.EventFormat.{EventFormat};
+
+use crate::bits::{BranchFields, EventFlags, MiscFlags, ReadFields, SampleFields};
 
 /// Bytes either start with exactly one value of a record's fields, which are followed by exactly one rest, or have exactly one
 /// first error. `number` parses a number of a given size, in either byte order.
@@ -95,4 +97,120 @@ pub fn sample_id_is_what_the_reader_finds()
 pub fn frames_are_values_in_context()
     ensures addresses { (context : CallContext) (values : List ℕ) → map (λ (f : Frame). f.address) (frames_of context values) ≡ filter (λ v. not (is_context_change v)) values }
     ensures contexts { (context : CallContext) (before later : List ℕ) → frames_of context (before ++ later) ≡ frames_of context before ++ frames_of (last_context context before) later }
+{}
+
+/// The bits of the sample format.
+pub fn sample_field_bits()
+    ensures ip { SampleFields.IP.0 ≡ 2 ^ 0 }
+    ensures tid { SampleFields.TID.0 ≡ 2 ^ 1 }
+    ensures time { SampleFields.TIME.0 ≡ 2 ^ 2 }
+    ensures addr { SampleFields.ADDR.0 ≡ 2 ^ 3 }
+    ensures read { SampleFields.READ.0 ≡ 2 ^ 4 }
+    ensures callchain { SampleFields.CALLCHAIN.0 ≡ 2 ^ 5 }
+    ensures id { SampleFields.ID.0 ≡ 2 ^ 6 }
+    ensures cpu { SampleFields.CPU.0 ≡ 2 ^ 7 }
+    ensures period { SampleFields.PERIOD.0 ≡ 2 ^ 8 }
+    ensures stream_id { SampleFields.STREAM_ID.0 ≡ 2 ^ 9 }
+    ensures raw { SampleFields.RAW.0 ≡ 2 ^ 10 }
+    ensures branch_stack { SampleFields.BRANCH_STACK.0 ≡ 2 ^ 11 }
+    ensures regs_user { SampleFields.REGS_USER.0 ≡ 2 ^ 12 }
+    ensures stack_user { SampleFields.STACK_USER.0 ≡ 2 ^ 13 }
+    ensures weight { SampleFields.WEIGHT.0 ≡ 2 ^ 14 }
+    ensures data_src { SampleFields.DATA_SRC.0 ≡ 2 ^ 15 }
+    ensures identifier { SampleFields.IDENTIFIER.0 ≡ 2 ^ 16 }
+    ensures transaction { SampleFields.TRANSACTION.0 ≡ 2 ^ 17 }
+    ensures regs_intr { SampleFields.REGS_INTR.0 ≡ 2 ^ 18 }
+    ensures phys_addr { SampleFields.PHYS_ADDR.0 ≡ 2 ^ 19 }
+    ensures aux { SampleFields.AUX.0 ≡ 2 ^ 20 }
+    ensures cgroup { SampleFields.CGROUP.0 ≡ 2 ^ 21 }
+    ensures data_page_size { SampleFields.DATA_PAGE_SIZE.0 ≡ 2 ^ 22 }
+    ensures code_page_size { SampleFields.CODE_PAGE_SIZE.0 ≡ 2 ^ 23 }
+    ensures weight_struct { SampleFields.WEIGHT_STRUCT.0 ≡ 2 ^ 24 }
+{}
+
+/// The bits of the read format.
+pub fn read_field_bits()
+    ensures total_time_enabled { ReadFields.TOTAL_TIME_ENABLED.0 ≡ 2 ^ 0 }
+    ensures total_time_running { ReadFields.TOTAL_TIME_RUNNING.0 ≡ 2 ^ 1 }
+    ensures id { ReadFields.ID.0 ≡ 2 ^ 2 }
+    ensures group { ReadFields.GROUP.0 ≡ 2 ^ 3 }
+    ensures lost { ReadFields.LOST.0 ≡ 2 ^ 4 }
+{}
+
+/// The bits of the branch sample type.
+pub fn branch_field_bits()
+    ensures user { BranchFields.USER.0 ≡ 2 ^ 0 }
+    ensures kernel { BranchFields.KERNEL.0 ≡ 2 ^ 1 }
+    ensures hv { BranchFields.HV.0 ≡ 2 ^ 2 }
+    ensures any { BranchFields.ANY.0 ≡ 2 ^ 3 }
+    ensures any_call { BranchFields.ANY_CALL.0 ≡ 2 ^ 4 }
+    ensures any_return { BranchFields.ANY_RETURN.0 ≡ 2 ^ 5 }
+    ensures ind_call { BranchFields.IND_CALL.0 ≡ 2 ^ 6 }
+    ensures abort_tx { BranchFields.ABORT_TX.0 ≡ 2 ^ 7 }
+    ensures in_tx { BranchFields.IN_TX.0 ≡ 2 ^ 8 }
+    ensures no_tx { BranchFields.NO_TX.0 ≡ 2 ^ 9 }
+    ensures cond { BranchFields.COND.0 ≡ 2 ^ 10 }
+    ensures call_stack { BranchFields.CALL_STACK.0 ≡ 2 ^ 11 }
+    ensures ind_jump { BranchFields.IND_JUMP.0 ≡ 2 ^ 12 }
+    ensures call { BranchFields.CALL.0 ≡ 2 ^ 13 }
+    ensures no_flags { BranchFields.NO_FLAGS.0 ≡ 2 ^ 14 }
+    ensures no_cycles { BranchFields.NO_CYCLES.0 ≡ 2 ^ 15 }
+    ensures type_save { BranchFields.TYPE_SAVE.0 ≡ 2 ^ 16 }
+    ensures hw_index { BranchFields.HW_INDEX.0 ≡ 2 ^ 17 }
+    ensures priv_save { BranchFields.PRIV_SAVE.0 ≡ 2 ^ 18 }
+    ensures counters { BranchFields.COUNTERS.0 ≡ 2 ^ 19 }
+{}
+
+/// The bits of an attribute's flags.
+pub fn event_flag_bits()
+    ensures disabled { EventFlags.DISABLED.0 ≡ 2 ^ 0 }
+    ensures inherit { EventFlags.INHERIT.0 ≡ 2 ^ 1 }
+    ensures pinned { EventFlags.PINNED.0 ≡ 2 ^ 2 }
+    ensures exclusive { EventFlags.EXCLUSIVE.0 ≡ 2 ^ 3 }
+    ensures exclude_user { EventFlags.EXCLUDE_USER.0 ≡ 2 ^ 4 }
+    ensures exclude_kernel { EventFlags.EXCLUDE_KERNEL.0 ≡ 2 ^ 5 }
+    ensures exclude_hv { EventFlags.EXCLUDE_HV.0 ≡ 2 ^ 6 }
+    ensures exclude_idle { EventFlags.EXCLUDE_IDLE.0 ≡ 2 ^ 7 }
+    ensures mmap { EventFlags.MMAP.0 ≡ 2 ^ 8 }
+    ensures comm { EventFlags.COMM.0 ≡ 2 ^ 9 }
+    ensures freq { EventFlags.FREQ.0 ≡ 2 ^ 10 }
+    ensures inherit_stat { EventFlags.INHERIT_STAT.0 ≡ 2 ^ 11 }
+    ensures enable_on_exec { EventFlags.ENABLE_ON_EXEC.0 ≡ 2 ^ 12 }
+    ensures task { EventFlags.TASK.0 ≡ 2 ^ 13 }
+    ensures watermark { EventFlags.WATERMARK.0 ≡ 2 ^ 14 }
+    ensures precise_ip { EventFlags.PRECISE_IP.0 ≡ 3 * 2 ^ 15 }
+    ensures mmap_data { EventFlags.MMAP_DATA.0 ≡ 2 ^ 17 }
+    ensures sample_id_all { EventFlags.SAMPLE_ID_ALL.0 ≡ 2 ^ 18 }
+    ensures exclude_host { EventFlags.EXCLUDE_HOST.0 ≡ 2 ^ 19 }
+    ensures exclude_guest { EventFlags.EXCLUDE_GUEST.0 ≡ 2 ^ 20 }
+    ensures exclude_callchain_kernel { EventFlags.EXCLUDE_CALLCHAIN_KERNEL.0 ≡ 2 ^ 21 }
+    ensures exclude_callchain_user { EventFlags.EXCLUDE_CALLCHAIN_USER.0 ≡ 2 ^ 22 }
+    ensures mmap2 { EventFlags.MMAP2.0 ≡ 2 ^ 23 }
+    ensures comm_exec { EventFlags.COMM_EXEC.0 ≡ 2 ^ 24 }
+    ensures use_clockid { EventFlags.USE_CLOCKID.0 ≡ 2 ^ 25 }
+    ensures context_switch { EventFlags.CONTEXT_SWITCH.0 ≡ 2 ^ 26 }
+    ensures write_backward { EventFlags.WRITE_BACKWARD.0 ≡ 2 ^ 27 }
+    ensures namespaces { EventFlags.NAMESPACES.0 ≡ 2 ^ 28 }
+    ensures ksymbol { EventFlags.KSYMBOL.0 ≡ 2 ^ 29 }
+    ensures bpf_event { EventFlags.BPF_EVENT.0 ≡ 2 ^ 30 }
+    ensures aux_output { EventFlags.AUX_OUTPUT.0 ≡ 2 ^ 31 }
+    ensures cgroup { EventFlags.CGROUP.0 ≡ 2 ^ 32 }
+    ensures text_poke { EventFlags.TEXT_POKE.0 ≡ 2 ^ 33 }
+    ensures build_id { EventFlags.BUILD_ID.0 ≡ 2 ^ 34 }
+    ensures inherit_thread { EventFlags.INHERIT_THREAD.0 ≡ 2 ^ 35 }
+    ensures remove_on_exec { EventFlags.REMOVE_ON_EXEC.0 ≡ 2 ^ 36 }
+    ensures sigtrap { EventFlags.SIGTRAP.0 ≡ 2 ^ 37 }
+{}
+
+/// The bits of a record header's `misc`.
+pub fn misc_flag_bits()
+    ensures proc_map_parse_timeout { MiscFlags.PROC_MAP_PARSE_TIMEOUT.0 ≡ 2 ^ 12 }
+    ensures mmap_data { MiscFlags.MMAP_DATA.0 ≡ 2 ^ 13 }
+    ensures comm_exec { MiscFlags.COMM_EXEC.0 ≡ 2 ^ 13 }
+    ensures fork_exec { MiscFlags.FORK_EXEC.0 ≡ 2 ^ 13 }
+    ensures switch_out { MiscFlags.SWITCH_OUT.0 ≡ 2 ^ 13 }
+    ensures exact_ip { MiscFlags.EXACT_IP.0 ≡ 2 ^ 14 }
+    ensures switch_out_preempt { MiscFlags.SWITCH_OUT_PREEMPT.0 ≡ 2 ^ 14 }
+    ensures mmap_build_id { MiscFlags.MMAP_BUILD_ID.0 ≡ 2 ^ 14 }
+    ensures ext_reserved { MiscFlags.EXT_RESERVED.0 ≡ 2 ^ 15 }
 {}

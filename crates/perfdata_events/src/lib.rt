@@ -5,6 +5,7 @@
 #![tactic(auto)]
 
 pub mod aux_area;
+pub mod bits;
 pub mod context_switch;
 pub mod event;
 pub mod fields;

@@ -6,8 +6,8 @@ ghost use Rattle.perfdata_events.specs.Lost.{lost};
 ghost use Rattle.perfdata_events.specs.LostSamples.{lost_samples};
 ghost use Rattle.perfdata_events.specs.Throttle.{throttle};
 
-use perfdata_base::raw::{Endianness, RawData};
 use crate::fields::numbers::u64_at;
+use perfdata_base::raw::{Endianness, RawData};
 use std::io::Result;
 
 /// Records that the kernel dropped because the buffer was full (`PERF_RECORD_LOST`).

@@ -3,9 +3,9 @@ ghost use Rattle.perfdata_base.specs.Raw.{bytes_of};
 ghost use Rattle.perfdata_base.specs.Endian.{number_in};
 ghost use Rattle.perfdata_events.specs.Format.{Decodes};
 
-use perfdata_base::raw::{Endianness, RawData};
 use crate::fields::numbers::{i32_at, u64_at};
 use crate::fields::text::read_text;
+use perfdata_base::raw::{Endianness, RawData};
 use std::io::Result;
 
 /// An executable mapping (`PERF_RECORD_MMAP`).

@@ -3,15 +3,15 @@ ghost use Rattle.perfdata_base.specs.Raw.{bytes_of};
 ghost use Rattle.perfdata_base.specs.Endian.{number_in};
 ghost use Rattle.perfdata_base.specs.ParseInfo.{is_set};
 ghost use Rattle.perfdata_events.specs.Format.{Decodes, fixed, fixed_and_text};
+ghost use Rattle.perfdata_events.specs.Misc.{MMAP_BUILD_ID};
 
-use perfdata_base::raw::{Endianness, RawData};
+use crate::bits::MiscFlags;
 pub use crate::fields::file_id::{Mmap2FileId, Mmap2InodeAndVersion};
-use crate::fields::numbers::{has_bits, i32_at, u32_at, u64_at};
+use crate::fields::numbers::{i32_at, u32_at, u64_at};
 use crate::fields::text::read_text;
+use bitflags::Flags;
+use perfdata_base::raw::{Endianness, RawData};
 use std::io::Result;
-
-/// The bit of a record header's `misc` that marks a build id (`PERF_RECORD_MISC_MMAP_BUILD_ID`).
-const MISC_MMAP_BUILD_ID: u64 = 1 << 14;
 
 /// An executable mapping with the identity of the mapped file (`PERF_RECORD_MMAP2`).
 #[derive(Clone, Copy, Debug, PartialEq, Eq)]
@@ -98,10 +98,10 @@ impl<'a> Mmap2Record<'a> {
     /// Fails with an `UnexpectedEof` error if they are truncated, and with an `InvalidData` error if the build id has
     /// more than 20 bytes or the path has no NUL.
     pub fn parse(endian: Endianness, misc: u16, fields: &mut RawData<'a>) -> Result<Mmap2Record<'a>>
-        ensures { Decodes (mmap2 (number_in endian) (is_set misc 14)) mapping2_of (bytes_of fields.old) result (bytes_of fields.new) }
+        ensures { Decodes (mmap2 (number_in endian) (is_set misc MMAP_BUILD_ID)) mapping2_of (bytes_of fields.old) result (bytes_of fields.new) }
     {
         let range = AddressRange::parse(endian, fields)?;
-        let is_build_id = has_bits(misc as u64, MISC_MMAP_BUILD_ID);
+        let is_build_id = MiscFlags(misc).contains(MiscFlags::MMAP_BUILD_ID);
         let file_id = Mmap2FileId::parse(endian, is_build_id, fields)?;
         let protected = ProtectedPath::parse(endian, fields)?;
         Ok(Mmap2Record {

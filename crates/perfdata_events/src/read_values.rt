@@ -3,10 +3,11 @@ ghost use Rattle.perfdata_base.specs.Raw.{bytes_of};
 ghost use Rattle.perfdata_base.specs.Endian.{number_in};
 ghost use Rattle.perfdata_events.specs.Format.{Decodes};
 
-use perfdata_base::raw::{Endianness, RawData};
+use crate::bits::ReadFields;
 pub use crate::fields::read_values::{CounterValue, GroupValues, ReadValues, SingleValues};
 use crate::fields::task::Task;
 use crate::fields::words::read_task;
+use perfdata_base::raw::{Endianness, RawData};
 use std::io::Result;
 
 /// The values of counters when a task ended (`PERF_RECORD_READ`).
@@ -26,10 +27,10 @@ impl<'a> ReadRecord<'a> {
     /// Fails with an `UnexpectedEof` error if they are truncated.
     pub fn parse(
         endian: Endianness,
-        read_format: u64,
+        read_format: ReadFields,
         fields: &mut RawData<'a>,
     ) -> Result<ReadRecord<'a>>
-        ensures { Decodes (read (number_in endian) read_format) task_values_of (bytes_of fields.old) result (bytes_of fields.new) }
+        ensures { Decodes (read (number_in endian) read_format.0) task_values_of (bytes_of fields.old) result (bytes_of fields.new) }
     {
         let task = read_task(endian, fields)?;
         let values = ReadValues::parse(endian, read_format, fields)?;

@@ -6,17 +6,18 @@ ghost use Rattle.perfdata_base.specs.ParseInfo.{is_set};
 ghost use Rattle.perfdata_events.specs.Format.{Decodes};
 ghost use Rattle.perfdata_events.specs.Selection.{selects_middle, selects_data, selects_pages, selects_end, selects_parts};
 
-use crate::format::EventFormat;
-use crate::sample_parts::{BranchStack, UserStack, read_raw_data_if};
-use crate::sample_words::{EventWords, OriginWords};
-use perfdata_base::raw::RawData;
+use crate::bits::SampleFields;
 use crate::fields::call_chain::CallChain;
-use crate::fields::numbers::has_bits;
 use crate::fields::read_values::ReadValues;
 use crate::fields::registers::Registers;
 use crate::fields::sample_end::{SampleEnd, has_weight};
 use crate::fields::task::Task;
 use crate::fields::words::read_u64_if;
+use crate::format::EventFormat;
+use crate::sample_parts::{BranchStack, UserStack, read_raw_data_if};
+use crate::sample_words::{EventWords, OriginWords};
+use bitflags::Flags;
+use perfdata_base::raw::RawData;
 use std::io::Result;
 
 /// A sample of an event (`PERF_RECORD_SAMPLE`). A field is `None` if the attribute doesn't select it.
@@ -112,14 +113,18 @@ impl<'a> SampleStart<'a> {
         let bits = format.sample_format;
         let origin = OriginWords::parse(endian, bits, fields)?;
         let event = EventWords::parse(endian, bits, fields)?;
-        let period = read_u64_if(endian, fields, has_bits(bits, 1 << 8))?;
+        let period = read_u64_if(endian, fields, bits.contains(SampleFields::PERIOD))?;
         let values = ReadValues::parse_if(
             endian,
-            has_bits(bits, 1 << 4),
+            bits.contains(SampleFields::READ),
             format.read_format,
             fields,
         )?;
-        let call_chain = CallChain::parse_if(endian, has_bits(bits, 1 << 5), fields)?;
+        let call_chain = CallChain::parse_if(
+            endian,
+            bits.contains(SampleFields::CALLCHAIN),
+            fields,
+        )?;
         Ok(SampleStart {
             origin,
             event,
@@ -131,13 +136,13 @@ impl<'a> SampleStart<'a> {
 }
 
 // Whether a sample has a field from the raw data to the user stack.
-fn has_middle(bits: u64) -> bool
-    ensures { result ≡ selects_middle bits }
+fn has_middle(bits: SampleFields) -> bool
+    ensures { result ≡ selects_middle bits.0 }
 {
-    has_bits(bits, 1 << 10)
-        || has_bits(bits, 1 << 11)
-        || has_bits(bits, 1 << 12)
-        || has_bits(bits, 1 << 13)
+    bits.contains(SampleFields::RAW)
+        || bits.contains(SampleFields::BRANCH_STACK)
+        || bits.contains(SampleFields::REGS_USER)
+        || bits.contains(SampleFields::STACK_USER)
 }
 
 impl<'a> SampleMiddle<'a> {
@@ -148,15 +153,19 @@ impl<'a> SampleMiddle<'a> {
     {
         let endian = format.endian;
         let bits = format.sample_format;
-        let raw = read_raw_data_if(endian, has_bits(bits, 1 << 10), fields)?;
+        let raw = read_raw_data_if(endian, bits.contains(SampleFields::RAW), fields)?;
         let branch_stack = BranchStack::parse_if(
             endian,
-            has_bits(bits, 1 << 11),
+            bits.contains(SampleFields::BRANCH_STACK),
             format.branch_sample_type,
             fields,
         )?;
         let user_registers = Registers::parse_user(endian, bits, format.register_masks(), fields)?;
-        let user_stack = UserStack::parse_if(endian, has_bits(bits, 1 << 13), fields)?;
+        let user_stack = UserStack::parse_if(
+            endian,
+            bits.contains(SampleFields::STACK_USER),
+            fields,
+        )?;
         Ok(SampleMiddle {
             raw,
             branch_stack,
@@ -167,35 +176,40 @@ impl<'a> SampleMiddle<'a> {
 }
 
 // Whether a sample has a word or registers from the data source to the interrupt registers.
-fn has_data(bits: u64) -> bool
-    ensures { result ≡ selects_data bits }
+fn has_data(bits: SampleFields) -> bool
+    ensures { result ≡ selects_data bits.0 }
 {
-    has_bits(bits, 1 << 15) || has_bits(bits, 1 << 17) || has_bits(bits, 1 << 18)
+    bits.contains(SampleFields::DATA_SRC)
+        || bits.contains(SampleFields::TRANSACTION)
+        || bits.contains(SampleFields::REGS_INTR)
 }
 
 // Whether a sample has a field from the physical address on.
-fn has_pages(bits: u64) -> bool
-    ensures { result ≡ selects_pages bits }
+fn has_pages(bits: SampleFields) -> bool
+    ensures { result ≡ selects_pages bits.0 }
 {
-    has_bits(bits, 1 << 19)
-        || has_bits(bits, 1 << 21)
-        || has_bits(bits, 1 << 22)
-        || has_bits(bits, 1 << 23)
-        || has_bits(bits, 1 << 20)
+    bits.contains(SampleFields::PHYS_ADDR)
+        || bits.contains(SampleFields::CGROUP)
+        || bits.contains(SampleFields::DATA_PAGE_SIZE)
+        || bits.contains(SampleFields::CODE_PAGE_SIZE)
+        || bits.contains(SampleFields::AUX)
 }
 
 // Whether a sample has a field from the weight on.
-fn has_end(bits: u64) -> bool
-    ensures { result ≡ selects_end bits }
+fn has_end(bits: SampleFields) -> bool
+    ensures { result ≡ selects_end bits.0 }
 {
     has_weight(bits) || has_data(bits) || has_pages(bits)
 }
 
 // Whether a sample has a field after its period.
-fn has_parts(bits: u64) -> bool
-    ensures { result ≡ selects_parts bits }
+fn has_parts(bits: SampleFields) -> bool
+    ensures { result ≡ selects_parts bits.0 }
 {
-    has_bits(bits, 1 << 4) || has_bits(bits, 1 << 5) || has_middle(bits) || has_end(bits)
+    bits.contains(SampleFields::READ)
+        || bits.contains(SampleFields::CALLCHAIN)
+        || has_middle(bits)
+        || has_end(bits)
 }
 
 impl EventFormat {
@@ -204,7 +218,7 @@ impl EventFormat {
     /// Whether a sample has no fields but the words up to its period.
     #[inline]
     pub fn has_only_words(&self) -> bool
-        ensures { result ≡ not (selects_parts self.now.sample_format) }
+        ensures { result ≡ not (selects_parts self.now.sample_format.0) }
     {
         !has_parts(self.sample_format)
     }
@@ -220,14 +234,14 @@ impl SampleWords {
     /// Fails with an `UnexpectedEof` error if they are truncated.
     #[inline(always)]
     pub fn parse(format: &EventFormat, fields: &mut RawData<'_>) -> Result<SampleWords>
-        requires { IsTrue (not (selects_parts format.now.sample_format)) }
+        requires { IsTrue (not (selects_parts format.now.sample_format.0)) }
         ensures { Decodes (sample (number_in format.now.endian) format.now) values_of_words (bytes_of fields.old) result (bytes_of fields.new) }
     {
         let endian = format.endian;
         let bits = format.sample_format;
         let origin = OriginWords::parse(endian, bits, fields)?;
         let event = EventWords::parse(endian, bits, fields)?;
-        let period = read_u64_if(endian, fields, has_bits(bits, 1 << 8))?;
+        let period = read_u64_if(endian, fields, bits.contains(SampleFields::PERIOD))?;
         Ok(SampleWords {
             origin,
             event,

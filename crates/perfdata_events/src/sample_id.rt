@@ -4,10 +4,11 @@ ghost use Rattle.perfdata_base.specs.Endian.{number_in};
 ghost use Rattle.perfdata_events.specs.Format.{Decodes};
 ghost use Rattle.perfdata_events.specs.SampleId.{sample_id};
 
-use perfdata_base::raw::{Endianness, RawData};
-use crate::fields::numbers::has_bits;
+use crate::bits::SampleFields;
 pub use crate::fields::task::Task;
 use crate::fields::words::{read_task_if, read_u32_if, read_u64_if};
+use bitflags::Flags;
+use perfdata_base::raw::{Endianness, RawData};
 use std::io::Result;
 
 /// Who wrote a record, when and where. A field is `None` if the attribute doesn't select it.
@@ -31,15 +32,19 @@ impl SampleId {
     /// Parses the sample_id fields that a sample format selects at the start of `fields`, and removes them.
     ///
     /// Fails with an `UnexpectedEof` error if they are truncated.
-    pub fn parse(endian: Endianness, format: u64, fields: &mut RawData<'_>) -> Result<SampleId>
-        ensures { Decodes (sample_id (number_in endian) format) (λ v. v) (bytes_of fields.old) result (bytes_of fields.new) }
+    pub fn parse(
+        endian: Endianness,
+        format: SampleFields,
+        fields: &mut RawData<'_>,
+    ) -> Result<SampleId>
+        ensures { Decodes (sample_id (number_in endian) format.0) (λ v. v) (bytes_of fields.old) result (bytes_of fields.new) }
     {
-        let task = read_task_if(endian, fields, has_bits(format, 1 << 1))?;
-        let timestamp = read_u64_if(endian, fields, has_bits(format, 1 << 2))?;
-        let id = read_u64_if(endian, fields, has_bits(format, 1 << 6))?;
-        let stream_id = read_u64_if(endian, fields, has_bits(format, 1 << 9))?;
-        let cpu = read_u32_if(endian, fields, has_bits(format, 1 << 7))?;
-        let identifier = read_u64_if(endian, fields, has_bits(format, 1 << 16))?;
+        let task = read_task_if(endian, fields, format.contains(SampleFields::TID))?;
+        let timestamp = read_u64_if(endian, fields, format.contains(SampleFields::TIME))?;
+        let id = read_u64_if(endian, fields, format.contains(SampleFields::ID))?;
+        let stream_id = read_u64_if(endian, fields, format.contains(SampleFields::STREAM_ID))?;
+        let cpu = read_u32_if(endian, fields, format.contains(SampleFields::CPU))?;
+        let identifier = read_u64_if(endian, fields, format.contains(SampleFields::IDENTIFIER))?;
         Ok(SampleId {
             task,
             timestamp,

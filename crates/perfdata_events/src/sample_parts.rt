@@ -6,18 +6,13 @@ ghost use Rattle.perfdata_events.specs.Format.{Decodes, optional};
 ghost use Rattle.perfdata_events.specs.Words.{u64s, u64s_in};
 ghost use Rattle.std.specs.Option.{option_map};
 
-use perfdata_base::raw::{Endianness, RawData};
-use crate::fields::numbers::has_bits;
+use crate::bits::BranchFields;
 pub use crate::fields::registers::{RegisterMasks, Registers};
 use crate::fields::u64s::{RawDataU64, read_block, read_u64_list, read_u64s};
 use crate::fields::words::{read_u32, read_u64, read_u64_if};
+use bitflags::Flags;
+use perfdata_base::raw::{Endianness, RawData};
 use std::io::Result;
-
-/// The bit of the branch sample type for the hardware index (`PERF_SAMPLE_BRANCH_HW_INDEX`).
-const BRANCH_HW_INDEX: u64 = 1 << 17;
-
-/// The bit of the branch sample type for the counters (`PERF_SAMPLE_BRANCH_COUNTERS`).
-const BRANCH_COUNTERS: u64 = 1 << 19;
 
 /// The last branches that the processor took.
 #[derive(Clone, Copy, Debug)]
@@ -96,19 +91,19 @@ impl<'a> BranchStack<'a> {
     // Removes a branch stack.
     pub(crate) fn parse(
         endian: Endianness,
-        branch_sample_type: u64,
+        branch_sample_type: BranchFields,
         fields: &mut RawData<'a>,
     ) -> Result<BranchStack<'a>>
-        ensures { Decodes (branch_stack (number_in endian) branch_sample_type) branches_of (bytes_of fields.old) result (bytes_of fields.new) }
+        ensures { Decodes (branch_stack (number_in endian) branch_sample_type.0) branches_of (bytes_of fields.old) result (bytes_of fields.new) }
     {
         let count = read_u64(endian, fields)?;
         let hw_index = read_u64_if(
             endian,
             fields,
-            has_bits(branch_sample_type, BRANCH_HW_INDEX),
+            branch_sample_type.contains(BranchFields::HW_INDEX),
         )?;
         let entries = read_u64s(endian, fields, count, 3)?;
-        let has_counters = has_bits(branch_sample_type, BRANCH_COUNTERS);
+        let has_counters = branch_sample_type.contains(BranchFields::COUNTERS);
         let counters = read_u64_list_if(endian, fields, has_counters, count)?;
         Ok(BranchStack {
             hw_index,
@@ -121,10 +116,10 @@ impl<'a> BranchStack<'a> {
     pub(crate) fn parse_if(
         endian: Endianness,
         present: bool,
-        branch_sample_type: u64,
+        branch_sample_type: BranchFields,
         fields: &mut RawData<'a>,
     ) -> Result<Option<BranchStack<'a>>>
-        ensures { Decodes (optional present (branch_stack (number_in endian) branch_sample_type)) (option_map branches_of) (bytes_of fields.old) result (bytes_of fields.new) }
+        ensures { Decodes (optional present (branch_stack (number_in endian) branch_sample_type.0)) (option_map branches_of) (bytes_of fields.old) result (bytes_of fields.new) }
     {
         if !present {
             return Ok(None);

@@ -3,11 +3,12 @@ ghost use Rattle.perfdata_base.specs.Raw.{bytes_of};
 ghost use Rattle.perfdata_base.specs.Endian.{number_in};
 ghost use Rattle.perfdata_events.specs.Format.{Decodes};
 
-use perfdata_base::raw::{Endianness, RawData};
-use crate::fields::numbers::has_bits;
+use crate::bits::SampleFields;
 pub use crate::fields::sample_end::{DataWords, PageWords};
 use crate::fields::task::Task;
 use crate::fields::words::{read_task_if, read_u32_if, read_u64_if};
+use bitflags::Flags;
+use perfdata_base::raw::{Endianness, RawData};
 use std::io::Result;
 
 /// The first words of a sample. A field is `None` if the attribute doesn't select it.
@@ -43,15 +44,15 @@ impl OriginWords {
     #[inline(always)]
     pub(crate) fn parse(
         endian: Endianness,
-        format: u64,
+        format: SampleFields,
         fields: &mut RawData<'_>,
     ) -> Result<OriginWords>
-        ensures { Decodes (origin_words (number_in endian) format) (λ v. v) (bytes_of fields.old) result (bytes_of fields.new) }
+        ensures { Decodes (origin_words (number_in endian) format.0) (λ v. v) (bytes_of fields.old) result (bytes_of fields.new) }
     {
-        let identifier = read_u64_if(endian, fields, has_bits(format, 1 << 16))?;
-        let ip = read_u64_if(endian, fields, has_bits(format, 1 << 0))?;
-        let task = read_task_if(endian, fields, has_bits(format, 1 << 1))?;
-        let timestamp = read_u64_if(endian, fields, has_bits(format, 1 << 2))?;
+        let identifier = read_u64_if(endian, fields, format.contains(SampleFields::IDENTIFIER))?;
+        let ip = read_u64_if(endian, fields, format.contains(SampleFields::IP))?;
+        let task = read_task_if(endian, fields, format.contains(SampleFields::TID))?;
+        let timestamp = read_u64_if(endian, fields, format.contains(SampleFields::TIME))?;
         Ok(OriginWords {
             identifier,
             ip,
@@ -68,15 +69,15 @@ impl EventWords {
     #[inline(always)]
     pub(crate) fn parse(
         endian: Endianness,
-        format: u64,
+        format: SampleFields,
         fields: &mut RawData<'_>,
     ) -> Result<EventWords>
-        ensures { Decodes (event_words (number_in endian) format) (λ v. v) (bytes_of fields.old) result (bytes_of fields.new) }
+        ensures { Decodes (event_words (number_in endian) format.0) (λ v. v) (bytes_of fields.old) result (bytes_of fields.new) }
     {
-        let address = read_u64_if(endian, fields, has_bits(format, 1 << 3))?;
-        let id = read_u64_if(endian, fields, has_bits(format, 1 << 6))?;
-        let stream_id = read_u64_if(endian, fields, has_bits(format, 1 << 9))?;
-        let cpu = read_u32_if(endian, fields, has_bits(format, 1 << 7))?;
+        let address = read_u64_if(endian, fields, format.contains(SampleFields::ADDR))?;
+        let id = read_u64_if(endian, fields, format.contains(SampleFields::ID))?;
+        let stream_id = read_u64_if(endian, fields, format.contains(SampleFields::STREAM_ID))?;
+        let cpu = read_u32_if(endian, fields, format.contains(SampleFields::CPU))?;
         Ok(EventWords {
             address,
             id,

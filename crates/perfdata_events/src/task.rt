@@ -4,10 +4,12 @@ ghost use Rattle.perfdata_base.specs.Endian.{number_in};
 ghost use Rattle.perfdata_events.specs.Format.{Decodes};
 ghost use Rattle.perfdata_events.specs.ForkOrExit.{fork_or_exit};
 
-use perfdata_base::raw::{Endianness, RawData};
-use crate::fields::numbers::{has_bits, i32_at, u64_at};
+use crate::bits::MiscFlags;
+use crate::fields::numbers::{i32_at, u64_at};
 use crate::fields::text::read_text;
 use crate::fields::u64s::{RawDataU64, read_u64s};
+use bitflags::Flags;
+use perfdata_base::raw::{Endianness, RawData};
 use std::io::Result;
 
 /// A task that began or ended (`PERF_RECORD_FORK`, `PERF_RECORD_EXIT`).
@@ -67,9 +69,6 @@ pub struct Namespace {
     pub inode: u64,
 }
 
-/// The bit of a record header's `misc` that marks a name set by an exec (`PERF_RECORD_MISC_COMM_EXEC`).
-const MISC_COMM_EXEC: u64 = 1 << 13;
-
 impl ForkOrExitRecord {
     /// Parses the fields at the start of `fields`, and removes them.
     ///
@@ -109,7 +108,7 @@ impl<'a> CommOrExecRecord<'a> {
         Ok(CommOrExecRecord {
             pid: i32_at(endian, &bytes, 0),
             tid: i32_at(endian, &bytes, 4),
-            is_execve: has_bits(misc as u64, MISC_COMM_EXEC),
+            is_execve: MiscFlags(misc).contains(MiscFlags::COMM_EXEC),
             name,
         })
     }

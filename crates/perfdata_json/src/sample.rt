@@ -235,7 +235,7 @@ impl Body {
         raw: &RawEventRecord<'_>,
         first: &mut ShortMembers,
     ) -> Result<(), AllocError>
-        requires only_words { IsTrue (not (selects_parts format.now.sample_format)) }
+        requires only_words { IsTrue (not (selects_parts format.now.sample_format.0)) }
         requires free { 1024 ≤ free_size first.old }
         ensures { 160 ≤ free_size first.new }
     {

@@ -3,27 +3,14 @@ ghost use Rattle.perfdata_base.specs.Raw.{bytes_of};
 ghost use Rattle.perfdata_base.specs.Endian.{number_in};
 ghost use Rattle.perfdata_events.specs.Format.{Decodes, optional};
 ghost use Rattle.std.specs.Option.{option_map};
+ghost use Rattle.perfdata_events.specs.ReadFormat.{ID, LOST};
 
-use crate::fields::numbers::has_bits;
+use crate::bits::ReadFields;
 use crate::fields::u64s::{RawDataU64, read_u64s};
 use crate::fields::words::{read_u64, read_u64_if};
+use bitflags::Flags;
 use perfdata_base::raw::{Endianness, RawData};
 use std::io::Result;
-
-/// The bit of the read format for the time that the event was enabled (`PERF_FORMAT_TOTAL_TIME_ENABLED`).
-const FORMAT_TOTAL_TIME_ENABLED: u64 = 1 << 0;
-
-/// The bit of the read format for the time that the event was counted (`PERF_FORMAT_TOTAL_TIME_RUNNING`).
-const FORMAT_TOTAL_TIME_RUNNING: u64 = 1 << 1;
-
-/// The bit of the read format for the identifier of the event (`PERF_FORMAT_ID`).
-const FORMAT_ID: u64 = 1 << 2;
-
-/// The bit of the read format for all counters of a group (`PERF_FORMAT_GROUP`).
-const FORMAT_GROUP: u64 = 1 << 3;
-
-/// The bit of the read format for the number of lost samples (`PERF_FORMAT_LOST`).
-const FORMAT_LOST: u64 = 1 << 4;
 
 /// The value of one counter. A field is `None` if the read format doesn't select it.
 #[derive(Clone, Copy, Debug, PartialEq, Eq)]
@@ -100,21 +87,21 @@ pub struct Times {
 impl Details {
     ghost use Rattle.perfdata_events.specs.ReadValues.{details};
 
-    fn parse(endian: Endianness, format: u64, fields: &mut RawData<'_>) -> Result<Details>
-        ensures { Decodes (details (number_in endian) format) (λ v. v) (bytes_of fields.old) result (bytes_of fields.new) }
+    fn parse(endian: Endianness, format: ReadFields, fields: &mut RawData<'_>) -> Result<Details>
+        ensures { Decodes (details (number_in endian) format.0) (λ v. v) (bytes_of fields.old) result (bytes_of fields.new) }
     {
         let time_enabled = read_u64_if(
             endian,
             fields,
-            has_bits(format, FORMAT_TOTAL_TIME_ENABLED),
+            format.contains(ReadFields::TOTAL_TIME_ENABLED),
         )?;
         let time_running = read_u64_if(
             endian,
             fields,
-            has_bits(format, FORMAT_TOTAL_TIME_RUNNING),
+            format.contains(ReadFields::TOTAL_TIME_RUNNING),
         )?;
-        let id = read_u64_if(endian, fields, has_bits(format, FORMAT_ID))?;
-        let lost = read_u64_if(endian, fields, has_bits(format, FORMAT_LOST))?;
+        let id = read_u64_if(endian, fields, format.contains(ReadFields::ID))?;
+        let lost = read_u64_if(endian, fields, format.contains(ReadFields::LOST))?;
         Ok(Details {
             time_enabled,
             time_running,
@@ -127,18 +114,18 @@ impl Details {
 impl Times {
     ghost use Rattle.perfdata_events.specs.ReadValues.{times};
 
-    fn parse(endian: Endianness, format: u64, fields: &mut RawData<'_>) -> Result<Times>
-        ensures { Decodes (times (number_in endian) format) (λ v. v) (bytes_of fields.old) result (bytes_of fields.new) }
+    fn parse(endian: Endianness, format: ReadFields, fields: &mut RawData<'_>) -> Result<Times>
+        ensures { Decodes (times (number_in endian) format.0) (λ v. v) (bytes_of fields.old) result (bytes_of fields.new) }
     {
         let time_enabled = read_u64_if(
             endian,
             fields,
-            has_bits(format, FORMAT_TOTAL_TIME_ENABLED),
+            format.contains(ReadFields::TOTAL_TIME_ENABLED),
         )?;
         let time_running = read_u64_if(
             endian,
             fields,
-            has_bits(format, FORMAT_TOTAL_TIME_RUNNING),
+            format.contains(ReadFields::TOTAL_TIME_RUNNING),
         )?;
         Ok(Times {
             time_enabled,
@@ -151,8 +138,12 @@ impl SingleValues {
     ghost use Rattle.perfdata_events.specs.ReadValues.{single_values, single_of};
 
     // Removes the value of one counter.
-    fn parse(endian: Endianness, format: u64, fields: &mut RawData<'_>) -> Result<SingleValues>
-        ensures { Decodes (single_values (number_in endian) format) single_of (bytes_of fields.old) result (bytes_of fields.new) }
+    fn parse(
+        endian: Endianness,
+        format: ReadFields,
+        fields: &mut RawData<'_>,
+    ) -> Result<SingleValues>
+        ensures { Decodes (single_values (number_in endian) format.0) single_of (bytes_of fields.old) result (bytes_of fields.new) }
     {
         let value = read_u64(endian, fields)?;
         let details = Details::parse(endian, format, fields)?;
@@ -172,11 +163,19 @@ impl<'a> GroupValues<'a> {
     ghost use Rattle.perfdata_events.specs.ReadValues.{group_values, group_of, counter_width, counter_count, counter_at};
 
     // The number of numbers of a counter.
-    fn width(format: u64) -> u64
-        ensures { result ≡ counter_width (is_set format 2) (is_set format 4) }
+    fn width(format: ReadFields) -> u64
+        ensures { result ≡ counter_width (is_set format.0 ID) (is_set format.0 LOST) }
     {
-        let ids = if has_bits(format, FORMAT_ID) { 1 } else { 0 };
-        let losts = if has_bits(format, FORMAT_LOST) { 1 } else { 0 };
+        let ids = if format.contains(ReadFields::ID) {
+            1
+        } else {
+            0
+        };
+        let losts = if format.contains(ReadFields::LOST) {
+            1
+        } else {
+            0
+        };
         1 + ids + losts
     }
 
@@ -222,8 +221,12 @@ impl<'a> GroupValues<'a> {
     }
 
     // Removes the values of the counters of a group.
-    fn parse(endian: Endianness, format: u64, fields: &mut RawData<'a>) -> Result<GroupValues<'a>>
-        ensures { Decodes (group_values (number_in endian) format) group_of (bytes_of fields.old) result (bytes_of fields.new) }
+    fn parse(
+        endian: Endianness,
+        format: ReadFields,
+        fields: &mut RawData<'a>,
+    ) -> Result<GroupValues<'a>>
+        ensures { Decodes (group_values (number_in endian) format.0) group_of (bytes_of fields.old) result (bytes_of fields.new) }
     {
         let count = read_u64(endian, fields)?;
         let times = Times::parse(endian, format, fields)?;
@@ -231,8 +234,8 @@ impl<'a> GroupValues<'a> {
         Ok(GroupValues {
             time_enabled: times.time_enabled,
             time_running: times.time_running,
-            has_id: has_bits(format, FORMAT_ID),
-            has_lost: has_bits(format, FORMAT_LOST),
+            has_id: format.contains(ReadFields::ID),
+            has_lost: format.contains(ReadFields::LOST),
             numbers,
         })
     }
@@ -246,12 +249,12 @@ impl<'a> ReadValues<'a> {
     /// Fails with an `UnexpectedEof` error if they are truncated.
     pub fn parse(
         endian: Endianness,
-        read_format: u64,
+        read_format: ReadFields,
         fields: &mut RawData<'a>,
     ) -> Result<ReadValues<'a>>
-        ensures { Decodes (read_values (number_in endian) read_format) values_of (bytes_of fields.old) result (bytes_of fields.new) }
+        ensures { Decodes (read_values (number_in endian) read_format.0) values_of (bytes_of fields.old) result (bytes_of fields.new) }
     {
-        if has_bits(read_format, FORMAT_GROUP) {
+        if read_format.contains(ReadFields::GROUP) {
             let group = GroupValues::parse(endian, read_format, fields)?;
             Ok(ReadValues::Group(group))
         } else {
@@ -264,10 +267,10 @@ impl<'a> ReadValues<'a> {
     pub fn parse_if(
         endian: Endianness,
         present: bool,
-        read_format: u64,
+        read_format: ReadFields,
         fields: &mut RawData<'a>,
     ) -> Result<Option<ReadValues<'a>>>
-        ensures { Decodes (optional present (read_values (number_in endian) read_format)) (option_map values_of) (bytes_of fields.old) result (bytes_of fields.new) }
+        ensures { Decodes (optional present (read_values (number_in endian) read_format.0)) (option_map values_of) (bytes_of fields.old) result (bytes_of fields.new) }
     {
         if !present {
             return Ok(None);

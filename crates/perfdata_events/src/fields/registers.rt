@@ -5,18 +5,14 @@ ghost use Rattle.perfdata_base.specs.Raw.{bytes_of};
 ghost use Rattle.perfdata_base.specs.Endian.{number_in};
 ghost use Rattle.perfdata_base.specs.ParseInfo.{is_set};
 ghost use Rattle.perfdata_events.specs.Format.{Decodes, optional};
+ghost use Rattle.perfdata_events.specs.SampleFormat.{REGS_USER, REGS_INTR};
 
-use crate::fields::numbers::has_bits;
+use crate::bits::SampleFields;
 use crate::fields::u64s::{RawDataU64, read_u64_list};
 use crate::fields::words::read_u64;
+use bitflags::Flags;
 use perfdata_base::raw::{Endianness, RawData};
 use std::io::Result;
-
-/// The bit of the sample format for the registers of the program (`PERF_SAMPLE_REGS_USER`).
-const SAMPLE_REGS_USER: u64 = 1 << 12;
-
-/// The bit of the sample format for the registers at the interrupt (`PERF_SAMPLE_REGS_INTR`).
-const SAMPLE_REGS_INTR: u64 = 1 << 18;
 
 /// The masks of the registers that an attribute selects.
 #[derive(Clone, Copy, Debug, PartialEq, Eq)]
@@ -66,13 +62,13 @@ impl<'a> Registers<'a> {
     #[inline(always)]
     pub fn parse_user(
         endian: Endianness,
-        sample_format: u64,
+        sample_format: SampleFields,
         masks: RegisterMasks,
         fields: &mut RawData<'a>,
     ) -> Result<Option<Registers<'a>>>
-        ensures { Decodes (optional (is_set sample_format 12) (registers (number_in endian) masks.user)) (option_map registers_of) (bytes_of fields.old) result (bytes_of fields.new) }
+        ensures { Decodes (optional (is_set sample_format.0 REGS_USER) (registers (number_in endian) masks.user)) (option_map registers_of) (bytes_of fields.old) result (bytes_of fields.new) }
     {
-        if !has_bits(sample_format, SAMPLE_REGS_USER) {
+        if !sample_format.contains(SampleFields::REGS_USER) {
             return Ok(None);
         }
         Registers::parse(endian, masks.user, fields).map(Some)
@@ -84,13 +80,13 @@ impl<'a> Registers<'a> {
     #[inline(always)]
     pub fn parse_interrupt(
         endian: Endianness,
-        sample_format: u64,
+        sample_format: SampleFields,
         masks: RegisterMasks,
         fields: &mut RawData<'a>,
     ) -> Result<Option<Registers<'a>>>
-        ensures { Decodes (optional (is_set sample_format 18) (registers (number_in endian) masks.interrupt)) (option_map registers_of) (bytes_of fields.old) result (bytes_of fields.new) }
+        ensures { Decodes (optional (is_set sample_format.0 REGS_INTR) (registers (number_in endian) masks.interrupt)) (option_map registers_of) (bytes_of fields.old) result (bytes_of fields.new) }
     {
-        if !has_bits(sample_format, SAMPLE_REGS_INTR) {
+        if !sample_format.contains(SampleFields::REGS_INTR) {
             return Ok(None);
         }
         Registers::parse(endian, masks.interrupt, fields).map(Some)

@@ -6,11 +6,13 @@ ghost use Rattle.perfdata_base.specs.Endian.{number_in};
 ghost use Rattle.perfdata_base.specs.ParseInfo.{is_set};
 ghost use Rattle.perfdata_events.specs.Format.{Decodes, optional};
 ghost use Rattle.perfdata_events.specs.SampleEnd.{aux_data};
+ghost use Rattle.perfdata_events.specs.SampleFormat.{WEIGHT, WEIGHT_STRUCT};
 
-use crate::fields::numbers::has_bits;
+use crate::bits::SampleFields;
 use crate::fields::registers::{RegisterMasks, Registers};
 use crate::fields::u64s::read_block;
 use crate::fields::words::{read_u64, read_u64_if};
+use bitflags::Flags;
 use perfdata_base::raw::{Endianness, RawData};
 use std::io::Result;
 
@@ -56,11 +58,15 @@ impl DataWords {
 
     // Removes the words that a sample format selects.
     #[inline(always)]
-    fn parse(endian: Endianness, format: u64, fields: &mut RawData<'_>) -> Result<DataWords>
-        ensures { Decodes (data_words (number_in endian) format) (λ v. v) (bytes_of fields.old) result (bytes_of fields.new) }
+    fn parse(
+        endian: Endianness,
+        format: SampleFields,
+        fields: &mut RawData<'_>,
+    ) -> Result<DataWords>
+        ensures { Decodes (data_words (number_in endian) format.0) (λ v. v) (bytes_of fields.old) result (bytes_of fields.new) }
     {
-        let data_source = read_u64_if(endian, fields, has_bits(format, 1 << 15))?;
-        let transaction = read_u64_if(endian, fields, has_bits(format, 1 << 17))?;
+        let data_source = read_u64_if(endian, fields, format.contains(SampleFields::DATA_SRC))?;
+        let transaction = read_u64_if(endian, fields, format.contains(SampleFields::TRANSACTION))?;
         Ok(DataWords {
             data_source,
             transaction,
@@ -73,13 +79,29 @@ impl PageWords {
 
     // Removes the words that a sample format selects.
     #[inline(always)]
-    fn parse(endian: Endianness, format: u64, fields: &mut RawData<'_>) -> Result<PageWords>
-        ensures { Decodes (page_words (number_in endian) format) (λ v. v) (bytes_of fields.old) result (bytes_of fields.new) }
+    fn parse(
+        endian: Endianness,
+        format: SampleFields,
+        fields: &mut RawData<'_>,
+    ) -> Result<PageWords>
+        ensures { Decodes (page_words (number_in endian) format.0) (λ v. v) (bytes_of fields.old) result (bytes_of fields.new) }
     {
-        let physical_address = read_u64_if(endian, fields, has_bits(format, 1 << 19))?;
-        let cgroup = read_u64_if(endian, fields, has_bits(format, 1 << 21))?;
-        let data_page_size = read_u64_if(endian, fields, has_bits(format, 1 << 22))?;
-        let code_page_size = read_u64_if(endian, fields, has_bits(format, 1 << 23))?;
+        let physical_address = read_u64_if(
+            endian,
+            fields,
+            format.contains(SampleFields::PHYS_ADDR),
+        )?;
+        let cgroup = read_u64_if(endian, fields, format.contains(SampleFields::CGROUP))?;
+        let data_page_size = read_u64_if(
+            endian,
+            fields,
+            format.contains(SampleFields::DATA_PAGE_SIZE),
+        )?;
+        let code_page_size = read_u64_if(
+            endian,
+            fields,
+            format.contains(SampleFields::CODE_PAGE_SIZE),
+        )?;
         Ok(PageWords {
             physical_address,
             cgroup,
@@ -90,10 +112,10 @@ impl PageWords {
 }
 
 /// Returns whether a sample has a weight, in one of its two forms.
-pub fn has_weight(bits: u64) -> bool
-    ensures { result ≡ (is_set bits 14 || is_set bits 24) }
+pub fn has_weight(bits: SampleFields) -> bool
+    ensures { result ≡ (is_set bits.0 WEIGHT || is_set bits.0 WEIGHT_STRUCT) }
 {
-    has_bits(bits, 1 << 14) || has_bits(bits, 1 << 24)
+    bits.contains(SampleFields::WEIGHT) || bits.contains(SampleFields::WEIGHT_STRUCT)
 }
 
 // Removes aux data, whose size is eight bytes before it.
@@ -128,17 +150,17 @@ impl<'a> SampleEnd<'a> {
     /// Fails with an `UnexpectedEof` error if they are truncated.
     pub fn parse(
         endian: Endianness,
-        sample_format: u64,
+        sample_format: SampleFields,
         masks: RegisterMasks,
         fields: &mut RawData<'a>,
     ) -> Result<SampleEnd<'a>>
-        ensures { Decodes (sample_end (number_in endian) sample_format masks) end_of (bytes_of fields.old) result (bytes_of fields.new) }
+        ensures { Decodes (sample_end (number_in endian) sample_format.0 masks) end_of (bytes_of fields.old) result (bytes_of fields.new) }
     {
         let weight = read_u64_if(endian, fields, has_weight(sample_format))?;
         let data = DataWords::parse(endian, sample_format, fields)?;
         let interrupt_registers = Registers::parse_interrupt(endian, sample_format, masks, fields)?;
         let pages = PageWords::parse(endian, sample_format, fields)?;
-        let aux_data = read_aux_data_if(endian, has_bits(sample_format, 1 << 20), fields)?;
+        let aux_data = read_aux_data_if(endian, sample_format.contains(SampleFields::AUX), fields)?;
         Ok(SampleEnd {
             weight,
             data,
