@@ -1,6 +1,5 @@
 //! Numbers at offsets of a record's fixed part.
-ghost use Rattle.std.specs.Prelude.{◌≡◌, ◌+◌, ◌≤◌, ◌==◌, length};
-ghost use Rattle.std.specs.Int.RustNames.{bit_and};
+ghost use Rattle.std.specs.Prelude.{◌≡◌, ◌+◌, ◌≤◌, length};
 ghost use Rattle.perfdata_base.specs.Endian.{number_in};
 ghost use Rattle.perfdata_events.specs.Fields.{u16_at, u32_at, u64_at, i32_at};
 
@@ -37,11 +36,4 @@ pub fn i32_at(endian: Endianness, bytes: &[u8], at: usize) -> i32
     ensures { result ≡ i32_at (number_in endian) at bytes.now }
 {
     read_u32(endian, &bytes[at..]).cast_signed()
-}
-
-/// Returns whether all bits of the mask are set.
-pub fn has_bits(bits: u64, mask: u64) -> bool
-    ensures { result ≡ (bit_and bits mask == mask) }
-{
-    bits & mask == mask
 }

@@ -9,17 +9,17 @@ use Rattle.perfdata_events.proofs.sample.SampleMiddle.parse.Goals as goal
 pub returns-in_err-branch_stack : goal.returns-in_err-branch_stack
 returns-in_err-branch_stack c =
     let p = err_from_is_err_and c.from_residual-in_err-branch_stack.result c.from_residual-in_err-branch_stack.ensures.1 in
-    rw (p.1, p.2) (inr record { value = option_map bytes_of c.in_ok-raw.raw; middle = bytes_of c.read_raw_data_if.new.fields; starts = (rw c.has_bits.ensures at c.in_ok-raw.ensures); error = (inl (rw c.has_bits-2.ensures at c.in_err-branch_stack.ensures)) })
+    rw (p.1, p.2) (inr record { value = option_map bytes_of c.in_ok-raw.raw; middle = bytes_of c.read_raw_data_if.new.fields; starts = (rw (c.contains.ensures tt) at c.in_ok-raw.ensures); error = (inl (rw (c.contains-2.ensures tt) at c.in_err-branch_stack.ensures)) })
 
 pub returns-in_err-user_registers : goal.returns-in_err-user_registers
 returns-in_err-user_registers c =
     let p = err_from_is_err_and c.from_residual-in_err-user_registers.result c.from_residual-in_err-user_registers.ensures.1 in
-    rw (p.1, p.2) (inr record { value = option_map bytes_of c.in_ok-raw.raw; middle = bytes_of c.read_raw_data_if.new.fields; starts = (rw c.has_bits.ensures at c.in_ok-raw.ensures); error = (inr record { value = option_map branches_of c.in_ok-branch_stack.branch_stack; middle = bytes_of c.parse_if.new.fields; starts = (rw c.has_bits-2.ensures at c.in_ok-branch_stack.ensures); error = (inl (rw c.register_masks.ensures at c.in_err-user_registers.ensures)) }) })
+    rw (p.1, p.2) (inr record { value = option_map bytes_of c.in_ok-raw.raw; middle = bytes_of c.read_raw_data_if.new.fields; starts = (rw (c.contains.ensures tt) at c.in_ok-raw.ensures); error = (inr record { value = option_map branches_of c.in_ok-branch_stack.branch_stack; middle = bytes_of c.parse_if.new.fields; starts = (rw (c.contains-2.ensures tt) at c.in_ok-branch_stack.ensures); error = (inl (rw c.register_masks.ensures at c.in_err-user_registers.ensures)) }) })
 
 pub returns-in_err-user_stack : goal.returns-in_err-user_stack
 returns-in_err-user_stack c =
     let p = err_from_is_err_and c.from_residual-in_err-user_stack.result c.from_residual-in_err-user_stack.ensures.1 in
-    rw (p.1, p.2) (inr record { value = option_map bytes_of c.in_ok-raw.raw; middle = bytes_of c.read_raw_data_if.new.fields; starts = (rw c.has_bits.ensures at c.in_ok-raw.ensures); error = (inr record { value = option_map branches_of c.in_ok-branch_stack.branch_stack; middle = bytes_of c.parse_if.new.fields; starts = (rw c.has_bits-2.ensures at c.in_ok-branch_stack.ensures); error = (inr record { value = option_map registers_of c.in_ok-user_registers.user_registers; middle = bytes_of c.parse_user.new.fields; starts = (rw c.register_masks.ensures at c.in_ok-user_registers.ensures); error = (rw c.has_bits-3.ensures at c.in_err-user_stack.ensures) }) }) })
+    rw (p.1, p.2) (inr record { value = option_map bytes_of c.in_ok-raw.raw; middle = bytes_of c.read_raw_data_if.new.fields; starts = (rw (c.contains.ensures tt) at c.in_ok-raw.ensures); error = (inr record { value = option_map branches_of c.in_ok-branch_stack.branch_stack; middle = bytes_of c.parse_if.new.fields; starts = (rw (c.contains-2.ensures tt) at c.in_ok-branch_stack.ensures); error = (inr record { value = option_map registers_of c.in_ok-user_registers.user_registers; middle = bytes_of c.parse_user.new.fields; starts = (rw c.register_masks.ensures at c.in_ok-user_registers.ensures); error = (rw (c.contains-3.ensures tt) at c.in_err-user_stack.ensures) }) }) })
 
 pub returns : goal.returns
-returns c = record { middle = bytes_of c.read_raw_data_if.new.fields; starts = (rw c.has_bits.ensures at c.in_ok-raw.ensures); goes_on = record { middle = bytes_of c.parse_if.new.fields; starts = (rw c.has_bits-2.ensures at c.in_ok-branch_stack.ensures); goes_on = record { middle = bytes_of c.parse_user.new.fields; starts = (rw c.register_masks.ensures at c.in_ok-user_registers.ensures); goes_on = (rw c.has_bits-3.ensures at c.in_ok-user_stack.ensures) } } }
+returns c = record { middle = bytes_of c.read_raw_data_if.new.fields; starts = (rw (c.contains.ensures tt) at c.in_ok-raw.ensures); goes_on = record { middle = bytes_of c.parse_if.new.fields; starts = (rw (c.contains-2.ensures tt) at c.in_ok-branch_stack.ensures); goes_on = record { middle = bytes_of c.parse_user.new.fields; starts = (rw c.register_masks.ensures at c.in_ok-user_registers.ensures); goes_on = (rw (c.contains-3.ensures tt) at c.in_ok-user_stack.ensures) } } }

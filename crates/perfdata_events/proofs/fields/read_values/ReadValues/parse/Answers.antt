@@ -4,22 +4,22 @@ use Rattle.perfdata_events.proofs.fields.read_values.ReadValues.parse.Goals as g
 
 pub returns-in_err-group : goal.returns-in_err-group
 returns-in_err-group c =
-    let is_group : c.has_bits.result ≡ true = search rules in
+    let is_group : c.contains.result ≡ true = search rules in
     let p = err_from_is_err_and c.from_residual.result c.from_residual.ensures.1 in
-    rw (p.1, p.2) (inr (sym c.has_bits.ensures ∙ is_group, c.in_err-group.ensures))
+    rw (p.1, p.2) (inr (sym (c.contains.ensures tt) ∙ is_group, c.in_err-group.ensures))
 
 pub returns-in_ok-group : goal.returns-in_ok-group
 returns-in_ok-group c =
-    let is_group : c.has_bits.result ≡ true = search rules in
-    (sym c.has_bits.ensures ∙ is_group, c.in_ok-group.ensures)
+    let is_group : c.contains.result ≡ true = search rules in
+    (sym (c.contains.ensures tt) ∙ is_group, c.in_ok-group.ensures)
 
 pub returns-in_err-single : goal.returns-in_err-single
 returns-in_err-single c =
-    let is_single : c.has_bits.result ≡ false = search rules in
+    let is_single : c.contains.result ≡ false = search rules in
     let p = err_from_is_err_and c.from_residual-in_err-single.result c.from_residual-in_err-single.ensures.1 in
-    rw (p.1, p.2) (inl (sym c.has_bits.ensures ∙ is_single, c.in_err-single.ensures))
+    rw (p.1, p.2) (inl (sym (c.contains.ensures tt) ∙ is_single, c.in_err-single.ensures))
 
 pub returns-in_ok-single : goal.returns-in_ok-single
 returns-in_ok-single c =
-    let is_single : c.has_bits.result ≡ false = search rules in
-    (sym c.has_bits.ensures ∙ is_single, c.in_ok-single.ensures)
+    let is_single : c.contains.result ≡ false = search rules in
+    (sym (c.contains.ensures tt) ∙ is_single, c.in_ok-single.ensures)

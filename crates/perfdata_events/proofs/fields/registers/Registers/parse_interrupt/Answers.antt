@@ -8,5 +8,5 @@ use Rattle.perfdata_events.proofs.fields.registers.Registers.parse_interrupt.Goa
 
 pub returns : goal.returns
 returns c =
-    let present : c.has_bits.result ≡ true = search rules in
-    decodes_some (registers (number_in c.args.endian) c.args.masks.interrupt) registers_of (is_set c.args.sample_format.0 18) (bytes_of c.args.fields.now) (bytes_of c.parse.new.fields) (sym c.has_bits.ensures ∙ present) c.parse.result c.map.result c.parse.ensures c.map.ensures.cases
+    let present : c.contains.result ≡ true = search rules in
+    decodes_some (registers (number_in c.args.endian) c.args.masks.interrupt) registers_of (is_set c.args.sample_format.0 18) (bytes_of c.args.fields.now) (bytes_of c.parse.new.fields) (sym (c.contains.ensures tt) ∙ present) c.parse.result c.map.result c.parse.ensures c.map.ensures.cases

@@ -18,7 +18,7 @@ returns-in_err-pages c =
 pub returns-in_err-aux_data : goal.returns-in_err-aux_data
 returns-in_err-aux_data c =
     let p = err_from_is_err_and c.from_residual-in_err-aux_data.result c.from_residual-in_err-aux_data.ensures.1 in
-    rw (p.1, p.2) (inr record { value = c.in_ok-weight.weight; middle = bytes_of c.read_u64_if.new.fields; starts = (rw c.has_weight.ensures at c.in_ok-weight.ensures); error = (inr record { value = c.in_ok-data.data; middle = bytes_of c.parse.new.fields; starts = c.in_ok-data.ensures; error = (inr record { value = option_map registers_of c.in_ok-interrupt_registers.interrupt_registers; middle = bytes_of c.parse_interrupt.new.fields; starts = c.in_ok-interrupt_registers.ensures; error = (inr record { value = c.in_ok-pages.pages; middle = bytes_of c.parse-2.new.fields; starts = c.in_ok-pages.ensures; error = (rw c.has_bits.ensures at c.in_err-aux_data.ensures) }) }) }) })
+    rw (p.1, p.2) (inr record { value = c.in_ok-weight.weight; middle = bytes_of c.read_u64_if.new.fields; starts = (rw c.has_weight.ensures at c.in_ok-weight.ensures); error = (inr record { value = c.in_ok-data.data; middle = bytes_of c.parse.new.fields; starts = c.in_ok-data.ensures; error = (inr record { value = option_map registers_of c.in_ok-interrupt_registers.interrupt_registers; middle = bytes_of c.parse_interrupt.new.fields; starts = c.in_ok-interrupt_registers.ensures; error = (inr record { value = c.in_ok-pages.pages; middle = bytes_of c.parse-2.new.fields; starts = c.in_ok-pages.ensures; error = (rw (c.contains.ensures tt) at c.in_err-aux_data.ensures) }) }) }) })
 
 pub returns : goal.returns
-returns c = record { middle = bytes_of c.read_u64_if.new.fields; starts = (rw c.has_weight.ensures at c.in_ok-weight.ensures); goes_on = record { middle = bytes_of c.parse.new.fields; starts = c.in_ok-data.ensures; goes_on = record { middle = bytes_of c.parse_interrupt.new.fields; starts = c.in_ok-interrupt_registers.ensures; goes_on = record { middle = bytes_of c.parse-2.new.fields; starts = c.in_ok-pages.ensures; goes_on = (rw c.has_bits.ensures at c.in_ok-aux_data.ensures) } } } }
+returns c = record { middle = bytes_of c.read_u64_if.new.fields; starts = (rw c.has_weight.ensures at c.in_ok-weight.ensures); goes_on = record { middle = bytes_of c.parse.new.fields; starts = c.in_ok-data.ensures; goes_on = record { middle = bytes_of c.parse_interrupt.new.fields; starts = c.in_ok-interrupt_registers.ensures; goes_on = record { middle = bytes_of c.parse-2.new.fields; starts = c.in_ok-pages.ensures; goes_on = (rw (c.contains.ensures tt) at c.in_ok-aux_data.ensures) } } } }
