@@ -1,4 +1,0 @@
-pub mod ListingLemmas
-pub mod PipeListingLemmas
-pub mod LineLemmas
-pub mod NewlineLemmas

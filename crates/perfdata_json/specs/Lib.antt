@@ -1,5 +1,2 @@
 pub mod Line
-pub mod LineText
-pub mod Listing
-pub mod PipeListing
 pub mod Output

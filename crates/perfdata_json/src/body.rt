@@ -1,149 +1,176 @@
-//! The fields of a record's body as members of the record's object.
-ghost use Rattle.std.specs.Prelude.{IsTrue};
-ghost use Rattle.json_writer.specs.Writing.{is_member_start};
+//! The line of a record by its type.
 
+use crate::fields::Bytes;
+use crate::kernel::{
+    Aux, AuxOutputHwId, BpfEvent, Comm, ContextSwitch, ControlGroup, ForkOrExit, ItraceStart,
+    Ksymbol, Lost, LostSamples, Mmap, Mmap2, Namespaces, SampleIdMembers, TextPoke, Throttle,
+};
+use crate::line::Envelope;
 use crate::names::error_name;
-use json_writer::members::{Elements, Members};
-use json_writer::short::ShortMembers;
-use perfdata_base::endian::read_u64;
+use crate::sample::{Read, Sample};
+use crate::user::{AttributeAndIds, AuxArea, Threads};
+use linux_perf_data::{PerfFile, PerfFileRecord, RecordPlace};
+use perfdata_base::event::{RawEventRecord, RecordType};
 use perfdata_base::raw::RawData;
-use perfdata_events::u64s::RawDataU64;
+use perfdata_events::event::EventRecord;
+use perfdata_events::format::EventFormat;
+use perfdata_events::sample::SampleRecord;
+use perfdata_records::user_record::{RawUserRecord, UserRecord};
+use serde::Serialize;
 use std::alloc::{AllocError, Global};
+use std::io;
 use std::io::ErrorKind;
 
-/// The members of a record's object that its body determines. It is set to one record after another. If a method fails, memory
-/// ran out.
-#[derive(Drop)]
-pub(crate) struct Body {
-    pub(crate) members: Members,
-    // the members of an object in it
-    pub(crate) nested: Members,
-    // the elements of an array in it
-    pub(crate) elements: Elements,
-    // the members of an object in that array
-    pub(crate) item: Members,
-    // the elements of an array in that array
-    pub(crate) pair: Elements,
-    // the members of an object of words in it
-    pub(crate) words: ShortMembers,
-    joined: Vec<u8>,
-    byte_limit: usize,
+/// Writes the bodies of records as JSON.
+#[derive(Clone, Copy)]
+pub(crate) struct BodyWriter {
+    pub(crate) alloc: Global,
+    /// Number of bytes that are written of bytes that are no text.
+    pub(crate) byte_limit: usize,
 }
 
-/// Removes the first of the numbers.
-pub(crate) fn next_u64(values: &mut RawDataU64<'_>) -> Option<u64> {
-    let mut bytes = [0u8; 8];
-    values.bytes.read_exact(&mut bytes).ok()?;
-    Some(read_u64(values.endian, &bytes))
+/// A body that isn't parsed.
+#[derive(Clone, Copy, Serialize)]
+struct Unparsed<'a> {
+    #[serde(skip_serializing_if = "Option::is_none")]
+    body: Option<Bytes<'a>>,
 }
 
-/// The number of numbers.
-pub(crate) fn count_of(values: &RawDataU64<'_>) -> usize {
-    values.bytes.len() / 8
+/// A body that can't be parsed.
+#[derive(Clone, Copy, Serialize)]
+struct Invalid {
+    error: &'static str,
 }
 
-/// Appends the bytes to one buffer.
-fn append_pieces(buffer: &mut Vec<u8>, bytes: RawData<'_>) -> Result<(), AllocError> {
-    match bytes {
-        RawData::Single(bytes) => buffer.extend_from_slice(bytes),
-        RawData::Split(first, second) => {
-            buffer.extend_from_slice(first)?;
-            buffer.extend_from_slice(second)
-        }
-    }
-}
-
-impl Body {
-    /// Creates an empty one. Of bytes that are no text the first `byte_limit` are written.
-    pub(crate) fn new(alloc: Global, byte_limit: usize) -> Body {
-        Body {
-            members: Members::new(alloc),
-            nested: Members::new(alloc),
-            elements: Elements::new(alloc),
-            item: Members::new(alloc),
-            pair: Elements::new(alloc),
-            words: ShortMembers::new(),
-            joined: Vec::new(alloc),
-            byte_limit,
-        }
+impl BodyWriter {
+    fn unparsed(&self, line: &Envelope<'_>, body: RawData<'_>) -> Result<Vec<u8>, AllocError> {
+        let members = Unparsed {
+            body: (!body.is_empty()).then(|| Bytes::new(body, self.byte_limit)),
+        };
+        line.json(self.alloc, &members)
     }
 
-    /// Appends a text.
-    pub(crate) fn text(&mut self, key: &[u8], text: RawData<'_>) -> Result<(), AllocError>
-        requires { IsTrue (is_member_start key.now) }
-    {
-        match text {
-            RawData::Single(bytes) => self.members.text(key, bytes),
-            RawData::Split(..) => {
-                self.joined.clear();
-                append_pieces(&mut self.joined, text)?;
-                self.members.text(key, self.joined.as_slice())
+    fn invalid(&self, line: &Envelope<'_>, error: &io::Error) -> Result<Vec<u8>, AllocError> {
+        if error.kind() == ErrorKind::OutOfMemory {
+            return Err(AllocError);
+        }
+        let error = error_name(error.kind());
+        line.json(self.alloc, &Invalid { error })
+    }
+
+    fn event(&self, line: &Envelope<'_>, event: &EventRecord<'_>) -> Result<Vec<u8>, AllocError> {
+        let alloc = self.alloc;
+        match event {
+            EventRecord::Mmap(mmap) => line.json(alloc, &Mmap::new(alloc, mmap)?),
+            EventRecord::Mmap2(mmap) => line.json(alloc, &Mmap2::new(alloc, mmap)?),
+            EventRecord::Lost(lost) => line.json(alloc, &Lost::new(lost)),
+            EventRecord::Comm(comm) => line.json(alloc, &Comm::new(alloc, comm)?),
+            EventRecord::Exit(task) => line.json(alloc, &ForkOrExit::new(task)),
+            EventRecord::Fork(task) => line.json(alloc, &ForkOrExit::new(task)),
+            EventRecord::Throttle(throttle) => line.json(alloc, &Throttle::new(throttle)),
+            EventRecord::Unthrottle(throttle) => line.json(alloc, &Throttle::new(throttle)),
+            EventRecord::Read(read) => line.json(alloc, &Read::new(read)),
+            EventRecord::Aux(aux) => line.json(alloc, &Aux::new(aux)),
+            EventRecord::ItraceStart(start) => line.json(alloc, &ItraceStart::new(start)),
+            EventRecord::LostSamples(lost) => line.json(alloc, &LostSamples::new(lost)),
+            EventRecord::ContextSwitch(switch) => line.json(alloc, &ContextSwitch::new(switch)),
+            EventRecord::Namespaces(record) => line.json(alloc, &Namespaces::new(*record)),
+            EventRecord::Ksymbol(symbol) => line.json(alloc, &Ksymbol::new(alloc, symbol)?),
+            EventRecord::BpfEvent(event) => line.json(alloc, &BpfEvent::new(event)),
+            EventRecord::Cgroup(group) => line.json(alloc, &ControlGroup::new(alloc, group)?),
+            EventRecord::TextPoke(poke) => line.json(alloc, &TextPoke::new(poke, self.byte_limit)),
+            EventRecord::AuxOutputHwId(record) => line.json(alloc, &AuxOutputHwId::new(record)),
+            EventRecord::Sample(_) => line.json(alloc, &Unparsed { body: None }),
+            EventRecord::Raw(raw) => self.unparsed(line, raw.body),
+        }
+    }
+
+    /// The line of a sample. A sample with fields whose offset isn't known has the sample_id fields before them.
+    fn sample(
+        &self,
+        line: &Envelope<'_>,
+        format: &EventFormat,
+        raw: &RawEventRecord<'_>,
+    ) -> Result<Vec<u8>, AllocError> {
+        let mut fields = raw.body;
+        match SampleRecord::parse(format, &mut fields) {
+            Ok(sample) => {
+                let members = Sample::new(&sample, format, self.byte_limit);
+                line.json(self.alloc, &members)
             }
+            Err(error) => self.invalid(line, &error),
         }
     }
 
-    /// Appends the length and the first of some bytes.
-    pub(crate) fn bytes(&mut self, key: &[u8], bytes: RawData<'_>) -> Result<(), AllocError>
-        requires { IsTrue (is_member_start key.now) }
-    {
-        let first = bytes.get(0..bytes.len().min(self.byte_limit));
-        self.joined.clear();
-        append_pieces(&mut self.joined, first.unwrap_or(RawData::Single(&[])))?;
-        self.members.bytes(key, bytes.len(), self.joined.as_slice())
-    }
-
-    /// Appends the length and the first of some bytes if there are any.
-    pub(crate) fn bytes_if(
-        &mut self,
-        key: &[u8],
-        bytes: Option<RawData<'_>>,
-    ) -> Result<(), AllocError>
-        requires { IsTrue (is_member_start key.now) }
-    {
-        match bytes {
-            Some(bytes) => self.bytes(key, bytes),
-            None => Ok(()),
+    /// The line of a kernel record that isn't a sample with known fields.
+    fn other_record(
+        &self,
+        line: &Envelope<'_>,
+        format: &EventFormat,
+        raw: &RawEventRecord<'_>,
+    ) -> Result<Vec<u8>, AllocError> {
+        let id = format.sample_id(raw).ok();
+        let line = Envelope {
+            sample_id: id.and_then(|id| SampleIdMembers::new(&id)),
+            ..*line
+        };
+        match format.parse(raw) {
+            Ok(event) => self.event(&line, &event),
+            Err(error) => self.invalid(&line, &error),
         }
     }
 
-    /// Appends the hexadecimal digits of an identifier.
-    pub(crate) fn hex(&mut self, key: &[u8], bytes: RawData<'_>) -> Result<(), AllocError>
-        requires { IsTrue (is_member_start key.now) }
-    {
-        self.joined.clear();
-        append_pieces(&mut self.joined, bytes)?;
-        self.members.hex(key, self.joined.as_slice())
+    fn user_record(
+        &self,
+        line: &Envelope<'_>,
+        user: &RawUserRecord<'_>,
+    ) -> Result<Vec<u8>, AllocError> {
+        match user.parse(self.alloc) {
+            Ok(UserRecord::ThreadMap(map)) => line.json(
+                self.alloc,
+                &Threads::new(self.alloc, &map)?,
+            ),
+            Ok(UserRecord::HeaderAttr(header)) => line.json(
+                self.alloc,
+                &AttributeAndIds::new(&header),
+            ),
+            Ok(UserRecord::Auxtrace(trace)) => line.json(
+                self.alloc,
+                &AuxArea::new(&trace, self.byte_limit),
+            ),
+            Ok(UserRecord::HeaderFeature(_) | UserRecord::Raw(_)) => self.unparsed(line, user.body),
+            Err(error) => self.invalid(line, &error),
+        }
     }
 
-    /// Appends a text to the object in the array.
-    pub(crate) fn item_text(&mut self, key: &[u8], text: RawData<'_>) -> Result<(), AllocError>
-        requires { IsTrue (is_member_start key.now) }
-    {
-        self.joined.clear();
-        append_pieces(&mut self.joined, text)?;
-        self.item.text(key, self.joined.as_slice())
-    }
-
-    /// Appends a process id and a thread id.
-    pub(crate) fn task(&mut self, pid: i32, tid: i32) -> Result<(), AllocError> {
-        self.members.signed(br#","pid":"#, pid)?;
-        self.members.signed(br#","tid":"#, tid)
-    }
-
-    /// Sets the array to numbers in hexadecimal.
-    pub(crate) fn set_addresses(&mut self, values: RawDataU64<'_>) -> Result<(), AllocError> {
-        self.elements.clear();
-        let mut rest = values;
-        for _ in 0..count_of(&values) {
-            if let Some(value) = next_u64(&mut rest) {
-                self.elements.address(value)?;
+    /// Returns the JSON of a record's line. `file` contains the record's attribute. Fails if memory runs out.
+    pub(crate) fn record_json(
+        &self,
+        file: &PerfFile,
+        place: RecordPlace,
+        record: &PerfFileRecord<'_>,
+    ) -> Result<Vec<u8>, AllocError> {
+        let mut line = Envelope {
+            place,
+            attr_index: record.attr_index().map(|index| index as u64),
+            event: None,
+            record_type: record.record_type().0,
+            misc: record.misc(),
+            sample_id: None,
+        };
+        match record {
+            PerfFileRecord::EventRecord { attr_index, event } => {
+                let Some(description) = file.event_attributes().get(*attr_index) else {
+                    return self.unparsed(&line, event.body);
+                };
+                line.event = description.name();
+                let format = EventFormat::new(description.attributes(), event.parse_info.endian);
+                if event.record_type == RecordType::SAMPLE && format.has_known_fields() {
+                    return self.sample(&line, &format, event);
+                }
+                self.other_record(&line, &format, event)
             }
+            PerfFileRecord::UserRecord(user) => self.user_record(&line, user),
         }
-        Ok(())
-    }
-
-    /// Appends the kind of the error that the body's parser returned.
-    pub(crate) fn error(&mut self, kind: ErrorKind) -> Result<(), AllocError> {
-        self.members.string(br#","error":"#, error_name(kind))
     }
 }

@@ -1,241 +1,397 @@
-//! The fields of kernel records.
-ghost use Rattle.std.specs.Prelude.{◌≤◌};
-ghost use Rattle.json_writer.specs.ShortTexts.{free_size};
+//! The members of kernel records that aren't samples.
 
-use crate::body::{Body, count_of, next_u64};
-use json_writer::short::ShortMembers;
-use perfdata_base::event::{RawEventRecord, RecordType};
+use crate::fields::{Address, Bytes, Hex, Text};
 use perfdata_events::aux_area::{AuxOutputHwIdRecord, AuxRecord, ItraceStartRecord};
 use perfdata_events::context_switch::ContextSwitchRecord;
-use perfdata_events::event::EventRecord;
-use perfdata_events::format::EventFormat;
 use perfdata_events::kernel::{BpfEventRecord, KsymbolRecord, TextPokeRecord};
 use perfdata_events::lost::{LostRecord, LostSamplesRecord, ThrottleRecord};
 use perfdata_events::mmap::MmapRecord;
 use perfdata_events::mmap2::{Mmap2FileId, Mmap2Record};
 use perfdata_events::sample_id::SampleId;
 use perfdata_events::task::{CgroupRecord, CommOrExecRecord, ForkOrExitRecord, NamespacesRecord};
-use std::alloc::AllocError;
+use serde::{Described, Serialize, Serializer};
+use std::alloc::{AllocError, Global};
 
-/// Puts the sample_id fields of a record before the members.
-fn prepend_sample_id(members: &mut ShortMembers, id: &SampleId)
-    requires { 280 ≤ free_size members.old }
-{
-    members.prepend_number_if(br#","identifier":"#, id.identifier);
-    members.prepend_number_if(br#","cpu":"#, id.cpu.map(|cpu| cpu as u64));
-    members.prepend_number_if(br#","stream_id":"#, id.stream_id);
-    members.prepend_number_if(br#","id":"#, id.id);
-    members.prepend_number_if(br#","timestamp":"#, id.timestamp);
-    if let Some(task) = id.task {
-        members.prepend_signed(br#","tid":"#, task.tid);
-        members.prepend_signed(br#","pid":"#, task.pid);
+/// The sample_id fields of a record.
+#[derive(Clone, Copy, Serialize)]
+pub(crate) struct SampleIdMembers {
+    #[serde(skip_serializing_if = "Option::is_none")]
+    pid: Option<i32>,
+    #[serde(skip_serializing_if = "Option::is_none")]
+    tid: Option<i32>,
+    #[serde(skip_serializing_if = "Option::is_none")]
+    timestamp: Option<u64>,
+    #[serde(skip_serializing_if = "Option::is_none")]
+    id: Option<u64>,
+    #[serde(skip_serializing_if = "Option::is_none")]
+    stream_id: Option<u64>,
+    #[serde(skip_serializing_if = "Option::is_none")]
+    cpu: Option<u32>,
+    #[serde(skip_serializing_if = "Option::is_none")]
+    identifier: Option<u64>,
+}
+
+impl SampleIdMembers {
+    /// Returns `None` if the attribute selects none of the fields.
+    pub(crate) fn new(id: &SampleId) -> Option<SampleIdMembers> {
+        let has_none = id.task.is_none() && id.timestamp.is_none() && id.id.is_none();
+        if has_none && id.stream_id.is_none() && id.cpu.is_none() && id.identifier.is_none() {
+            return None;
+        }
+        Some(SampleIdMembers {
+            pid: id.task.map(|task| task.pid),
+            tid: id.task.map(|task| task.tid),
+            timestamp: id.timestamp,
+            id: id.id,
+            stream_id: id.stream_id,
+            cpu: id.cpu,
+            identifier: id.identifier,
+        })
     }
 }
 
-impl Body {
-    /// Appends the range of a mapping.
-    fn range(&mut self, address: u64, length: u64, page_offset: u64) -> Result<(), AllocError> {
-        self.members.address(br#","address":"#, address)?;
-        self.members.number(br#","length":"#, length)?;
-        self.members.address(br#","page_offset":"#, page_offset)
-    }
+#[derive(Drop, Serialize)]
+pub(crate) struct Mmap<'a> {
+    pid: i32,
+    tid: i32,
+    address: Address,
+    length: u64,
+    page_offset: Address,
+    path: Text<'a>,
+}
 
-    fn mmap(&mut self, mmap: &MmapRecord<'_>) -> Result<(), AllocError> {
-        self.task(mmap.pid, mmap.tid)?;
-        self.range(mmap.address, mmap.length, mmap.page_offset)?;
-        self.text(br#","path":"#, mmap.path)
+impl<'a> Mmap<'a> {
+    pub(crate) fn new(alloc: Global, mmap: &MmapRecord<'a>) -> Result<Mmap<'a>, AllocError> {
+        Ok(Mmap {
+            pid: mmap.pid,
+            tid: mmap.tid,
+            address: Address(mmap.address),
+            length: mmap.length,
+            page_offset: Address(mmap.page_offset),
+            path: Text::new(alloc, mmap.path)?,
+        })
     }
+}
 
-    fn file_id(&mut self, file_id: &Mmap2FileId<'_>) -> Result<(), AllocError> {
+/// What identifies a mapped file.
+#[derive(Clone, Copy, Serialize)]
+#[serde(untagged)]
+enum FileId<'a> {
+    Inode {
+        major: u32,
+        minor: u32,
+        inode: u64,
+        inode_generation: u64,
+    },
+    BuildId {
+        build_id: Hex<'a>,
+    },
+}
+
+impl<'a> FileId<'a> {
+    fn new(file_id: Mmap2FileId<'a>) -> FileId<'a> {
         match file_id {
-            Mmap2FileId::InodeAndVersion(file) => {
-                self.members.number(br#","major":"#, file.major as u64)?;
-                self.members.number(br#","minor":"#, file.minor as u64)?;
-                self.members.number(br#","inode":"#, file.inode)?;
-                self.members
-                    .number(br#","inode_generation":"#, file.inode_generation)
+            Mmap2FileId::InodeAndVersion(file) => FileId::Inode {
+                major: file.major,
+                minor: file.minor,
+                inode: file.inode,
+                inode_generation: file.inode_generation,
+            },
+            Mmap2FileId::BuildId(bytes) => FileId::BuildId {
+                build_id: Hex(bytes),
+            },
+        }
+    }
+}
+
+#[derive(Drop, Serialize)]
+pub(crate) struct Mmap2<'a> {
+    pid: i32,
+    tid: i32,
+    address: Address,
+    length: u64,
+    page_offset: Address,
+    #[serde(flatten)]
+    file_id: FileId<'a>,
+    protection: u32,
+    flags: Address,
+    path: Text<'a>,
+}
+
+impl<'a> Mmap2<'a> {
+    pub(crate) fn new(alloc: Global, mmap: &Mmap2Record<'a>) -> Result<Mmap2<'a>, AllocError> {
+        Ok(Mmap2 {
+            pid: mmap.pid,
+            tid: mmap.tid,
+            address: Address(mmap.address),
+            length: mmap.length,
+            page_offset: Address(mmap.page_offset),
+            file_id: FileId::new(mmap.file_id),
+            protection: mmap.protection,
+            flags: Address(mmap.flags as u64),
+            path: Text::new(alloc, mmap.path)?,
+        })
+    }
+}
+
+#[derive(Clone, Copy, Serialize)]
+pub(crate) struct Lost {
+    id: u64,
+    count: u64,
+}
+
+impl Lost {
+    pub(crate) fn new(lost: &LostRecord) -> Lost {
+        let (id, count) = (lost.id, lost.count);
+        Lost { id, count }
+    }
+}
+
+#[derive(Drop, Serialize)]
+pub(crate) struct Comm<'a> {
+    pid: i32,
+    tid: i32,
+    name: Text<'a>,
+    is_execve: bool,
+}
+
+impl<'a> Comm<'a> {
+    pub(crate) fn new(alloc: Global, comm: &CommOrExecRecord<'a>) -> Result<Comm<'a>, AllocError> {
+        Ok(Comm {
+            pid: comm.pid,
+            tid: comm.tid,
+            name: Text::new(alloc, comm.name)?,
+            is_execve: comm.is_execve,
+        })
+    }
+}
+
+#[derive(Clone, Copy, Serialize)]
+pub(crate) struct ForkOrExit {
+    pid: i32,
+    ppid: i32,
+    tid: i32,
+    ptid: i32,
+    timestamp: u64,
+}
+
+impl ForkOrExit {
+    pub(crate) fn new(task: &ForkOrExitRecord) -> ForkOrExit {
+        ForkOrExit {
+            pid: task.pid,
+            ppid: task.ppid,
+            tid: task.tid,
+            ptid: task.ptid,
+            timestamp: task.timestamp,
+        }
+    }
+}
+
+#[derive(Clone, Copy, Serialize)]
+pub(crate) struct Throttle {
+    timestamp: u64,
+    id: u64,
+    stream_id: u64,
+}
+
+impl Throttle {
+    pub(crate) fn new(throttle: &ThrottleRecord) -> Throttle {
+        Throttle {
+            timestamp: throttle.timestamp,
+            id: throttle.id,
+            stream_id: throttle.stream_id,
+        }
+    }
+}
+
+#[derive(Clone, Copy, Serialize)]
+pub(crate) struct Aux {
+    aux_offset: u64,
+    aux_size: u64,
+    aux_flags: Address,
+}
+
+impl Aux {
+    pub(crate) fn new(aux: &AuxRecord) -> Aux {
+        Aux {
+            aux_offset: aux.offset,
+            aux_size: aux.size,
+            aux_flags: Address(aux.flags),
+        }
+    }
+}
+
+#[derive(Clone, Copy, Serialize)]
+pub(crate) struct ItraceStart {
+    pid: i32,
+    tid: i32,
+}
+
+impl ItraceStart {
+    pub(crate) fn new(start: &ItraceStartRecord) -> ItraceStart {
+        let (pid, tid) = (start.pid, start.tid);
+        ItraceStart { pid, tid }
+    }
+}
+
+#[derive(Clone, Copy, Serialize)]
+pub(crate) struct LostSamples {
+    count: u64,
+}
+
+impl LostSamples {
+    pub(crate) fn new(lost: &LostSamplesRecord) -> LostSamples {
+        LostSamples { count: lost.count }
+    }
+}
+
+#[derive(Clone, Copy, Serialize)]
+pub(crate) struct ContextSwitch {
+    is_out: bool,
+    preempted: bool,
+    #[serde(skip_serializing_if = "Option::is_none")]
+    other_pid: Option<i32>,
+    #[serde(skip_serializing_if = "Option::is_none")]
+    other_tid: Option<i32>,
+}
+
+impl ContextSwitch {
+    pub(crate) fn new(switch: &ContextSwitchRecord) -> ContextSwitch {
+        ContextSwitch {
+            is_out: switch.is_out,
+            preempted: switch.preempted,
+            other_pid: switch.other_task.map(|task| task.pid),
+            other_tid: switch.other_task.map(|task| task.tid),
+        }
+    }
+}
+
+#[derive(Clone, Copy, Serialize)]
+struct NamespaceMembers {
+    device: u64,
+    inode: u64,
+}
+
+#[derive(Clone, Copy)]
+struct NamespaceList<'a>(NamespacesRecord<'a>);
+
+impl Described for NamespaceList<'_> {}
+
+impl Serialize for NamespaceList<'_> {
+    fn serialize<S: Serializer>(&self, out: &mut S) -> Result<(), S::Error> {
+        out.begin_seq(None)?;
+        for index in 0..self.0.len() {
+            if let Some(namespace) = self.0.get(index) {
+                let (device, inode) = (namespace.device, namespace.inode);
+                NamespaceMembers { device, inode }.serialize(out)?;
             }
-            Mmap2FileId::BuildId(build_id) => self.hex(br#","build_id":"#, *build_id),
+        }
+        out.end_seq()
+    }
+}
+
+#[derive(Clone, Copy, Serialize)]
+pub(crate) struct Namespaces<'a> {
+    pid: i32,
+    tid: i32,
+    namespaces: NamespaceList<'a>,
+}
+
+impl<'a> Namespaces<'a> {
+    pub(crate) fn new(record: NamespacesRecord<'a>) -> Namespaces<'a> {
+        Namespaces {
+            pid: record.pid,
+            tid: record.tid,
+            namespaces: NamespaceList(record),
         }
     }
+}
 
-    fn mmap2(&mut self, mmap: &Mmap2Record<'_>) -> Result<(), AllocError> {
-        self.task(mmap.pid, mmap.tid)?;
-        self.range(mmap.address, mmap.length, mmap.page_offset)?;
-        self.file_id(&mmap.file_id)?;
-        self.members
-            .number(br#","protection":"#, mmap.protection as u64)?;
-        self.members.address(br#","flags":"#, mmap.flags as u64)?;
-        self.text(br#","path":"#, mmap.path)
+#[derive(Drop, Serialize)]
+pub(crate) struct Ksymbol<'a> {
+    address: Address,
+    length: u32,
+    ksym_type: u16,
+    ksym_flags: Address,
+    name: Text<'a>,
+}
+
+impl<'a> Ksymbol<'a> {
+    pub(crate) fn new(
+        alloc: Global,
+        symbol: &KsymbolRecord<'a>,
+    ) -> Result<Ksymbol<'a>, AllocError> {
+        Ok(Ksymbol {
+            address: Address(symbol.address),
+            length: symbol.length,
+            ksym_type: symbol.symbol_type,
+            ksym_flags: Address(symbol.flags as u64),
+            name: Text::new(alloc, symbol.name)?,
+        })
     }
+}
 
-    fn lost(&mut self, lost: &LostRecord) -> Result<(), AllocError> {
-        self.members.number(br#","id":"#, lost.id)?;
-        self.members.number(br#","count":"#, lost.count)
-    }
+#[derive(Clone, Copy, Serialize)]
+pub(crate) struct BpfEvent<'a> {
+    bpf_type: u16,
+    bpf_flags: Address,
+    id: u32,
+    tag: Hex<'a>,
+}
 
-    fn comm(&mut self, comm: &CommOrExecRecord<'_>) -> Result<(), AllocError> {
-        self.task(comm.pid, comm.tid)?;
-        self.text(br#","name":"#, comm.name)?;
-        self.members.boolean(br#","is_execve":"#, comm.is_execve)
-    }
-
-    fn fork_or_exit(&mut self, task: &ForkOrExitRecord) -> Result<(), AllocError> {
-        self.members.signed(br#","pid":"#, task.pid)?;
-        self.members.signed(br#","ppid":"#, task.ppid)?;
-        self.members.signed(br#","tid":"#, task.tid)?;
-        self.members.signed(br#","ptid":"#, task.ptid)?;
-        self.members.number(br#","timestamp":"#, task.timestamp)
-    }
-
-    fn throttle(&mut self, throttle: &ThrottleRecord) -> Result<(), AllocError> {
-        self.members
-            .number(br#","timestamp":"#, throttle.timestamp)?;
-        self.members.number(br#","id":"#, throttle.id)?;
-        self.members.number(br#","stream_id":"#, throttle.stream_id)
-    }
-
-    fn aux(&mut self, aux: &AuxRecord) -> Result<(), AllocError> {
-        self.members.number(br#","aux_offset":"#, aux.offset)?;
-        self.members.number(br#","aux_size":"#, aux.size)?;
-        self.members.address(br#","aux_flags":"#, aux.flags)
-    }
-
-    fn itrace_start(&mut self, start: &ItraceStartRecord) -> Result<(), AllocError> {
-        self.task(start.pid, start.tid)
-    }
-
-    fn lost_samples(&mut self, lost: &LostSamplesRecord) -> Result<(), AllocError> {
-        self.members.number(br#","count":"#, lost.count)
-    }
-
-    fn context_switch(&mut self, switch: &ContextSwitchRecord) -> Result<(), AllocError> {
-        self.members.boolean(br#","is_out":"#, switch.is_out)?;
-        self.members.boolean(br#","preempted":"#, switch.preempted)?;
-        match switch.other_task {
-            Some(task) => {
-                self.members.signed(br#","other_pid":"#, task.pid)?;
-                self.members.signed(br#","other_tid":"#, task.tid)
-            }
-            None => Ok(()),
+impl<'a> BpfEvent<'a> {
+    pub(crate) fn new(event: &BpfEventRecord<'a>) -> BpfEvent<'a> {
+        BpfEvent {
+            bpf_type: event.event_type,
+            bpf_flags: Address(event.flags as u64),
+            id: event.id,
+            tag: Hex(event.tag),
         }
     }
+}
 
-    fn namespaces(&mut self, record: &NamespacesRecord<'_>) -> Result<(), AllocError> {
-        self.task(record.pid, record.tid)?;
-        self.elements.clear();
-        let mut rest = record.namespaces;
-        for _ in 0..count_of(&record.namespaces) / 2 {
-            self.item.clear();
-            self.item.number_if(br#","device":"#, next_u64(&mut rest))?;
-            self.item.number_if(br#","inode":"#, next_u64(&mut rest))?;
-            self.elements.object(&self.item)?;
-        }
-        self.members.array(br#","namespaces":"#, &self.elements)
+#[derive(Drop, Serialize)]
+pub(crate) struct ControlGroup<'a> {
+    id: u64,
+    path: Text<'a>,
+}
+
+impl<'a> ControlGroup<'a> {
+    pub(crate) fn new(
+        alloc: Global,
+        group: &CgroupRecord<'a>,
+    ) -> Result<ControlGroup<'a>, AllocError> {
+        let path = Text::new(alloc, group.path)?;
+        Ok(ControlGroup { id: group.id, path })
     }
+}
 
-    fn ksymbol(&mut self, symbol: &KsymbolRecord<'_>) -> Result<(), AllocError> {
-        self.members.address(br#","address":"#, symbol.address)?;
-        self.members.number(br#","length":"#, symbol.length as u64)?;
-        self.members
-            .number(br#","ksym_type":"#, symbol.symbol_type as u64)?;
-        self.members
-            .address(br#","ksym_flags":"#, symbol.flags as u64)?;
-        self.text(br#","name":"#, symbol.name)
-    }
+#[derive(Clone, Copy, Serialize)]
+pub(crate) struct TextPoke<'a> {
+    address: Address,
+    old_bytes: Bytes<'a>,
+    new_bytes: Bytes<'a>,
+}
 
-    fn bpf_event(&mut self, event: &BpfEventRecord<'_>) -> Result<(), AllocError> {
-        self.members
-            .number(br#","bpf_type":"#, event.event_type as u64)?;
-        self.members
-            .address(br#","bpf_flags":"#, event.flags as u64)?;
-        self.members.number(br#","id":"#, event.id as u64)?;
-        self.hex(br#","tag":"#, event.tag)
-    }
-
-    fn control_group(&mut self, group: &CgroupRecord<'_>) -> Result<(), AllocError> {
-        self.members.number(br#","id":"#, group.id)?;
-        self.text(br#","path":"#, group.path)
-    }
-
-    fn text_poke(&mut self, poke: &TextPokeRecord<'_>) -> Result<(), AllocError> {
-        self.members.address(br#","address":"#, poke.address)?;
-        self.bytes(br#","old_bytes":"#, poke.old_bytes)?;
-        self.bytes(br#","new_bytes":"#, poke.new_bytes)
-    }
-
-    fn hw_id(&mut self, record: &AuxOutputHwIdRecord) -> Result<(), AllocError> {
-        self.members.number(br#","hw_id":"#, record.hw_id)
-    }
-
-    /// Appends the fields of a record that isn't a sample.
-    fn event(&mut self, event: &EventRecord<'_>) -> Result<(), AllocError> {
-        match event {
-            EventRecord::Mmap(mmap) => self.mmap(mmap),
-            EventRecord::Mmap2(mmap) => self.mmap2(mmap),
-            EventRecord::Lost(lost) => self.lost(lost),
-            EventRecord::Comm(comm) => self.comm(comm),
-            EventRecord::Exit(task) => self.fork_or_exit(task),
-            EventRecord::Fork(task) => self.fork_or_exit(task),
-            EventRecord::Throttle(throttle) => self.throttle(throttle),
-            EventRecord::Unthrottle(throttle) => self.throttle(throttle),
-            EventRecord::Read(read) => self.read(read),
-            EventRecord::Aux(aux) => self.aux(aux),
-            EventRecord::ItraceStart(start) => self.itrace_start(start),
-            EventRecord::LostSamples(lost) => self.lost_samples(lost),
-            EventRecord::ContextSwitch(switch) => self.context_switch(switch),
-            EventRecord::Namespaces(namespaces) => self.namespaces(namespaces),
-            EventRecord::Ksymbol(symbol) => self.ksymbol(symbol),
-            EventRecord::BpfEvent(event) => self.bpf_event(event),
-            EventRecord::Cgroup(group) => self.control_group(group),
-            EventRecord::TextPoke(poke) => self.text_poke(poke),
-            EventRecord::AuxOutputHwId(record) => self.hw_id(record),
-            EventRecord::Sample(_) | EventRecord::Raw(_) => Ok(()),
+impl<'a> TextPoke<'a> {
+    pub(crate) fn new(poke: &TextPokeRecord<'a>, byte_limit: usize) -> TextPoke<'a> {
+        TextPoke {
+            address: Address(poke.address),
+            old_bytes: Bytes::new(poke.old_bytes, byte_limit),
+            new_bytes: Bytes::new(poke.new_bytes, byte_limit),
         }
     }
+}
 
-    fn sample_id(&mut self, id: &SampleId) -> Result<(), AllocError> {
-        self.words.clear();
-        prepend_sample_id(&mut self.words, id);
-        if self.words.is_empty() {
-            return Ok(());
-        }
-        self.members.short_object(br#","sample_id":"#, &self.words)
-    }
+#[derive(Clone, Copy, Serialize)]
+pub(crate) struct AuxOutputHwId {
+    hw_id: u64,
+}
 
-    /// Appends the fields of a record that isn't a sample, or the error of its parser, and its sample_id fields.
-    #[inline(never)]
-    fn other_record(
-        &mut self,
-        format: &EventFormat,
-        raw: &RawEventRecord<'_>,
-    ) -> Result<(), AllocError> {
-        match format.parse(raw) {
-            Ok(event) => self.event(&event)?,
-            Err(error) => self.error(error.kind())?,
+impl AuxOutputHwId {
+    pub(crate) fn new(record: &AuxOutputHwIdRecord) -> AuxOutputHwId {
+        AuxOutputHwId {
+            hw_id: record.hw_id,
         }
-        match format.sample_id(raw) {
-            Ok(id) => self.sample_id(&id),
-            Err(_) => Ok(()),
-        }
-    }
-
-    /// Sets it to the fields of a kernel record, or the error of its parser, and its sample_id fields unless it is a sample. `first` is
-    /// empty, and is set to the members before them.
-    pub(crate) fn kernel_record(
-        &mut self,
-        name: Option<&str>,
-        format: &EventFormat,
-        raw: &RawEventRecord<'_>,
-        first: &mut ShortMembers,
-    ) -> Result<(), AllocError>
-        requires { 1024 ≤ free_size first.old }
-        ensures { 160 ≤ free_size first.new }
-    {
-        if raw.record_type.0 == RecordType::SAMPLE.0 {
-            return self.sample(name, format, raw, first);
-        }
-        self.prepend_header(name, raw.record_type.0, raw.misc, first)?;
-        self.other_record(format, raw)
     }
 }

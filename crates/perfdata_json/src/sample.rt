@@ -1,287 +1,306 @@
-//! The fields of samples.
-ghost use Rattle.std.specs.Prelude.{◌+◌, ◌≤◌, IsTrue, not};
-ghost use Rattle.json_writer.specs.ShortTexts.{free_size};
-ghost use Rattle.perfdata_events.specs.Selection.{selects_parts};
+//! The members of samples, and of records of counter values.
 
-use crate::body::{Body, count_of, next_u64};
+use crate::fields::{Address, Addresses, Bytes};
 use crate::names::context_name;
-use json_writer::short::ShortMembers;
-use perfdata_base::event::RawEventRecord;
-use perfdata_base::raw::RawData;
 use perfdata_events::call_chain::CallChain;
 use perfdata_events::format::EventFormat;
-use perfdata_events::read_values::{GroupValues, ReadRecord, ReadValues, SingleValues};
-use perfdata_events::sample::{SampleRecord, SampleWords};
-use perfdata_events::sample_parts::{BranchStack, Registers, UserStack};
-use perfdata_events::sample_words::{EventWords, OriginWords};
-use perfdata_events::u64s::RawDataU64;
-use std::alloc::AllocError;
+use perfdata_events::read_values::{GroupValues, ReadRecord, ReadValues};
+use perfdata_events::sample::SampleRecord;
+use perfdata_events::sample_parts::{BranchStack, Registers};
+use serde::{Described, Serialize, Serializer};
 
-/// The words of a sample up to its period.
-fn words_of(sample: &SampleRecord<'_>) -> SampleWords {
-    SampleWords {
-        origin: OriginWords {
+/// The counters of a group.
+#[derive(Clone, Copy)]
+struct Counters<'a>(GroupValues<'a>);
+
+#[derive(Clone, Copy, Serialize)]
+struct Counter {
+    value: u64,
+    #[serde(skip_serializing_if = "Option::is_none")]
+    id: Option<u64>,
+    #[serde(skip_serializing_if = "Option::is_none")]
+    lost: Option<u64>,
+}
+
+impl Described for Counters<'_> {}
+
+impl Serialize for Counters<'_> {
+    fn serialize<S: Serializer>(&self, out: &mut S) -> Result<(), S::Error> {
+        out.begin_seq(None)?;
+        for index in 0..self.0.len() {
+            if let Some(counter) = self.0.get(index) {
+                let (value, id, lost) = (counter.value, counter.id, counter.lost);
+                Counter { value, id, lost }.serialize(out)?;
+            }
+        }
+        out.end_seq()
+    }
+}
+
+/// The values of one counter, or of the counters of a group.
+#[derive(Clone, Copy, Serialize)]
+pub(crate) struct Values<'a> {
+    #[serde(skip_serializing_if = "Option::is_none")]
+    value: Option<u64>,
+    #[serde(skip_serializing_if = "Option::is_none")]
+    time_enabled: Option<u64>,
+    #[serde(skip_serializing_if = "Option::is_none")]
+    time_running: Option<u64>,
+    #[serde(skip_serializing_if = "Option::is_none")]
+    id: Option<u64>,
+    #[serde(skip_serializing_if = "Option::is_none")]
+    lost: Option<u64>,
+    #[serde(skip_serializing_if = "Option::is_none")]
+    counters: Option<Counters<'a>>,
+}
+
+impl<'a> Values<'a> {
+    fn new(values: ReadValues<'a>) -> Values<'a> {
+        match values {
+            ReadValues::Single(single) => Values {
+                value: Some(single.value),
+                time_enabled: single.time_enabled,
+                time_running: single.time_running,
+                id: single.id,
+                lost: single.lost,
+                counters: None,
+            },
+            ReadValues::Group(group) => Values {
+                value: None,
+                time_enabled: group.time_enabled,
+                time_running: group.time_running,
+                id: None,
+                lost: None,
+                counters: Some(Counters(group)),
+            },
+        }
+    }
+}
+
+#[derive(Clone, Copy, Serialize)]
+pub(crate) struct Read<'a> {
+    pid: i32,
+    tid: i32,
+    values: Values<'a>,
+}
+
+impl<'a> Read<'a> {
+    pub(crate) fn new(read: &ReadRecord<'a>) -> Read<'a> {
+        Read {
+            pid: read.task.pid,
+            tid: read.task.tid,
+            values: Values::new(read.values),
+        }
+    }
+}
+
+/// The frames of a call chain, each as its context and its address.
+#[derive(Clone, Copy)]
+struct Chain<'a>(CallChain<'a>);
+
+impl Described for Chain<'_> {}
+
+impl Serialize for Chain<'_> {
+    fn serialize<S: Serializer>(&self, out: &mut S) -> Result<(), S::Error> {
+        out.begin_seq(None)?;
+        for frame in self.0.iter() {
+            (context_name(frame.context), Address(frame.address)).serialize(out)?;
+        }
+        out.end_seq()
+    }
+}
+
+#[derive(Clone, Copy, Serialize)]
+struct Branch {
+    from: Address,
+    to: Address,
+    flags: Address,
+}
+
+#[derive(Clone, Copy)]
+struct Branches<'a>(BranchStack<'a>);
+
+impl Described for Branches<'_> {}
+
+impl Serialize for Branches<'_> {
+    fn serialize<S: Serializer>(&self, out: &mut S) -> Result<(), S::Error> {
+        out.begin_seq(None)?;
+        for index in 0..self.0.len() {
+            if let Some(entry) = self.0.get(index) {
+                let branch = Branch {
+                    from: Address(entry.from),
+                    to: Address(entry.to),
+                    flags: Address(entry.flags),
+                };
+                branch.serialize(out)?;
+            }
+        }
+        out.end_seq()
+    }
+}
+
+#[derive(Clone, Copy, Serialize)]
+struct BranchMembers<'a> {
+    #[serde(skip_serializing_if = "Option::is_none")]
+    hw_index: Option<u64>,
+    entries: Branches<'a>,
+    #[serde(skip_serializing_if = "Option::is_none")]
+    counters: Option<Addresses<'a>>,
+}
+
+impl<'a> BranchMembers<'a> {
+    fn new(stack: BranchStack<'a>) -> BranchMembers<'a> {
+        BranchMembers {
+            hw_index: stack.hw_index,
+            entries: Branches(stack),
+            counters: stack.counters.map(Addresses),
+        }
+    }
+}
+
+#[derive(Clone, Copy, Serialize)]
+struct RegisterMembers<'a> {
+    abi: u64,
+    mask: Address,
+    values: Addresses<'a>,
+}
+
+impl<'a> RegisterMembers<'a> {
+    fn new(mask: u64, registers: Registers<'a>) -> RegisterMembers<'a> {
+        RegisterMembers {
+            abi: registers.abi,
+            mask: Address(mask),
+            values: Addresses(registers.values),
+        }
+    }
+}
+
+/// The members of a sample up to its period.
+#[derive(Clone, Copy, Serialize)]
+struct SampleStart {
+    #[serde(skip_serializing_if = "Option::is_none")]
+    identifier: Option<u64>,
+    #[serde(skip_serializing_if = "Option::is_none")]
+    ip: Option<Address>,
+    #[serde(skip_serializing_if = "Option::is_none")]
+    pid: Option<i32>,
+    #[serde(skip_serializing_if = "Option::is_none")]
+    tid: Option<i32>,
+    #[serde(skip_serializing_if = "Option::is_none")]
+    timestamp: Option<u64>,
+    #[serde(skip_serializing_if = "Option::is_none")]
+    address: Option<Address>,
+    #[serde(skip_serializing_if = "Option::is_none")]
+    id: Option<u64>,
+    #[serde(skip_serializing_if = "Option::is_none")]
+    stream_id: Option<u64>,
+    #[serde(skip_serializing_if = "Option::is_none")]
+    cpu: Option<u32>,
+    #[serde(skip_serializing_if = "Option::is_none")]
+    period: Option<u64>,
+}
+
+/// The members of a sample from its counter values on.
+#[derive(Clone, Copy, Serialize)]
+struct SampleParts<'a> {
+    #[serde(skip_serializing_if = "Option::is_none")]
+    values: Option<Values<'a>>,
+    #[serde(skip_serializing_if = "Option::is_none")]
+    call_chain: Option<Chain<'a>>,
+    #[serde(skip_serializing_if = "Option::is_none")]
+    raw: Option<Bytes<'a>>,
+    #[serde(skip_serializing_if = "Option::is_none")]
+    branch_stack: Option<BranchMembers<'a>>,
+    #[serde(skip_serializing_if = "Option::is_none")]
+    user_registers: Option<RegisterMembers<'a>>,
+    #[serde(skip_serializing_if = "Option::is_none")]
+    user_stack: Option<Bytes<'a>>,
+    #[serde(skip_serializing_if = "Option::is_none")]
+    dynamic_size: Option<u64>,
+    #[serde(skip_serializing_if = "Option::is_none")]
+    weight: Option<u64>,
+    #[serde(skip_serializing_if = "Option::is_none")]
+    data_source: Option<Address>,
+    #[serde(skip_serializing_if = "Option::is_none")]
+    transaction: Option<Address>,
+    #[serde(skip_serializing_if = "Option::is_none")]
+    interrupt_registers: Option<RegisterMembers<'a>>,
+    #[serde(skip_serializing_if = "Option::is_none")]
+    physical_address: Option<Address>,
+    #[serde(skip_serializing_if = "Option::is_none")]
+    cgroup: Option<u64>,
+    #[serde(skip_serializing_if = "Option::is_none")]
+    data_page_size: Option<u64>,
+    #[serde(skip_serializing_if = "Option::is_none")]
+    code_page_size: Option<u64>,
+    #[serde(skip_serializing_if = "Option::is_none")]
+    aux_data: Option<Bytes<'a>>,
+}
+
+/// The members of a sample.
+#[derive(Clone, Copy, Serialize)]
+pub(crate) struct Sample<'a> {
+    #[serde(flatten)]
+    start: SampleStart,
+    #[serde(flatten)]
+    parts: SampleParts<'a>,
+}
+
+impl SampleStart {
+    fn new(sample: &SampleRecord<'_>) -> SampleStart {
+        SampleStart {
             identifier: sample.identifier,
-            ip: sample.ip,
-            task: sample.task,
+            ip: sample.ip.map(Address),
+            pid: sample.task.map(|task| task.pid),
+            tid: sample.task.map(|task| task.tid),
             timestamp: sample.timestamp,
-        },
-        event: EventWords {
-            address: sample.address,
+            address: sample.address.map(Address),
             id: sample.id,
             stream_id: sample.stream_id,
             cpu: sample.cpu,
-        },
-        period: sample.period,
+            period: sample.period,
+        }
     }
 }
 
-/// Puts the words of a sample before the members.
-#[inline(always)]
-fn prepend_words(members: &mut ShortMembers, words: &SampleWords)
-    requires { 400 ≤ free_size members.old }
-    ensures { free_size members.old ≤ free_size members.new + 400 }
-{
-    let origin = &words.origin;
-    let event = &words.event;
-    members.prepend_number_if(br#","period":"#, words.period);
-    members.prepend_number_if(br#","cpu":"#, event.cpu.map(|cpu| cpu as u64));
-    members.prepend_number_if(br#","stream_id":"#, event.stream_id);
-    members.prepend_number_if(br#","id":"#, event.id);
-    members.prepend_address_if(br#","address":"#, event.address);
-    members.prepend_number_if(br#","timestamp":"#, origin.timestamp);
-    if let Some(task) = origin.task {
-        members.prepend_signed(br#","tid":"#, task.tid);
-        members.prepend_signed(br#","pid":"#, task.pid);
+impl<'a> SampleParts<'a> {
+    fn new(sample: &SampleRecord<'a>, format: &EventFormat, byte_limit: usize) -> SampleParts<'a> {
+        let (user, interrupt) = (format.sample_regs_user, format.sample_regs_intr);
+        let bytes = |bytes| Bytes::new(bytes, byte_limit);
+        SampleParts {
+            values: sample.values.map(Values::new),
+            call_chain: sample.call_chain.map(Chain),
+            raw: sample.raw.map(bytes),
+            branch_stack: sample.branch_stack.map(BranchMembers::new),
+            user_registers: sample
+                .user_registers
+                .map(|registers| RegisterMembers::new(user, registers)),
+            user_stack: sample.user_stack.map(|stack| bytes(stack.bytes)),
+            dynamic_size: sample.user_stack.and_then(|stack| stack.dynamic_size),
+            weight: sample.weight,
+            data_source: sample.data_source.map(Address),
+            transaction: sample.transaction.map(Address),
+            interrupt_registers: sample
+                .interrupt_registers
+                .map(|registers| RegisterMembers::new(interrupt, registers)),
+            physical_address: sample.physical_address.map(Address),
+            cgroup: sample.cgroup,
+            data_page_size: sample.data_page_size,
+            code_page_size: sample.code_page_size,
+            aux_data: sample.aux_data.map(bytes),
+        }
     }
-    members.prepend_address_if(br#","ip":"#, origin.ip);
-    members.prepend_number_if(br#","identifier":"#, origin.identifier);
 }
 
-impl Body {
-    fn single_values(&mut self, values: &SingleValues) -> Result<(), AllocError> {
-        self.nested.clear();
-        self.nested.number(br#","value":"#, values.value)?;
-        self.nested
-            .number_if(br#","time_enabled":"#, values.time_enabled)?;
-        self.nested
-            .number_if(br#","time_running":"#, values.time_running)?;
-        self.nested.number_if(br#","id":"#, values.id)?;
-        self.nested.number_if(br#","lost":"#, values.lost)
-    }
-
-    /// Appends the counter at the start of the numbers, and removes it.
-    fn counter(
-        &mut self,
-        group: &GroupValues<'_>,
-        rest: &mut RawDataU64<'_>,
-    ) -> Result<(), AllocError> {
-        self.item.clear();
-        self.item.number_if(br#","value":"#, next_u64(rest))?;
-        if group.has_id {
-            self.item.number_if(br#","id":"#, next_u64(rest))?;
-        }
-        if group.has_lost {
-            self.item.number_if(br#","lost":"#, next_u64(rest))?;
-        }
-        self.elements.object(&self.item)
-    }
-
-    fn group_values(&mut self, group: &GroupValues<'_>) -> Result<(), AllocError> {
-        self.nested.clear();
-        self.nested
-            .number_if(br#","time_enabled":"#, group.time_enabled)?;
-        self.nested
-            .number_if(br#","time_running":"#, group.time_running)?;
-        self.elements.clear();
-        let mut rest = group.numbers;
-        let width = 1 + group.has_id as usize + group.has_lost as usize;
-        for _ in 0..count_of(&group.numbers) / width {
-            self.counter(group, &mut rest)?;
-        }
-        self.nested.array(br#","counters":"#, &self.elements)
-    }
-
-    fn values(&mut self, values: &ReadValues<'_>) -> Result<(), AllocError> {
-        match values {
-            ReadValues::Single(single) => self.single_values(single)?,
-            ReadValues::Group(group) => self.group_values(group)?,
-        }
-        self.members.object(br#","values":"#, &self.nested)
-    }
-
-    pub(crate) fn read(&mut self, read: &ReadRecord<'_>) -> Result<(), AllocError> {
-        self.task(read.task.pid, read.task.tid)?;
-        self.values(&read.values)
-    }
-
-    fn call_chain(&mut self, chain: &CallChain<'_>) -> Result<(), AllocError> {
-        self.elements.clear();
-        for frame in chain.iter() {
-            self.pair.clear();
-            self.pair.string(context_name(frame.context))?;
-            self.pair.address(frame.address)?;
-            self.elements.array(&self.pair)?;
-        }
-        self.members.array(br#","call_chain":"#, &self.elements)
-    }
-
-    fn branch_stack(&mut self, stack: &BranchStack<'_>) -> Result<(), AllocError> {
-        self.nested.clear();
-        self.nested.number_if(br#","hw_index":"#, stack.hw_index)?;
-        self.elements.clear();
-        let mut rest = stack.entries;
-        for _ in 0..count_of(&stack.entries) / 3 {
-            self.item.clear();
-            self.item.address_if(br#","from":"#, next_u64(&mut rest))?;
-            self.item.address_if(br#","to":"#, next_u64(&mut rest))?;
-            self.item.address_if(br#","flags":"#, next_u64(&mut rest))?;
-            self.elements.object(&self.item)?;
-        }
-        self.nested.array(br#","entries":"#, &self.elements)?;
-        if let Some(counters) = stack.counters {
-            self.set_addresses(counters)?;
-            self.nested.array(br#","counters":"#, &self.elements)?;
-        }
-        self.members.object(br#","branch_stack":"#, &self.nested)
-    }
-
-    /// Sets the nested object to registers.
-    fn set_registers(&mut self, mask: u64, registers: &Registers<'_>) -> Result<(), AllocError> {
-        self.nested.clear();
-        self.nested.number(br#","abi":"#, registers.abi)?;
-        self.nested.address(br#","mask":"#, mask)?;
-        self.set_addresses(registers.values)?;
-        self.nested.array(br#","values":"#, &self.elements)
-    }
-
-    fn user_stack(&mut self, stack: &UserStack<'_>) -> Result<(), AllocError> {
-        self.bytes(br#","user_stack":"#, stack.bytes)?;
-        self.members
-            .number_if(br#","dynamic_size":"#, stack.dynamic_size)
-    }
-
-    /// Appends the parts of a sample from its counter values to its stack.
-    fn sample_parts(
-        &mut self,
-        sample: &SampleRecord<'_>,
+impl<'a> Sample<'a> {
+    pub(crate) fn new(
+        sample: &SampleRecord<'a>,
         format: &EventFormat,
-    ) -> Result<(), AllocError> {
-        if let Some(values) = &sample.values {
-            self.values(values)?;
+        byte_limit: usize,
+    ) -> Sample<'a> {
+        Sample {
+            start: SampleStart::new(sample),
+            parts: SampleParts::new(sample, format, byte_limit),
         }
-        if let Some(chain) = &sample.call_chain {
-            self.call_chain(chain)?;
-        }
-        self.bytes_if(br#","raw":"#, sample.raw)?;
-        if let Some(stack) = &sample.branch_stack {
-            self.branch_stack(stack)?;
-        }
-        if let Some(registers) = &sample.user_registers {
-            self.set_registers(format.sample_regs_user, registers)?;
-            self.members.object(br#","user_registers":"#, &self.nested)?;
-        }
-        match &sample.user_stack {
-            Some(stack) => self.user_stack(stack),
-            None => Ok(()),
-        }
-    }
-
-    /// Appends the parts of a sample from its weight on.
-    fn sample_end(
-        &mut self,
-        sample: &SampleRecord<'_>,
-        format: &EventFormat,
-    ) -> Result<(), AllocError> {
-        self.members.number_if(br#","weight":"#, sample.weight)?;
-        self.members
-            .address_if(br#","data_source":"#, sample.data_source)?;
-        self.members
-            .address_if(br#","transaction":"#, sample.transaction)?;
-        if let Some(registers) = &sample.interrupt_registers {
-            self.set_registers(format.sample_regs_intr, registers)?;
-            self.members
-                .object(br#","interrupt_registers":"#, &self.nested)?;
-        }
-        self.members
-            .address_if(br#","physical_address":"#, sample.physical_address)?;
-        self.members.number_if(br#","cgroup":"#, sample.cgroup)?;
-        self.members
-            .number_if(br#","data_page_size":"#, sample.data_page_size)?;
-        self.members
-            .number_if(br#","code_page_size":"#, sample.code_page_size)?;
-        self.bytes_if(br#","aux_data":"#, sample.aux_data)
-    }
-
-    /// Appends the fields of a sample.
-    fn sample_fields(
-        &mut self,
-        sample: &SampleRecord<'_>,
-        format: &EventFormat,
-    ) -> Result<(), AllocError> {
-        self.words.clear();
-        prepend_words(&mut self.words, &words_of(sample));
-        self.members.append(&self.words)?;
-        self.sample_parts(sample, format)?;
-        self.sample_end(sample, format)
-    }
-
-    /// Puts the event, the type and the fields of a sample that has only words into `first`, or the error of their parser into the body.
-    #[inline(never)]
-    fn short_sample(
-        &mut self,
-        name: Option<&str>,
-        format: &EventFormat,
-        raw: &RawEventRecord<'_>,
-        first: &mut ShortMembers,
-    ) -> Result<(), AllocError>
-        requires only_words { IsTrue (not (selects_parts format.now.sample_format.0)) }
-        requires free { 1024 ≤ free_size first.old }
-        ensures { 160 ≤ free_size first.new }
-    {
-        let mut fields = raw.body;
-        match SampleWords::parse(format, &mut fields) {
-            Ok(words) => {
-                prepend_words(first, &words);
-                self.prepend_header(name, raw.record_type.0, raw.misc, first)
-            }
-            Err(error) => {
-                self.prepend_header(name, raw.record_type.0, raw.misc, first)?;
-                self.error(error.kind())
-            }
-        }
-    }
-
-    /// Appends the fields of any sample, or the error of its parser. A function of its own, because all its locals are set to zero
-    /// when it is called.
-    #[inline(never)]
-    fn long_sample(&mut self, format: &EventFormat, body: RawData<'_>) -> Result<(), AllocError> {
-        let mut fields = body;
-        match SampleRecord::parse(format, &mut fields) {
-            Ok(sample) => self.sample_fields(&sample, format),
-            Err(error) => self.error(error.kind()),
-        }
-    }
-
-    /// Sets it to the fields of a sample, or the error of its parser. A sample with fields whose offset isn't known has none. `first` is
-    /// empty, and is set to the members before them; the words of a sample that has no other fields are there too.
-    pub(crate) fn sample(
-        &mut self,
-        name: Option<&str>,
-        format: &EventFormat,
-        raw: &RawEventRecord<'_>,
-        first: &mut ShortMembers,
-    ) -> Result<(), AllocError>
-        requires { 1024 ≤ free_size first.old }
-        ensures { 160 ≤ free_size first.new }
-    {
-        if format.has_only_words() && format.has_known_fields() {
-            return self.short_sample(name, format, raw, first);
-        }
-        self.prepend_header(name, raw.record_type.0, raw.misc, first)?;
-        if format.has_known_fields() {
-            return self.long_sample(format, raw.body);
-        }
-        Ok(())
     }
 }

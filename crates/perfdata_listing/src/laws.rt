@@ -4,6 +4,7 @@ ghost use Rattle.linux_perf_data.specs.Layout.{RecordView};
 ghost use Rattle.perfdata_base.specs.declared.raw.Endianness.{Endianness};
 ghost use Rattle.perfdata_listing.specs.Line.{record_line};
 ghost use Rattle.perfdata_listing.specs.JitListing.{jit_lines};
+ghost use Rattle.perfdata_listing.specs.Listing.{AreLines, IsPlainLine};
 ghost use Rattle.perfdata_listing.specs.Output.{newline_count};
 ghost use Rattle.perfdata_listing.specs.CountingBufWriter.{BuffersAndForwards};
 ghost use Rattle.perfdata_listing.specs.declared.output.CountingBufWriter.{CountingBufWriter};
@@ -13,6 +14,11 @@ use std::io::Write;
 /// Each record has one line: the lines of a list of records contain as many newlines as there are records.
 pub fn one_line_per_record()
     ensures { (records : List RecordView) → newline_count (flat_map record_line records) ≡ length records }
+{}
+
+/// The text of plain lines is determined: it is the lines of the records, in order.
+pub fn plain_lines_are_record_lines()
+    ensures { (records : List RecordView) (text : List ℕ) → AreLines IsPlainLine records text → text ≡ flat_map record_line records }
 {}
 
 /// Each record of a jitdump file has one line, at any offset.

@@ -4,15 +4,14 @@ ghost use Rattle.std.specs.Io.KnownBytes.{Keeps};
 ghost use Rattle.linux_perf_data.specs.BufferedRecord.{IsFinished};
 ghost use Rattle.perfdata_listing.specs.CountingBufWriter.{pending_bytes, has_failed, lines_written, BuffersAndForwards};
 ghost use Rattle.linux_perf_data.specs.RecordViews.{record_view_of};
-ghost use Rattle.perfdata_listing.specs.Line.{record_line};
-ghost use Rattle.perfdata_listing.specs.LineText.{text_of};
-ghost use Rattle.perfdata_listing.specs.Listing.{fields_text};
+ghost use Rattle.perfdata_listing.specs.Listing.{WritesRecord, IsPlainLine};
 ghost use Rattle.linux_perf_data.specs.Reading.{HasMatchingFile, HasNotFailed};
 ghost use Rattle.perfdata_listing.specs.Listing.{ListsNext, ListsRecords, ListsLiveRecords, ListsFile, MayBlock, FlushesBeforeBlocking};
-ghost use Rattle.perfdata_listing.specs.PipeListing.{FlushesPipeBeforeBlocking, ListsPipe, ListsLivePipe, ListsPipeWithFile};
+ghost use Rattle.perfdata_listing.specs.PipeListing.{FlushesPipeBeforeBlocking, ListsPipe, ListsLivePipe};
 
-use crate::line::{Line, RecordFields};
+use crate::line::Line;
 use crate::output::{CountingBufWriter, FlushPending, write_line};
+use crate::record_line::RecordLine;
 use linux_perf_data::jitdump::JitDumpError;
 use linux_perf_data::source::{PlacedSource, Source};
 use linux_perf_data::{
@@ -44,54 +43,42 @@ pub struct ListFault {
     pub cause: ListCause,
 }
 
-/// The fields of a record's line.
-fn record_fields(place: RecordPlace, file_record: &PerfFileRecord<'_>) -> RecordFields
-    ensures { fields_text result ≡ record_line (record_view_of place file_record.now) }
+/// Writes the line of a record. `file` contains the record's attribute, and `line` is set to the line.
+///
+/// Fails if memory runs out, and nothing of the line is written then, or if the writer fails, and a prefix of the line is
+/// written then.
+pub fn write_record<L: RecordLine, W: Write>(
+    place: RecordPlace,
+    file_record: &PerfFileRecord<'_>,
+    file: &PerfFile,
+    line: &mut L,
+    out: &mut W,
+) -> Result<(), ListCause>
+    ensures { WritesRecord L.is_line L.allocates (record_view_of place file_record.now) (W.contents out.old) result (W.contents out.new) }
 {
-    match file_record {
-        PerfFileRecord::EventRecord { attr_index, event } => RecordFields {
-            offset: place.offset,
-            round: place.round,
-            timestamp: place.timestamp,
-            attr_index: Some(*attr_index as u64),
-            record_type: event.record_type.0,
-            misc: event.misc,
-            body_length: event.body.len() as u64,
+    match line.set(place, file_record, file) {
+        Ok(()) => match write_line(out, line.as_bytes()) {
+            Ok(()) => Ok(()),
+            Err(error) => Err(ListCause::Write(error)),
         },
-        PerfFileRecord::UserRecord(user) => RecordFields {
-            offset: place.offset,
-            round: place.round,
-            timestamp: place.timestamp,
-            attr_index: None,
-            record_type: user.record_type.record_type().0,
-            misc: user.misc,
-            body_length: user.body.len() as u64,
-        },
+        Err(memory) => Err(ListCause::Perf(memory)),
     }
 }
 
-/// Sets the line to that of a record.
-fn format_line(line: &mut Line, place: RecordPlace, file_record: &PerfFileRecord<'_>)
-    ensures { text_of line.new ≡ record_line (record_view_of place file_record.now) }
-{
-    line.set_record(record_fields(place, file_record));
-}
-
 /// Writes the line of the next record. Returns whether there is one.
-fn list_next<R: Source, W: Write>(
+fn list_next<R: Source, L: RecordLine, W: Write>(
     iter: &mut PerfRecordIter<R>,
     file: &mut PerfFile,
-    line: &mut Line,
+    line: &mut L,
     out: &mut W,
 ) -> Result<bool, ListCause>
-    ensures { ListsNext R.state iter.old file.old (W.contents out.old) result (W.contents out.new) iter.new file.new }
+    ensures { ListsNext L.is_line L.allocates R.state iter.old file.old (W.contents out.old) result (W.contents out.new) iter.new file.new }
 {
     match iter.next_record(file) {
         Ok(Some((place, record))) => {
-            format_line(line, place, &record);
-            match write_line(out, line.as_bytes()) {
+            match write_record(place, &record, file, line, out) {
                 Ok(()) => Ok(true),
-                Err(error) => Err(ListCause::Write(error)),
+                Err(cause) => Err(cause),
             }
         }
         Ok(None) => Ok(false),
@@ -100,32 +87,32 @@ fn list_next<R: Source, W: Write>(
 }
 
 /// Does what `list_next` does for a live input. Either the writer has no pending bytes, or the next record is buffered.
-fn list_next_live<R: Source, W: FlushPending>(
+fn list_next_live<R: Source, L: RecordLine, W: FlushPending>(
     iter: &mut PerfRecordIter<R>,
     file: &mut PerfFile,
-    line: &mut Line,
+    line: &mut L,
     out: &mut W,
 ) -> Result<bool, ListCause>
     requires flushed { MayBlock R.state iter.old (W.pending out.old) }
-    ensures { ListsNext R.state iter.old file.old (W.contents out.old) result (W.contents out.new) iter.new file.new }
+    ensures { ListsNext L.is_line L.allocates R.state iter.old file.old (W.contents out.old) result (W.contents out.new) iter.new file.new }
 {
     list_next(iter, file, line, out)
 }
 
 /// Writes a line for each remaining record. Returns the number of lines.
-fn list_records<R: Source, W: Write>(
+fn list_records<R: Source, L: RecordLine, W: Write>(
     iter: &mut PerfRecordIter<R>,
     file: &mut PerfFile,
+    line: &mut L,
     out: &mut W,
 ) -> Result<u64, ListFault>
     requires not_failed { HasNotFailed iter.old }
     requires matching_file { HasMatchingFile R.state iter.old file.old }
-    ensures { ListsRecords R.state iter.old file.old (W.contents out.old) result (W.contents out.new) iter.new file.new }
+    ensures { ListsRecords L.is_line L.allocates R.state iter.old file.old (W.contents out.old) result (W.contents out.new) iter.new file.new }
 {
     let mut lines = 0u64;
-    let mut line = Line::new();
     'records: loop {
-        match list_next(iter, file, &mut line, out) {
+        match list_next(iter, file, line, out) {
             Ok(true) => lines += 1,
             Ok(false) => return Ok(lines),
             Err(cause) => return Err(ListFault { lines, cause }),
@@ -151,18 +138,18 @@ pub fn flush_before_blocking<R: Source, W: FlushPending>(
 
 /// Writes a line for each remaining record of a live input. Returns the number of lines. Pending lines are flushed before
 /// each call for a record that isn't buffered.
-fn list_live_records<R: Source, W: FlushPending>(
+fn list_live_records<R: Source, L: RecordLine, W: FlushPending>(
     iter: &mut PerfRecordIter<R>,
     file: &mut PerfFile,
+    line: &mut L,
     out: &mut W,
 ) -> Result<u64, ListFault>
     requires not_failed { HasNotFailed iter.old }
     requires matching_file { HasMatchingFile R.state iter.old file.old }
-    ensures lists { ListsLiveRecords R.state iter.old file.old (W.contents out.old) result (W.contents out.new) iter.new file.new }
-    ensures flushes { FlushesBeforeBlocking R.state W.pending W.contents iter.old file.old out.old result out.new iter.new file.new }
+    ensures lists { ListsLiveRecords L.is_line L.allocates R.state iter.old file.old (W.contents out.old) result (W.contents out.new) iter.new file.new }
+    ensures flushes { FlushesBeforeBlocking L.is_line L.allocates R.state W.pending W.contents iter.old file.old out.old result out.new iter.new file.new }
 {
     let mut lines = 0u64;
-    let mut line = Line::new();
     'records: loop {
         match flush_before_blocking(iter, out) {
             Ok(()) => {}
@@ -171,10 +158,77 @@ fn list_live_records<R: Source, W: FlushPending>(
                 return Err(ListFault { lines, cause });
             }
         }
-        match list_next_live(iter, file, &mut line, out) {
+        match list_next_live(iter, file, line, out) {
             Ok(true) => lines += 1,
             Ok(false) => return Ok(lines),
             Err(cause) => return Err(ListFault { lines, cause }),
+        }
+    }
+}
+
+/// Lists a perf.data file as [`list_file`] does, by lines of any format.
+pub fn list_file_by<C: PlacedSource + Drop, L: RecordLine, W: Write>(
+    alloc: Global,
+    source: C,
+    line: &mut L,
+    out: &mut W,
+) -> Result<u64, ListFault>
+    ensures { ListsFile L.is_line L.allocates (C.state source) (W.contents out.old) result (W.contents out.new) }
+{
+    match PerfFileReader::parse_file(alloc, source) {
+        Ok(reader) => {
+            let mut file = reader.perf_file;
+            let mut iter = reader.record_iter;
+            list_records(&mut iter, &mut file, line, out)
+        }
+        Err(error) => {
+            let cause = ListCause::Perf(error);
+            Err(ListFault { lines: 0, cause })
+        }
+    }
+}
+
+/// Lists a pipe as [`list_pipe`] does, by lines of any format.
+pub fn list_pipe_by<R: Source + Drop, L: RecordLine, W: Write>(
+    alloc: Global,
+    source: R,
+    line: &mut L,
+    out: &mut W,
+) -> Result<u64, ListFault>
+    ensures { ListsPipe L.is_line L.allocates (R.state source) (W.contents out.old) result (W.contents out.new) }
+{
+    match PerfFileReader::parse_pipe(alloc, source) {
+        Ok(reader) => {
+            let mut file = reader.perf_file;
+            let mut records = reader.record_iter;
+            list_records(&mut records, &mut file, line, out)
+        }
+        Err(error) => {
+            let cause = ListCause::Perf(error);
+            Err(ListFault { lines: 0, cause })
+        }
+    }
+}
+
+/// Lists a live pipe as [`list_live_pipe`] does, by lines of any format.
+pub fn list_live_pipe_by<R: Source + Drop, L: RecordLine, W: FlushPending>(
+    alloc: Global,
+    source: R,
+    line: &mut L,
+    out: &mut W,
+) -> Result<u64, ListFault>
+    ensures lists { ListsLivePipe L.is_line L.allocates (R.state source) (W.contents out.old) result (W.contents out.new) }
+    ensures flushes { FlushesPipeBeforeBlocking L.is_line L.allocates R.state W.pending W.contents (R.state source) out.old result out.new }
+{
+    match PerfFileReader::parse_pipe(alloc, source) {
+        Ok(reader) => {
+            let mut file = reader.perf_file;
+            let mut iter = reader.record_iter;
+            list_live_records(&mut iter, &mut file, line, out)
+        }
+        Err(error) => {
+            let cause = ListCause::Perf(error);
+            Err(ListFault { lines: 0, cause })
         }
     }
 }
@@ -191,42 +245,9 @@ pub fn list_file<C: PlacedSource + Drop, W: Write>(
     source: C,
     out: &mut W,
 ) -> Result<u64, ListFault>
-    ensures { ListsFile (C.state source) (W.contents out.old) result (W.contents out.new) }
+    ensures { ListsFile IsPlainLine false (C.state source) (W.contents out.old) result (W.contents out.new) }
 {
-    match PerfFileReader::parse_file(alloc, source) {
-        Ok(reader) => {
-            let mut file = reader.perf_file;
-            let mut iter = reader.record_iter;
-            list_records(&mut iter, &mut file, out)
-        }
-        Err(error) => Err(ListFault {
-            lines: 0,
-            cause: ListCause::Perf(error),
-        }),
-    }
-}
-
-/// Lists a whole pipe as [`list_pipe`] does. Returns the number of records and all metadata of the pipe, from its opening
-/// and from later records.
-fn list_pipe_with_file<R: Source + Drop, W: Write>(
-    alloc: Global,
-    source: R,
-    out: &mut W,
-) -> Result<(u64, PerfFile), ListFault>
-    ensures { ListsPipeWithFile (R.state source) (W.contents out.old) result (W.contents out.new) }
-{
-    match PerfFileReader::parse_pipe(alloc, source) {
-        Ok(reader) => {
-            let mut file = reader.perf_file;
-            let mut iter = reader.record_iter;
-            let lines = list_records(&mut iter, &mut file, out)?;
-            Ok((lines, file))
-        }
-        Err(error) => {
-            let cause = ListCause::Perf(error);
-            Err(ListFault { lines: 0, cause })
-        }
-    }
+    list_file_by(alloc, source, &mut Line::new(), out)
 }
 
 /// Writes a line for each record of a pipe, as [`list_file`] does, and returns the number of lines.
@@ -243,10 +264,9 @@ pub fn list_pipe<R: Source + Drop, W: Write>(
     source: R,
     out: &mut W,
 ) -> Result<u64, ListFault>
-    ensures { ListsPipe (R.state source) (W.contents out.old) result (W.contents out.new) }
+    ensures { ListsPipe IsPlainLine false (R.state source) (W.contents out.old) result (W.contents out.new) }
 {
-    let (lines, _file) = list_pipe_with_file(alloc, source, out)?;
-    Ok(lines)
+    list_pipe_by(alloc, source, &mut Line::new(), out)
 }
 
 /// Lists a live pipe as [`list_pipe`] does, into a writer that may buffer lines. The lines are flushed before each record
@@ -258,20 +278,10 @@ pub fn list_live_pipe<R: Source + Drop, W: FlushPending>(
     source: R,
     out: &mut W,
 ) -> Result<u64, ListFault>
-    ensures lists { ListsLivePipe (R.state source) (W.contents out.old) result (W.contents out.new) }
-    ensures flushes { FlushesPipeBeforeBlocking R.state W.pending W.contents (R.state source) out.old result out.new }
+    ensures lists { ListsLivePipe IsPlainLine false (R.state source) (W.contents out.old) result (W.contents out.new) }
+    ensures flushes { FlushesPipeBeforeBlocking IsPlainLine false R.state W.pending W.contents (R.state source) out.old result out.new }
 {
-    match PerfFileReader::parse_pipe(alloc, source) {
-        Ok(reader) => {
-            let mut file = reader.perf_file;
-            let mut iter = reader.record_iter;
-            list_live_records(&mut iter, &mut file, out)
-        }
-        Err(error) => {
-            let cause = ListCause::Perf(error);
-            Err(ListFault { lines: 0, cause })
-        }
-    }
+    list_live_pipe_by(alloc, source, &mut Line::new(), out)
 }
 
 /// Flushes the lines that are still buffered, unless the writer has already failed. Returns the number of listed records.

@@ -2,8 +2,8 @@
 
 use linux_perf_data::PerfFile;
 use linux_perf_data::in_memory::InMemoryReader;
-use perfdata_json::{JsonLine, write_record};
-use perfdata_listing::{ListCause, ListFault};
+use perfdata_json::JsonLine;
+use perfdata_listing::{ListCause, ListFault, write_record};
 use perfdata_order::in_memory::InMemoryOrderedRecords;
 use std::alloc::Global;
 use std::io::Write;
@@ -17,7 +17,7 @@ fn list_next<W: Write>(
 ) -> Result<bool, ListCause> {
     match records.next_record(file) {
         Ok(Some((place, record))) => {
-            match write_record(file, place, &record, line, out) {
+            match write_record(place, &record, file, line, out) {
                 Ok(()) => Ok(true),
                 Err(cause) => Err(cause),
             }

@@ -10,8 +10,10 @@ use linux_perf_data::in_memory::InMemoryReader;
 use options::{Options, parse_options};
 use perfdata_cli::args::{ArgsError, Command};
 use perfdata_cli::input::{open_file, open_stdin};
-use perfdata_json::{finish, list_file, list_live_pipe};
-use perfdata_listing::{CountingBufWriter, flush_listing, write_line};
+use perfdata_json::{JsonLine, finish};
+use perfdata_listing::{
+    CountingBufWriter, flush_listing, list_file_by, list_live_pipe_by, write_line,
+};
 use std::fs;
 use std::io::Read;
 use std::process::ExitCode;
@@ -28,7 +30,8 @@ fn run_file(rt: &HostRuntime, byte_limit: usize, path: &str) -> Result<u64, u64>
     let Ok(mut out) = CountingBufWriter::new(rt.alloc(), rt.stdout()) else {
         return Err(0);
     };
-    let listed = list_file(rt.alloc(), file, byte_limit, &mut out);
+    let mut line = JsonLine::new(rt.alloc(), byte_limit);
+    let listed = list_file_by(rt.alloc(), file, &mut line, &mut out);
     flush_listing(listed, &mut out)
 }
 
@@ -40,7 +43,8 @@ fn run_pipe(rt: &HostRuntime, byte_limit: usize) -> Result<u64, u64> {
     let Ok(mut out) = CountingBufWriter::new(rt.alloc(), rt.stdout()) else {
         return Err(0);
     };
-    let listed = list_live_pipe(rt.alloc(), input, byte_limit, &mut out);
+    let mut line = JsonLine::new(rt.alloc(), byte_limit);
+    let listed = list_live_pipe_by(rt.alloc(), input, &mut line, &mut out);
     flush_listing(listed, &mut out)
 }
 

@@ -7,8 +7,8 @@ abbrev pub invariant-records : goal.invariant-records
 invariant-records g l = record {
   offset_in_range : l.iter.offset < 2 ^ 64;
   count_below_offset : l.lines ≤ l.iter.offset;
-  live : CallsFlushed g.R.Source.state g.W.FlushPending.pending g.W.Write.contents l.lines l.initial.iter l.initial.file l.initial.out l.out l.iter l.file;
-  listed : SoFar g.R.Source.state l.initial.iter l.initial.file (g.W.Write.contents l.initial.out) l.lines (g.W.Write.contents l.out) l.iter l.file;
+  live : CallsFlushed g.L.RecordLine.is_line g.L.RecordLine.allocates g.R.Source.state g.W.FlushPending.pending g.W.Write.contents l.lines l.initial.iter l.initial.file l.initial.out l.out l.iter l.file;
+  listed : SoFar g.L.RecordLine.is_line g.L.RecordLine.allocates g.R.Source.state l.initial.iter l.initial.file (g.W.Write.contents l.initial.out) l.lines (g.W.Write.contents l.out) l.iter l.file;
 }
 
 abbrev pub decreases-records : goal.decreases-records

@@ -1,9 +1,0 @@
-use Rattle.json_writer.proofs.JsonLemmas.{address_value}
-use Rattle.json_writer.proofs.WritingLemmas.{element_end, elements_none}
-use Rattle.json_writer.proofs.members.Elements.address.Goals as goal
-
-pub invariant_of-self : goal.invariant_of-self
-invariant_of-self c = record { valid = elements_none c.in_err-extend.ensures.none_on_error }
-
-pub invariant_of-self-2 : goal.invariant_of-self-2
-invariant_of-self-2 c = record { valid = element_end c.append_address.result c.args.self.now.bytes.items _ c.args.self.now.valid (address_value c.args.n) c.in_ok-extend.ensures.text c.append_address.ensures.text c.append_address.ensures.none_on_error }

@@ -1,0 +1,75 @@
+//! The line of a record, in any format.
+ghost use Rattle.std.specs.Prelude.{◌≡◌, ℕ, List, Bool, IfErr, IsTrue, OnOk, false};
+ghost use Rattle.linux_perf_data.specs.Layout.{RecordView};
+ghost use Rattle.linux_perf_data.specs.RecordViews.{record_view_of};
+ghost use Rattle.perfdata_sections.specs.declared.error.Error.TheVariants.{Memory};
+ghost use Rattle.perfdata_listing.specs.Line.{record_line};
+ghost use Rattle.perfdata_listing.specs.LineText.{text_of};
+ghost use Rattle.perfdata_listing.specs.Listing.{IsPlainLine, fields_text};
+
+use crate::line::{Line, RecordFields};
+use linux_perf_data::{Error, PerfFile, PerfFileRecord, RecordPlace};
+
+/// A line of text that can be set to the line of one record after another.
+pub trait RecordLine {
+    // What the line of a record may be.
+    ghost is_line: { RecordView → List ℕ → Type 0 };
+
+    // Whether setting it needs memory.
+    ghost allocates: { Bool };
+
+    // The text of the line, including its newline.
+    ghost text: { Self → List ℕ };
+
+    /// Sets it to the line of a record. `file` contains the record's attribute. Fails if memory runs out.
+    fn set(
+        &mut self,
+        place: RecordPlace,
+        file_record: &PerfFileRecord<'_>,
+        file: &PerfFile,
+    ) -> Result<(), Error>
+        ensures on_ok { OnOk result (is_line (record_view_of place file_record.now) (text self.new)) }
+        ensures on_error { IfErr result (λ error. IsTrue allocates × (error ≡ Memory)) };
+
+    /// The bytes of the line, including its newline.
+    fn as_bytes(&self) -> &[u8]
+        ensures { result.now ≡ text self.now };
+}
+
+/// The fields of a record's line.
+fn record_fields(place: RecordPlace, file_record: &PerfFileRecord<'_>) -> RecordFields
+    ensures { fields_text result ≡ record_line (record_view_of place file_record.now) }
+{
+    RecordFields {
+        offset: place.offset,
+        round: place.round,
+        timestamp: place.timestamp,
+        attr_index: file_record.attr_index().map(|index| index as u64),
+        record_type: file_record.record_type().0,
+        misc: file_record.misc(),
+        body_length: file_record.body().len() as u64,
+    }
+}
+
+impl RecordLine for Line {
+    ghost is_line = { IsPlainLine };
+
+    ghost allocates = { false };
+
+    ghost text = { text_of };
+
+    #[inline]
+    fn set(
+        &mut self,
+        place: RecordPlace,
+        file_record: &PerfFileRecord<'_>,
+        _file: &PerfFile,
+    ) -> Result<(), Error> {
+        self.set_record(record_fields(place, file_record));
+        Ok(())
+    }
+
+    fn as_bytes(&self) -> &[u8] {
+        Line::as_bytes(self)
+    }
+}
