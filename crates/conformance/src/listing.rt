@@ -1,7 +1,7 @@
 //! The calls of listings.
 use crate::sink::Sink;
-use crate::sources::{Pushed, Run, SourceCall};
-use conformance_cases::{push_error, push_line};
+use crate::sources::{SourceCall, push_for_sources};
+use conformance_cases::{Call, CaseResult, push_error, push_line};
 use linux_perf_data::jitdump::JitDumpError;
 use linux_perf_data::source::PlacedSource;
 use perfdata_listing::list::{ListCause, ListFault, list_file, list_pipe};
@@ -21,7 +21,7 @@ pub enum Listing {
 }
 
 // Appends the end of a listing.
-fn push_end(out: &mut String, listed: &Result<u64, ListFault>) -> Pushed {
+fn push_end(out: &mut String, listed: &Result<u64, ListFault>) -> CaseResult {
     match listed {
         Ok(_) => out.push_str("end")?,
         Err(fault) => match &fault.cause {
@@ -35,8 +35,9 @@ fn push_end(out: &mut String, listed: &Result<u64, ListFault>) -> Pushed {
     Ok(out.push_str("\n")?)
 }
 
-// Appends the complete lines of a text, and the number of lines that the listing reports if it is another one.
-fn push_lines(out: &mut String, text: &[u8], listed: &Result<u64, ListFault>) -> Pushed {
+// Appends the complete lines of a text, and the number of lines that the listing reports if it is another
+// one.
+fn push_lines(out: &mut String, text: &[u8], listed: &Result<u64, ListFault>) -> CaseResult {
     let mut count = 0u64;
     for line in str::from_utf8(text).unwrap_or("").split_inclusive('\n') {
         if line.ends_with('\n') {
@@ -72,7 +73,7 @@ impl Listing {
     }
 
     /// Appends the lines and the end of the listing of a slice.
-    pub fn push(self, alloc: Global, bytes: &[u8], out: &mut String) -> Pushed {
+    pub fn push(self, alloc: Global, bytes: &[u8], out: &mut String) -> CaseResult {
         let mut sink = Sink::unlimited(alloc);
         let listed = self.list(alloc, Cursor::new(bytes), &mut sink);
         push_lines(out, &sink.written, &listed)?;
@@ -83,22 +84,22 @@ impl Listing {
 // The listing of a case.
 #[derive(Clone, Copy)]
 struct ListingCall<'a> {
-    run: Run<'a>,
+    call: Call<'a>,
     listing: Listing,
     // The listing into a writer without a limit.
     complete: &'a str,
 }
 
 impl SourceCall for ListingCall<'_> {
-    fn push<C: PlacedSource + Drop>(&self, source: C, out: &mut String) -> Pushed {
-        let mut sink = Sink::of_case(self.run)?;
-        let listed = self.listing.list(self.run.alloc, source, &mut sink);
+    fn push<C: PlacedSource + Drop>(&self, source: C, out: &mut String) -> CaseResult {
+        let mut sink = Sink::of_case(&self.call)?;
+        let listed = self.listing.list(self.call.alloc, source, &mut sink);
         push_lines(out, &sink.written, &listed)?;
         if !self.complete.as_bytes().starts_with(&sink.written) {
             out.push_str("another text\n")?;
         }
         push_end(out, &listed)?;
-        if self.run.case.has("live") {
+        if self.call.case.has("live") {
             out.push_str("flushed at ")?;
             push_line(out, &sink.flushed_at)?;
         }
@@ -106,14 +107,15 @@ impl SourceCall for ListingCall<'_> {
     }
 }
 
-/// Lists an input, and prints the complete lines. With the option `live` prints the number of bytes written before each flush.
-pub fn push_listing(run: Run<'_>, listing: Listing, out: &mut String) -> Pushed {
-    let mut complete = String::new(run.alloc);
-    listing.push(run.alloc, run.input.bytes, &mut complete)?;
-    let call = ListingCall {
-        run,
+/// Lists an input, and prints the complete lines. With the option `live` prints the number of bytes written
+/// before each flush.
+pub fn push_listing(call: &Call<'_>, listing: Listing, out: &mut String) -> CaseResult {
+    let mut complete = String::new(call.alloc);
+    listing.push(call.alloc, call.input.bytes, &mut complete)?;
+    let reading = ListingCall {
+        call: *call,
         listing,
         complete: &complete,
     };
-    run.push_for_sources(&call, out)
+    push_for_sources(call, &reading, out)
 }

@@ -1,4 +1,5 @@
-//! Runs the cases of `data/`: calls of the reader, of listings and of the accessors of metadata, and what they return.
+//! Runs the cases of `data/`: calls of the reader, of listings and of the accessors of metadata, and what
+//! they return.
 #![tactic(auto)]
 
 mod examples;
@@ -12,67 +13,43 @@ mod sink;
 mod slices;
 mod sources;
 
-use conformance_cases::{Calls, Case, CaseError, Input, push_line, run};
+use conformance_cases::{Call, CaseResult, Calls, push_line, run};
 use listing::{Listing, push_listing};
 use reading::{Format, push_reading};
-use sources::{Pushed, Run};
-use std::alloc::Global;
 use std::process::ExitCode;
 
 /// The calls of this program.
 #[derive(Clone, Copy)]
 struct ReaderCalls;
 
-// Makes a call of a listing, or one that writes lines. Returns whether there is such a call.
-fn push_written(run: Run<'_>, out: &mut String) -> Result<bool, CaseError> {
-    let pushed = match (run.case.call, run.case.has("live")) {
-        ("list-file", _) => push_listing(run, Listing::File, out),
-        ("list-pipe", false) => push_listing(run, Listing::Pipe, out),
-        ("list-pipe", true) => push_listing(run, Listing::LivePipe, out),
-        ("list-jit", false) => push_listing(run, Listing::Jit, out),
-        ("list-jit", true) => push_listing(run, Listing::LiveJit, out),
-        ("record-line" | "jit-line" | "error-line", _) => output::push_numbers(run.case, out),
-        ("write-line", _) => output::push_write(run, out),
-        ("flush", _) => output::push_flush(run, out),
-        ("finish", _) => output::push_finish(run, out),
-        _ => return Ok(false),
-    };
-    pushed?;
-    Ok(true)
-}
-
-// Makes the call of a case.
-fn push_call(run: Run<'_>, out: &mut String) -> Pushed {
-    if push_written(run, out)? {
-        return Ok(());
-    }
-    match run.case.call {
-        "read-file" => push_reading(run, Format::File, out),
-        "read-pipe" => push_reading(run, Format::Pipe, out),
-        "metadata" => metadata::push_metadata(run, out),
-        "bytes-left" => slices::push_bytes_left(run, out),
-        "entries" | "two-bodies" => slices::push_in_memory(run, out),
-        "count-file" => slices::push_count(run, Format::File, out),
-        "count-pipe" => slices::push_count(run, Format::Pipe, out),
-        "zeros-file" => slices::push_zeros(run, Format::File, out),
-        "zeros-pipe" => slices::push_zeros(run, Format::Pipe, out),
-        "random-files" => random::push_random(run, Format::File, out),
-        "random-pipes" => random::push_random(run, Format::Pipe, out),
-        "code-size" => examples::push_code_size(run, out),
-        "size" => push_line(out, &run.input.bytes.len()),
-        _ => Err(CaseError::Invalid("an unknown call")),
-    }
-}
-
 impl Calls for ReaderCalls {
-    fn call(
-        &self,
-        alloc: Global,
-        case: &Case<'_>,
-        input: &Input<'_>,
-        out: &mut String,
-    ) -> Result<(), CaseError> {
-        push_call(Run { alloc, case, input }, out)
+    fn call(&self, call: &Call<'_>, out: &mut String) -> CaseResult<bool> {
+        match (call.case.call, call.case.has("live")) {
+            ("list-file", _) => push_listing(call, Listing::File, out)?,
+            ("list-pipe", false) => push_listing(call, Listing::Pipe, out)?,
+            ("list-pipe", true) => push_listing(call, Listing::LivePipe, out)?,
+            ("list-jit", false) => push_listing(call, Listing::Jit, out)?,
+            ("list-jit", true) => push_listing(call, Listing::LiveJit, out)?,
+            ("record-line" | "jit-line" | "error-line", _) => output::push_numbers(call.case, out)?,
+            ("write-line", _) => output::push_write(call, out)?,
+            ("flush", _) => output::push_flush(call, out)?,
+            ("finish", _) => output::push_finish(call, out)?,
+            ("read-file", _) => push_reading(call, Format::File, out)?,
+            ("read-pipe", _) => push_reading(call, Format::Pipe, out)?,
+            ("metadata", _) => metadata::push_metadata(call, out)?,
+            ("bytes-left", _) => slices::push_bytes_left(call, out)?,
+            ("entries" | "two-bodies", _) => slices::push_in_memory(call, out)?,
+            ("count-file", _) => slices::push_count(call, Format::File, out)?,
+            ("count-pipe", _) => slices::push_count(call, Format::Pipe, out)?,
+            ("zeros-file", _) => slices::push_zeros(call, Format::File, out)?,
+            ("zeros-pipe", _) => slices::push_zeros(call, Format::Pipe, out)?,
+            ("random-files", _) => random::push_random(call, Format::File, out)?,
+            ("random-pipes", _) => random::push_random(call, Format::Pipe, out)?,
+            ("code-size", _) => examples::push_code_size(call, out)?,
+            ("size", _) => push_line(out, &call.input.bytes.len())?,
+            _ => return Ok(false),
+        }
+        Ok(true)
     }
 }
 

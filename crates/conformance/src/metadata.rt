@@ -1,7 +1,6 @@
 //! The accessors of the metadata of files and pipes.
 use crate::reading::{format_of, open_metadata};
-use crate::sources::{Pushed, Run};
-use conformance_cases::{CaseError, push_line, push_result};
+use conformance_cases::{Call, CaseError, CaseResult, push_line, push_result};
 use linux_perf_data::{AttributeDescription, Error, Feature, PerfFile};
 use std::alloc::Global;
 use std::fmt::Write;
@@ -84,7 +83,7 @@ fn symbol_lines(alloc: Global, file: &PerfFile) -> Result<Option<String>, Error>
 }
 
 /// Appends the sample format, flags, name and ids of each attribute.
-pub fn push_attributes(attributes: &[AttributeDescription], out: &mut String) -> Pushed {
+pub fn push_attributes(attributes: &[AttributeDescription], out: &mut String) -> CaseResult {
     for attribute in attributes {
         let attr = attribute.attributes();
         let (format, flags) = (attr.sample_format.0, attr.flags.0);
@@ -95,7 +94,7 @@ pub fn push_attributes(attributes: &[AttributeDescription], out: &mut String) ->
 }
 
 // Appends the names of the attributes, `-` for one without a name.
-fn push_names(attributes: &[AttributeDescription], out: &mut String) -> Pushed {
+fn push_names(attributes: &[AttributeDescription], out: &mut String) -> CaseResult {
     for (index, attribute) in attributes.iter().enumerate() {
         out.push_str(if index == 0 { "" } else { " " })?;
         out.push_str(attribute.name().unwrap_or("-"))?;
@@ -104,7 +103,7 @@ fn push_names(attributes: &[AttributeDescription], out: &mut String) -> Pushed {
 }
 
 // Appends the numbers of attributes and of their ids.
-fn push_id_count(attributes: &[AttributeDescription], out: &mut String) -> Pushed {
+fn push_id_count(attributes: &[AttributeDescription], out: &mut String) -> CaseResult {
     let mut count = 0usize;
     for attribute in attributes {
         count = count.saturating_add(attribute.ids().len());
@@ -113,30 +112,30 @@ fn push_id_count(attributes: &[AttributeDescription], out: &mut String) -> Pushe
 }
 
 // Appends the data of the feature that the option `feature` names, or their size with the option `count`.
-fn push_section(run: Run<'_>, file: &PerfFile, out: &mut String) -> Pushed {
-    let number = run.case.number("feature")?.unwrap_or(0);
+fn push_section(call: &Call<'_>, file: &PerfFile, out: &mut String) -> CaseResult {
+    let number = call.case.number("feature")?.unwrap_or(0);
     let feature = Feature(u32::try_from(number).unwrap_or(u32::MAX));
     match file.feature_section_data(feature) {
-        Some(bytes) if run.case.has("count") => push_line(out, &bytes.len()),
+        Some(bytes) if call.case.has("count") => push_line(out, &bytes.len()),
         data => push_line(out, &data),
     }
 }
 
 // Appends the lines of an accessor, or their number with the option `count`.
-fn push_lines(run: Run<'_>, file: &PerfFile, name: &str, out: &mut String) -> Pushed {
+fn push_lines(call: &Call<'_>, file: &PerfFile, name: &str, out: &mut String) -> CaseResult {
     let lines = match name {
-        "pmu_mappings" => pmu_lines(run.alloc, file),
-        "build_ids" => build_id_lines(run.alloc, file),
-        "simpleperf_meta_info" => meta_info_lines(run.alloc, file),
-        "simpleperf_symbol_tables" => symbol_lines(run.alloc, file),
+        "pmu_mappings" => pmu_lines(call.alloc, file),
+        "build_ids" => build_id_lines(call.alloc, file),
+        "simpleperf_meta_info" => meta_info_lines(call.alloc, file),
+        "simpleperf_symbol_tables" => symbol_lines(call.alloc, file),
         "event_attributes" => return push_attributes(file.event_attributes(), out),
         "names" => return push_names(file.event_attributes(), out),
         "id_count" => return push_id_count(file.event_attributes(), out),
-        "feature_section_data" => return push_section(run, file, out),
+        "feature_section_data" => return push_section(call, file, out),
         _ => return Err(CaseError::Invalid("an unknown accessor")),
     };
     match lines {
-        Ok(Some(lines)) if run.case.has("count") => push_line(out, &lines.lines().count()),
+        Ok(Some(lines)) if call.case.has("count") => push_line(out, &lines.lines().count()),
         Ok(Some(lines)) => Ok(out.push_str(&lines)?),
         Ok(None) => Ok(out.push_str("None\n")?),
         Err(error) => push_result(out, &Err::<(), Error>(error)),
@@ -144,20 +143,21 @@ fn push_lines(run: Run<'_>, file: &PerfFile, name: &str, out: &mut String) -> Pu
 }
 
 /// Appends the values of the accessors that the option `of` names, in lines.
-pub fn push_accessors(run: Run<'_>, file: &PerfFile, out: &mut String) -> Pushed {
-    for name in run.case.option("of").unwrap_or("").split(',') {
-        if !push_value(run.alloc, file, name, out)? {
-            push_lines(run, file, name, out)?;
+pub fn push_accessors(call: &Call<'_>, file: &PerfFile, out: &mut String) -> CaseResult {
+    for name in call.case.option("of").unwrap_or("").split(',') {
+        if !push_value(call.alloc, file, name, out)? {
+            push_lines(call, file, name, out)?;
         }
     }
     Ok(())
 }
 
-/// Prints the values of the accessors of the metadata of a file or, with the option `format=pipe`, a pipe: `of=NAME,NAME`.
-pub fn push_metadata(run: Run<'_>, out: &mut String) -> Pushed {
-    let format = format_of(run.case.option("format").unwrap_or(""));
-    match open_metadata(run.alloc, format, run.input.bytes) {
-        Ok(file) => push_accessors(run, &file, out),
+/// Prints the values of the accessors of the metadata of a file or, with the option `format=pipe`, a pipe:
+/// `of=NAME,NAME`.
+pub fn push_metadata(call: &Call<'_>, out: &mut String) -> CaseResult {
+    let format = format_of(call.case.option("format").unwrap_or(""));
+    match open_metadata(call.alloc, format, call.input.bytes) {
+        Ok(file) => push_accessors(call, &file, out),
         Err(error) => push_result(out, &Err::<(), Error>(error)),
     }
 }

@@ -1,7 +1,6 @@
 //! The calls that write lines: their text, the buffer of lines, and the end of a program.
 use crate::sink::Sink;
-use crate::sources::{Pushed, Run};
-use conformance_cases::{Case, CaseError, push_io_result, push_line};
+use conformance_cases::{Call, Case, CaseError, CaseResult, push_io_result, push_line};
 use linux_perf_data::Error;
 use perfdata_listing::line::{Line, RecordFields};
 use perfdata_listing::list::{ListCause, ListFault, flush_listing, list_file};
@@ -34,8 +33,9 @@ fn set_jit_record(case: &Case<'_>, line: &mut Line) {
     line.set_jit_record(offset, time, record_type, word(case, 3).unwrap_or(0));
 }
 
-/// Prints the line of the numbers that are the options: those of a record, of a jitdump record, or of an error.
-pub fn push_numbers(case: &Case<'_>, out: &mut String) -> Pushed {
+/// Prints the line of the numbers that are the options: those of a record, of a jitdump record, or of an
+/// error.
+pub fn push_numbers(case: &Case<'_>, out: &mut String) -> CaseResult {
     let mut line = Line::for_error(word(case, 0).unwrap_or(0));
     match case.call {
         "record-line" => set_record(case, &mut line),
@@ -52,23 +52,23 @@ fn listed_count(alloc: Global, bytes: &[u8]) -> Result<Result<u64, u64>, AllocEr
     Ok(flush_listing(listed, &mut buffer))
 }
 
-/// Prints the exit status after a listing, and what is written to standard error. The listing has `records=N` records, or fails
-/// after `fault=N`, or is that of the input.
-pub fn push_finish(run: Run<'_>, out: &mut String) -> Pushed {
-    let listed = match (run.case.number("records")?, run.case.number("fault")?) {
+/// Prints the exit status after a listing, and what is written to standard error. The listing has `records=N`
+/// records, or fails after `fault=N`, or is that of the input.
+pub fn push_finish(call: &Call<'_>, out: &mut String) -> CaseResult {
+    let listed = match (call.case.number("records")?, call.case.number("fault")?) {
         (Some(records), _) => Ok(records),
         (None, Some(records)) => Err(records),
-        (None, None) => listed_count(run.alloc, run.input.bytes)?,
+        (None, None) => listed_count(call.alloc, call.input.bytes)?,
     };
-    let mut sink = Sink::of_case(run)?;
+    let mut sink = Sink::of_case(call)?;
     push_io_result(out, &finish(listed, &mut sink))?;
     sink.push_text(out)
 }
 
 /// Writes a line, and prints the result and the written text.
-pub fn push_write(run: Run<'_>, out: &mut String) -> Pushed {
-    let mut sink = Sink::of_case(run)?;
-    push_io_result(out, &write_line(&mut sink, run.input.bytes))?;
+pub fn push_write(call: &Call<'_>, out: &mut String) -> CaseResult {
+    let mut sink = Sink::of_case(call)?;
+    push_io_result(out, &write_line(&mut sink, call.input.bytes))?;
     sink.push_text(out)?;
     sink.push_counts(out)
 }
@@ -106,7 +106,7 @@ fn push_flushes<W: Write>(
     buffer: &mut CountingBufWriter<W>,
     lines: u64,
     out: &mut String,
-) -> Pushed {
+) -> CaseResult {
     let Some(names) = case.option("listed") else {
         return push_io_result(out, &buffer.flush());
     };
@@ -116,15 +116,16 @@ fn push_flushes<W: Write>(
     Ok(())
 }
 
-/// Writes the input `lines=N` times into a buffer of lines, and flushes it; with `listed=NAMES` as the end of listings that return
-/// `ok`, or fail with `perf` or `write`. Prints the number of lines that reach the writer before and after that.
-pub fn push_flush(run: Run<'_>, out: &mut String) -> Pushed {
-    let lines = run.case.number("lines")?.unwrap_or(1);
-    let mut sink = Sink::of_case(run)?;
-    let mut buffer = CountingBufWriter::new(run.alloc, &mut sink)?;
-    if write_lines(&mut buffer, run.input.bytes, lines, out)? {
+/// Writes the input `lines=N` times into a buffer of lines, and flushes it; with `listed=NAMES` as the end of
+/// listings that return `ok`, or fail with `perf` or `write`. Prints the number of lines that reach the
+/// writer before and after that.
+pub fn push_flush(call: &Call<'_>, out: &mut String) -> CaseResult {
+    let lines = call.case.number("lines")?.unwrap_or(1);
+    let mut sink = Sink::of_case(call)?;
+    let mut buffer = CountingBufWriter::new(call.alloc, &mut sink)?;
+    if write_lines(&mut buffer, call.input.bytes, lines, out)? {
         push_line(out, &buffer.lines_written())?;
-        push_flushes(run.case, &mut buffer, lines, out)?;
+        push_flushes(call.case, &mut buffer, lines, out)?;
     }
     push_line(out, &buffer.lines_written())?;
     drop(buffer);

@@ -2,10 +2,8 @@
 use crate::listing::Listing;
 use crate::metadata::push_attributes;
 use crate::reading::{Format, metadata_at_end};
-use crate::reference::pipe::Pipe;
-use crate::reference::{Stop, push_file};
-use crate::sources::{Pushed, Run};
-use conformance_cases::{CaseError, Input, bytes_of};
+use crate::reference::Metadata;
+use conformance_cases::{Call, CaseResult, Input, bytes_of, push_line};
 use linux_perf_data::{Endianness, Feature};
 use std::alloc::{AllocError, Global};
 use std::fmt::Write;
@@ -13,6 +11,12 @@ use std::fmt::Write;
 const FORMATS: [u64; 7] = [4, 0x10004, 0x10007, 0x44, 0x46, 0x1024c, 0];
 
 const FLAGS: [u64; 2] = [0, 0x40000];
+
+// A pseudo-random number is the upper half of the state.
+const UPPER_HALF: u64 = 1 << 32;
+
+// The features whose data are compared.
+const FEATURE_NUMBERS: [u32; 4] = [3, 12, 255, 256];
 
 // Writes the text of a random input.
 #[derive(Drop)]
@@ -25,11 +29,11 @@ struct Generator {
 }
 
 impl Generator {
-    // A pseudo-random number below a limit, the same in each run.
+    // A pseudo-random number below a limit, the same in each call.
     fn below(&mut self, limit: u64) -> u64 {
         let product = self.state.wrapping_mul(6364136223846793005);
         self.state = product.wrapping_add(1442695040888963407);
-        (self.state / (1 << 32)).checked_rem(limit).unwrap_or(0)
+        (self.state / UPPER_HALF).checked_rem(limit).unwrap_or(0)
     }
 
     // One of these numbers.
@@ -63,36 +67,22 @@ impl Generator {
 
     // What a character of a part stands for.
     fn character(&mut self, character: char) -> Result<(), AllocError> {
-        match character {
-            '@' => self.attribute(),
-            '*' => self.numbers(),
-            '#' => {
-                let id = self.pick(&[0, 1, 2, 65, 66]);
-                write!(self.text, "u64({id}) ")
-            }
-            '!' => {
-                let byte = self.pick(&[97, 98, 99, 0, 255]);
-                write!(self.text, "u8({byte}) ")
-            }
+        let (kind, number) = match character {
+            '@' => return self.attribute(),
+            '*' => return self.numbers(),
             '?' => {
                 let number = self.below(3);
-                write!(self.text, "{number}")
+                return write!(self.text, "{number}");
             }
-            _ => Ok(self.text.push(character)?),
-        }
+            '#' => ("u64", self.pick(&[0, 1, 2, 65, 66])),
+            '!' => ("u8", self.pick(&[97, 98, 99, 0, 255])),
+            _ => return Ok(self.text.push(character)?),
+        };
+        write!(self.text, "{kind}({number}) ")
     }
 
-    // One of these entries of EVENT_DESC.
-    fn entry(&mut self, entries: &[&str]) -> Result<(), AllocError> {
-        let index = self.below(entries.len() as u64) as usize;
-        for character in entries.get(index).unwrap_or(&"").chars() {
-            self.character(character)?;
-        }
-        Ok(self.text.push(' ')?)
-    }
-
-    // One of these parts.
-    fn part(&mut self, parts: &[&str], entries: &[&str]) -> Result<(), AllocError> {
+    // One of these parts. An entry of EVENT_DESC stands for `$`.
+    fn part(&mut self, parts: &[&str], entries: &[&str]) -> CaseResult {
         let index = self.below(parts.len() as u64) as usize;
         for character in parts.get(index).unwrap_or(&"").chars() {
             match character {
@@ -103,8 +93,17 @@ impl Generator {
         Ok(self.text.push(' ')?)
     }
 
+    // One of these entries of EVENT_DESC.
+    fn entry(&mut self, entries: &[&str]) -> CaseResult {
+        let index = self.below(entries.len() as u64) as usize;
+        for character in entries.get(index).unwrap_or(&"").chars() {
+            self.character(character)?;
+        }
+        Ok(self.text.push(' ')?)
+    }
+
     // Fewer parts than this limit. They end with semicolons, as do the entries.
-    fn parts(&mut self, limit: u64, parts: &[u8], entries: &[u8]) -> Result<(), CaseError> {
+    fn parts(&mut self, limit: u64, parts: &[u8], entries: &[u8]) -> CaseResult {
         let alloc = *self.text.allocator();
         let parts: Vec<&str> = text_of(parts).split_terminator(';').collect(alloc)?;
         let entries: Vec<&str> = text_of(entries).split_terminator(';').collect(alloc)?;
@@ -125,7 +124,7 @@ impl Generator {
     }
 
     // A file of four ids, some records, and up to three event types.
-    fn file(&mut self, input: &Input<'_>) -> Result<(), CaseError> {
+    fn file(&mut self, input: &Input<'_>) -> CaseResult {
         self.parts(8, input.bytes, &[])?;
         let records = self.text.clone()?;
         let count = self.below(3).saturating_add(1);
@@ -141,20 +140,20 @@ impl Generator {
     }
 
     // The bytes of the next input. Some pipes are big-endian, and some are truncated.
-    fn bytes(&mut self, run: Run<'_>, format: Format) -> Result<Vec<u8>, CaseError> {
+    fn bytes(&mut self, call: &Call<'_>, format: Format) -> CaseResult<Vec<u8>> {
         self.format = self.pick(&FORMATS);
         self.flags = self.pick(&FLAGS);
         self.text.clear();
         if format == Format::File {
-            self.file(run.input)?;
-            return bytes_of(run.alloc, &self.text, Endianness::LittleEndian);
+            self.file(&call.input)?;
+            return bytes_of(call.alloc, &self.text, Endianness::LittleEndian);
         }
         self.text.push_str("magic() u64(16) ")?;
-        self.parts(3, run.input.bytes, &[])?;
-        self.parts(12, run.input.argument(1), run.input.argument(2))?;
+        self.parts(3, call.input.bytes, &[])?;
+        self.parts(12, call.input.argument(1), call.input.argument(2))?;
         let mut bytes = match self.below(4) {
-            0 => bytes_of(run.alloc, &self.text, Endianness::BigEndian)?,
-            _ => bytes_of(run.alloc, &self.text, Endianness::LittleEndian)?,
+            0 => bytes_of(call.alloc, &self.text, Endianness::BigEndian)?,
+            _ => bytes_of(call.alloc, &self.text, Endianness::LittleEndian)?,
         };
         if self.below(3) == 0 {
             bytes.truncate(self.below(bytes.len() as u64) as usize);
@@ -169,40 +168,38 @@ fn text_of(bytes: &[u8]) -> &str {
 }
 
 // Appends the data of a feature, and whether the set of features has it.
-fn push_feature(data: Option<&[u8]>, has_feature: bool, out: &mut String) -> Pushed {
+fn push_feature(data: Option<&[u8]>, has_feature: bool, out: &mut String) -> CaseResult {
     Ok(write!(out, "{data:?} {has_feature}\n")?)
 }
 
-// Appends the attributes and some features of a pipe that the reference reader opens.
-fn push_reference_metadata(pipe: &Pipe<'_>, out: &mut String) -> Pushed {
-    for event in pipe.events.iter() {
+// The listing by the reference reader, and the metadata of a pipe at its end.
+fn reference_text(alloc: Global, format: Format, bytes: &[u8]) -> CaseResult<String> {
+    let mut out = String::new(alloc);
+    let mut metadata = Metadata::new(alloc);
+    let listed = match format {
+        Format::File => metadata.push_file(alloc, bytes, &mut out),
+        Format::Pipe => metadata.push_pipe(alloc, bytes, &mut out),
+    };
+    match listed {
+        Ok(()) => out.push_str("end\n")?,
+        Err(error) => push_line(&mut out, &error)?,
+    }
+    if format == Format::File || metadata.events.is_empty() {
+        return Ok(out);
+    }
+    for event in metadata.events.iter() {
         let (format, flags, name) = (event.sample_format, event.flags, event.name.as_deref());
         write!(out, "{format:#x} {flags:#x} {name:?} {:?}\n", event.ids)?;
     }
-    for number in [3, 12, 255, 256] {
-        let data = pipe.data(number).map(|data| data.bytes);
-        push_feature(data, data.is_some() && number < 256, out)?;
-    }
-    Ok(())
-}
-
-// The listing by the reference reader, and the metadata of a pipe at its end.
-fn reference_text(alloc: Global, format: Format, bytes: &[u8]) -> Result<String, CaseError> {
-    let mut out = String::new(alloc);
-    let mut pipe = Pipe::new(alloc);
-    let listed = match format {
-        Format::File => push_file(alloc, bytes, &mut out),
-        Format::Pipe => pipe.push_lines(alloc, bytes, &mut out),
-    };
-    listed.err().unwrap_or(Stop::Named("end")).push(&mut out)?;
-    if !pipe.events.is_empty() {
-        push_reference_metadata(&pipe, &mut out)?;
+    for number in FEATURE_NUMBERS {
+        let data = metadata.data(u64::from(number)).map(|data| data.bytes);
+        push_feature(data, data.is_some() && number < 256, &mut out)?;
     }
     Ok(out)
 }
 
 // The same by the library.
-fn library_text(alloc: Global, format: Format, bytes: &[u8]) -> Result<String, CaseError> {
+fn library_text(alloc: Global, format: Format, bytes: &[u8]) -> CaseResult<String> {
     let mut out = String::new(alloc);
     if format == Format::File {
         Listing::File.push(alloc, bytes, &mut out)?;
@@ -211,7 +208,7 @@ fn library_text(alloc: Global, format: Format, bytes: &[u8]) -> Result<String, C
     Listing::Pipe.push(alloc, bytes, &mut out)?;
     if let Ok(file) = metadata_at_end(alloc, bytes) {
         push_attributes(file.event_attributes(), &mut out)?;
-        for number in [3, 12, 255, 256] {
+        for number in FEATURE_NUMBERS {
             let feature = Feature(number);
             let has_feature = file.features().has_feature(feature);
             push_feature(file.feature_section_data(feature), has_feature, &mut out)?;
@@ -220,24 +217,26 @@ fn library_text(alloc: Global, format: Format, bytes: &[u8]) -> Result<String, C
     Ok(out)
 }
 
-/// Compares the results for random inputs: `seed=N count=N`. Prints the number of inputs, and those with differing results.
+/// Compares the results for random inputs: `seed=N count=N`. Prints the number of inputs, and those with
+/// differing results.
 ///
-/// The input are parts, each with a semicolon at its end: those of a file's records; or those of a pipe's attributes, of its records,
-/// and of entries of EVENT_DESC. In a part `@` stands for an attribute, `#` for an identifier, `?` for a number below 3, `!` for a byte
-/// of a name, `*` for up to six numbers, and `$` for an entry of EVENT_DESC.
-pub fn push_random(run: Run<'_>, format: Format, out: &mut String) -> Pushed {
+/// The input are parts, each with a semicolon at its end: those of a file's records; or those of a pipe's
+/// attributes, of its records, and of entries of EVENT_DESC. In a part `@` stands for an attribute, `#` for
+/// an identifier, `?` for a number below 3, `!` for a byte of a name, `*` for up to six numbers, and `$` for
+/// an entry of EVENT_DESC.
+pub fn push_random(call: &Call<'_>, format: Format, out: &mut String) -> CaseResult {
     let mut generator = Generator {
-        state: run.case.number("seed")?.unwrap_or(0),
+        state: call.case.number("seed")?.unwrap_or(0),
         format: 0,
         flags: 0,
-        text: String::new(run.alloc),
+        text: String::new(call.alloc),
     };
-    let count = run.case.number("count")?.unwrap_or(0);
+    let count = call.case.number("count")?.unwrap_or(0);
     let mut opened = 0u64;
     for _ in 0..count {
-        let bytes = generator.bytes(run, format)?;
-        let wanted = reference_text(run.alloc, format, &bytes)?;
-        let result = library_text(run.alloc, format, &bytes)?;
+        let bytes = generator.bytes(call, format)?;
+        let wanted = reference_text(call.alloc, format, &bytes)?;
+        let result = library_text(call.alloc, format, &bytes)?;
         if result != wanted {
             let text = generator.text.as_str();
             write!(

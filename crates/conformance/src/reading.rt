@@ -1,7 +1,7 @@
 //! The calls that read the records of files and pipes one by one.
 use crate::metadata::push_accessors;
-use crate::sources::{Pushed, Run, SourceCall, push_other};
-use conformance_cases::{CaseError, push_error};
+use crate::sources::{SourceCall, is_plain, push_for_sources, push_other};
+use conformance_cases::{Call, CaseError, CaseResult, push_error};
 use linux_perf_data::in_memory::{InMemoryReader, InMemoryRecords};
 use linux_perf_data::raw::RawData;
 use linux_perf_data::source::{PlacedSource, Source};
@@ -83,14 +83,14 @@ pub fn open_metadata(alloc: Global, format: Format, bytes: &[u8]) -> Result<Box<
 // The reading of a case.
 #[derive(Clone, Copy)]
 struct Reading<'a> {
-    run: Run<'a>,
+    call: Call<'a>,
     format: Format,
     // The offset of the first record.
     first_offset: u64,
 }
 
 // Appends a number, or `-` if it is missing.
-fn push_number(out: &mut String, number: Option<u64>) -> Pushed {
+fn push_number(out: &mut String, number: Option<u64>) -> CaseResult {
     match number {
         Some(number) => write!(out, "{number} ")?,
         None => out.push_str("- ")?,
@@ -99,7 +99,7 @@ fn push_number(out: &mut String, number: Option<u64>) -> Pushed {
 }
 
 // Appends an error in a line that begins with the name of the call.
-fn push_failure(out: &mut String, call: &str, error: &Error) -> Pushed {
+fn push_failure(out: &mut String, call: &str, error: &Error) -> CaseResult {
     out.push_str(call)?;
     push_error(out, error)
 }
@@ -109,7 +109,7 @@ impl Reading<'_> {
     fn body(&self, offset: u64, size: usize) -> &[u8] {
         let start = self.first_offset.saturating_add(offset).saturating_add(8);
         let start = usize::try_from(start).unwrap_or(usize::MAX);
-        let bytes = self.run.input.bytes;
+        let bytes = self.call.input.bytes;
         match bytes.get(start..start.saturating_add(size)) {
             Some(body) => body,
             None => &[],
@@ -122,7 +122,7 @@ impl Reading<'_> {
         place: RecordPlace,
         record: &PerfFileRecord<'_>,
         out: &mut String,
-    ) -> Pushed {
+    ) -> CaseResult {
         write!(out, "{} {} ", place.offset, place.round)?;
         push_number(out, place.timestamp)?;
         push_number(out, record.attr_index().map(|index| index as u64))?;
@@ -136,7 +136,7 @@ impl Reading<'_> {
     }
 
     // Appends the result of a call.
-    fn push_next(&self, next: &Next<'_>, out: &mut String) -> Pushed {
+    fn push_next(&self, next: &Next<'_>, out: &mut String) -> CaseResult {
         match next {
             Ok(Some((place, record))) => self.push_record(*place, record, out),
             Ok(None) => Ok(out.push_str("end")?),
@@ -145,18 +145,18 @@ impl Reading<'_> {
     }
 
     // Appends the values of the accessors that the option `of` names, and ends the line.
-    fn push_values(&self, file: &PerfFile, out: &mut String) -> Pushed {
-        match self.run.case.option("of") {
+    fn push_values(&self, file: &PerfFile, out: &mut String) -> CaseResult {
+        match self.call.case.option("of") {
             Some(_) => {
                 out.push_str(" ")?;
-                push_accessors(self.run, file, out)
+                push_accessors(&self.call, file, out)
             }
             None => Ok(out.push_str("\n")?),
         }
     }
 
     // Appends the result of a call after the end or the first error, if it isn't `Ok(None)` or `Failed`.
-    fn push_later(&self, next: &Next<'_>, is_end: bool, out: &mut String) -> Pushed {
+    fn push_later(&self, next: &Next<'_>, is_end: bool, out: &mut String) -> CaseResult {
         match next {
             Ok(None) if is_end => Ok(()),
             Err(Error::Failed) if !is_end => Ok(()),
@@ -173,7 +173,7 @@ impl Reading<'_> {
         records: &mut I,
         file: &mut PerfFile,
         out: &mut String,
-    ) -> Pushed {
+    ) -> CaseResult {
         let mut is_end = false;
         for _ in 0..MAX_RECORDS {
             let next = records.next(file);
@@ -195,23 +195,23 @@ impl Reading<'_> {
         records: &mut I,
         file: &mut PerfFile,
         out: &mut String,
-    ) -> Pushed {
-        if self.run.case.option("of").is_some() {
+    ) -> CaseResult {
+        if self.call.case.option("of").is_some() {
             out.push_str("open:")?;
             self.push_values(file, out)?;
         }
-        let Some(format) = self.run.case.option("other").map(format_of) else {
+        let Some(format) = self.call.case.option("other").map(format_of) else {
             return self.push_records(records, file, out);
         };
-        match open_metadata(self.run.alloc, format, self.run.input.argument(1)) {
+        match open_metadata(self.call.alloc, format, self.call.input.argument(1)) {
             Ok(mut other) => self.push_records(records, &mut other, out),
             Err(error) => push_failure(out, "other: ", &error),
         }
     }
 
     // Appends the results in memory.
-    fn push_in_memory(&self, out: &mut String) -> Pushed {
-        match open_in_memory(self.run.alloc, self.format, self.run.input.bytes) {
+    fn push_in_memory(&self, out: &mut String) -> CaseResult {
+        match open_in_memory(self.call.alloc, self.format, self.call.input.bytes) {
             Ok(reader) => {
                 let mut file = reader.perf_file;
                 let mut records = reader.records;
@@ -226,8 +226,8 @@ impl Reading<'_> {
 }
 
 impl SourceCall for Reading<'_> {
-    fn push<C: PlacedSource + Drop>(&self, source: C, out: &mut String) -> Pushed {
-        match open(self.run.alloc, self.format, source) {
+    fn push<C: PlacedSource + Drop>(&self, source: C, out: &mut String) -> CaseResult {
+        match open(self.call.alloc, self.format, source) {
             Ok(reader) => {
                 let mut file = reader.perf_file;
                 let mut records = reader.record_iter;
@@ -241,27 +241,27 @@ impl SourceCall for Reading<'_> {
     }
 }
 
-/// Reads the records of an input, one line a record. The line of an error begins with `open:` if the opening returns it, else with
-/// `next:`. The results in memory are appended if they differ.
+/// Reads the records of an input, one line a record. The line of an error begins with `open:` if the opening
+/// returns it, else with `next:`. The results in memory are appended if they differ.
 ///
-/// With the option `of=NAMES` each line ends with the values of these accessors after its call. With `other=file` or `other=pipe`
-/// the calls get the `PerfFile` of the second input.
-pub fn push_reading(run: Run<'_>, format: Format, out: &mut String) -> Pushed {
-    let first_offset = match open_in_memory(run.alloc, format, run.input.bytes) {
+/// With the option `of=NAMES` each line ends with the values of these accessors after its call. With
+/// `other=file` or `other=pipe` the calls get the `PerfFile` of the second input.
+pub fn push_reading(call: &Call<'_>, format: Format, out: &mut String) -> CaseResult {
+    let first_offset = match open_in_memory(call.alloc, format, call.input.bytes) {
         Ok(reader) => reader.records.first_record_offset(),
         Err(Error::Memory) => return Err(CaseError::OutOfMemory),
         Err(_) => 0,
     };
     let reading = Reading {
-        run,
+        call: *call,
         format,
         first_offset,
     };
-    let mut text = String::new(run.alloc);
-    run.push_for_sources(&reading, &mut text)?;
+    let mut text = String::new(call.alloc);
+    push_for_sources(call, &reading, &mut text)?;
     out.push_str(&text)?;
-    if run.is_plain() {
-        let mut in_memory = String::new(run.alloc);
+    if is_plain(call) {
+        let mut in_memory = String::new(call.alloc);
         reading.push_in_memory(&mut in_memory)?;
         push_other(out, &text, "in memory", &in_memory)?;
     }

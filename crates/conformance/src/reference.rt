@@ -1,42 +1,30 @@
-//! A second reader of files and pipes, for random inputs. It shares nothing with the library: it computes a listing from the
-//! definitions of the formats, in a simple and slow way.
+//! A second reader of files and pipes, for random inputs. It shares nothing with the library: it computes a
+//! listing from the definitions of the formats, in a simple and slow way.
 pub mod events;
-pub mod pipe;
 
-use conformance_cases::CaseError;
-use events::{Event, attribute_index, check_consistency, event_of, field};
+use events::{Event, attribute_index, check_consistency, event_desc, event_of, field, own_size};
 use std::alloc::{AllocError, AllocFailed, Global};
 use std::fmt::Write;
+use std::io::ErrorKind;
 
-/// Why a listing ends before its input.
-#[derive(Clone, Copy)]
-pub enum Stop {
-    OutOfMemory,
-    /// An error with this name.
-    Named(&'static str),
-    NoIdentifier(usize),
-    SampleIdAll(usize),
-    AttributeSizes(u64, u64),
+/// What an error says is truncated.
+#[derive(Clone, Copy, Debug)]
+pub enum Part {
+    PerfEventAttr,
+    PerfEventData,
 }
 
-impl Stop {
-    /// Appends the name of the error, and ends the line.
-    pub fn push(self, out: &mut String) -> Result<(), CaseError> {
-        match self {
-            Stop::OutOfMemory => return Err(CaseError::OutOfMemory),
-            Stop::Named(name) => writeln!(out, "{name}")?,
-            Stop::NoIdentifier(index) => writeln!(out, "NoIdentifierDespiteMultiEvent({index})")?,
-            Stop::SampleIdAll(index) => writeln!(
-                out,
-                "InconsistentSampleIdAllWithMultiEvent({index})"
-            )?,
-            Stop::AttributeSizes(own, size) => writeln!(
-                out,
-                "InconsistentAttributeSizes({own}, {size})"
-            )?,
-        }
-        Ok(())
-    }
+/// Why a listing ends before its input. The names are those of the library's errors.
+#[derive(Clone, Copy, Debug)]
+pub enum Stop {
+    OutOfMemory,
+    IoError(ErrorKind),
+    Read(Part),
+    InvalidPerfEventSize,
+    NoAttributes,
+    NoIdentifierDespiteMultiEvent(usize),
+    InconsistentSampleIdAllWithMultiEvent(usize),
+    InconsistentAttributeSizes(u64, u64),
 }
 
 impl From<AllocError> for Stop {
@@ -51,9 +39,12 @@ impl<T: Drop> From<AllocFailed<T>> for Stop {
     }
 }
 
-pub const UNEXPECTED_EOF: Stop = Stop::Named("IoError(UnexpectedEof)");
+pub const UNEXPECTED_EOF: Stop = Stop::IoError(ErrorKind::UnexpectedEof);
 
-const DATA: Stop = Stop::Named("Read(PerfEventData)");
+// The features have the numbers below this one: the upper half of the field isn't read.
+const FEATURE_NUMBERS: u64 = 1 << 32;
+
+const DATA: Stop = Stop::Read(Part::PerfEventData);
 
 /// Bytes and their byte order.
 #[derive(Clone, Copy)]
@@ -81,82 +72,243 @@ impl<'a> Bytes<'a> {
     pub fn first(self, size: u64, error: Stop) -> Result<Bytes<'a>, Stop> {
         let end = usize::try_from(size).unwrap_or(usize::MAX);
         let all = self.bytes;
-        match all.get(..end) {
-            Some(bytes) => Ok(Bytes {
-                bytes,
-                is_big_endian: self.is_big_endian,
-            }),
-            None => Err(error),
-        }
+        Ok(Bytes {
+            bytes: all.get(..end).ok_or(error)?,
+            is_big_endian: self.is_big_endian,
+        })
     }
 
-    /// The number of this size at an offset, or the error that the bytes end before it does.
-    pub fn number(self, offset: u64, size: u64, error: Stop) -> Result<u64, Stop> {
-        let part = self.from_offset(offset).first(size, error)?;
+    // The number of this size at an offset.
+    fn number(self, offset: u64, size: u64) -> Result<u64, Stop> {
+        let mut part = self.from_offset(offset).first(size, UNEXPECTED_EOF)?.bytes;
         let mut value = 0u64;
-        let mut weight = 1u64;
-        for index in 0..part.bytes.len() {
-            let from_start = part.bytes.len().saturating_sub(index).saturating_sub(1);
-            let place = if self.is_big_endian {
-                from_start
+        for _ in 0..size {
+            let split = if self.is_big_endian {
+                part.split_first()
             } else {
-                index
+                part.split_last()
             };
-            let byte = part.bytes.get(place).copied().unwrap_or(0);
-            value = value.wrapping_add(weight.wrapping_mul(u64::from(byte)));
-            weight = weight.wrapping_mul(256);
+            let Some((byte, rest)) = split else {
+                break;
+            };
+            value = value.wrapping_mul(256).wrapping_add(u64::from(*byte));
+            part = rest;
         }
         Ok(value)
     }
 
-    /// The same; 0 if the bytes end before.
-    pub fn number_or_0(self, offset: u64, size: u64) -> u64 {
-        self.number(offset, size, UNEXPECTED_EOF).unwrap_or(0)
+    pub fn u16_at(self, offset: u64) -> Result<u64, Stop> {
+        self.number(offset, 2)
+    }
+
+    pub fn u32_at(self, offset: u64) -> Result<u64, Stop> {
+        self.number(offset, 4)
+    }
+
+    pub fn u64_at(self, offset: u64) -> Result<u64, Stop> {
+        self.number(offset, 8)
     }
 }
 
 /// A record. Its bytes are the header, the body and the aux data.
 #[derive(Clone, Copy)]
 pub struct Record<'a> {
-    pub offset: u64,
-    pub round: u64,
     pub record_type: u64,
-    pub misc: u64,
     pub bytes: Bytes<'a>,
 }
 
-/// The record at the start of some bytes.
-pub fn record_at<'a>(rest: Bytes<'a>, offset: u64, round: u64) -> Result<Record<'a>, Stop> {
-    let size = rest.number(6, 2, UNEXPECTED_EOF)?;
-    if size < 8 {
-        return Err(Stop::Named("InvalidPerfEventSize"));
-    }
-    let end = offset.checked_add(size).ok_or(DATA)?;
-    let mut bytes = rest.first(size, DATA)?;
-    let record_type = rest.number_or_0(0, 4);
-    if record_type == 81 || record_type == 83 {
-        return Err(Stop::Named("IoError(Unsupported)"));
-    }
-    if record_type == 71 {
-        if size < 48 {
-            return Err(UNEXPECTED_EOF);
+impl<'a> Record<'a> {
+    // The record at the start of some bytes, which are at an offset.
+    fn parse(rest: Bytes<'a>, offset: u64) -> Result<Record<'a>, Stop> {
+        let (record_type, mut size) = (rest.u32_at(0)?, rest.u16_at(6)?);
+        if size < 8 {
+            return Err(Stop::InvalidPerfEventSize);
         }
-        let aux_size = rest.number_or_0(8, 8);
-        end.checked_add(aux_size).ok_or(DATA)?;
-        bytes = rest.first(size.saturating_add(aux_size), DATA)?;
+        rest.first(size, DATA)?;
+        if record_type == 81 || record_type == 83 {
+            return Err(Stop::IoError(ErrorKind::Unsupported));
+        }
+        if record_type == 71 {
+            if size < 48 {
+                return Err(UNEXPECTED_EOF);
+            }
+            size = size.checked_add(rest.u64_at(8)?).ok_or(DATA)?;
+        }
+        offset.checked_add(size).ok_or(DATA)?;
+        let bytes = rest.first(size, DATA)?;
+        Ok(Record { record_type, bytes })
     }
-    Ok(Record {
-        offset,
-        round,
-        record_type,
-        misc: rest.number_or_0(4, 2),
-        bytes,
-    })
+
+    pub fn body(self) -> Bytes<'a> {
+        self.bytes.from_offset(8)
+    }
+
+    // Fails if a record of metadata is malformed.
+    fn check_metadata(self) -> Result<(), Stop> {
+        let attribute = self.body();
+        attribute.u64_at(0)?;
+        let own_size = own_size(attribute);
+        if self.record_type == 80 {
+            return Ok(());
+        }
+        if own_size < 64 {
+            return Err(Stop::IoError(ErrorKind::InvalidData));
+        }
+        match attribute.len().checked_sub(own_size) {
+            Some(ids) if ids % 8 == 0 => Ok(()),
+            _ => Err(UNEXPECTED_EOF),
+        }
+    }
 }
 
-/// Appends the line of a record. `events` are those that are known before it.
-pub fn push_line(out: &mut String, record: Record<'_>, events: &[Event]) -> Result<(), Stop> {
-    write!(out, "{} {} ", record.offset, record.round)?;
+/// The metadata of an input: its records of attributes and features so far, and the events that these define.
+#[derive(Drop)]
+pub struct Metadata<'a> {
+    records: Vec<Record<'a>>,
+    pub events: Vec<Event>,
+}
+
+impl<'a> Metadata<'a> {
+    pub fn new(alloc: Global) -> Metadata<'a> {
+        let (records, events) = (Vec::new(alloc), Vec::new(alloc));
+        Metadata { records, events }
+    }
+
+    /// The data of a feature.
+    pub fn data(&self, feature: u64) -> Option<Bytes<'a>> {
+        let mut data = None;
+        for record in self.records.iter().filter(|it| it.record_type == 80) {
+            if record.body().u64_at(0).unwrap_or(0) % FEATURE_NUMBERS == feature {
+                data = Some(record.body().from_offset(8));
+            }
+        }
+        data
+    }
+
+    // The events of the attributes, with their names.
+    fn named_events(&self, alloc: Global) -> Result<Vec<Event>, Stop> {
+        let described = match self.data(12) {
+            Some(section) => event_desc(alloc, section)?,
+            None => Vec::new(alloc),
+        };
+        let mut events = Vec::new(alloc);
+        for record in self.records.iter().filter(|it| it.record_type == 64) {
+            let attribute = record.body();
+            let ids = attribute.from_offset(own_size(attribute));
+            let mut event = event_of(alloc, attribute, ids)?;
+            event.name = name_of(alloc, &described, event.ids.first())?;
+            events.push(event)?;
+        }
+        check_consistency(&events)?;
+        Ok(events)
+    }
+
+    // Adds a late record of metadata. If it has an error, the metadata are unchanged.
+    fn add_late(&mut self, alloc: Global, record: Record<'a>) -> Result<(), Stop> {
+        record.check_metadata()?;
+        self.records.push(record)?;
+        let named = self.named_events(alloc);
+        if named.is_err() {
+            let _ = self.records.pop();
+        }
+        self.events = named?;
+        Ok(())
+    }
+
+    // Reads the records of metadata before the first other record of a pipe. Returns the bytes after them.
+    fn open_pipe(&mut self, alloc: Global, pipe: Bytes<'a>) -> Result<Bytes<'a>, Stop> {
+        let mut rest = pipe.from_offset(pipe.u64_at(8)?.max(16));
+        for _ in 0..rest.bytes.len() {
+            let Ok(size) = rest.u16_at(6) else {
+                break;
+            };
+            if size < 8 {
+                return Err(Stop::InvalidPerfEventSize);
+            }
+            let Ok(64 | 80) = rest.u32_at(0) else {
+                break;
+            };
+            rest.first(size, UNEXPECTED_EOF)?;
+            let record = Record::parse(rest, 0)?;
+            record.check_metadata()?;
+            self.records.push(record)?;
+            rest = rest.from_offset(size);
+        }
+        if self.records.iter().all(|record| record.record_type != 64) {
+            return Err(Stop::NoAttributes);
+        }
+        self.events = self.named_events(alloc)?;
+        Ok(rest)
+    }
+
+    // Reads the events of the event types section of a file. Returns the bytes of the records.
+    fn open_file(&mut self, alloc: Global, file: Bytes<'a>) -> Result<Bytes<'a>, Stop> {
+        let attr_size = file.u64_at(16)?;
+        let entry_size = attr_size.saturating_add(16);
+        let mut entry = file.from_offset(file.u64_at(56)?);
+        for _ in 0..file.u64_at(64)?.checked_div(entry_size).unwrap_or(0) {
+            let section = entry.from_offset(attr_size);
+            let ids = file.from_offset(section.u64_at(0)?);
+            let ids = ids.first(section.u64_at(8)?, UNEXPECTED_EOF)?;
+            self.events.push(event_of(alloc, entry, ids)?)?;
+            entry = entry.from_offset(entry_size);
+        }
+        check_consistency(&self.events)?;
+        Ok(file.from_offset(file.u64_at(40)?))
+    }
+
+    // Appends the lines of the records up to the end or the first error.
+    fn push_records(
+        &mut self,
+        alloc: Global,
+        all: Bytes<'a>,
+        data_size: Option<u64>,
+        out: &mut String,
+    ) -> Result<(), Stop> {
+        let (mut offset, mut round) = (0u64, 0u64);
+        for _ in 0..all.bytes.len() {
+            let rest = all.from_offset(offset);
+            let is_end = match data_size {
+                Some(size) => offset >= size,
+                None => !matches!(rest.u16_at(6), Ok(size) if size < 8 || size <= rest.len()),
+            };
+            if is_end {
+                break;
+            }
+            let record = Record::parse(rest, offset)?;
+            if data_size.is_none() && (record.record_type == 64 || record.record_type == 80) {
+                self.add_late(alloc, record)?;
+            }
+            if record.record_type == 68 {
+                round = round.saturating_add(1);
+            } else {
+                write!(out, "{offset} {round} ")?;
+                push_line(out, record, &self.events)?;
+            }
+            offset = offset.saturating_add(record.bytes.len());
+        }
+        Ok(())
+    }
+
+    /// Appends the lines of a file of event types that can be read. Returns the error that ends it, if there
+    /// is one.
+    pub fn push_file(&mut self, alloc: Global, bytes: &'a [u8], out: &mut String) -> Result<(), Stop> {
+        let is_big_endian = !bytes.starts_with(b"PERFILE2");
+        let file = Bytes { bytes, is_big_endian };
+        let data = self.open_file(alloc, file)?;
+        self.push_records(alloc, data, Some(file.u64_at(48)?), out)
+    }
+
+    /// Appends the lines of a pipe with a valid magic. Returns the error that ends it, if there is one.
+    pub fn push_pipe(&mut self, alloc: Global, bytes: &'a [u8], out: &mut String) -> Result<(), Stop> {
+        let is_big_endian = !bytes.starts_with(b"PERFILE2");
+        let records = self.open_pipe(alloc, Bytes { bytes, is_big_endian })?;
+        self.push_records(alloc, records, None, out)
+    }
+}
+
+// Appends what follows the offset and the round of a record. `events` are those that are known before it.
+fn push_line(out: &mut String, record: Record<'_>, events: &[Event]) -> Result<(), Stop> {
     if record.record_type < 64 {
         let index = attribute_index(events, record);
         match events.get(index).and_then(|event| field(event, 2, record)) {
@@ -166,49 +318,20 @@ pub fn push_line(out: &mut String, record: Record<'_>, events: &[Event]) -> Resu
     } else {
         out.push_str("- - ")?;
     }
-    let body_size = record.bytes.len().saturating_sub(8);
-    write!(out, "{} {} {body_size}\n", record.record_type, record.misc)?;
+    let misc = record.bytes.u16_at(4)?;
+    write!(out, "{} {misc} {}\n", record.record_type, record.body().len())?;
     Ok(())
 }
 
-// The events of the event types section of a file, with their ids.
-fn file_events(alloc: Global, file: Bytes<'_>) -> Result<Vec<Event>, Stop> {
-    let attr_size = file.number_or_0(16, 8);
-    let entry_size = attr_size.saturating_add(16);
-    let count = file.number_or_0(64, 8).checked_div(entry_size);
-    let mut entry = file.from_offset(file.number_or_0(56, 8));
-    let mut events = Vec::new(alloc);
-    for _ in 0..count.unwrap_or(0) {
-        let section = entry.from_offset(attr_size);
-        let ids = file.from_offset(section.number_or_0(0, 8));
-        let ids = ids.first(section.number_or_0(8, 8), UNEXPECTED_EOF)?;
-        events.push(event_of(alloc, entry, ids)?)?;
-        entry = entry.from_offset(entry_size);
-    }
-    Ok(events)
-}
-
-/// Appends the lines of a file of event types that can be read. Returns the error that ends it, if there is one.
-pub fn push_file(alloc: Global, bytes: &[u8], out: &mut String) -> Result<(), Stop> {
-    let file = Bytes {
-        bytes,
-        is_big_endian: bytes.first().copied() != Some(b'P'),
-    };
-    let events = file_events(alloc, file)?;
-    check_consistency(&events)?;
-    let data = file.from_offset(file.number_or_0(40, 8));
-    let (mut offset, mut round) = (0u64, 0u64);
-    for _ in 0..bytes.len() {
-        if offset >= file.number_or_0(48, 8) {
-            break;
+// The name of the first event whose first id is this one.
+fn name_of(alloc: Global, events: &[Event], id: Option<&u64>) -> Result<Option<String>, Stop> {
+    for event in events {
+        if id.is_some() && event.ids.first() == id {
+            return match event.name.as_ref() {
+                Some(name) => Ok(Some(String::from_str(alloc, name)?)),
+                None => Ok(None),
+            };
         }
-        let record = record_at(data.from_offset(offset), offset, round)?;
-        if record.record_type == 68 {
-            round = round.saturating_add(1);
-        } else {
-            push_line(out, record, &events)?;
-        }
-        offset = offset.saturating_add(record.bytes.len());
     }
-    Ok(())
+    Ok(None)
 }

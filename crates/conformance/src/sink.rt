@@ -1,8 +1,7 @@
 //! Writers with a limit.
 ghost use Rattle.std.specs.Prelude.{[]};
 
-use crate::sources::{Pushed, Run};
-use conformance_cases::{CaseError, error_kind, push_line};
+use conformance_cases::{Call, CaseError, CaseResult, error_kind, push_line};
 use perfdata_listing::FlushPending;
 use std::alloc::Global;
 use std::fmt::Write as _;
@@ -36,31 +35,31 @@ impl Sink {
         }
     }
 
-    /// The writer of a case. `sink=fail-after(N)` accepts N bytes and then fails, with the kind `kind=KIND` or `StorageFull`.
-    /// `sink=zero-after(N)` then accepts no more. A capacity of the input stands for N. `most=N` limits the bytes of a write, and
-    /// `flushes=N` the number of flushes.
-    pub fn of_case(run: Run<'_>) -> Result<Sink, CaseError> {
-        let option = run.case.option("sink").unwrap_or("");
+    /// The writer of a case. `sink=fail-after(N)` accepts N bytes and then fails, with the kind `kind=KIND`
+    /// or `StorageFull`. `sink=zero-after(N)` then accepts no more. A capacity of the input stands for N.
+    /// `most=N` limits the bytes of a write, and `flushes=N` the number of flushes.
+    pub fn of_case(call: &Call<'_>) -> Result<Sink, CaseError> {
+        let option = call.case.option("sink").unwrap_or("");
         let (name, limit) = option.split_once('(').unwrap_or((option, ""));
         let limit = limit.trim_end_matches(')').parse::<usize>().ok();
-        let kind = error_kind(run.case.option("kind").unwrap_or(""));
-        let mut sink = Sink::unlimited(run.alloc);
-        sink.max_per_write = run.case.size("most", usize::MAX)?;
-        sink.capacity = run.input.capacity.or(limit).unwrap_or(usize::MAX);
+        let kind = error_kind(call.case.option("kind").unwrap_or(""));
+        let mut sink = Sink::unlimited(call.alloc);
+        sink.max_per_write = call.case.size("most", usize::MAX)?;
+        sink.capacity = call.input.capacity.or(limit).unwrap_or(usize::MAX);
         if name == "fail-after" {
             sink.error = Some(kind.unwrap_or(ErrorKind::StorageFull));
         }
-        sink.max_flushes = run.case.size("flushes", usize::MAX)?;
+        sink.max_flushes = call.case.size("flushes", usize::MAX)?;
         Ok(sink)
     }
 
     /// Appends the written text in quotes.
-    pub fn push_text(&self, out: &mut String) -> Pushed {
+    pub fn push_text(&self, out: &mut String) -> CaseResult {
         push_line(out, &str::from_utf8(&self.written).unwrap_or("not UTF-8"))
     }
 
     /// Appends the numbers of bytes, writes and flushes.
-    pub fn push_counts(&self, out: &mut String) -> Pushed {
+    pub fn push_counts(&self, out: &mut String) -> CaseResult {
         let (size, writes, flushes) = (self.written.len(), self.writes, self.flushed_at.len());
         Ok(write!(out, "{size} bytes, {writes} writes, {flushes} flushes\n")?)
     }

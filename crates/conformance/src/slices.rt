@@ -1,8 +1,8 @@
-//! The calls over slices: the bytes after each record, entries of records, counts of records, and records of many sizes.
+//! The calls over slices: the bytes after each record, entries of records, counts of records, and records of
+//! many sizes.
 use crate::listing::Listing;
 use crate::reading::{Format, format_of, open_in_memory};
-use crate::sources::{Pushed, Run};
-use conformance_cases::{CaseError, Ranges, bytes_of, push_line, push_result};
+use conformance_cases::{Call, CaseError, CaseResult, Ranges, bytes_of, push_line, push_result};
 use example_proved_count::{count_pipe_records, count_records};
 use linux_perf_data::in_memory::InMemoryReader;
 use linux_perf_data::in_memory::entries::RecordEntry;
@@ -14,7 +14,7 @@ fn push_left(
     records: &mut PerfRecordIter<&mut &[u8]>,
     file: &mut PerfFile,
     out: &mut String,
-) -> Pushed {
+) -> CaseResult {
     for _ in 0..=records.get_ref().len() {
         push_line(out, &records.get_ref().len())?;
         if !matches!(records.next_record(file), Ok(Some(_))) {
@@ -25,9 +25,9 @@ fn push_left(
 }
 
 /// Prints the number of bytes that are left in a pipe after its opening and after each record.
-pub fn push_bytes_left(run: Run<'_>, out: &mut String) -> Pushed {
-    let mut rest = run.input.bytes;
-    match PerfFileReader::parse_pipe(run.alloc, &mut rest) {
+pub fn push_bytes_left(call: &Call<'_>, out: &mut String) -> CaseResult {
+    let mut rest = call.input.bytes;
+    match PerfFileReader::parse_pipe(call.alloc, &mut rest) {
         Ok(reader) => {
             let mut file = reader.perf_file;
             let mut records = reader.record_iter;
@@ -51,8 +51,9 @@ const UNWRITTEN: RecordEntry = RecordEntry {
     has_attr: 0,
 };
 
-// Appends the number of the entries of the next records, two entries, and the offset and the round of the record after them.
-fn push_two_entries(reader: InMemoryReader<'_>, out: &mut String) -> Pushed {
+// Appends the number of the entries of the next records, two entries, and the offset and the round of the
+// record after them.
+fn push_two_entries(reader: InMemoryReader<'_>, out: &mut String) -> CaseResult {
     let mut file = reader.perf_file;
     let mut records = reader.records;
     let mut entries = [UNWRITTEN; 2];
@@ -65,7 +66,7 @@ fn push_two_entries(reader: InMemoryReader<'_>, out: &mut String) -> Pushed {
 }
 
 // Appends the bodies of two records after both are read.
-fn push_two_bodies(reader: InMemoryReader<'_>, out: &mut String) -> Pushed {
+fn push_two_bodies(reader: InMemoryReader<'_>, out: &mut String) -> CaseResult {
     let mut file = reader.perf_file;
     let mut records = reader.records;
     let first = records.next_record(&mut file);
@@ -79,25 +80,27 @@ fn push_two_bodies(reader: InMemoryReader<'_>, out: &mut String) -> Pushed {
     }
 }
 
-/// Prints the first entries or the first two bodies of an input in memory, of a file or with the option `format=pipe` of a pipe.
-pub fn push_in_memory(run: Run<'_>, out: &mut String) -> Pushed {
-    let format = format_of(run.case.option("format").unwrap_or(""));
-    match open_in_memory(run.alloc, format, run.input.bytes) {
-        Ok(reader) if run.case.call == "entries" => push_two_entries(reader, out),
+/// Prints the first entries or the first two bodies of an input in memory, of a file or with the option
+/// `format=pipe` of a pipe.
+pub fn push_in_memory(call: &Call<'_>, out: &mut String) -> CaseResult {
+    let format = format_of(call.case.option("format").unwrap_or(""));
+    match open_in_memory(call.alloc, format, call.input.bytes) {
+        Ok(reader) if call.case.call == "entries" => push_two_entries(reader, out),
         Ok(reader) => push_two_bodies(reader, out),
         Err(error) => push_result(out, &Err::<(), Error>(error)),
     }
 }
 
 /// Prints the number of records that the proved example counts.
-pub fn push_count(run: Run<'_>, format: Format, out: &mut String) -> Pushed {
+pub fn push_count(call: &Call<'_>, format: Format, out: &mut String) -> CaseResult {
     match format {
-        Format::File => push_result(out, &count_records(run.alloc, run.input.bytes)),
-        Format::Pipe => push_result(out, &count_pipe_records(run.alloc, run.input.bytes)),
+        Format::File => push_result(out, &count_records(call.alloc, call.input.bytes)),
+        Format::Pipe => push_result(out, &count_pipe_records(call.alloc, call.input.bytes)),
     }
 }
 
-// The listing of an attribute and a sample of this size whose body consists of zeros: `B` stands for the expected size of the body.
+// The listing of an attribute and a sample of this size whose body consists of zeros: `B` stands for the
+// expected size of the body.
 fn zeros_text(alloc: Global, format: Format, size: u16) -> Result<String, CaseError> {
     let body_size = size.saturating_sub(8);
     let record = format!(in alloc; "head(9, 0, {size}) repeat({body_size}, 00)")?;
@@ -123,12 +126,12 @@ fn zeros_text(alloc: Global, format: Format, size: u16) -> Result<String, CaseEr
     Ok(text)
 }
 
-/// Lists inputs of an attribute without any field of samples and one sample. It has each size up to 600 bytes and some larger sizes,
-/// and a body of zeros.
-pub fn push_zeros(run: Run<'_>, format: Format, out: &mut String) -> Pushed {
-    let mut ranges = Ranges::new(run.alloc);
+/// Lists inputs of an attribute without any field of samples and one sample. It has each size up to 600 bytes
+/// and some larger sizes, and a body of zeros.
+pub fn push_zeros(call: &Call<'_>, format: Format, out: &mut String) -> CaseResult {
+    let mut ranges = Ranges::new(call.alloc);
     for size in (8..601u16).chain([4104, 4105, u16::MAX]) {
-        ranges.push(usize::from(size), zeros_text(run.alloc, format, size)?)?;
+        ranges.push(usize::from(size), zeros_text(call.alloc, format, size)?)?;
     }
     Ok(out.push_str(&ranges.finish()?)?)
 }

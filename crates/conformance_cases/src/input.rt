@@ -63,7 +63,7 @@ impl<'a> Input<'a> {
     }
 }
 
-/// A call of a case with its input.
+/// A call of a case: what it is made with.
 #[derive(Clone, Copy)]
 pub struct Call<'a> {
     pub alloc: Global,
@@ -72,6 +72,11 @@ pub struct Call<'a> {
 }
 
 impl<'a> Call<'a> {
+    /// The number in an option of the case; `default` if there is no such option.
+    pub fn size(&self, name: &str, default: usize) -> CaseResult<usize> {
+        self.case.size(name, default)
+    }
+
     /// The call with other bytes.
     pub fn with_bytes<'b>(&'b self, bytes: &'b [u8]) -> Call<'b> {
         let Input {

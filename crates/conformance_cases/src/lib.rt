@@ -1,6 +1,8 @@
-//! Cases as text: a file of cases, the bytes of an input, the steps of a source, and the comparison of results.
+//! Cases as text: a file of cases, the bytes of an input, the steps of a source, and the comparison of
+//! results.
 //!
-//! A program implements [`Calls`] and passes it to [`run`]. A file consists of blocks with an empty line between them:
+//! A program implements [`Calls`] and passes it to [`run`]. A file consists of blocks with an empty line
+//! between them:
 //!
 //! ```text
 //! # A comment.
@@ -30,7 +32,7 @@ mod tokens;
 pub use blocks::{Case, number_of};
 pub use case_error::{CaseError, CaseResult};
 pub use encoding::bytes_of;
-pub use input::Input;
+pub use input::{Call, Input};
 pub use outcome::Calls;
 pub use ranges::Ranges;
 pub use runner::run;

@@ -18,14 +18,8 @@ const RESULT_SIZE: usize = 4096;
 
 /// The calls that cases make.
 pub trait Calls {
-    /// Appends the result of a case's call on an input to `out`, in lines.
-    fn call(
-        &self,
-        alloc: Global,
-        case: &Case<'_>,
-        input: &Input<'_>,
-        out: &mut String,
-    ) -> CaseResult;
+    /// Appends the result of a call to `out`, in lines. Returns whether it is one of the program's.
+    fn call(&self, call: &Call<'_>, out: &mut String) -> CaseResult<bool>;
 }
 
 // What differs from call to call.
@@ -35,7 +29,8 @@ enum Variation {
     Length,
     // The size of the first of two slices.
     Split,
-    // The number of bytes that the source returns one by one before its steps; all that it has at first if it stops there.
+    // The number of bytes that the source returns one by one before its steps; all that it has at first if it
+    // stops there.
     Read(bool),
     // The seek that fails with this kind of error.
     Seek(ErrorKind),
@@ -77,8 +72,11 @@ fn variation_of(case: &Case<'_>) -> CaseResult<Option<Variation>> {
 // The result of one call.
 fn call_once<C: Calls>(calls: &C, call: &Call<'_>) -> CaseResult<String> {
     let mut out = String::with_capacity(call.alloc, RESULT_SIZE)?;
-    calls.call(call.alloc, call.case, &call.input, &mut out)?;
-    Ok(out)
+    if calls.call(call, &mut out)? {
+        Ok(out)
+    } else {
+        Err(CaseError::Invalid("an unknown call"))
+    }
 }
 
 // The result of the call with this value of a byte.
@@ -180,7 +178,8 @@ fn outcome_in<'x, C: Calls>(
     }
 }
 
-/// The result of a case. With the option `each-order` it is the result for both byte orders, or both results if they differ.
+/// The result of a case. With the option `each-order` it is the result for both byte orders, or both results
+/// if they differ.
 pub fn outcome_of<'x, C: Calls>(
     alloc: Global,
     calls: &C,

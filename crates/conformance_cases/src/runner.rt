@@ -147,11 +147,13 @@ fn run_files<C: Calls>(rt: &HostRuntime, calls: &C) -> CaseResult<Counts> {
     Ok(counts)
 }
 
-/// Runs the cases of the files that the arguments of the program name, and prints those with another result than expected. The last
-/// line says how many cases there are, and how many differ. The exit status is 1 if any differs, and 2 if a file can't be read.
+/// Runs the cases of the files that the arguments of the program name, and prints those with another result
+/// than expected. The last line says how many cases there are, and how many differ. The exit status is 1 if
+/// any differs, and 2 if a file can't be read.
 ///
-/// An argument that ends with `.test` is a file of cases, and another one is a recording that cases name. A definition holds in its
-/// file and those after it. With the argument `--update` the files are printed with the results in place of the expected ones.
+/// An argument that ends with `.test` is a file of cases, and another one is a recording that cases name. A
+/// definition holds in its file and those after it. With the argument `--update` the files are printed with
+/// the results in place of the expected ones.
 pub fn run<C: Calls>(rt: &HostRuntime, calls: &C) -> ExitCode {
     match run_files(rt, calls) {
         Ok(counts) => ExitCode::from(u8::from(counts.differing != 0)),

@@ -58,8 +58,8 @@ fn push_repeated(steps: &mut Vec<Step>, count: usize, group: &str) -> CaseResult
     Ok(())
 }
 
-/// Parses steps with a comma or a plus between them. `N*STEP` is a step N times, and `N*STEP/STEP` is a group of steps N times.
-/// `rest` at the end is no step: a source without further steps returns all of its bytes.
+/// Parses steps with a comma or a plus between them. `N*STEP` is a step N times, and `N*STEP/STEP` is a group
+/// of steps N times. `rest` at the end is no step: a source without further steps returns all of its bytes.
 pub fn parse_steps(alloc: Global, text: &str) -> CaseResult<Vec<Step>> {
     let mut steps = Vec::new(alloc);
     for word in text.split([',', '+']) {

@@ -17,7 +17,8 @@ pub fn push_io_result<T: Debug>(out: &mut String, value: &io::Result<T>) -> Case
     }
 }
 
-/// Appends the name of an error: `IoError(KIND)` for an I/O error of this kind, else in the form of `{:?}`. The line isn't ended.
+/// Appends the name of an error: `IoError(KIND)` for an I/O error of this kind, else in the form of `{:?}`.
+/// The line isn't ended.
 pub fn push_error(out: &mut String, error: &Error) -> CaseResult {
     match error {
         Error::IoError(error) => write!(out, "IoError({:?})", error.kind())?,

@@ -1,8 +1,8 @@
 //! Events: their attributes and ids, the fields of their records, and the event of a record.
-use super::{Bytes, Record, Stop, UNEXPECTED_EOF};
+use super::{Bytes, Part, Record, Stop, UNEXPECTED_EOF};
 use std::alloc::Global;
 
-const ATTRIBUTE: Stop = Stop::Named("Read(PerfEventAttr)");
+const ATTRIBUTE: Stop = Stop::Read(Part::PerfEventAttr);
 
 /// What a listing needs to know of an event.
 #[derive(Drop)]
@@ -17,11 +17,11 @@ pub struct Event {
 pub fn event_of(alloc: Global, attribute: Bytes<'_>, listed: Bytes<'_>) -> Result<Event, Stop> {
     let mut ids = Vec::new(alloc);
     for index in 0..listed.len() / 8 {
-        ids.push(listed.number_or_0(index.saturating_mul(8), 8))?;
+        ids.push(listed.u64_at(index.saturating_mul(8))?)?;
     }
     Ok(Event {
-        sample_format: attribute.number_or_0(24, 8),
-        flags: attribute.number_or_0(40, 8),
+        sample_format: attribute.u64_at(24).unwrap_or(0),
+        flags: attribute.u64_at(40).unwrap_or(0),
         ids,
         name: None,
     })
@@ -29,9 +29,9 @@ pub fn event_of(alloc: Global, attribute: Bytes<'_>, listed: Bytes<'_>) -> Resul
 
 /// The size of an attribute: 0 means 64.
 pub fn own_size(attribute: Bytes<'_>) -> u64 {
-    match attribute.number_or_0(4, 4) {
-        0 => 64,
-        size => size,
+    match attribute.u32_at(4) {
+        Ok(0) | Err(_) => 64,
+        Ok(size) => size,
     }
 }
 
@@ -47,12 +47,12 @@ fn event_desc_entry<'a>(
         return Err(ATTRIBUTE);
     }
     if own_size > attr_size {
-        return Err(Stop::AttributeSizes(own_size, attr_size));
+        return Err(Stop::InconsistentAttributeSizes(own_size, attr_size));
     }
     entry.first(own_size, ATTRIBUTE)?;
     let rest = entry.from_offset(attr_size);
-    let count = rest.number(0, 4, UNEXPECTED_EOF)?;
-    let name_size = rest.number(4, 4, UNEXPECTED_EOF)?;
+    let count = rest.u32_at(0)?;
+    let name_size = rest.u32_at(4)?;
     let name = rest.from_offset(8).first(name_size, UNEXPECTED_EOF)?;
     let ids = rest.from_offset(name_size.saturating_add(8));
     let listed = ids.first(count.saturating_mul(8), UNEXPECTED_EOF)?;
@@ -67,8 +67,8 @@ fn event_desc_entry<'a>(
 
 /// The events of EVENT_DESC.
 pub fn event_desc(alloc: Global, section: Bytes<'_>) -> Result<Vec<Event>, Stop> {
-    let count = section.number(0, 4, UNEXPECTED_EOF)?;
-    let attr_size = section.number(4, 4, UNEXPECTED_EOF)?;
+    let count = section.u32_at(0)?;
+    let attr_size = section.u32_at(4)?;
     let mut rest = section.from_offset(8);
     let mut events = Vec::new(alloc);
     for _ in 0..count {
@@ -84,7 +84,8 @@ fn has_bit(number: u64, bit: u32) -> bool {
     number.checked_shr(bit).unwrap_or(0) % 2 == 1
 }
 
-// The bits of the words in the records of an event, in order: at the start of a sample, or at the end of another record.
+// The bits of the words in the records of an event, in order: at the start of a sample, or at the end of
+// another record.
 fn word_bits(event: &Event, is_sample: bool) -> &'static [u32] {
     if is_sample {
         &[16, 0, 1, 2, 3, 6]
@@ -100,9 +101,7 @@ fn word_index(event: &Event, bit: u32, is_sample: bool) -> (Option<u64>, u64) {
     let (mut index, mut count) = (None, 0u64);
     for word in word_bits(event, is_sample) {
         if has_bit(event.sample_format, *word) {
-            if *word == bit {
-                index = Some(count);
-            }
+            index = if *word == bit { Some(count) } else { index };
             count = count.saturating_add(1);
         }
     }
@@ -113,14 +112,14 @@ fn word_index(event: &Event, bit: u32, is_sample: bool) -> (Option<u64>, u64) {
 pub fn field(event: &Event, bit: u32, record: Record<'_>) -> Option<u64> {
     let is_sample = record.record_type == 9;
     let (index, count) = word_index(event, bit, is_sample);
-    let body = record.bytes.from_offset(8);
+    let body = record.body();
     let offset = if is_sample {
         index?.checked_mul(8)?
     } else {
         let from_end = count.checked_sub(index?)?.checked_mul(8)?;
         body.len().checked_sub(from_end)?
     };
-    body.number(offset, 8, UNEXPECTED_EOF).ok()
+    body.u64_at(offset).ok()
 }
 
 // The bit of the word with the identifier.
@@ -132,7 +131,8 @@ fn id_bit(event: &Event) -> u32 {
     }
 }
 
-/// The index of the event of a record: the last one that lists its identifier, which is where the first event has it.
+/// The index of the event of a record: the last one that lists its identifier, which is where the first event
+/// has it.
 pub fn attribute_index(events: &[Event], record: Record<'_>) -> usize {
     let id = events
         .first()
@@ -146,7 +146,8 @@ pub fn attribute_index(events: &[Event], record: Record<'_>) -> usize {
     found
 }
 
-// The indices of the identifier in the records of an event: from the start of samples, and from the end of others.
+// The indices of the identifier in the records of an event: from the start of samples, and from the end of
+// others.
 fn id_places(event: &Event) -> (Option<u64>, Option<u64>) {
     let bit = id_bit(event);
     let (from_start, _) = word_index(event, bit, true);
@@ -154,8 +155,8 @@ fn id_places(event: &Event) -> (Option<u64>, Option<u64>) {
     (from_start, index.map(|index| count.saturating_sub(index)))
 }
 
-/// Whether events may be in one recording: all have the identifier at the same places, or all have IDENTIFIER and the same
-/// SAMPLE_ID_ALL.
+/// Whether events may be in one recording: all have the identifier at the same places, or all have IDENTIFIER
+/// and the same SAMPLE_ID_ALL.
 pub fn check_consistency(events: &[Event]) -> Result<(), Stop> {
     let Some(first) = events.first() else {
         return Ok(());
@@ -168,10 +169,10 @@ pub fn check_consistency(events: &[Event]) -> Result<(), Stop> {
     }
     for (index, event) in events.iter().enumerate() {
         if !has_bit(event.sample_format, 16) {
-            return Err(Stop::NoIdentifier(index));
+            return Err(Stop::NoIdentifierDespiteMultiEvent(index));
         }
         if has_bit(event.flags, 18) != has_bit(first.flags, 18) {
-            return Err(Stop::SampleIdAll(index));
+            return Err(Stop::InconsistentSampleIdAllWithMultiEvent(index));
         }
     }
     Ok(())
