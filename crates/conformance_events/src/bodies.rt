@@ -1,6 +1,6 @@
 //! Event bodies, and those of their fields that consist of numbers.
 use byteorder::{BigEndian, LittleEndian};
-use conformance_cases::{Case, CaseError, Input, push_io_result, push_line};
+use conformance_cases::{Call, CaseError, CaseResult, push_io_result, push_line};
 use perfdata_base::attr::PerfEventAttr;
 use perfdata_base::event::{CpuMode, RawEventRecord, RecordType};
 use perfdata_base::place::RecordParseInfo;
@@ -12,23 +12,16 @@ use perfdata_events::read_values::GroupValues;
 use perfdata_events::sample::SampleWords;
 use perfdata_events::sample_parts::BranchStack;
 use perfdata_events::u64s::RawDataU64;
-use std::alloc::Global;
 use std::io;
 
-// The number of an option; 0 if there is no such option.
-fn number_of(case: &Case<'_>, name: &str) -> Result<u16, CaseError> {
-    let number = case.number(name)?.unwrap_or(0);
-    Ok(u16::try_from(number).unwrap_or(u16::MAX))
-}
-
 // The attribute after the body; without one an attribute of zeros.
-fn attr_of(input: &Input<'_>) -> Result<PerfEventAttr, CaseError> {
+fn attr_of(call: &Call<'_>) -> CaseResult<PerfEventAttr> {
     let zeros = [0; 64];
-    let bytes = match input.others {
+    let bytes = match call.input.others {
         [] => &zeros,
-        _ => input.argument(1),
+        _ => call.input.argument(1),
     };
-    let parsed = match input.endian {
+    let parsed = match call.input.endian {
         Endianness::LittleEndian => PerfEventAttr::parse::<&[u8], LittleEndian>(bytes),
         Endianness::BigEndian => PerfEventAttr::parse::<&[u8], BigEndian>(bytes),
     };
@@ -40,93 +33,75 @@ fn attr_of(input: &Input<'_>) -> Result<PerfEventAttr, CaseError> {
 
 // Appends a record in the form of `{:?}`, without fields that are `None`.
 fn push_event(
-    alloc: Global,
+    call: &Call<'_>,
     out: &mut String,
     event: &io::Result<EventRecord<'_>>,
-) -> Result<(), CaseError> {
-    let mut text = String::new(alloc);
+) -> CaseResult {
+    let mut text = String::new(call.alloc);
     push_io_result(&mut text, event)?;
     for part in text.as_str().split(": None") {
-        let part = part.trim_start_matches(|c| c == ',' || c == ' ');
+        let part = part.trim_start_matches([',', ' ']);
         out.push_str(part.trim_end_matches(|c: char| c == '_' || c.is_alphanumeric()))?;
     }
     Ok(())
 }
 
-/// What a record is parsed to. The input is its body.
-pub fn body_case(
-    alloc: Global,
-    case: &Case<'_>,
-    input: &Input<'_>,
-    out: &mut String,
-) -> Result<(), CaseError> {
-    let attr = attr_of(input)?;
-    let format = EventFormat::new(&attr, input.endian);
+/// Makes the call of a case, if this module has it. The input is the body of a record, or numbers.
+pub fn call(call: &Call<'_>, out: &mut String) -> CaseResult<bool> {
+    let attr = attr_of(call)?;
+    let format = EventFormat::new(&attr, call.input.endian);
     let mut record = RawEventRecord {
-        record_type: RecordType(u32::from(number_of(case, "type")?)),
-        misc: number_of(case, "misc")?,
-        body: input.raw(),
-        parse_info: RecordParseInfo::new(&attr, input.endian),
+        record_type: RecordType((call.size("type", 0)? & 0xffff_ffff) as u32),
+        misc: (call.size("misc", 0)? & 0xffff) as u16,
+        body: call.input.raw(),
+        parse_info: RecordParseInfo::new(&attr, call.input.endian),
     };
-    match case.call {
-        "cpu-mode" => push_line(out, &CpuMode::from_misc(record.misc)),
-        "event" => push_event(alloc, out, &format.parse(&record)),
-        "sample-id" => push_io_result(out, &format.sample_id(&record)),
+    match call.case.call {
+        "cpu-mode" => push_line(out, &CpuMode::from_misc(record.misc))?,
+        "event" => push_event(call, out, &format.parse(&record))?,
+        "sample-id" => push_io_result(out, &format.sample_id(&record))?,
         "sample-words" if format.has_only_words() => {
-            push_io_result(out, &SampleWords::parse(&format, &mut record.body))
+            push_io_result(out, &SampleWords::parse(&format, &mut record.body))?;
         }
-        "sample-words" => push_line(out, &"other fields"),
-        _ => Err(CaseError::Invalid("an unknown call")),
+        "sample-words" => push_line(out, &"other fields")?,
+        _ => return push_numbers(call, out),
     }
+    Ok(true)
 }
 
-// The numbers of the input.
-fn numbers_of<'a>(input: &Input<'a>) -> RawDataU64<'a> {
-    RawDataU64 {
-        endian: input.endian,
-        bytes: input.raw(),
-    }
-}
-
-/// The frames of a call chain.
-pub fn call_chain_case(input: &Input<'_>, out: &mut String) -> Result<(), CaseError> {
-    let values = numbers_of(input);
-    for frame in (CallChain { values }).iter() {
-        push_line(out, &frame)?;
-    }
-    Ok(())
-}
-
-/// How many counters, branches or numbers there are, and what is at each index of the option `get`.
-pub fn get_case(
-    alloc: Global,
-    case: &Case<'_>,
-    input: &Input<'_>,
-    out: &mut String,
-) -> Result<(), CaseError> {
-    let numbers = numbers_of(input);
+// The frames of a call chain; or how many counters, branches or numbers there are, and what is at each index
+// of the option `get`.
+fn push_numbers(call: &Call<'_>, out: &mut String) -> CaseResult<bool> {
+    let values = RawDataU64 {
+        endian: call.input.endian,
+        bytes: call.input.raw(),
+    };
     let group = GroupValues {
         time_enabled: None,
         time_running: None,
-        has_id: case.has("id"),
-        has_lost: case.has("lost"),
-        numbers,
+        has_id: call.case.has("id"),
+        has_lost: call.case.has("lost"),
+        numbers: values,
     };
     let stack = BranchStack {
         hw_index: None,
-        entries: numbers,
+        entries: values,
         counters: None,
     };
-    for index in case.numbers(alloc, "get")?.iter() {
+    if call.case.call == "call-chain" {
+        for frame in (CallChain { values }).iter() {
+            push_line(out, &frame)?;
+        }
+        return Ok(true);
+    }
+    for index in call.case.numbers(call.alloc, "get")?.iter() {
         let index = usize::try_from(*index).unwrap_or(usize::MAX);
-        match case.call {
+        match call.case.call {
             "group-values" => push_line(out, &(group.len(), group.get(index)))?,
             "branch-stack" => push_line(out, &(stack.len(), stack.get(index)))?,
-            _ => push_line(
-                out,
-                &(numbers.len(), numbers.is_empty(), numbers.get(index)),
-            )?,
+            "u64s" => push_line(out, &(values.len(), values.is_empty(), values.get(index)))?,
+            _ => return Ok(false),
         }
     }
-    Ok(())
+    Ok(call.case.option("get").is_some())
 }

@@ -1,12 +1,12 @@
-//! Runs the cases of `data/`: calls of the parsers of event bodies, and of the orders in time, and what they return.
+//! Runs the cases of `data/`: calls of the parsers of event bodies, and of the orders in time, and what they
+//! return.
 #![tactic(auto)]
 
 mod bodies;
 mod orders;
 mod sorting;
 
-use conformance_cases::{Calls, Case, CaseError, Input, run};
-use std::alloc::Global;
+use conformance_cases::{Call, Calls, CaseResult, run};
 use std::process::ExitCode;
 
 /// The calls of this program.
@@ -14,21 +14,14 @@ use std::process::ExitCode;
 struct EventCalls;
 
 impl Calls for EventCalls {
-    fn call(
-        &self,
-        alloc: Global,
-        case: &Case<'_>,
-        input: &Input<'_>,
-        out: &mut String,
-    ) -> Result<(), CaseError> {
-        match case.call {
-            "call-chain" => bodies::call_chain_case(input, out),
-            "group-values" | "branch-stack" | "u64s" => bodies::get_case(alloc, case, input, out),
-            "sort" => sorting::sort_case(alloc, case, out),
-            "random-rounds" => sorting::random_rounds_case(alloc, case, out),
-            "order-file" | "order-pipe" => orders::order_case(alloc, case, input, out),
-            _ => bodies::body_case(alloc, case, input, out),
+    fn call(&self, call: &Call<'_>, out: &mut String) -> CaseResult<bool> {
+        match call.case.call {
+            "sort" => sorting::sort(call, out)?,
+            "random-rounds" => sorting::random_rounds(call, out)?,
+            "order-file" | "order-pipe" => orders::push_ordered(call, out)?,
+            _ => return bodies::call(call, out),
         }
+        Ok(true)
     }
 }
 

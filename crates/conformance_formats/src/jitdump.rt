@@ -1,50 +1,209 @@
 //! Jitdump files: their header, their records and their reader.
-mod reader;
-mod records;
-
-use crate::calls::{Printed, Setup};
-use conformance_cases::{Case, Input, push_line};
-use perfdata_jit::{JitDumpError, JitDumpRecordType};
-use std::alloc::Global;
+use crate::lists::{Step, low_half, push_raw, steps, unknown_call};
+use conformance_cases::{Call, CaseError, CaseResult, push_io_result, push_line};
+use perfdata_base::raw::{Endianness, FileOrder, RawData};
+use perfdata_base::source::Script;
+use perfdata_jit::*;
 use std::fmt::Write;
+use std::io;
 
-/// Makes a call of this area. Returns whether the case's call is one.
-pub fn call(alloc: Global, case: &Case<'_>, input: &Input<'_>, out: &mut String) -> Printed<bool> {
-    let setup = Setup { alloc, case, input };
-    match case.call {
-        "jit" => reader::jit_case(&setup, out)?,
-        "BufferedReader" => reader::buffered_reader_case(&setup, out)?,
-        "JitDumpHeader::parse" => records::header_case(&setup, out)?,
-        "JitDumpHeader::parse_after_magic" => records::in_order_case(&setup, out)?,
-        "JitDumpRecordHeader::parse_impl" => records::in_order_case(&setup, out)?,
-        "JitDumpRawRecord::parse" => records::record_case(&setup, out)?,
-        "JitCodeDebugInfoRecord::lookup" => records::lookup_case(&setup, out)?,
-        "JitDumpRecordType" => push_types(out)?,
+/// The number of bytes of a function name from which on the offset of the code may exceed 64 bits.
+const NAME_LIMIT: usize = 1 << 32;
+
+/// Makes the call of a case, if this module has it.
+pub fn call<T: FileOrder>(call: &Call<'_>, out: &mut String) -> CaseResult<bool> {
+    let bytes = call.input.raw();
+    match call.case.call {
+        "JitDumpHeader::parse" => match JitDumpHeader::parse(bytes) {
+            Ok(header) => {
+                push_line(out, &header)?;
+                push_line(out, &header.endian())?;
+            }
+            Err(error) => push_jit_error(call, out, &error)?,
+        },
+        "JitDumpHeader::parse_after_magic" => {
+            let magic = match call.input.endian {
+                Endianness::LittleEndian => *b"DTiJ",
+                Endianness::BigEndian => *b"JiTD",
+            };
+            push_io_result(out, &JitDumpHeader::parse_after_magic::<T>(magic, bytes))?;
+        }
+        "JitDumpRecordHeader::parse_impl" => {
+            push_io_result(out, &JitDumpRecordHeader::parse_impl::<T>(bytes))?;
+        }
+        "JitDumpRawRecord::parse" => push_parsed(call, &Ok(Some(raw_record(call)?)), out)?,
+        "JitCodeDebugInfoRecord::lookup" => push_found(call, out)?,
+        "jit" => push_calls(call, out)?,
+        "BufferedReader" => push_buffered_calls(call, out)?,
         "UnrecognizedVersion" => {
-            push_jit_error(case, out, &JitDumpError::UnrecognizedVersion(2))?;
+            push_jit_error(call, out, &JitDumpError::UnrecognizedVersion(2))?;
         }
         _ => return Ok(false),
     }
     Ok(true)
 }
 
-// Appends the types of records that have a name.
-fn push_types(out: &mut String) -> Printed {
-    push_line(out, &JitDumpRecordType::JIT_CODE_LOAD)?;
-    push_line(out, &JitDumpRecordType::JIT_CODE_MOVE)?;
-    push_line(out, &JitDumpRecordType::JIT_CODE_DEBUG_INFO)?;
-    push_line(out, &JitDumpRecordType::JIT_CODE_CLOSE)?;
-    push_line(out, &JitDumpRecordType::JIT_CODE_UNWINDING_INFO)
+// Appends the name of an error as a line, and its text as another if the case has the option `display`.
+fn push_jit_error(call: &Call<'_>, out: &mut String, error: &JitDumpError) -> CaseResult {
+    push_line(out, error)?;
+    if call.case.has("display") {
+        writeln!(out, "{error}")?;
+    }
+    Ok(())
 }
 
-// Appends the name of an error as a line, and its text as another if the case has the option `display`.
-fn push_jit_error(case: &Case<'_>, out: &mut String, error: &JitDumpError) -> Printed {
-    match error {
-        JitDumpError::Io(error) => writeln!(out, "Io({:?})", error.kind())?,
-        error => push_line(out, error)?,
+// The record with the body in the input, and the type of the option `type`.
+fn raw_record<'a>(call: &Call<'a>) -> CaseResult<JitDumpRawRecord<'a>> {
+    Ok(JitDumpRawRecord {
+        endian: call.input.endian,
+        record_type: JitDumpRecordType(low_half(call.case.number("type")?.unwrap_or(0))),
+        timestamp: 9,
+        start_offset: 40,
+        record_size: 62,
+        body: call.input.raw(),
+    })
+}
+
+// Appends a record as it is parsed, with the offset of the code from the record's start.
+fn push_parsed(
+    call: &Call<'_>,
+    returned: &io::Result<Option<JitDumpRawRecord<'_>>>,
+    out: &mut String,
+) -> CaseResult {
+    let Ok(Some(record)) = returned else {
+        return Ok(out.push_str("no record\n")?);
+    };
+    let parsed = record.parse(call.alloc);
+    push_io_result(out, &parsed)?;
+    match &parsed {
+        Ok(JitDumpRecord::CodeLoad(load)) if load.function_name.len() < NAME_LIMIT => {
+            let offset = load.code_bytes_offset_from_record_header_start();
+            writeln!(out, "code at {offset}")?;
+        }
+        _ => {}
     }
-    if case.has("display") {
-        writeln!(out, "{error}")?;
+    Ok(())
+}
+
+// Prints the address of the entry that covers each address of the option `addr`, by the debug info in the
+// input.
+fn push_found(call: &Call<'_>, out: &mut String) -> CaseResult {
+    let input = call.input;
+    let Ok(info) = JitCodeDebugInfoRecord::parse(call.alloc, input.endian, input.raw()) else {
+        return Err(CaseError::Invalid("a body that isn't debug info"));
+    };
+    for addr in call.case.numbers(call.alloc, "addr")?.iter() {
+        push_line(out, &info.lookup(*addr).map(|entry| entry.code_addr))?;
+    }
+    Ok(())
+}
+
+// Opens a reader with a buffer of the size of the option `buffer`, makes a list of calls, and prints what
+// each returns. Of a call that is made N times, results that follow an equal one aren't printed.
+fn push_calls(call: &Call<'_>, out: &mut String) -> CaseResult {
+    let source = call.input.script(call.alloc)?;
+    let opened = match call.size("buffer", 0)? {
+        0 => JitDumpReader::new(call.alloc, source),
+        size => JitDumpReader::new_with_buffer_size(call.alloc, source, size),
+    };
+    let mut reader = match opened {
+        Ok(reader) => reader,
+        Err(error) => return push_jit_error(call, out, &error),
+    };
+    for step in steps(call)?.iter() {
+        let mut last = String::new(call.alloc);
+        for _ in 0..step.count {
+            let mut lines = String::new(call.alloc);
+            push_call(call, *step, &mut reader, &mut lines)?;
+            if lines != last {
+                out.push_str(&lines)?;
+            }
+            last = lines;
+        }
+    }
+    Ok(())
+}
+
+// The offset of the next record follows the result of a call that may read or skip a record.
+fn push_call(
+    call: &Call<'_>,
+    step: Step<'_>,
+    reader: &mut JitDumpReader<Script>,
+    out: &mut String,
+) -> CaseResult {
+    match step.name {
+        "next" => match reader.next_record() {
+            Ok(Some(record)) => push_record(call, &record, out)?,
+            Ok(None) => out.push_str("None")?,
+            Err(error) => write!(out, "Err({:?})", error.kind())?,
+        },
+        "skip" => match reader.skip_next_record() {
+            Ok(is_skipped) => write!(out, "{is_skipped}")?,
+            Err(error) => write!(out, "Err({:?})", error.kind())?,
+        },
+        "parse" => return push_parsed(call, &reader.next_record(), out),
+        "peek" => return push_io_result(out, &reader.next_record_header()),
+        "peek_time" => return push_io_result(out, &reader.next_record_timestamp()),
+        "peek_type" => return push_io_result(out, &reader.next_record_type()),
+        "offset" => return push_line(out, &reader.next_record_offset()),
+        "has_buffered" => return push_line(out, &reader.has_buffered(step.number)),
+        "header" => return push_line(out, reader.header()),
+        "endian" => return push_line(out, &reader.endian()),
+        _ => return Err(unknown_call()),
+    }
+    writeln!(out, " at {}", reader.next_record_offset())?;
+    Ok(())
+}
+
+// Prints the offset, time, type and size of a record, and with the option `slices` the sizes of the slices of
+// its body.
+fn push_record(call: &Call<'_>, record: &JitDumpRawRecord<'_>, out: &mut String) -> CaseResult {
+    let (offset, time) = (record.start_offset, record.timestamp);
+    write!(
+        out,
+        "{offset} {time} {} {}",
+        record.record_type.0, record.record_size
+    )?;
+    let start = usize::try_from(offset).unwrap_or(usize::MAX);
+    let body = start.saturating_add(JitDumpRecordHeader::SIZE);
+    let end = body.saturating_add(record.body.len());
+    if call.input.bytes.get(body..end).map(RawData::from) != Some(record.body) {
+        out.push_str(" with another body")?;
+    }
+    match record.body {
+        RawData::Split(first, second) if call.case.has("slices") => {
+            write!(out, " [{}, {}]", first.len(), second.len())?;
+        }
+        _ => {}
+    }
+    Ok(())
+}
+
+// Fills the first bytes of a buffer, makes a list of calls on a reader of its rest and the source, and prints
+// what each returns.
+fn push_buffered_calls(call: &Call<'_>, out: &mut String) -> CaseResult {
+    let mut source = call.input.script(call.alloc)?;
+    let mut buffer = Vec::new(call.alloc);
+    buffer.resize(call.size("size", 0)?, 0)?;
+    let written = call.size("written", 0)?.min(buffer.len());
+    let read = source.read_exact_or_until_eof(&mut buffer[..written]);
+    push_io_result(out, &read)?;
+    let Ok(written) = read else {
+        return Ok(());
+    };
+    let consumed = call.size("consumed", 0)?;
+    if consumed > written || written > buffer.len() || buffer.is_empty() {
+        return Err(CaseError::Invalid("more bytes are consumed than written"));
+    }
+    let mut reader = BufferedReader::new_with_partially_read_buffer(
+        call.alloc, source, buffer, consumed, written,
+    );
+    for step in steps(call)?.iter() {
+        match step.name {
+            "consume_data" => push_raw(call.alloc, out, reader.consume_data(step.number))?,
+            "skip_bytes" => push_io_result(out, &reader.skip_bytes(step.number))?,
+            _ => return Err(unknown_call()),
+        }
     }
     Ok(())
 }

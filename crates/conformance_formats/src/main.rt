@@ -1,13 +1,19 @@
-//! Runs the cases of `data/`: calls of the parsers of single values, and of the jitdump reader, and what they return.
+//! Runs the cases of `data/`: calls of the parsers of single values, and of the jitdump reader, and what they
+//! return.
 #![tactic(auto)]
 
-mod base;
-mod calls;
 mod jitdump;
+mod lists;
+mod numbers;
+mod parts;
 mod sections;
+mod simpleperf;
+mod sources;
+mod tables;
 
-use conformance_cases::{Calls, Case, CaseError, Input, run};
-use std::alloc::Global;
+use byteorder::{BigEndian, LittleEndian};
+use conformance_cases::{Call, Calls, CaseResult, run};
+use perfdata_base::raw::{Endianness, FileOrder};
 use std::process::ExitCode;
 
 /// The calls of this program.
@@ -15,22 +21,31 @@ use std::process::ExitCode;
 struct FormatCalls;
 
 impl Calls for FormatCalls {
-    fn call(
-        &self,
-        alloc: Global,
-        case: &Case<'_>,
-        input: &Input<'_>,
-        out: &mut String,
-    ) -> Result<(), CaseError> {
-        let is_done = sections::call(alloc, case, input, out)?
-            || base::call(alloc, case, input, out)?
-            || jitdump::call(alloc, case, input, out)?;
-        if is_done {
-            Ok(())
-        } else {
-            Err(CaseError::Invalid("an unknown call"))
+    fn call(&self, call: &Call<'_>, out: &mut String) -> CaseResult<bool> {
+        match call.input.endian {
+            Endianness::LittleEndian => call_in::<LittleEndian>(call, out),
+            Endianness::BigEndian => call_in::<BigEndian>(call, out),
         }
     }
+}
+
+// Makes a call in the byte order of its input.
+fn call_in<T: FileOrder>(call: &Call<'_>, out: &mut String) -> CaseResult<bool> {
+    match call.case.call {
+        "raw" => sources::raw::<T>(call, out)?,
+        "source" => sources::source(call, out)?,
+        _ => {
+            return Ok(
+                tables::call(call, out)?
+                    || numbers::call(call, out)?
+                    || simpleperf::call::<T>(call, out)?
+                    || jitdump::call::<T>(call, out)?
+                    || sections::call::<T>(call, out)?
+                    || parts::call::<T>(call, out)?,
+            );
+        }
+    }
+    Ok(true)
 }
 
 fn main(rt: HostRuntime) -> ExitCode {

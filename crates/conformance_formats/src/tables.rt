@@ -1,8 +1,8 @@
 //! Tables of constants by their names, and of errors with their texts.
-use crate::calls::{Printed, Setup};
-use conformance_cases::{push_error, push_line};
+use conformance_cases::{Call, CaseResult, push_line};
 use perfdata_base::features::*;
 use perfdata_base::source::unexpected_eof;
+use perfdata_jit::JitDumpRecordType;
 use perfdata_records::auxtrace::Auxtrace;
 use perfdata_records::laws::{perf_record_types, simpleperf_record_types};
 use perfdata_sections::constants::*;
@@ -61,45 +61,52 @@ const DSO_TYPES: [(&str, u32); 6] = named![
     DSO_KERNEL DSO_KERNEL_MODULE DSO_ELF_FILE DSO_DEX_FILE DSO_SYMBOL_MAP_FILE DSO_UNKNOWN_FILE
 ];
 
-const SIZES: [(&str, usize); 5] = [
-    ("NrCpus", NrCpus::STRUCT_SIZE),
-    ("SampleTimeRange", SampleTimeRange::STRUCT_SIZE),
-    ("CompressionInfo", CompressionInfo::STRUCT_SIZE),
-    ("ClockData", ClockData::STRUCT_SIZE),
-    ("Auxtrace", Auxtrace::FIXED_SIZE),
-];
-
-const READ_ERRORS: [ReadError; 10] = variants![
-    ReadError: PerfHeader FeatureSection BuildIdSection StringLen String NrCpus AttrsSection
-    PerfEventAttr PerfEventHeader PerfEventData
-];
-
-const DECODE_ERRORS: [DecodeError; 8] = variants![
-    DecodeError: Truncated Varint Key WireType Group Depth Utf8 Memory
-];
-
 /// Makes the call of a case, if this module has it.
-pub fn call(setup: &Setup<'_>, out: &mut String) -> Printed<bool> {
-    match setup.case.call {
+pub fn call(call: &Call<'_>, out: &mut String) -> CaseResult<bool> {
+    match call.case.call {
         "feature-numbers" => push_rows(out, &FEATURE_NUMBERS)?,
         "features" => push_rows(out, &FEATURES)?,
         "record-numbers" => push_rows(out, &RECORD_NUMBERS)?,
         "perf_record_types" => push_line(out, &perf_record_types())?,
         "simpleperf_record_types" => push_line(out, &simpleperf_record_types())?,
         "dso-types" => push_rows(out, &DSO_TYPES)?,
-        "sizes" => push_rows(out, &SIZES)?,
+        "JitDumpRecordType" => push_rows(
+            out,
+            &named![
+            JitDumpRecordType: JIT_CODE_LOAD JIT_CODE_MOVE JIT_CODE_DEBUG_INFO JIT_CODE_CLOSE
+            JIT_CODE_UNWINDING_INFO
+        ],
+        )?,
+        "sizes" => {
+            writeln!(out, "NrCpus {}", NrCpus::STRUCT_SIZE)?;
+            writeln!(out, "SampleTimeRange {}", SampleTimeRange::STRUCT_SIZE)?;
+            writeln!(out, "CompressionInfo {}", CompressionInfo::STRUCT_SIZE)?;
+            writeln!(out, "ClockData {}", ClockData::STRUCT_SIZE)?;
+            writeln!(out, "Auxtrace {}", Auxtrace::FIXED_SIZE)?;
+        }
         "CompressionInfo::ZSTD_TYPE" => push_line(out, &CompressionInfo::ZSTD_TYPE)?,
-        "ReadError" => push_texts(out, &READ_ERRORS)?,
-        "DecodeError" => push_texts(out, &DECODE_ERRORS)?,
+        "ReadError" => push_texts(
+            out,
+            &variants![
+            ReadError: PerfHeader FeatureSection BuildIdSection StringLen String NrCpus AttrsSection
+            PerfEventAttr PerfEventHeader PerfEventData
+        ],
+        )?,
+        "DecodeError" => push_texts(
+            out,
+            &variants![
+            DecodeError: Truncated Varint Key WireType Group Depth Utf8 Memory
+        ],
+        )?,
         "Error" => push_error_texts(out)?,
-        "Error::from" => push_errors(out, &converted_errors())?,
+        "Error::from" => push_converted(out)?,
         _ => return Ok(false),
     }
     Ok(true)
 }
 
 // Appends a line for each value.
-fn push_rows<T: Debug>(out: &mut String, rows: &[T]) -> Printed {
+fn push_rows<T: Debug>(out: &mut String, rows: &[T]) -> CaseResult {
     for row in rows {
         push_line(out, row)?;
     }
@@ -107,22 +114,14 @@ fn push_rows<T: Debug>(out: &mut String, rows: &[T]) -> Printed {
 }
 
 // Appends the name and the text of each error.
-fn push_texts<E: Debug + Display>(out: &mut String, errors: &[E]) -> Printed {
+fn push_texts<E: Debug + Display>(out: &mut String, errors: &[E]) -> CaseResult {
     for error in errors {
-        write!(out, "{error:?}: {error}\n")?;
+        writeln!(out, "{error:?}: {error}")?;
     }
     Ok(())
 }
 
-fn push_errors(out: &mut String, errors: &[Error]) -> Printed {
-    for error in errors {
-        push_error(out, error)?;
-        write!(out, ": {error}\n")?;
-    }
-    Ok(())
-}
-
-fn push_error_texts(out: &mut String) -> Printed {
+fn push_error_texts(out: &mut String) -> CaseResult {
     let with_values = [
         Error::Read(ReadError::PerfEventData),
         Error::IoError(unexpected_eof()),
@@ -133,32 +132,26 @@ fn push_error_texts(out: &mut String) -> Printed {
         Error::ProtobufParsingSimpleperfFileSection(DecodeError::WireType),
         Error::ParsingSimpleperfFileV1Section(unexpected_eof()),
     ];
-    push_errors(out, &with_values)?;
+    push_texts(out, &with_values)?;
     let others = variants![
         Error: SectionSizeTooBig NoAttributes NotEnoughSpaceForStringLen
         NotEnoughSpaceForStringListLen FeatureSectionTooSmall NoEventTypesInSimpleperfMetaInfo
         StringLengthTooLong StringListLengthBiggerThanUsize StringLengthBiggerThanUsize StringUtf8
         InvalidPerfEventSize Failed Memory
     ];
-    push_errors(out, &others)
+    push_texts(out, &others)
 }
 
-// The error of a text that isn't UTF-8.
-fn utf8_error() -> Error {
-    match str::from_utf8(b"\xff") {
-        Ok(_) => Error::Failed,
-        Err(error) => Error::from(error),
-    }
-}
-
-// Errors that are made from other errors.
-fn converted_errors() -> [Error; 6] {
-    [
+// Appends errors that are made from other errors.
+fn push_converted(out: &mut String) -> CaseResult {
+    let not_utf8 = str::from_utf8(b"\xff").map_err(Error::from);
+    let errors = [
         Error::from(ReadError::NrCpus),
         Error::from(io::Error::from(ErrorKind::OutOfMemory)),
-        utf8_error(),
+        not_utf8.err().unwrap_or(Error::Failed),
         Error::from(AllocError),
         Error::from(AllocFailed { value: 7u8 }),
         unsupported(),
-    ]
+    ];
+    push_texts(out, &errors)
 }
