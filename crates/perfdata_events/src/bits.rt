@@ -1,5 +1,5 @@
-//! The bits of attributes and record headers, by their names in Linux's `perf_event.h`. Bits without a constant
-//! here are preserved.
+//! The bits of attributes and record headers, by their names in Linux's `perf_event.h`. Bits without a
+//! constant here are preserved.
 ghost use Rattle.std.specs.Prelude.{⊤, ◌≡◌, ◌/◌, ◌%◌, ◌^◌, [], ◌∷◌, codes};
 
 use bitflags::{Flag, Flags, bitflag_items};
@@ -329,7 +329,8 @@ impl Flags for EventFlags {
 }
 
 impl EventFlags {
-    /// Returns how exact the address of a sample is (`precise_ip`): 0 may be any later instruction, 3 is the instruction itself.
+    /// Returns how exact the address of a sample is (`precise_ip`): 0 may be any later instruction, 3 is the
+    /// instruction itself.
     pub fn precise_ip(&self) -> u8
         ensures { result ≡ self.now.0 / 2 ^ 15 % 4 }
     {
@@ -337,8 +338,8 @@ impl EventFlags {
     }
 }
 
-/// The bits of a record header's `misc` that depend on the record's type (`PERF_RECORD_MISC_*`). The bits below
-/// them are the CPU mode.
+/// The bits of a record header's `misc` that depend on the record's type (`PERF_RECORD_MISC_*`). The bits
+/// below them are the CPU mode.
 #[derive(Clone, Copy, Debug, PartialEq, Eq)]
 pub struct MiscFlags(pub u16);
 

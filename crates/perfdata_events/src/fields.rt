@@ -1,5 +1,5 @@
-//! Fields that have a format of their own: numbers, texts, lists of numbers, counter values, call chains, registers, file ids,
-//! and the fields of a sample from its weight on.
+//! Fields that have a format of their own: numbers, texts, lists of numbers, counter values, call chains,
+//! registers, file ids, and the fields of a sample from its weight on.
 
 pub mod call_chain;
 pub mod file_id;
