@@ -21,8 +21,8 @@ fn with_buffer<R: Read + Drop>(alloc: Global, reader: R) -> Result<CountedBuffer
     Ok(CountedBuffer::new(reader))
 }
 
-/// Opens the file at a path with a buffer of `BUFFER_SIZE` bytes. The buffer is empty, and the counts of I/O errors and of
-/// empty reads are 0.
+/// Opens the file at a path with a buffer of `BUFFER_SIZE` bytes. The buffer is empty, and the counts of I/O
+/// errors and of empty reads are 0.
 ///
 /// Fails if the file can't be opened, or the allocation of the buffer fails.
 pub fn open_file<R: Files + AllocGlobal>(rt: &R, path: &str) -> Result<CountedBuffer<R::File>>
@@ -33,8 +33,8 @@ pub fn open_file<R: Files + AllocGlobal>(rt: &R, path: &str) -> Result<CountedBu
     with_buffer(rt.alloc(), file)
 }
 
-/// Returns standard input with a buffer of `BUFFER_SIZE` bytes. The buffer is empty, and the counts of I/O errors and of
-/// empty reads are 0.
+/// Returns standard input with a buffer of `BUFFER_SIZE` bytes. The buffer is empty, and the counts of I/O
+/// errors and of empty reads are 0.
 ///
 /// Fails if the allocation of the buffer fails.
 pub fn open_stdin<R: Input + AllocGlobal>(rt: &R) -> Result<CountedBuffer<R::Reader>>

@@ -1,4 +1,5 @@
-//! Counts what the bodies of kernel records contain: processes and threads, processors, mappings, lost records, switches.
+//! Counts what the bodies of kernel records contain: processes and threads, processors, mappings, lost
+//! records, switches.
 use crate::counting::{count_one, to_vec};
 use crate::escape::{Escaped, Hex};
 use crate::report::Report;

@@ -4,8 +4,8 @@ ghost use Rattle.std.specs.Prelude.{◌≢◌, ◌<◌, ◌≤◌, ◌↔◌, Is
 use std::fmt::Write;
 use std::{fmt, str};
 
-/// Displays bytes on one line. In UTF-8 text, control characters and backslashes are escaped. In other bytes, everything but
-/// printable ASCII is escaped, and so are backslashes.
+/// Displays bytes on one line. In UTF-8 text, control characters and backslashes are escaped. In other bytes,
+/// everything but printable ASCII is escaped, and so are backslashes.
 #[derive(Clone, Copy)]
 pub struct Escaped<'a>(pub &'a [u8]);
 

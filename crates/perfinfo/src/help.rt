@@ -35,7 +35,8 @@ fn text_for(argument: &str) -> Option<&'static str>
     }
 }
 
-/// Returns the text that the arguments ask for, or `None` if they select a command. Only one argument asks for a text.
+/// Returns the text that the arguments ask for, or `None` if they select a command. Only one argument asks
+/// for a text.
 pub(crate) fn requested_text(rt: &HostRuntime) -> Result<Option<&'static str>, ArgsError> {
     let mut args = match env::args(rt) {
         Ok(args) => args,

@@ -1,4 +1,5 @@
-//! Prints a report on a `perf.data` file, a pipe or a jitdump file: one `name: value` pair a line, with indented lists.
+//! Prints a report on a `perf.data` file, a pipe or a jitdump file: one `name: value` pair a line, with
+//! indented lists.
 #![tactic(auto)]
 
 mod build_ids;
@@ -57,8 +58,8 @@ fn report_pipe(rt: &HostRuntime) -> Result<(), InfoError> {
     }
 }
 
-/// Reads the records of a file or pipe to their end or to the first error, and prints the report. A read error takes precedence
-/// over an error of the report.
+/// Reads the records of a file or pipe to their end or to the first error, and prints the report. A read
+/// error takes precedence over an error of the report.
 fn report_records<R: Source>(
     rt: &HostRuntime,
     reader: &mut PerfFileReader<R>,
@@ -94,8 +95,8 @@ fn report_jitdump(rt: &HostRuntime, path: &str) -> Result<(), InfoError> {
     }
 }
 
-/// Reads the records of a jitdump file to the last complete one or to the first error, and prints the report. A read error takes
-/// precedence over an error of the report.
+/// Reads the records of a jitdump file to the last complete one or to the first error, and prints the report.
+/// A read error takes precedence over an error of the report.
 fn report_jit_records<R: Source>(
     rt: &HostRuntime,
     reader: &mut JitDumpReader<R>,

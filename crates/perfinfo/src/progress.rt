@@ -37,7 +37,8 @@ impl<'a> Progress<'a> {
         }
     }
 
-    /// Counts a record that ends this many bytes after the start of the records, and writes a line once a second.
+    /// Counts a record that ends this many bytes after the start of the records, and writes a line once a
+    /// second.
     pub(crate) fn add_record(&mut self, end: u64) {
         self.records = self.records.wrapping_add(1);
         if self.records % RECORDS_PER_READING != 0 {

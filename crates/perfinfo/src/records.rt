@@ -44,10 +44,14 @@ impl EventCounts {
     /// Adds a record to the counts.
     fn add(&mut self, summary: RecordSummary)
         ensures records { self.old.records < 2 ^ 64 - 1 → self.new.records ≡ self.old.records + 1 }
-        ensures sample { summary.record_type ≡ 9 → self.old.samples < 2 ^ 64 - 1 → self.new.samples ≡ self.old.samples + 1 }
-        ensures other { summary.record_type ≢ 9 → (self.new ≡ record self.old { records = self.new.records }) }
-        ensures first { summary.record_type ≡ 9 → IfSome summary.timestamp (λ time. IsEarliest self.old.first_sample time self.new.first_sample) }
-        ensures last { summary.record_type ≡ 9 → IfSome summary.timestamp (λ time. IsLatest self.old.last_sample time self.new.last_sample) }
+        ensures sample { summary.record_type ≡ 9 → self.old.samples < 2 ^ 64 - 1 → self.new.samples
+            ≡ self.old.samples + 1 }
+        ensures other { summary.record_type ≢ 9
+            → (self.new ≡ record self.old { records = self.new.records }) }
+        ensures first { summary.record_type ≡ 9
+            → IfSome summary.timestamp (λ time. IsEarliest self.old.first_sample time self.new.first_sample) }
+        ensures last { summary.record_type ≡ 9
+            → IfSome summary.timestamp (λ time. IsLatest self.old.last_sample time self.new.last_sample) }
         ensures same_first { IfNone summary.timestamp (self.new.first_sample ≡ self.old.first_sample) }
         ensures same_last { IfNone summary.timestamp (self.new.last_sample ≡ self.old.last_sample) }
     {
@@ -181,8 +185,8 @@ impl RecordCounts {
     }
 }
 
-/// Returns the size in bytes of the aux data of an auxtrace record, or 0 for other records. Fails if an auxtrace record can't be
-/// parsed.
+/// Returns the size in bytes of the aux data of an auxtrace record, or 0 for other records. Fails if an
+/// auxtrace record can't be parsed.
 fn aux_data_size(alloc: Global, user: &RawUserRecord<'_>) -> Result<u64, Error> {
     if user.record_type != UserRecordType::PERF_AUXTRACE {
         return Ok(0);
@@ -199,8 +203,8 @@ fn event_format(file: &PerfFile, index: usize) -> Option<EventFormat> {
     Some(EventFormat::new(event.attributes(), file.endian()))
 }
 
-/// Adds the body of a record to the counts. Returns the size in bytes of the aux data of an auxtrace record, or 0 for other
-/// records.
+/// Adds the body of a record to the counts. Returns the size in bytes of the aux data of an auxtrace record,
+/// or 0 for other records.
 fn count_body(
     alloc: Global,
     file: &PerfFile,
@@ -232,7 +236,8 @@ fn next_summary<R: Source>(
     Ok(Some(RecordSummary::new(&place, &record, aux_size)))
 }
 
-/// Writes the number of records of each type, the number of rounds, and the total sizes of aux data and of all records.
+/// Writes the number of records of each type, the number of rounds, and the total sizes of aux data and of
+/// all records.
 pub(crate) fn show<W: Write>(counts: &RecordCounts, report: &mut Report<W>) {
     report.line("records by type", counts.per_type.len());
     for (record_type, count) in counts.per_type.iter() {

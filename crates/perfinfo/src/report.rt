@@ -56,8 +56,8 @@ impl<W: Write> Report<W> {
         self.write_indented("    ", name, value);
     }
 
-    /// Returns the value of a section, or `None` if the section is missing or can't be read. For an unreadable section it writes
-    /// a line with the error.
+    /// Returns the value of a section, or `None` if the section is missing or can't be read. For an
+    /// unreadable section it writes a line with the error.
     pub(crate) fn value_or_note<T>(
         &mut self,
         name: &str,
@@ -87,8 +87,8 @@ impl<W: Write> Report<W> {
         }
     }
 
-    /// Flushes the writer. Fails with `Write` if a write or the flush fails, or else with the number of unreadable sections if
-    /// it isn't 0.
+    /// Flushes the writer. Fails with `Write` if a write or the flush fails, or else with the number of
+    /// unreadable sections if it isn't 0.
     pub fn finish(self) -> Result<(), InfoError>
     where
         W: Drop,
