@@ -4,7 +4,7 @@ use Rattle.linux_perf_data.specs.Layout.{RecordView}
 use Rattle.perfdata_json.specs.declared.line.JsonLine.{JsonLine}
 
 -- the text of a line
-pub json_text : JsonLine → List ℕ
+abbrev pub json_text : JsonLine → List ℕ
 json_text l = l.bytes.items
 
 -- a line of a record: a JSON object and a newline
