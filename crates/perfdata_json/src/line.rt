@@ -3,7 +3,7 @@ ghost use Rattle.std.specs.Prelude.{◌≡◌, []};
 
 use crate::body::BodyWriter;
 use crate::kernel::SampleIdMembers;
-use crate::names::record_type_name;
+use linux_perf_data::event::RecordType;
 use linux_perf_data::{Error, PerfFile, PerfFileRecord, RecordPlace};
 use perfdata_listing::RecordLine;
 use serde::Serialize;
@@ -19,7 +19,7 @@ enum TypeMember {
 
 impl TypeMember {
     fn new(number: u32) -> TypeMember {
-        match record_type_name(number) {
+        match RecordType(number).name() {
             Some(name) => TypeMember::Name(name),
             None => TypeMember::Number(number),
         }

@@ -1,4 +1,5 @@
 //! The names of Linux constants.
+use linux_perf_data::event::RecordType;
 use std::fmt;
 
 /// Returns the name of a clock of `clock_gettime`.
@@ -60,36 +61,15 @@ impl fmt::Display for BitNames {
     }
 }
 
-/// Names of the kernel's record types from 1 (`perf_event_type`).
-const KERNEL_RECORD_NAMES: &str =
-    "MMAP LOST COMM EXIT THROTTLE UNTHROTTLE FORK READ SAMPLE MMAP2 AUX ITRACE_START LOST_SAMPLES SWITCH SWITCH_CPU_WIDE NAMESPACES KSYMBOL BPF_EVENT CGROUP TEXT_POKE AUX_OUTPUT_HW_ID";
-
-/// Names of perf's user record types from 64.
-const USER_RECORD_NAMES: &str =
-    "HEADER_ATTR HEADER_EVENT_TYPE HEADER_TRACING_DATA HEADER_BUILD_ID FINISHED_ROUND ID_INDEX AUXTRACE_INFO AUXTRACE AUXTRACE_ERROR THREAD_MAP CPU_MAP STAT_CONFIG STAT STAT_ROUND EVENT_UPDATE TIME_CONV HEADER_FEATURE COMPRESSED FINISHED_INIT COMPRESSED2";
-
-/// Names of simpleperf's user record types from 32,769.
-const SIMPLEPERF_RECORD_NAMES: &str =
-    "SIMPLEPERF_KERNEL_SYMBOL SIMPLEPERF_DSO SIMPLEPERF_SYMBOL SIMPLEPERF_SPLIT SIMPLEPERF_SPLIT_END SIMPLEPERF_EVENT_ID SIMPLEPERF_CALLCHAIN SIMPLEPERF_UNWINDING_RESULT SIMPLEPERF_TRACING_DATA";
-
 /// Names of the record types of jitdump files from 0.
 const JIT_RECORD_NAMES: &str = "CODE_LOAD CODE_MOVE CODE_DEBUG_INFO CODE_CLOSE CODE_UNWINDING_INFO";
 
-/// Returns the name of a number in a list that starts with the name of `first`.
-fn name_at(names: &'static str, first: u32, number: u32) -> Option<&'static str> {
-    let index = number.checked_sub(first)?;
-    names.split(' ').nth(index as usize)
-}
-
 /// Returns the name of a record type.
 pub(crate) fn record_type_name(number: u32) -> &'static str {
-    name_at(KERNEL_RECORD_NAMES, 1, number)
-        .or(name_at(USER_RECORD_NAMES, 64, number))
-        .or(name_at(SIMPLEPERF_RECORD_NAMES, 32769, number))
-        .unwrap_or("unknown")
+    RecordType(number).name().unwrap_or("unknown")
 }
 
 /// Returns the name of a record type of jitdump files.
 pub(crate) fn jit_record_type_name(number: u32) -> &'static str {
-    name_at(JIT_RECORD_NAMES, 0, number).unwrap_or("unknown")
+    JIT_RECORD_NAMES.split(' ').nth(number as usize).unwrap_or("unknown")
 }
