@@ -85,7 +85,8 @@ impl BodyWriter {
         }
     }
 
-    /// The line of a sample. A sample with fields whose offset isn't known has the sample_id fields before them.
+    /// The line of a sample. A sample with fields whose offset isn't known has the sample_id fields before
+    /// them.
     fn sample(
         &self,
         line: &Envelope<'_>,

@@ -58,7 +58,8 @@ pub(crate) struct Envelope<'a> {
 }
 
 impl Envelope<'_> {
-    /// Returns the JSON of a line with the members of a body. Fails if memory runs out: no value of a line has another error.
+    /// Returns the JSON of a line with the members of a body. Fails if memory runs out: no value of a line
+    /// has another error.
     pub(crate) fn json<T: Serialize>(
         &self,
         alloc: Global,

@@ -6,8 +6,8 @@ use perfdata_listing::write_line;
 use std::io;
 use std::io::Write;
 
-/// Ends the listing. For `Ok` it writes nothing and returns the exit status 0. For an error after `lines` lines it writes the error's
-/// line and returns the exit status 2. Fails as `write_line` does.
+/// Ends the listing. For `Ok` it writes nothing and returns the exit status 0. For an error after `lines`
+/// lines it writes the error's line and returns the exit status 2. Fails as `write_line` does.
 pub fn finish<W: Write>(outcome: Result<u64, u64>, err: &mut W) -> io::Result<u8>
     ensures { Finishes (W.contents err.old) (W.contents err.new) outcome result }
 {

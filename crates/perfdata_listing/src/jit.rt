@@ -51,7 +51,8 @@ fn list_next<R: Source, W: Write>(
     }
 }
 
-/// Does what `list_next` does for a live input. Either the writer has no pending bytes, or the next record is buffered.
+/// Does what `list_next` does for a live input. Either the writer has no pending bytes, or the next record is
+/// buffered.
 fn list_next_live<R: Source, W: FlushPending>(
     reader: &mut JitDumpReader<R>,
     line: &mut Line,
@@ -84,7 +85,8 @@ fn list_jit_records<R: Source, W: Write>(
 
 /// Whether the next record, which has this size, is valid and completely buffered.
 fn is_record_buffered<R: Source>(reader: &JitDumpReader<R>, size: u32) -> bool
-    ensures { IsTrue result → (16 ≤ size) × (jit_offset reader.now + size < 2 ^ 64) × (size ≤ length (jit_buffered reader.now)) }
+    ensures { IsTrue result → (16 ≤ size) × (jit_offset reader.now + size < 2 ^ 64)
+        × (size ≤ length (jit_buffered reader.now)) }
 {
     let offset = reader.next_record_offset();
     if (size as usize) < JitDumpRecordHeader::SIZE {
@@ -100,7 +102,8 @@ fn is_record_buffered<R: Source>(reader: &JitDumpReader<R>, size: u32) -> bool
 fn is_next_buffered<R: Source>(reader: &mut JitDumpReader<R>) -> bool
     requires found { jit_seek_failed reader.old ≡ false }
     ensures unread { ReadsNothing R.state reader.old reader.new }
-    ensures buffered { IsTrue result → HasWholeRecord (jit_endian reader.new) (jit_offset reader.new) (jit_buffered reader.new) }
+    ensures buffered { IsTrue result → HasWholeRecord (jit_endian reader.new) (jit_offset reader.new)
+        (jit_buffered reader.new) }
 {
     if !reader.has_buffered(JitDumpRecordHeader::SIZE) {
         return false;
@@ -128,15 +131,17 @@ fn flush_before_blocking<R: Source, W: FlushPending>(
     out.flush_pending()
 }
 
-/// Writes a line for each remaining record of a live input. Returns the number of lines. Pending lines are flushed before
-/// each call for a record that isn't buffered.
+/// Writes a line for each remaining record of a live input. Returns the number of lines. Pending lines are
+/// flushed before each call for a record that isn't buffered.
 fn list_live_jit_records<R: Source, W: FlushPending>(
     reader: &mut JitDumpReader<R>,
     out: &mut W,
 ) -> Result<u64, ListFault>
     requires { (jit_seek_failed reader.old ≡ false) × (16 ≤ jit_ring_capacity reader.old) }
-    ensures lists { ListsLiveJitRecords R.state reader.old (W.contents out.old) result (W.contents out.new) reader.new }
-    ensures flushes { FlushesBeforeBlocking R.state W.pending W.contents reader.old out.old result out.new reader.new }
+    ensures lists { ListsLiveJitRecords R.state reader.old (W.contents out.old) result
+        (W.contents out.new) reader.new }
+    ensures flushes { FlushesBeforeBlocking R.state W.pending W.contents reader.old out.old result out.new
+        reader.new }
 {
     let mut lines = 0u64;
     let mut line = Line::new();
@@ -156,13 +161,15 @@ fn list_live_jit_records<R: Source, W: FlushPending>(
     }
 }
 
-/// Writes a line for each record of a jitdump file up to the first incomplete one, and returns the number of lines.
+/// Writes a line for each record of a jitdump file up to the first incomplete one, and returns the number of
+/// lines.
 ///
 /// A line is `OFFSET TIME TYPE SIZE`: decimal numbers, separated by one space.
 ///
-/// On an error `lines` is the number of complete lines that are written: 0 if the file doesn't open, otherwise one for each
-/// record before the record that has an invalid size or that the source fails to read. If the writer fails, a prefix of the
-/// next line is written. A write of 0 bytes is an error of kind `WriteZero`. No write is repeated.
+/// On an error `lines` is the number of complete lines that are written: 0 if the file doesn't open,
+/// otherwise one for each record before the record that has an invalid size or that the source fails to read.
+/// If the writer fails, a prefix of the next line is written. A write of 0 bytes is an error of kind
+/// `WriteZero`. No write is repeated.
 pub fn list_jit<R: Source + Drop, W: Write>(
     alloc: Global,
     source: R,
@@ -179,18 +186,20 @@ pub fn list_jit<R: Source + Drop, W: Write>(
     }
 }
 
-/// Lists a jitdump that may still grow, as [`list_jit`] does, into a writer that may buffer lines. The lines are flushed
-/// before each record that isn't buffered. Thus all lines so far are readable while the source waits for data.
+/// Lists a jitdump that may still grow, as [`list_jit`] does, into a writer that may buffer lines. The lines
+/// are flushed before each record that isn't buffered. Thus all lines so far are readable while the source
+/// waits for data.
 ///
-/// The call reads up to 64 KiB at once, and the source needs no buffer of its own. If this flush fails, all `lines` lines
-/// are written, and no byte of a next line.
+/// The call reads up to 64 KiB at once, and the source needs no buffer of its own. If this flush fails, all
+/// `lines` lines are written, and no byte of a next line.
 pub fn list_live_jit<R: Source + Drop, W: FlushPending>(
     alloc: Global,
     source: R,
     out: &mut W,
 ) -> Result<u64, ListFault>
     ensures lists { ListsLiveJit R.state source 65536 (W.contents out.old) result (W.contents out.new) }
-    ensures flushes { FlushesJitBeforeBlocking R.state W.pending W.contents source 65536 out.old result out.new }
+    ensures flushes { FlushesJitBeforeBlocking R.state W.pending W.contents source 65536 out.old result
+        out.new }
 {
     match JitDumpReader::new_with_buffer_size(alloc, source, LIVE_BUFFER_SIZE) {
         Ok(mut reader) => list_live_jit_records(&mut reader, out),

@@ -18,16 +18,20 @@ pub fn one_line_per_record()
 
 /// The text of plain lines is determined: it is the lines of the records, in order.
 pub fn plain_lines_are_record_lines()
-    ensures { (records : List RecordView) (text : List ℕ) → AreLines IsPlainLine records text → text ≡ flat_map record_line records }
+    ensures { (records : List RecordView) (text : List ℕ) → AreLines IsPlainLine records text → text
+        ≡ flat_map record_line records }
 {}
 
 /// Each record of a jitdump file has one line, at any offset.
 pub fn one_line_per_jit_record()
-    ensures { (endian : Endianness) (offset : ℕ) (records : List (List ℕ)) → newline_count (jit_lines endian offset records) ≡ length records }
+    ensures { (endian : Endianness) (offset : ℕ) (records : List (List ℕ))
+        → newline_count (jit_lines endian offset records) ≡ length records }
 {}
 
-/// Two consecutive calls on a `CountingBufWriter` have the effect of one call with the bytes of both. The count of the
-/// lines that it wrote thus doesn't depend on how the bytes are split into calls.
+/// Two consecutive calls on a `CountingBufWriter` have the effect of one call with the bytes of both. The
+/// count of the lines that it wrote thus doesn't depend on how the bytes are split into calls.
 pub fn consecutive_writes_compose<W: Write>()
-    ensures { (old mid new : CountingBufWriter W) (first second : List ℕ) → BuffersAndForwards W.contents old first mid → BuffersAndForwards W.contents mid second new → BuffersAndForwards W.contents old (first ++ second) new }
+    ensures { (old mid new : CountingBufWriter W) (first second : List ℕ)
+        → BuffersAndForwards W.contents old first mid → BuffersAndForwards W.contents mid second new
+        → BuffersAndForwards W.contents old (first ++ second) new }
 {}

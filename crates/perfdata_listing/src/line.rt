@@ -4,8 +4,8 @@ ghost use Rattle.perfdata_listing.specs.Line.{decimal_or_dash, record_text, jit_
 
 use itoa::write_digits;
 
-/// The capacity of a line in bytes. The longest line has 122 bytes: five numbers of at most 20 digits, one of 10, one of 5,
-/// and a separator after each.
+/// The capacity of a line in bytes. The longest line has 122 bytes: five numbers of at most 20 digits, one of
+/// 10, one of 5, and a separator after each.
 const LINE_CAPACITY: usize = 128;
 
 /// A line of text, stored at the end of an array.
@@ -39,7 +39,8 @@ fn prepend_number(buf: &mut [u8], end: usize, n: u64, separator: u8) -> usize
     write_digits(n, buf, at)
 }
 
-/// Writes a decimal number, or a dash for `None`, and a space before index `end`. Returns the index of their first byte.
+/// Writes a decimal number, or a dash for `None`, and a space before index `end`. Returns the index of their
+/// first byte.
 #[inline]
 fn prepend_optional(buf: &mut [u8], end: usize, n: Option<u64>) -> usize
     requires { (21 ≤ end) × (end ≤ length buf.old) }
@@ -78,7 +79,9 @@ pub struct RecordFields {
 /// Writes a record's line at the end of the array, last field first, and returns the index of its first byte.
 fn format_record(buf: &mut [u8; LINE_CAPACITY], fields: RecordFields) -> usize
     ensures start { result ≤ 128 }
-    ensures written { drop result buf.new ≡ record_text fields.offset fields.round fields.timestamp fields.attr_index fields.record_type fields.misc fields.body_length }
+    ensures written { drop result buf.new
+        ≡ record_text fields.offset fields.round fields.timestamp fields.attr_index fields.record_type
+        fields.misc fields.body_length }
 {
     let body_length_start = prepend_number(buf, LINE_CAPACITY, fields.body_length, b'\n');
     let misc_start = prepend_number(buf, body_length_start, fields.misc as u64, b' ');
@@ -89,7 +92,8 @@ fn format_record(buf: &mut [u8; LINE_CAPACITY], fields: RecordFields) -> usize
     prepend_number(buf, round_start, fields.offset, b' ')
 }
 
-/// Writes the line of a jitdump record at the end of the array, last field first, and returns the index of its first byte.
+/// Writes the line of a jitdump record at the end of the array, last field first, and returns the index of
+/// its first byte.
 fn format_jit_record(
     buf: &mut [u8; LINE_CAPACITY],
     offset: u64,
@@ -143,13 +147,14 @@ impl Line {
     /// Sets it to the line of a record.
     #[inline]
     pub fn set_record(&mut self, fields: RecordFields)
-        ensures { text_of self.new ≡ record_text fields.offset fields.round fields.timestamp fields.attr_index fields.record_type fields.misc fields.body_length }
+        ensures { text_of self.new ≡ record_text fields.offset fields.round fields.timestamp fields.attr_index
+            fields.record_type fields.misc fields.body_length }
     {
         self.start = format_record(&mut self.bytes, fields);
     }
 
-    /// Sets it to the line of a jitdump record: its offset in the file, its timestamp, its type, and its size in bytes
-    /// including its record header.
+    /// Sets it to the line of a jitdump record: its offset in the file, its timestamp, its type, and its size
+    /// in bytes including its record header.
     #[inline]
     pub fn set_jit_record(&mut self, offset: u64, time: u64, record_type: u32, size: u64)
         ensures { text_of self.new ≡ jit_record_text offset time record_type size }

@@ -45,8 +45,8 @@ pub struct ListFault {
 
 /// Writes the line of a record. `file` contains the record's attribute, and `line` is set to the line.
 ///
-/// Fails if memory runs out, and nothing of the line is written then, or if the writer fails, and a prefix of the line is
-/// written then.
+/// Fails if memory runs out, and nothing of the line is written then, or if the writer fails, and a prefix of
+/// the line is written then.
 pub fn write_record<L: RecordLine, W: Write>(
     place: RecordPlace,
     file_record: &PerfFileRecord<'_>,
@@ -54,7 +54,8 @@ pub fn write_record<L: RecordLine, W: Write>(
     line: &mut L,
     out: &mut W,
 ) -> Result<(), ListCause>
-    ensures { WritesRecord L.is_line L.allocates (record_view_of place file_record.now) (W.contents out.old) result (W.contents out.new) }
+    ensures { WritesRecord L.is_line L.allocates (record_view_of place file_record.now)
+        (W.contents out.old) result (W.contents out.new) }
 {
     match line.set(place, file_record, file) {
         Ok(()) => match write_line(out, line.as_bytes()) {
@@ -72,7 +73,8 @@ fn list_next<R: Source, L: RecordLine, W: Write>(
     line: &mut L,
     out: &mut W,
 ) -> Result<bool, ListCause>
-    ensures { ListsNext L.is_line L.allocates R.state iter.old file.old (W.contents out.old) result (W.contents out.new) iter.new file.new }
+    ensures { ListsNext L.is_line L.allocates R.state iter.old file.old (W.contents out.old) result
+        (W.contents out.new) iter.new file.new }
 {
     match iter.next_record(file) {
         Ok(Some((place, record))) => {
@@ -86,7 +88,8 @@ fn list_next<R: Source, L: RecordLine, W: Write>(
     }
 }
 
-/// Does what `list_next` does for a live input. Either the writer has no pending bytes, or the next record is buffered.
+/// Does what `list_next` does for a live input. Either the writer has no pending bytes, or the next record is
+/// buffered.
 fn list_next_live<R: Source, L: RecordLine, W: FlushPending>(
     iter: &mut PerfRecordIter<R>,
     file: &mut PerfFile,
@@ -94,7 +97,8 @@ fn list_next_live<R: Source, L: RecordLine, W: FlushPending>(
     out: &mut W,
 ) -> Result<bool, ListCause>
     requires flushed { MayBlock R.state iter.old (W.pending out.old) }
-    ensures { ListsNext L.is_line L.allocates R.state iter.old file.old (W.contents out.old) result (W.contents out.new) iter.new file.new }
+    ensures { ListsNext L.is_line L.allocates R.state iter.old file.old (W.contents out.old) result
+        (W.contents out.new) iter.new file.new }
 {
     list_next(iter, file, line, out)
 }
@@ -108,7 +112,8 @@ fn list_records<R: Source, L: RecordLine, W: Write>(
 ) -> Result<u64, ListFault>
     requires not_failed { HasNotFailed iter.old }
     requires matching_file { HasMatchingFile R.state iter.old file.old }
-    ensures { ListsRecords L.is_line L.allocates R.state iter.old file.old (W.contents out.old) result (W.contents out.new) iter.new file.new }
+    ensures { ListsRecords L.is_line L.allocates R.state iter.old file.old (W.contents out.old) result
+        (W.contents out.new) iter.new file.new }
 {
     let mut lines = 0u64;
     'records: loop {
@@ -120,8 +125,8 @@ fn list_records<R: Source, L: RecordLine, W: Write>(
     }
 }
 
-/// Flushes the pending lines unless the next record is buffered. No line is pending while the input blocks. Fails if the flush
-/// fails.
+/// Flushes the pending lines unless the next record is buffered. No line is pending while the input blocks.
+/// Fails if the flush fails.
 pub fn flush_before_blocking<R: Source, W: FlushPending>(
     iter: &PerfRecordIter<R>,
     out: &mut W,
@@ -136,8 +141,8 @@ pub fn flush_before_blocking<R: Source, W: FlushPending>(
     out.flush_pending()
 }
 
-/// Writes a line for each remaining record of a live input. Returns the number of lines. Pending lines are flushed before
-/// each call for a record that isn't buffered.
+/// Writes a line for each remaining record of a live input. Returns the number of lines. Pending lines are
+/// flushed before each call for a record that isn't buffered.
 fn list_live_records<R: Source, L: RecordLine, W: FlushPending>(
     iter: &mut PerfRecordIter<R>,
     file: &mut PerfFile,
@@ -146,8 +151,10 @@ fn list_live_records<R: Source, L: RecordLine, W: FlushPending>(
 ) -> Result<u64, ListFault>
     requires not_failed { HasNotFailed iter.old }
     requires matching_file { HasMatchingFile R.state iter.old file.old }
-    ensures lists { ListsLiveRecords L.is_line L.allocates R.state iter.old file.old (W.contents out.old) result (W.contents out.new) iter.new file.new }
-    ensures flushes { FlushesBeforeBlocking L.is_line L.allocates R.state W.pending W.contents iter.old file.old out.old result out.new iter.new file.new }
+    ensures lists { ListsLiveRecords L.is_line L.allocates R.state iter.old file.old
+        (W.contents out.old) result (W.contents out.new) iter.new file.new }
+    ensures flushes { FlushesBeforeBlocking L.is_line L.allocates R.state W.pending W.contents iter.old
+        file.old out.old result out.new iter.new file.new }
 {
     let mut lines = 0u64;
     'records: loop {
@@ -173,7 +180,8 @@ pub fn list_file_by<C: PlacedSource + Drop, L: RecordLine, W: Write>(
     line: &mut L,
     out: &mut W,
 ) -> Result<u64, ListFault>
-    ensures { ListsFile L.is_line L.allocates (C.state source) (W.contents out.old) result (W.contents out.new) }
+    ensures { ListsFile L.is_line L.allocates (C.state source) (W.contents out.old) result
+        (W.contents out.new) }
 {
     match PerfFileReader::parse_file(alloc, source) {
         Ok(reader) => {
@@ -195,7 +203,8 @@ pub fn list_pipe_by<R: Source + Drop, L: RecordLine, W: Write>(
     line: &mut L,
     out: &mut W,
 ) -> Result<u64, ListFault>
-    ensures { ListsPipe L.is_line L.allocates (R.state source) (W.contents out.old) result (W.contents out.new) }
+    ensures { ListsPipe L.is_line L.allocates (R.state source) (W.contents out.old) result
+        (W.contents out.new) }
 {
     match PerfFileReader::parse_pipe(alloc, source) {
         Ok(reader) => {
@@ -217,8 +226,10 @@ pub fn list_live_pipe_by<R: Source + Drop, L: RecordLine, W: FlushPending>(
     line: &mut L,
     out: &mut W,
 ) -> Result<u64, ListFault>
-    ensures lists { ListsLivePipe L.is_line L.allocates (R.state source) (W.contents out.old) result (W.contents out.new) }
-    ensures flushes { FlushesPipeBeforeBlocking L.is_line L.allocates R.state W.pending W.contents (R.state source) out.old result out.new }
+    ensures lists { ListsLivePipe L.is_line L.allocates (R.state source) (W.contents out.old) result
+        (W.contents out.new) }
+    ensures flushes { FlushesPipeBeforeBlocking L.is_line L.allocates R.state W.pending W.contents
+        (R.state source) out.old result out.new }
 {
     match PerfFileReader::parse_pipe(alloc, source) {
         Ok(reader) => {
@@ -235,11 +246,12 @@ pub fn list_live_pipe_by<R: Source + Drop, L: RecordLine, W: FlushPending>(
 
 /// Writes a line for each record of a perf.data file, and returns the number of lines.
 ///
-/// A line is `OFFSET ROUND TIME ATTR TYPE MISC BODYLEN`: decimal numbers, separated by one space, `-` for a missing value.
+/// A line is `OFFSET ROUND TIME ATTR TYPE MISC BODYLEN`: decimal numbers, separated by one space, `-` for a
+/// missing value.
 ///
-/// On an error `lines` is the number of complete lines that are written: 0 if the file doesn't open, all of its records if
-/// the layout of its data section has an error. If the writer fails, a prefix of the next line is written. A write of 0
-/// bytes is an error of kind `WriteZero`. No write is repeated.
+/// On an error `lines` is the number of complete lines that are written: 0 if the file doesn't open, all of
+/// its records if the layout of its data section has an error. If the writer fails, a prefix of the next line
+/// is written. A write of 0 bytes is an error of kind `WriteZero`. No write is repeated.
 pub fn list_file<C: PlacedSource + Drop, W: Write>(
     alloc: Global,
     source: C,
@@ -252,13 +264,14 @@ pub fn list_file<C: PlacedSource + Drop, W: Write>(
 
 /// Writes a line for each record of a pipe, as [`list_file`] does, and returns the number of lines.
 ///
-/// No byte after the records is read: after the last record, the source's position is that record's end; after a truncated
-/// record, it is the end of that record's available bytes. Attributes and features after the first other record are added
-/// to the metadata, and each has a line as a record.
+/// No byte after the records is read: after the last record, the source's position is that record's end;
+/// after a truncated record, it is the end of that record's available bytes. Attributes and features after
+/// the first other record are added to the metadata, and each has a line as a record.
 ///
-/// On an error `lines` is the number of complete lines that are written: 0 if the pipe doesn't open, otherwise one for each
-/// record before the record that can't be read. A truncated record is the end and not an error. If the writer fails, a
-/// prefix of the next line is written. A write of 0 bytes is an error of kind `WriteZero`. No write is repeated.
+/// On an error `lines` is the number of complete lines that are written: 0 if the pipe doesn't open,
+/// otherwise one for each record before the record that can't be read. A truncated record is the end and not
+/// an error. If the writer fails, a prefix of the next line is written. A write of 0 bytes is an error of
+/// kind `WriteZero`. No write is repeated.
 pub fn list_pipe<R: Source + Drop, W: Write>(
     alloc: Global,
     source: R,
@@ -269,8 +282,8 @@ pub fn list_pipe<R: Source + Drop, W: Write>(
     list_pipe_by(alloc, source, &mut Line::new(), out)
 }
 
-/// Lists a live pipe as [`list_pipe`] does, into a writer that may buffer lines. The lines are flushed before each record
-/// that isn't buffered. Thus all lines so far are readable while the pipe waits for data.
+/// Lists a live pipe as [`list_pipe`] does, into a writer that may buffer lines. The lines are flushed before
+/// each record that isn't buffered. Thus all lines so far are readable while the pipe waits for data.
 ///
 /// If this flush fails, all `lines` lines are written, and no byte of a next line.
 pub fn list_live_pipe<R: Source + Drop, W: FlushPending>(
@@ -278,16 +291,19 @@ pub fn list_live_pipe<R: Source + Drop, W: FlushPending>(
     source: R,
     out: &mut W,
 ) -> Result<u64, ListFault>
-    ensures lists { ListsLivePipe IsPlainLine false (R.state source) (W.contents out.old) result (W.contents out.new) }
-    ensures flushes { FlushesPipeBeforeBlocking IsPlainLine false R.state W.pending W.contents (R.state source) out.old result out.new }
+    ensures lists { ListsLivePipe IsPlainLine false (R.state source) (W.contents out.old) result
+        (W.contents out.new) }
+    ensures flushes { FlushesPipeBeforeBlocking IsPlainLine false R.state W.pending W.contents
+        (R.state source) out.old result out.new }
 {
     list_live_pipe_by(alloc, source, &mut Line::new(), out)
 }
 
-/// Flushes the lines that are still buffered, unless the writer has already failed. Returns the number of listed records.
+/// Flushes the lines that are still buffered, unless the writer has already failed. Returns the number of
+/// listed records.
 ///
-/// If the listing or the writer failed, returns the number of complete lines that were written to the inner writer as
-/// `Err`.
+/// If the listing or the writer failed, returns the number of complete lines that were written to the inner
+/// writer as `Err`.
 pub fn flush_listing<W: Write>(
     listed: Result<u64, ListFault>,
     out: &mut CountingBufWriter<W>,
@@ -295,7 +311,8 @@ pub fn flush_listing<W: Write>(
     ensures forwards { BuffersAndForwards W.contents out.old [] out.new }
     ensures flushed { (pending_bytes out.new ≡ []) ⊎ IsTrue (has_failed out.new) }
     ensures on_ok { IfOk result (λ n. (listed ≡ Ok n) × (has_failed out.new ≡ false)) }
-    ensures on_error { IfErr result (λ n. (n ≡ lines_written out.new) × (IsErr listed ⊎ IsTrue (has_failed out.new))) }
+    ensures on_error { IfErr result (λ n. (n ≡ lines_written out.new)
+        × (IsErr listed ⊎ IsTrue (has_failed out.new))) }
 {
     if !out.has_failed() {
         let _ = out.flush();

@@ -15,8 +15,8 @@ const BUFFER_CAPACITY: usize = 65536;
 /// Number of bytes that are searched for newlines at once.
 const NEWLINE_BLOCK_SIZE: usize = 128;
 
-/// Writes all bytes or as many as the writer accepts, and returns the number of bytes written. No write is repeated. A
-/// write of 0 bytes is an error of kind `WriteZero`.
+/// Writes all bytes or as many as the writer accepts, and returns the number of bytes written. No write is
+/// repeated. A write of 0 bytes is an error of kind `WriteZero`.
 fn write_all_counted<W: Write>(out: &mut W, bytes: &[u8]) -> (usize, io::Result<()>)
     ensures bound { result.0 ≤ length bytes.now }
     ensures on_ok { OnOk result.1 (result.0 ≡ length bytes.now) }
@@ -37,8 +37,8 @@ fn write_all_counted<W: Write>(out: &mut W, bytes: &[u8]) -> (usize, io::Result<
     (total, Ok(()))
 }
 
-/// Writes a line. If the writer fails, a proper prefix of the line is written. The error is the writer's own, or of kind
-/// `WriteZero` if it accepts no byte. No write is repeated.
+/// Writes a line. If the writer fails, a proper prefix of the line is written. The error is the writer's own,
+/// or of kind `WriteZero` if it accepts no byte. No write is repeated.
 pub fn write_line<W: Write>(out: &mut W, line: &[u8]) -> io::Result<()>
     ensures { WritesAll (W.contents out.old) (W.contents out.new) line.now result }
 {
@@ -46,8 +46,8 @@ pub fn write_line<W: Write>(out: &mut W, line: &[u8]) -> io::Result<()>
     outcome
 }
 
-/// Ends the listing. For `Ok` it writes nothing and returns the exit status 0. For an error after `records` records it
-/// writes the error's line and returns the exit status 2. Fails as `write_line` does.
+/// Ends the listing. For `Ok` it writes nothing and returns the exit status 0. For an error after `records`
+/// records it writes the error's line and returns the exit status 2. Fails as `write_line` does.
 pub fn finish<W: Write>(outcome: Result<u64, u64>, err: &mut W) -> io::Result<u8>
     ensures { Finishes (W.contents err.old) (W.contents err.new) outcome result }
 {
@@ -61,8 +61,8 @@ pub fn finish<W: Write>(outcome: Result<u64, u64>, err: &mut W) -> io::Result<u8
     }
 }
 
-/// A writer that buffers lines until its buffer is full, and counts the complete lines that it wrote to the inner writer.
-/// It allocates memory only when it is created.
+/// A writer that buffers lines until its buffer is full, and counts the complete lines that it wrote to the
+/// inner writer. It allocates memory only when it is created.
 #[derive(Drop)]
 pub struct CountingBufWriter<W> {
     inner: W,
@@ -200,7 +200,8 @@ impl<W: Write> Write for CountingBufWriter<W> {
     #[inline]
     fn write(&mut self, bytes: &[u8]) -> io::Result<usize>
         ensures bound { WritesAtMost result bytes.now }
-        ensures bytes { WriteAppends (contents_with_buffer W.contents self.old) (contents_with_buffer W.contents self.new) result bytes.now }
+        ensures bytes { WriteAppends (contents_with_buffer W.contents self.old)
+            (contents_with_buffer W.contents self.new) result bytes.now }
         ensures accepts { AcceptsWrite W.contents self.old bytes.now result self.new }
         ensures not_empty_on_error { OnErr result (pending_bytes self.new ≢ []) }
         ensures tries { Tries self.old result self.new }
@@ -215,7 +216,8 @@ impl<W: Write> Write for CountingBufWriter<W> {
     }
 
     fn flush(&mut self) -> io::Result<()>
-        ensures bytes { Keeps (contents_with_buffer W.contents self.old) (contents_with_buffer W.contents self.new) }
+        ensures bytes { Keeps (contents_with_buffer W.contents self.old)
+            (contents_with_buffer W.contents self.new) }
         ensures forwards { BuffersAndForwards W.contents self.old [] self.new }
         ensures tries { Tries self.old result self.new }
         ensures empty { OnOk result (pending_bytes self.new ≡ []) }

@@ -29,8 +29,8 @@ fn list_next<W: Write>(
 
 /// Writes the lines of all records in order of time. Returns their number.
 ///
-/// On an error `lines` is the number of complete lines that are written. If the input has an error, the lines of all records
-/// before it are written.
+/// On an error `lines` is the number of complete lines that are written. If the input has an error, the lines
+/// of all records before it are written.
 pub fn list_by_time<W: Write>(
     alloc: Global,
     reader: InMemoryReader<'_>,

@@ -21,8 +21,8 @@ use std::process::ExitCode;
 /// The text on standard error for invalid arguments.
 const USAGE: &[u8] = b"usage: perfjson [--by-time] [--bytes N] file PATH | pipe\n";
 
-/// Lists a perf.data file on standard output. Returns the number of its records, or the number of lines that were written
-/// before an error.
+/// Lists a perf.data file on standard output. Returns the number of its records, or the number of lines that
+/// were written before an error.
 fn run_file(rt: &HostRuntime, byte_limit: usize, path: &str) -> Result<u64, u64> {
     let Ok(file) = open_file(rt, path) else {
         return Err(0);
