@@ -1,55 +1,80 @@
 -- The fields of an event before the sample_id fields.
-use Rattle.std.proofs.Common.{◌≡◌, ◌≢◌, ℕ, ◌≤◌, true, inl, inr, List, length, sym, subst}
-use Rattle.std.specs.Prelude.{Result, Ok, Err, IfOk, IfErr}
+use Rattle.std.proofs.Common.{◌≡◌, ◌≢◌, ℕ, ◌≤◌, Bool, true, false, inl, inr, List, length, refl, sym, subst, arith}
+use Rattle.std.proofs.lemmas.Bool.{and_cases}
+use Rattle.std.proofs.lemmas.Bool.Decides.{nat_tests}
+use Rattle.std.specs.Prelude.{◌==◌, ◌&&◌, not, Result, Ok, Err, IfOk, IfErr}
 use Rattle.std.specs.IoError.{error_kind}
 use Rattle.std.specs.Result.{MatchResult, IsOkAnd}
 use Rattle.std.specs.declared.io.Error.{Error}
 use Rattle.perfdata_base.specs.Raw.{bytes_of}
 use Rattle.perfdata_base.specs.declared.event.RawEventRecord.{RawEventRecord}
 use Rattle.perfdata_events.specs.EventFormat.{trailing_size, before_trailing}
-use Rattle.perfdata_events.specs.Event.{IsEvent, IsParsed, EventFails, DecodesEvent, ParseFails, kind_of, number, has_known_fields}
+use Rattle.perfdata_events.specs.Event.{IsEvent, IsParsed, EventFails, DecodesEvent, ParseFails, kind_of, number, has_known_values, has_unknown_values, has_known_fields}
 use Rattle.perfdata_events.specs.Format.{Decodes}
+use Rattle.perfdata_events.proofs.Unselected.{not_true}
 use Rattle.perfdata_events.specs.Sample.{sample, sample_of}
 use Rattle.perfdata_events.specs.declared.format.EventFormat.{EventFormat}
 use Rattle.perfdata_events.specs.declared.sample.SampleRecord.{SampleRecord}
 use Rattle.perfdata_events.specs.declared.event.EventRecord.{EventRecord}
 use Rattle.perfdata_events.specs.declared.event.EventRecord.TheVariants.{Mmap, Lost, Comm, Exit, Throttle, Unthrottle, Fork, Read, Mmap2, Aux, ItraceStart, LostSamples, ContextSwitch, Namespaces, Ksymbol, BpfEvent, Cgroup, TextPoke, AuxOutputHwId, Sample, Raw}
 
+both_true : (a b : Bool) → (a && b) ≡ true → (a ≡ true) × (b ≡ true)
+both_true true b h = (refl, h)
+both_true false b h = absurd cc
+
+not_false : (b : Bool) → not b ≡ false → b ≡ true
+not_false true h = refl
+not_false false h = sym h
+
+-- A record of counter values whose offsets aren't known is a READ record, and any other READ record has known ones.
+pub unknown_values : (format : EventFormat) (kind : ℕ) → has_unknown_values format kind ≡ true → (kind ≡ 8) × (has_known_values format ≡ false)
+unknown_values format kind h =
+    let is_read : (kind == 8) ≡ true = (both_true (kind == 8) (not (has_known_values format)) h).0 in
+    let same : kind ≡ 8 = grind (arith, nat_tests) in
+    (same, not_true (has_known_values format) (both_true (kind == 8) (not (has_known_values format)) h).1)
+
+pub known_values : (format : EventFormat) (kind : ℕ) → has_unknown_values format kind ≡ false → kind ≡ 8 → has_known_values format ≡ true
+known_values format kind h same = elim (and_cases (kind == 8) (not (has_known_values format)) h) [
+  | inl other ↦ absurd (grind (arith, nat_tests))
+  | inr known ↦ not_false (has_known_values format) known
+]
+
 -- An event that isn't a sample, parsed from the bytes before the sample_id fields, is the parsed form of the record.
 pub parsed_split : (format : EventFormat) (raw : RawEventRecord) (event : EventRecord) → trailing_size format ≤ length (bytes_of raw.body)
+    → (kind_of format raw ≡ 8 → has_known_values format ≡ true)
     → (fields : List ℕ) → fields ≡ before_trailing format (bytes_of raw.body) → (padding : List ℕ) → IsEvent format raw fields event padding → IsParsed format raw event
-parsed_split format raw (Sample v) enough fields same padding is = absurd is
-parsed_split format raw (Raw v) enough fields same padding is = absurd is
-parsed_split format raw (Mmap v) enough fields same padding is = record { enough = enough; padding = padding; event_is = subst (λ (l : List ℕ). IsEvent format raw l (Mmap v) padding) same is }
-parsed_split format raw (Lost v) enough fields same padding is = record { enough = enough; padding = padding; event_is = subst (λ (l : List ℕ). IsEvent format raw l (Lost v) padding) same is }
-parsed_split format raw (Comm v) enough fields same padding is = record { enough = enough; padding = padding; event_is = subst (λ (l : List ℕ). IsEvent format raw l (Comm v) padding) same is }
-parsed_split format raw (Exit v) enough fields same padding is = record { enough = enough; padding = padding; event_is = subst (λ (l : List ℕ). IsEvent format raw l (Exit v) padding) same is }
-parsed_split format raw (Throttle v) enough fields same padding is = record { enough = enough; padding = padding; event_is = subst (λ (l : List ℕ). IsEvent format raw l (Throttle v) padding) same is }
-parsed_split format raw (Unthrottle v) enough fields same padding is = record { enough = enough; padding = padding; event_is = subst (λ (l : List ℕ). IsEvent format raw l (Unthrottle v) padding) same is }
-parsed_split format raw (Fork v) enough fields same padding is = record { enough = enough; padding = padding; event_is = subst (λ (l : List ℕ). IsEvent format raw l (Fork v) padding) same is }
-parsed_split format raw (Read v) enough fields same padding is = record { enough = enough; padding = padding; event_is = subst (λ (l : List ℕ). IsEvent format raw l (Read v) padding) same is }
-parsed_split format raw (Mmap2 v) enough fields same padding is = record { enough = enough; padding = padding; event_is = subst (λ (l : List ℕ). IsEvent format raw l (Mmap2 v) padding) same is }
-parsed_split format raw (Aux v) enough fields same padding is = record { enough = enough; padding = padding; event_is = subst (λ (l : List ℕ). IsEvent format raw l (Aux v) padding) same is }
-parsed_split format raw (ItraceStart v) enough fields same padding is = record { enough = enough; padding = padding; event_is = subst (λ (l : List ℕ). IsEvent format raw l (ItraceStart v) padding) same is }
-parsed_split format raw (LostSamples v) enough fields same padding is = record { enough = enough; padding = padding; event_is = subst (λ (l : List ℕ). IsEvent format raw l (LostSamples v) padding) same is }
-parsed_split format raw (ContextSwitch v) enough fields same padding is = record { enough = enough; padding = padding; event_is = subst (λ (l : List ℕ). IsEvent format raw l (ContextSwitch v) padding) same is }
-parsed_split format raw (Namespaces v) enough fields same padding is = record { enough = enough; padding = padding; event_is = subst (λ (l : List ℕ). IsEvent format raw l (Namespaces v) padding) same is }
-parsed_split format raw (Ksymbol v) enough fields same padding is = record { enough = enough; padding = padding; event_is = subst (λ (l : List ℕ). IsEvent format raw l (Ksymbol v) padding) same is }
-parsed_split format raw (BpfEvent v) enough fields same padding is = record { enough = enough; padding = padding; event_is = subst (λ (l : List ℕ). IsEvent format raw l (BpfEvent v) padding) same is }
-parsed_split format raw (Cgroup v) enough fields same padding is = record { enough = enough; padding = padding; event_is = subst (λ (l : List ℕ). IsEvent format raw l (Cgroup v) padding) same is }
-parsed_split format raw (TextPoke v) enough fields same padding is = record { enough = enough; padding = padding; event_is = subst (λ (l : List ℕ). IsEvent format raw l (TextPoke v) padding) same is }
-parsed_split format raw (AuxOutputHwId v) enough fields same padding is = record { enough = enough; padding = padding; event_is = subst (λ (l : List ℕ). IsEvent format raw l (AuxOutputHwId v) padding) same is }
+parsed_split format raw (Sample v) enough known fields same padding is = absurd is
+parsed_split format raw (Raw v) enough known fields same padding is = absurd is
+parsed_split format raw (Mmap v) enough known fields same padding is = record { enough = enough; padding = padding; event_is = subst (λ (l : List ℕ). IsEvent format raw l (Mmap v) padding) same is }
+parsed_split format raw (Lost v) enough known fields same padding is = record { enough = enough; padding = padding; event_is = subst (λ (l : List ℕ). IsEvent format raw l (Lost v) padding) same is }
+parsed_split format raw (Comm v) enough known fields same padding is = record { enough = enough; padding = padding; event_is = subst (λ (l : List ℕ). IsEvent format raw l (Comm v) padding) same is }
+parsed_split format raw (Exit v) enough known fields same padding is = record { enough = enough; padding = padding; event_is = subst (λ (l : List ℕ). IsEvent format raw l (Exit v) padding) same is }
+parsed_split format raw (Throttle v) enough known fields same padding is = record { enough = enough; padding = padding; event_is = subst (λ (l : List ℕ). IsEvent format raw l (Throttle v) padding) same is }
+parsed_split format raw (Unthrottle v) enough known fields same padding is = record { enough = enough; padding = padding; event_is = subst (λ (l : List ℕ). IsEvent format raw l (Unthrottle v) padding) same is }
+parsed_split format raw (Fork v) enough known fields same padding is = record { enough = enough; padding = padding; event_is = subst (λ (l : List ℕ). IsEvent format raw l (Fork v) padding) same is }
+parsed_split format raw (Read v) enough known fields same padding is = (known is.0, record { enough = enough; padding = padding; event_is = subst (λ (l : List ℕ). IsEvent format raw l (Read v) padding) same is })
+parsed_split format raw (Mmap2 v) enough known fields same padding is = record { enough = enough; padding = padding; event_is = subst (λ (l : List ℕ). IsEvent format raw l (Mmap2 v) padding) same is }
+parsed_split format raw (Aux v) enough known fields same padding is = record { enough = enough; padding = padding; event_is = subst (λ (l : List ℕ). IsEvent format raw l (Aux v) padding) same is }
+parsed_split format raw (ItraceStart v) enough known fields same padding is = record { enough = enough; padding = padding; event_is = subst (λ (l : List ℕ). IsEvent format raw l (ItraceStart v) padding) same is }
+parsed_split format raw (LostSamples v) enough known fields same padding is = record { enough = enough; padding = padding; event_is = subst (λ (l : List ℕ). IsEvent format raw l (LostSamples v) padding) same is }
+parsed_split format raw (ContextSwitch v) enough known fields same padding is = record { enough = enough; padding = padding; event_is = subst (λ (l : List ℕ). IsEvent format raw l (ContextSwitch v) padding) same is }
+parsed_split format raw (Namespaces v) enough known fields same padding is = record { enough = enough; padding = padding; event_is = subst (λ (l : List ℕ). IsEvent format raw l (Namespaces v) padding) same is }
+parsed_split format raw (Ksymbol v) enough known fields same padding is = record { enough = enough; padding = padding; event_is = subst (λ (l : List ℕ). IsEvent format raw l (Ksymbol v) padding) same is }
+parsed_split format raw (BpfEvent v) enough known fields same padding is = record { enough = enough; padding = padding; event_is = subst (λ (l : List ℕ). IsEvent format raw l (BpfEvent v) padding) same is }
+parsed_split format raw (Cgroup v) enough known fields same padding is = record { enough = enough; padding = padding; event_is = subst (λ (l : List ℕ). IsEvent format raw l (Cgroup v) padding) same is }
+parsed_split format raw (TextPoke v) enough known fields same padding is = record { enough = enough; padding = padding; event_is = subst (λ (l : List ℕ). IsEvent format raw l (TextPoke v) padding) same is }
+parsed_split format raw (AuxOutputHwId v) enough known fields same padding is = record { enough = enough; padding = padding; event_is = subst (λ (l : List ℕ). IsEvent format raw l (AuxOutputHwId v) padding) same is }
 
 -- What the fields before the sample_id fields decode to is the parsed form of the record, or its first error.
-module _ (format : EventFormat) (raw : RawEventRecord) (enough : trailing_size format ≤ length (bytes_of raw.body)) (fields padding : List ℕ) (same : fields ≡ before_trailing format (bytes_of raw.body)) where
+module _ (format : EventFormat) (raw : RawEventRecord) (enough : trailing_size format ≤ length (bytes_of raw.body)) (known : kind_of format raw ≡ 8 → has_known_values format ≡ true) (fields padding : List ℕ) (same : fields ≡ before_trailing format (bytes_of raw.body)) where
   pub parsed_fields : (result : Result EventRecord Error) → DecodesEvent format raw fields result padding → IfOk result (λ event. IsParsed format raw event)
-  parsed_fields (Ok event) is = parsed_split format raw event enough fields same padding is
+  parsed_fields (Ok event) is = parsed_split format raw event enough known fields same padding is
   parsed_fields (Err e) is = tt
 
   pub failed_fields : (result : Result EventRecord Error) → 1 ≤ kind_of format raw → kind_of format raw ≤ 21 → kind_of format raw ≢ 9 → DecodesEvent format raw fields result padding
       → IfErr result (λ error. ParseFails format raw (error_kind error))
   failed_fields (Ok event) from to no_sample is = tt
-  failed_fields (Err e) from to no_sample is = inr (from, to, no_sample, inr (enough, subst (λ (l : List ℕ). EventFails format raw l (error_kind e)) same is))
+  failed_fields (Err e) from to no_sample is = inr (from, to, no_sample, known, inr (enough, subst (λ (l : List ℕ). EventFails format raw l (error_kind e)) same is))
 
 -- What the body of a sample decodes to is the parsed form of the record, or its first error.
 module _ (format : EventFormat) (raw : RawEventRecord) (is_sample : kind_of format raw ≡ 9) (known : has_known_fields format ≡ true) (padding : List ℕ) where

@@ -1,5 +1,5 @@
 -- The parsed form of a kernel record, by its type (`enum perf_event_type` of Linux's `perf_event.h`).
-use Rattle.std.specs.Prelude.{◌≡◌, ◌≢◌, ℕ, ◌^◌, ◌<◌, ◌≤◌, ◌⊎◌, ◌&&◌, ◌||◌, not, nat_lt, Bool, true, false, List, length, Result, Ok, Err}
+use Rattle.std.specs.Prelude.{◌≡◌, ◌≢◌, ◌==◌, ℕ, ◌^◌, ◌<◌, ◌≤◌, ◌⊎◌, ◌&&◌, ◌||◌, not, nat_lt, Bool, true, false, List, length, Result, Ok, Err}
 use Rattle.std.specs.IoError.{error_kind}
 use Rattle.std.specs.declared.io.Error.{Error}
 use Rattle.std.specs.declared.io.ErrorKind.{ErrorKind}
@@ -33,11 +33,19 @@ use Rattle.perfdata_events.specs.declared.format.EventFormat.{EventFormat}
 use Rattle.perfdata_events.specs.declared.event.EventRecord.{EventRecord}
 use Rattle.perfdata_events.specs.declared.event.EventRecord.TheVariants.{Mmap, Lost, Comm, Exit, Throttle, Unthrottle, Fork, Read, Mmap2, Aux, ItraceStart, LostSamples, ContextSwitch, Namespaces, Ksymbol, BpfEvent, Cgroup, TextPoke, AuxOutputHwId, Sample, Raw}
 
--- The offset of each field of a sample is known: no bit of the sample format from 25 on is set, none of the read format from 5 on
--- where counter values are selected (bit 4), and none of the branch sample type from 20 on where a branch stack is (bit 11).
+-- The offset of each counter value is known: no bit of the read format from 5 on is set.
+abbrev pub has_known_values : EventFormat → Bool
+has_known_values format = nat_lt format.read_format.0 (2 ^ 5)
+
+-- A record of this type consists of counter values whose offsets aren't known.
+abbrev pub has_unknown_values : EventFormat → ℕ → Bool
+has_unknown_values format kind = (kind == 8) && not (has_known_values format)
+
+-- The offset of each field of a sample is known: no bit of the sample format from 25 on is set, each counter value is known
+-- where they are selected (bit 4), and no bit of the branch sample type from 20 on is set where a branch stack is selected (bit 11).
 abbrev pub has_known_fields : EventFormat → Bool
 has_known_fields format = nat_lt format.sample_format.0 (2 ^ 25)
-    && ((not (is_set format.sample_format.0 READ) || nat_lt format.read_format.0 (2 ^ 5))
+    && ((not (is_set format.sample_format.0 READ) || has_known_values format)
     && (not (is_set format.sample_format.0 BRANCH_STACK) || nat_lt format.branch_sample_type.0 (2 ^ 20)))
 
 module _ (format : EventFormat) (raw : RawEventRecord) where
@@ -123,9 +131,9 @@ module _ (format : EventFormat) (raw : RawEventRecord) where
     pub padding : List ℕ
     pub event_is : event padding
 
-  -- The type isn't parsed, or it is that of samples and the offset of a field isn't known.
+  -- The type isn't parsed, or it is that of samples or of counter values and the offset of a field isn't known.
   abbrev pub IsUnparsed : Type 0
-  IsUnparsed = (kind_of ≡ 0) ⊎ ((21 < kind_of) ⊎ ((kind_of ≡ 9) × (has_known_fields format ≡ false)))
+  IsUnparsed = (kind_of ≡ 0) ⊎ ((21 < kind_of) ⊎ (((kind_of ≡ 9) × (has_known_fields format ≡ false)) ⊎ ((kind_of ≡ 8) × (has_known_values format ≡ false))))
 
   -- The parsed form of the record.
   abbrev pub IsParsed : EventRecord → Type 0
@@ -138,7 +146,7 @@ module _ (format : EventFormat) (raw : RawEventRecord) where
   IsParsed (Throttle v) = IsSplit (Throttle v)
   IsParsed (Unthrottle v) = IsSplit (Unthrottle v)
   IsParsed (Fork v) = IsSplit (Fork v)
-  IsParsed (Read v) = IsSplit (Read v)
+  IsParsed (Read v) = (has_known_values format ≡ true) × IsSplit (Read v)
   IsParsed (Mmap2 v) = IsSplit (Mmap2 v)
   IsParsed (Aux v) = IsSplit (Aux v)
   IsParsed (ItraceStart v) = IsSplit (ItraceStart v)
@@ -160,4 +168,4 @@ module _ (format : EventFormat) (raw : RawEventRecord) where
   abbrev pub ParseFails : ErrorKind → Type 0
   ParseFails kind =
       ((kind_of ≡ 9) × (has_known_fields format ≡ true) × sample number format (bytes_of raw.body) (fails kind))
-      ⊎ ((1 ≤ kind_of) × (kind_of ≤ 21) × (kind_of ≢ 9) × SplitFails kind)
+      ⊎ ((1 ≤ kind_of) × (kind_of ≤ 21) × (kind_of ≢ 9) × (kind_of ≡ 8 → has_known_values format ≡ true) × SplitFails kind)

@@ -114,7 +114,7 @@ pub enum EventRecord<'a> {
     TextPoke(TextPokeRecord<'a>),
     /// The hardware id of an event (21).
     AuxOutputHwId(AuxOutputHwIdRecord),
-    /// A record of any other type, or a sample with fields that aren't known.
+    /// A record of any other type, or a sample or READ record with fields that aren't known.
     Raw(RawEventRecord<'a>),
 }
 
@@ -133,7 +133,7 @@ fn copy_of<'a>(raw: &RawEventRecord<'a>) -> RawEventRecord<'a>
 // The fields of the types are parsed in three functions that aren't inlined, because all locals of a function are set to zero when it
 // is called.
 impl EventFormat {
-    ghost use Rattle.perfdata_events.specs.Event.{DecodesEvent, IsParsed, ParseFails, has_known_fields};
+    ghost use Rattle.perfdata_events.specs.Event.{DecodesEvent, IsParsed, ParseFails, has_known_values, has_unknown_values, has_known_fields};
 
     // Parses the fields of a record of type 1 to 7.
     #[inline(never)]
@@ -290,13 +290,26 @@ impl EventFormat {
         }
     }
 
+    /// Whether the offset of each counter value is known. `parse` says when it isn't.
+    pub fn has_known_values(&self) -> bool
+        ensures { result ≡ has_known_values self.now }
+    {
+        self.read_format.0 < READ_FIELDS_END
+    }
+
+    // Whether a record of a type consists of counter values whose offsets aren't known.
+    fn has_unknown_values(&self, record_type: RecordType) -> bool
+        ensures { result ≡ has_unknown_values self.now record_type.0 }
+    {
+        record_type.0 == PERF_RECORD_READ && !self.has_known_values()
+    }
+
     /// Whether the offset of each field of a sample is known. `parse` says when it isn't.
     pub fn has_known_fields(&self) -> bool
         ensures { result ≡ has_known_fields self.now }
     {
         self.sample_format.0 < SAMPLE_FIELDS_END
-            && (!self.sample_format.contains(SampleFields::READ)
-                || self.read_format.0 < READ_FIELDS_END)
+            && (!self.sample_format.contains(SampleFields::READ) || self.has_known_values())
             && (!self.sample_format.contains(SampleFields::BRANCH_STACK)
                 || self.branch_sample_type.0 < BRANCH_FIELDS_END)
     }
@@ -305,7 +318,7 @@ impl EventFormat {
     ///
     /// A record of a type that isn't parsed remains raw. So does a sample if its attribute selects a field whose offset
     /// isn't known: bits of the sample format from 25 on, of the read format from 5 on, and of the branch sample type
-    /// from 20 on, the last two only where they apply.
+    /// from 20 on, the last two only where they apply; and a READ record if bits of the read format from 5 on are set.
     ///
     /// Fails with an `UnexpectedEof` error if the fields are truncated, and with an `InvalidData` error if a text has no
     /// NUL before the sample_id fields or a build id has more than 20 bytes. The first error counts.
@@ -322,6 +335,9 @@ impl EventFormat {
             return SampleRecord::parse(self, &mut body).map(EventRecord::Sample);
         }
         if record_type == 0 || record_type > LAST_TYPE {
+            return Ok(EventRecord::Raw(copy_of(raw)));
+        }
+        if self.has_unknown_values(raw.record_type) {
             return Ok(EventRecord::Raw(copy_of(raw)));
         }
         let (fields, _) = self.split_trailing(raw.body)?;

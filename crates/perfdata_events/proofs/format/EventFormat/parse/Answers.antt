@@ -1,6 +1,6 @@
-use Rattle.std.proofs.Common.{rules, arith, ◌≡◌, true, sym, ◌∙◌}
+use Rattle.std.proofs.Common.{rules, arith, ◌≡◌, true, false, sym, ◌∙◌}
 use Rattle.perfdata_base.specs.Raw.{bytes_of}
-use Rattle.perfdata_events.proofs.Events.{parsed_fields, failed_fields, parsed_sample, failed_sample}
+use Rattle.perfdata_events.proofs.Events.{known_values, parsed_fields, failed_fields, parsed_sample, failed_sample}
 use Rattle.perfdata_events.proofs.format.EventFormat.parse.Goals as goal
 
 pub returns-then-record_type-clause-value : goal.returns-then-record_type-clause-value
@@ -15,8 +15,10 @@ returns-then-record_type-clause-error c =
 
 pub returns-clause-value : goal.returns-clause-value
 returns-clause-value c =
-    parsed_fields c.args.self.now c.args.raw.now c.in_ok-fields.ensures.enough (bytes_of c.in_ok-fields.fields) (bytes_of c.parse_fields.new.fields) c.in_ok-fields.ensures.fields_are c.parse_fields.result c.parse_fields.ensures
+    let known : c.has_unknown_values.result ≡ false = search rules in
+    parsed_fields c.args.self.now c.args.raw.now c.in_ok-fields.ensures.enough (known_values c.args.self.now c.args.raw.now.record_type.0 (sym c.has_unknown_values.ensures ∙ known)) (bytes_of c.in_ok-fields.fields) (bytes_of c.parse_fields.new.fields) c.in_ok-fields.ensures.fields_are c.parse_fields.result c.parse_fields.ensures
 
 pub returns-clause-error : goal.returns-clause-error
 returns-clause-error c =
-    failed_fields c.args.self.now c.args.raw.now c.in_ok-fields.ensures.enough (bytes_of c.in_ok-fields.fields) (bytes_of c.parse_fields.new.fields) c.in_ok-fields.ensures.fields_are c.parse_fields.result (omega arith) (omega arith) (search rules) c.parse_fields.ensures
+    let known : c.has_unknown_values.result ≡ false = search rules in
+    failed_fields c.args.self.now c.args.raw.now c.in_ok-fields.ensures.enough (known_values c.args.self.now c.args.raw.now.record_type.0 (sym c.has_unknown_values.ensures ∙ known)) (bytes_of c.in_ok-fields.fields) (bytes_of c.parse_fields.new.fields) c.in_ok-fields.ensures.fields_are c.parse_fields.result (omega arith) (omega arith) (search rules) c.parse_fields.ensures
