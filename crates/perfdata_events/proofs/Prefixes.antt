@@ -9,7 +9,7 @@ use Rattle.perfdata_events.specs.Fields.{u32_at, u64_at}
 use Rattle.perfdata_events.specs.Words.{u64s, word, word_size, after, fixed_and_u64s}
 use Rattle.perfdata_events.specs.SampleId.{sample_id}
 use Rattle.perfdata_events.specs.Task.{task_at}
-use Rattle.perfdata_events.specs.ReadValues.{details, times, single_values, group_values, read_values, single, group}
+use Rattle.perfdata_events.specs.ReadValues.{details, times, counters, single_values, group_values, read_values, single, group}
 use Rattle.perfdata_events.specs.Read.{read}
 use Rattle.perfdata_events.specs.Mmap.{mapping_at}
 use Rattle.perfdata_events.specs.Mmap2.{protection_at, mmap2}
@@ -83,6 +83,9 @@ module _ (number : ℕ → List ℕ → ℕ) where
   pub prefix_times : (format : ℕ) → ConsumesPrefix (times number format)
   prefix_times format xs v r q = before_words format (0 ∷ 1 ∷ []) xs r q.rest_is
 
+  prefix_counters : (format n : ℕ) → ConsumesPrefix (counters number format n)
+  prefix_counters format n xs v r q = before_drop _ xs r q.numbers_are.rest_is
+
   pub prefix_origin_words : (format : ℕ) → ConsumesPrefix (origin_words number format)
   prefix_origin_words format xs v r q = before_words format (16 ∷ 0 ∷ 1 ∷ 2 ∷ []) xs r q.rest_is
 
@@ -102,7 +105,7 @@ module _ (number : ℕ → List ℕ → ℕ) where
   prefix_single format = prefix_both _ _ prefix_u64 (λ _. prefix_details format)
 
   prefix_group : (format : ℕ) → ConsumesPrefix (group_values number format)
-  prefix_group format = prefix_led _ _ prefix_u64 (λ count. prefix_both _ _ (prefix_times format) (λ _. prefix_u64s _))
+  prefix_group format = prefix_led _ _ prefix_u64 (λ count. prefix_both _ _ (prefix_times format) (λ _. prefix_counters format count))
 
   prefix_values : (format : ℕ) → ConsumesPrefix (read_values number format)
   prefix_values format xs (single v) r q = prefix_single format xs v r q.1

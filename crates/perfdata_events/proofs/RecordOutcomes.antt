@@ -10,7 +10,7 @@ use Rattle.perfdata_events.specs.Fields.{u32_at, u64_at}
 use Rattle.perfdata_events.specs.Words.{u64s, u64s_of, words_size, after, word_after}
 use Rattle.perfdata_events.specs.SampleId.{sample_id}
 use Rattle.perfdata_events.specs.Task.{task_at}
-use Rattle.perfdata_events.specs.ReadValues.{details, times, single_values, group_values, read_values, Values, single, group}
+use Rattle.perfdata_events.specs.ReadValues.{details, times, Counters, counter_width, counters, single_values, group_values, read_values, Values, single, group}
 use Rattle.perfdata_events.specs.Read.{read}
 use Rattle.perfdata_events.specs.Mmap.{mapping_at}
 use Rattle.perfdata_events.specs.Mmap2.{protection_at, mmap2}
@@ -87,6 +87,20 @@ module _ (number : ℕ → List ℕ → ℕ) where
     truncated = λ xs kind q. q;
   })
 
+  counters_at : ℕ → ℕ → List ℕ → Counters
+  counters_at format n xs = record { has_id = is_set format 2; has_lost = is_set format 4; numbers = u64s_of number (counter_width (is_set format 2) (is_set format 4) * n) xs }
+
+  one_counters : (format n : ℕ) → HasOneOutcome (counters number format n)
+  unfolding counters_at
+  one_counters format n = one_by_size (counters number format n) (λ _. 8 * (counter_width (is_set format 2) (is_set format 4) * n)) (λ xs. counters_at format n xs) (λ xs. drop (8 * (counter_width (is_set format 2) (is_set format 4) * n)) xs) (record {
+    there = λ xs all. record { has_id_is = refl; has_lost_is = refl; numbers_are = record { enough = all; values_are = refl; rest_is = refl } };
+    enough = λ xs v r q. q.numbers_are.enough;
+    value_is = λ xs v r q. λ i. record { has_id = q.has_id_is i; has_lost = q.has_lost_is i; numbers = q.numbers_are.values_are i };
+    rest_is = λ xs v r q. q.numbers_are.rest_is;
+    short = λ xs kind q. q;
+    truncated = λ xs kind q. q;
+  })
+
   origin_words_at : ℕ → List ℕ → OriginWords
   origin_words_at format xs = record { identifier = word_after format [] 16 (u64_at number 0) xs; ip = word_after format (16 ∷ []) 0 (u64_at number 0) xs; task = word_after format (16 ∷ 0 ∷ []) 1 (task_at number) xs; timestamp = word_after format (16 ∷ 0 ∷ 1 ∷ []) 2 (u64_at number 0) xs }
 
@@ -150,7 +164,7 @@ module _ (number : ℕ → List ℕ → ℕ) where
   one_single format = one_both _ _ one_u64 (λ _. one_details format)
 
   pub one_group : (format : ℕ) → HasOneOutcome (group_values number format)
-  one_group format = one_led _ _ one_u64 (λ count. one_both _ _ (one_times format) (λ _. one_u64s _))
+  one_group format = one_led _ _ one_u64 (λ count. one_both _ _ (one_times format) (λ _. one_counters format count))
 
   pub one_chain : HasOneOutcome (chain number)
   one_chain = one_led _ _ one_u64 (λ n. one_u64s n)
@@ -185,15 +199,15 @@ module _ (number : ℕ → List ℕ → ℕ) where
   single_only format e xs o only (fails kind) (inl q) = let d = only (fails kind) q.1 in λ i. as_single (d i)
   single_only format e xs o only (fails kind) (inr q) = let d : true ≡ false = sym q.0 ∙ e in absurd cc
 
-  abbrev as_group : Outcome (Times × List ℕ) → Outcome Values
+  abbrev as_group : Outcome (Times × Counters) → Outcome Values
   as_group (encodes v r) = encodes (group v) r
   as_group (fails kind) = fails kind
 
-  group_there : (format : ℕ) → is_set format 3 ≡ true → (xs : List ℕ) (o : Outcome (Times × List ℕ)) → group_values number format xs o → read_values number format xs (as_group o)
+  group_there : (format : ℕ) → is_set format 3 ≡ true → (xs : List ℕ) (o : Outcome (Times × Counters)) → group_values number format xs o → read_values number format xs (as_group o)
   group_there format e xs (encodes v r) q = (e, q)
   group_there format e xs (fails kind) q = inr (e, q)
 
-  group_only : (format : ℕ) → is_set format 3 ≡ true → (xs : List ℕ) (o : Outcome (Times × List ℕ)) → ((p : Outcome (Times × List ℕ)) → group_values number format xs p → p ≡ o)
+  group_only : (format : ℕ) → is_set format 3 ≡ true → (xs : List ℕ) (o : Outcome (Times × Counters)) → ((p : Outcome (Times × Counters)) → group_values number format xs p → p ≡ o)
       → (p : Outcome Values) → read_values number format xs p → p ≡ as_group o
   group_only format e xs o only (encodes (single v) r) q = let d : false ≡ true = sym q.0 ∙ e in absurd cc
   group_only format e xs o only (encodes (group v) r) q = let d = only (encodes v r) q.1 in λ i. as_group (d i)

@@ -7,7 +7,7 @@ use Rattle.perfdata_base.specs.ParseInfo.{is_set}
 use Rattle.perfdata_events.specs.ReadFormat.{TOTAL_TIME_ENABLED, TOTAL_TIME_RUNNING, ID, GROUP, LOST}
 use Rattle.perfdata_events.specs.Fields.{u64_at}
 use Rattle.perfdata_events.specs.Format.{Outcome, encodes, fails, IsTruncated, fixed, both, led}
-use Rattle.perfdata_events.specs.Words.{u64s, u64s_in, words_size, after, word_after}
+use Rattle.perfdata_events.specs.Words.{AreU64s, u64s_in, words_size, after, word_after}
 use Rattle.perfdata_events.specs.declared.fields.read_values.CounterValue.{CounterValue}
 use Rattle.perfdata_events.specs.declared.fields.read_values.Details.{Details}
 use Rattle.perfdata_events.specs.declared.fields.read_values.Times.{Times}
@@ -20,13 +20,23 @@ use Rattle.perfdata_events.specs.declared.fields.read_values.ReadValues.TheVaria
 abbrev pub single_of : SingleValues → ℕ × Details
 single_of v = (v.value, record { time_enabled = v.time_enabled; time_running = v.time_running; id = v.id; lost = v.lost })
 
--- The times of a group, and the numbers of its counters: of each the value, the id and the lost count, as far as they are there.
-abbrev pub group_of : GroupValues → Times × List ℕ
-group_of v = (record { time_enabled = v.time_enabled; time_running = v.time_running }, u64s_in v.numbers)
+-- The counters of a group: whether each has an id and a lost count, and of each its value, its id and its lost count, as far as they
+-- are there.
+pub record Counters : Type 0 where
+  pub has_id : Bool
+  pub has_lost : Bool
+  pub numbers : List ℕ
+
+-- The times of a group, and its counters.
+abbrev pub group_of : GroupValues → Times × Counters
+group_of v = (
+  record { time_enabled = v.time_enabled; time_running = v.time_running },
+  record { has_id = v.has_id; has_lost = v.has_lost; numbers = u64s_in v.numbers },
+)
 
 pub data Values : Type 0 where
   single : ℕ × Details → Values
-  group : Times × List ℕ → Values
+  group : Times × Counters → Values
 
 abbrev pub values_of : ReadValues → Values
 values_of (Single v) = single (single_of v)
@@ -77,9 +87,19 @@ module _ (number : ℕ → List ℕ → ℕ) (format : ℕ) where
   abbrev pub single_values : List ℕ → Outcome (ℕ × Details) → Type 0
   single_values = both (fixed 8 (u64_at number 0)) (λ _. details)
 
-  -- The number of counters, the times, and the numbers of the counters.
-  abbrev pub group_values : List ℕ → Outcome (Times × List ℕ) → Type 0
-  group_values = led (fixed 8 (u64_at number 0)) (λ count. both times (λ _. u64s number (counter_width (is_set format ID) (is_set format LOST) * count)))
+  -- This many counters, each with an id if bit 2 is set, and with a lost count if bit 4 is set.
+  pub record AreCounters (count : ℕ) (xs : List ℕ) (value : Counters) (rest : List ℕ) : Type 0 where
+    pub has_id_is : value.has_id ≡ is_set format ID
+    pub has_lost_is : value.has_lost ≡ is_set format LOST
+    pub numbers_are : AreU64s number (counter_width (is_set format ID) (is_set format LOST) * count) xs value.numbers rest
+
+  abbrev pub counters : ℕ → List ℕ → Outcome Counters → Type 0
+  counters count xs (encodes value rest) = AreCounters count xs value rest
+  counters count xs (fails kind) = IsTruncated (8 * (counter_width (is_set format ID) (is_set format LOST) * count)) xs kind
+
+  -- The number of counters, the times, and the counters.
+  abbrev pub group_values : List ℕ → Outcome (Times × Counters) → Type 0
+  group_values = led (fixed 8 (u64_at number 0)) (λ count. both times (λ _. counters count))
 
   abbrev pub read_values : List ℕ → Outcome Values → Type 0
   read_values xs (encodes (single value) rest) = (is_set format GROUP ≡ false) × single_values xs (encodes value rest)

@@ -14,4 +14,4 @@ returns-in_err-numbers c =
     rw (p.1, p.2) (inr record { value = c.in_ok-count.count; middle = bytes_of c.read_u64.new.fields; starts = c.in_ok-count.ensures; error = (inr record { value = c.in_ok-times.times; middle = bytes_of c.parse.new.fields; starts = c.in_ok-times.ensures; error = (rw c.width.ensures at c.in_err-numbers.ensures) }) })
 
 pub returns : goal.returns
-returns c = record { lead = c.in_ok-count.count; middle = bytes_of c.read_u64.new.fields; starts = c.in_ok-count.ensures; goes_on = record { middle = bytes_of c.parse.new.fields; starts = c.in_ok-times.ensures; goes_on = (rw c.width.ensures at c.in_ok-numbers.ensures) } }
+returns c = record { lead = c.in_ok-count.count; middle = bytes_of c.read_u64.new.fields; starts = c.in_ok-count.ensures; goes_on = record { middle = bytes_of c.parse.new.fields; starts = c.in_ok-times.ensures; goes_on = record { has_id_is = c.contains.ensures tt; has_lost_is = c.contains-2.ensures tt; numbers_are = (rw c.width.ensures at c.in_ok-numbers.ensures) } } }
