@@ -117,8 +117,8 @@ module _ (number : ℕ → List ℕ → ℕ) where
   prefix_file_id : (b : Bool) → ConsumesPrefix (file_id number b)
   prefix_file_id b xs v r q = before_drop 24 xs r q.rest_is
 
-  pub prefix_mmap2 : (b : Bool) → ConsumesPrefix (mmap2 number b)
-  prefix_mmap2 b = prefix_both _ _ (prefix_fixed 32 (mapping_at number)) (λ _. prefix_both _ _ (prefix_file_id b) (λ _. prefix_fixed_and_text 8 (protection_at number)))
+  pub prefix_mmap2 : (misc : ℕ) → ConsumesPrefix (mmap2 number misc)
+  prefix_mmap2 misc = prefix_both _ _ (prefix_fixed 32 (mapping_at number misc)) (λ _. prefix_both _ _ (prefix_file_id (is_set misc 14)) (λ _. prefix_fixed_and_text 8 (protection_at number)))
 
   prefix_chain : ConsumesPrefix (chain number)
   prefix_chain = prefix_led _ _ prefix_u64 (λ n. prefix_u64s n)

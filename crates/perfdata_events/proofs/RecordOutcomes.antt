@@ -261,8 +261,8 @@ module _ (number : ℕ → List ℕ → ℕ) where
     | inr all ↦ checked_id b xs all
   ]
 
-  pub one_mmap2 : (is_build_id : Bool) → HasOneOutcome (mmap2 number is_build_id)
-  one_mmap2 b = one_both _ _ (one_fixed 32 (mapping_at number)) (λ _. one_both _ _ (one_file_id b) (λ _. one_fixed_and_text 8 (protection_at number)))
+  pub one_mmap2 : (misc : ℕ) → HasOneOutcome (mmap2 number misc)
+  one_mmap2 misc = one_both _ _ (one_fixed 32 (mapping_at number misc)) (λ _. one_both _ _ (one_file_id (is_set misc 14)) (λ _. one_fixed_and_text 8 (protection_at number)))
 
   module _ (format : EventFormat) where
     pub one_sample_start : HasOneOutcome (sample_start number format)

@@ -8,7 +8,6 @@ use Rattle.perfdata_base.specs.Endian.{number_in}
 use Rattle.perfdata_base.specs.ParseInfo.{is_set}
 use Rattle.perfdata_base.specs.declared.event.RawEventRecord.{RawEventRecord}
 use Rattle.perfdata_events.specs.Format.{encodes, fails, IsTruncated}
-use Rattle.perfdata_events.specs.Misc.{MMAP_BUILD_ID}
 use Rattle.perfdata_events.specs.SampleFormat.{READ, BRANCH_STACK}
 use Rattle.perfdata_events.specs.EventFormat.{trailing_size, before_trailing}
 use Rattle.perfdata_events.specs.Mmap.{mmap, mapping_of}
@@ -57,7 +56,7 @@ module _ (format : EventFormat) (raw : RawEventRecord) where
 
   -- The bytes before the sample_id fields start with the fields of an event that isn't a sample, and these bytes follow.
   abbrev pub IsEvent : List ℕ → EventRecord → List ℕ → Type 0
-  IsEvent xs (Mmap v) rest = (kind_of ≡ 1) × mmap number xs (encodes (mapping_of v) rest)
+  IsEvent xs (Mmap v) rest = (kind_of ≡ 1) × mmap number raw.misc xs (encodes (mapping_of v) rest)
   IsEvent xs (Lost v) rest = (kind_of ≡ 2) × lost number xs (encodes v rest)
   IsEvent xs (Comm v) rest = (kind_of ≡ 3) × comm number raw.misc xs (encodes (named_task_of v) rest)
   IsEvent xs (Exit v) rest = (kind_of ≡ 4) × fork_or_exit number xs (encodes v rest)
@@ -65,7 +64,7 @@ module _ (format : EventFormat) (raw : RawEventRecord) where
   IsEvent xs (Unthrottle v) rest = (kind_of ≡ 6) × throttle number xs (encodes v rest)
   IsEvent xs (Fork v) rest = (kind_of ≡ 7) × fork_or_exit number xs (encodes v rest)
   IsEvent xs (Read v) rest = (kind_of ≡ 8) × read number format.read_format.0 xs (encodes (task_values_of v) rest)
-  IsEvent xs (Mmap2 v) rest = (kind_of ≡ 10) × mmap2 number (is_set raw.misc MMAP_BUILD_ID) xs (encodes (mapping2_of v) rest)
+  IsEvent xs (Mmap2 v) rest = (kind_of ≡ 10) × mmap2 number raw.misc xs (encodes (mapping2_of v) rest)
   IsEvent xs (Aux v) rest = (kind_of ≡ 11) × aux number xs (encodes v rest)
   IsEvent xs (ItraceStart v) rest = (kind_of ≡ 12) × itrace_start number xs (encodes v rest)
   IsEvent xs (LostSamples v) rest = (kind_of ≡ 13) × lost_samples number xs (encodes v rest)
@@ -82,7 +81,7 @@ module _ (format : EventFormat) (raw : RawEventRecord) where
   -- The first error of the fields of a record of type 1 to 7.
   abbrev pub FailsTo7 : List ℕ → ErrorKind → Type 0
   FailsTo7 xs kind =
-      ((kind_of ≡ 1) × mmap number xs (fails kind))
+      ((kind_of ≡ 1) × mmap number raw.misc xs (fails kind))
       ⊎ (((kind_of ≡ 2) × lost number xs (fails kind))
       ⊎ (((kind_of ≡ 3) × comm number raw.misc xs (fails kind))
       ⊎ (((kind_of ≡ 4) × fork_or_exit number xs (fails kind))
@@ -94,7 +93,7 @@ module _ (format : EventFormat) (raw : RawEventRecord) where
   abbrev pub FailsTo15 : List ℕ → ErrorKind → Type 0
   FailsTo15 xs kind =
       ((kind_of ≡ 8) × read number format.read_format.0 xs (fails kind))
-      ⊎ (((kind_of ≡ 10) × mmap2 number (is_set raw.misc MMAP_BUILD_ID) xs (fails kind))
+      ⊎ (((kind_of ≡ 10) × mmap2 number raw.misc xs (fails kind))
       ⊎ (((kind_of ≡ 11) × aux number xs (fails kind))
       ⊎ (((kind_of ≡ 12) × itrace_start number xs (fails kind))
       ⊎ (((kind_of ≡ 13) × lost_samples number xs (fails kind))

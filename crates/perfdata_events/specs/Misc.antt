@@ -2,6 +2,9 @@
 -- `perf_event.h`).
 use Rattle.std.specs.Prelude.{ℕ}
 
+abbrev pub MMAP_DATA : ℕ
+MMAP_DATA = 13
+
 abbrev pub COMM_EXEC : ℕ
 COMM_EXEC = 13
 

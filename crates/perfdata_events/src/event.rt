@@ -74,7 +74,7 @@ const BRANCH_FIELDS_END: u64 = BranchFields::COUNTERS.0 << 1;
 /// A kernel record, parsed by its type.
 #[derive(Clone, Copy, Debug)]
 pub enum EventRecord<'a> {
-    /// An executable mapping (1).
+    /// A mapping (1).
     Mmap(MmapRecord<'a>),
     /// Dropped records (2).
     Lost(LostRecord),
@@ -92,7 +92,7 @@ pub enum EventRecord<'a> {
     Read(ReadRecord<'a>),
     /// A sample (9).
     Sample(SampleRecord<'a>),
-    /// An executable mapping with the identity of its file (10).
+    /// A mapping with the identity of its file (10).
     Mmap2(Mmap2Record<'a>),
     /// New data in the aux area (11).
     Aux(AuxRecord),
@@ -133,7 +133,8 @@ fn copy_of<'a>(raw: &RawEventRecord<'a>) -> RawEventRecord<'a>
 // The fields of the types are parsed in three functions that aren't inlined, because all locals of a function are set to zero when it
 // is called.
 impl EventFormat {
-    ghost use Rattle.perfdata_events.specs.Event.{DecodesEvent, IsParsed, ParseFails, has_known_values, has_unknown_values, has_known_fields};
+    ghost use Rattle.perfdata_events.specs.Event.{DecodesEvent, IsParsed, ParseFails};
+    ghost use Rattle.perfdata_events.specs.Event.{has_known_fields, has_known_values, has_unknown_values};
 
     // Parses the fields of a record of type 1 to 7.
     #[inline(never)]
@@ -150,7 +151,7 @@ impl EventFormat {
         let misc = raw.misc;
         match raw.record_type.0 {
             PERF_RECORD_MMAP => {
-                let mmap = MmapRecord::parse(endian, fields)?;
+                let mmap = MmapRecord::parse(endian, misc, fields)?;
                 Ok(EventRecord::Mmap(mmap))
             }
             PERF_RECORD_LOST => {

@@ -1,5 +1,5 @@
 //! Laws on the definitions of formats.
-ghost use Rattle.std.specs.Prelude.{ℕ, List, Bool, ◌≡◌, ◌<◌, ◌++◌, ◌*◌, ◌^◌, not, map, filter};
+ghost use Rattle.std.specs.Prelude.{ℕ, List, ◌≡◌, ◌<◌, ◌++◌, ◌*◌, ◌^◌, not, map, filter};
 ghost use Rattle.std.specs.Option.{option_or};
 ghost use Rattle.perfdata_base.specs.Raw.{bytes_of};
 ghost use Rattle.perfdata_base.specs.ParseInfo.{parse_info_of, id_parse_info_of, time_of, identifier_of};
@@ -40,13 +40,13 @@ use crate::bits::{BranchFields, EventFlags, MiscFlags, ReadFields, SampleFields}
 /// Bytes either start with exactly one value of a record's fields, which are followed by exactly one rest, or have exactly one
 /// first error. `number` parses a number of a given size, in either byte order.
 pub fn fields_have_one_outcome()
-    ensures mmap { (number : ℕ → List ℕ → ℕ) → HasOneOutcome (mmap number) }
+    ensures mmap { (number : ℕ → List ℕ → ℕ) (misc : ℕ) → HasOneOutcome (mmap number misc) }
     ensures lost { (number : ℕ → List ℕ → ℕ) → HasOneOutcome (lost number) }
     ensures comm { (number : ℕ → List ℕ → ℕ) (misc : ℕ) → HasOneOutcome (comm number misc) }
     ensures fork_or_exit { (number : ℕ → List ℕ → ℕ) → HasOneOutcome (fork_or_exit number) }
     ensures throttle { (number : ℕ → List ℕ → ℕ) → HasOneOutcome (throttle number) }
     ensures read { (number : ℕ → List ℕ → ℕ) (read_format : ℕ) → HasOneOutcome (read number read_format) }
-    ensures mmap2 { (number : ℕ → List ℕ → ℕ) (is_build_id : Bool) → HasOneOutcome (mmap2 number is_build_id) }
+    ensures mmap2 { (number : ℕ → List ℕ → ℕ) (misc : ℕ) → HasOneOutcome (mmap2 number misc) }
     ensures aux { (number : ℕ → List ℕ → ℕ) → HasOneOutcome (aux number) }
     ensures itrace_start { (number : ℕ → List ℕ → ℕ) → HasOneOutcome (itrace_start number) }
     ensures lost_samples { (number : ℕ → List ℕ → ℕ) → HasOneOutcome (lost_samples number) }
@@ -64,13 +64,13 @@ pub fn fields_have_one_outcome()
 
 /// The bytes of a record's fields and the bytes after them are all the bytes, in order.
 pub fn fields_are_a_prefix()
-    ensures mmap { (number : ℕ → List ℕ → ℕ) → ConsumesPrefix (mmap number) }
+    ensures mmap { (number : ℕ → List ℕ → ℕ) (misc : ℕ) → ConsumesPrefix (mmap number misc) }
     ensures lost { (number : ℕ → List ℕ → ℕ) → ConsumesPrefix (lost number) }
     ensures comm { (number : ℕ → List ℕ → ℕ) (misc : ℕ) → ConsumesPrefix (comm number misc) }
     ensures fork_or_exit { (number : ℕ → List ℕ → ℕ) → ConsumesPrefix (fork_or_exit number) }
     ensures throttle { (number : ℕ → List ℕ → ℕ) → ConsumesPrefix (throttle number) }
     ensures read { (number : ℕ → List ℕ → ℕ) (read_format : ℕ) → ConsumesPrefix (read number read_format) }
-    ensures mmap2 { (number : ℕ → List ℕ → ℕ) (is_build_id : Bool) → ConsumesPrefix (mmap2 number is_build_id) }
+    ensures mmap2 { (number : ℕ → List ℕ → ℕ) (misc : ℕ) → ConsumesPrefix (mmap2 number misc) }
     ensures aux { (number : ℕ → List ℕ → ℕ) → ConsumesPrefix (aux number) }
     ensures itrace_start { (number : ℕ → List ℕ → ℕ) → ConsumesPrefix (itrace_start number) }
     ensures lost_samples { (number : ℕ → List ℕ → ℕ) → ConsumesPrefix (lost_samples number) }

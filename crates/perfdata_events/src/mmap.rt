@@ -3,12 +3,14 @@ ghost use Rattle.perfdata_base.specs.Raw.{bytes_of};
 ghost use Rattle.perfdata_base.specs.Endian.{number_in};
 ghost use Rattle.perfdata_events.specs.Format.{Decodes};
 
+use crate::bits::MiscFlags;
 use crate::fields::numbers::{i32_at, u64_at};
 use crate::fields::text::read_text;
+use bitflags::Flags;
 use perfdata_base::raw::{Endianness, RawData};
 use std::io::Result;
 
-/// An executable mapping (`PERF_RECORD_MMAP`).
+/// A mapping (`PERF_RECORD_MMAP`).
 #[derive(Clone, Copy, Debug, PartialEq, Eq)]
 pub struct MmapRecord<'a> {
     /// The process id.
@@ -21,6 +23,8 @@ pub struct MmapRecord<'a> {
     pub length: u64,
     /// The offset in the file, in bytes.
     pub page_offset: u64,
+    /// Whether the mapping isn't executable.
+    pub is_data: bool,
     /// The path of the file.
     pub path: RawData<'a>,
 }
@@ -28,12 +32,12 @@ pub struct MmapRecord<'a> {
 impl<'a> MmapRecord<'a> {
     ghost use Rattle.perfdata_events.specs.Mmap.{mmap, mapping_of};
 
-    /// Parses the fields at the start of `fields`, and removes them.
+    /// Parses the fields at the start of `fields`, and removes them. `misc` is that of the record header.
     ///
     /// Fails with an `UnexpectedEof` error if they are truncated, and with an `InvalidData` error if the path has no
     /// NUL.
-    pub fn parse(endian: Endianness, fields: &mut RawData<'a>) -> Result<MmapRecord<'a>>
-        ensures { Decodes (mmap (number_in endian)) mapping_of (bytes_of fields.old) result (bytes_of fields.new) }
+    pub fn parse(endian: Endianness, misc: u16, fields: &mut RawData<'a>) -> Result<MmapRecord<'a>>
+        ensures { Decodes (mmap (number_in endian) misc) mapping_of (bytes_of fields.old) result (bytes_of fields.new) }
     {
         let mut bytes = [0u8; 32];
         fields.read_exact(&mut bytes)?;
@@ -44,6 +48,7 @@ impl<'a> MmapRecord<'a> {
             address: u64_at(endian, &bytes, 8),
             length: u64_at(endian, &bytes, 16),
             page_offset: u64_at(endian, &bytes, 24),
+            is_data: MiscFlags(misc).contains(MiscFlags::MMAP_DATA),
             path,
         })
     }

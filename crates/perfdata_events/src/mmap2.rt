@@ -1,9 +1,7 @@
 //! Records on mappings with the identity of the mapped file.
 ghost use Rattle.perfdata_base.specs.Raw.{bytes_of};
 ghost use Rattle.perfdata_base.specs.Endian.{number_in};
-ghost use Rattle.perfdata_base.specs.ParseInfo.{is_set};
 ghost use Rattle.perfdata_events.specs.Format.{Decodes, fixed, fixed_and_text};
-ghost use Rattle.perfdata_events.specs.Misc.{MMAP_BUILD_ID};
 
 use crate::bits::MiscFlags;
 pub use crate::fields::file_id::{Mmap2FileId, Mmap2InodeAndVersion};
@@ -13,7 +11,7 @@ use bitflags::Flags;
 use perfdata_base::raw::{Endianness, RawData};
 use std::io::Result;
 
-/// An executable mapping with the identity of the mapped file (`PERF_RECORD_MMAP2`).
+/// A mapping with the identity of the mapped file (`PERF_RECORD_MMAP2`).
 #[derive(Clone, Copy, Debug, PartialEq, Eq)]
 pub struct Mmap2Record<'a> {
     /// The process id.
@@ -26,6 +24,8 @@ pub struct Mmap2Record<'a> {
     pub length: u64,
     /// The offset in the file, in bytes.
     pub page_offset: u64,
+    /// Whether the mapping isn't executable.
+    pub is_data: bool,
     /// The identity of the file.
     pub file_id: Mmap2FileId<'a>,
     /// The protection of the mapping, as bits.
@@ -44,6 +44,7 @@ struct AddressRange {
     address: u64,
     length: u64,
     page_offset: u64,
+    is_data: bool,
 }
 
 // The end of a record on a mapping.
@@ -58,8 +59,8 @@ impl AddressRange {
     ghost use Rattle.perfdata_events.specs.Mmap.{mapping_at};
     ghost use Rattle.perfdata_events.specs.Mmap2.{address_range_of};
 
-    fn parse(endian: Endianness, fields: &mut RawData<'_>) -> Result<AddressRange>
-        ensures { Decodes (fixed 32 (mapping_at (number_in endian))) address_range_of (bytes_of fields.old) result (bytes_of fields.new) }
+    fn parse(endian: Endianness, misc: u16, fields: &mut RawData<'_>) -> Result<AddressRange>
+        ensures { Decodes (fixed 32 (mapping_at (number_in endian) misc)) address_range_of (bytes_of fields.old) result (bytes_of fields.new) }
     {
         let mut bytes = [0u8; 32];
         fields.read_exact(&mut bytes)?;
@@ -69,6 +70,7 @@ impl AddressRange {
             address: u64_at(endian, &bytes, 8),
             length: u64_at(endian, &bytes, 16),
             page_offset: u64_at(endian, &bytes, 24),
+            is_data: MiscFlags(misc).contains(MiscFlags::MMAP_DATA),
         })
     }
 }
@@ -98,9 +100,9 @@ impl<'a> Mmap2Record<'a> {
     /// Fails with an `UnexpectedEof` error if they are truncated, and with an `InvalidData` error if the build id has
     /// more than 20 bytes or the path has no NUL.
     pub fn parse(endian: Endianness, misc: u16, fields: &mut RawData<'a>) -> Result<Mmap2Record<'a>>
-        ensures { Decodes (mmap2 (number_in endian) (is_set misc MMAP_BUILD_ID)) mapping2_of (bytes_of fields.old) result (bytes_of fields.new) }
+        ensures { Decodes (mmap2 (number_in endian) misc) mapping2_of (bytes_of fields.old) result (bytes_of fields.new) }
     {
-        let range = AddressRange::parse(endian, fields)?;
+        let range = AddressRange::parse(endian, misc, fields)?;
         let is_build_id = MiscFlags(misc).contains(MiscFlags::MMAP_BUILD_ID);
         let file_id = Mmap2FileId::parse(endian, is_build_id, fields)?;
         let protected = ProtectedPath::parse(endian, fields)?;
@@ -110,6 +112,7 @@ impl<'a> Mmap2Record<'a> {
             address: range.address,
             length: range.length,
             page_offset: range.page_offset,
+            is_data: range.is_data,
             file_id,
             protection: protected.protection,
             flags: protected.flags,

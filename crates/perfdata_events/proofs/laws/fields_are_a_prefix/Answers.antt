@@ -3,7 +3,7 @@ use Rattle.perfdata_events.proofs.Prefixes.{prefix_read, prefix_mmap2, prefix_sa
 use Rattle.perfdata_events.proofs.laws.fields_are_a_prefix.Goals as goal
 
 pub returns-clause-mmap : goal.returns-clause-mmap
-returns-clause-mmap c = λ number. prefix_fixed_and_text _ _
+returns-clause-mmap c = λ number misc. prefix_fixed_and_text _ _
 
 pub returns-clause-lost : goal.returns-clause-lost
 returns-clause-lost c = λ number. prefix_fixed _ _
@@ -21,7 +21,7 @@ pub returns-clause-read : goal.returns-clause-read
 returns-clause-read c = λ number read_format. prefix_read number read_format
 
 pub returns-clause-mmap2 : goal.returns-clause-mmap2
-returns-clause-mmap2 c = λ number is_build_id. prefix_mmap2 number is_build_id
+returns-clause-mmap2 c = λ number misc. prefix_mmap2 number misc
 
 pub returns-clause-aux : goal.returns-clause-aux
 returns-clause-aux c = λ number. prefix_fixed _ _

@@ -3,7 +3,7 @@ use Rattle.perfdata_events.proofs.RecordOutcomes.{one_read, one_mmap2, one_sampl
 use Rattle.perfdata_events.proofs.laws.fields_have_one_outcome.Goals as goal
 
 pub returns-clause-mmap : goal.returns-clause-mmap
-returns-clause-mmap c = λ number. one_fixed_and_text _ _
+returns-clause-mmap c = λ number misc. one_fixed_and_text _ _
 
 pub returns-clause-lost : goal.returns-clause-lost
 returns-clause-lost c = λ number. one_fixed _ _
@@ -21,7 +21,7 @@ pub returns-clause-read : goal.returns-clause-read
 returns-clause-read c = λ number read_format. one_read number read_format
 
 pub returns-clause-mmap2 : goal.returns-clause-mmap2
-returns-clause-mmap2 c = λ number is_build_id. one_mmap2 number is_build_id
+returns-clause-mmap2 c = λ number misc. one_mmap2 number misc
 
 pub returns-clause-aux : goal.returns-clause-aux
 returns-clause-aux c = λ number. one_fixed _ _
