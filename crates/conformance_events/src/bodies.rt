@@ -11,6 +11,7 @@ use perfdata_events::format::EventFormat;
 use perfdata_events::read_values::GroupValues;
 use perfdata_events::sample::SampleWords;
 use perfdata_events::sample_parts::BranchStack;
+use perfdata_events::sample_words::WeightStruct;
 use perfdata_events::u64s::RawDataU64;
 use std::io;
 
@@ -69,7 +70,7 @@ pub fn call(call: &Call<'_>, out: &mut String) -> CaseResult<bool> {
     Ok(true)
 }
 
-// The frames of a call chain; or how many counters, branches or numbers there are, and what is at each index
+// The numbers of weights, or the frames of a call chain; or how many counters, branches or numbers there are, and what is at each index
 // of the option `get`.
 fn push_numbers(call: &Call<'_>, out: &mut String) -> CaseResult<bool> {
     let values = RawDataU64 {
@@ -88,6 +89,12 @@ fn push_numbers(call: &Call<'_>, out: &mut String) -> CaseResult<bool> {
         entries: values,
         counters: None,
     };
+    if call.case.call == "weight-struct" {
+        for weight in values.iter() {
+            push_line(out, &WeightStruct::new(weight))?;
+        }
+        return Ok(true);
+    }
     if call.case.call == "call-chain" {
         for frame in (CallChain { values }).iter() {
             push_line(out, &frame)?;

@@ -2,7 +2,7 @@
 -- set. The fields in order, with their bits: WEIGHT 14 or WEIGHT_STRUCT 24, DATA_SRC 15, TRANSACTION 17, REGS_INTR 18, PHYS_ADDR 19,
 -- CGROUP 21, DATA_PAGE_SIZE 22, CODE_PAGE_SIZE 23, AUX 20. The kernel writes them in this order (`perf_output_sample`); a comment in
 -- `perf_event.h` puts AUX before the page sizes.
-use Rattle.std.specs.Prelude.{◌≡◌, ℕ, ◌≤◌, ◌||◌, List, [], ◌∷◌, length, Option}
+use Rattle.std.specs.Prelude.{◌≡◌, ℕ, ◌/◌, ◌%◌, ◌^◌, ◌≤◌, ◌||◌, List, [], ◌∷◌, length, Option}
 use Rattle.std.specs.Option.{option_map}
 use Rattle.perfdata_base.specs.Raw.{bytes_of}
 use Rattle.perfdata_base.specs.ParseInfo.{is_set}
@@ -15,6 +15,16 @@ use Rattle.perfdata_events.specs.declared.fields.registers.RegisterMasks.{Regist
 use Rattle.perfdata_events.specs.declared.fields.sample_end.DataWords.{DataWords}
 use Rattle.perfdata_events.specs.declared.fields.sample_end.PageWords.{PageWords}
 use Rattle.perfdata_events.specs.declared.fields.sample_end.SampleEnd.{SampleEnd}
+use Rattle.perfdata_events.specs.declared.fields.sample_end.WeightStruct.{WeightStruct}
+
+-- The numbers of a weight. union perf_sample_weight { u64 full; struct { u32 var1_dw; u16 var2_w; u16 var3_w; }; }: on a big-endian
+-- machine the numbers are in the opposite order, so they are at the same bits of the word.
+abbrev pub weight_struct_of : ℕ → WeightStruct
+weight_struct_of weight = record {
+  var1_dw = weight % 2 ^ 32;
+  var2_w = weight / 2 ^ 32 % 2 ^ 16;
+  var3_w = weight / 2 ^ 48;
+}
 
 -- The values of the fields, each a value and then the others.
 abbrev pub End : Type 0

@@ -53,7 +53,8 @@ pub struct SampleRecord<'a> {
     pub user_registers: Option<Registers<'a>>,
     /// A copy of the start of the program's stack.
     pub user_stack: Option<UserStack<'a>>,
-    /// The weight: the cost of the access, in the unit of the hardware.
+    /// The weight: the cost of the access, in the unit of the hardware. With [`SampleFields::WEIGHT_STRUCT`] it is three
+    /// numbers, see [`WeightStruct`](crate::sample_words::WeightStruct).
     pub weight: Option<u64>,
     /// Where the data came from, as bits (`union perf_mem_data_src`).
     pub data_source: Option<u64>,

@@ -4,7 +4,7 @@ ghost use Rattle.perfdata_base.specs.Endian.{number_in};
 ghost use Rattle.perfdata_events.specs.Format.{Decodes};
 
 use crate::bits::SampleFields;
-pub use crate::fields::sample_end::{DataWords, PageWords};
+pub use crate::fields::sample_end::{DataWords, PageWords, WeightStruct};
 use crate::fields::task::Task;
 use crate::fields::words::{read_task_if, read_u32_if, read_u64_if};
 use bitflags::Flags;

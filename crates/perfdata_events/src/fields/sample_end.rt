@@ -16,6 +16,18 @@ use bitflags::Flags;
 use perfdata_base::raw::{Endianness, RawData};
 use std::io::Result;
 
+/// A weight in three numbers (`PERF_SAMPLE_WEIGHT_STRUCT`), by their names in `union perf_sample_weight`. What they count
+/// depends on the processor.
+#[derive(Clone, Copy, Debug, PartialEq, Eq)]
+pub struct WeightStruct {
+    /// The low 32 bits.
+    pub var1_dw: u32,
+    /// Bits 32 to 47.
+    pub var2_w: u16,
+    /// Bits 48 to 63.
+    pub var3_w: u16,
+}
+
 /// The words of a sample on its data. A field is `None` if the attribute doesn't select it.
 #[derive(Clone, Copy, Debug, PartialEq, Eq)]
 pub struct DataWords {
@@ -41,7 +53,8 @@ pub struct PageWords {
 /// The fields of a sample from its weight on. A field is `None` if the attribute doesn't select it.
 #[derive(Clone, Copy)]
 pub struct SampleEnd<'a> {
-    /// The weight: the cost of the access, in the unit of the hardware.
+    /// The weight: the cost of the access, in the unit of the hardware. With [`SampleFields::WEIGHT_STRUCT`] it is three
+    /// numbers, see [`WeightStruct`].
     pub weight: Option<u64>,
     /// The words on its data.
     pub data: DataWords,
@@ -51,6 +64,21 @@ pub struct SampleEnd<'a> {
     pub pages: PageWords,
     /// Aux data.
     pub aux_data: Option<RawData<'a>>,
+}
+
+impl WeightStruct {
+    ghost use Rattle.perfdata_events.specs.SampleEnd.{weight_struct_of};
+
+    /// Splits a weight, in either byte order: the numbers are at the same bits of the word.
+    pub fn new(weight: u64) -> WeightStruct
+        ensures { result ≡ weight_struct_of weight }
+    {
+        WeightStruct {
+            var1_dw: (weight % 0x1_0000_0000) as u32,
+            var2_w: ((weight >> 32) % 0x1_0000) as u16,
+            var3_w: (weight >> 48) as u16,
+        }
+    }
 }
 
 impl DataWords {
