@@ -27,7 +27,7 @@ calls_sorter_in_turn first last file file' [] (same, same_file) = ap (λ s. s.so
 calls_sorter_in_turn first last file file' (reads key place r ∷ steps) (next, (next_file, step, rest)) =
     subst (λ s. MakesCalls nat_cmp (calls_in steps) s last.sorter) step.same_order.sorter (calls_sorter_in_turn next last next_file file' steps rest)
 calls_sorter_in_turn first last file file' (passes place r ∷ steps) (next, (next_file, step, rest)) =
-    subst (λ s. MakesCalls nat_cmp (calls_in steps) s last.sorter) step.same_order.sorter (calls_sorter_in_turn next last next_file file' steps rest)
+    subst (λ s. MakesCalls nat_cmp (calls_in steps) s last.sorter) step.0.same_order.sorter (calls_sorter_in_turn next last next_file file' steps rest)
 calls_sorter_in_turn first last file file' (reads_end ∷ steps) (next, (next_file, step, rest)) =
     subst (λ s. MakesCalls nat_cmp (calls_in steps) s last.sorter) step.same_order.sorter (calls_sorter_in_turn next last next_file file' steps rest)
 calls_sorter_in_turn first last file file' (reads_error e ∷ steps) (next, (next_file, step, rest)) =
@@ -94,10 +94,13 @@ once_from (reads key place r ∷ steps) first last file file' (next, (next_file,
     ap (λ h. h ++ read_in steps) after ∙ append_assoc (entries (held_of first.sorter)) ((place, r) ∷ []) (read_in steps) ∙ ap (λ h. h ++ (place, r) ∷ read_in steps) (sym plain) in
     subst (λ h. IsPermutation h (returned_in steps ++ held_entries last)) regrouped (once_from steps next last next_file file' rest)
 once_from (passes place r ∷ steps) first last file file' (next, (next_file, step, rest)) =
-    let same : held_entries next ≡ held_entries first =
-    held_as next next (held_of first.sorter) [] (ap held_of step.same_order.sorter) (ap pending_entries step.pending) ∙ sym (held_as first first (held_of first.sorter) [] refl (ap pending_entries step.nothing_pending)) in
-    let once = once_kept steps first next last file file' same (once_from steps next last next_file file' rest) in
-    IsPermutation-trans _ _ _ (IsPermutation-middle (held_entries first) (place, r) (read_in steps)) (IsPermutation-cons (place, r) _ _ once)
+    let before : held_entries first ≡ entries (held_of first.sorter) ++ (place, r) ∷ [] = held_as first first (held_of first.sorter) ((place, r) ∷ []) refl (ap pending_entries step.0.was_pending) in
+    let after : held_entries next ≡ entries (held_of first.sorter) ++ [] = held_as next next (held_of first.sorter) [] (ap held_of step.0.same_order.sorter) (ap pending_entries step.0.pending) in
+    let plain = after ∙ append-nil (entries (held_of first.sorter)) in
+    let regrouped : held_entries first ++ read_in steps ≡ held_entries next ++ (place, r) ∷ read_in steps =
+    ap (λ h. h ++ read_in steps) before ∙ append_assoc (entries (held_of first.sorter)) ((place, r) ∷ []) (read_in steps) ∙ ap (λ h. h ++ (place, r) ∷ read_in steps) (sym plain) in
+    subst (λ h. IsPermutation h ((place, r) ∷ (returned_in steps ++ held_entries last))) (sym regrouped)
+    (IsPermutation-trans _ _ _ (IsPermutation-middle (held_entries next) (place, r) (read_in steps)) (IsPermutation-cons (place, r) _ _ (once_from steps next last next_file file' rest)))
 once_from (reads_end ∷ steps) first last file file' (next, (next_file, step, rest)) =
     let same : held_entries next ≡ held_entries first =
     held_as next next (held_of first.sorter) [] (ap held_of step.same_order.sorter) (ap pending_entries step.pending) ∙ sym (held_as first first (held_of first.sorter) [] refl (ap pending_entries step.nothing_pending)) in
@@ -153,7 +156,7 @@ still_stopped first next same stopped running = stopped (sym (ap (λ r. r.iter.s
 pub nothing_read : (steps : List Step) (first last : InMemoryOrderedRecords) (file file' : PerfFile) → first.records.iter.stage ≢ Running → TakesSteps steps first file last file' → read_in steps ≡ []
 nothing_read [] first last file file' stopped taken = refl
 nothing_read (reads key place r ∷ steps) first last file file' stopped (next, (next_file, step, rest)) = absurd (stopped step.returned.returns.was_running)
-nothing_read (passes place r ∷ steps) first last file file' stopped (next, (next_file, step, rest)) = absurd (stopped step.returned.returns.was_running)
+nothing_read (passes place r ∷ steps) first last file file' stopped (next, (next_file, step, rest)) = nothing_read steps next last next_file file' (still_stopped first next step.0.same_records stopped) rest
 nothing_read (reads_end ∷ steps) first last file file' stopped (next, (next_file, step, rest)) = nothing_read steps next last next_file file' (λ running. ended_runs next.records.iter.stage step.ended.stage_ended running) rest
 nothing_read (reads_error e ∷ steps) first last file file' stopped (next, (next_file, step, rest)) = nothing_read steps next last next_file file' (λ running. failed_runs next.records.iter.stage step.failed.stage_failed running) rest
 nothing_read (sorts (inserts key entry) ∷ steps) first last file file' stopped (next, (next_file, step, rest)) = nothing_read steps next last next_file file' (still_stopped first next step.0.same_records stopped) rest
@@ -181,9 +184,7 @@ read_from [] first last file file' taken = (first.records, (file, (refl, refl)))
 read_from (reads key place r ∷ steps) first last file file' (next, (next_file, step, rest)) =
     let more = read_from steps next last next_file file' rest in
     (more.0, (more.1.0, (next.records, (next_file, (place, (r, step.returned, refl)), more.1.1))))
-read_from (passes place r ∷ steps) first last file file' (next, (next_file, step, rest)) =
-    let more = read_from steps next last next_file file' rest in
-    (more.0, (more.1.0, (next.records, (next_file, (place, (r, step.returned, refl)), more.1.1))))
+read_from (passes place r ∷ steps) first last file file' (next, (next_file, step, rest)) = from_same first next file next_file (read_in steps) step.0.same_records step.1 (read_from steps next last next_file file' rest)
 read_from (reads_end ∷ steps) first last file file' (next, (next_file, step, rest)) =
     none_from first.records file (read_in steps) (nothing_read steps next last next_file file' (λ running. ended_runs next.records.iter.stage step.ended.stage_ended running) rest)
 read_from (reads_error e ∷ steps) first last file file' (next, (next_file, step, rest)) =

@@ -1,5 +1,5 @@
 -- The steps of a call.
-use Rattle.std.proofs.Common.{◌≡◌, ℕ, ◌+◌, ◌-◌, ◌*◌, ◌^◌, ◌<◌, ◌≤◌, List, [], ◌∷◌, ◌++◌, Result, Ok, Err, refl, sym, ap, ◌∙◌, subst, inl, inr, arith}
+use Rattle.std.proofs.Common.{◌≡◌, ℕ, ◌+◌, ◌-◌, ◌*◌, ◌^◌, ◌<◌, ◌≤◌, List, [], ◌∷◌, ◌++◌, Option, None, Some, Result, Ok, Err, refl, sym, ap, ◌∙◌, subst, inl, inr, arith}
 use Rattle.std.specs.Ordering.{nat_cmp}
 use Rattle.perfdata_sections.specs.declared.error.Error.{Error}
 use Rattle.perfdata_records.specs.declared.record.PerfFileRecord.{PerfFileRecord}
@@ -15,7 +15,7 @@ use Rattle.perfdata_order.specs.declared.in_memory.Pending.TheVariants.{Nothing,
 use Rattle.perfdata_order.specs.declared.in_memory.InMemoryOrderedRecords.{InMemoryOrderedRecords}
 use Rattle.perfdata_order.specs.Sorter.{held_of, available_of, pending_of, IsUnchanged, Inserted, EndsAllRounds}
 use Rattle.perfdata_order.specs.SorterLaws.Call.{inserts, ends_round, ends_all, releases, returns, keeps}
-use Rattle.perfdata_order.specs.InMemoryOrder.{AfterPlacing, PlacesPending, IsPending, pending_records, EndReturned, Entry, Step, returned_in, TakesStep, TakesSteps, Progress, Places, EntryReturned, ReadsPending, ReadsUntimed, EndsRoundsBefore, KeepsSorter, EndsRounds, InsertsPending, ReturnsSorted, IsOneRoundLater, IsLaterOrLast}
+use Rattle.perfdata_order.specs.InMemoryOrder.{AfterPlacing, PlacesPending, IsPending, pending_records, EndReturned, Entry, Step, returned_in, TakesStep, TakesSteps, Progress, Places, EntryReturned, ReadsPending, PassesPending, HasNoUntimed, EndsRoundsBefore, KeepsSorter, EndsRounds, InsertsPending, ReturnsSorted, IsOneRoundLater, IsLaterOrLast}
 use Rattle.perfdata_order.specs.InMemoryOrder.Step.{reads, passes, reads_end, reads_error, sorts, reports}
 use Rattle.perfdata_order.proofs.SorterCalls.{held_split}
 
@@ -78,14 +78,14 @@ entry_sorted a b c f g key entry p returned = record {
   taken = (returned, refl);
 }
 
-pub entry_untimed : (a b c : InMemoryOrderedRecords) (f g h : PerfFile) (entry : Entry) → Progress a f b g → ReadsUntimed b g entry.0 entry.1 c h → EntryReturned a f entry c h
-entry_untimed a b c f g h entry p read = record {
+pub entry_untimed : (a b c : InMemoryOrderedRecords) (f g : PerfFile) (entry : Entry) → Progress a f b g → PassesPending b entry.0 entry.1 c → EntryReturned a f entry c g
+entry_untimed a b c f g entry p passed = record {
   middle = b;
   middle_file = g;
   before = p;
   step = passes entry.0 entry.1;
   returns_entry = refl;
-  taken = read;
+  taken = (passed, refl);
 }
 
 -- ---- placing what is pending
@@ -116,7 +116,7 @@ pub record RoundsPlaced (a : InMemoryOrderedRecords) (place : RecordPlace) (b : 
   pub same_records : b.records ≡ a.records
   pub in_round : place.round ≤ b.round
 
-pub rounds_placed : (a b : InMemoryOrderedRecords) (key : ℕ) (place : RecordPlace) (r : PerfFileRecord) → a.pending ≡ Record key place r → EndsRoundsBefore a place.round (Ok tt) b → RoundsPlaced a place b
+pub rounds_placed : (a b : InMemoryOrderedRecords) (key : Option ℕ) (place : RecordPlace) (r : PerfFileRecord) → a.pending ≡ Record key place r → EndsRoundsBefore a place.round (Ok tt) b → RoundsPlaced a place b
 rounds_placed a b key place r was (inl (le, same)) = record {
   places = places_none a b same;
   pending = ap (λ s. s.pending) same;
@@ -161,7 +161,14 @@ offset_rises old new file file' place r returned =
 
 -- ---- what placing leaves
 
-pub record_placed : (a b c : InMemoryOrderedRecords) (key : ℕ) (place : RecordPlace) (r : PerfFileRecord) → a.pending ≡ Record key place r → RoundsPlaced a place b → Inserted nat_cmp b.sorter key (place, r) c.sorter
+-- The round of the pending record.
+abbrev pending_round : Pending → ℕ
+pending_round Nothing = 0
+pending_round (Record key place r) = place.round
+pending_round End = 0
+pending_round (Failure e) = 0
+
+pub record_placed : (a b c : InMemoryOrderedRecords) (key : ℕ) (place : RecordPlace) (r : PerfFileRecord) → a.pending ≡ Record (Some key) place r → RoundsPlaced a place b → Inserted nat_cmp b.sorter key (place, r) c.sorter
     → c.pending ≡ Nothing → c.records ≡ b.records → c.round ≡ b.round → Places a c × AfterPlacing a.pending c × (c.records ≡ a.records)
 record_placed a b c key place r was placed inserted nothing same_records same_round = (
   places_inserted a b c key (place, r) placed.places (record {
@@ -175,6 +182,13 @@ record_placed a b c key place r was placed inserted nothing same_records same_ro
   subst (λ q. AfterPlacing q c) (sym was) nothing,
   same_records ∙ placed.same_records,
 )
+
+-- The rounds before that of a pending record without a time ended, or nothing changed.
+pub untimed_placed : (a b : InMemoryOrderedRecords) (result : Result (Unit {0}) AllocError) (place : RecordPlace) (r : PerfFileRecord) → a.pending ≡ Record None place r → EndsRoundsBefore a place.round result b → PlacesPending a result b
+untimed_placed a b (Ok done) place r was ended =
+    let placed = rounds_placed a b None place r was ended in
+    (placed.places, subst (λ q. AfterPlacing q b) (sym was) (placed.pending ∙ was, placed.in_round), placed.same_records)
+untimed_placed a b (Err e) place r was kept = places_kept a a b (places_none a a refl) kept
 
 ended : (a c : InMemoryOrderedRecords) → Places a c → (q : Pending) → a.pending ≡ q → AfterPlacing q c → c.records ≡ a.records → Places a c × AfterPlacing a.pending c × (c.records ≡ a.records)
 ended a c places q is after same_records = (places, subst (λ q. AfterPlacing q c) (sym is) after, same_records)
@@ -195,15 +209,25 @@ failure_placed a c (Err error) e is unchanged pending same_records same_round =
 
 pub none_pending_at_end : (q : Pending) (b : InMemoryOrderedRecords) → AfterPlacing q b → b.pending ≡ End → pending_of b.sorter ≡ []
 none_pending_at_end Nothing b after is = cc
-none_pending_at_end (Record key place r) b after is = cc
+none_pending_at_end (Record None place r) b after is = let same = after.0 in cc
+none_pending_at_end (Record (Some key) place r) b after is = cc
 none_pending_at_end End b after is = after.1
 none_pending_at_end (Failure e) b after is = after.1
 
 pub none_pending_at_failure : (q : Pending) (b : InMemoryOrderedRecords) (e : Error) → AfterPlacing q b → b.pending ≡ Failure e → pending_of b.sorter ≡ []
 none_pending_at_failure Nothing b e after is = cc
-none_pending_at_failure (Record key place r) b e after is = cc
+none_pending_at_failure (Record None place r) b e after is = let same = after.0 in cc
+none_pending_at_failure (Record (Some key) place r) b e after is = cc
 none_pending_at_failure End b e after is = after.1
 none_pending_at_failure (Failure e') b e after is = after.1
+
+-- The rounds before that of the pending record without a time ended.
+pub untimed_in_round : (q : Pending) (b : InMemoryOrderedRecords) (place : RecordPlace) (r : PerfFileRecord) → AfterPlacing q b → b.pending ≡ Record None place r → place.round ≤ b.round
+untimed_in_round Nothing b place r after is = cc
+untimed_in_round (Record None place' r') b place r after is = subst (λ n. n ≤ b.round) (ap pending_round (sym after.0 ∙ is)) after.1
+untimed_in_round (Record (Some key) place' r') b place r after is = cc
+untimed_in_round End b place r after is = let same = after.0 in cc
+untimed_in_round (Failure e) b place r after is = let same = after.0 in cc
 
 pub none_held : (s : Sorter ℕ Entry) → available_of s ≡ [] → pending_of s ≡ [] → held_of s ≡ []
 none_held s available pending = sym (held_split s) ∙ ap (λ xs. xs ++ pending_of s) available ∙ pending
@@ -225,11 +249,16 @@ end_returned a b c f g p same is held = record {
 abbrev pub work_of : InMemoryOrderedRecords → ℕ
 work_of s = 2 * (2 ^ 64 - s.records.iter.offset) + pending_records s.pending
 
-placed_record : (q : Pending) (p : InMemoryOrderedRecords) → IsPending q → AfterPlacing q p → p.pending ≢ End → ((e : Error) → p.pending ≢ Failure e) → (pending_records q ≡ 1) × (p.pending ≡ Nothing)
-placed_record Nothing p pending after not_end not_failed = absurd pending
-placed_record (Record key place r) p pending after not_end not_failed = (refl, after)
-placed_record End p pending after not_end not_failed = absurd (not_end after.0)
-placed_record (Failure e) p pending after not_end not_failed = absurd (not_failed e after.0)
+-- A record that was placed is pending only if it has no time.
+none_after : (key : Option ℕ) (place : RecordPlace) (r : PerfFileRecord) (p : InMemoryOrderedRecords) → AfterPlacing (Record key place r) p → HasNoUntimed p.pending → p.pending ≡ Nothing
+none_after None place r p after no_untimed = absurd (subst (λ q. HasNoUntimed q) after.0 no_untimed)
+none_after (Some key) place r p after no_untimed = after
+
+placed_record : (q : Pending) (p : InMemoryOrderedRecords) → IsPending q → AfterPlacing q p → HasNoUntimed p.pending → p.pending ≢ End → ((e : Error) → p.pending ≢ Failure e) → (pending_records q ≡ 1) × (p.pending ≡ Nothing)
+placed_record Nothing p pending after no_untimed not_end not_failed = absurd pending
+placed_record (Record key place r) p pending after no_untimed not_end not_failed = (refl, none_after key place r p after no_untimed)
+placed_record End p pending after no_untimed not_end not_failed = absurd (not_end after.0)
+placed_record (Failure e) p pending after no_untimed not_end not_failed = absurd (not_failed e after.0)
 
 falls_by_record : (old new n m : ℕ) → old ≡ new → n ≡ 1 → m ≡ 0 → 2 * (2 ^ 64 - new) + m < 2 * (2 ^ 64 - old) + n
 falls_by_record old new n m same one none = omega arith
@@ -237,18 +266,18 @@ falls_by_record old new n m same one none = omega arith
 falls_by_read : (old new n m : ℕ) → old + 8 ≤ new → new < 2 ^ 64 → m ≡ 0 → 2 * (2 ^ 64 - new) + m < 2 * (2 ^ 64 - old) + n
 falls_by_read old new n m rises fits none = omega arith
 
-pub work_falls : (s b p : InMemoryOrderedRecords) (f g : PerfFile) → ReadsPending s f b g → AfterPlacing b.pending p → p.records ≡ b.records → p.pending ≢ End → ((e : Error) → p.pending ≢ Failure e) → work_of p < work_of s
-work_falls s b p f g (inl (pending, same, same_file)) after same_records not_end not_failed =
-    let placed = placed_record s.pending p pending (subst (λ q. AfterPlacing q.pending p) same after) not_end not_failed in
+pub work_falls : (s b p : InMemoryOrderedRecords) (f g : PerfFile) → ReadsPending s f b g → AfterPlacing b.pending p → p.records ≡ b.records → HasNoUntimed p.pending → p.pending ≢ End → ((e : Error) → p.pending ≢ Failure e) → work_of p < work_of s
+work_falls s b p f g (inl (pending, same, same_file)) after same_records no_untimed not_end not_failed =
+    let placed = placed_record s.pending p pending (subst (λ q. AfterPlacing q.pending p) same after) no_untimed not_end not_failed in
     falls_by_record s.records.iter.offset p.records.iter.offset (pending_records s.pending) (pending_records p.pending)
     (sym (ap (λ r. r.iter.offset) same_records ∙ ap (λ q. q.records.iter.offset) same)) placed.0 (ap pending_records placed.1)
-work_falls s b p f g (inr (inl (key, (place, (r, read))))) after same_records not_end not_failed =
+work_falls s b p f g (inr (inl (key, (place, (r, read))))) after same_records no_untimed not_end not_failed =
     let rises = offset_rises s.records b.records f g place r read.returned in
-    let nothing = subst (λ q. AfterPlacing q p) read.pending after in
+    let nothing = none_after key place r p (subst (λ q. AfterPlacing q p) read.pending after) no_untimed in
     let same = ap (λ r. r.iter.offset) same_records in
     falls_by_read s.records.iter.offset p.records.iter.offset (pending_records s.pending) (pending_records p.pending)
     (subst (λ n. s.records.iter.offset + 8 ≤ n) (sym same) rises.0) (subst (λ n. n < 2 ^ 64) (sym same) rises.1) (ap pending_records nothing)
-work_falls s b p f g (inr (inr (inl read))) after same_records not_end not_failed =
+work_falls s b p f g (inr (inr (inl read))) after same_records no_untimed not_end not_failed =
     let placed = subst (λ q. AfterPlacing q p) read.pending after in absurd (not_end placed.0)
-work_falls s b p f g (inr (inr (inr (e, read)))) after same_records not_end not_failed =
+work_falls s b p f g (inr (inr (inr (e, read)))) after same_records no_untimed not_end not_failed =
     let placed = subst (λ q. AfterPlacing q p) read.pending after in absurd (not_failed e placed.0)

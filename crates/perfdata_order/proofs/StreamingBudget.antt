@@ -42,7 +42,7 @@ module _ {R : Type 0} (state : R → State) where
   counted : (steps : List Step) (first last : OrderedRecords R) (file file' : PerfFile) → TakesSteps state steps first file last file' → Counted steps first last
   counted [] first last file file' (same, same_file) = λ fits. ap (λ s. early_of s) same ∙ none_more (early_of first) fits
   counted (reads key h ∷ steps) first last file file' (next, (next_file, step, rest)) = same_count steps first next last step.same_order.same_budget.early (counted steps next last next_file file' rest)
-  counted (passes h ∷ steps) first last file file' (next, (next_file, step, rest)) = same_count steps first next last step.same_order.same_budget.early (counted steps next last next_file file' rest)
+  counted (passes h ∷ steps) first last file file' (next, (next_file, step, rest)) = same_count steps first next last step.0.same_order.same_budget.early (counted steps next last next_file file' rest)
   counted (reads_end ∷ steps) first last file file' (next, (next_file, step, rest)) = same_count steps first next last step.same_order.same_budget.early (counted steps next last next_file file' rest)
   counted (reads_error e ∷ steps) first last file file' (next, (next_file, step, rest)) = same_count steps first next last step.same_order.same_budget.early (counted steps next last next_file file' rest)
   counted (sorts (inserts key held) ∷ steps) first last file file' (next, (next_file, step, rest)) = same_count steps first next last step.0.early (counted steps next last next_file file' rest)
@@ -67,7 +67,7 @@ module _ {R : Type 0} (state : R → State) where
   none_released : (steps : List Step) (first last : OrderedRecords R) (file file' : PerfFile) → budget_of first ≡ 0 → TakesSteps state steps first file last file' → releases_in (calls_in steps) ≡ 0
   none_released [] first last file file' none taken = refl
   none_released (reads key h ∷ steps) first last file file' none (next, (next_file, step, rest)) = none_released steps next last next_file file' (step.same_order.same_budget.budget ∙ none) rest
-  none_released (passes h ∷ steps) first last file file' none (next, (next_file, step, rest)) = none_released steps next last next_file file' (step.same_order.same_budget.budget ∙ none) rest
+  none_released (passes h ∷ steps) first last file file' none (next, (next_file, step, rest)) = none_released steps next last next_file file' (step.0.same_order.same_budget.budget ∙ none) rest
   none_released (reads_end ∷ steps) first last file file' none (next, (next_file, step, rest)) = none_released steps next last next_file file' (step.same_order.same_budget.budget ∙ none) rest
   none_released (reads_error e ∷ steps) first last file file' none (next, (next_file, step, rest)) = none_released steps next last next_file file' (step.same_order.same_budget.budget ∙ none) rest
   none_released (sorts (inserts key held) ∷ steps) first last file file' none (next, (next_file, step, rest)) = none_released steps next last next_file file' (step.0.budget ∙ none) rest
@@ -165,7 +165,7 @@ module _ {R : Type 0} (state : R → State) where
   within_after budget (reads key h ∷ steps) first last file file' some fits (next, (next_file, step, rest)) w =
       within_after budget steps next last next_file file' some fits rest (held_within budget first next step.same_order.same_budget.budget step.same_order.same_budget.held_bytes (ap (λ x. held_of x) step.same_order.sorter) w)
   within_after budget (passes h ∷ steps) first last file file' some fits (next, (next_file, step, rest)) w =
-      within_after budget steps next last next_file file' some fits rest (held_within budget first next step.same_order.same_budget.budget step.same_order.same_budget.held_bytes (ap (λ x. held_of x) step.same_order.sorter) w)
+      within_after budget steps next last next_file file' some fits rest (held_within budget first next step.0.same_order.same_budget.budget step.0.same_order.same_budget.held_bytes (ap (λ x. held_of x) step.0.same_order.sorter) w)
   within_after budget (reads_end ∷ steps) first last file file' some fits (next, (next_file, step, rest)) w =
       within_after budget steps next last next_file file' some fits rest (held_within budget first next step.same_order.same_budget.budget step.same_order.same_budget.held_bytes (ap (λ x. held_of x) step.same_order.sorter) w)
   within_after budget (reads_error e ∷ steps) first last file file' some fits (next, (next_file, step, rest)) w =

@@ -1,5 +1,5 @@
 -- The steps of a call over a source.
-use Rattle.std.proofs.Common.{◌≡◌, ℕ, ◌+◌, ◌-◌, ◌*◌, ◌^◌, ◌<◌, ◌≤◌, ◌⊎◌, List, [], ◌∷◌, ◌++◌, length, min, Some, Result, Ok, Err, Bool, true, false, not, refl, sym, ap, ◌∙◌, subst, inl, inr, arith}
+use Rattle.std.proofs.Common.{◌≡◌, ℕ, ◌+◌, ◌-◌, ◌*◌, ◌^◌, ◌<◌, ◌≤◌, ◌⊎◌, List, [], ◌∷◌, ◌++◌, length, min, Option, None, Some, Result, Ok, Err, Bool, true, false, not, refl, sym, ap, ◌∙◌, subst, inl, inr, arith}
 use Rattle.std.proofs.lemmas.List.Sorted.{length_permutation}
 use Rattle.std.specs.Ordering.{nat_cmp}
 use Rattle.std.specs.declared.alloc.AllocError.{AllocError}
@@ -19,8 +19,8 @@ use Rattle.perfdata_order.specs.declared.streaming.OrderedRecords.{OrderedRecord
 use Rattle.perfdata_order.specs.HeldRecord.{view_with, held_view, held_size}
 use Rattle.perfdata_order.specs.Sorter.{held_of, available_of, pending_of, IsUnchanged, TestsAvailable, Inserted, HalfReleased, EndsAllRounds}
 use Rattle.perfdata_order.specs.SorterLaws.Call.{inserts, ends_round, ends_all, releases, returns, keeps}
-use Rattle.perfdata_order.specs.StreamingOrder.{Unplaced, unplaced_by, unplaced_of, AfterPlacing, PlacesPending, IsUnplaced, IsOngoing, pending_records, EndReturned, RecordReturned, Step, returned_in, TakesStep, TakesSteps, Progress, Places, ReadsPending, ReadsTimed, ReadsAndHolds, ReadsUntimed, EndsRoundsBefore, KeepsSorter, EndsRounds, InsertsPending, ReturnsSorted, TakesEnd, FailsInOrder, IsOneRoundLater, IsLaterOrLast, SameBudget, FitsBudget, IsAdmitted, HasAvailable, AdmitsPending, ReleasesEarly, ReleasesForPending, budget_of, early_of, held_bytes_of}
-use Rattle.perfdata_order.specs.StreamingOrder.Unplaced.{nothing, timed, ending, failing, failed}
+use Rattle.perfdata_order.specs.StreamingOrder.{Unplaced, unplaced_by, unplaced_of, AfterPlacing, PlacesPending, IsUnplaced, IsOngoing, pending_records, EndReturned, RecordReturned, Step, returned_in, TakesStep, TakesSteps, Progress, Places, ReadsPending, ReadsWaiting, ReadsAndHolds, PassesPending, HasNoUntimed, EndsRoundsBefore, KeepsSorter, EndsRounds, InsertsPending, ReturnsSorted, TakesEnd, FailsInOrder, IsOneRoundLater, IsLaterOrLast, SameBudget, FitsBudget, IsAdmitted, HasAvailable, AdmitsPending, ReleasesEarly, ReleasesForPending, budget_of, early_of, held_bytes_of}
+use Rattle.perfdata_order.specs.StreamingOrder.Unplaced.{nothing, waiting, ending, failing, failed}
 use Rattle.perfdata_order.specs.StreamingOrder.Step.{reads, passes, reads_end, reads_error, sorts, reports}
 use Rattle.perfdata_order.proofs.SorterCalls.{held_split}
 
@@ -41,20 +41,36 @@ none_append (reports e ∷ ss) ts none more = none_append ss ts none more
 -- After the end of the source, or after an error.
 abbrev pub IsLast : Unplaced → Type 0
 IsLast nothing = ⊥
-IsLast (timed key h) = ⊥
+IsLast (waiting key h) = ⊥
 IsLast ending = Unit {0}
 IsLast (failing e) = Unit {0}
 IsLast failed = Unit {0}
 
+-- A record is pending.
+abbrev IsWaiting : Unplaced → Type 0
+IsWaiting nothing = ⊥
+IsWaiting (waiting key h) = Unit {0}
+IsWaiting ending = ⊥
+IsWaiting (failing e) = ⊥
+IsWaiting failed = ⊥
+
+-- The round of the pending record.
+abbrev unplaced_round : Unplaced → ℕ
+unplaced_round nothing = 0
+unplaced_round (waiting key h) = h.round
+unplaced_round ending = 0
+unplaced_round (failing e) = 0
+unplaced_round failed = 0
+
 -- The body of a pending record.
 abbrev pub unplaced_body : Unplaced → List ℕ
 unplaced_body nothing = []
-unplaced_body (timed key h) = h.body
+unplaced_body (waiting key h) = h.body
 unplaced_body ending = []
 unplaced_body (failing e) = []
 unplaced_body failed = []
 
-pub body_read : (p : Pending) (body : List ℕ) (key : ℕ) (h : RecordView) → unplaced_by p body ≡ timed key h → body ≡ h.body
+pub body_read : (p : Pending) (body : List ℕ) (key : Option ℕ) (h : RecordView) → unplaced_by p body ≡ waiting key h → body ≡ h.body
 body_read variant.Nothing body key h is = cc
 body_read (variant.Record key' info) body key h is = ap unplaced_body is
 body_read variant.End body key h is = cc
@@ -120,14 +136,14 @@ module _ {R : Type 0} (state : R → State) where
     taken = (returned, refl);
   }
 
-  pub untimed_returned : (a b c : OrderedRecords R) (f g h : PerfFile) (view : RecordView) → Progress state a f b g → ReadsUntimed state b g view c h → RecordReturned state a f view c h
-  untimed_returned a b c f g h view p read = record {
+  pub untimed_returned : (a b c : OrderedRecords R) (f g : PerfFile) (view : RecordView) → Progress state a f b g → PassesPending b view c → RecordReturned state a f view c g
+  untimed_returned a b c f g view p passed = record {
     middle = b;
     middle_file = g;
     before = p;
     step = passes view;
     returns_record = refl;
-    taken = read;
+    taken = (passed, refl);
   }
 
   -- ---- placing what is pending
@@ -158,7 +174,7 @@ module _ {R : Type 0} (state : R → State) where
     pub same_records : b.records ≡ a.records
     pub in_round : h.round ≤ b.round
 
-  pub rounds_placed : (a b : OrderedRecords R) (key : ℕ) (h : RecordView) → unplaced_of a ≡ timed key h → EndsRoundsBefore a h.round (Ok tt) b → RoundsPlaced a h b
+  pub rounds_placed : (a b : OrderedRecords R) (key : Option ℕ) (h : RecordView) → unplaced_of a ≡ waiting key h → EndsRoundsBefore a h.round (Ok tt) b → RoundsPlaced a h b
   rounds_placed a b key h was (inl (le, same)) = record {
     places = places_none a b same;
     pending = ap (λ s. unplaced_of s) same;
@@ -206,7 +222,7 @@ module _ {R : Type 0} (state : R → State) where
       let le = half.half.0 in
       absurd (omega (arith, rest, all, le, some))
 
-  admitted_after : (a b c : OrderedRecords R) (key : ℕ) (h : RecordView) (more : Bool) → unplaced_of a ≡ timed key h → RoundsPlaced a h b → ReleasesEarly b (held_size h) (Ok tt) c → TestsAvailable c.held.sorter more → AdmitsPending state a h (Ok (not more)) c
+  admitted_after : (a b c : OrderedRecords R) (key : ℕ) (h : RecordView) (more : Bool) → unplaced_of a ≡ waiting (Some key) h → RoundsPlaced a h b → ReleasesEarly b (held_size h) (Ok tt) c → TestsAvailable c.held.sorter more → AdmitsPending state a h (Ok (not more)) c
   admitted_after a b c key h true was placed (inl (admission, same)) some = record {
     places = subst (λ s. Places state a s) (sym same) placed.places;
     pending = ap (λ s. unplaced_of s) same ∙ placed.pending;
@@ -229,19 +245,19 @@ module _ {R : Type 0} (state : R → State) where
   }
   admitted_after a b c key h false was placed (inr early) none = absurd (half_available b.held.sorter c.held.sorter early.released early.some_held none)
 
-  pub pending_admitted : (a b c : OrderedRecords R) (key : ℕ) (h : RecordView) (more : Bool) → unplaced_of a ≡ timed key h → EndsRoundsBefore a h.round (Ok tt) b → ReleasesEarly b (held_size h) (Ok tt) c → TestsAvailable c.held.sorter more → AdmitsPending state a h (Ok (not more)) c
-  pending_admitted a b c key h more was ended released tests = admitted_after a b c key h more was (rounds_placed a b key h was ended) released tests
+  pub pending_admitted : (a b c : OrderedRecords R) (key : ℕ) (h : RecordView) (more : Bool) → unplaced_of a ≡ waiting (Some key) h → EndsRoundsBefore a h.round (Ok tt) b → ReleasesEarly b (held_size h) (Ok tt) c → TestsAvailable c.held.sorter more → AdmitsPending state a h (Ok (not more)) c
+  pending_admitted a b c key h more was ended released tests = admitted_after a b c key h more was (rounds_placed a b (Some key) h was ended) released tests
 
   -- Records are available after the rounds ended.
-  pub available_made : (a b : OrderedRecords R) (key : ℕ) (h : RecordView) → unplaced_of a ≡ timed key h → EndsRoundsBefore a h.round (Ok tt) b → 0 < length (available_of b.held.sorter) → HasAvailable state a b
+  pub available_made : (a b : OrderedRecords R) (key : ℕ) (h : RecordView) → unplaced_of a ≡ waiting (Some key) h → EndsRoundsBefore a h.round (Ok tt) b → 0 < length (available_of b.held.sorter) → HasAvailable state a b
   available_made a b key h was ended some =
-      let placed = rounds_placed a b key h was ended in
+      let placed = rounds_placed a b (Some key) h was ended in
       record { places = placed.places; pending = placed.pending; same_records = placed.same_records; available = some }
 
   -- ---- holding a record that was read
 
   -- The record was read, and then held.
-  pub read_held : (old read new : OrderedRecords R) (file file' : PerfFile) (key : ℕ) (h : RecordView) → ReadsTimed state old file key h read file' → ((held : HeldRecord) × InsertsPending read key held new) ⊎ KeepsSorter read new → ReadsAndHolds state old file key h new file'
+  pub read_held : (old read new : OrderedRecords R) (file file' : PerfFile) (key : ℕ) (h : RecordView) → ReadsWaiting state old file (Some key) h read file' → ((held : HeldRecord) × InsertsPending read key held new) ⊎ KeepsSorter read new → ReadsAndHolds state old file (Some key) h new file'
   read_held old read new file file' key h was_read (inl (held, inserted)) = record {
     read = read;
     was_read = was_read;
@@ -257,6 +273,15 @@ module _ {R : Type 0} (state : R → State) where
     same_records = kept.same_records;
   }
 
+  pub read_pending : (old new : OrderedRecords R) (file file' : PerfFile) (key : Option ℕ) (h : RecordView) → ReadsWaiting state old file key h new file' → ReadsAndHolds state old file key h new file'
+  read_pending old new file file' key h was_read = record {
+    read = new;
+    was_read = was_read;
+    places = places_none new new refl;
+    pending = inr was_read.pending;
+    same_records = refl;
+  }
+
   -- ---- what a record that was read shows of the offset
 
   pub offset_rises : (old new : PerfRecordIter R) (file file' : PerfFile) (h : RecordView) → ReturnsRecord state old file h new file' → (old.offset + 8 ≤ new.offset) × (new.offset < 2 ^ 64)
@@ -267,15 +292,15 @@ module _ {R : Type 0} (state : R → State) where
 
   -- ---- what placing leaves
 
-  pub record_placed : (a b c : OrderedRecords R) (key : ℕ) (info : RecordInfo) (held : HeldRecord) → unplaced_of a ≡ timed key (view_with info a.body.items) → IsAdmitted state a (view_with info a.body.items) b
+  pub record_placed : (a b c : OrderedRecords R) (key : ℕ) (info : RecordInfo) (held : HeldRecord) → unplaced_of a ≡ waiting (Some key) (view_with info a.body.items) → IsAdmitted state a (view_with info a.body.items) b
       → held_view held ≡ view_with info b.body.items → Inserted nat_cmp b.held.sorter key held c.held.sorter
       → unplaced_of c ≡ nothing → c.records ≡ b.records → c.round ≡ b.round → budget_of c ≡ budget_of b → early_of c ≡ early_of b → held_size (held_view held) < 2 ^ 64
       → (held_bytes_of b + held_size (held_view held) < 2 ^ 64 → held_bytes_of c ≡ held_bytes_of b + held_size (held_view held)) → Places state a c × AfterPlacing state (unplaced_of a) c × (c.records ≡ a.records)
   record_placed a b c key info held was placed copied inserted none same_records same_round budget early size_fits bytes =
       let now = placed.pending ∙ was in
-      let is = copied ∙ ap (λ body. view_with info body) (body_read b.pending b.body.items key (view_with info a.body.items) now) in (
+      let is = copied ∙ ap (λ body. view_with info body) (body_read b.pending b.body.items (Some key) (view_with info a.body.items) now) in (
         places_inserted a b c key held placed.places (record {
-          was_pending = now ∙ ap (λ h. timed key h) (sym is);
+          was_pending = now ∙ ap (λ h. waiting (Some key) h) (sym is);
           in_round = subst (λ h. h.round ≤ b.round) (sym is) placed.in_round;
           none_available = placed.none_available;
           fits_budget = subst (λ h. FitsBudget b (held_size h)) (sym is) placed.fits_budget;
@@ -292,19 +317,26 @@ module _ {R : Type 0} (state : R → State) where
         same_records ∙ placed.same_records,
       )
 
+  -- The rounds before that of a pending record without a time ended, or nothing changed.
+  pub untimed_placed : (a b : OrderedRecords R) (result : Result (Unit {0}) AllocError) (h : RecordView) → unplaced_of a ≡ waiting None h → EndsRoundsBefore a h.round result b → PlacesPending state a result b
+  untimed_placed a b (Ok done) h was ended =
+      let placed = rounds_placed a b None h was ended in
+      (placed.places, subst (λ q. AfterPlacing state q b) (sym was) (placed.pending ∙ was, placed.in_round), placed.same_records)
+  untimed_placed a b (Err e) h was kept = places_kept a a b (places_none a a refl) kept
+
   ended : (a c : OrderedRecords R) → Places state a c → (q : Unplaced) → unplaced_of a ≡ q → AfterPlacing state q c → c.records ≡ a.records → Places state a c × AfterPlacing state (unplaced_of a) c × (c.records ≡ a.records)
   ended a c places q is after same_records = (places, subst (λ q. AfterPlacing state q c) (sym is) after, same_records)
 
   last_round : (q : Unplaced) (old new : ℕ) → IsLast q → new ≡ old → IsLaterOrLast q old new
   last_round nothing old new last same = absurd last
-  last_round (timed key h) old new last same = absurd last
+  last_round (waiting key h) old new last same = absurd last
   last_round ending old new last same = same
   last_round (failing e) old new last same = same
   last_round failed old new last same = same
 
   last_after : (q : Unplaced) (c : OrderedRecords R) → IsLast q → unplaced_of c ≡ q → pending_of c.held.sorter ≡ [] → AfterPlacing state q c
   last_after nothing c last same none = absurd last
-  last_after (timed key h) c last same none = absurd last
+  last_after (waiting key h) c last same none = absurd last
   last_after ending c last same none = (same, none)
   last_after (failing e) c last same none = (same, none)
   last_after failed c last same none = (same, none)
@@ -317,16 +349,27 @@ module _ {R : Type 0} (state : R → State) where
       places_kept a a c (places_none a a refl) (record { unchanged = unchanged; pending = pending; same_records = same_records; round = same_round; same_budget = same_budget })
 
   -- Nothing was placed, because records are available.
-  pub available_placed : (a b : OrderedRecords R) (key : ℕ) (h : RecordView) → unplaced_of a ≡ timed key h → HasAvailable state a b → Places state a b × AfterPlacing state (unplaced_of a) b × (b.records ≡ a.records)
+  pub available_placed : (a b : OrderedRecords R) (key : ℕ) (h : RecordView) → unplaced_of a ≡ waiting (Some key) h → HasAvailable state a b → Places state a b × AfterPlacing state (unplaced_of a) b × (b.records ≡ a.records)
   available_placed a b key h was made = (made.places, subst (λ q. AfterPlacing state q b) (sym was) (inr (made.pending ∙ was, made.available)), made.same_records)
 
   pub none_pending_at : (q p : Unplaced) (b : OrderedRecords R) → AfterPlacing state q b → IsLast p → unplaced_of b ≡ p → pending_of b.held.sorter ≡ []
   none_pending_at nothing p b after last is = absurd (subst (λ x. IsLast x) (sym is ∙ after) last)
-  none_pending_at (timed key h) p b (inl after) last is = absurd (subst (λ x. IsLast x) (sym is ∙ after) last)
-  none_pending_at (timed key h) p b (inr after) last is = absurd (subst (λ x. IsLast x) (sym is ∙ after.0) last)
+  none_pending_at (waiting None h) p b after last is = absurd (subst (λ x. IsLast x) (sym is ∙ after.0) last)
+  none_pending_at (waiting (Some key) h) p b (inl after) last is = absurd (subst (λ x. IsLast x) (sym is ∙ after) last)
+  none_pending_at (waiting (Some key) h) p b (inr after) last is = absurd (subst (λ x. IsLast x) (sym is ∙ after.0) last)
   none_pending_at ending p b after last is = after.1
   none_pending_at (failing e) p b after last is = after.1
   none_pending_at failed p b after last is = after.1
+
+  -- The rounds before that of the pending record without a time ended.
+  pub untimed_in_round : (q : Unplaced) (b : OrderedRecords R) (h : RecordView) → AfterPlacing state q b → unplaced_of b ≡ waiting None h → h.round ≤ b.round
+  untimed_in_round nothing b h after is = absurd (subst (λ x. IsWaiting x) (sym is ∙ after) tt)
+  untimed_in_round (waiting None h') b h after is = subst (λ n. n ≤ b.round) (ap unplaced_round (sym after.0 ∙ is)) after.1
+  untimed_in_round (waiting (Some key) h') b h (inl after) is = absurd (subst (λ x. IsWaiting x) (sym is ∙ after) tt)
+  untimed_in_round (waiting (Some key) h') b h (inr after) is = absurd (subst (λ x. HasNoUntimed x) (sym after.0 ∙ is) tt)
+  untimed_in_round ending b h after is = absurd (subst (λ x. IsWaiting x) (sym is ∙ after.0) tt)
+  untimed_in_round (failing e) b h after is = absurd (subst (λ x. IsWaiting x) (sym is ∙ after.0) tt)
+  untimed_in_round failed b h after is = absurd (subst (λ x. IsWaiting x) (sym is ∙ after.0) tt)
 
   pub none_held : (s : Sorter ℕ HeldRecord) → available_of s ≡ [] → pending_of s ≡ [] → held_of s ≡ []
   none_held s available pending = sym (held_split s) ∙ ap (λ xs. xs ++ pending_of s) available ∙ pending
@@ -369,21 +412,23 @@ module _ {R : Type 0} (state : R → State) where
   abbrev pub work_of : OrderedRecords R → ℕ
   work_of s = 2 * (2 ^ 64 - s.records.offset) + pending_records (unplaced_of s)
 
-  none_after : {key : ℕ} {h : RecordView} (p : OrderedRecords R) → AfterPlacing state (timed key h) p → available_of p.held.sorter ≡ [] → unplaced_of p ≡ nothing
-  none_after p (inl after) none = after
-  none_after p (inr after) none = let same = ap length none in let some = after.1 in absurd (omega (arith, same, some))
+  -- A record that was placed is still pending only if it has no time.
+  none_after : (key : Option ℕ) (h : RecordView) (p : OrderedRecords R) → AfterPlacing state (waiting key h) p → available_of p.held.sorter ≡ [] → HasNoUntimed (unplaced_of p) → unplaced_of p ≡ nothing
+  none_after None h p after none no_untimed = absurd (subst (λ x. HasNoUntimed x) after.0 no_untimed)
+  none_after (Some key) h p (inl after) none no_untimed = after
+  none_after (Some key) h p (inr after) none no_untimed = let same = ap length none in let some = after.1 in absurd (omega (arith, same, some))
 
   -- A record that was read, and is in the sorter or was placed.
-  none_held_pending : (q : Unplaced) (p : OrderedRecords R) (key : ℕ) (h : RecordView) → (q ≡ nothing) ⊎ (q ≡ timed key h) → AfterPlacing state q p → available_of p.held.sorter ≡ [] → unplaced_of p ≡ nothing
-  none_held_pending q p key h (inl is) after none = subst (λ x. AfterPlacing state x p) is after
-  none_held_pending q p key h (inr is) after none = none_after {key = key} {h = h} p (subst (λ x. AfterPlacing state x p) is after) none
+  none_held_pending : (q : Unplaced) (p : OrderedRecords R) (key : Option ℕ) (h : RecordView) → (q ≡ nothing) ⊎ (q ≡ waiting key h) → AfterPlacing state q p → available_of p.held.sorter ≡ [] → HasNoUntimed (unplaced_of p) → unplaced_of p ≡ nothing
+  none_held_pending q p key h (inl is) after none no_untimed = subst (λ x. AfterPlacing state x p) is after
+  none_held_pending q p key h (inr is) after none no_untimed = none_after key h p (subst (λ x. AfterPlacing state x p) is after) none no_untimed
 
-  placed_record : (q : Unplaced) (p : OrderedRecords R) → IsUnplaced q → AfterPlacing state q p → available_of p.held.sorter ≡ [] → IsOngoing (unplaced_of p) → (pending_records q ≡ 1) × (unplaced_of p ≡ nothing)
-  placed_record nothing p pending after none ongoing = absurd pending
-  placed_record (timed key h) p pending after none ongoing = (refl, none_after {key = key} {h = h} p after none)
-  placed_record ending p pending after none ongoing = absurd (subst (λ x. IsOngoing x) after.0 ongoing)
-  placed_record (failing e) p pending after none ongoing = absurd (subst (λ x. IsOngoing x) after.0 ongoing)
-  placed_record failed p pending after none ongoing = absurd (subst (λ x. IsOngoing x) after.0 ongoing)
+  placed_record : (q : Unplaced) (p : OrderedRecords R) → IsUnplaced q → AfterPlacing state q p → available_of p.held.sorter ≡ [] → HasNoUntimed (unplaced_of p) → IsOngoing (unplaced_of p) → (pending_records q ≡ 1) × (unplaced_of p ≡ nothing)
+  placed_record nothing p pending after none no_untimed ongoing = absurd pending
+  placed_record (waiting key h) p pending after none no_untimed ongoing = (refl, none_after key h p after none no_untimed)
+  placed_record ending p pending after none no_untimed ongoing = absurd (subst (λ x. IsOngoing x) after.0 ongoing)
+  placed_record (failing e) p pending after none no_untimed ongoing = absurd (subst (λ x. IsOngoing x) after.0 ongoing)
+  placed_record failed p pending after none no_untimed ongoing = absurd (subst (λ x. IsOngoing x) after.0 ongoing)
 
   falls_by_record : (old new n m : ℕ) → old ≡ new → n ≡ 1 → m ≡ 0 → 2 * (2 ^ 64 - new) + m < 2 * (2 ^ 64 - old) + n
   falls_by_record old new n m same one none = omega arith
@@ -391,18 +436,18 @@ module _ {R : Type 0} (state : R → State) where
   falls_by_read : (old new n m : ℕ) → old + 8 ≤ new → new < 2 ^ 64 → m ≡ 0 → 2 * (2 ^ 64 - new) + m < 2 * (2 ^ 64 - old) + n
   falls_by_read old new n m rises fits none = omega arith
 
-  pub work_falls : (s b p kept : OrderedRecords R) (f g : PerfFile) → ReadsPending state s f b g → AfterPlacing state (unplaced_of b) p → p.records ≡ b.records → available_of p.held.sorter ≡ [] → KeepsSorter p kept → IsOngoing (unplaced_of kept) → work_of kept < work_of s
-  work_falls s b p kept f g (inl (pending, same, same_file)) after same_records available unchanged ongoing =
-      let placed = placed_record (unplaced_of s) p pending (subst (λ q. AfterPlacing state (unplaced_of q) p) same after) available (subst (λ x. IsOngoing x) unchanged.pending ongoing) in
+  pub work_falls : (s b p kept : OrderedRecords R) (f g : PerfFile) → ReadsPending state s f b g → AfterPlacing state (unplaced_of b) p → p.records ≡ b.records → available_of p.held.sorter ≡ [] → KeepsSorter p kept → HasNoUntimed (unplaced_of kept) → IsOngoing (unplaced_of kept) → work_of kept < work_of s
+  work_falls s b p kept f g (inl (pending, same, same_file)) after same_records available unchanged no_untimed ongoing =
+      let placed = placed_record (unplaced_of s) p pending (subst (λ q. AfterPlacing state (unplaced_of q) p) same after) available (subst (λ x. HasNoUntimed x) unchanged.pending no_untimed) (subst (λ x. IsOngoing x) unchanged.pending ongoing) in
       falls_by_record s.records.offset kept.records.offset (pending_records (unplaced_of s)) (pending_records (unplaced_of kept))
       (sym (ap (λ r. r.offset) unchanged.same_records ∙ ap (λ r. r.offset) same_records ∙ ap (λ q. q.records.offset) same)) placed.0 (ap pending_records (unchanged.pending ∙ placed.1))
-  work_falls s b p kept f g (inr (inl (key, (h, held)))) after same_records available unchanged ongoing =
+  work_falls s b p kept f g (inr (inl (key, (h, held)))) after same_records available unchanged no_untimed ongoing =
       let rises = offset_rises s.records held.read.records f g h held.was_read.returned in
-      let none = none_held_pending (unplaced_of b) p key h held.pending after available in
+      let none = none_held_pending (unplaced_of b) p key h held.pending after available (subst (λ x. HasNoUntimed x) unchanged.pending no_untimed) in
       let same = ap (λ r. r.offset) unchanged.same_records ∙ ap (λ r. r.offset) same_records ∙ ap (λ r. r.offset) held.same_records in
       falls_by_read s.records.offset kept.records.offset (pending_records (unplaced_of s)) (pending_records (unplaced_of kept))
       (subst (λ n. s.records.offset + 8 ≤ n) (sym same) rises.0) (subst (λ n. n < 2 ^ 64) (sym same) rises.1) (ap pending_records (unchanged.pending ∙ none))
-  work_falls s b p kept f g (inr (inr (inl read))) after same_records available unchanged ongoing =
+  work_falls s b p kept f g (inr (inr (inl read))) after same_records available unchanged no_untimed ongoing =
       let placed = subst (λ q. AfterPlacing state q p) read.pending after in absurd (subst (λ x. IsOngoing x) (unchanged.pending ∙ placed.0) ongoing)
-  work_falls s b p kept f g (inr (inr (inr (e, read)))) after same_records available unchanged ongoing =
+  work_falls s b p kept f g (inr (inr (inr (e, read)))) after same_records available unchanged no_untimed ongoing =
       let placed = subst (λ q. AfterPlacing state q p) read.pending after in absurd (subst (λ x. IsOngoing x) (unchanged.pending ∙ placed.0) ongoing)

@@ -1,5 +1,5 @@
 -- The times that are returned ascend where the records of the source keep perf's rule.
-use Rattle.std.proofs.Common.{◌≡◌, ℕ, ◌+◌, ◌≤◌, List, [], ◌∷◌, ◌++◌, get_or, map, All, None, Some, refl, sym, ap, ◌∙◌, subst, inl, inr, arith}
+use Rattle.std.proofs.Common.{◌≡◌, ℕ, ◌+◌, ◌≤◌, List, [], ◌∷◌, ◌++◌, get_or, map, All, Option, None, Some, refl, sym, ap, ◌∙◌, subst, inl, inr, arith}
 use Rattle.std.specs.Prelude.{◌⊎◌}
 use Rattle.std.specs.Ordering.{nat_cmp}
 use Rattle.std.specs.Cmp.{nat_cmp_total}
@@ -14,10 +14,10 @@ use Rattle.perfdata_order.specs.HeldRecord.{held_view}
 use Rattle.perfdata_order.specs.Order.{IsAtMost}
 use Rattle.perfdata_order.specs.SorterLaws.{inserted_in_rounds, KeepsRoundRule}
 use Rattle.perfdata_order.specs.SorterLaws.Call.{inserts, ends_round, ends_all, releases, returns, keeps}
-use Rattle.perfdata_order.specs.StreamingOrder.{Unplaced, unplaced_of, Step, TakesSteps, IsOneRoundLater, IsLaterOrLast}
-use Rattle.perfdata_order.specs.StreamingOrder.Unplaced.{nothing, timed, ending, failing, failed}
+use Rattle.perfdata_order.specs.StreamingOrder.{Unplaced, unplaced_of, Step, TakesStep, TakesSteps, IsOneRoundLater, IsLaterOrLast}
+use Rattle.perfdata_order.specs.StreamingOrder.Unplaced.{nothing, waiting, ending, failing, failed}
 use Rattle.perfdata_order.specs.StreamingOrder.Step.{reads, passes, reads_end, reads_error, sorts, reports}
-use Rattle.perfdata_order.specs.StreamingLaws.{read_in, calls_in, timed_by, timed_of, TimesAscendUnderPerfRule}
+use Rattle.perfdata_order.specs.StreamingLaws.{read_in, calls_in, unplaced_records, timed_by, timed_of, TimesAscendUnderPerfRule}
 use Rattle.perfdata_order.specs.Times.{key_of_time}
 use Rattle.perfdata_order.proofs.AscendingRuns.{all_prefix}
 use Rattle.perfdata_order.proofs.RoundRule.{ascends_under_rule}
@@ -29,11 +29,6 @@ use Rattle.perfdata_order.proofs.LayoutRounds.{RoundsFollow, rounds_follow}
 abbrev pub Timed : Type 0
 Timed = ℕ × (ℕ × RecordView)
 
--- The rounds don't fall.
-abbrev pub RoundsRise : List Timed → Type 0
-RoundsRise [] = Unit {0}
-RoundsRise (e ∷ es) = All (λ later. e.0 ≤ later.0) es × RoundsRise es
-
 timed_later : (round : ℕ) (hs : List RecordView) → All (λ later. round ≤ later.round) hs → All (λ later. round ≤ later.0) (timed_of hs)
 timed_later round [] all = All-nil (λ (later : Timed). round ≤ later.0)
 timed_later round (h ∷ hs) all =
@@ -44,22 +39,24 @@ timed_later round (h ∷ hs) all =
       | Some time ↦ All-cons (λ later. round ≤ later.0) (h.round, (time, h)) (timed_of hs) here rest
     ]
 
-pub timed_rise : (hs : List RecordView) → RoundsFollow hs → RoundsRise (timed_of hs)
-timed_rise [] follow = tt
-timed_rise (h ∷ hs) follow =
-    let rest = timed_rise hs follow.1 in
-    let first = timed_later h.round hs follow.0 in
-    elim (key_of_time h.timestamp) as (λ k. RoundsRise (timed_by k h ++ timed_of hs)) [ None ↦ rest | Some time ↦ (first, rest) ]
+-- The timed records from the pending one on are of its round or of later ones.
+pending_later : (key : Option ℕ) (h : RecordView) (hs : List RecordView) → RoundsFollow (h ∷ hs) → All (λ y. h.round ≤ y.0) (timed_by key h ++ timed_of hs)
+pending_later None h hs follow = timed_later h.round hs follow.0
+pending_later (Some time) h hs follow = All-cons (λ y. h.round ≤ y.0) (h.round, (time, h)) (timed_of hs) (omega arith) (timed_later h.round hs follow.0)
 
 abbrev Placed : Type 0
 Placed = ℕ × (ℕ × HeldRecord)
 
 abbrev pub pending_timed : Unplaced → List Timed
 pending_timed nothing = []
-pending_timed (timed key h) = (h.round, (key, h)) ∷ []
+pending_timed (waiting key h) = timed_by key h
 pending_timed ending = []
 pending_timed (failing e) = []
 pending_timed failed = []
+
+-- The rounds of the records that are still to be placed don't fall.
+abbrev pub RoundsRise : Unplaced → List RecordView → Type 0
+RoundsRise q hs = RoundsFollow (unplaced_records q ++ hs)
 
 -- An inserted entry with the round of its record.
 abbrev as_timed : Placed → Timed
@@ -129,25 +126,25 @@ follows_end n m round ys times none f =
     record { rest = f.rest; prefix = f.prefix; bounds = λ i d lt. absurd (known i d lt); rule = f.rule }
 
 -- The end of rounds before the pending record.
-pub one_round : (q : Unplaced) (ahead : List Timed) (old new : ℕ) → IsOneRoundLater q old new → RoundsRise (pending_timed q ++ ahead) → (new ≡ old + 1) × All (λ y. new ≤ y.0) (pending_timed q ++ ahead)
+pub one_round : (q : Unplaced) (after : List RecordView) (old new : ℕ) → IsOneRoundLater q old new → RoundsRise q after → (new ≡ old + 1) × All (λ y. new ≤ y.0) (pending_timed q ++ timed_of after)
 one_round nothing after old new one rise = absurd one
-one_round (timed key h) after old new one rise =
-    (one.1 ∙ one.0, subst (λ k. All (λ y. k ≤ y.0) ((h.round, (key, h)) ∷ after)) (sym one.1) (All-cons (λ y. h.round ≤ y.0) (h.round, (key, h)) after (omega arith) rise.0))
+one_round (waiting key h) after old new one rise =
+    (one.1 ∙ one.0, subst (λ k. All (λ y. k ≤ y.0) (timed_by key h ++ timed_of after)) (sym one.1) (pending_later key h after rise))
 one_round ending after old new one rise = absurd one
 one_round (failing e) after old new one rise = absurd one
 one_round failed after old new one rise = absurd one
 
-pub later_rounds : (q : Unplaced) (ahead : List Timed) (old new : ℕ) → IsLaterOrLast q old new → RoundsRise (pending_timed q ++ ahead) → ((old + 2 ≤ new) × All (λ y. new ≤ y.0) (pending_timed q ++ ahead)) ⊎ ((new ≡ old) × IsLast q)
+pub later_rounds : (q : Unplaced) (after : List RecordView) (old new : ℕ) → IsLaterOrLast q old new → RoundsRise q after → ((old + 2 ≤ new) × All (λ y. new ≤ y.0) (pending_timed q ++ timed_of after)) ⊎ ((new ≡ old) × IsLast q)
 later_rounds nothing after old new later rise = absurd later
-later_rounds (timed key h) after old new later rise =
-    inl (subst (λ k. old + 2 ≤ k) (sym later.1) later.0, subst (λ k. All (λ y. k ≤ y.0) ((h.round, (key, h)) ∷ after)) (sym later.1) (All-cons (λ y. h.round ≤ y.0) (h.round, (key, h)) after (omega arith) rise.0))
+later_rounds (waiting key h) after old new later rise =
+    inl (subst (λ k. old + 2 ≤ k) (sym later.1) later.0, subst (λ k. All (λ y. k ≤ y.0) (timed_by key h ++ timed_of after)) (sym later.1) (pending_later key h after rise))
 later_rounds ending after old new later rise = inr (later, tt)
 later_rounds (failing e) after old new later rise = inr (later, tt)
 later_rounds failed after old new later rise = inr (later, tt)
 
 none_pending : (q : Unplaced) → IsLast q → pending_timed q ≡ []
 none_pending nothing final = absurd final
-none_pending (timed key h) final = absurd final
+none_pending (waiting key h) final = absurd final
 none_pending ending final = refl
 none_pending (failing e) final = refl
 none_pending failed final = refl
@@ -157,17 +154,28 @@ module _ {R : Type 0} (state : R → State) where
   abbrev pub ahead : OrderedRecords R → List Step → List Timed
   ahead s steps = pending_timed (unplaced_of s) ++ timed_of (read_in steps)
 
+  pub rise_after : (step : Step) (steps : List Step) (s next : OrderedRecords R) (f g : PerfFile) → TakesStep state step s f next g → RoundsRise (unplaced_of s) (read_in (step ∷ steps)) → RoundsRise (unplaced_of next) (read_in steps)
+  rise_after (reads key h) steps s next f g taken rise = subst (λ q. RoundsRise q (read_in steps)) (sym taken.pending) (subst (λ q. RoundsRise q (h ∷ read_in steps)) taken.nothing_pending rise)
+  rise_after (passes h) steps s next f g taken rise = subst (λ q. RoundsRise q (read_in steps)) (sym taken.0.pending) (subst (λ q. RoundsRise q (read_in steps)) taken.0.was_pending rise).1
+  rise_after reads_end steps s next f g taken rise = subst (λ q. RoundsRise q (read_in steps)) (sym taken.pending) (subst (λ q. RoundsRise q (read_in steps)) taken.nothing_pending rise)
+  rise_after (reads_error e) steps s next f g taken rise = subst (λ q. RoundsRise q (read_in steps)) (sym taken.pending) (subst (λ q. RoundsRise q (read_in steps)) taken.nothing_pending rise)
+  rise_after (sorts (inserts key held)) steps s next f g taken rise = subst (λ q. RoundsRise q (read_in steps)) (sym taken.0.pending) (subst (λ q. RoundsRise q (read_in steps)) taken.0.was_pending rise).1
+  rise_after (sorts ends_round) steps s next f g taken rise = subst (λ q. RoundsRise q (read_in steps)) (sym taken.0.pending) rise
+  rise_after (sorts ends_all) steps s next f g taken rise = subst (λ q. RoundsRise q (read_in steps)) (sym taken.0.pending) rise
+  rise_after (sorts releases) steps s next f g taken rise = subst (λ q. RoundsRise q (read_in steps)) (sym (half_released (unplaced_of s) s next taken.0).1.pending) rise
+  rise_after (sorts (returns key held)) steps s next f g taken rise = subst (λ q. RoundsRise q (read_in steps)) (sym taken.0.pending) rise
+  rise_after (sorts keeps) steps s next f g taken rise = subst (λ q. RoundsRise q (read_in steps)) (sym taken.0.pending) rise
+  rise_after (reports e) steps s next f g taken rise = subst (λ q. RoundsRise q (read_in steps)) (sym taken.0.pending) (subst (λ q. RoundsRise q (read_in steps)) taken.0.was_pending rise)
+
   -- What is known of the records ahead.
   record Ahead (s : OrderedRecords R) (times : List Timed) : Type 0 where
     from_round : All (λ y. s.round ≤ y.0) times
-    rise : RoundsRise times
     rule : KeepsRoundRule nat_cmp times
 
   -- The same records are ahead after the step.
   same_ahead : (s t : OrderedRecords R) (before after : List Timed) → t.round ≡ s.round → before ≡ after → Ahead s before → Ahead t after
   same_ahead s t before after same_round same h = record {
     from_round = subst (λ k. All (λ y. k ≤ y.0) after) (sym same_round) (subst (λ es. All (λ y. s.round ≤ y.0) es) same h.from_round);
-    rise = subst (λ es. RoundsRise es) same h.rise;
     rule = subst (λ es. KeepsRoundRule nat_cmp es) same h.rule;
   }
 
@@ -178,7 +186,7 @@ module _ {R : Type 0} (state : R → State) where
       → ((s.round + 2 ≤ next.round) × All (λ y. next.round ≤ y.0) (ahead s steps)) ⊎ ((next.round ≡ s.round) × IsLast (unplaced_of s)) → (IsLast (unplaced_of s) → read_in steps ≡ [])
       → (Ahead next (ahead next steps) → Follows (n + 2) next.round (inserted_in_rounds (n + 2) (calls_in steps)) (ahead next steps)) → Follows n s.round (inserted_in_rounds (n + 2) (calls_in steps)) (ahead s steps)
   all_ended n steps s next same given (inl (later, all)) none more =
-      let after : Ahead next (ahead s steps) = record { from_round = all; rise = given.rise; rule = given.rule } in
+      let after : Ahead next (ahead s steps) = record { from_round = all; rule = given.rule } in
       let f = more (same_ahead next next (ahead s steps) (ahead next steps) refl same after) in
       follows_rounds n s.round next.round (inserted_in_rounds (n + 2) (calls_in steps)) (ahead s steps) later all
       (subst (λ es. Follows (n + 2) next.round (inserted_in_rounds (n + 2) (calls_in steps)) es) (sym same) f)
@@ -188,72 +196,70 @@ module _ {R : Type 0} (state : R → State) where
       follows_end n (n + 2) s.round (inserted_in_rounds (n + 2) (calls_in steps)) (ahead s steps) empty
       (same_follows (n + 2) s next (inserted_in_rounds (n + 2) (calls_in steps)) (ahead s steps) (ahead next steps) same_round same f)
 
-  follows : (n : ℕ) (steps : List Step) (s t : OrderedRecords R) (f g : PerfFile) → TakesSteps state steps s f t g → Ahead s (ahead s steps) → Follows n s.round (inserted_in_rounds n (calls_in steps)) (ahead s steps)
-  follows n [] s t f g taken given = follows_none n s.round (ahead s [])
-  follows n (reads key h ∷ steps) s t f g (next, (next_file, step, rest)) given =
+  follows : (n : ℕ) (steps : List Step) (s t : OrderedRecords R) (f g : PerfFile) → TakesSteps state steps s f t g → RoundsRise (unplaced_of s) (read_in steps) → Ahead s (ahead s steps) → Follows n s.round (inserted_in_rounds n (calls_in steps)) (ahead s steps)
+  follows n [] s t f g taken rise given = follows_none n s.round (ahead s [])
+  follows n (reads key h ∷ steps) s t f g (next, (next_file, step, rest)) rise given =
       let same : ahead s (reads key h ∷ steps) ≡ ahead next steps =
       ap (λ p. pending_timed p ++ (timed_by (key_of_time h.timestamp) h ++ timed_of (read_in steps))) step.nothing_pending ∙ ap (λ k. timed_by k h ++ timed_of (read_in steps)) step.has_time
       ∙ ap (λ p. pending_timed p ++ timed_of (read_in steps)) (sym step.pending) in
       let after = same_ahead s next (ahead s (reads key h ∷ steps)) (ahead next steps) step.same_order.round same given in
-      same_follows n s next (inserted_in_rounds n (calls_in steps)) (ahead s (reads key h ∷ steps)) (ahead next steps) step.same_order.round same (follows n steps next t next_file g rest after)
-  follows n (passes h ∷ steps) s t f g (next, (next_file, step, rest)) given =
+      same_follows n s next (inserted_in_rounds n (calls_in steps)) (ahead s (reads key h ∷ steps)) (ahead next steps) step.same_order.round same (follows n steps next t next_file g rest (rise_after (reads key h) steps s next f next_file step rise) after)
+  follows n (passes h ∷ steps) s t f g (next, (next_file, step, rest)) rise given =
       let same : ahead s (passes h ∷ steps) ≡ ahead next steps =
-      ap (λ p. pending_timed p ++ (timed_by (key_of_time h.timestamp) h ++ timed_of (read_in steps))) step.nothing_pending ∙ ap (λ k. timed_by k h ++ timed_of (read_in steps)) step.untimed
-      ∙ ap (λ p. pending_timed p ++ timed_of (read_in steps)) (sym step.pending) in
-      let after = same_ahead s next (ahead s (passes h ∷ steps)) (ahead next steps) step.same_order.round same given in
-      same_follows n s next (inserted_in_rounds n (calls_in steps)) (ahead s (passes h ∷ steps)) (ahead next steps) step.same_order.round same (follows n steps next t next_file g rest after)
-  follows n (reads_end ∷ steps) s t f g (next, (next_file, step, rest)) given =
+      ap (λ p. pending_timed p ++ timed_of (read_in steps)) step.0.was_pending ∙ ap (λ p. pending_timed p ++ timed_of (read_in steps)) (sym step.0.pending) in
+      let after = same_ahead s next (ahead s (passes h ∷ steps)) (ahead next steps) step.0.same_order.round same given in
+      same_follows n s next (inserted_in_rounds n (calls_in steps)) (ahead s (passes h ∷ steps)) (ahead next steps) step.0.same_order.round same (follows n steps next t next_file g rest (rise_after (passes h) steps s next f next_file step rise) after)
+  follows n (reads_end ∷ steps) s t f g (next, (next_file, step, rest)) rise given =
       let same : ahead s (reads_end ∷ steps) ≡ ahead next steps =
       ap (λ p. pending_timed p ++ timed_of (read_in steps)) step.nothing_pending ∙ ap (λ p. pending_timed p ++ timed_of (read_in steps)) (sym step.pending) in
       let after = same_ahead s next (ahead s (reads_end ∷ steps)) (ahead next steps) step.same_order.round same given in
-      same_follows n s next (inserted_in_rounds n (calls_in steps)) (ahead s (reads_end ∷ steps)) (ahead next steps) step.same_order.round same (follows n steps next t next_file g rest after)
-  follows n (reads_error e ∷ steps) s t f g (next, (next_file, step, rest)) given =
+      same_follows n s next (inserted_in_rounds n (calls_in steps)) (ahead s (reads_end ∷ steps)) (ahead next steps) step.same_order.round same (follows n steps next t next_file g rest (rise_after reads_end steps s next f next_file step rise) after)
+  follows n (reads_error e ∷ steps) s t f g (next, (next_file, step, rest)) rise given =
       let same : ahead s (reads_error e ∷ steps) ≡ ahead next steps =
       ap (λ p. pending_timed p ++ timed_of (read_in steps)) step.nothing_pending ∙ ap (λ p. pending_timed p ++ timed_of (read_in steps)) (sym step.pending) in
       let after = same_ahead s next (ahead s (reads_error e ∷ steps)) (ahead next steps) step.same_order.round same given in
-      same_follows n s next (inserted_in_rounds n (calls_in steps)) (ahead s (reads_error e ∷ steps)) (ahead next steps) step.same_order.round same (follows n steps next t next_file g rest after)
-  follows n (sorts (inserts key held) ∷ steps) s t f g (next, (next_file, step, rest)) given =
+      same_follows n s next (inserted_in_rounds n (calls_in steps)) (ahead s (reads_error e ∷ steps)) (ahead next steps) step.same_order.round same (follows n steps next t next_file g rest (rise_after (reads_error e) steps s next f next_file step rise) after)
+  follows n (sorts (inserts key held) ∷ steps) s t f g (next, (next_file, step, rest)) rise given =
       let more : ahead s (sorts (inserts key held) ∷ steps) ≡ ((held_view held).round, (key, held_view held)) ∷ timed_of (read_in steps) = ap (λ p. pending_timed p ++ timed_of (read_in steps)) step.0.was_pending in
       let left : ahead next steps ≡ timed_of (read_in steps) = ap (λ p. pending_timed p ++ timed_of (read_in steps)) step.0.pending in
       let here = same_ahead s s (ahead s (sorts (inserts key held) ∷ steps)) (((held_view held).round, (key, held_view held)) ∷ timed_of (read_in steps)) refl more given in
       let after : Ahead next (timed_of (read_in steps)) = record {
         from_round = subst (λ k. All (λ y. k ≤ y.0) (timed_of (read_in steps))) (sym step.0.round) (All-tail (λ y. s.round ≤ y.0) ((held_view held).round, (key, held_view held)) (timed_of (read_in steps)) here.from_round);
-        rise = here.rise.1;
         rule = here.rule.1;
       } in
-      let tail = follows n steps next t next_file g rest (same_ahead next next (timed_of (read_in steps)) (ahead next steps) refl (sym left) after) in
+      let tail = follows n steps next t next_file g rest (rise_after (sorts (inserts key held)) steps s next f next_file step rise) (same_ahead next next (timed_of (read_in steps)) (ahead next steps) refl (sym left) after) in
       let tail' = same_follows n s next (inserted_in_rounds n (calls_in steps)) (timed_of (read_in steps)) (ahead next steps) step.0.round (sym left) tail in
       subst (λ es. Follows n s.round ((n, (key, held)) ∷ inserted_in_rounds n (calls_in steps)) es) (sym more)
       (follows_insert n s.round key held (inserted_in_rounds n (calls_in steps)) (timed_of (read_in steps)) step.0.in_round here.rule.0 tail')
-  follows n (sorts ends_round ∷ steps) s t f g (next, (next_file, step, rest)) given =
+  follows n (sorts ends_round ∷ steps) s t f g (next, (next_file, step, rest)) rise given =
       let same : ahead s (sorts ends_round ∷ steps) ≡ ahead next steps = ap (λ p. pending_timed p ++ timed_of (read_in steps)) (sym step.0.pending) in
-      let ended = one_round (unplaced_of s) (timed_of (read_in steps)) s.round next.round step.0.round given.rise in
-      let after : Ahead next (ahead s steps) = record { from_round = ended.1; rise = given.rise; rule = given.rule } in
-      let later = follows (n + 1) steps next t next_file g rest (same_ahead next next (ahead s steps) (ahead next steps) refl same after) in
+      let ended = one_round (unplaced_of s) (read_in steps) s.round next.round step.0.round rise in
+      let after : Ahead next (ahead s steps) = record { from_round = ended.1; rule = given.rule } in
+      let later = follows (n + 1) steps next t next_file g rest (rise_after (sorts ends_round) steps s next f next_file step rise) (same_ahead next next (ahead s steps) (ahead next steps) refl same after) in
       let later' = subst (λ k. Follows (n + 1) k (inserted_in_rounds (n + 1) (calls_in steps)) (ahead s steps)) ended.0 (subst (λ es. Follows (n + 1) next.round (inserted_in_rounds (n + 1) (calls_in steps)) es) (sym same) later) in
       follows_round n s.round (inserted_in_rounds (n + 1) (calls_in steps)) (ahead s steps) (subst (λ k. All (λ y. k ≤ y.0) (ahead s steps)) ended.0 ended.1) later'
-  follows n (sorts ends_all ∷ steps) s t f g (next, (next_file, step, rest)) given =
+  follows n (sorts ends_all ∷ steps) s t f g (next, (next_file, step, rest)) rise given =
       let same : ahead s (sorts ends_all ∷ steps) ≡ ahead next steps = ap (λ p. pending_timed p ++ timed_of (read_in steps)) (sym step.0.pending) in
-      all_ended n steps s next same given (later_rounds (unplaced_of s) (timed_of (read_in steps)) s.round next.round step.0.round given.rise)
-      (λ final. nothing_read state steps next t next_file g (subst (λ q. IsLast q) (sym step.0.pending) final) rest) (λ after. follows (n + 2) steps next t next_file g rest after)
-  follows n (sorts releases ∷ steps) s t f g (next, (next_file, step, rest)) given =
+      all_ended n steps s next same given (later_rounds (unplaced_of s) (read_in steps) s.round next.round step.0.round rise)
+      (λ final. nothing_read state steps next t next_file g (subst (λ q. IsLast q) (sym step.0.pending) final) rest) (λ after. follows (n + 2) steps next t next_file g rest (rise_after (sorts ends_all) steps s next f next_file step rise) after)
+  follows n (sorts releases ∷ steps) s t f g (next, (next_file, step, rest)) rise given =
       let early = (half_released (unplaced_of s) s next step.0).1 in
       let same : ahead s (sorts releases ∷ steps) ≡ ahead next steps = ap (λ p. pending_timed p ++ timed_of (read_in steps)) (sym early.pending) in
       let after = same_ahead s next (ahead s steps) (ahead next steps) early.round same given in
-      same_follows n s next (inserted_in_rounds n (calls_in steps)) (ahead s steps) (ahead next steps) early.round same (follows n steps next t next_file g rest after)
-  follows n (sorts (returns key held) ∷ steps) s t f g (next, (next_file, step, rest)) given =
+      same_follows n s next (inserted_in_rounds n (calls_in steps)) (ahead s steps) (ahead next steps) early.round same (follows n steps next t next_file g rest (rise_after (sorts releases) steps s next f next_file step rise) after)
+  follows n (sorts (returns key held) ∷ steps) s t f g (next, (next_file, step, rest)) rise given =
       let same : ahead s (sorts (returns key held) ∷ steps) ≡ ahead next steps = ap (λ p. pending_timed p ++ timed_of (read_in steps)) (sym step.0.pending) in
       let after = same_ahead s next (ahead s steps) (ahead next steps) step.0.round same given in
-      same_follows n s next (inserted_in_rounds n (calls_in steps)) (ahead s steps) (ahead next steps) step.0.round same (follows n steps next t next_file g rest after)
-  follows n (sorts keeps ∷ steps) s t f g (next, (next_file, step, rest)) given =
+      same_follows n s next (inserted_in_rounds n (calls_in steps)) (ahead s steps) (ahead next steps) step.0.round same (follows n steps next t next_file g rest (rise_after (sorts (returns key held)) steps s next f next_file step rise) after)
+  follows n (sorts keeps ∷ steps) s t f g (next, (next_file, step, rest)) rise given =
       let same : ahead s (sorts keeps ∷ steps) ≡ ahead next steps = ap (λ p. pending_timed p ++ timed_of (read_in steps)) (sym step.0.pending) in
       let after = same_ahead s next (ahead s steps) (ahead next steps) step.0.round same given in
-      same_follows n s next (inserted_in_rounds n (calls_in steps)) (ahead s steps) (ahead next steps) step.0.round same (follows n steps next t next_file g rest after)
-  follows n (reports e ∷ steps) s t f g (next, (next_file, step, rest)) given =
+      same_follows n s next (inserted_in_rounds n (calls_in steps)) (ahead s steps) (ahead next steps) step.0.round same (follows n steps next t next_file g rest (rise_after (sorts keeps) steps s next f next_file step rise) after)
+  follows n (reports e ∷ steps) s t f g (next, (next_file, step, rest)) rise given =
       let same : ahead s (reports e ∷ steps) ≡ ahead next steps =
       ap (λ p. pending_timed p ++ timed_of (read_in steps)) step.0.was_pending ∙ ap (λ p. pending_timed p ++ timed_of (read_in steps)) (sym step.0.pending) in
       let after = same_ahead s next (ahead s steps) (ahead next steps) step.0.same_order.round same given in
-      same_follows n s next (inserted_in_rounds n (calls_in steps)) (ahead s steps) (ahead next steps) step.0.same_order.round same (follows n steps next t next_file g rest after)
+      same_follows n s next (inserted_in_rounds n (calls_in steps)) (ahead s steps) (ahead next steps) step.0.same_order.round same (follows n steps next t next_file g rest (rise_after (reports e) steps s next f next_file step rise) after)
 
   pub times_ascend_under_perf_rule : OffsetsIncrease → TimesAscendUnderPerfRule state
   times_ascend_under_perf_rule increase records budget first last file file' steps new taken none_early layout rule =
@@ -262,9 +268,8 @@ module _ {R : Type 0} (state : R → State) where
       let all : All (λ y. 0 ≤ y.0) times = λ i d lt. omega arith in
       let start : Ahead first times = record {
         from_round = subst (λ k. All (λ y. k ≤ y.0) times) (sym new.round) all;
-        rise = timed_rise (read_in steps) (rounds_follow increase (read_in steps) layout);
         rule = rule;
       } in
       ascends_under_rule HeldRecord nat_cmp_total first.held.sorter last.held.sorter (calls_in steps) new.empty (calls_sorter_in_turn state first last file file' steps taken)
       (let counted = counts_early state records budget first last file file' steps new taken in omega (arith, counted, none_early))
-      (follows 0 steps first last file file' taken (same_ahead first first times (ahead first steps) refl (sym none) start)).rule
+      (follows 0 steps first last file file' taken (subst (λ q. RoundsRise q (read_in steps)) (sym new.pending) (rounds_follow increase (read_in steps) layout)) (same_ahead first first times (ahead first steps) refl (sym none) start)).rule

@@ -1,5 +1,5 @@
 -- Laws of the steps over a source.
-use Rattle.std.proofs.Common.{◌≡◌, ℕ, List, [], ◌∷◌, ◌++◌, map, refl, sym, ap, ◌∙◌, subst, append_assoc, append-nil}
+use Rattle.std.proofs.Common.{◌≡◌, ℕ, List, [], ◌∷◌, ◌++◌, map, None, Some, refl, sym, ap, ◌∙◌, subst, append_assoc, append-nil}
 use Rattle.std.specs.Ordering.{nat_cmp}
 use Rattle.std.specs.List.Sorted.{IsPermutation}
 use Rattle.std.proofs.lemmas.List.Sorted.{IsPermutation-refl, IsPermutation-trans, IsPermutation-cons, IsPermutation-middle, IsPermutation-map, IsPermutation-append_left}
@@ -15,7 +15,7 @@ use Rattle.perfdata_order.specs.Sorter.{held_of}
 use Rattle.perfdata_order.specs.SorterLaws.{MakesCalls}
 use Rattle.perfdata_order.specs.SorterLaws.Call.{inserts, ends_round, ends_all, releases, returns, keeps}
 use Rattle.perfdata_order.specs.StreamingOrder.{Unplaced, unplaced_of, Step, TakesSteps, returned_in, HalfReleasedEarly, ReleasesForPending}
-use Rattle.perfdata_order.specs.StreamingOrder.Unplaced.{nothing, timed, ending, failing, failed}
+use Rattle.perfdata_order.specs.StreamingOrder.Unplaced.{nothing, waiting, ending, failing, failed}
 use Rattle.perfdata_order.specs.StreamingOrder.Step.{reads, passes, reads_end, reads_error, sorts, reports}
 use Rattle.perfdata_order.specs.StreamingLaws.{read_in, calls_in, unplaced_records, held_records, ReturnsEachRecordOnce, ReadsRecordsOfSource, CallsSorterInTurn}
 use Rattle.perfdata_order.proofs.SorterCalls.{held_after_insert, held_before_return}
@@ -23,7 +23,8 @@ use Rattle.perfdata_order.proofs.StreamingCalls.{IsLast}
 
 pub half_released : {R : Type 0} (q : Unplaced) (old new : OrderedRecords R) → ReleasesForPending q old new → (size : ℕ) × HalfReleasedEarly old size new
 half_released nothing old new released = absurd released
-half_released (timed key h) old new released = (held_size h, released)
+half_released (waiting None h) old new released = absurd released
+half_released (waiting (Some key) h) old new released = (held_size h, released)
 half_released ending old new released = absurd released
 half_released (failing e) old new released = absurd released
 half_released failed old new released = absurd released
@@ -34,7 +35,7 @@ module _ {R : Type 0} (state : R → State) where
   calls_sorter_in_turn first last file file' (reads key h ∷ steps) (next, (next_file, step, rest)) =
       subst (λ s. MakesCalls nat_cmp (calls_in steps) s last.held.sorter) step.same_order.sorter (calls_sorter_in_turn next last next_file file' steps rest)
   calls_sorter_in_turn first last file file' (passes h ∷ steps) (next, (next_file, step, rest)) =
-      subst (λ s. MakesCalls nat_cmp (calls_in steps) s last.held.sorter) step.same_order.sorter (calls_sorter_in_turn next last next_file file' steps rest)
+      subst (λ s. MakesCalls nat_cmp (calls_in steps) s last.held.sorter) step.0.same_order.sorter (calls_sorter_in_turn next last next_file file' steps rest)
   calls_sorter_in_turn first last file file' (reads_end ∷ steps) (next, (next_file, step, rest)) =
       subst (λ s. MakesCalls nat_cmp (calls_in steps) s last.held.sorter) step.same_order.sorter (calls_sorter_in_turn next last next_file file' steps rest)
   calls_sorter_in_turn first last file file' (reads_error e ∷ steps) (next, (next_file, step, rest)) =
@@ -83,10 +84,13 @@ module _ {R : Type 0} (state : R → State) where
       ap (λ h. h ++ read_in steps) after ∙ append_assoc (entries (held_of first.held.sorter)) (h ∷ []) (read_in steps) ∙ ap (λ hs. hs ++ h ∷ read_in steps) (sym plain) in
       subst (λ h. IsPermutation h (returned_in steps ++ held_records state last)) regrouped (once_from steps next last next_file file' rest)
   once_from (passes h ∷ steps) first last file file' (next, (next_file, step, rest)) =
-      let same : held_records state next ≡ held_records state first =
-      held_as next next (held_of first.held.sorter) [] (ap held_of step.same_order.sorter) (ap unplaced_records step.pending) ∙ sym (held_as first first (held_of first.held.sorter) [] refl (ap unplaced_records step.nothing_pending)) in
-      let once = once_kept steps first next last file file' same (once_from steps next last next_file file' rest) in
-      IsPermutation-trans _ _ _ (IsPermutation-middle (held_records state first) h (read_in steps)) (IsPermutation-cons h _ _ once)
+      let before : held_records state first ≡ entries (held_of first.held.sorter) ++ h ∷ [] = held_as first first (held_of first.held.sorter) (h ∷ []) refl (ap unplaced_records step.0.was_pending) in
+      let after : held_records state next ≡ entries (held_of first.held.sorter) ++ [] = held_as next next (held_of first.held.sorter) [] (ap held_of step.0.same_order.sorter) (ap unplaced_records step.0.pending) in
+      let plain = after ∙ append-nil (entries (held_of first.held.sorter)) in
+      let regrouped : held_records state first ++ read_in steps ≡ held_records state next ++ h ∷ read_in steps =
+      ap (λ h. h ++ read_in steps) before ∙ append_assoc (entries (held_of first.held.sorter)) (h ∷ []) (read_in steps) ∙ ap (λ hs. hs ++ h ∷ read_in steps) (sym plain) in
+      subst (λ hs. IsPermutation hs (h ∷ (returned_in steps ++ held_records state last))) (sym regrouped)
+      (IsPermutation-trans _ _ _ (IsPermutation-middle (held_records state next) h (read_in steps)) (IsPermutation-cons h _ _ (once_from steps next last next_file file' rest)))
   once_from (reads_end ∷ steps) first last file file' (next, (next_file, step, rest)) =
       let same : held_records state next ≡ held_records state first =
       held_as next next (held_of first.held.sorter) [] (ap held_of step.same_order.sorter) (ap unplaced_records step.pending) ∙ sym (held_as first first (held_of first.held.sorter) [] refl (ap unplaced_records step.nothing_pending)) in
@@ -137,7 +141,7 @@ module _ {R : Type 0} (state : R → State) where
   pub nothing_read : (steps : List Step) (first last : OrderedRecords R) (file file' : PerfFile) → IsLast (unplaced_of first) → TakesSteps state steps first file last file' → read_in steps ≡ []
   nothing_read [] first last file file' final taken = refl
   nothing_read (reads key h ∷ steps) first last file file' final (next, (next_file, step, rest)) = absurd (subst (λ q. IsLast q) step.nothing_pending final)
-  nothing_read (passes h ∷ steps) first last file file' final (next, (next_file, step, rest)) = absurd (subst (λ q. IsLast q) step.nothing_pending final)
+  nothing_read (passes h ∷ steps) first last file file' final (next, (next_file, step, rest)) = absurd (subst (λ q. IsLast q) step.0.was_pending final)
   nothing_read (reads_end ∷ steps) first last file file' final (next, (next_file, step, rest)) = absurd (subst (λ q. IsLast q) step.nothing_pending final)
   nothing_read (reads_error e ∷ steps) first last file file' final (next, (next_file, step, rest)) = absurd (subst (λ q. IsLast q) step.nothing_pending final)
   nothing_read (sorts (inserts key held) ∷ steps) first last file file' final (next, (next_file, step, rest)) = absurd (subst (λ q. IsLast q) step.0.was_pending final)
@@ -163,9 +167,7 @@ module _ {R : Type 0} (state : R → State) where
   read_from (reads key h ∷ steps) first last file file' (next, (next_file, step, rest)) =
       let more = read_from steps next last next_file file' rest in
       (more.0, (more.1.0, (next.records, (next_file, step.returned, more.1.1))))
-  read_from (passes h ∷ steps) first last file file' (next, (next_file, step, rest)) =
-      let more = read_from steps next last next_file file' rest in
-      (more.0, (more.1.0, (next.records, (next_file, step.returned, more.1.1))))
+  read_from (passes h ∷ steps) first last file file' (next, (next_file, step, rest)) = from_same first next file next_file (read_in steps) step.0.same_records step.1 (read_from steps next last next_file file' rest)
   read_from (reads_end ∷ steps) first last file file' (next, (next_file, step, rest)) =
       none_from first.records file (read_in steps) (nothing_read steps next last next_file file' (subst (λ q. IsLast q) (sym step.pending) tt) rest)
   read_from (reads_error e ∷ steps) first last file file' (next, (next_file, step, rest)) =

@@ -21,7 +21,7 @@ use Rattle.perfdata_order.specs.InMemoryOrder.Step.{reads, passes, reads_end, re
 abbrev pub read_in : List Step → List Entry
 read_in [] = []
 read_in (reads key place r ∷ steps) = (place, r) ∷ read_in steps
-read_in (passes place r ∷ steps) = (place, r) ∷ read_in steps
+read_in (passes place r ∷ steps) = read_in steps
 read_in (reads_end ∷ steps) = read_in steps
 read_in (reads_error e ∷ steps) = read_in steps
 read_in (sorts call ∷ steps) = read_in steps

@@ -12,7 +12,7 @@ use Rattle.linux_perf_data.specs.InMemoryReading.{ReturnsRecordInMemory, Returns
 use Rattle.perfdata_order.specs.declared.in_memory.Pending.{Pending}
 use Rattle.perfdata_order.specs.declared.in_memory.Pending.TheVariants.{Nothing, Record, End, Failure}
 use Rattle.perfdata_order.specs.declared.in_memory.InMemoryOrderedRecords.{InMemoryOrderedRecords}
-use Rattle.perfdata_order.specs.Sorter.{held_of, pending_of, IsNew, IsUnchanged, Inserted, RoundEnded, AllRoundsEnded, Returned}
+use Rattle.perfdata_order.specs.Sorter.{held_of, available_of, pending_of, IsNew, IsUnchanged, Inserted, RoundEnded, AllRoundsEnded, Returned}
 use Rattle.perfdata_order.specs.Times.{time_key_of}
 use Rattle.perfdata_order.specs.SorterLaws.{Call}
 use Rattle.perfdata_order.specs.SorterLaws.Call.{inserts, ends_round, ends_all, releases, returns, keeps}
@@ -21,10 +21,10 @@ use Rattle.perfdata_order.specs.SorterLaws.Call.{inserts, ends_round, ends_all, 
 abbrev pub Entry : Type 0
 Entry = RecordPlace × PerfFileRecord
 
--- A step of a call. A record was read: a timed one, or one without a time, which is returned at once. The end or an error was
+-- A step of a call. A record was read, with its key if it is timed. A record without a time was returned. The end or an error was
 -- read. The sorter was called. The error was returned.
 pub data Step : Type 0 where
-  reads : ℕ → RecordPlace → PerfFileRecord → Step
+  reads : Option ℕ → RecordPlace → PerfFileRecord → Step
   passes : RecordPlace → PerfFileRecord → Step
   reads_end : Step
   reads_error : Error → Step
@@ -51,20 +51,12 @@ pub record SameOrder (old new : InMemoryOrderedRecords) : Type 0 where
   pub sorter : new.sorter ≡ old.sorter
   pub round : new.round ≡ old.round
 
--- A timed record was read, and is pending.
-pub record ReadsTimed (old : InMemoryOrderedRecords) (file : PerfFile) (key : ℕ) (place : RecordPlace) (r : PerfFileRecord) (new : InMemoryOrderedRecords) (file' : PerfFile) : Type 0 where
+-- A record was read, and is pending.
+pub record ReadsWaiting (old : InMemoryOrderedRecords) (file : PerfFile) (key : Option ℕ) (place : RecordPlace) (r : PerfFileRecord) (new : InMemoryOrderedRecords) (file' : PerfFile) : Type 0 where
   pub nothing_pending : old.pending ≡ Nothing
   pub returned : ReturnsRecordInMemory old.records file place r new.records file'
-  pub timed : time_key_of place ≡ Some key
+  pub has_time : time_key_of place ≡ key
   pub pending : new.pending ≡ Record key place r
-  pub same_order : SameOrder old new
-
--- A record without a time was read.
-pub record ReadsUntimed (old : InMemoryOrderedRecords) (file : PerfFile) (place : RecordPlace) (r : PerfFileRecord) (new : InMemoryOrderedRecords) (file' : PerfFile) : Type 0 where
-  pub nothing_pending : old.pending ≡ Nothing
-  pub returned : ReturnsRecordInMemory old.records file place r new.records file'
-  pub untimed : time_key_of place ≡ None
-  pub pending : new.pending ≡ Nothing
   pub same_order : SameOrder old new
 
 -- The end of the records was read.
@@ -83,7 +75,7 @@ pub record ReadsError (old : InMemoryOrderedRecords) (file : PerfFile) (e : Erro
 
 -- The pending record was inserted into the sorter. The rounds before its own had ended.
 pub record InsertsPending (old : InMemoryOrderedRecords) (key : ℕ) (entry : Entry) (new : InMemoryOrderedRecords) : Type 0 where
-  pub was_pending : old.pending ≡ Record key entry.0 entry.1
+  pub was_pending : old.pending ≡ Record (Some key) entry.0 entry.1
   pub in_round : entry.0.round ≤ old.round
   pub inserted : Inserted nat_cmp old.sorter key entry new.sorter
   pub pending : new.pending ≡ Nothing
@@ -130,6 +122,16 @@ pub record KeepsSorter (old new : InMemoryOrderedRecords) : Type 0 where
   pub same_records : new.records ≡ old.records
   pub round : new.round ≡ old.round
 
+-- The pending record was returned: it has no time. The rounds before its own had ended, and the records that were available then
+-- had been returned.
+pub record PassesPending (old : InMemoryOrderedRecords) (place : RecordPlace) (r : PerfFileRecord) (new : InMemoryOrderedRecords) : Type 0 where
+  pub was_pending : old.pending ≡ Record None place r
+  pub in_round : place.round ≤ old.round
+  pub none_available : available_of old.sorter ≡ []
+  pub pending : new.pending ≡ Nothing
+  pub same_records : new.records ≡ old.records
+  pub same_order : SameOrder old new
+
 -- The error that was read was returned. All records before it had been returned.
 pub record ReportsError (old : InMemoryOrderedRecords) (e : Error) (new : InMemoryOrderedRecords) : Type 0 where
   pub was_pending : old.pending ≡ Failure e
@@ -147,8 +149,8 @@ CallsSorter (returns key entry) old new = ReturnsSorted old key entry new
 CallsSorter keeps old new = KeepsSorter old new
 
 abbrev pub TakesStep : Step → InMemoryOrderedRecords → PerfFile → InMemoryOrderedRecords → PerfFile → Type 0
-TakesStep (reads key place r) old file new file' = ReadsTimed old file key place r new file'
-TakesStep (passes place r) old file new file' = ReadsUntimed old file place r new file'
+TakesStep (reads key place r) old file new file' = ReadsWaiting old file key place r new file'
+TakesStep (passes place r) old file new file' = PassesPending old place r new × (file' ≡ file)
 TakesStep reads_end old file new file' = ReadsEnd old file new file'
 TakesStep (reads_error e) old file new file' = ReadsError old file e new file'
 TakesStep (sorts call) old file new file' = CallsSorter call old new × (file' ≡ file)
@@ -207,16 +209,19 @@ IsPending (Record key place r) = Unit {0}
 IsPending End = Unit {0}
 IsPending (Failure e) = Unit {0}
 
+-- No record without a time is pending.
+abbrev pub HasNoUntimed : Pending → Type 0
+HasNoUntimed Nothing = Unit {0}
+HasNoUntimed (Record None place r) = ⊥
+HasNoUntimed (Record (Some key) place r) = Unit {0}
+HasNoUntimed End = Unit {0}
+HasNoUntimed (Failure e) = Unit {0}
+
 -- Something was pending before, or it was read.
 abbrev pub ReadsPending : InMemoryOrderedRecords → PerfFile → InMemoryOrderedRecords → PerfFile → Type 0
 ReadsPending old file new file' = (IsPending old.pending × (new ≡ old) × (file' ≡ file))
-    ⊎ (((key : ℕ) × ((place : RecordPlace) × ((r : PerfFileRecord) × ReadsTimed old file key place r new file')))
+    ⊎ (((key : Option ℕ) × ((place : RecordPlace) × ((r : PerfFileRecord) × ReadsWaiting old file key place r new file')))
     ⊎ (ReadsEnd old file new file' ⊎ ((e : Error) × ReadsError old file e new file')))
-
--- Reading, if nothing is pending. A record without a time is returned.
-abbrev pub ReadsNext : InMemoryOrderedRecords → PerfFile → Option Entry → InMemoryOrderedRecords → PerfFile → Type 0
-ReadsNext old file (Some entry) new file' = ReadsUntimed old file entry.0 entry.1 new file'
-ReadsNext old file None new file' = ReadsPending old file new file'
 
 -- The rounds before this round ended, and the rest is unchanged.
 pub record OneRoundEnded (old : InMemoryOrderedRecords) (to : ℕ) (new : InMemoryOrderedRecords) : Type 0 where
@@ -243,16 +248,23 @@ pub record Places (old new : InMemoryOrderedRecords) : Type 0 where
   pub none_returned : returned_in steps ≡ []
   pub taken : (file : PerfFile) → TakesSteps steps old file new file
 
--- What was pending is in the sorter. At the end of the input, all rounds ended.
+-- The timed record that was pending is in the sorter. The rounds before that of a pending record without a time ended. At the end
+-- of the input, all rounds ended.
 abbrev pub AfterPlacing : Pending → InMemoryOrderedRecords → Type 0
 AfterPlacing Nothing new = new.pending ≡ Nothing
-AfterPlacing (Record key place r) new = new.pending ≡ Nothing
+AfterPlacing (Record None place r) new = (new.pending ≡ Record None place r) × (place.round ≤ new.round)
+AfterPlacing (Record (Some key) place r) new = new.pending ≡ Nothing
 AfterPlacing End new = (new.pending ≡ End) × (pending_of new.sorter ≡ [])
 AfterPlacing (Failure e) new = (new.pending ≡ Failure e) × (pending_of new.sorter ≡ [])
 
 abbrev pub PlacesPending : InMemoryOrderedRecords → Result (Unit {0}) AllocError → InMemoryOrderedRecords → Type 0
 PlacesPending old (Ok done) new = Places old new × AfterPlacing old.pending new × (new.records ≡ old.records)
 PlacesPending old (Err e) new = Places old new
+
+-- The record without a time was taken, if one is pending.
+abbrev pub TakesUntimed : InMemoryOrderedRecords → Option Entry → InMemoryOrderedRecords → Type 0
+TakesUntimed old None new = (new ≡ old) × HasNoUntimed old.pending
+TakesUntimed old (Some entry) new = (old.pending ≡ Record None entry.0 entry.1) × (new.pending ≡ Nothing) × (new.records ≡ old.records) × SameOrder old new
 
 -- The end or the error was taken, if one is pending.
 abbrev pub TakesEnd : InMemoryOrderedRecords → Option (Result (Unit {0}) Error) → InMemoryOrderedRecords → Type 0

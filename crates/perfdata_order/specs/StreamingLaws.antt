@@ -17,14 +17,14 @@ use Rattle.perfdata_order.specs.SorterLaws.{Call, MakesCalls, returned_by, relea
 use Rattle.perfdata_order.specs.Times.{key_of_time}
 use Rattle.perfdata_order.specs.LayoutRecords.{AreLayoutRecords}
 use Rattle.perfdata_order.specs.StreamingOrder.{Unplaced, unplaced_of, round_of, early_of, Step, TakesSteps, returned_in, IsNewOrder}
-use Rattle.perfdata_order.specs.StreamingOrder.Unplaced.{nothing, timed, ending, failing, failed}
+use Rattle.perfdata_order.specs.StreamingOrder.Unplaced.{nothing, waiting, ending, failing, failed}
 use Rattle.perfdata_order.specs.StreamingOrder.Step.{reads, passes, reads_end, reads_error, sorts, reports}
 
 -- The records that the steps read, in the order of the source.
 abbrev pub read_in : List Step → List RecordView
 read_in [] = []
 read_in (reads key h ∷ steps) = h ∷ read_in steps
-read_in (passes h ∷ steps) = h ∷ read_in steps
+read_in (passes h ∷ steps) = read_in steps
 read_in (reads_end ∷ steps) = read_in steps
 read_in (reads_error e ∷ steps) = read_in steps
 read_in (sorts call ∷ steps) = read_in steps
@@ -42,7 +42,7 @@ calls_in (reports e ∷ steps) = calls_in steps
 
 abbrev pub unplaced_records : Unplaced → List RecordView
 unplaced_records nothing = []
-unplaced_records (timed key h) = h ∷ []
+unplaced_records (waiting key h) = h ∷ []
 unplaced_records ending = []
 unplaced_records (failing e) = []
 unplaced_records failed = []

@@ -26,25 +26,25 @@ use Rattle.perfdata_order.specs.Times.{key_of_time}
 use Rattle.perfdata_order.specs.SorterLaws.{Call}
 use Rattle.perfdata_order.specs.SorterLaws.Call.{inserts, ends_round, ends_all, releases, returns, keeps}
 
--- What was read from the source and isn't in the sorter: nothing, a timed record with its key, the end, an error that is not yet
--- returned, or one that was.
+-- What was read from the source and isn't in the sorter: nothing, a record with its key if it is timed, the end, an error that is
+-- not yet returned, or one that was.
 pub data Unplaced : Type 0 where
   nothing : Unplaced
-  timed : ℕ → RecordView → Unplaced
+  waiting : Option ℕ → RecordView → Unplaced
   ending : Unplaced
   failing : Error → Unplaced
   failed : Unplaced
 
 abbrev pub unplaced_by : Pending → List ℕ → Unplaced
 unplaced_by variant.Nothing body = nothing
-unplaced_by (variant.Record key info) body = timed key (view_with info body)
+unplaced_by (variant.Record key info) body = waiting key (view_with info body)
 unplaced_by variant.End body = ending
 unplaced_by (variant.Failure e) body = failing e
 unplaced_by variant.Failed body = failed
 
 abbrev pub IsUnplaced : Unplaced → Type 0
 IsUnplaced nothing = ⊥
-IsUnplaced (timed key h) = Unit {0}
+IsUnplaced (waiting key h) = Unit {0}
 IsUnplaced ending = Unit {0}
 IsUnplaced (failing e) = Unit {0}
 IsUnplaced failed = Unit {0}
@@ -52,15 +52,24 @@ IsUnplaced failed = Unit {0}
 -- Neither the end nor an error was read.
 abbrev pub IsOngoing : Unplaced → Type 0
 IsOngoing nothing = Unit {0}
-IsOngoing (timed key h) = Unit {0}
+IsOngoing (waiting key h) = Unit {0}
 IsOngoing ending = ⊥
 IsOngoing (failing e) = ⊥
 IsOngoing failed = ⊥
 
--- A step of a call. A record was read: a timed one, or one without a time, which is returned at once. The end or an error was
+-- No record without a time is pending.
+abbrev pub HasNoUntimed : Unplaced → Type 0
+HasNoUntimed nothing = Unit {0}
+HasNoUntimed (waiting None h) = ⊥
+HasNoUntimed (waiting (Some key) h) = Unit {0}
+HasNoUntimed ending = Unit {0}
+HasNoUntimed (failing e) = Unit {0}
+HasNoUntimed failed = Unit {0}
+
+-- A step of a call. A record was read, with its key if it is timed. A record without a time was returned. The end or an error was
 -- read. The sorter was called. The error was returned.
 pub data Step : Type 0 where
-  reads : ℕ → RecordView → Step
+  reads : Option ℕ → RecordView → Step
   passes : RecordView → Step
   reads_end : Step
   reads_error : Error → Step
@@ -85,7 +94,7 @@ returned_in (reports e ∷ steps) = returned_in steps
 -- The pending record is of the next round.
 abbrev pub IsOneRoundLater : Unplaced → ℕ → ℕ → Type 0
 IsOneRoundLater nothing old new = ⊥
-IsOneRoundLater (timed key h) old new = (h.round ≡ old + 1) × (new ≡ h.round)
+IsOneRoundLater (waiting key h) old new = (h.round ≡ old + 1) × (new ≡ h.round)
 IsOneRoundLater ending old new = ⊥
 IsOneRoundLater (failing e) old new = ⊥
 IsOneRoundLater failed old new = ⊥
@@ -93,7 +102,7 @@ IsOneRoundLater failed old new = ⊥
 -- The pending record is of a round after the next one, or nothing more is read.
 abbrev pub IsLaterOrLast : Unplaced → ℕ → ℕ → Type 0
 IsLaterOrLast nothing old new = ⊥
-IsLaterOrLast (timed key h) old new = (old + 2 ≤ h.round) × (new ≡ h.round)
+IsLaterOrLast (waiting key h) old new = (old + 2 ≤ h.round) × (new ≡ h.round)
 IsLaterOrLast ending old new = new ≡ old
 IsLaterOrLast (failing e) old new = new ≡ old
 IsLaterOrLast failed old new = new ≡ old
@@ -135,7 +144,7 @@ module _ {R : Type 0} where
 
   -- The pending record was inserted into the sorter. The rounds before its own had ended.
   pub record InsertsPending (old : OrderedRecords R) (key : ℕ) (held : HeldRecord) (new : OrderedRecords R) : Type 0 where
-    pub was_pending : unplaced_of old ≡ timed key (held_view held)
+    pub was_pending : unplaced_of old ≡ waiting (Some key) (held_view held)
     pub in_round : (held_view held).round ≤ old.round
     pub none_available : available_of old.held.sorter ≡ []
     pub fits_budget : FitsBudget old (held_size (held_view held))
@@ -177,7 +186,8 @@ module _ {R : Type 0} where
 
   abbrev pub ReleasesForPending : Unplaced → OrderedRecords R → OrderedRecords R → Type 0
   ReleasesForPending nothing old new = ⊥
-  ReleasesForPending (timed key h) old new = HalfReleasedEarly old (held_size h) new
+  ReleasesForPending (waiting None h) old new = ⊥
+  ReleasesForPending (waiting (Some key) h) old new = HalfReleasedEarly old (held_size h) new
   ReleasesForPending ending old new = ⊥
   ReleasesForPending (failing e) old new = ⊥
   ReleasesForPending failed old new = ⊥
@@ -199,6 +209,16 @@ module _ {R : Type 0} where
     pub same_records : new.records ≡ old.records
     pub round : new.round ≡ old.round
     pub same_budget : SameBudget old new
+
+  -- The pending record was returned: it has no time. The rounds before its own had ended, and the records that were available then
+  -- had been returned.
+  pub record PassesPending (old : OrderedRecords R) (h : RecordView) (new : OrderedRecords R) : Type 0 where
+    pub was_pending : unplaced_of old ≡ waiting None h
+    pub in_round : h.round ≤ old.round
+    pub none_available : available_of old.held.sorter ≡ []
+    pub pending : unplaced_of new ≡ nothing
+    pub same_records : new.records ≡ old.records
+    pub same_order : SameOrder old new
 
   -- The error that was read was returned. All records before it had been returned.
   pub record ReportsError (old : OrderedRecords R) (e : Error) (new : OrderedRecords R) : Type 0 where
@@ -259,12 +279,17 @@ module _ {R : Type 0} where
     pub none_available : available_of s.held.sorter ≡ []
 
   -- The order in which this record is pending, after it was read.
-  abbrev pub with_pending : OrderedRecords R → ℕ → RecordInfo → OrderedRecords R
+  abbrev pub with_pending : OrderedRecords R → Option ℕ → RecordInfo → OrderedRecords R
   with_pending s key info = record s { pending = variant.Record key info }
 
   -- The record that was read is in the sorter, or still pending.
   abbrev pub HoldsRecord : OrderedRecords R → ℕ → RecordInfo → OrderedRecords R → Type 0
-  HoldsRecord old key info new = ((held : HeldRecord) × InsertsPending (with_pending old key info) key held new) ⊎ KeepsSorter (with_pending old key info) new
+  HoldsRecord old key info new = ((held : HeldRecord) × InsertsPending (with_pending old (Some key) info) key held new) ⊎ KeepsSorter (with_pending old (Some key) info) new
+
+  -- The record without a time was taken, if one is pending.
+  abbrev pub TakesUntimed : OrderedRecords R → Option RecordInfo → OrderedRecords R → Type 0
+  TakesUntimed old None new = (new ≡ old) × HasNoUntimed (unplaced_of old)
+  TakesUntimed old (Some info) new = (unplaced_of old ≡ waiting None (view_with info new.body.items)) × (unplaced_of new ≡ nothing) × (new.records ≡ old.records) × SameOrder old new
 
   -- The end or the error was taken, if one is pending. After an error, each call fails.
   abbrev pub TakesEnd : OrderedRecords R → Option (Result (Unit {0}) Error) → OrderedRecords R → Type 0
@@ -301,20 +326,12 @@ module _ {R : Type 0} where
     ReadsRecord old file (Ok None) body new file' = ReturnsEnd state old file new file'
     ReadsRecord old file (Err e) body new file' = FailsToRead old file e new file'
 
-    -- A timed record was read, and is pending.
-    pub record ReadsTimed (old : OrderedRecords R) (file : PerfFile) (key : ℕ) (h : RecordView) (new : OrderedRecords R) (file' : PerfFile) : Type 0 where
+    -- A record was read, and is pending.
+    pub record ReadsWaiting (old : OrderedRecords R) (file : PerfFile) (key : Option ℕ) (h : RecordView) (new : OrderedRecords R) (file' : PerfFile) : Type 0 where
       pub nothing_pending : unplaced_of old ≡ nothing
       pub returned : ReturnsRecord state old.records file h new.records file'
-      pub has_time : key_of_time h.timestamp ≡ Some key
-      pub pending : unplaced_of new ≡ timed key h
-      pub same_order : SameOrder old new
-
-    -- A record without a time was read.
-    pub record ReadsUntimed (old : OrderedRecords R) (file : PerfFile) (h : RecordView) (new : OrderedRecords R) (file' : PerfFile) : Type 0 where
-      pub nothing_pending : unplaced_of old ≡ nothing
-      pub returned : ReturnsRecord state old.records file h new.records file'
-      pub untimed : key_of_time h.timestamp ≡ None
-      pub pending : unplaced_of new ≡ nothing
+      pub has_time : key_of_time h.timestamp ≡ key
+      pub pending : unplaced_of new ≡ waiting key h
       pub same_order : SameOrder old new
 
     -- The end of the records was read.
@@ -332,8 +349,8 @@ module _ {R : Type 0} where
       pub same_order : SameOrder old new
 
     abbrev pub TakesStep : Step → OrderedRecords R → PerfFile → OrderedRecords R → PerfFile → Type 0
-    TakesStep (reads key h) old file new file' = ReadsTimed old file key h new file'
-    TakesStep (passes h) old file new file' = ReadsUntimed old file h new file'
+    TakesStep (reads key h) old file new file' = ReadsWaiting old file key h new file'
+    TakesStep (passes h) old file new file' = PassesPending old h new × (file' ≡ file)
     TakesStep reads_end old file new file' = ReadsEnd old file new file'
     TakesStep (reads_error e) old file new file' = ReadsError old file e new file'
     TakesStep (sorts call) old file new file' = CallsSorter call old new × (file' ≡ file)
@@ -401,24 +418,23 @@ module _ {R : Type 0} where
       pub none_returned : returned_in steps ≡ []
       pub taken : (file : PerfFile) → TakesSteps steps old file new file
 
-    -- A timed record was read. It is in the sorter, or still pending.
-    pub record ReadsAndHolds (old : OrderedRecords R) (file : PerfFile) (key : ℕ) (h : RecordView) (new : OrderedRecords R) (file' : PerfFile) : Type 0 where
+    -- A record was read. It is in the sorter, or still pending.
+    pub record ReadsAndHolds (old : OrderedRecords R) (file : PerfFile) (key : Option ℕ) (h : RecordView) (new : OrderedRecords R) (file' : PerfFile) : Type 0 where
       pub read : OrderedRecords R
-      pub was_read : ReadsTimed old file key h read file'
+      pub was_read : ReadsWaiting old file key h read file'
       pub places : Places read new
-      pub pending : (unplaced_of new ≡ nothing) ⊎ (unplaced_of new ≡ timed key h)
+      pub pending : (unplaced_of new ≡ nothing) ⊎ (unplaced_of new ≡ waiting key h)
       pub same_records : new.records ≡ read.records
 
     -- Something was pending before, or something was read.
     abbrev pub ReadsPending : OrderedRecords R → PerfFile → OrderedRecords R → PerfFile → Type 0
     ReadsPending old file new file' = (IsUnplaced (unplaced_of old) × (new ≡ old) × (file' ≡ file))
-        ⊎ (((key : ℕ) × ((h : RecordView) × ReadsAndHolds old file key h new file'))
+        ⊎ (((key : Option ℕ) × ((h : RecordView) × ReadsAndHolds old file key h new file'))
         ⊎ (ReadsEnd old file new file' ⊎ ((e : Error) × ReadsError old file e new file')))
 
-    -- Reading, if nothing is pending. A record without a time is returned. If memory runs out, nothing was read.
-    abbrev pub ReadsNext : OrderedRecords R → PerfFile → Result (Option RecordInfo) AllocError → OrderedRecords R → PerfFile → Type 0
-    ReadsNext old file (Ok (Some info)) new file' = ReadsUntimed old file (view_with info (body_in Read new)) new file'
-    ReadsNext old file (Ok None) new file' = ReadsPending old file new file'
+    -- Reading, if nothing is pending. If memory runs out, nothing was read.
+    abbrev pub ReadsNext : OrderedRecords R → PerfFile → Result (Unit {0}) AllocError → OrderedRecords R → PerfFile → Type 0
+    ReadsNext old file (Ok done) new file' = ReadsPending old file new file'
     ReadsNext old file (Err e) new file' = KeepsSorter old new × (file' ≡ file)
 
     -- The rounds before that of the pending record ended, and the record may be inserted.
@@ -442,10 +458,12 @@ module _ {R : Type 0} where
     AdmitsPending old h (Ok false) new = HasAvailable old new
     AdmitsPending old h (Err e) new = Places old new
 
-    -- What was pending is in the sorter, or records are to be returned before it. At the end of the input, all rounds ended.
+    -- The timed record that was pending is in the sorter, or records are to be returned before it. The rounds before that of a pending
+    -- record without a time ended. At the end of the input, all rounds ended.
     abbrev pub AfterPlacing : Unplaced → OrderedRecords R → Type 0
     AfterPlacing nothing new = unplaced_of new ≡ nothing
-    AfterPlacing (timed key h) new = (unplaced_of new ≡ nothing) ⊎ ((unplaced_of new ≡ timed key h) × (0 < length (available_of new.held.sorter)))
+    AfterPlacing (waiting None h) new = (unplaced_of new ≡ waiting None h) × (h.round ≤ new.round)
+    AfterPlacing (waiting (Some key) h) new = (unplaced_of new ≡ nothing) ⊎ ((unplaced_of new ≡ waiting (Some key) h) × (0 < length (available_of new.held.sorter)))
     AfterPlacing ending new = (unplaced_of new ≡ ending) × (pending_of new.held.sorter ≡ [])
     AfterPlacing (failing e) new = (unplaced_of new ≡ failing e) × (pending_of new.held.sorter ≡ [])
     AfterPlacing failed new = (unplaced_of new ≡ failed) × (pending_of new.held.sorter ≡ [])
@@ -457,7 +475,7 @@ module _ {R : Type 0} where
 -- 1 if a record is pending.
 abbrev pub pending_records : Unplaced → ℕ
 pending_records nothing = 0
-pending_records (timed key h) = 1
+pending_records (waiting key h) = 1
 pending_records ending = 0
 pending_records (failing e) = 0
 pending_records failed = 0

@@ -1,5 +1,5 @@
 //! The records of an input in memory, in order of time.
-ghost use Rattle.std.specs.Prelude.{◌≡◌};
+ghost use Rattle.std.specs.Prelude.{◌≡◌, Some};
 ghost use Rattle.perfdata_order.specs.Times.{time_key_of};
 
 use crate::sorter::Sorter;
@@ -8,11 +8,12 @@ use linux_perf_data::{Error, PerfFile, PerfFileRecord, RecordPlace};
 use std::alloc::{AllocError, Global};
 use std::mem::replace;
 
-// What was read from the input, and isn't in the sorter.
+// What was read from the input, and isn't in the sorter. A record has the time that it is sorted by, if it is
+// timed.
 #[derive(Drop)]
 pub(crate) enum Pending<'a> {
     Nothing,
-    Record(u64, RecordPlace, PerfFileRecord<'a>),
+    Record(Option<u64>, RecordPlace, PerfFileRecord<'a>),
     End,
     Failure(Error),
 }
@@ -20,8 +21,8 @@ pub(crate) enum Pending<'a> {
 /// Returns the records of an input in memory in order of time. No byte of a record is copied.
 ///
 /// A record is timed if its timestamp is neither missing, nor 0, nor 2^64 - 1, which stand for no time.
-/// Records without a time are returned as soon as they are read, before all timed records that were read
-/// before them.
+/// Records without a time are returned as soon as they are read, after the timed records that the ends of
+/// earlier rounds release and before all timed records that are still held.
 ///
 /// The timed records ascend as long as the recording keeps perf's rule: no record of round n + 2 or of a
 /// later round is older than a record of round n. The records of two rounds are held, as references into the
@@ -52,7 +53,7 @@ pub(crate) fn time_key(place: RecordPlace) -> Option<u64>
 }
 
 impl<'a> InMemoryOrderedRecords<'a> {
-    ghost use Rattle.perfdata_order.specs.InMemoryOrder.{EndsRoundsBefore, IsNewOrder, PlacesPending, ReadsNext, ReturnsInOrder, TakesEnd};
+    ghost use Rattle.perfdata_order.specs.InMemoryOrder.{EndsRoundsBefore, IsNewOrder, PlacesPending, ReadsPending, ReturnsInOrder, TakesEnd, TakesUntimed};
 
     /// Returns the records of `records` in order of time. The order allocates with `alloc`.
     pub fn new(alloc: Global, records: InMemoryRecords<'a>) -> InMemoryOrderedRecords<'a>
@@ -66,29 +67,23 @@ impl<'a> InMemoryOrderedRecords<'a> {
         }
     }
 
-    // Reads the next record, unless something is pending. Returns it if it has no time.
-    fn read(&mut self, perf_file: &mut PerfFile) -> Option<(RecordPlace, PerfFileRecord<'a>)>
-        ensures { ReadsNext self.old perf_file.old result self.new perf_file.new }
+    // Reads the next record, unless something is pending.
+    fn read(&mut self, perf_file: &mut PerfFile)
+        ensures { ReadsPending self.old perf_file.old self.new perf_file.new }
     {
         match self.pending {
             Pending::Nothing => {}
-            _ => return None,
+            _ => return,
         }
         match self.records.next_record(perf_file) {
-            Ok(Some((place, record))) => match time_key(place) {
-                Some(key) => {
-                    self.pending = Pending::Record(key, place, record);
-                    None
-                }
-                None => Some((place, record)),
-            },
+            Ok(Some((place, record))) => {
+                self.pending = Pending::Record(time_key(place), place, record);
+            }
             Ok(None) => {
                 self.pending = Pending::End;
-                None
             }
             Err(error) => {
                 self.pending = Pending::Failure(error);
-                None
             }
         }
     }
@@ -110,14 +105,14 @@ impl<'a> InMemoryOrderedRecords<'a> {
         Ok(())
     }
 
-    // Inserts the pending record into the sorter, after the rounds before its own ended.
+    // Inserts the pending timed record into the sorter, after the rounds before its own ended.
     fn place_record(
         &mut self,
         key: u64,
         place: RecordPlace,
         found: PerfFileRecord<'a>,
     ) -> Result<(), AllocError>
-        requires { self.old.pending ≡ Pending.Record key place found }
+        requires { self.old.pending ≡ Pending.Record (Some key) place found }
         ensures { PlacesPending self.old result self.new }
     {
         match self.end_rounds(place.round) {
@@ -133,15 +128,35 @@ impl<'a> InMemoryOrderedRecords<'a> {
         }
     }
 
-    // Puts what is pending into the sorter. At the end of the input, all rounds end.
+    // Puts a pending timed record into the sorter. Before one without a time, the rounds before its own end. At
+    // the end of the input, all rounds end.
     fn place_pending(&mut self) -> Result<(), AllocError>
         ensures { PlacesPending self.old result self.new }
     {
         match self.pending {
             Pending::Nothing => Ok(()),
-            Pending::Record(key, place, record) => self.place_record(key, place, record),
+            Pending::Record(key, place, record) => match key {
+                Some(time) => self.place_record(time, place, record),
+                None => self.end_rounds(place.round),
+            },
             Pending::End => self.sorter.finish(),
             Pending::Failure(_) => self.sorter.finish(),
+        }
+    }
+
+    // Takes the pending record, if it has no time.
+    fn take_untimed(&mut self) -> Option<(RecordPlace, PerfFileRecord<'a>)>
+        ensures { TakesUntimed self.old result self.new }
+    {
+        match self.pending {
+            Pending::Nothing => None,
+            Pending::Record(Some(_), _, _) => None,
+            Pending::Record(None, place, record) => {
+                self.pending = Pending::Nothing;
+                Some((place, record))
+            }
+            Pending::End => None,
+            Pending::Failure(_) => None,
         }
     }
 
@@ -182,16 +197,17 @@ impl<'a> InMemoryOrderedRecords<'a> {
             None => {}
         }
         'reads: loop {
-            match self.read(perf_file) {
-                Some(untimed) => return Ok(Some(untimed)),
-                None => {}
-            }
+            self.read(perf_file);
             match self.place_pending() {
                 Ok(()) => {}
                 Err(error) => return Err(Error::from(error)),
             }
             match self.sorter.get_next() {
                 Some(next) => return Ok(Some(next)),
+                None => {}
+            }
+            match self.take_untimed() {
+                Some(untimed) => return Ok(Some(untimed)),
                 None => {}
             }
             match self.take_end() {

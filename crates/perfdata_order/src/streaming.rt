@@ -1,5 +1,5 @@
 //! The records of a source, in order of time.
-ghost use Rattle.std.specs.Prelude.{◌≡◌, ℕ, ◌+◌, ◌^◌, ◌<◌, ◌≤◌, [], IsTrue, MatchBool, vec_capacity};
+ghost use Rattle.std.specs.Prelude.{◌≡◌, ℕ, ◌+◌, ◌^◌, ◌<◌, ◌≤◌, [], IsTrue, MatchBool, vec_capacity, Some};
 ghost use Rattle.perfdata_order.specs.StreamingOrder.{ReadsRecord};
 
 use crate::bodies::BodyRange;
@@ -11,12 +11,12 @@ use linux_perf_data::{Error, PerfFile, PerfFileRecord, PerfRecordIter, RecordPla
 use std::alloc::{AllocError, Global};
 use std::mem::replace;
 
-// What was read from the source, and isn't in the sorter. The body of the record is in
-// `OrderedRecords::body`.
+// What was read from the source, and isn't in the sorter. A record has the time that it is sorted by, if it is
+// timed. Its body is in `OrderedRecords::body`.
 #[derive(Drop)]
 pub(crate) enum Pending {
     Nothing,
-    Record(u64, RecordInfo),
+    Record(Option<u64>, RecordInfo),
     End,
     Failure(Error),
     Failed,
@@ -37,8 +37,8 @@ const BODY_CAPACITY: usize = 65536;
 /// Returns the records of a source in order of time.
 ///
 /// A record is timed if its timestamp is neither missing, nor 0, nor 2^64 - 1, which stand for no time.
-/// Records without a time are returned as soon as they are read, before all timed records that were read
-/// before them.
+/// Records without a time are returned as soon as they are read, after the timed records that the ends of
+/// earlier rounds release and before all timed records that are still held.
 ///
 /// The timed records ascend as long as the recording keeps perf's rule: no record of round n + 2 or of a
 /// later round is older than a record of round n. The records of two rounds are held, with their bodies. If
@@ -62,7 +62,7 @@ pub struct OrderedRecords<R> {
 
 impl<R> OrderedRecords<R> {
     ghost use Rattle.perfdata_order.specs.declared.streaming.Pending.TheVariants.{Nothing};
-    ghost use Rattle.perfdata_order.specs.StreamingOrder.{IsNewOrder, EndsRoundsBefore, ReleasesEarly, MayInsert, HoldsRecord, TakesEnd, TakesSorted, body_in, early_of};
+    ghost use Rattle.perfdata_order.specs.StreamingOrder.{IsNewOrder, EndsRoundsBefore, ReleasesEarly, MayInsert, HoldsRecord, TakesEnd, TakesSorted, TakesUntimed, body_in, early_of};
 
     /// Returns the records of `records` in order of time. The order allocates with `alloc`.
     pub fn new(alloc: Global, records: PerfRecordIter<R>) -> OrderedRecords<R>
@@ -176,7 +176,7 @@ impl<R> OrderedRecords<R> {
                 Err(_) => {}
             }
         }
-        self.pending = Pending::Record(key, info);
+        self.pending = Pending::Record(Some(key), info);
     }
 
     // Takes the next available record from the sorter. `self.returned` is then its body.
@@ -192,6 +192,23 @@ impl<R> OrderedRecords<R> {
                 Some(info)
             }
             None => None,
+        }
+    }
+
+    // Takes the pending record, if it has no time. Its body is in `self.body`.
+    fn take_untimed(&mut self) -> Option<RecordInfo>
+        ensures { TakesUntimed self.old result self.new }
+    {
+        match self.pending {
+            Pending::Nothing => None,
+            Pending::Record(Some(_), _) => None,
+            Pending::Record(None, info) => {
+                self.pending = Pending::Nothing;
+                Some(info)
+            }
+            Pending::End => None,
+            Pending::Failure(_) => None,
+            Pending::Failed => None,
         }
     }
 
@@ -261,18 +278,18 @@ impl<R: Source> OrderedRecords<R> {
     ghost use Rattle.perfdata_order.specs.contracts.streaming.OrderedRecords.{the_row};
     ghost use Rattle.perfdata_order.specs.declared.streaming.Pending.TheVariants.{Record};
     ghost use Rattle.perfdata_order.specs.StreamingOrder.{unplaced_of, AdmitsPending, PlacesPending, ReadsNext, AdvancesInOrder, ReturnsInOrder};
-    ghost use Rattle.perfdata_order.specs.StreamingOrder.Unplaced.{timed};
+    ghost use Rattle.perfdata_order.specs.StreamingOrder.Unplaced.{waiting};
     ghost use Rattle.perfdata_order.specs.HeldRecord.{held_size as size_of};
     ghost use Rattle.linux_perf_data.specs.Layout.{RecordView};
 
-    // Reads the next record, unless something is pending. Its body is then in `self.body`. Returns it if it
-    // has no time, and holds it otherwise.
-    fn read(&mut self, perf_file: &mut PerfFile) -> Result<Option<RecordInfo>, AllocError>
+    // Reads the next record, unless something is pending. Its body is then in `self.body`. Holds it if it is
+    // timed.
+    fn read(&mut self, perf_file: &mut PerfFile) -> Result<(), AllocError>
         ensures { ReadsNext R.state self.old perf_file.old result self.new perf_file.new }
     {
         match self.pending {
             Pending::Nothing => {}
-            _ => return Ok(None),
+            _ => return Ok(()),
         }
         self.body.clear();
         match self.body.try_reserve(BODY_CAPACITY) {
@@ -283,17 +300,20 @@ impl<R: Source> OrderedRecords<R> {
             Ok(Some(info)) => match time_key(info.place) {
                 Some(key) => {
                     self.hold(key, info);
-                    Ok(None)
+                    Ok(())
                 }
-                None => Ok(Some(info)),
+                None => {
+                    self.pending = Pending::Record(None, info);
+                    Ok(())
+                }
             },
             Ok(None) => {
                 self.pending = Pending::End;
-                Ok(None)
+                Ok(())
             }
             Err(error) => {
                 self.pending = Pending::Failure(error);
-                Ok(None)
+                Ok(())
             }
         }
     }
@@ -301,7 +321,7 @@ impl<R: Source> OrderedRecords<R> {
     // Ends the rounds before the round of the pending record, and releases records early if it exceeds the
     // budget. Returns whether it may be inserted: if not, records are available that are returned before.
     fn admit_pending(&mut self, round: u64, size: u64) -> Result<bool, AllocError>
-        ensures { (key : ℕ) (h : RecordView) → unplaced_of self.old ≡ timed key h → h.round ≡ round
+        ensures { (key : ℕ) (h : RecordView) → unplaced_of self.old ≡ waiting (Some key) h → h.round ≡ round
             → size_of h ≡ size → AdmitsPending R.state self.old h result self.new }
     {
         if self.held.has_more() {
@@ -321,9 +341,9 @@ impl<R: Source> OrderedRecords<R> {
         Ok(!self.held.has_more())
     }
 
-    // Inserts the pending record into the sorter, if it may be inserted.
+    // Inserts the pending timed record into the sorter, if it may be inserted.
     fn place_record(&mut self, key: u64, info: RecordInfo) -> Result<(), AllocError>
-        requires { self.old.pending ≡ Record key info }
+        requires { self.old.pending ≡ Record (Some key) info }
         ensures { PlacesPending R.state self.old result self.new }
     {
         let size = held_size(self.body.len());
@@ -342,13 +362,17 @@ impl<R: Source> OrderedRecords<R> {
         }
     }
 
-    // Puts what is pending into the sorter. At the end of the source, all rounds end.
+    // Puts a pending timed record into the sorter. Before one without a time, the rounds before its own end. At
+    // the end of the source, all rounds end.
     fn place_pending(&mut self) -> Result<(), AllocError>
         ensures { PlacesPending R.state self.old result self.new }
     {
         match self.pending {
             Pending::Nothing => Ok(()),
-            Pending::Record(key, info) => self.place_record(key, info),
+            Pending::Record(key, info) => match key {
+                Some(time) => self.place_record(time, info),
+                None => self.end_rounds(info.place.round),
+            },
             Pending::End => self.held.finish(),
             Pending::Failure(_) => self.held.finish(),
             Pending::Failed => self.held.finish(),
@@ -368,8 +392,7 @@ impl<R: Source> OrderedRecords<R> {
         }
         'reads: loop {
             match self.read(perf_file) {
-                Ok(Some(untimed)) => return Ok(Some((untimed, BodyBuffer::Read))),
-                Ok(None) => {}
+                Ok(()) => {}
                 Err(error) => return Err(Error::from(error)),
             }
             match self.place_pending() {
@@ -378,6 +401,10 @@ impl<R: Source> OrderedRecords<R> {
             }
             match self.take_sorted() {
                 Some(info) => return Ok(Some((info, BodyBuffer::Sorted))),
+                None => {}
+            }
+            match self.take_untimed() {
+                Some(untimed) => return Ok(Some((untimed, BodyBuffer::Read))),
                 None => {}
             }
             match self.take_end() {

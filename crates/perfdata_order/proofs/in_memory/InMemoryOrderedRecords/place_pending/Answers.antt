@@ -1,7 +1,13 @@
-use Rattle.std.proofs.Common.{refl}
+use Rattle.std.proofs.Common.{refl, ap, ◌∙◌}
+use Rattle.perfdata_order.specs.declared.in_memory.Pending.TheVariants.{Record}
 use Rattle.perfdata_order.specs.declared.in_memory.InMemoryOrderedRecords.{InMemoryOrderedRecords}
-use Rattle.perfdata_order.proofs.Steps.{end_placed, failure_placed}
+use Rattle.perfdata_order.proofs.Steps.{end_placed, failure_placed, untimed_placed}
 use Rattle.perfdata_order.proofs.in_memory.InMemoryOrderedRecords.place_pending.Goals as goal
+
+pub returns-in-None : goal.returns-in-None
+returns-in-None c =
+    let was = c.in-Record.is ∙ ap (λ k. Record k c.in-Record.place c.in-Record.record) c.in-None.is in
+    untimed_placed c.args.self.now c.end_rounds.new.self c.end_rounds.result c.in-Record.place c.in-Record.record was c.end_rounds.ensures
 
 pub returns-in-End : goal.returns-in-End
 returns-in-End c =

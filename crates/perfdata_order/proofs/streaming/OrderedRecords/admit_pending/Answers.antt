@@ -1,4 +1,4 @@
-use Rattle.std.proofs.Common.{Ok, refl, sym, subst}
+use Rattle.std.proofs.Common.{Some, Ok, refl, sym, subst}
 use Rattle.perfdata_order.specs.StreamingOrder.{EndsRoundsBefore, ReleasesEarly}
 use Rattle.perfdata_order.proofs.StreamingCalls.{places_none, places_kept, rounds_placed, pending_admitted, available_made}
 use Rattle.perfdata_order.proofs.streaming.OrderedRecords.admit_pending.Goals as goal
@@ -17,7 +17,7 @@ pub returns-in-Err-release_early : goal.returns-in-Err-release_early
 returns-in-Err-release_early g c = λ key h was round size.
     let old = c.args.self.now in
     let ended = c.end_rounds.new.self in
-    let placed = rounds_placed g.R.Source.state old ended key h was (subst (λ n. EndsRoundsBefore old n (Ok tt) ended) (sym round) c.in-Ok.ensures) in
+    let placed = rounds_placed g.R.Source.state old ended (Some key) h was (subst (λ n. EndsRoundsBefore old n (Ok tt) ended) (sym round) c.in-Ok.ensures) in
     places_kept g.R.Source.state old ended c.release_early.new.self placed.places c.in-Err-release_early.ensures
 
 pub returns : goal.returns

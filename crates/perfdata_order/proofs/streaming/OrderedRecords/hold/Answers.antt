@@ -1,7 +1,7 @@
-use Rattle.std.proofs.Common.{◌≡◌, ◌+◌, ◌^◌, ◌<◌, ◌≤◌, length, refl, sym, ap, ◌∙◌, subst, inl}
+use Rattle.std.proofs.Common.{◌≡◌, ◌+◌, ◌^◌, ◌<◌, ◌≤◌, length, Some, refl, sym, ap, ◌∙◌, subst, inl}
 use Rattle.perfdata_order.specs.HeldRecord.{view_with, held_view, held_size}
 use Rattle.perfdata_order.specs.StreamingOrder.{unplaced_by}
-use Rattle.perfdata_order.specs.StreamingOrder.Unplaced.{timed}
+use Rattle.perfdata_order.specs.StreamingOrder.Unplaced.{waiting}
 use Rattle.perfdata_order.proofs.StreamingCalls.{bytes_added}
 use Rattle.perfdata_order.proofs.streaming.OrderedRecords.hold.Goals as goal
 
@@ -17,7 +17,7 @@ returns-in-Ok g c =
     inl (
       done.0,
       record {
-        was_pending = ap (λ h. timed c.args.key h) (sym copied);
+        was_pending = ap (λ h. waiting (Some c.args.key) h) (sym copied);
         in_round = subst (λ h. h.round ≤ old.round) (sym copied) may.in_round;
         none_available = may.none_available;
         fits_budget = inl may.no_budget;

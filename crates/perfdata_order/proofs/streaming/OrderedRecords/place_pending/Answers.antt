@@ -1,8 +1,16 @@
-use Rattle.std.proofs.Common.{refl, ap}
+use Rattle.std.proofs.Common.{refl, ap, ◌∙◌}
+use Rattle.perfdata_order.specs.HeldRecord.{view_with}
 use Rattle.perfdata_order.specs.StreamingOrder.{unplaced_by}
-use Rattle.perfdata_order.specs.StreamingOrder.Unplaced.{ending, failing, failed}
-use Rattle.perfdata_order.proofs.StreamingCalls.{with_held, last_placed}
+use Rattle.perfdata_order.specs.StreamingOrder.Unplaced.{waiting, ending, failing, failed}
+use Rattle.perfdata_order.proofs.StreamingCalls.{with_held, last_placed, untimed_placed}
 use Rattle.perfdata_order.proofs.streaming.OrderedRecords.place_pending.Goals as goal
+
+pub returns-in-None : goal.returns-in-None
+returns-in-None g c =
+    let old = c.args.self.now in
+    let view = view_with c.in-Record.info old.body.items in
+    let was = ap (λ p. unplaced_by p old.body.items) c.in-Record.is ∙ ap (λ k. waiting k view) c.in-None.is in
+    untimed_placed g.R.Source.state old c.end_rounds.new.self c.end_rounds.result view was c.end_rounds.ensures
 
 pub returns-in-End : goal.returns-in-End
 returns-in-End g c =

@@ -1,4 +1,4 @@
-use Rattle.std.proofs.Common.{◌≡◌, ◌+◌, ◌^◌, ◌<◌, length, Ok, refl, sym, ap, ◌∙◌, subst}
+use Rattle.std.proofs.Common.{◌≡◌, ◌+◌, ◌^◌, ◌<◌, length, Some, Ok, refl, sym, ap, ◌∙◌, subst}
 use Rattle.perfdata_order.specs.declared.streaming.Pending.TheVariants.{Nothing}
 use Rattle.perfdata_order.specs.HeldRecord.{view_with, held_view, held_size}
 use Rattle.perfdata_order.specs.StreamingOrder.{unplaced_by, AdmitsPending}
@@ -33,7 +33,7 @@ returns-in-Ok g c =
     let admission = subst (λ b. AdmitsPending state old view (Ok b) made) c.in-Ok-true.field-0-test (c.in-Ok-true.ensures c.args.key view was refl size) in
     let done = c.in-Ok.ensures in
     let copied = done.1.1 ∙ ap (λ b. view_with c.args.info b) c.as_slice.ensures.value in
-    let now = body_read made.pending made.body.items c.args.key view (admission.pending ∙ was) in
+    let now = body_read made.pending made.body.items (Some c.args.key) view (admission.pending ∙ was) in
     let sizes = ap (λ h. held_size h) copied ∙ ap (λ b. length b + 192) now ∙ size in
     record_placed state old made (with_parts made c.insert.new.self Nothing c.saturating_add-self.result) c.args.key c.args.info done.0 was admission
     copied done.1.0 refl refl refl refl refl (subst (λ n. n < 2 ^ 64) (sym sizes) c.held_size-size.type_inv) (bytes_added made.held_bytes c.held_size-size.result (held_size (held_view done.0)) c.saturating_add-self.result sizes c.saturating_add-self.ensures)
