@@ -42,7 +42,8 @@ impl AuxRecord {
     ///
     /// Fails with an `UnexpectedEof` error if they are truncated.
     pub fn parse(endian: Endianness, fields: &mut RawData<'_>) -> Result<AuxRecord>
-        ensures { Decodes (aux (number_in endian)) (λ v. v) (bytes_of fields.old) result (bytes_of fields.new) }
+        ensures { Decodes (aux (number_in endian)) (λ v. v) (bytes_of fields.old) result
+            (bytes_of fields.new) }
     {
         let mut bytes = [0u8; 24];
         fields.read_exact(&mut bytes)?;
@@ -59,7 +60,8 @@ impl ItraceStartRecord {
     ///
     /// Fails with an `UnexpectedEof` error if they are truncated.
     pub fn parse(endian: Endianness, fields: &mut RawData<'_>) -> Result<ItraceStartRecord>
-        ensures { Decodes (itrace_start (number_in endian)) (λ v. v) (bytes_of fields.old) result (bytes_of fields.new) }
+        ensures { Decodes (itrace_start (number_in endian)) (λ v. v) (bytes_of fields.old) result
+            (bytes_of fields.new) }
     {
         let mut bytes = [0u8; 8];
         fields.read_exact(&mut bytes)?;
@@ -75,7 +77,8 @@ impl AuxOutputHwIdRecord {
     ///
     /// Fails with an `UnexpectedEof` error if they are truncated.
     pub fn parse(endian: Endianness, fields: &mut RawData<'_>) -> Result<AuxOutputHwIdRecord>
-        ensures { Decodes (aux_output_hw_id (number_in endian)) (λ v. v) (bytes_of fields.old) result (bytes_of fields.new) }
+        ensures { Decodes (aux_output_hw_id (number_in endian)) (λ v. v) (bytes_of fields.old) result
+            (bytes_of fields.new) }
     {
         let mut bytes = [0u8; 8];
         fields.read_exact(&mut bytes)?;

@@ -18,7 +18,8 @@ pub struct ContextSwitchRecord {
     pub is_out: bool,
     /// Whether the task was preempted.
     pub preempted: bool,
-    /// The next task after a switch out and the previous one before a switch in, in a record of the whole CPU.
+    /// The next task after a switch out and the previous one before a switch in, in a record of the whole
+    /// CPU.
     pub other_task: Option<Task>,
 }
 
@@ -42,7 +43,8 @@ impl ContextSwitchRecord {
         misc: u16,
         fields: &mut RawData<'_>,
     ) -> Result<ContextSwitchRecord>
-        ensures { Decodes (switch_cpu_wide misc (number_in endian)) (λ v. v) (bytes_of fields.old) result (bytes_of fields.new) }
+        ensures { Decodes (switch_cpu_wide misc (number_in endian)) (λ v. v) (bytes_of fields.old) result
+            (bytes_of fields.new) }
     {
         let mut bytes = [0u8; 8];
         fields.read_exact(&mut bytes)?;

@@ -130,8 +130,8 @@ fn copy_of<'a>(raw: &RawEventRecord<'a>) -> RawEventRecord<'a>
     }
 }
 
-// The fields of the types are parsed in three functions that aren't inlined, because all locals of a function are set to zero when it
-// is called.
+// The fields of the types are parsed in three functions that aren't inlined, because all locals of a function
+// are set to zero when it is called.
 impl EventFormat {
     ghost use Rattle.perfdata_events.specs.Event.{DecodesEvent, IsParsed, ParseFails};
     ghost use Rattle.perfdata_events.specs.Event.{has_known_fields, has_known_values, has_unknown_values};
@@ -315,14 +315,17 @@ impl EventFormat {
                 || self.branch_sample_type.0 < BRANCH_FIELDS_END)
     }
 
-    /// Parses the body of a record by its type. Nothing is allocated; what has no fixed size is borrowed from the body.
+    /// Parses the body of a record by its type. Nothing is allocated; what has no fixed size is borrowed from
+    /// the body.
     ///
-    /// A record of a type that isn't parsed remains raw. So does a sample if its attribute selects a field whose offset
-    /// isn't known: bits of the sample format from 25 on, of the read format from 5 on, and of the branch sample type
-    /// from 20 on, the last two only where they apply; and a READ record if bits of the read format from 5 on are set.
+    /// A record of a type that isn't parsed remains raw. So does a sample if its attribute selects a field
+    /// whose offset isn't known: bits of the sample format from 25 on, of the read format from 5 on, and of
+    /// the branch sample type from 20 on, the last two only where they apply; and a READ record if bits of
+    /// the read format from 5 on are set.
     ///
-    /// Fails with an `UnexpectedEof` error if the fields are truncated, and with an `InvalidData` error if a text has no
-    /// NUL before the sample_id fields or a build id has more than 20 bytes. The first error counts.
+    /// Fails with an `UnexpectedEof` error if the fields are truncated, and with an `InvalidData` error if a
+    /// text has no NUL before the sample_id fields or a build id has more than 20 bytes. The first error
+    /// counts.
     pub fn parse<'a>(&self, raw: &RawEventRecord<'a>) -> Result<EventRecord<'a>>
         ensures value { IfOk result (λ event. IsParsed self.now raw.now event) }
         ensures error { IfErr result (λ error. ParseFails self.now raw.now (error_kind error)) }

@@ -93,7 +93,8 @@ impl EventFormat {
         }
     }
 
-    // Splits the body of a record that isn't a sample into its fields with their padding, and its sample_id fields.
+    // Splits the body of a record that isn't a sample into its fields with their padding, and its sample_id
+    // fields.
     pub(crate) fn split_trailing<'a>(&self, body: RawData<'a>) -> Result<(RawData<'a>, RawData<'a>)>
         ensures { SplitsTrailing self.now (bytes_of body.entry) result }
     {

@@ -52,10 +52,11 @@ impl<'a> KsymbolRecord<'a> {
 
     /// Parses the fields at the start of `fields`, and removes them.
     ///
-    /// Fails with an `UnexpectedEof` error if they are truncated, and with an `InvalidData` error if the name has no
-    /// NUL.
+    /// Fails with an `UnexpectedEof` error if they are truncated, and with an `InvalidData` error if the name
+    /// has no NUL.
     pub fn parse(endian: Endianness, fields: &mut RawData<'a>) -> Result<KsymbolRecord<'a>>
-        ensures { Decodes (ksymbol (number_in endian)) symbol_of (bytes_of fields.old) result (bytes_of fields.new) }
+        ensures { Decodes (ksymbol (number_in endian)) symbol_of (bytes_of fields.old) result
+            (bytes_of fields.new) }
     {
         let mut bytes = [0u8; 16];
         fields.read_exact(&mut bytes)?;
@@ -77,7 +78,8 @@ impl<'a> BpfEventRecord<'a> {
     ///
     /// Fails with an `UnexpectedEof` error if they are truncated.
     pub fn parse(endian: Endianness, fields: &mut RawData<'a>) -> Result<BpfEventRecord<'a>>
-        ensures { Decodes (bpf_event (number_in endian)) bpf_event_of (bytes_of fields.old) result (bytes_of fields.new) }
+        ensures { Decodes (bpf_event (number_in endian)) bpf_event_of (bytes_of fields.old) result
+            (bytes_of fields.new) }
     {
         let mut bytes = [0u8; 8];
         fields.read_exact(&mut bytes)?;
@@ -98,7 +100,8 @@ impl<'a> TextPokeRecord<'a> {
     ///
     /// Fails with an `UnexpectedEof` error if they are truncated.
     pub fn parse(endian: Endianness, fields: &mut RawData<'a>) -> Result<TextPokeRecord<'a>>
-        ensures { Decodes (text_poke (number_in endian)) poke_of (bytes_of fields.old) result (bytes_of fields.new) }
+        ensures { Decodes (text_poke (number_in endian)) poke_of (bytes_of fields.old) result
+            (bytes_of fields.new) }
     {
         let mut bytes = [0u8; 12];
         fields.read_exact(&mut bytes)?;

@@ -37,8 +37,8 @@ ghost use Rattle.perfdata_events.specs.declared.format.EventFormat.{EventFormat}
 
 use crate::bits::{BranchFields, EventFlags, MiscFlags, ReadFields, SampleFields};
 
-/// Bytes either start with exactly one value of a record's fields, which are followed by exactly one rest, or have exactly one
-/// first error. `number` parses a number of a given size, in either byte order.
+/// Bytes either start with exactly one value of a record's fields, which are followed by exactly one rest, or
+/// have exactly one first error. `number` parses a number of a given size, in either byte order.
 pub fn fields_have_one_outcome()
     ensures mmap { (number : ℕ → List ℕ → ℕ) (misc : ℕ) → HasOneOutcome (mmap number misc) }
     ensures lost { (number : ℕ → List ℕ → ℕ) → HasOneOutcome (lost number) }
@@ -51,7 +51,8 @@ pub fn fields_have_one_outcome()
     ensures itrace_start { (number : ℕ → List ℕ → ℕ) → HasOneOutcome (itrace_start number) }
     ensures lost_samples { (number : ℕ → List ℕ → ℕ) → HasOneOutcome (lost_samples number) }
     ensures switch { (misc : ℕ) → HasOneOutcome (switch misc) }
-    ensures switch_cpu_wide { (number : ℕ → List ℕ → ℕ) (misc : ℕ) → HasOneOutcome (switch_cpu_wide misc number) }
+    ensures switch_cpu_wide { (number : ℕ → List ℕ → ℕ) (misc : ℕ)
+        → HasOneOutcome (switch_cpu_wide misc number) }
     ensures namespaces { (number : ℕ → List ℕ → ℕ) → HasOneOutcome (namespaces number) }
     ensures ksymbol { (number : ℕ → List ℕ → ℕ) → HasOneOutcome (ksymbol number) }
     ensures bpf_event { (number : ℕ → List ℕ → ℕ) → HasOneOutcome (bpf_event number) }
@@ -59,7 +60,8 @@ pub fn fields_have_one_outcome()
     ensures text_poke { (number : ℕ → List ℕ → ℕ) → HasOneOutcome (text_poke number) }
     ensures aux_output_hw_id { (number : ℕ → List ℕ → ℕ) → HasOneOutcome (aux_output_hw_id number) }
     ensures sample { (number : ℕ → List ℕ → ℕ) (format : EventFormat) → HasOneOutcome (sample number format) }
-    ensures sample_id { (number : ℕ → List ℕ → ℕ) (sample_format : ℕ) → HasOneOutcome (sample_id number sample_format) }
+    ensures sample_id { (number : ℕ → List ℕ → ℕ) (sample_format : ℕ)
+        → HasOneOutcome (sample_id number sample_format) }
 {}
 
 /// The bytes of a record's fields and the bytes after them are all the bytes, in order.
@@ -75,28 +77,41 @@ pub fn fields_are_a_prefix()
     ensures itrace_start { (number : ℕ → List ℕ → ℕ) → ConsumesPrefix (itrace_start number) }
     ensures lost_samples { (number : ℕ → List ℕ → ℕ) → ConsumesPrefix (lost_samples number) }
     ensures switch { (misc : ℕ) → ConsumesPrefix (switch misc) }
-    ensures switch_cpu_wide { (number : ℕ → List ℕ → ℕ) (misc : ℕ) → ConsumesPrefix (switch_cpu_wide misc number) }
+    ensures switch_cpu_wide { (number : ℕ → List ℕ → ℕ) (misc : ℕ)
+        → ConsumesPrefix (switch_cpu_wide misc number) }
     ensures namespaces { (number : ℕ → List ℕ → ℕ) → ConsumesPrefix (namespaces number) }
     ensures ksymbol { (number : ℕ → List ℕ → ℕ) → ConsumesPrefix (ksymbol number) }
     ensures bpf_event { (number : ℕ → List ℕ → ℕ) → ConsumesPrefix (bpf_event number) }
     ensures cgroup { (number : ℕ → List ℕ → ℕ) → ConsumesPrefix (cgroup number) }
     ensures text_poke { (number : ℕ → List ℕ → ℕ) → ConsumesPrefix (text_poke number) }
     ensures aux_output_hw_id { (number : ℕ → List ℕ → ℕ) → ConsumesPrefix (aux_output_hw_id number) }
-    ensures sample { (number : ℕ → List ℕ → ℕ) (format : EventFormat) → ConsumesPrefix (sample number format) }
-    ensures sample_id { (number : ℕ → List ℕ → ℕ) (sample_format : ℕ) → ConsumesPrefix (sample_id number sample_format) }
+    ensures sample { (number : ℕ → List ℕ → ℕ) (format : EventFormat)
+        → ConsumesPrefix (sample number format) }
+    ensures sample_id { (number : ℕ → List ℕ → ℕ) (sample_format : ℕ)
+        → ConsumesPrefix (sample_id number sample_format) }
 {}
 
-/// The time and the identifier that `sample_id` returns are those that the reader finds at their offsets in the record: the
-/// identifier is IDENTIFIER if the attribute selects it, else ID. The type of a kernel record is below 64.
+/// The time and the identifier that `sample_id` returns are those that the reader finds at their offsets in
+/// the record: the identifier is IDENTIFIER if the attribute selects it, else ID. The type of a kernel record
+/// is below 64.
 pub fn sample_id_is_what_the_reader_finds()
-    ensures timestamp { (attr : PerfEventAttr) (order : Endianness) (raw : RawEventRecord) (id : SampleId) → raw.record_type.0 < 64 → IsSampleIdOf (event_format_of attr order) raw id → id.timestamp ≡ time_of (parse_info_of attr order) raw.record_type.0 (bytes_of raw.body) }
-    ensures identifier { (attr : PerfEventAttr) (order : Endianness) (raw : RawEventRecord) (id : SampleId) → raw.record_type.0 < 64 → IsSampleIdOf (event_format_of attr order) raw id → option_or id.identifier id.id ≡ identifier_of order (id_parse_info_of attr) raw.record_type.0 (bytes_of raw.body) }
+    ensures timestamp { (attr : PerfEventAttr) (order : Endianness) (raw : RawEventRecord) (id : SampleId)
+        → raw.record_type.0 < 64 → IsSampleIdOf (event_format_of attr order) raw id → id.timestamp
+        ≡ time_of (parse_info_of attr order) raw.record_type.0 (bytes_of raw.body) }
+    ensures identifier { (attr : PerfEventAttr) (order : Endianness) (raw : RawEventRecord) (id : SampleId)
+        → raw.record_type.0 < 64 → IsSampleIdOf (event_format_of attr order) raw id
+        → option_or id.identifier id.id ≡ identifier_of order (id_parse_info_of attr) raw.record_type.0
+        (bytes_of raw.body) }
 {}
 
-/// The frames of a call chain are its values that change no context, in order, each with the last context before it.
+/// The frames of a call chain are its values that change no context, in order, each with the last context
+/// before it.
 pub fn frames_are_values_in_context()
-    ensures addresses { (context : CallContext) (values : List ℕ) → map (λ (f : Frame). f.address) (frames_of context values) ≡ filter (λ v. not (is_context_change v)) values }
-    ensures contexts { (context : CallContext) (before later : List ℕ) → frames_of context (before ++ later) ≡ frames_of context before ++ frames_of (last_context context before) later }
+    ensures addresses { (context : CallContext) (values : List ℕ)
+        → map (λ (f : Frame). f.address) (frames_of context values)
+        ≡ filter (λ v. not (is_context_change v)) values }
+    ensures contexts { (context : CallContext) (before later : List ℕ) → frames_of context (before ++ later)
+        ≡ frames_of context before ++ frames_of (last_context context before) later }
 {}
 
 /// The bits of the sample format.

@@ -1,7 +1,8 @@
-//! The bodies of kernel records: what the fields of each type hold (`perf_event.h` of Linux), with nothing allocated.
+//! The bodies of kernel records: what the fields of each type hold (`perf_event.h` of Linux), with nothing
+//! allocated.
 //!
-//! [`format::EventFormat`] describes the records of one attribute. Its `parse` parses a record by its type, and its
-//! `sample_id` returns who wrote the record, when and where.
+//! [`format::EventFormat`] describes the records of one attribute. Its `parse` parses a record by its type,
+//! and its `sample_id` returns who wrote the record, when and where.
 #![tactic(auto)]
 
 pub mod aux_area;

@@ -26,7 +26,8 @@ pub struct LostSamplesRecord {
     pub count: u64,
 }
 
-/// An event whose samples the kernel began or ceased to limit (`PERF_RECORD_THROTTLE`, `PERF_RECORD_UNTHROTTLE`).
+/// An event whose samples the kernel began or ceased to limit (`PERF_RECORD_THROTTLE`,
+/// `PERF_RECORD_UNTHROTTLE`).
 #[derive(Clone, Copy, Debug, PartialEq, Eq)]
 pub struct ThrottleRecord {
     /// The time.
@@ -42,7 +43,8 @@ impl LostRecord {
     ///
     /// Fails with an `UnexpectedEof` error if they are truncated.
     pub fn parse(endian: Endianness, fields: &mut RawData<'_>) -> Result<LostRecord>
-        ensures { Decodes (lost (number_in endian)) (λ v. v) (bytes_of fields.old) result (bytes_of fields.new) }
+        ensures { Decodes (lost (number_in endian)) (λ v. v) (bytes_of fields.old) result
+            (bytes_of fields.new) }
     {
         let mut bytes = [0u8; 16];
         fields.read_exact(&mut bytes)?;
@@ -58,7 +60,8 @@ impl LostSamplesRecord {
     ///
     /// Fails with an `UnexpectedEof` error if they are truncated.
     pub fn parse(endian: Endianness, fields: &mut RawData<'_>) -> Result<LostSamplesRecord>
-        ensures { Decodes (lost_samples (number_in endian)) (λ v. v) (bytes_of fields.old) result (bytes_of fields.new) }
+        ensures { Decodes (lost_samples (number_in endian)) (λ v. v) (bytes_of fields.old) result
+            (bytes_of fields.new) }
     {
         let mut bytes = [0u8; 8];
         fields.read_exact(&mut bytes)?;
@@ -73,7 +76,8 @@ impl ThrottleRecord {
     ///
     /// Fails with an `UnexpectedEof` error if they are truncated.
     pub fn parse(endian: Endianness, fields: &mut RawData<'_>) -> Result<ThrottleRecord>
-        ensures { Decodes (throttle (number_in endian)) (λ v. v) (bytes_of fields.old) result (bytes_of fields.new) }
+        ensures { Decodes (throttle (number_in endian)) (λ v. v) (bytes_of fields.old) result
+            (bytes_of fields.new) }
     {
         let mut bytes = [0u8; 24];
         fields.read_exact(&mut bytes)?;

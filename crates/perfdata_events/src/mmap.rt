@@ -34,10 +34,11 @@ impl<'a> MmapRecord<'a> {
 
     /// Parses the fields at the start of `fields`, and removes them. `misc` is that of the record header.
     ///
-    /// Fails with an `UnexpectedEof` error if they are truncated, and with an `InvalidData` error if the path has no
-    /// NUL.
+    /// Fails with an `UnexpectedEof` error if they are truncated, and with an `InvalidData` error if the path
+    /// has no NUL.
     pub fn parse(endian: Endianness, misc: u16, fields: &mut RawData<'a>) -> Result<MmapRecord<'a>>
-        ensures { Decodes (mmap (number_in endian) misc) mapping_of (bytes_of fields.old) result (bytes_of fields.new) }
+        ensures { Decodes (mmap (number_in endian) misc) mapping_of (bytes_of fields.old) result
+            (bytes_of fields.new) }
     {
         let mut bytes = [0u8; 32];
         fields.read_exact(&mut bytes)?;

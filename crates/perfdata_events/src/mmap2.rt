@@ -60,7 +60,8 @@ impl AddressRange {
     ghost use Rattle.perfdata_events.specs.Mmap2.{address_range_of};
 
     fn parse(endian: Endianness, misc: u16, fields: &mut RawData<'_>) -> Result<AddressRange>
-        ensures { Decodes (fixed 32 (mapping_at (number_in endian) misc)) address_range_of (bytes_of fields.old) result (bytes_of fields.new) }
+        ensures { Decodes (fixed 32 (mapping_at (number_in endian) misc)) address_range_of
+            (bytes_of fields.old) result (bytes_of fields.new) }
     {
         let mut bytes = [0u8; 32];
         fields.read_exact(&mut bytes)?;
@@ -79,7 +80,8 @@ impl<'a> ProtectedPath<'a> {
     ghost use Rattle.perfdata_events.specs.Mmap2.{protection_at, protected_path_of};
 
     fn parse(endian: Endianness, fields: &mut RawData<'a>) -> Result<ProtectedPath<'a>>
-        ensures { Decodes (fixed_and_text 8 (protection_at (number_in endian))) protected_path_of (bytes_of fields.old) result (bytes_of fields.new) }
+        ensures { Decodes (fixed_and_text 8 (protection_at (number_in endian))) protected_path_of
+            (bytes_of fields.old) result (bytes_of fields.new) }
     {
         let mut bytes = [0u8; 8];
         fields.read_exact(&mut bytes)?;
@@ -97,10 +99,11 @@ impl<'a> Mmap2Record<'a> {
 
     /// Parses the fields at the start of `fields`, and removes them. `misc` is that of the record header.
     ///
-    /// Fails with an `UnexpectedEof` error if they are truncated, and with an `InvalidData` error if the build id has
-    /// more than 20 bytes or the path has no NUL.
+    /// Fails with an `UnexpectedEof` error if they are truncated, and with an `InvalidData` error if the
+    /// build id has more than 20 bytes or the path has no NUL.
     pub fn parse(endian: Endianness, misc: u16, fields: &mut RawData<'a>) -> Result<Mmap2Record<'a>>
-        ensures { Decodes (mmap2 (number_in endian) misc) mapping2_of (bytes_of fields.old) result (bytes_of fields.new) }
+        ensures { Decodes (mmap2 (number_in endian) misc) mapping2_of (bytes_of fields.old) result
+            (bytes_of fields.new) }
     {
         let range = AddressRange::parse(endian, misc, fields)?;
         let is_build_id = MiscFlags(misc).contains(MiscFlags::MMAP_BUILD_ID);

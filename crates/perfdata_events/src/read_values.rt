@@ -22,7 +22,8 @@ pub struct ReadRecord<'a> {
 impl<'a> ReadRecord<'a> {
     ghost use Rattle.perfdata_events.specs.Read.{read, task_values_of};
 
-    /// Parses the fields at the start of `fields`, and removes them. The read format is that of the attribute.
+    /// Parses the fields at the start of `fields`, and removes them. The read format is that of the
+    /// attribute.
     ///
     /// Fails with an `UnexpectedEof` error if they are truncated.
     pub fn parse(
@@ -30,7 +31,8 @@ impl<'a> ReadRecord<'a> {
         read_format: ReadFields,
         fields: &mut RawData<'a>,
     ) -> Result<ReadRecord<'a>>
-        ensures { Decodes (read (number_in endian) read_format.0) task_values_of (bytes_of fields.old) result (bytes_of fields.new) }
+        ensures { Decodes (read (number_in endian) read_format.0) task_values_of (bytes_of fields.old) result
+            (bytes_of fields.new) }
     {
         let task = read_task(endian, fields)?;
         let values = ReadValues::parse(endian, read_format, fields)?;

@@ -30,8 +30,8 @@ impl EventFormat {
         })
     }
 
-    /// Returns who wrote a kernel record, when and where. A field that the attribute doesn't select is `None`; so are all
-    /// fields of a record that isn't a sample without the flag SAMPLE_ID_ALL.
+    /// Returns who wrote a kernel record, when and where. A field that the attribute doesn't select is
+    /// `None`; so are all fields of a record that isn't a sample without the flag SAMPLE_ID_ALL.
     ///
     /// Fails with an `UnexpectedEof` error if the body doesn't contain all of the fields.
     pub fn sample_id(&self, raw: &RawEventRecord<'_>) -> Result<SampleId>

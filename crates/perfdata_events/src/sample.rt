@@ -53,8 +53,8 @@ pub struct SampleRecord<'a> {
     pub user_registers: Option<Registers<'a>>,
     /// A copy of the start of the program's stack.
     pub user_stack: Option<UserStack<'a>>,
-    /// The weight: the cost of the access, in the unit of the hardware. With [`SampleFields::WEIGHT_STRUCT`] it is three
-    /// numbers, see [`WeightStruct`](crate::sample_words::WeightStruct).
+    /// The weight: the cost of the access, in the unit of the hardware. With [`SampleFields::WEIGHT_STRUCT`]
+    /// it is three numbers, see [`WeightStruct`](crate::sample_words::WeightStruct).
     pub weight: Option<u64>,
     /// Where the data came from, as bits (`union perf_mem_data_src`).
     pub data_source: Option<u64>,
@@ -108,7 +108,8 @@ impl<'a> SampleStart<'a> {
     ghost use Rattle.perfdata_events.specs.Sample.{sample_start, start_of};
 
     fn parse(format: &EventFormat, fields: &mut RawData<'a>) -> Result<SampleStart<'a>>
-        ensures { Decodes (sample_start (number_in format.now.endian) format.now) start_of (bytes_of fields.old) result (bytes_of fields.new) }
+        ensures { Decodes (sample_start (number_in format.now.endian) format.now) start_of
+            (bytes_of fields.old) result (bytes_of fields.new) }
     {
         let endian = format.endian;
         let bits = format.sample_format;
@@ -150,7 +151,8 @@ impl<'a> SampleMiddle<'a> {
     ghost use Rattle.perfdata_events.specs.Sample.{sample_middle, middle_of};
 
     fn parse(format: &EventFormat, fields: &mut RawData<'a>) -> Result<SampleMiddle<'a>>
-        ensures { Decodes (sample_middle (number_in format.now.endian) format.now) middle_of (bytes_of fields.old) result (bytes_of fields.new) }
+        ensures { Decodes (sample_middle (number_in format.now.endian) format.now) middle_of
+            (bytes_of fields.old) result (bytes_of fields.new) }
     {
         let endian = format.endian;
         let bits = format.sample_format;
@@ -229,14 +231,15 @@ impl SampleWords {
     ghost use Rattle.std.specs.Prelude.{IsTrue, not};
     ghost use Rattle.perfdata_events.specs.Sample.{sample, values_of_words};
 
-    /// Parses the words that a format selects at the start of `fields`, and removes them. The format selects no other fields,
-    /// see [`EventFormat::has_only_words`].
+    /// Parses the words that a format selects at the start of `fields`, and removes them. The format selects
+    /// no other fields, see [`EventFormat::has_only_words`].
     ///
     /// Fails with an `UnexpectedEof` error if they are truncated.
     #[inline(always)]
     pub fn parse(format: &EventFormat, fields: &mut RawData<'_>) -> Result<SampleWords>
         requires { IsTrue (not (selects_parts format.now.sample_format.0)) }
-        ensures { Decodes (sample (number_in format.now.endian) format.now) values_of_words (bytes_of fields.old) result (bytes_of fields.new) }
+        ensures { Decodes (sample (number_in format.now.endian) format.now) values_of_words
+            (bytes_of fields.old) result (bytes_of fields.new) }
     {
         let endian = format.endian;
         let bits = format.sample_format;
@@ -258,7 +261,8 @@ impl<'a> SampleRecord<'a> {
     ///
     /// Fails with an `UnexpectedEof` error if they are truncated.
     pub fn parse(format: &EventFormat, fields: &mut RawData<'a>) -> Result<SampleRecord<'a>>
-        ensures { Decodes (sample (number_in format.now.endian) format.now) sample_of (bytes_of fields.old) result (bytes_of fields.new) }
+        ensures { Decodes (sample (number_in format.now.endian) format.now) sample_of
+            (bytes_of fields.old) result (bytes_of fields.new) }
     {
         let start = SampleStart::parse(format, fields)?;
         let middle = SampleMiddle::parse(format, fields)?;

@@ -37,7 +37,8 @@ impl SampleId {
         format: SampleFields,
         fields: &mut RawData<'_>,
     ) -> Result<SampleId>
-        ensures { Decodes (sample_id (number_in endian) format.0) (λ v. v) (bytes_of fields.old) result (bytes_of fields.new) }
+        ensures { Decodes (sample_id (number_in endian) format.0) (λ v. v) (bytes_of fields.old) result
+            (bytes_of fields.new) }
     {
         let task = read_task_if(endian, fields, format.contains(SampleFields::TID))?;
         let timestamp = read_u64_if(endian, fields, format.contains(SampleFields::TIME))?;

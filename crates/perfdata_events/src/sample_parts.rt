@@ -52,7 +52,8 @@ fn read_u64_list_if<'a>(
     present: bool,
     count: u64,
 ) -> Result<Option<RawDataU64<'a>>>
-    ensures { Decodes (optional present (u64s (number_in endian) count)) (option_map u64s_in) (bytes_of fields.old) result (bytes_of fields.new) }
+    ensures { Decodes (optional present (u64s (number_in endian) count)) (option_map u64s_in)
+        (bytes_of fields.old) result (bytes_of fields.new) }
 {
     if !present {
         return Ok(None);
@@ -71,7 +72,8 @@ impl<'a> BranchStack<'a> {
         self.entries.len() / 3
     }
 
-    /// Returns the branch at an index, the latest first, or `None` if there are no more branches than `index`.
+    /// Returns the branch at an index, the latest first, or `None` if there are no more branches than
+    /// `index`.
     pub fn get(&self, index: usize) -> Option<BranchEntry>
         ensures none { IfNone result (branch_count self.now ≤ index) }
         ensures within { IfSome result (λ _. index < branch_count self.now) }
@@ -94,7 +96,8 @@ impl<'a> BranchStack<'a> {
         branch_sample_type: BranchFields,
         fields: &mut RawData<'a>,
     ) -> Result<BranchStack<'a>>
-        ensures { Decodes (branch_stack (number_in endian) branch_sample_type.0) branches_of (bytes_of fields.old) result (bytes_of fields.new) }
+        ensures { Decodes (branch_stack (number_in endian) branch_sample_type.0) branches_of
+            (bytes_of fields.old) result (bytes_of fields.new) }
     {
         let count = read_u64(endian, fields)?;
         let hw_index = read_u64_if(
@@ -119,7 +122,8 @@ impl<'a> BranchStack<'a> {
         branch_sample_type: BranchFields,
         fields: &mut RawData<'a>,
     ) -> Result<Option<BranchStack<'a>>>
-        ensures { Decodes (optional present (branch_stack (number_in endian) branch_sample_type.0)) (option_map branches_of) (bytes_of fields.old) result (bytes_of fields.new) }
+        ensures { Decodes (optional present (branch_stack (number_in endian) branch_sample_type.0))
+            (option_map branches_of) (bytes_of fields.old) result (bytes_of fields.new) }
     {
         if !present {
             return Ok(None);
@@ -139,7 +143,8 @@ impl<'a> UserStack<'a> {
 
     // Removes a copy of a stack.
     pub(crate) fn parse(endian: Endianness, fields: &mut RawData<'a>) -> Result<UserStack<'a>>
-        ensures { Decodes (user_stack (number_in endian)) stack_of (bytes_of fields.old) result (bytes_of fields.new) }
+        ensures { Decodes (user_stack (number_in endian)) stack_of (bytes_of fields.old) result
+            (bytes_of fields.new) }
     {
         let size = read_u64(endian, fields)?;
         let bytes = read_block(fields, size as usize)?;
@@ -156,7 +161,8 @@ impl<'a> UserStack<'a> {
         present: bool,
         fields: &mut RawData<'a>,
     ) -> Result<Option<UserStack<'a>>>
-        ensures { Decodes (optional present (user_stack (number_in endian))) (option_map stack_of) (bytes_of fields.old) result (bytes_of fields.new) }
+        ensures { Decodes (optional present (user_stack (number_in endian))) (option_map stack_of)
+            (bytes_of fields.old) result (bytes_of fields.new) }
     {
         if !present {
             return Ok(None);
@@ -169,7 +175,8 @@ ghost use Rattle.perfdata_events.specs.Sample.{raw_data};
 
 // Removes raw data, whose size is four bytes before it.
 pub(crate) fn read_raw_data<'a>(endian: Endianness, fields: &mut RawData<'a>) -> Result<RawData<'a>>
-    ensures { Decodes (raw_data (number_in endian)) bytes_of (bytes_of fields.old) result (bytes_of fields.new) }
+    ensures { Decodes (raw_data (number_in endian)) bytes_of (bytes_of fields.old) result
+        (bytes_of fields.new) }
 {
     let size = read_u32(endian, fields)?;
     read_block(fields, size as usize)
@@ -181,7 +188,8 @@ pub(crate) fn read_raw_data_if<'a>(
     present: bool,
     fields: &mut RawData<'a>,
 ) -> Result<Option<RawData<'a>>>
-    ensures { Decodes (optional present (raw_data (number_in endian))) (option_map bytes_of) (bytes_of fields.old) result (bytes_of fields.new) }
+    ensures { Decodes (optional present (raw_data (number_in endian))) (option_map bytes_of)
+        (bytes_of fields.old) result (bytes_of fields.new) }
 {
     if !present {
         return Ok(None);

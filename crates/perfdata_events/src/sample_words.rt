@@ -47,7 +47,8 @@ impl OriginWords {
         format: SampleFields,
         fields: &mut RawData<'_>,
     ) -> Result<OriginWords>
-        ensures { Decodes (origin_words (number_in endian) format.0) (λ v. v) (bytes_of fields.old) result (bytes_of fields.new) }
+        ensures { Decodes (origin_words (number_in endian) format.0) (λ v. v) (bytes_of fields.old) result
+            (bytes_of fields.new) }
     {
         let identifier = read_u64_if(endian, fields, format.contains(SampleFields::IDENTIFIER))?;
         let ip = read_u64_if(endian, fields, format.contains(SampleFields::IP))?;
@@ -72,7 +73,8 @@ impl EventWords {
         format: SampleFields,
         fields: &mut RawData<'_>,
     ) -> Result<EventWords>
-        ensures { Decodes (event_words (number_in endian) format.0) (λ v. v) (bytes_of fields.old) result (bytes_of fields.new) }
+        ensures { Decodes (event_words (number_in endian) format.0) (λ v. v) (bytes_of fields.old) result
+            (bytes_of fields.new) }
     {
         let address = read_u64_if(endian, fields, format.contains(SampleFields::ADDR))?;
         let id = read_u64_if(endian, fields, format.contains(SampleFields::ID))?;

@@ -74,7 +74,8 @@ impl ForkOrExitRecord {
     ///
     /// Fails with an `UnexpectedEof` error if they are truncated.
     pub fn parse(endian: Endianness, fields: &mut RawData<'_>) -> Result<ForkOrExitRecord>
-        ensures { Decodes (fork_or_exit (number_in endian)) (λ v. v) (bytes_of fields.old) result (bytes_of fields.new) }
+        ensures { Decodes (fork_or_exit (number_in endian)) (λ v. v) (bytes_of fields.old) result
+            (bytes_of fields.new) }
     {
         let mut bytes = [0u8; 24];
         fields.read_exact(&mut bytes)?;
@@ -93,14 +94,15 @@ impl<'a> CommOrExecRecord<'a> {
 
     /// Parses the fields at the start of `fields`, and removes them. `misc` is that of the record header.
     ///
-    /// Fails with an `UnexpectedEof` error if they are truncated, and with an `InvalidData` error if the name has no
-    /// NUL.
+    /// Fails with an `UnexpectedEof` error if they are truncated, and with an `InvalidData` error if the name
+    /// has no NUL.
     pub fn parse(
         endian: Endianness,
         misc: u16,
         fields: &mut RawData<'a>,
     ) -> Result<CommOrExecRecord<'a>>
-        ensures { Decodes (comm (number_in endian) misc) named_task_of (bytes_of fields.old) result (bytes_of fields.new) }
+        ensures { Decodes (comm (number_in endian) misc) named_task_of (bytes_of fields.old) result
+            (bytes_of fields.new) }
     {
         let mut bytes = [0u8; 8];
         fields.read_exact(&mut bytes)?;
@@ -119,10 +121,11 @@ impl<'a> CgroupRecord<'a> {
 
     /// Parses the fields at the start of `fields`, and removes them.
     ///
-    /// Fails with an `UnexpectedEof` error if they are truncated, and with an `InvalidData` error if the path has no
-    /// NUL.
+    /// Fails with an `UnexpectedEof` error if they are truncated, and with an `InvalidData` error if the path
+    /// has no NUL.
     pub fn parse(endian: Endianness, fields: &mut RawData<'a>) -> Result<CgroupRecord<'a>>
-        ensures { Decodes (cgroup (number_in endian)) cgroup_of (bytes_of fields.old) result (bytes_of fields.new) }
+        ensures { Decodes (cgroup (number_in endian)) cgroup_of (bytes_of fields.old) result
+            (bytes_of fields.new) }
     {
         let mut bytes = [0u8; 8];
         fields.read_exact(&mut bytes)?;
@@ -165,7 +168,8 @@ impl<'a> NamespacesRecord<'a> {
     ///
     /// Fails with an `UnexpectedEof` error if they are truncated.
     pub fn parse(endian: Endianness, fields: &mut RawData<'a>) -> Result<NamespacesRecord<'a>>
-        ensures { Decodes (namespaces (number_in endian)) namespaces_of (bytes_of fields.old) result (bytes_of fields.new) }
+        ensures { Decodes (namespaces (number_in endian)) namespaces_of (bytes_of fields.old) result
+            (bytes_of fields.new) }
     {
         let mut bytes = [0u8; 16];
         fields.read_exact(&mut bytes)?;

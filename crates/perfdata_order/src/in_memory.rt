@@ -128,8 +128,8 @@ impl<'a> InMemoryOrderedRecords<'a> {
         }
     }
 
-    // Puts a pending timed record into the sorter. Before one without a time, the rounds before its own end. At
-    // the end of the input, all rounds end.
+    // Puts a pending timed record into the sorter. Before one without a time, the rounds before its own end.
+    // At the end of the input, all rounds end.
     fn place_pending(&mut self) -> Result<(), AllocError>
         ensures { PlacesPending self.old result self.new }
     {

@@ -11,8 +11,8 @@ use linux_perf_data::{Error, PerfFile, PerfFileRecord, PerfRecordIter, RecordPla
 use std::alloc::{AllocError, Global};
 use std::mem::replace;
 
-// What was read from the source, and isn't in the sorter. A record has the time that it is sorted by, if it is
-// timed. Its body is in `OrderedRecords::body`.
+// What was read from the source, and isn't in the sorter. A record has the time that it is sorted by, if it
+// is timed. Its body is in `OrderedRecords::body`.
 #[derive(Drop)]
 pub(crate) enum Pending {
     Nothing,
@@ -362,8 +362,8 @@ impl<R: Source> OrderedRecords<R> {
         }
     }
 
-    // Puts a pending timed record into the sorter. Before one without a time, the rounds before its own end. At
-    // the end of the source, all rounds end.
+    // Puts a pending timed record into the sorter. Before one without a time, the rounds before its own end.
+    // At the end of the source, all rounds end.
     fn place_pending(&mut self) -> Result<(), AllocError>
         ensures { PlacesPending R.state self.old result self.new }
     {

@@ -68,7 +68,8 @@ pub struct CallChain<'a> {
     pub values: RawDataU64<'a>,
 }
 
-/// An iterator over the frames of a call chain, in order. Contracts describe the rest with `remaining_frames`.
+/// An iterator over the frames of a call chain, in order. Contracts describe the rest with
+/// `remaining_frames`.
 #[derive(Drop)]
 pub struct CallChainIter<'a> {
     context: CallContext,
@@ -109,7 +110,8 @@ fn split_first_frame(
     values: RawDataU64<'_>,
 ) -> Option<(Frame, RawDataU64<'_>)>
     ensures none { IfNone result (frames_of context (u64s_in values.entry) ≡ []) }
-    ensures some { IfSome result (λ parts. frames_of context (u64s_in values.entry) ≡ parts.0 ∷ frames_of parts.0.context (u64s_in parts.1)) }
+    ensures some { IfSome result (λ parts. frames_of context (u64s_in values.entry) ≡ parts.0
+        ∷ frames_of parts.0.context (u64s_in parts.1)) }
 {
     let mut current = context;
     let mut rest = values;
@@ -146,7 +148,8 @@ impl<'a> CallChain<'a> {
     ///
     /// Fails with an `UnexpectedEof` error if it is truncated.
     pub fn parse(endian: Endianness, fields: &mut RawData<'a>) -> Result<CallChain<'a>>
-        ensures { Decodes (chain (number_in endian)) chain_values_of (bytes_of fields.old) result (bytes_of fields.new) }
+        ensures { Decodes (chain (number_in endian)) chain_values_of (bytes_of fields.old) result
+            (bytes_of fields.new) }
     {
         let count = read_u64(endian, fields)?;
         let values = read_u64_list(endian, fields, count)?;
@@ -159,7 +162,8 @@ impl<'a> CallChain<'a> {
         present: bool,
         fields: &mut RawData<'a>,
     ) -> Result<Option<CallChain<'a>>>
-        ensures { Decodes (optional present (chain (number_in endian))) (option_map chain_values_of) (bytes_of fields.old) result (bytes_of fields.new) }
+        ensures { Decodes (optional present (chain (number_in endian))) (option_map chain_values_of)
+            (bytes_of fields.old) result (bytes_of fields.new) }
     {
         if !present {
             return Ok(None);

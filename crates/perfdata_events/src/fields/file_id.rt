@@ -53,16 +53,18 @@ fn read_build_id(bytes: RawData<'_>) -> Result<RawData<'_>>
 impl<'a> Mmap2FileId<'a> {
     ghost use Rattle.perfdata_events.specs.FileId.{file_id, file_id_of};
 
-    /// Parses a file id of 24 bytes at the start of `fields`, and removes it: a build id, or a device and an inode.
+    /// Parses a file id of 24 bytes at the start of `fields`, and removes it: a build id, or a device and an
+    /// inode.
     ///
-    /// Fails with an `UnexpectedEof` error if it is truncated, and with an `InvalidData` error if the build id has more than 20
-    /// bytes.
+    /// Fails with an `UnexpectedEof` error if it is truncated, and with an `InvalidData` error if the build
+    /// id has more than 20 bytes.
     pub fn parse(
         endian: Endianness,
         is_build_id: bool,
         fields: &mut RawData<'a>,
     ) -> Result<Mmap2FileId<'a>>
-        ensures { Decodes (file_id (number_in endian) is_build_id) file_id_of (bytes_of fields.old) result (bytes_of fields.new) }
+        ensures { Decodes (file_id (number_in endian) is_build_id) file_id_of (bytes_of fields.old) result
+            (bytes_of fields.new) }
     {
         if is_build_id {
             let id = fields.split_off_prefix(24)?;

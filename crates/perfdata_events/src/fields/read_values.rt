@@ -38,7 +38,8 @@ pub struct GroupValues<'a> {
     pub has_id: bool,
     /// Whether each counter has the number of its lost samples.
     pub has_lost: bool,
-    /// The numbers of each counter: its value, its identifier and its number of lost samples, as far as they are there.
+    /// The numbers of each counter: its value, its identifier and its number of lost samples, as far as they
+    /// are there.
     pub numbers: RawDataU64<'a>,
 }
 
@@ -62,7 +63,8 @@ pub enum ReadValues<'a> {
     Group(GroupValues<'a>),
 }
 
-/// What a read format selects besides the value of a counter. A field is `None` if the read format doesn't select it.
+/// What a read format selects besides the value of a counter. A field is `None` if the read format doesn't
+/// select it.
 #[derive(Clone, Copy)]
 pub struct Details {
     /// The time that the event was enabled, in nanoseconds.
@@ -88,7 +90,8 @@ impl Details {
     ghost use Rattle.perfdata_events.specs.ReadValues.{details};
 
     fn parse(endian: Endianness, format: ReadFields, fields: &mut RawData<'_>) -> Result<Details>
-        ensures { Decodes (details (number_in endian) format.0) (λ v. v) (bytes_of fields.old) result (bytes_of fields.new) }
+        ensures { Decodes (details (number_in endian) format.0) (λ v. v) (bytes_of fields.old) result
+            (bytes_of fields.new) }
     {
         let time_enabled = read_u64_if(
             endian,
@@ -115,7 +118,8 @@ impl Times {
     ghost use Rattle.perfdata_events.specs.ReadValues.{times};
 
     fn parse(endian: Endianness, format: ReadFields, fields: &mut RawData<'_>) -> Result<Times>
-        ensures { Decodes (times (number_in endian) format.0) (λ v. v) (bytes_of fields.old) result (bytes_of fields.new) }
+        ensures { Decodes (times (number_in endian) format.0) (λ v. v) (bytes_of fields.old) result
+            (bytes_of fields.new) }
     {
         let time_enabled = read_u64_if(
             endian,
@@ -143,7 +147,8 @@ impl SingleValues {
         format: ReadFields,
         fields: &mut RawData<'_>,
     ) -> Result<SingleValues>
-        ensures { Decodes (single_values (number_in endian) format.0) single_of (bytes_of fields.old) result (bytes_of fields.new) }
+        ensures { Decodes (single_values (number_in endian) format.0) single_of (bytes_of fields.old) result
+            (bytes_of fields.new) }
     {
         let value = read_u64(endian, fields)?;
         let details = Details::parse(endian, format, fields)?;
@@ -226,7 +231,8 @@ impl<'a> GroupValues<'a> {
         format: ReadFields,
         fields: &mut RawData<'a>,
     ) -> Result<GroupValues<'a>>
-        ensures { Decodes (group_values (number_in endian) format.0) group_of (bytes_of fields.old) result (bytes_of fields.new) }
+        ensures { Decodes (group_values (number_in endian) format.0) group_of (bytes_of fields.old) result
+            (bytes_of fields.new) }
     {
         let count = read_u64(endian, fields)?;
         let times = Times::parse(endian, format, fields)?;
@@ -252,7 +258,8 @@ impl<'a> ReadValues<'a> {
         read_format: ReadFields,
         fields: &mut RawData<'a>,
     ) -> Result<ReadValues<'a>>
-        ensures { Decodes (read_values (number_in endian) read_format.0) values_of (bytes_of fields.old) result (bytes_of fields.new) }
+        ensures { Decodes (read_values (number_in endian) read_format.0) values_of
+            (bytes_of fields.old) result (bytes_of fields.new) }
     {
         if read_format.contains(ReadFields::GROUP) {
             let group = GroupValues::parse(endian, read_format, fields)?;
@@ -270,7 +277,8 @@ impl<'a> ReadValues<'a> {
         read_format: ReadFields,
         fields: &mut RawData<'a>,
     ) -> Result<Option<ReadValues<'a>>>
-        ensures { Decodes (optional present (read_values (number_in endian) read_format.0)) (option_map values_of) (bytes_of fields.old) result (bytes_of fields.new) }
+        ensures { Decodes (optional present (read_values (number_in endian) read_format.0))
+            (option_map values_of) (bytes_of fields.old) result (bytes_of fields.new) }
     {
         if !present {
             return Ok(None);

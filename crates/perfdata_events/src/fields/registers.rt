@@ -48,7 +48,8 @@ impl<'a> Registers<'a> {
 
     // Removes the registers of a mask.
     fn parse(endian: Endianness, mask: u64, fields: &mut RawData<'a>) -> Result<Registers<'a>>
-        ensures { Decodes (registers (number_in endian) mask) registers_of (bytes_of fields.old) result (bytes_of fields.new) }
+        ensures { Decodes (registers (number_in endian) mask) registers_of (bytes_of fields.old) result
+            (bytes_of fields.new) }
     {
         let abi = read_u64(endian, fields)?;
         let count = Registers::count(abi, mask);
@@ -56,7 +57,8 @@ impl<'a> Registers<'a> {
         Ok(Registers { abi, values })
     }
 
-    /// Parses the registers of the program at the start of `fields` if the sample format selects them, and removes them.
+    /// Parses the registers of the program at the start of `fields` if the sample format selects them, and
+    /// removes them.
     ///
     /// Fails with an `UnexpectedEof` error if they are truncated.
     #[inline(always)]
@@ -66,7 +68,9 @@ impl<'a> Registers<'a> {
         masks: RegisterMasks,
         fields: &mut RawData<'a>,
     ) -> Result<Option<Registers<'a>>>
-        ensures { Decodes (optional (is_set sample_format.0 REGS_USER) (registers (number_in endian) masks.user)) (option_map registers_of) (bytes_of fields.old) result (bytes_of fields.new) }
+        ensures { Decodes (optional (is_set sample_format.0 REGS_USER)
+            (registers (number_in endian) masks.user)) (option_map registers_of) (bytes_of fields.old) result
+            (bytes_of fields.new) }
     {
         if !sample_format.contains(SampleFields::REGS_USER) {
             return Ok(None);
@@ -74,7 +78,8 @@ impl<'a> Registers<'a> {
         Registers::parse(endian, masks.user, fields).map(Some)
     }
 
-    /// Parses the registers at the interrupt at the start of `fields` if the sample format selects them, and removes them.
+    /// Parses the registers at the interrupt at the start of `fields` if the sample format selects them, and
+    /// removes them.
     ///
     /// Fails with an `UnexpectedEof` error if they are truncated.
     #[inline(always)]
@@ -84,7 +89,9 @@ impl<'a> Registers<'a> {
         masks: RegisterMasks,
         fields: &mut RawData<'a>,
     ) -> Result<Option<Registers<'a>>>
-        ensures { Decodes (optional (is_set sample_format.0 REGS_INTR) (registers (number_in endian) masks.interrupt)) (option_map registers_of) (bytes_of fields.old) result (bytes_of fields.new) }
+        ensures { Decodes (optional (is_set sample_format.0 REGS_INTR)
+            (registers (number_in endian) masks.interrupt)) (option_map registers_of)
+            (bytes_of fields.old) result (bytes_of fields.new) }
     {
         if !sample_format.contains(SampleFields::REGS_INTR) {
             return Ok(None);

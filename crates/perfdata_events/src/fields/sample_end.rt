@@ -16,8 +16,8 @@ use bitflags::Flags;
 use perfdata_base::raw::{Endianness, RawData};
 use std::io::Result;
 
-/// A weight in three numbers (`PERF_SAMPLE_WEIGHT_STRUCT`), by their names in `union perf_sample_weight`. What they count
-/// depends on the processor.
+/// A weight in three numbers (`PERF_SAMPLE_WEIGHT_STRUCT`), by their names in `union perf_sample_weight`.
+/// What they count depends on the processor.
 #[derive(Clone, Copy, Debug, PartialEq, Eq)]
 pub struct WeightStruct {
     /// The low 32 bits.
@@ -53,8 +53,8 @@ pub struct PageWords {
 /// The fields of a sample from its weight on. A field is `None` if the attribute doesn't select it.
 #[derive(Clone, Copy)]
 pub struct SampleEnd<'a> {
-    /// The weight: the cost of the access, in the unit of the hardware. With [`SampleFields::WEIGHT_STRUCT`] it is three
-    /// numbers, see [`WeightStruct`].
+    /// The weight: the cost of the access, in the unit of the hardware. With [`SampleFields::WEIGHT_STRUCT`]
+    /// it is three numbers, see [`WeightStruct`].
     pub weight: Option<u64>,
     /// The words on its data.
     pub data: DataWords,
@@ -91,7 +91,8 @@ impl DataWords {
         format: SampleFields,
         fields: &mut RawData<'_>,
     ) -> Result<DataWords>
-        ensures { Decodes (data_words (number_in endian) format.0) (λ v. v) (bytes_of fields.old) result (bytes_of fields.new) }
+        ensures { Decodes (data_words (number_in endian) format.0) (λ v. v) (bytes_of fields.old) result
+            (bytes_of fields.new) }
     {
         let data_source = read_u64_if(endian, fields, format.contains(SampleFields::DATA_SRC))?;
         let transaction = read_u64_if(endian, fields, format.contains(SampleFields::TRANSACTION))?;
@@ -112,7 +113,8 @@ impl PageWords {
         format: SampleFields,
         fields: &mut RawData<'_>,
     ) -> Result<PageWords>
-        ensures { Decodes (page_words (number_in endian) format.0) (λ v. v) (bytes_of fields.old) result (bytes_of fields.new) }
+        ensures { Decodes (page_words (number_in endian) format.0) (λ v. v) (bytes_of fields.old) result
+            (bytes_of fields.new) }
     {
         let physical_address = read_u64_if(
             endian,
@@ -148,7 +150,8 @@ pub fn has_weight(bits: SampleFields) -> bool
 
 // Removes aux data, whose size is eight bytes before it.
 fn read_aux_data<'a>(endian: Endianness, fields: &mut RawData<'a>) -> Result<RawData<'a>>
-    ensures { Decodes (aux_data (number_in endian)) bytes_of (bytes_of fields.old) result (bytes_of fields.new) }
+    ensures { Decodes (aux_data (number_in endian)) bytes_of (bytes_of fields.old) result
+        (bytes_of fields.new) }
 {
     let size = read_u64(endian, fields)?;
     read_block(fields, size as usize)
@@ -161,7 +164,8 @@ fn read_aux_data_if<'a>(
     present: bool,
     fields: &mut RawData<'a>,
 ) -> Result<Option<RawData<'a>>>
-    ensures { Decodes (optional present (aux_data (number_in endian))) (option_map bytes_of) (bytes_of fields.old) result (bytes_of fields.new) }
+    ensures { Decodes (optional present (aux_data (number_in endian))) (option_map bytes_of)
+        (bytes_of fields.old) result (bytes_of fields.new) }
 {
     if !present {
         return Ok(None);
@@ -172,8 +176,9 @@ fn read_aux_data_if<'a>(
 impl<'a> SampleEnd<'a> {
     ghost use Rattle.perfdata_events.specs.SampleEnd.{sample_end, end_of};
 
-    /// Parses the fields that a sample format selects at the start of `fields`, and removes them. Aux data is the last one,
-    /// as the kernel writes it; a comment in `perf_event.h` puts it before the sizes of the pages.
+    /// Parses the fields that a sample format selects at the start of `fields`, and removes them. Aux data is
+    /// the last one, as the kernel writes it; a comment in `perf_event.h` puts it before the sizes of the
+    /// pages.
     ///
     /// Fails with an `UnexpectedEof` error if they are truncated.
     pub fn parse(
@@ -182,7 +187,8 @@ impl<'a> SampleEnd<'a> {
         masks: RegisterMasks,
         fields: &mut RawData<'a>,
     ) -> Result<SampleEnd<'a>>
-        ensures { Decodes (sample_end (number_in endian) sample_format.0 masks) end_of (bytes_of fields.old) result (bytes_of fields.new) }
+        ensures { Decodes (sample_end (number_in endian) sample_format.0 masks) end_of
+            (bytes_of fields.old) result (bytes_of fields.new) }
     {
         let weight = read_u64_if(endian, fields, has_weight(sample_format))?;
         let data = DataWords::parse(endian, sample_format, fields)?;

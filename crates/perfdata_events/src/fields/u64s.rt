@@ -114,7 +114,8 @@ pub fn read_u64s<'a>(
     width: u64,
 ) -> Result<RawDataU64<'a>>
     requires { width < 1024 }
-    ensures { Decodes (u64s (number_in endian) (width * count)) u64s_in (bytes_of fields.old) result (bytes_of fields.new) }
+    ensures { Decodes (u64s (number_in endian) (width * count)) u64s_in (bytes_of fields.old) result
+        (bytes_of fields.new) }
 {
     let bytes = split_off_elements(fields, count, 8 * width)?;
     Ok(RawDataU64 { endian, bytes })
@@ -128,7 +129,8 @@ pub fn read_u64_list<'a>(
     fields: &mut RawData<'a>,
     count: u64,
 ) -> Result<RawDataU64<'a>>
-    ensures { Decodes (u64s (number_in endian) count) u64s_in (bytes_of fields.old) result (bytes_of fields.new) }
+    ensures { Decodes (u64s (number_in endian) count) u64s_in (bytes_of fields.old) result
+        (bytes_of fields.new) }
 {
     read_u64s(endian, fields, count, 1)
 }
@@ -146,7 +148,8 @@ pub fn read_block<'a>(fields: &mut RawData<'a>, len: usize) -> Result<RawData<'a
 pub(crate) fn split_first_u64(values: RawDataU64<'_>) -> Option<(u64, RawDataU64<'_>)>
     ensures none { IfNone result (u64s_in values.entry ≡ []) }
     ensures some { IfSome result (λ parts. u64s_in values.entry ≡ parts.0 ∷ u64s_in parts.1) }
-    ensures shorter { IfSome result (λ parts. length (bytes_of parts.1.bytes) < length (bytes_of values.entry.bytes)) }
+    ensures shorter { IfSome result (λ parts. length (bytes_of parts.1.bytes)
+        < length (bytes_of values.entry.bytes)) }
 {
     let mut rest = values.bytes;
     let Ok(value) = read_u64(values.endian, &mut rest) else {

@@ -20,7 +20,8 @@ pub fn read_u64_if(
     fields: &mut RawData<'_>,
     present: bool,
 ) -> Result<Option<u64>>
-    ensures { Decodes (word present (u64_at (number_in endian) 0)) (λ v. v) (bytes_of fields.old) result (bytes_of fields.new) }
+    ensures { Decodes (word present (u64_at (number_in endian) 0)) (λ v. v) (bytes_of fields.old) result
+        (bytes_of fields.new) }
 {
     if !present {
         return Ok(None);
@@ -39,7 +40,8 @@ pub fn read_u32_if(
     fields: &mut RawData<'_>,
     present: bool,
 ) -> Result<Option<u32>>
-    ensures { Decodes (word present (u32_at (number_in endian) 0)) (λ v. v) (bytes_of fields.old) result (bytes_of fields.new) }
+    ensures { Decodes (word present (u32_at (number_in endian) 0)) (λ v. v) (bytes_of fields.old) result
+        (bytes_of fields.new) }
 {
     if !present {
         return Ok(None);
@@ -58,7 +60,8 @@ pub fn read_task_if(
     fields: &mut RawData<'_>,
     present: bool,
 ) -> Result<Option<Task>>
-    ensures { Decodes (word present (task_at (number_in endian))) (λ v. v) (bytes_of fields.old) result (bytes_of fields.new) }
+    ensures { Decodes (word present (task_at (number_in endian))) (λ v. v) (bytes_of fields.old) result
+        (bytes_of fields.new) }
 {
     if !present {
         return Ok(None);
@@ -75,7 +78,8 @@ pub fn read_task_if(
 ///
 /// Fails with an `UnexpectedEof` error if it is truncated.
 pub fn read_u64(endian: Endianness, fields: &mut RawData<'_>) -> Result<u64>
-    ensures { Decodes (fixed 8 (u64_at (number_in endian) 0)) (λ v. v) (bytes_of fields.old) result (bytes_of fields.new) }
+    ensures { Decodes (fixed 8 (u64_at (number_in endian) 0)) (λ v. v) (bytes_of fields.old) result
+        (bytes_of fields.new) }
 {
     let mut bytes = [0u8; 8];
     fields.read_exact(&mut bytes)?;
@@ -86,7 +90,8 @@ pub fn read_u64(endian: Endianness, fields: &mut RawData<'_>) -> Result<u64>
 ///
 /// Fails with an `UnexpectedEof` error if it is truncated.
 pub fn read_u32(endian: Endianness, fields: &mut RawData<'_>) -> Result<u32>
-    ensures { Decodes (fixed 4 (u32_at (number_in endian) 0)) (λ v. v) (bytes_of fields.old) result (bytes_of fields.new) }
+    ensures { Decodes (fixed 4 (u32_at (number_in endian) 0)) (λ v. v) (bytes_of fields.old) result
+        (bytes_of fields.new) }
 {
     let mut bytes = [0u8; 4];
     fields.read_exact(&mut bytes)?;
@@ -97,7 +102,8 @@ pub fn read_u32(endian: Endianness, fields: &mut RawData<'_>) -> Result<u32>
 ///
 /// Fails with an `UnexpectedEof` error if they are truncated.
 pub fn read_task(endian: Endianness, fields: &mut RawData<'_>) -> Result<Task>
-    ensures { Decodes (fixed 8 (task_at (number_in endian))) (λ v. v) (bytes_of fields.old) result (bytes_of fields.new) }
+    ensures { Decodes (fixed 8 (task_at (number_in endian))) (λ v. v) (bytes_of fields.old) result
+        (bytes_of fields.new) }
 {
     let mut bytes = [0u8; 8];
     fields.read_exact(&mut bytes)?;
