@@ -13,7 +13,7 @@ mod sink;
 mod slices;
 mod sources;
 
-use conformance_cases::{Call, CaseResult, Calls, push_line, run};
+use conformance_cases::{Call, Calls, CaseResult, push_line, run};
 use listing::{Listing, push_listing};
 use reading::{Format, push_reading};
 use std::process::ExitCode;

@@ -292,17 +292,36 @@ impl<'a> Metadata<'a> {
 
     /// Appends the lines of a file of event types that can be read. Returns the error that ends it, if there
     /// is one.
-    pub fn push_file(&mut self, alloc: Global, bytes: &'a [u8], out: &mut String) -> Result<(), Stop> {
+    pub fn push_file(
+        &mut self,
+        alloc: Global,
+        bytes: &'a [u8],
+        out: &mut String,
+    ) -> Result<(), Stop> {
         let is_big_endian = !bytes.starts_with(b"PERFILE2");
-        let file = Bytes { bytes, is_big_endian };
+        let file = Bytes {
+            bytes,
+            is_big_endian,
+        };
         let data = self.open_file(alloc, file)?;
         self.push_records(alloc, data, Some(file.u64_at(48)?), out)
     }
 
     /// Appends the lines of a pipe with a valid magic. Returns the error that ends it, if there is one.
-    pub fn push_pipe(&mut self, alloc: Global, bytes: &'a [u8], out: &mut String) -> Result<(), Stop> {
+    pub fn push_pipe(
+        &mut self,
+        alloc: Global,
+        bytes: &'a [u8],
+        out: &mut String,
+    ) -> Result<(), Stop> {
         let is_big_endian = !bytes.starts_with(b"PERFILE2");
-        let records = self.open_pipe(alloc, Bytes { bytes, is_big_endian })?;
+        let records = self.open_pipe(
+            alloc,
+            Bytes {
+                bytes,
+                is_big_endian,
+            },
+        )?;
         self.push_records(alloc, records, None, out)
     }
 }
@@ -319,7 +338,12 @@ fn push_line(out: &mut String, record: Record<'_>, events: &[Event]) -> Result<(
         out.push_str("- - ")?;
     }
     let misc = record.bytes.u16_at(4)?;
-    write!(out, "{} {misc} {}\n", record.record_type, record.body().len())?;
+    write!(
+        out,
+        "{} {misc} {}\n",
+        record.record_type,
+        record.body().len()
+    )?;
     Ok(())
 }
 

@@ -51,7 +51,11 @@ fn push_plain<V: SourceCall>(call: &Call<'_>, reading: &V, out: &mut String) -> 
 /// the first are appended.
 ///
 /// With the option `unread=KIND` a read after the call must fail with this kind.
-pub fn push_for_sources<V: SourceCall>(call: &Call<'_>, reading: &V, out: &mut String) -> CaseResult {
+pub fn push_for_sources<V: SourceCall>(
+    call: &Call<'_>,
+    reading: &V,
+    out: &mut String,
+) -> CaseResult {
     if is_plain(call) {
         return push_plain(call, reading, out);
     }

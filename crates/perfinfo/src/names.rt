@@ -71,5 +71,8 @@ pub(crate) fn record_type_name(number: u32) -> &'static str {
 
 /// Returns the name of a record type of jitdump files.
 pub(crate) fn jit_record_type_name(number: u32) -> &'static str {
-    JIT_RECORD_NAMES.split(' ').nth(number as usize).unwrap_or("unknown")
+    JIT_RECORD_NAMES
+        .split(' ')
+        .nth(number as usize)
+        .unwrap_or("unknown")
 }
