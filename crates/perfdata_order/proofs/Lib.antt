@@ -7,6 +7,8 @@ pub mod HeldLemmas
 pub mod AscendingRuns
 pub mod RoundRule
 pub mod Steps
+mod HeldRounds
+mod InMemoryRounds
 pub mod InMemorySteps
 pub mod PerfRule
 pub mod StreamingCalls

@@ -25,10 +25,10 @@ use Rattle.perfdata_order.proofs.AscendingRuns.{all_prefix}
 use Rattle.perfdata_order.proofs.LayoutRounds.{RoundsFollow, rounds_follow}
 use Rattle.perfdata_order.proofs.InMemorySteps.{times_ascend_under_rule, nothing_read, ended_runs, failed_runs, still_stopped}
 
-abbrev Timed : Type 0
+abbrev pub Timed : Type 0
 Timed = ℕ × (ℕ × Entry)
 
-abbrev views : List Entry → List RecordView
+abbrev pub views : List Entry → List RecordView
 views = map (λ (e : Entry). record_view_of e.0 e.1)
 
 view_round : (place : RecordPlace) (r : PerfFileRecord) → (record_view_of place r).round ≡ place.round
@@ -51,21 +51,21 @@ pending_later None place r es follow = timed_later place.round es (subst (λ n. 
 pending_later (Some time) place r es follow =
     All-cons (λ y. place.round ≤ y.0) (place.round, (time, (place, r))) (timed_of es) (omega arith) (timed_later place.round es (subst (λ n. All (λ later. n ≤ later.round) (views es)) (view_round place r) follow.0))
 
-abbrev pending_timed : Pending → List Timed
+abbrev pub pending_timed : Pending → List Timed
 pending_timed Nothing = []
 pending_timed (Record key place r) = timed_by key (place, r)
 pending_timed End = []
 pending_timed (Failure e) = []
 
 -- The timed records that are still to be inserted.
-abbrev ahead : InMemoryOrderedRecords → List Step → List Timed
+abbrev pub ahead : InMemoryOrderedRecords → List Step → List Timed
 ahead s steps = pending_timed s.pending ++ timed_of (read_in steps)
 
 -- The rounds of the records that are still to be placed don't fall.
-abbrev RoundsRise : Pending → List Entry → Type 0
+abbrev pub RoundsRise : Pending → List Entry → Type 0
 RoundsRise q es = RoundsFollow (views (pending_entries q ++ es))
 
-rise_after : (step : Step) (steps : List Step) (s next : InMemoryOrderedRecords) (f g : PerfFile) → TakesStep step s f next g → RoundsRise s.pending (read_in (step ∷ steps)) → RoundsRise next.pending (read_in steps)
+pub rise_after : (step : Step) (steps : List Step) (s next : InMemoryOrderedRecords) (f g : PerfFile) → TakesStep step s f next g → RoundsRise s.pending (read_in (step ∷ steps)) → RoundsRise next.pending (read_in steps)
 rise_after (reads key place r) steps s next f g taken rise = subst (λ q. RoundsRise q (read_in steps)) (sym taken.pending) (subst (λ q. RoundsRise q ((place, r) ∷ read_in steps)) taken.nothing_pending rise)
 rise_after (passes place r) steps s next f g taken rise = subst (λ q. RoundsRise q (read_in steps)) (sym taken.0.pending) (subst (λ q. RoundsRise q (read_in steps)) taken.0.was_pending rise).1
 rise_after reads_end steps s next f g taken rise = subst (λ q. RoundsRise q (read_in steps)) (sym taken.pending) (subst (λ q. RoundsRise q (read_in steps)) taken.nothing_pending rise)
@@ -82,7 +82,7 @@ rise_after (reports e) steps s next f g taken rise = subst (λ q. RoundsRise q (
 abbrev as_timed : Timed → Timed
 as_timed y = (y.1.1.0.round, y.1)
 
-abbrev IsFinal : Pending → Type 0
+abbrev pub IsFinal : Pending → Type 0
 IsFinal Nothing = ⊥
 IsFinal (Record key place r) = ⊥
 IsFinal End = Unit {0}
@@ -152,14 +152,14 @@ follows_end n m round ys timed none f =
     record { rest = f.rest; prefix = f.prefix; bounds = λ i d lt. absurd (known i d lt); rule = f.rule }
 
 -- The end of rounds before the pending record.
-one_round : (q : Pending) (es : List Entry) (old new : ℕ) → IsOneRoundLater q old new → RoundsRise q es → (new ≡ old + 1) × All (λ y. new ≤ y.0) (pending_timed q ++ timed_of es)
+pub one_round : (q : Pending) (es : List Entry) (old new : ℕ) → IsOneRoundLater q old new → RoundsRise q es → (new ≡ old + 1) × All (λ y. new ≤ y.0) (pending_timed q ++ timed_of es)
 one_round Nothing es old new one rise = absurd one
 one_round (Record key place r) es old new one rise =
     (one.1 ∙ one.0, subst (λ k. All (λ y. k ≤ y.0) (timed_by key (place, r) ++ timed_of es)) (sym one.1) (pending_later key place r es rise))
 one_round End es old new one rise = absurd one
 one_round (Failure e) es old new one rise = absurd one
 
-later_rounds : (q : Pending) (es : List Entry) (old new : ℕ) → IsLaterOrLast q old new → RoundsRise q es → ((old + 2 ≤ new) × All (λ y. new ≤ y.0) (pending_timed q ++ timed_of es)) ⊎ ((new ≡ old) × IsFinal q)
+pub later_rounds : (q : Pending) (es : List Entry) (old new : ℕ) → IsLaterOrLast q old new → RoundsRise q es → ((old + 2 ≤ new) × All (λ y. new ≤ y.0) (pending_timed q ++ timed_of es)) ⊎ ((new ≡ old) × IsFinal q)
 later_rounds Nothing es old new later rise = absurd later
 later_rounds (Record key place r) es old new later rise =
     inl (subst (λ k. old + 2 ≤ k) (sym later.1) later.0, subst (λ k. All (λ y. k ≤ y.0) (timed_by key (place, r) ++ timed_of es)) (sym later.1) (pending_later key place r es rise))

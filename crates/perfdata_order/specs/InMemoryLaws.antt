@@ -1,5 +1,5 @@
 -- Laws of the records of an input in memory in order of time.
-use Rattle.std.specs.Prelude.{ℕ, List, [], ◌∷◌, ◌++◌, map, Option, None, Some}
+use Rattle.std.specs.Prelude.{ℕ, ◌+◌, ◌≤◌, All, List, [], ◌∷◌, ◌++◌, map, Option, None, Some}
 use Rattle.perfdata_order.specs.Times.{time_key_of}
 use Rattle.perfdata_order.specs.LayoutRecords.{AreLayoutRecords}
 use Rattle.std.specs.Ordering.{nat_cmp}
@@ -12,7 +12,7 @@ use Rattle.perfdata_order.specs.declared.in_memory.Pending.{Pending}
 use Rattle.perfdata_order.specs.declared.in_memory.Pending.TheVariants.{Nothing, Record, End, Failure}
 use Rattle.perfdata_order.specs.declared.in_memory.InMemoryOrderedRecords.{InMemoryOrderedRecords}
 use Rattle.perfdata_order.specs.Order.{Ascends}
-use Rattle.perfdata_order.specs.Sorter.{held_of}
+use Rattle.perfdata_order.specs.Sorter.{held_of, pending_of}
 use Rattle.perfdata_order.specs.SorterLaws.{Call, MakesCalls, inserted_in_rounds, returned_by, KeepsRoundRule}
 use Rattle.perfdata_order.specs.InMemoryOrder.{Entry, Step, TakesSteps, returned_in, IsNewOrder}
 use Rattle.perfdata_order.specs.InMemoryOrder.Step.{reads, passes, reads_end, reads_error, sorts, reports}
@@ -84,3 +84,13 @@ abbrev pub TimesAscendUnderPerfRule : Type 0
 TimesAscendUnderPerfRule = (records : InMemoryRecords) (first last : InMemoryOrderedRecords) (file file' : PerfFile) (steps : List Step) →
     IsNewOrder records first → TakesSteps steps first file last file' → AreLayoutRecords (map (λ (e : Entry). record_view_of e.0 e.1) (read_in steps)) → KeepsRoundRule nat_cmp (timed_of (read_in steps)) →
     Ascends nat_cmp (returned_by (calls_in steps))
+
+-- The current round: that of the record that was inserted last.
+abbrev pub round_of : InMemoryOrderedRecords → ℕ
+round_of s = s.round
+
+-- Each record in the sorter that isn't available is of the current round or of the one before it.
+abbrev pub HoldsTwoRounds : Type 0
+HoldsTwoRounds = (records : InMemoryRecords) (first last : InMemoryOrderedRecords) (file file' : PerfFile) (steps : List Step) →
+    IsNewOrder records first → TakesSteps steps first file last file' → AreLayoutRecords (map (λ (e : Entry). record_view_of e.0 e.1) (read_in steps)) →
+    All (λ (e : ℕ × Entry). round_of last ≤ e.1.0.round + 1) (pending_of last.sorter)

@@ -31,10 +31,7 @@ impl Block {
         requires { self.old.held < 2 ^ 64 - 1 }
         ensures { AppendsTo self.old body.now result self.new }
     {
-        match self.bytes.extend_from_slice(body) {
-            Ok(()) => {}
-            Err(error) => return Err(error),
-        }
+        self.bytes.extend_from_slice(body)?;
         self.held += 1;
         Ok((self.bytes.len(), Snapshot::of(&self.bytes)))
     }
@@ -136,18 +133,9 @@ impl Bodies {
     {
         let count = self.blocks.len();
         // Then `release` needs no memory.
-        match self.spare.reserve(count + 1) {
-            Ok(()) => {}
-            Err(error) => return Err(error),
-        }
-        match self.blocks.reserve(1) {
-            Ok(()) => {}
-            Err(error) => return Err(error),
-        }
-        let bytes = match Vec::with_capacity(self.alloc, BLOCK_CAPACITY) {
-            Ok(bytes) => bytes,
-            Err(error) => return Err(error),
-        };
+        self.spare.reserve(count + 1)?;
+        self.blocks.reserve(1)?;
+        let bytes = Vec::with_capacity(self.alloc, BLOCK_CAPACITY)?;
         self.blocks.push_reserved(Block { bytes, held: 0 });
         self.current = count;
         Ok(())
@@ -160,13 +148,10 @@ impl Bodies {
         if self.reuse(self.current) {
             return Ok(());
         }
-        match self.spare.pop() {
-            Some(index) => {
-                if self.reuse(index) {
-                    return Ok(());
-                }
+        if let Some(index) = self.spare.pop() {
+            if self.reuse(index) {
+                return Ok(());
             }
-            None => {}
         }
         self.add_block()
     }
@@ -196,10 +181,7 @@ impl Bodies {
         ensures { AppendsBody self.old body.now result self.new }
     {
         if !self.has_capacity(body.len()) {
-            match self.next_block() {
-                Ok(()) => {}
-                Err(error) => return Err(error),
-            }
+            self.next_block()?;
         }
         self.append_to_current(body)
     }

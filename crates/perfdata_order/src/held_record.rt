@@ -87,15 +87,8 @@ impl HeldWriter {
     {
         match writer {
             Writer::Kernel(attr_index, record_type, parse_info) => {
-                match parse_infos.index_of(attr_index, &parse_info) {
-                    Ok(index) => Ok(HeldWriter::Kernel(
-                        attr_index,
-                        record_type,
-                        index,
-                        Snapshot::of(&parse_info),
-                    )),
-                    Err(error) => Err(error),
-                }
+                let index = parse_infos.index_of(attr_index, &parse_info)?;
+                Ok(HeldWriter::Kernel(attr_index, record_type, index, Snapshot::of(&parse_info)))
             }
             Writer::Tool(record_type, endian) => Ok(HeldWriter::Tool(record_type, endian)),
         }
@@ -143,14 +136,8 @@ pub(crate) fn copy_body(buffer: &mut Vec<u8>, body: RawData<'_>) -> Result<(), A
     match body {
         RawData::Single(bytes) => buffer.extend_from_slice(bytes),
         RawData::Split(first, second) => {
-            match buffer.try_reserve(first.len() + second.len()) {
-                Ok(()) => {}
-                Err(error) => return Err(error),
-            }
-            match buffer.extend_from_slice(first) {
-                Ok(()) => {}
-                Err(error) => return Err(error),
-            }
+            buffer.try_reserve(first.len() + second.len())?;
+            buffer.extend_from_slice(first)?;
             buffer.extend_from_slice(second)
         }
     }

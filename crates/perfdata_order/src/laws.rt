@@ -1,5 +1,5 @@
 //! Laws of values and of records in order.
-ghost use Rattle.perfdata_order.specs.InMemoryLaws.{CallsSorterInTurn, ReadsRecordsOfInput, ReturnsEachRecordOnce, TimesAscendUnderPerfRule};
+ghost use Rattle.perfdata_order.specs.InMemoryLaws.{CallsSorterInTurn, HoldsTwoRounds as HoldsTwoRoundsInMemory, ReadsRecordsOfInput, ReturnsEachRecordOnce, TimesAscendUnderPerfRule};
 ghost use Rattle.perfdata_order.specs.StreamingLaws.{ReadsRecordsOfSource, CountsEarly, NoneEarlyWithoutBudget, StaysWithinBudget, HoldsTwoRounds, ReturnsEachRecordOnce as ReturnsEachRecordOnceOf, CallsSorterInTurn as CallsSorterInTurnOf, TimesAscendUnderPerfRule as TimesAscendUnderPerfRuleOf};
 ghost use Rattle.perfdata_order.specs.SorterLaws.{AscendsUnderRule, KeepsInsertionOrder, ReturnsEachOnce, RunsAscend};
 
@@ -20,11 +20,13 @@ pub fn sorter<K: Ord, V>()
 
 /// Over an input in memory, each record that the iterator over the input returns is returned once, or is
 /// still held. The timed records are those of a sorter, so its laws apply to them. The times that are
-/// returned ascend if the records are those of a layout and keep perf's rule.
+/// returned ascend if the records are those of a layout and keep perf's rule. Held records that aren't
+/// available are of the current round or of the one before it.
 pub fn in_memory()
     ensures each_once { ReturnsEachRecordOnce }
     ensures of_input { ReadsRecordsOfInput }
     ensures sorter_calls { CallsSorterInTurn }
+    ensures two_rounds { HoldsTwoRoundsInMemory }
     ensures times_ascend { TimesAscendUnderPerfRule }
 {
     offsets_increase();

@@ -56,15 +56,11 @@ impl ParseInfos {
         ensures { FindsIndex self.old parse_info result self.new }
     {
         if attr_index >= self.by_attribute.len() {
-            match self.by_attribute.resize(attr_index.saturating_add(1), 0) {
-                Ok(()) => {}
-                Err(error) => return Err(error),
-            }
+            self.by_attribute.resize(attr_index.saturating_add(1), 0)?;
         }
         let index = self.found.len();
-        match self.found.push(parse_info) {
-            Ok(()) => {}
-            Err(_) => return Err(AllocError),
+        if self.found.push(parse_info).is_err() {
+            return Err(AllocError);
         }
         if attr_index < self.by_attribute.len() {
             self.by_attribute[attr_index] = index;

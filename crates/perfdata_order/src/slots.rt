@@ -56,10 +56,7 @@ impl<V> Slots<V> {
             }
         }
         let slot = self.values.len();
-        match self.values.reserve(1) {
-            Ok(()) => {}
-            Err(error) => return Err(error),
-        }
+        self.values.reserve(1)?;
         self.values.push_reserved(None);
         Ok(slot)
     }

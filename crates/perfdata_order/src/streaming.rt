@@ -125,13 +125,9 @@ impl<R> OrderedRecords<R> {
         if self.is_within_budget(size) {
             return Ok(());
         }
-        match self.held.release_half() {
-            Ok(()) => {
-                self.early = self.early.saturating_add(1);
-                Ok(())
-            }
-            Err(error) => Err(error),
-        }
+        self.held.release_half()?;
+        self.early = self.early.saturating_add(1);
+        Ok(())
     }
 
     // Ends the rounds before the round of the pending record.
@@ -259,17 +255,12 @@ fn read_record<R: Source>(
     requires capacity { 65536 ≤ vec_capacity body.old }
     ensures { ReadsRecord R.state records.old perf_file.old result body.new.items records.new perf_file.new }
 {
-    match records.next_record(perf_file) {
-        Ok(Some((place, found))) => {
-            let info = RecordInfo::of(place, &found);
-            match copy_body(body, found.body()) {
-                Ok(()) => Ok(Some(info)),
-                Err(_) => Err(Error::Memory),
-            }
-        }
-        Ok(None) => Ok(None),
-        Err(error) => Err(error),
-    }
+    let Some((place, found)) = records.next_record(perf_file)? else {
+        return Ok(None);
+    };
+    let info = RecordInfo::of(place, &found);
+    copy_body(body, found.body())?;
+    Ok(Some(info))
 }
 
 impl<R: Source> OrderedRecords<R> {
@@ -292,10 +283,7 @@ impl<R: Source> OrderedRecords<R> {
             _ => return Ok(()),
         }
         self.body.clear();
-        match self.body.try_reserve(BODY_CAPACITY) {
-            Ok(()) => {}
-            Err(error) => return Err(error),
-        }
+        self.body.try_reserve(BODY_CAPACITY)?;
         match read_record(&mut self.records, perf_file, &mut self.body) {
             Ok(Some(info)) => match time_key(info.place) {
                 Some(key) => {
@@ -437,13 +425,10 @@ impl<R: Source> OrderedRecords<R> {
         ensures* after_borrow { sem 𝓛 (Rests (the_row R.row) self.entry
             (λ new. ReturnsInOrder R.state self.old perf_file.old result new perf_file.new)) }
     {
-        match self.advance(perf_file) {
-            Ok(Some((info, buffer))) => {
-                let body = self.body_of(buffer);
-                Ok(Some((info.place, info.with_body(body))))
-            }
-            Ok(None) => Ok(None),
-            Err(error) => Err(error),
-        }
+        let Some((info, buffer)) = self.advance(perf_file)? else {
+            return Ok(None);
+        };
+        let body = self.body_of(buffer);
+        Ok(Some((info.place, info.with_body(body))))
     }
 }
