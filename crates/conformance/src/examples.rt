@@ -1,6 +1,6 @@
 //! The examples.
 use conformance_cases::{Call, CaseResult, push_line};
-use example_jit_code_size::code_size;
+use example_library::jit_code_size::code_size;
 use std::io::Cursor;
 
 /// Prints the size of the code in a jitdump.

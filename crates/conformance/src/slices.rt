@@ -3,7 +3,7 @@
 use crate::listing::Listing;
 use crate::reading::{Format, format_of, open_in_memory};
 use conformance_cases::{Call, CaseError, CaseResult, Ranges, bytes_of, push_line, push_result};
-use example_proved_count::{count_pipe_records, count_records};
+use example_library::count::{count_pipe_records, count_records};
 use linux_perf_data::in_memory::InMemoryReader;
 use linux_perf_data::in_memory::entries::RecordEntry;
 use linux_perf_data::{Endianness, Error, PerfFile, PerfFileReader, PerfRecordIter};

@@ -1,10 +1,8 @@
 //! Formally verified functions that use the library: they count the records of a file and of a pipe in
 //! memory. They prove from the library's public specifications alone that a count is the number of records in
 //! the layout, and that an error is one of the bytes.
-#![tactic(auto)]
-
 ghost use Rattle.std.specs.Prelude.{IfOk, IfErr};
-ghost use Rattle.example_proved_count.specs.RecordCount.{HasRecordCount, HasPipeRecordCount, HasFileError, HasPipeError};
+ghost use Rattle.example_library.specs.RecordCount.{HasRecordCount, HasPipeRecordCount, HasFileError, HasPipeError};
 
 use linux_perf_data::{Error, PerfFileReader, laws};
 use std::alloc::Global;

@@ -1,6 +1,4 @@
 //! Computes the size of the code in a jitdump.
-#![tactic(auto)]
-
 use linux_perf_data::jitdump::{JitDumpError, JitDumpReader, JitDumpRecord};
 use linux_perf_data::source::Counted;
 use std::alloc::Global;
