@@ -6,22 +6,25 @@ use linux_perf_data::jitdump::JitDumpError;
 use linux_perf_data::source::PlacedSource;
 use perfdata_listing::list::{ListCause, ListFault, list_file, list_pipe};
 use perfdata_listing::{list_jit, list_live_jit, list_live_pipe};
-use std::alloc::Global;
 use std::fmt::Write;
 use std::io::Cursor;
 
-/// The listing of an input.
-#[derive(Clone, Copy)]
-pub enum Listing {
-    File,
-    Pipe,
-    Jit,
-    LivePipe,
-    LiveJit,
-}
-
-// Appends the end of a listing.
-fn push_end(out: &mut String, listed: &Result<u64, ListFault>) -> CaseResult {
+// Appends the complete lines of a text, the number of lines that the listing reports if it is another one, and
+// the end of the listing.
+fn push_listed(out: &mut String, text: &[u8], listed: &Result<u64, ListFault>) -> CaseResult {
+    let text = str::from_utf8(text).unwrap_or("");
+    out.push_str(text.rsplit_once('\n').map_or("", |(lines, _)| lines))?;
+    let count = text.matches('\n').count() as u64;
+    if count != 0 {
+        out.push_str("\n")?;
+    }
+    let reported = match listed {
+        Ok(lines) => *lines,
+        Err(fault) => fault.lines,
+    };
+    if reported != count {
+        writeln!(out, "{reported} lines")?;
+    }
     match listed {
         Ok(_) => out.push_str("end")?,
         Err(fault) => match &fault.cause {
@@ -35,70 +38,35 @@ fn push_end(out: &mut String, listed: &Result<u64, ListFault>) -> CaseResult {
     Ok(out.push_str("\n")?)
 }
 
-// Appends the complete lines of a text, and the number of lines that the listing reports if it is another
-// one.
-fn push_lines(out: &mut String, text: &[u8], listed: &Result<u64, ListFault>) -> CaseResult {
-    let mut count = 0u64;
-    for line in str::from_utf8(text).unwrap_or("").split_inclusive('\n') {
-        if line.ends_with('\n') {
-            count = count.saturating_add(1);
-            out.push_str(line)?;
-        }
-    }
-    let reported = match listed {
-        Ok(lines) => *lines,
-        Err(fault) => fault.lines,
-    };
-    if reported != count {
-        write!(out, "{reported} lines\n")?;
-    }
-    Ok(())
-}
-
-impl Listing {
-    // Lists a source.
-    fn list<C: PlacedSource + Drop>(
-        self,
-        alloc: Global,
-        source: C,
-        sink: &mut Sink,
-    ) -> Result<u64, ListFault> {
-        match self {
-            Listing::File => list_file(alloc, source, sink),
-            Listing::Pipe => list_pipe(alloc, source, sink),
-            Listing::Jit => list_jit(alloc, source, sink),
-            Listing::LivePipe => list_live_pipe(alloc, source, sink),
-            Listing::LiveJit => list_live_jit(alloc, source, sink),
-        }
-    }
-
-    /// Appends the lines and the end of the listing of a slice.
-    pub fn push(self, alloc: Global, bytes: &[u8], out: &mut String) -> CaseResult {
-        let mut sink = Sink::unlimited(alloc);
-        let listed = self.list(alloc, Cursor::new(bytes), &mut sink);
-        push_lines(out, &sink.written, &listed)?;
-        push_end(out, &listed)
+fn list<C: PlacedSource + Drop>(
+    call: &Call<'_>,
+    source: C,
+    sink: &mut Sink,
+) -> Result<u64, ListFault> {
+    match (call.case.call, call.case.has("live")) {
+        ("list-file", _) => list_file(call.alloc, source, sink),
+        ("list-pipe", false) => list_pipe(call.alloc, source, sink),
+        ("list-pipe", true) => list_live_pipe(call.alloc, source, sink),
+        (_, false) => list_jit(call.alloc, source, sink),
+        (_, true) => list_live_jit(call.alloc, source, sink),
     }
 }
 
-// The listing of a case.
+// The listing of a case, and its text into a writer without a limit.
 #[derive(Clone, Copy)]
-struct ListingCall<'a> {
+struct Listing<'a> {
     call: Call<'a>,
-    listing: Listing,
-    // The listing into a writer without a limit.
-    complete: &'a str,
+    complete: &'a [u8],
 }
 
-impl SourceCall for ListingCall<'_> {
+impl SourceCall for Listing<'_> {
     fn push<C: PlacedSource + Drop>(&self, source: C, out: &mut String) -> CaseResult {
         let mut sink = Sink::of_case(&self.call)?;
-        let listed = self.listing.list(self.call.alloc, source, &mut sink);
-        push_lines(out, &sink.written, &listed)?;
-        if !self.complete.as_bytes().starts_with(&sink.written) {
+        let listed = list(&self.call, source, &mut sink);
+        push_listed(out, &sink.written, &listed)?;
+        if !self.complete.starts_with(&sink.written) {
             out.push_str("another text\n")?;
         }
-        push_end(out, &listed)?;
         if self.call.case.has("live") {
             out.push_str("flushed at ")?;
             push_line(out, &sink.flushed_at)?;
@@ -109,13 +77,9 @@ impl SourceCall for ListingCall<'_> {
 
 /// Lists an input, and prints the complete lines. With the option `live` prints the number of bytes written
 /// before each flush.
-pub fn push_listing(call: &Call<'_>, listing: Listing, out: &mut String) -> CaseResult {
-    let mut complete = String::new(call.alloc);
-    listing.push(call.alloc, call.input.bytes, &mut complete)?;
-    let reading = ListingCall {
-        call: *call,
-        listing,
-        complete: &complete,
-    };
-    push_for_sources(call, &reading, out)
+pub fn push_listing(call: &Call<'_>, out: &mut String) -> CaseResult {
+    let mut sink = Sink::unlimited(call.alloc);
+    let _ = list(call, Cursor::new(call.input.bytes), &mut sink);
+    let (call, complete) = (*call, sink.written.as_slice());
+    push_for_sources(&call, &Listing { call, complete }, out)
 }

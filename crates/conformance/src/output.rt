@@ -1,6 +1,6 @@
 //! The calls that write lines: their text, the buffer of lines, and the end of a program.
 use crate::sink::Sink;
-use conformance_cases::{Call, Case, CaseError, CaseResult, push_io_result, push_line};
+use conformance_cases::{Call, Case, CaseResult, number_of, push_io_result, push_line, u32_of};
 use linux_perf_data::Error;
 use perfdata_listing::line::{Line, RecordFields};
 use perfdata_listing::list::{ListCause, ListFault, flush_listing, list_file};
@@ -8,38 +8,37 @@ use perfdata_listing::output::{CountingBufWriter, finish, write_line};
 use std::alloc::{AllocError, Global};
 use std::io::{Cursor, Error as IoError, ErrorKind, Write};
 
-// The number that is the option with this index; `None` for `-`.
-fn word(case: &Case<'_>, index: usize) -> Option<u64> {
-    case.options.get(index)?.parse::<u64>().ok()
+// The number that is the option with this index; 0 for `-`, with which it isn't there.
+fn word(case: &Case<'_>, index: usize) -> CaseResult<Option<u64>> {
+    match case.options.split_whitespace().nth(index) {
+        Some("-") => Ok(None),
+        word => Ok(Some(number_of(word.unwrap_or(""))?)),
+    }
 }
 
-// Sets a line to that of a record whose numbers are the options.
-fn set_record(case: &Case<'_>, line: &mut Line) {
-    line.set_record(RecordFields {
-        offset: word(case, 0).unwrap_or(0),
-        round: word(case, 1).unwrap_or(0),
-        timestamp: word(case, 2),
-        attr_index: word(case, 3),
-        record_type: u32::try_from(word(case, 4).unwrap_or(0)).unwrap_or(0),
-        misc: u16::try_from(word(case, 5).unwrap_or(0)).unwrap_or(0),
-        body_length: word(case, 6).unwrap_or(0),
-    });
-}
-
-// Sets a line to that of a jitdump record whose numbers are the options.
-fn set_jit_record(case: &Case<'_>, line: &mut Line) {
-    let (offset, time) = (word(case, 0).unwrap_or(0), word(case, 1).unwrap_or(0));
-    let record_type = u32::try_from(word(case, 2).unwrap_or(0)).unwrap_or(0);
-    line.set_jit_record(offset, time, record_type, word(case, 3).unwrap_or(0));
+fn number(case: &Case<'_>, index: usize) -> CaseResult<u64> {
+    Ok(word(case, index)?.unwrap_or(0))
 }
 
 /// Prints the line of the numbers that are the options: those of a record, of a jitdump record, or of an
 /// error.
 pub fn push_numbers(case: &Case<'_>, out: &mut String) -> CaseResult {
-    let mut line = Line::for_error(word(case, 0).unwrap_or(0));
+    let first = number(case, 0)?;
+    let mut line = Line::for_error(first);
     match case.call {
-        "record-line" => set_record(case, &mut line),
-        "jit-line" => set_jit_record(case, &mut line),
+        "record-line" => line.set_record(RecordFields {
+            offset: first,
+            round: number(case, 1)?,
+            timestamp: word(case, 2)?,
+            attr_index: word(case, 3)?,
+            record_type: u32_of(number(case, 4)?)?,
+            misc: u16::try_from(number(case, 5)?).unwrap_or(0),
+            body_length: number(case, 6)?,
+        }),
+        "jit-line" => {
+            let (time, record_type) = (number(case, 1)?, u32_of(number(case, 2)?)?);
+            line.set_jit_record(first, time, record_type, number(case, 3)?);
+        }
         _ => {}
     }
     Ok(out.push_str(str::from_utf8(line.as_bytes()).unwrap_or(""))?)
@@ -89,7 +88,7 @@ fn write_lines<W: Write>(
     line: &[u8],
     count: u64,
     out: &mut String,
-) -> Result<bool, CaseError> {
+) -> CaseResult<bool> {
     for _ in 0..count {
         let written = write_line(buffer, line);
         if written.is_err() {
@@ -125,7 +124,7 @@ pub fn push_flush(call: &Call<'_>, out: &mut String) -> CaseResult {
     let mut buffer = CountingBufWriter::new(call.alloc, &mut sink)?;
     if write_lines(&mut buffer, call.input.bytes, lines, out)? {
         push_line(out, &buffer.lines_written())?;
-        push_flushes(call.case, &mut buffer, lines, out)?;
+        push_flushes(&call.case, &mut buffer, lines, out)?;
     }
     push_line(out, &buffer.lines_written())?;
     drop(buffer);

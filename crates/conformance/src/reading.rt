@@ -1,7 +1,7 @@
 //! The calls that read the records of files and pipes one by one.
 use crate::metadata::push_accessors;
-use crate::sources::{SourceCall, is_plain, push_for_sources, push_other};
-use conformance_cases::{Call, CaseError, CaseResult, push_error};
+use crate::sources::{SourceCall, is_plain, push_for_sources};
+use conformance_cases::{Call, CaseError, CaseResult, push_error, push_other, push_result};
 use linux_perf_data::in_memory::{InMemoryReader, InMemoryRecords};
 use linux_perf_data::raw::RawData;
 use linux_perf_data::source::{PlacedSource, Source};
@@ -14,21 +14,6 @@ use std::io::Cursor;
 
 /// The largest number of records of a case.
 const MAX_RECORDS: usize = 1_000_000;
-
-/// The format of an input.
-#[derive(Clone, Copy, PartialEq, Eq)]
-pub enum Format {
-    File,
-    Pipe,
-}
-
-/// The format that an option names.
-pub fn format_of(option: &str) -> Format {
-    match option {
-        "pipe" => Format::Pipe,
-        _ => Format::File,
-    }
-}
 
 // The result of a call for the next record.
 type Next<'a> = Result<Option<(RecordPlace, PerfFileRecord<'a>)>, Error>;
@@ -50,42 +35,57 @@ impl Records for InMemoryRecords<'_> {
     }
 }
 
-// Opens a file or a pipe.
+/// Whether the name of a call or the value of an option stands for a pipe, and not for a file.
+pub fn is_pipe(name: &str) -> bool {
+    name.ends_with("pipe")
+}
+
 fn open<C: PlacedSource + Drop>(
     alloc: Global,
-    format: Format,
+    is_pipe: bool,
     source: C,
-) -> Result<PerfFileReader<C>, Error> {
-    match format {
-        Format::File => PerfFileReader::parse_file(alloc, source),
-        Format::Pipe => PerfFileReader::parse_pipe(alloc, source),
-    }
+) -> Result<(PerfFile, PerfRecordIter<C>), Error> {
+    let reader = match is_pipe {
+        false => PerfFileReader::parse_file(alloc, source)?,
+        true => PerfFileReader::parse_pipe(alloc, source)?,
+    };
+    Ok((reader.perf_file, reader.record_iter))
 }
 
 /// Opens a file or a pipe in memory.
 pub fn open_in_memory<'a>(
     alloc: Global,
-    format: Format,
+    is_pipe: bool,
     bytes: &'a [u8],
-) -> Result<InMemoryReader<'a>, Error> {
-    match format {
-        Format::File => InMemoryReader::parse_file(alloc, bytes),
-        Format::Pipe => InMemoryReader::parse_pipe(alloc, bytes),
+) -> Result<(PerfFile, InMemoryRecords<'a>), Error> {
+    let reader = match is_pipe {
+        false => InMemoryReader::parse_file(alloc, bytes)?,
+        true => InMemoryReader::parse_pipe(alloc, bytes)?,
+    };
+    Ok((reader.perf_file, reader.records))
+}
+
+/// The metadata of a file or a pipe after its opening, or after at most this many of its records.
+pub fn metadata_after(
+    alloc: Global,
+    is_pipe: bool,
+    bytes: &[u8],
+    count: usize,
+) -> Result<Box<PerfFile>, Error> {
+    let (file, mut records) = open(alloc, is_pipe, Cursor::new(bytes))?;
+    let mut file = Box::new(alloc, file)?;
+    for _ in 0..count {
+        if !matches!(records.next_record(&mut file), Ok(Some(_))) {
+            break;
+        }
     }
+    Ok(file)
 }
 
-/// The metadata of a file or a pipe after its opening.
-pub fn open_metadata(alloc: Global, format: Format, bytes: &[u8]) -> Result<Box<PerfFile>, Error> {
-    let reader = open(alloc, format, Cursor::new(bytes))?;
-    Ok(Box::new(alloc, reader.perf_file)?)
-}
-
-// The reading of a case.
+// The reading of a case. The first record has this offset.
 #[derive(Clone, Copy)]
 struct Reading<'a> {
     call: Call<'a>,
-    format: Format,
-    // The offset of the first record.
     first_offset: u64,
 }
 
@@ -96,12 +96,6 @@ fn push_number(out: &mut String, number: Option<u64>) -> CaseResult {
         None => out.push_str("- ")?,
     }
     Ok(())
-}
-
-// Appends an error in a line that begins with the name of the call.
-fn push_failure(out: &mut String, call: &str, error: &Error) -> CaseResult {
-    out.push_str(call)?;
-    push_error(out, error)
 }
 
 impl Reading<'_> {
@@ -135,12 +129,14 @@ impl Reading<'_> {
         Ok(())
     }
 
-    // Appends the result of a call.
     fn push_next(&self, next: &Next<'_>, out: &mut String) -> CaseResult {
         match next {
             Ok(Some((place, record))) => self.push_record(*place, record, out),
             Ok(None) => Ok(out.push_str("end")?),
-            Err(error) => push_failure(out, "next: ", error),
+            Err(error) => {
+                out.push_str("next: ")?;
+                push_error(out, error)
+            }
         }
     }
 
@@ -185,59 +181,67 @@ impl Reading<'_> {
                 break;
             }
         }
-        self.push_later(&records.next(file), is_end, out)?;
-        self.push_later(&records.next(file), is_end, out)
+        for _ in 0..2 {
+            self.push_later(&records.next(file), is_end, out)?;
+        }
+        Ok(())
     }
 
-    // Appends the results after an opening.
-    fn push_opened<I: Records>(
+    // Appends the results of an opening and of the calls after it.
+    fn push_opened<I: Records + Drop>(
         &self,
-        records: &mut I,
-        file: &mut PerfFile,
+        opened: Result<(PerfFile, I), Error>,
         out: &mut String,
     ) -> CaseResult {
+        let (mut file, mut records) = match opened {
+            Ok(opened) => opened,
+            Err(error) => {
+                out.push_str("open: ")?;
+                return push_result(out, &Err::<(), _>(error));
+            }
+        };
         if self.call.case.option("of").is_some() {
             out.push_str("open:")?;
-            self.push_values(file, out)?;
+            self.push_values(&file, out)?;
         }
-        let Some(format) = self.call.case.option("other").map(format_of) else {
-            return self.push_records(records, file, out);
+        let Some(name) = self.call.case.option("other") else {
+            return self.push_records(&mut records, &mut file, out);
         };
-        match open_metadata(self.call.alloc, format, self.call.input.argument(1)) {
-            Ok(mut other) => self.push_records(records, &mut other, out),
-            Err(error) => push_failure(out, "other: ", &error),
+        match metadata_after(
+            self.call.alloc,
+            is_pipe(name),
+            self.call.input.argument(1),
+            0,
+        ) {
+            Ok(mut other) => self.push_records(&mut records, &mut other, out),
+            Err(_) => Err(CaseError::Invalid("another input that doesn't open")),
         }
     }
 
-    // Appends the results in memory.
     fn push_in_memory(&self, out: &mut String) -> CaseResult {
-        match open_in_memory(self.call.alloc, self.format, self.call.input.bytes) {
-            Ok(reader) => {
-                let mut file = reader.perf_file;
-                let mut records = reader.records;
-                self.push_opened(&mut records, &mut file, out)
-            }
-            Err(error) => {
-                push_failure(out, "open: ", &error)?;
-                Ok(out.push_str("\n")?)
-            }
-        }
+        let Call { alloc, case, input } = self.call;
+        let opened = open_in_memory(alloc, is_pipe(case.call), input.bytes);
+        self.push_opened(opened, out)
+    }
+}
+
+// The offset of the first record; 0 if the input doesn't open.
+fn first_offset(call: &Call<'_>) -> CaseResult<u64> {
+    match open_in_memory(call.alloc, is_pipe(call.case.call), call.input.bytes) {
+        Ok(opened) => Ok(opened.1.first_record_offset()),
+        Err(error) => match error {
+            Error::Memory => Err(CaseError::OutOfMemory),
+            _ => Ok(0),
+        },
     }
 }
 
 impl SourceCall for Reading<'_> {
     fn push<C: PlacedSource + Drop>(&self, source: C, out: &mut String) -> CaseResult {
-        match open(self.call.alloc, self.format, source) {
-            Ok(reader) => {
-                let mut file = reader.perf_file;
-                let mut records = reader.record_iter;
-                self.push_opened(&mut records, &mut file, out)
-            }
-            Err(error) => {
-                push_failure(out, "open: ", &error)?;
-                Ok(out.push_str("\n")?)
-            }
-        }
+        self.push_opened(
+            open(self.call.alloc, is_pipe(self.call.case.call), source),
+            out,
+        )
     }
 }
 
@@ -246,42 +250,19 @@ impl SourceCall for Reading<'_> {
 ///
 /// With the option `of=NAMES` each line ends with the values of these accessors after its call. With
 /// `other=file` or `other=pipe` the calls get the `PerfFile` of the second input.
-pub fn push_reading(call: &Call<'_>, format: Format, out: &mut String) -> CaseResult {
-    let first_offset = match open_in_memory(call.alloc, format, call.input.bytes) {
-        Ok(reader) => reader.records.first_record_offset(),
-        Err(Error::Memory) => return Err(CaseError::OutOfMemory),
-        Err(_) => 0,
-    };
+pub fn push_reading(call: &Call<'_>, out: &mut String) -> CaseResult {
     let reading = Reading {
         call: *call,
-        format,
-        first_offset,
+        first_offset: first_offset(call)?,
     };
-    let mut text = String::new(call.alloc);
+    let alloc = call.alloc;
+    let mut text = String::new(alloc);
     push_for_sources(call, &reading, &mut text)?;
     out.push_str(&text)?;
     if is_plain(call) {
-        let mut in_memory = String::new(call.alloc);
+        let mut in_memory = String::new(alloc);
         reading.push_in_memory(&mut in_memory)?;
         push_other(out, &text, "in memory", &in_memory)?;
     }
     Ok(())
-}
-
-// Reads at most this many records, up to the end or the first error.
-fn read_records<R: Source>(iter: &mut PerfRecordIter<R>, file: &mut PerfFile, count: usize) {
-    for _ in 0..count {
-        if !matches!(iter.next_record(file), Ok(Some(_))) {
-            break;
-        }
-    }
-}
-
-/// The metadata of a pipe at its end, or before its first error.
-pub fn metadata_at_end(alloc: Global, bytes: &[u8]) -> Result<Box<PerfFile>, Error> {
-    let reader = open(alloc, Format::Pipe, Cursor::new(bytes))?;
-    let mut file = Box::new(alloc, reader.perf_file)?;
-    let mut records = reader.record_iter;
-    read_records(&mut records, &mut file, bytes.len());
-    Ok(file)
 }

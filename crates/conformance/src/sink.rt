@@ -1,7 +1,7 @@
 //! Writers with a limit.
 ghost use Rattle.std.specs.Prelude.{[]};
 
-use conformance_cases::{Call, CaseError, CaseResult, error_kind, push_line};
+use conformance_cases::{Call, CaseResult, error_kind, push_line};
 use perfdata_listing::FlushPending;
 use std::alloc::Global;
 use std::fmt::Write as _;
@@ -38,18 +38,17 @@ impl Sink {
     /// The writer of a case. `sink=fail-after(N)` accepts N bytes and then fails, with the kind `kind=KIND`
     /// or `StorageFull`. `sink=zero-after(N)` then accepts no more. A capacity of the input stands for N.
     /// `most=N` limits the bytes of a write, and `flushes=N` the number of flushes.
-    pub fn of_case(call: &Call<'_>) -> Result<Sink, CaseError> {
+    pub fn of_case(call: &Call<'_>) -> CaseResult<Sink> {
         let option = call.case.option("sink").unwrap_or("");
         let (name, limit) = option.split_once('(').unwrap_or((option, ""));
         let limit = limit.trim_end_matches(')').parse::<usize>().ok();
-        let kind = error_kind(call.case.option("kind").unwrap_or(""));
         let mut sink = Sink::unlimited(call.alloc);
         sink.max_per_write = call.case.size("most", usize::MAX)?;
         sink.capacity = call.input.capacity.or(limit).unwrap_or(usize::MAX);
-        if name == "fail-after" {
-            sink.error = Some(kind.unwrap_or(ErrorKind::StorageFull));
-        }
         sink.max_flushes = call.case.size("flushes", usize::MAX)?;
+        if name == "fail-after" {
+            sink.error = Some(error_kind(call.case.option("kind").unwrap_or("StorageFull"))?);
+        }
         Ok(sink)
     }
 

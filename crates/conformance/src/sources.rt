@@ -1,5 +1,5 @@
 //! The sources that a call reads the bytes of its input from.
-use conformance_cases::{Call, CaseResult, error_kind};
+use conformance_cases::{Call, CaseResult, error_kind, push_other};
 use perfdata_base::source::{Counted, PlacedSource, Script, Source};
 use std::fmt::Write;
 use std::io::{BufReader, Cursor};
@@ -67,18 +67,10 @@ pub fn push_for_sources<V: SourceCall>(
     }
 }
 
-/// Appends a result that isn't the first.
-pub fn push_other(out: &mut String, first: &str, name: &str, text: &str) -> CaseResult {
-    if text != first {
-        write!(out, "{name}:\n{text}")?;
-    }
-    Ok(())
-}
-
 // Appends what a further read of the source returns, if it isn't an error of this kind.
 fn push_unread(script: &mut Script, kind: &str, out: &mut String) -> CaseResult {
     match script.read_front(&mut [0]) {
-        Err(error) if Some(error.kind()) == error_kind(kind) => {}
+        Err(error) if error.kind() == error_kind(kind)? => {}
         Ok(count) => write!(out, "a further read: {count}\n")?,
         Err(error) => write!(out, "a further read: {:?}\n", error.kind())?,
     }

@@ -1,4 +1,4 @@
-//! Why a case has no result.
+//! Errors of cases.
 use std::alloc::{AllocError, AllocFailed};
 use std::io;
 

@@ -1,4 +1,4 @@
-//! Cases as text: a file of cases, the bytes of an input, the steps of a source, and the comparison of
+//! Cases as text: a file of cases, the values of an input, the steps of a source, and the comparison of
 //! results.
 //!
 //! A program implements [`Calls`] and passes it to [`run`]. A file consists of blocks with an empty line
@@ -6,7 +6,7 @@
 //!
 //! ```text
 //! # A comment.
-//! let s(time) = head(9, 0, 16) u64(time)
+//! let s(time) = u32(9) u16(0, 16) u64(time)
 //!
 //! list-file each-order
 //! H(16) A(4, 0) s(20)
@@ -16,25 +16,18 @@
 //! ```
 #![tactic(auto)]
 
-mod blocks;
+mod case;
 mod case_error;
-mod definitions;
-mod encoding;
-mod functions;
-mod input;
 mod outcome;
 mod ranges;
 mod runner;
 mod source_steps;
 mod text;
-mod tokens;
+mod values;
 
-pub use blocks::{Case, number_of};
+pub use case::{Case, number_of, size_of, u32_of};
 pub use case_error::{CaseError, CaseResult};
-pub use encoding::bytes_of;
-pub use input::{Call, Input};
-pub use outcome::Calls;
-pub use ranges::Ranges;
+pub use outcome::{Call, Calls, Input};
 pub use runner::run;
-pub use source_steps::{error_kind, parse_steps};
-pub use text::{push_error, push_io_result, push_line, push_result};
+pub use source_steps::error_kind;
+pub use text::{push_error, push_io_result, push_line, push_other, push_result};

@@ -1,162 +1,167 @@
 //! Runs the cases of the files that the arguments name, and compares their results.
-use crate::blocks::{Block, Case, SEPARATOR, blocks_of};
+use crate::case::Case;
 use crate::case_error::CaseResult;
-use crate::definitions::Definition;
-use crate::encoding::Recording;
 use crate::outcome::{Calls, outcome_of};
+use crate::values::{Definition, Scope};
+use perfdata_base::raw::Endianness;
 use std::process::ExitCode;
 use std::{env, fs};
 
-// A file of cases.
-#[derive(Drop)]
-struct TestFile {
-    path: String,
-    text: String,
+// The files that the arguments name, with their paths, and whether they are printed with the results.
+fn read_arguments(rt: &HostRuntime) -> CaseResult<(Vec<(String, String)>, bool)> {
+    let mut files = Vec::new(rt.alloc());
+    let mut is_update = false;
+    for path in env::args(rt)?.skip(1) {
+        if path.as_str() == "--update" {
+            is_update = true;
+        } else {
+            let text = fs::read_to_string(rt, path.as_str())?;
+            files.push((path, text))?;
+        }
+    }
+    Ok((files, is_update))
 }
 
-// What the arguments name.
+// The definitions so far, and the numbers of cases and of those with another result.
 #[derive(Drop)]
-struct Arguments {
-    files: Vec<TestFile>,
-    recordings: Vec<Recording>,
-    // Whether the files are printed with the results.
+struct Runner<'a> {
     is_update: bool,
+    definitions: Vec<Definition<'a>>,
+    cases: u64,
+    differing: u64,
 }
 
-// Whether a result consists of these lines.
-fn has_lines(outcome: &str, expected: &[&str]) -> bool {
-    outcome.lines().eq(expected.iter().copied())
+// A block without the comments before it.
+fn without_comments(block: &str) -> &str {
+    let mut rest = block.trim_matches('\n');
+    for line in block.lines() {
+        if !line.is_empty() && !line.starts_with('#') {
+            break;
+        }
+        rest = rest
+            .strip_prefix(line)
+            .unwrap_or("")
+            .trim_start_matches('\n');
+    }
+    rest
 }
 
 // Prints where a case is, its result, and the expected result.
-fn print_difference(rt: &HostRuntime, path: &str, case: &Case<'_>, outcome: &str) -> CaseResult {
-    println!(rt; "{path}:{}: {}", case.line, case.call)?;
+fn print_difference(rt: &HostRuntime, place: &str, case: Case<'_>, outcome: &str) -> CaseResult {
+    println!(rt; "{place}: {}", case.call)?;
     for line in outcome.lines() {
         println!(rt; "  result:   {line}")?;
     }
-    for line in case.expected.iter() {
+    for line in case.expected.lines() {
         println!(rt; "  expected: {line}")?;
     }
     Ok(())
 }
 
-// Prints the lines of a block up to the expected result.
-fn print_block(rt: &HostRuntime, block: &Block<'_>) -> CaseResult {
-    for line in block.comments.iter().chain(block.lines.iter()) {
-        println!(rt; "{line}")?;
-        if *line == SEPARATOR {
-            break;
+impl<'a> Runner<'a> {
+    fn push_definitions(&mut self, text: &'a str) -> CaseResult {
+        for definition in text.split("\nlet ") {
+            self.definitions.push(Definition::parse(definition)?)?;
         }
+        Ok(())
     }
-    Ok(())
-}
 
-// The numbers of cases, and of those with another result.
-#[derive(Clone, Copy)]
-struct Counts {
-    cases: u64,
-    differing: u64,
-}
-
-// Runs a case and counts it.
-fn run_case<'x, C: Calls>(
-    (rt, calls): (&HostRuntime, &C),
-    arguments: &Arguments,
-    path: &str,
-    case: &'x Case<'x>,
-    definitions: &'x [Definition<'x>],
-    counts: &mut Counts,
-) -> CaseResult {
-    let outcome = match outcome_of(rt.alloc(), calls, case, definitions, &arguments.recordings) {
-        Ok(outcome) => outcome,
-        Err(error) => format!(in rt.alloc(); "invalid case: {}\n", error.reason())?,
-    };
-    let is_expected = has_lines(&outcome, &case.expected);
-    counts.cases = counts.cases.saturating_add(1);
-    counts.differing = counts.differing.saturating_add(u64::from(!is_expected));
-    if arguments.is_update {
-        print!(rt; "{outcome}")?;
-    } else if !is_expected {
-        print_difference(rt, path, case, &outcome)?;
+    fn run_case<C: Calls>(
+        &mut self,
+        (rt, calls): (&HostRuntime, &C),
+        place: &str,
+        case: Case<'_>,
+    ) -> CaseResult {
+        let scope = Scope {
+            alloc: rt.alloc(),
+            definitions: &self.definitions,
+            endian: Endianness::LittleEndian,
+            turn: 0,
+        };
+        let outcome = match outcome_of(calls, case, scope) {
+            Ok(outcome) => outcome,
+            Err(error) => format!(in rt.alloc(); "invalid case: {}\n", error.reason())?,
+        };
+        let is_expected = outcome.trim_end_matches('\n') == case.expected;
+        self.cases = self.cases.saturating_add(1);
+        self.differing = self.differing.saturating_add(u64::from(!is_expected));
+        if self.is_update {
+            print!(rt; "----\n{outcome}")?;
+        } else if !is_expected {
+            print_difference(rt, place, case, &outcome)?;
+        }
+        Ok(())
     }
-    Ok(())
-}
 
-// Runs the cases of a file.
-fn run_file<'a, C: Calls>(
-    (rt, calls): (&HostRuntime, &C),
-    arguments: &Arguments,
-    file: &'a TestFile,
-    definitions: &mut Vec<Definition<'a>>,
-    counts: &mut Counts,
-) -> CaseResult {
-    for block in blocks_of(rt.alloc(), file.text.as_str())?.iter() {
-        if arguments.is_update {
-            print_block(rt, block)?;
+    // Runs a block of a file: definitions, a case or comments.
+    fn run_block<C: Calls>(
+        &mut self,
+        context: (&HostRuntime, &C),
+        place: &str,
+        block: &'a str,
+    ) -> CaseResult {
+        let rt = context.0;
+        if self.is_update {
+            let (text, _) = block.split_once("\n----").unwrap_or((block, ""));
+            println!(rt; "{}", text.trim_matches('\n'))?;
         }
-        if !block.push_definitions(rt.alloc(), definitions)? {
-            if let Some(case) = block.case(rt.alloc())? {
-                let path = file.path.as_str();
-                run_case((rt, calls), arguments, path, &case, definitions, counts)?;
-            }
+        let text = without_comments(block);
+        match text.strip_prefix("let ") {
+            Some(definitions) => self.push_definitions(definitions)?,
+            None if text.is_empty() => {}
+            None => self.run_case(context, place, Case::parse(text)?)?,
         }
-        if arguments.is_update {
+        if self.is_update {
             println!(rt; "")?;
         }
+        Ok(())
     }
-    Ok(())
-}
 
-// Reads the files that the arguments name.
-fn read_arguments(rt: &HostRuntime) -> CaseResult<Arguments> {
-    let mut files = Vec::new(rt.alloc());
-    let mut recordings = Vec::new(rt.alloc());
-    let mut is_update = false;
-    for path in env::args(rt)?.skip(1) {
-        if path.as_str() == "--update" {
-            is_update = true;
-        } else if path.as_str().ends_with(".test") {
-            let text = fs::read_to_string(rt, path.as_str())?;
-            files.push(TestFile { path, text })?;
-        } else {
-            let bytes = fs::read(rt, path.as_str())?;
-            recordings.push(Recording { name: path, bytes })?;
+    fn run_file<C: Calls>(
+        &mut self,
+        context: (&HostRuntime, &C),
+        path: &str,
+        text: &'a str,
+    ) -> CaseResult {
+        let mut line = 1usize;
+        for block in text.split("\n\n") {
+            let place = format!(in context.0.alloc(); "{path}:{line}")?;
+            self.run_block(context, &place, block)?;
+            line = line
+                .saturating_add(block.matches('\n').count())
+                .saturating_add(2);
         }
+        Ok(())
     }
-    Ok(Arguments {
-        files,
-        recordings,
-        is_update,
-    })
 }
 
-// Runs the cases of all files. Returns the numbers of cases.
-fn run_files<C: Calls>(rt: &HostRuntime, calls: &C) -> CaseResult<Counts> {
-    let arguments = read_arguments(rt)?;
-    let mut definitions = Vec::new(rt.alloc());
-    let mut counts = Counts {
+// Runs the cases of all files. Returns whether all results are as expected.
+fn run_files<C: Calls>(rt: &HostRuntime, calls: &C) -> CaseResult<bool> {
+    let (files, is_update) = read_arguments(rt)?;
+    let mut run = Runner {
+        is_update,
+        definitions: Vec::new(rt.alloc()),
         cases: 0,
         differing: 0,
     };
-    for file in arguments.files.iter() {
-        run_file((rt, calls), &arguments, file, &mut definitions, &mut counts)?;
+    for (path, text) in files.iter() {
+        run.run_file((rt, calls), path, text)?;
     }
-    if !arguments.is_update {
-        println!(rt; "{} cases, {} differ", counts.cases, counts.differing)?;
+    if !is_update {
+        println!(rt; "{} cases, {} differ", run.cases, run.differing)?;
     }
-    Ok(counts)
+    Ok(run.differing == 0)
 }
 
 /// Runs the cases of the files that the arguments of the program name, and prints those with another result
 /// than expected. The last line says how many cases there are, and how many differ. The exit status is 1 if
 /// any differs, and 2 if a file can't be read.
 ///
-/// An argument that ends with `.test` is a file of cases, and another one is a recording that cases name. A
-/// definition holds in its file and those after it. With the argument `--update` the files are printed with
+/// A definition holds in its file and those after it. With the argument `--update` the files are printed with
 /// the results in place of the expected ones.
 pub fn run<C: Calls>(rt: &HostRuntime, calls: &C) -> ExitCode {
     match run_files(rt, calls) {
-        Ok(counts) => ExitCode::from(u8::from(counts.differing != 0)),
+        Ok(is_expected) => ExitCode::from(u8::from(!is_expected)),
         Err(error) => {
             let _ = eprintln!(rt; "{}", error.reason());
             ExitCode::from(2)

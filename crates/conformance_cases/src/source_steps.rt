@@ -1,59 +1,46 @@
 //! The steps of a source, as text.
-use crate::blocks::number_of;
+use crate::case::size_of;
 use crate::case_error::{CaseError, CaseResult};
 use perfdata_base::source::Step;
 use std::alloc::Global;
 use std::io::ErrorKind;
 
-/// The kind of an I/O error of this name.
-pub fn error_kind(name: &str) -> Option<ErrorKind> {
+/// The kind of an I/O error of this name, or of `fail(NAME)`.
+pub fn error_kind(text: &str) -> CaseResult<ErrorKind> {
+    let name = text
+        .strip_prefix("fail(")
+        .unwrap_or(text)
+        .trim_end_matches(')');
     match name {
-        "Interrupted" => Some(ErrorKind::Interrupted),
-        "InvalidData" => Some(ErrorKind::InvalidData),
-        "Other" => Some(ErrorKind::Other),
-        "OutOfMemory" => Some(ErrorKind::OutOfMemory),
-        "PermissionDenied" => Some(ErrorKind::PermissionDenied),
-        "TimedOut" => Some(ErrorKind::TimedOut),
-        "UnexpectedEof" => Some(ErrorKind::UnexpectedEof),
-        "WouldBlock" => Some(ErrorKind::WouldBlock),
-        _ => None,
+        "Interrupted" => Ok(ErrorKind::Interrupted),
+        "InvalidData" => Ok(ErrorKind::InvalidData),
+        "Other" => Ok(ErrorKind::Other),
+        "OutOfMemory" => Ok(ErrorKind::OutOfMemory),
+        "PermissionDenied" => Ok(ErrorKind::PermissionDenied),
+        "StorageFull" => Ok(ErrorKind::StorageFull),
+        "TimedOut" => Ok(ErrorKind::TimedOut),
+        "UnexpectedEof" => Ok(ErrorKind::UnexpectedEof),
+        "WouldBlock" => Ok(ErrorKind::WouldBlock),
+        _ => Err(CaseError::Invalid("an unknown kind of I/O errors")),
     }
-}
-
-// The number in a `usize`, as far as it fits.
-fn count_of(word: &str) -> Option<usize> {
-    usize::try_from(number_of(word)?).ok()
 }
 
 // The step of a word: a number of bytes, `pause` or `stop`, `fail(KIND)` or `grow(N)`.
-fn step_of(word: &str) -> Option<Step> {
-    if word == "pause" || word == "stop" {
-        return Some(Step::Pause);
-    }
-    match word.strip_suffix(')')?.split_once('(')? {
-        ("fail", kind) => error_kind(kind).map(Step::Fault),
-        ("grow", count) => count_of(count).map(Step::Grow),
-        _ => None,
+fn step_of(word: &str) -> CaseResult<Step> {
+    match word.split_once('(') {
+        Some(("fail", _)) => Ok(Step::Fault(error_kind(word)?)),
+        Some(("grow", count)) => Ok(Step::Grow(size_of(count.trim_end_matches(')'))?)),
+        None if word == "pause" || word == "stop" => Ok(Step::Pause),
+        _ => Ok(Step::Give(size_of(word)?)),
     }
 }
 
-// Appends the steps of a group, which have a slash between them.
-fn push_group(steps: &mut Vec<Step>, group: &str) -> CaseResult {
-    for word in group.split('/') {
-        match count_of(word).map(Step::Give).or(step_of(word)) {
-            Some(step) => steps.push(step)?,
-            None => return Err(CaseError::Invalid(
-                "a step that isn't N, pause, fail(KIND) or grow(N)",
-            )),
-        }
-    }
-    Ok(())
-}
-
-// Appends a group this many times.
-fn push_repeated(steps: &mut Vec<Step>, count: usize, group: &str) -> CaseResult {
+// Appends the steps of a group, which have a slash between them, this many times.
+fn push_group(steps: &mut Vec<Step>, count: usize, group: &str) -> CaseResult {
     for _ in 0..count {
-        push_group(steps, group)?;
+        for word in group.split('/') {
+            steps.push(step_of(word)?)?;
+        }
     }
     Ok(())
 }
@@ -66,10 +53,8 @@ pub fn parse_steps(alloc: Global, text: &str) -> CaseResult<Vec<Step>> {
         if word == "rest" || word.is_empty() {
             continue;
         }
-        match word.split_once('*') {
-            Some((count, group)) => push_repeated(&mut steps, count_of(count).unwrap_or(0), group)?,
-            None => push_group(&mut steps, word)?,
-        }
+        let (count, group) = word.split_once('*').unwrap_or(("1", word));
+        push_group(&mut steps, size_of(count)?, group)?;
     }
     Ok(steps)
 }

@@ -30,6 +30,14 @@ pub fn push_error(out: &mut String, error: &Error) -> CaseResult {
     Ok(())
 }
 
+/// Appends a result after its name if it isn't the first result.
+pub fn push_other(out: &mut String, first: &str, name: &str, text: &str) -> CaseResult {
+    if text != first {
+        write!(out, "{name}:\n{text}")?;
+    }
+    Ok(())
+}
+
 /// Appends a value in the form of `{:?}`, or the name of an error, as a line.
 pub fn push_result<T: Debug>(out: &mut String, value: &Result<T, Error>) -> CaseResult {
     match value {

@@ -17,9 +17,8 @@ use std::io;
 
 // The attribute after the body; without one an attribute of zeros.
 fn attr_of(call: &Call<'_>) -> CaseResult<PerfEventAttr> {
-    let zeros = [0; 64];
     let bytes = match call.input.others {
-        [] => &zeros,
+        [] => &[0; 64],
         _ => call.input.argument(1),
     };
     let parsed = match call.input.endian {
@@ -52,8 +51,8 @@ pub fn call(call: &Call<'_>, out: &mut String) -> CaseResult<bool> {
     let attr = attr_of(call)?;
     let format = EventFormat::new(&attr, call.input.endian);
     let mut record = RawEventRecord {
-        record_type: RecordType((call.size("type", 0)? & 0xffff_ffff) as u32),
-        misc: (call.size("misc", 0)? & 0xffff) as u16,
+        record_type: RecordType(call.case.u32("type")?),
+        misc: (call.case.u32("misc")? & 0xffff) as u16,
         body: call.input.raw(),
         parse_info: RecordParseInfo::new(&attr, call.input.endian),
     };
@@ -70,13 +69,31 @@ pub fn call(call: &Call<'_>, out: &mut String) -> CaseResult<bool> {
     Ok(true)
 }
 
-// The numbers of weights, or the frames of a call chain; or how many counters, branches or numbers there are, and what is at each index
-// of the option `get`.
+// The numbers of weights, or the frames of a call chain; or how many counters, branches or numbers there are,
+// and what is at each index of the option `get`.
 fn push_numbers(call: &Call<'_>, out: &mut String) -> CaseResult<bool> {
     let values = RawDataU64 {
         endian: call.input.endian,
         bytes: call.input.raw(),
     };
+    match call.case.call {
+        "weight-struct" => {
+            for weight in values.iter() {
+                push_line(out, &WeightStruct::new(weight))?;
+            }
+        }
+        "call-chain" => {
+            for frame in (CallChain { values }).iter() {
+                push_line(out, &frame)?;
+            }
+        }
+        "group-values" | "branch-stack" | "u64s" => push_at_indices(call, values, out)?,
+        _ => return Ok(false),
+    }
+    Ok(true)
+}
+
+fn push_at_indices(call: &Call<'_>, values: RawDataU64<'_>, out: &mut String) -> CaseResult {
     let group = GroupValues {
         time_enabled: None,
         time_running: None,
@@ -89,26 +106,13 @@ fn push_numbers(call: &Call<'_>, out: &mut String) -> CaseResult<bool> {
         entries: values,
         counters: None,
     };
-    if call.case.call == "weight-struct" {
-        for weight in values.iter() {
-            push_line(out, &WeightStruct::new(weight))?;
-        }
-        return Ok(true);
-    }
-    if call.case.call == "call-chain" {
-        for frame in (CallChain { values }).iter() {
-            push_line(out, &frame)?;
-        }
-        return Ok(true);
-    }
     for index in call.case.numbers(call.alloc, "get")?.iter() {
         let index = usize::try_from(*index).unwrap_or(usize::MAX);
         match call.case.call {
             "group-values" => push_line(out, &(group.len(), group.get(index)))?,
             "branch-stack" => push_line(out, &(stack.len(), stack.get(index)))?,
-            "u64s" => push_line(out, &(values.len(), values.is_empty(), values.get(index)))?,
-            _ => return Ok(false),
+            _ => push_line(out, &(values.len(), values.is_empty(), values.get(index)))?,
         }
     }
-    Ok(call.case.option("get").is_some())
+    Ok(())
 }

@@ -9,7 +9,6 @@ mod sorting;
 use conformance_cases::{Call, Calls, CaseResult, run};
 use std::process::ExitCode;
 
-/// The calls of this program.
 #[derive(Clone, Copy)]
 struct EventCalls;
 
@@ -17,7 +16,6 @@ impl Calls for EventCalls {
     fn call(&self, call: &Call<'_>, out: &mut String) -> CaseResult<bool> {
         match call.case.call {
             "sort" => sorting::sort(call, out)?,
-            "random-rounds" => sorting::random_rounds(call, out)?,
             "order-file" | "order-pipe" => orders::push_ordered(call, out)?,
             _ => return bodies::call(call, out),
         }

@@ -1,5 +1,5 @@
 //! Records in order of time.
-use conformance_cases::{Call, CaseResult, push_line, push_result};
+use conformance_cases::{Call, CaseResult, push_line, push_other, push_result};
 use linux_perf_data::in_memory::InMemoryReader;
 use linux_perf_data::source::Script;
 use linux_perf_data::{Error, PerfFile, PerfFileReader, PerfFileRecord, RecordPlace};
@@ -15,16 +15,8 @@ fn push_next(
     match next {
         Ok(Some((place, record))) => {
             let kind = (record.attr_index(), record.record_type().0, record.misc());
-            push_line(
-                out,
-                &(
-                    place.offset,
-                    place.round,
-                    place.timestamp,
-                    kind,
-                    record.body(),
-                ),
-            )?;
+            let (offset, round, time) = (place.offset, place.round, place.timestamp);
+            push_line(out, &(offset, round, time, kind, record.body()))?;
             return Ok(true);
         }
         Ok(None) => out.push_str("end\n")?,
@@ -56,12 +48,10 @@ macro_rules! push_all {
     };
 }
 
+type Opened<R> = Result<(PerfFile, R), Error>;
+
 // Opens a source, with a budget unless it is 0.
-fn open(
-    call: &Call<'_>,
-    source: Script,
-    budget: u64,
-) -> Result<(PerfFile, OrderedRecords<Script>), Error> {
+fn open(call: &Call<'_>, source: Script, budget: u64) -> Opened<OrderedRecords<Script>> {
     let reader = match call.case.call {
         "order-pipe" => PerfFileReader::parse_pipe(call.alloc, source)?,
         _ => PerfFileReader::parse_file(call.alloc, source)?,
@@ -73,8 +63,7 @@ fn open(
     Ok((reader.perf_file, records))
 }
 
-// Opens the input in memory.
-fn open_in_memory<'a>(call: &Call<'a>) -> Result<(PerfFile, InMemoryOrderedRecords<'a>), Error> {
+fn open_in_memory<'a>(call: &Call<'a>) -> Opened<InMemoryOrderedRecords<'a>> {
     let reader = match call.case.call {
         "order-pipe" => InMemoryReader::parse_pipe(call.alloc, call.input.bytes)?,
         _ => InMemoryReader::parse_file(call.alloc, call.input.bytes)?,
@@ -93,8 +82,6 @@ pub fn push_ordered(call: &Call<'_>, out: &mut String) -> CaseResult {
     }
     let mut in_memory = String::new(call.alloc);
     push_all!(&mut in_memory, open_in_memory(call), records => 0u64);
-    if in_memory.as_str() != out.as_str() {
-        write!(out, "in memory:\n{in_memory}")?;
-    }
-    Ok(())
+    let first = out.clone()?;
+    push_other(out, &first, "in memory", &in_memory)
 }

@@ -1,14 +1,18 @@
 //! Jitdump files: their header, their records and their reader.
-use crate::lists::{Step, low_half, push_raw, steps, unknown_call};
+use crate::lists::{Step, UNKNOWN_CALL, push_raw, steps};
 use conformance_cases::{Call, CaseError, CaseResult, push_io_result, push_line};
 use perfdata_base::raw::{Endianness, FileOrder, RawData};
 use perfdata_base::source::Script;
 use perfdata_jit::*;
 use std::fmt::Write;
 use std::io;
+use std::mem::swap;
 
 /// The number of bytes of a function name from which on the offset of the code may exceed 64 bits.
 const NAME_LIMIT: usize = 1 << 32;
+
+/// The size of the result of a call for which memory is there before the reader is opened, in bytes.
+const RESULT_SIZE: usize = 512;
 
 /// Makes the call of a case, if this module has it.
 pub fn call<T: FileOrder>(call: &Call<'_>, out: &mut String) -> CaseResult<bool> {
@@ -35,9 +39,7 @@ pub fn call<T: FileOrder>(call: &Call<'_>, out: &mut String) -> CaseResult<bool>
         "JitCodeDebugInfoRecord::lookup" => push_found(call, out)?,
         "jit" => push_calls(call, out)?,
         "BufferedReader" => push_buffered_calls(call, out)?,
-        "UnrecognizedVersion" => {
-            push_jit_error(call, out, &JitDumpError::UnrecognizedVersion(2))?;
-        }
+        "UnrecognizedVersion" => push_jit_error(call, out, &JitDumpError::UnrecognizedVersion(2))?,
         _ => return Ok(false),
     }
     Ok(true)
@@ -56,7 +58,7 @@ fn push_jit_error(call: &Call<'_>, out: &mut String, error: &JitDumpError) -> Ca
 fn raw_record<'a>(call: &Call<'a>) -> CaseResult<JitDumpRawRecord<'a>> {
     Ok(JitDumpRawRecord {
         endian: call.input.endian,
-        record_type: JitDumpRecordType(low_half(call.case.number("type")?.unwrap_or(0))),
+        record_type: JitDumpRecordType(call.case.u32("type")?),
         timestamp: 9,
         start_offset: 40,
         record_size: 62,
@@ -101,8 +103,10 @@ fn push_found(call: &Call<'_>, out: &mut String) -> CaseResult {
 // Opens a reader with a buffer of the size of the option `buffer`, makes a list of calls, and prints what
 // each returns. Of a call that is made N times, results that follow an equal one aren't printed.
 fn push_calls(call: &Call<'_>, out: &mut String) -> CaseResult {
-    let source = call.input.script(call.alloc)?;
-    let opened = match call.size("buffer", 0)? {
+    let (steps, source) = (steps(call)?, call.input.script(call.alloc)?);
+    let mut last = String::with_capacity(call.alloc, RESULT_SIZE)?;
+    let mut lines = String::with_capacity(call.alloc, RESULT_SIZE)?;
+    let opened = match call.case.size("buffer", 0)? {
         0 => JitDumpReader::new(call.alloc, source),
         size => JitDumpReader::new_with_buffer_size(call.alloc, source, size),
     };
@@ -110,15 +114,15 @@ fn push_calls(call: &Call<'_>, out: &mut String) -> CaseResult {
         Ok(reader) => reader,
         Err(error) => return push_jit_error(call, out, &error),
     };
-    for step in steps(call)?.iter() {
-        let mut last = String::new(call.alloc);
+    for step in steps.iter() {
+        last.clear();
         for _ in 0..step.count {
-            let mut lines = String::new(call.alloc);
+            lines.clear();
             push_call(call, *step, &mut reader, &mut lines)?;
             if lines != last {
                 out.push_str(&lines)?;
             }
-            last = lines;
+            swap(&mut last, &mut lines);
         }
     }
     Ok(())
@@ -146,10 +150,10 @@ fn push_call(
         "peek_time" => return push_io_result(out, &reader.next_record_timestamp()),
         "peek_type" => return push_io_result(out, &reader.next_record_type()),
         "offset" => return push_line(out, &reader.next_record_offset()),
-        "has_buffered" => return push_line(out, &reader.has_buffered(step.number)),
+        "has_buffered" => return push_line(out, &reader.has_buffered(step.number()?)),
         "header" => return push_line(out, reader.header()),
         "endian" => return push_line(out, &reader.endian()),
-        _ => return Err(unknown_call()),
+        _ => return Err(UNKNOWN_CALL),
     }
     writeln!(out, " at {}", reader.next_record_offset())?;
     Ok(())
@@ -159,11 +163,8 @@ fn push_call(
 // its body.
 fn push_record(call: &Call<'_>, record: &JitDumpRawRecord<'_>, out: &mut String) -> CaseResult {
     let (offset, time) = (record.start_offset, record.timestamp);
-    write!(
-        out,
-        "{offset} {time} {} {}",
-        record.record_type.0, record.record_size
-    )?;
+    let (kind, size) = (record.record_type.0, record.record_size);
+    write!(out, "{offset} {time} {kind} {size}")?;
     let start = usize::try_from(offset).unwrap_or(usize::MAX);
     let body = start.saturating_add(JitDumpRecordHeader::SIZE);
     let end = body.saturating_add(record.body.len());
@@ -184,14 +185,14 @@ fn push_record(call: &Call<'_>, record: &JitDumpRawRecord<'_>, out: &mut String)
 fn push_buffered_calls(call: &Call<'_>, out: &mut String) -> CaseResult {
     let mut source = call.input.script(call.alloc)?;
     let mut buffer = Vec::new(call.alloc);
-    buffer.resize(call.size("size", 0)?, 0)?;
-    let written = call.size("written", 0)?.min(buffer.len());
+    buffer.resize(call.case.size("size", 0)?, 0)?;
+    let written = call.case.size("written", 0)?.min(buffer.len());
     let read = source.read_exact_or_until_eof(&mut buffer[..written]);
     push_io_result(out, &read)?;
     let Ok(written) = read else {
         return Ok(());
     };
-    let consumed = call.size("consumed", 0)?;
+    let consumed = call.case.size("consumed", 0)?;
     if consumed > written || written > buffer.len() || buffer.is_empty() {
         return Err(CaseError::Invalid("more bytes are consumed than written"));
     }
@@ -200,9 +201,9 @@ fn push_buffered_calls(call: &Call<'_>, out: &mut String) -> CaseResult {
     );
     for step in steps(call)?.iter() {
         match step.name {
-            "consume_data" => push_raw(call.alloc, out, reader.consume_data(step.number))?,
-            "skip_bytes" => push_io_result(out, &reader.skip_bytes(step.number))?,
-            _ => return Err(unknown_call()),
+            "consume_data" => push_raw(call.alloc, out, reader.consume_data(step.number()?))?,
+            "skip_bytes" => push_io_result(out, &reader.skip_bytes(step.number()?))?,
+            _ => return Err(UNKNOWN_CALL),
         }
     }
     Ok(())

@@ -1,10 +1,13 @@
 //! Lists of calls, and results that several calls print.
-use conformance_cases::{Call, CaseError, CaseResult, number_of, push_io_result, push_line};
+use conformance_cases::{Call, CaseError, CaseResult, push_io_result, push_line, size_of};
 use perfdata_base::raw::RawData;
 use std::alloc::Global;
 use std::fmt::Write;
 use std::hash::{DefaultHasher, Hash, Hasher};
 use std::io;
+
+/// The error for a call that isn't one of the list's.
+pub const UNKNOWN_CALL: CaseError = CaseError::Invalid("an unknown call in a list");
 
 /// A call in a list: `NAME` or `NAME(ARGUMENT)`, or `N*` and one of these for a call that is made N times.
 #[derive(Clone, Copy)]
@@ -13,48 +16,33 @@ pub struct Step<'a> {
     pub count: usize,
     pub name: &'a str,
     pub argument: &'a str,
-    /// The argument as a number.
-    pub number: usize,
 }
 
-/// The calls with these words.
-pub fn steps_of<'a>(alloc: Global, words: &[&'a str]) -> CaseResult<Vec<Step<'a>>> {
-    let mut steps = Vec::new(alloc);
-    for word in words {
+impl<'a> Step<'a> {
+    pub fn parse(alloc: Global, word: &'a str) -> CaseResult<Step<'a>> {
         let (count, call) = word.split_once('*').unwrap_or(("1", word));
         let (name, argument) = call.split_once('(').unwrap_or((call, ""));
-        let argument = argument.trim_end_matches(')');
-        steps.push(Step {
+        Ok(Step {
             alloc,
-            count: size_of(count),
+            count: size_of(count)?,
             name,
-            argument,
-            number: size_of(argument),
-        })?;
+            argument: argument.trim_end_matches(')'),
+        })
     }
-    Ok(steps)
+
+    /// The argument as a number.
+    pub fn number(&self) -> CaseResult<usize> {
+        size_of(self.argument)
+    }
 }
 
 /// The calls of the option `calls`.
 pub fn steps<'a>(call: &Call<'a>) -> CaseResult<Vec<Step<'a>>> {
-    let words = call.case.option("calls").unwrap_or("next").split(',');
-    let words: Vec<&str> = words.collect(call.alloc)?;
-    steps_of(call.alloc, &words)
-}
-
-/// A number as text as a size; the largest size if it isn't a number.
-pub fn size_of(text: &str) -> usize {
-    usize::try_from(number_of(text).unwrap_or(u64::MAX)).unwrap_or(usize::MAX)
-}
-
-/// The error for a call that isn't one of the list's.
-pub fn unknown_call() -> CaseError {
-    CaseError::Invalid("an unknown call in a list")
-}
-
-/// The low half of a number.
-pub fn low_half(number: u64) -> u32 {
-    (number & 0xffff_ffff) as u32
+    let mut steps = Vec::new(call.alloc);
+    for word in call.case.option("calls").unwrap_or("next").split(',') {
+        steps.push(Step::parse(call.alloc, word)?)?;
+    }
+    Ok(steps)
 }
 
 /// Whether two values are equal, and whether their hashes are.
@@ -79,16 +67,6 @@ pub fn push_raw(
         Ok(Some(bytes)) => push_line(out, &bytes.as_slice(alloc)?.as_slice()),
         none => push_io_result(out, &none),
     }
-}
-
-/// Appends what a call printed on one type of source, if it isn't what it printed on another.
-pub fn push_if_other(out: &mut String, name: &str, printed: &str) -> CaseResult {
-    if out.is_empty() {
-        out.push_str(printed)?;
-    } else if out.as_str() != printed {
-        write!(out, "{name}:\n{printed}")?;
-    }
-    Ok(())
 }
 
 /// Appends `N left` as a line if this number of unread bytes isn't 0.

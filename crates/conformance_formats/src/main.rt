@@ -16,7 +16,6 @@ use conformance_cases::{Call, Calls, CaseResult, run};
 use perfdata_base::raw::{Endianness, FileOrder};
 use std::process::ExitCode;
 
-/// The calls of this program.
 #[derive(Clone, Copy)]
 struct FormatCalls;
 
@@ -31,21 +30,15 @@ impl Calls for FormatCalls {
 
 // Makes a call in the byte order of its input.
 fn call_in<T: FileOrder>(call: &Call<'_>, out: &mut String) -> CaseResult<bool> {
-    match call.case.call {
-        "raw" => sources::raw::<T>(call, out)?,
-        "source" => sources::source(call, out)?,
-        _ => {
-            return Ok(
-                tables::call(call, out)?
-                    || numbers::call(call, out)?
-                    || simpleperf::call::<T>(call, out)?
-                    || jitdump::call::<T>(call, out)?
-                    || sections::call::<T>(call, out)?
-                    || parts::call::<T>(call, out)?,
-            );
-        }
-    }
-    Ok(true)
+    Ok(
+        sources::call::<T>(call, out)?
+            || tables::call(call, out)?
+            || numbers::call(call, out)?
+            || simpleperf::call::<T>(call, out)?
+            || jitdump::call::<T>(call, out)?
+            || sections::call::<T>(call, out)?
+            || parts::call::<T>(call, out)?,
+    )
 }
 
 fn main(rt: HostRuntime) -> ExitCode {

@@ -1,8 +1,8 @@
 //! Values that are made of numbers: record types, CPU modes, features and their sets, sample formats, and the
 //! id cache.
-use crate::lists::{equalities, low_half, steps, steps_of, unknown_call};
+use crate::lists::{Step, UNKNOWN_CALL, equalities, steps};
 use bitflags::Flags;
-use conformance_cases::{Call, CaseResult, number_of, push_line};
+use conformance_cases::{Call, CaseError, CaseResult, number_of, push_line, size_of, u32_of};
 use perfdata_base::attr::{AttrFlags, SampleFormat};
 use perfdata_base::event::{CpuMode, RecordType};
 use perfdata_base::features::{Feature, FeatureSet};
@@ -21,9 +21,9 @@ pub fn call(call: &Call<'_>, out: &mut String) -> CaseResult<bool> {
         "SampleFormat" => push_format(call, out)?,
         name => {
             let numbers = call.case.numbers(call.alloc, "numbers")?;
-            let first = low_half(numbers.first().copied().unwrap_or(0));
+            let first = u32_of(numbers.first().copied().unwrap_or(0))?;
             for number in numbers.iter() {
-                if !push_of_number(name, first, low_half(*number), out)? {
+                if !push_of_number(name, first, u32_of(*number)?, out)? {
                     return Ok(false);
                 }
             }
@@ -38,10 +38,8 @@ fn push_of_number(name: &str, first: u32, number: u32, out: &mut String) -> Case
     match name {
         "RecordType" => {
             let is_sample = it == RecordType::SAMPLE;
-            push_line(
-                out,
-                &(it, it.is_builtin_type(), it.is_user_type(), is_sample),
-            )?;
+            let (is_builtin, is_user) = (it.is_builtin_type(), it.is_user_type());
+            push_line(out, &(it, is_builtin, is_user, is_sample))?;
         }
         "UserRecordType::try_from" => match UserRecordType::try_from(it) {
             Some(user) => push_line(out, &(user, user.record_type(), RecordType::from(user)))?,
@@ -66,14 +64,11 @@ fn push_comparison<T: Ord + Hash>(out: &mut String, first: &T, other: &T) -> Cas
 
 // The set of features with the words of an option.
 fn set_of(call: &Call<'_>, name: &str) -> CaseResult<FeatureSet> {
-    let mut words = [0u64; 4];
-    for (word, number) in words
-        .iter_mut()
-        .zip(call.case.numbers(call.alloc, name)?.iter())
-    {
-        *word = *number;
+    match call.case.numbers(call.alloc, name)?.as_slice() {
+        [first, second, third, fourth] => Ok(FeatureSet([*first, *second, *third, *fourth])),
+        [] => Ok(FeatureSet([0; 4])),
+        _ => Err(CaseError::Invalid("a set that isn't four words")),
     }
-    Ok(FeatureSet(words))
 }
 
 // Prints the set of the words of an option, compares it with another one, and makes a list of calls.
@@ -83,15 +78,18 @@ fn push_set(call: &Call<'_>, out: &mut String) -> CaseResult {
     push_line(out, &equalities(&set, &set_of(call, "other")?))?;
     let mut members = set.iter();
     for step in steps(call)?.iter() {
-        let feature = Feature(low_half(step.number as u64));
+        if step.name == "next" {
+            push_line(out, &members.next())?;
+            continue;
+        }
+        let feature = Feature(u32_of(number_of(step.argument)?)?);
         match step.name {
-            "next" => push_line(out, &members.next())?,
             "has_feature" => push_line(out, &set.has_feature(feature))?,
             "insert" => {
                 set.insert(feature);
                 push_line(out, &set)?;
             }
-            _ => return Err(unknown_call()),
+            _ => return Err(UNKNOWN_CALL),
         }
     }
     Ok(())
@@ -100,14 +98,14 @@ fn push_set(call: &Call<'_>, out: &mut String) -> CaseResult {
 // Makes a list of calls on a cache, and prints what is found.
 fn push_cached(call: &Call<'_>, out: &mut String) -> CaseResult {
     let mut cache = IdCache::new();
-    for step in steps_of(call.alloc, &call.case.options)?.iter() {
+    for word in call.case.options.split_whitespace() {
+        let step = Step::parse(call.alloc, word)?;
         let (id, index) = step.argument.split_once(',').unwrap_or((step.argument, ""));
-        let id = number_of(id).unwrap_or(0);
         match step.name {
-            "put" => cache.put(id, index.parse::<usize>().unwrap_or(usize::MAX)),
-            "get" => push_line(out, &cache.get(id))?,
+            "put" => cache.put(number_of(id)?, size_of(index)?),
+            "get" => push_line(out, &cache.get(number_of(id)?))?,
             "clear" => cache.clear(),
-            _ => return Err(unknown_call()),
+            _ => return Err(UNKNOWN_CALL),
         }
     }
     Ok(())
@@ -117,10 +115,8 @@ fn push_cached(call: &Call<'_>, out: &mut String) -> CaseResult {
 // SAMPLE_ID_ALL, and whether both keep all bits.
 fn push_format(call: &Call<'_>, out: &mut String) -> CaseResult {
     let bits = call.case.number("bits")?.unwrap_or(0);
-    let (format, flags) = (
-        SampleFormat::from_bits_retain(bits),
-        AttrFlags::from_bits_retain(bits),
-    );
+    let format = SampleFormat::from_bits_retain(bits);
+    let flags = AttrFlags::from_bits_retain(bits);
     for flag in SampleFormat::flags().iter() {
         if format.contains(*flag.value()) {
             writeln!(out, "{}", flag.name())?;

@@ -1,6 +1,5 @@
 //! Record headers, section entries, attributes with their parse infos, and the headers of files and pipes.
-use crate::lists::{low_half, push_if_other};
-use conformance_cases::{Call, CaseResult, push_io_result, push_line};
+use conformance_cases::{Call, CaseResult, push_io_result, push_line, push_other};
 use perfdata_base::attr::PerfEventAttr;
 use perfdata_base::event::{PerfEventHeader, RecordType};
 use perfdata_base::header::{PerfHeader, PerfPipeHeader};
@@ -15,26 +14,24 @@ use std::io::Cursor;
 /// Parses a part of a slice and of a cursor, at the offset of the option `at`. Prints it, and the number of
 /// bytes that it takes.
 pub fn call<T: FileOrder>(call: &Call<'_>, out: &mut String) -> CaseResult<bool> {
-    let at = call.size("at", 0)?;
+    let at = call.case.size("at", 0)?;
     let mut rest = call.input.bytes.get(at..).unwrap_or(&[]);
     let mut cursor = Cursor::new(call.input.bytes);
     cursor.set_position(at as u64);
-    let mut other = String::new(call.alloc);
-    let name = call.case.call;
-    match name {
-        "PerfEventHeader::peek" => return push_peeked(call, out),
-        "PerfHeader::parse" => push_io_result(&mut other, &PerfHeader::parse(&mut cursor))?,
-        _ => {
-            let len = rest.len();
-            if !push_part::<_, T>(name, &mut rest, out)? {
-                return push_info::<T>(call, out);
-            }
-            push_line(out, &len.saturating_sub(rest.len()))?;
-            push_part::<_, T>(name, &mut cursor, &mut other)?;
-        }
+    let (name, len) = (call.case.call, rest.len());
+    if name == "PerfHeader::parse" {
+        push_io_result(out, &PerfHeader::parse(&mut cursor))?;
+        push_line(out, &cursor.position().saturating_sub(at as u64))?;
+        return Ok(true);
     }
+    if !push_part::<_, T>(name, &mut rest, out)? {
+        return push_info::<T>(call, out);
+    }
+    push_line(out, &len.saturating_sub(rest.len()))?;
+    let (first, mut other) = (out.clone()?, String::new(call.alloc));
+    push_part::<_, T>(name, &mut cursor, &mut other)?;
     push_line(&mut other, &cursor.position().saturating_sub(at as u64))?;
-    push_if_other(out, "cursor", &other)?;
+    push_other(out, &first, "cursor", &other)?;
     Ok(true)
 }
 
@@ -56,20 +53,11 @@ fn push_part<S: Source, T: FileOrder>(
     Ok(true)
 }
 
-// Prints the record header at the start of the input, and the one in its first eight bytes.
-fn push_peeked(call: &Call<'_>, out: &mut String) -> CaseResult<bool> {
-    let (order, bytes) = (call.input.endian, call.input.bytes);
-    push_line(out, &PerfEventHeader::peek(order, bytes))?;
-    if let Some(first) = bytes.first_chunk::<8>() {
-        push_line(out, &PerfEventHeader::from_bytes(order, first))?;
-    }
-    Ok(true)
-}
-
-// Prints the parse info of the attribute in the last argument, for bodies in the input's byte order, or in
+// Prints the record header at the start of the input, and the one in its first eight bytes; or the parse info
+// of the attribute in the last argument, for bodies in the input's byte order, or in
 // little-endian with the option `little-endian-info`; or a number of the record whose body is the input.
 fn push_info<T: FileOrder>(call: &Call<'_>, out: &mut String) -> CaseResult<bool> {
-    let record_type = RecordType(low_half(call.case.number("type")?.unwrap_or(0)));
+    let record_type = RecordType(call.case.u32("type")?);
     let (body, bytes) = (call.input.raw(), call.input.bytes);
     let has_ids = call.case.has("sample_id_all");
     let order = match call.case.has("little-endian-info") {
@@ -79,6 +67,13 @@ fn push_info<T: FileOrder>(call: &Call<'_>, out: &mut String) -> CaseResult<bool
     let attr = PerfEventAttr::parse::<_, T>(call.input.argument(call.input.others.len()));
     let info = attr.map(|(attr, _)| RecordParseInfo::new(&attr, order));
     let number = match (call.case.call, info) {
+        ("PerfEventHeader::peek", _) => {
+            push_line(out, &PerfEventHeader::peek(call.input.endian, bytes))?;
+            if let Some(first) = bytes.first_chunk::<8>() {
+                push_line(out, &PerfEventHeader::from_bytes(call.input.endian, first))?;
+            }
+            return Ok(true);
+        }
         ("RecordParseInfo::new", Ok(info)) => {
             push_line(out, &info)?;
             return Ok(true);

@@ -1,6 +1,6 @@
 //! The parsers of sections and of records that tools write: features, attributes, build ids, and the keys of
 //! mapped objects.
-use crate::lists::{equalities, low_half, push_left};
+use crate::lists::{equalities, push_left};
 use conformance_cases::{Call, CaseError, CaseResult, push_io_result, push_line, push_result};
 use perfdata_base::event::{CpuMode, RecordType};
 use perfdata_base::raw::FileOrder;
@@ -46,15 +46,13 @@ fn push_section<T: FileOrder>(
         "SampleTimeRange::parse" => push_io_result(out, &SampleTimeRange::parse::<_, T>(source))?,
         "CompressionInfo::parse" => push_io_result(out, &CompressionInfo::parse::<_, T>(source))?,
         "ClockData::parse" => push_io_result(out, &ClockData::parse::<_, T>(source))?,
-        "HeaderString::parse" => {
-            push_io_result(out, &HeaderString::parse::<_, T>(alloc, source))?;
-        }
+        "HeaderString::parse" => push_io_result(out, &HeaderString::parse::<_, T>(alloc, source))?,
         "PmuMappings::parse" => {
             let mappings = PmuMappings::parse::<_, T>(alloc, source);
             push_io_result(out, &mappings.map(|mappings| mappings.0))?;
         }
         "BuildIdEvent::parse" => {
-            for _ in 0..call.size("count", 1)? {
+            for _ in 0..call.case.size("count", 1)? {
                 push_io_result(out, &BuildIdEvent::parse::<_, T>(alloc, &mut *source))?;
             }
         }
@@ -63,8 +61,7 @@ fn push_section<T: FileOrder>(
     Ok(true)
 }
 
-// Parses attributes in the section of the option `section=OFFSET,SIZE`, each of the size of the option `attr-
-// size`.
+// Parses attributes in a section, each of this size.
 fn parse<T: FileOrder>(
     call: &Call<'_>,
     source: &mut Script,
@@ -98,10 +95,12 @@ fn push_attributes<T: FileOrder>(
     out: &mut String,
 ) -> CaseResult {
     let numbers = call.case.numbers(call.alloc, "section")?;
-    let section = PerfFileSection {
-        offset: numbers.get(0).copied().unwrap_or(0),
-        size: numbers.get(1).copied().unwrap_or(0),
+    let (offset, size) = match numbers.as_slice() {
+        [offset, size] => (*offset, *size),
+        [offset] => (*offset, 0),
+        _ => (0, 0),
     };
+    let section = PerfFileSection { offset, size };
     let attr_size = call.case.number("attr-size")?.unwrap_or(0);
     let mut types = Vec::new(call.alloc);
     let names = call.case.option("types").unwrap_or("");
@@ -152,12 +151,8 @@ fn push_parsed<T: FileOrder>(call: &Call<'_>, out: &mut String) -> CaseResult<bo
 
 // Appends the length of a map, and a line for each of its threads.
 fn push_threads(call: &Call<'_>, out: &mut String, map: &ThreadMap<'_>) -> CaseResult {
-    writeln!(
-        out,
-        "ThreadMap: len {}, is_empty {}",
-        map.len(),
-        map.is_empty()
-    )?;
+    let (len, is_empty) = (map.len(), map.is_empty());
+    writeln!(out, "ThreadMap: len {len}, is_empty {is_empty}")?;
     for thread in map.iter() {
         let name = thread.name.as_slice(call.alloc)?;
         push_line(out, &(thread.tid, name.as_slice()))?;
@@ -167,15 +162,14 @@ fn push_threads(call: &Call<'_>, out: &mut String, map: &ThreadMap<'_>) -> CaseR
 
 // Parses a record of the type in the option `type`, with the option `misc`.
 fn push_user_record(call: &Call<'_>, out: &mut String) -> CaseResult {
-    let Some(record_type) = UserRecordType::try_from(RecordType(low_half(
-        call.case.number("type")?.unwrap_or(0),
-    ))) else {
+    let record_type = RecordType(call.case.u32("type")?);
+    let Some(record_type) = UserRecordType::try_from(record_type) else {
         return Err(CaseError::Invalid("a type that isn't a user record's"));
     };
     let record = RawUserRecord {
         record_type,
         endian: call.input.endian,
-        misc: (call.size("misc", 0)? & 0xffff) as u16,
+        misc: (call.case.size("misc", 0)? & 0xffff) as u16,
         body: call.input.raw(),
     };
     match record.parse(call.alloc) {
@@ -186,15 +180,9 @@ fn push_user_record(call: &Call<'_>, out: &mut String) -> CaseResult {
 
 // Prints the key and the name of a path in each mode.
 fn push_keys(call: &Call<'_>, out: &mut String) -> CaseResult {
-    let kernel = [CpuMode::Kernel, CpuMode::GuestKernel];
-    let programs = [
-        CpuMode::User,
-        CpuMode::GuestUser,
-        CpuMode::Hypervisor,
-        CpuMode::Unknown,
-    ];
-    for mode in kernel.iter().chain(programs.iter()) {
-        match DsoKey::detect(call.alloc, call.input.bytes, *mode)? {
+    for misc in [1u16, 4, 2, 5, 3, 0] {
+        let mode = CpuMode::from_misc(misc);
+        match DsoKey::detect(call.alloc, call.input.bytes, mode)? {
             Some(key) => writeln!(out, "{mode:?}: {key:?} {:?}", key.name())?,
             None => writeln!(out, "{mode:?}: None")?,
         }
@@ -206,7 +194,8 @@ fn push_keys(call: &Call<'_>, out: &mut String) -> CaseResult {
 fn push_equalities(call: &Call<'_>, out: &mut String) -> CaseResult {
     let mode = match call.case.option("mode") {
         Some("Kernel") => CpuMode::Kernel,
-        _ => CpuMode::User,
+        Some("User") | None => CpuMode::User,
+        Some(_) => return Err(CaseError::Invalid("a mode that isn't Kernel or User")),
     };
     let first = DsoKey::detect(call.alloc, call.input.bytes, mode)?;
     let second = DsoKey::detect(call.alloc, call.input.argument(1), mode)?;

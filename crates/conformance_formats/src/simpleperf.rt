@@ -30,7 +30,6 @@ pub fn call<T: FileOrder>(call: &Call<'_>, out: &mut String) -> CaseResult<bool>
     Ok(true)
 }
 
-// Prints the pairs of keys and values in meta info, ordered by their keys.
 fn push_meta_info(call: &Call<'_>, out: &mut String) -> CaseResult {
     let map = match parse_meta_info_map(call.alloc, call.input.bytes) {
         Ok(map) => map,
@@ -44,7 +43,6 @@ fn push_meta_info(call: &Call<'_>, out: &mut String) -> CaseResult {
     Ok(writeln!(out, "{pairs:?}")?)
 }
 
-// Prints the event types in meta info.
 fn push_event_types(call: &Call<'_>, out: &mut String) -> CaseResult {
     let Ok(map) = parse_meta_info_map(call.alloc, call.input.bytes) else {
         return Err(CaseError::Invalid("meta info that isn't UTF-8"));
@@ -62,7 +60,6 @@ fn push_event_type(out: &mut String, event: &SimplePerfEventType) -> CaseResult 
     push_line(out, &(event.name.as_str(), event.type_, event.config))
 }
 
-// Reads text after text up to the first error.
 fn push_texts(call: &Call<'_>, out: &mut String) -> CaseResult {
     let mut bytes = call.input.bytes;
     for _ in 0..=call.input.bytes.len() {

@@ -61,6 +61,16 @@ const DSO_TYPES: [(&str, u32); 6] = named![
     DSO_KERNEL DSO_KERNEL_MODULE DSO_ELF_FILE DSO_DEX_FILE DSO_SYMBOL_MAP_FILE DSO_UNKNOWN_FILE
 ];
 
+const JIT_TYPES: [(&str, JitDumpRecordType); 5] = named![
+    JitDumpRecordType: JIT_CODE_LOAD JIT_CODE_MOVE JIT_CODE_DEBUG_INFO JIT_CODE_CLOSE
+    JIT_CODE_UNWINDING_INFO
+];
+
+const READ_ERRORS: [ReadError; 10] = variants![
+    ReadError: PerfHeader FeatureSection BuildIdSection StringLen String NrCpus AttrsSection
+    PerfEventAttr PerfEventHeader PerfEventData
+];
+
 /// Makes the call of a case, if this module has it.
 pub fn call(call: &Call<'_>, out: &mut String) -> CaseResult<bool> {
     match call.case.call {
@@ -70,13 +80,7 @@ pub fn call(call: &Call<'_>, out: &mut String) -> CaseResult<bool> {
         "perf_record_types" => push_line(out, &perf_record_types())?,
         "simpleperf_record_types" => push_line(out, &simpleperf_record_types())?,
         "dso-types" => push_rows(out, &DSO_TYPES)?,
-        "JitDumpRecordType" => push_rows(
-            out,
-            &named![
-            JitDumpRecordType: JIT_CODE_LOAD JIT_CODE_MOVE JIT_CODE_DEBUG_INFO JIT_CODE_CLOSE
-            JIT_CODE_UNWINDING_INFO
-        ],
-        )?,
+        "JitDumpRecordType" => push_rows(out, &JIT_TYPES)?,
         "sizes" => {
             writeln!(out, "NrCpus {}", NrCpus::STRUCT_SIZE)?;
             writeln!(out, "SampleTimeRange {}", SampleTimeRange::STRUCT_SIZE)?;
@@ -85,19 +89,13 @@ pub fn call(call: &Call<'_>, out: &mut String) -> CaseResult<bool> {
             writeln!(out, "Auxtrace {}", Auxtrace::FIXED_SIZE)?;
         }
         "CompressionInfo::ZSTD_TYPE" => push_line(out, &CompressionInfo::ZSTD_TYPE)?,
-        "ReadError" => push_texts(
-            out,
-            &variants![
-            ReadError: PerfHeader FeatureSection BuildIdSection StringLen String NrCpus AttrsSection
-            PerfEventAttr PerfEventHeader PerfEventData
-        ],
-        )?,
-        "DecodeError" => push_texts(
-            out,
-            &variants![
-            DecodeError: Truncated Varint Key WireType Group Depth Utf8 Memory
-        ],
-        )?,
+        "ReadError" => push_texts(out, &READ_ERRORS)?,
+        "DecodeError" => {
+            let errors = variants![
+                DecodeError: Truncated Varint Key WireType Group Depth Utf8 Memory
+            ];
+            push_texts(out, &errors)?;
+        }
         "Error" => push_error_texts(out)?,
         "Error::from" => push_converted(out)?,
         _ => return Ok(false),
