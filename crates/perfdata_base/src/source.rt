@@ -50,9 +50,9 @@ pub trait Source {
     /// pause, which is counted. If `buf` is empty, the result is 0 and nothing is counted. On an error no
     /// byte is consumed, and the error is counted. Each count saturates at `u64::MAX`. The content of `buf`
     /// after the bytes read is unspecified.
-    fn read_front(&mut self, buf: &mut [u8]) -> Result<usize>
-        ensures idle { length buf.old ≡ 0 → (result ≡ Ok 0) × (state self.new ≡ state self.old) }
-        ensures reads { 0 < length buf.old → Reads (state self.old) buf.new result (state self.new) }
+    fn read_front(&mut self, place: &mut [u8]) -> Result<usize>
+        ensures idle { length place.old ≡ 0 → (result ≡ Ok 0) × (state self.new ≡ state self.old) }
+        ensures reads { 0 < length place.old → Reads (state self.old) place.new result (state self.new) }
         ensures counts { CountsRead (state self.old) result (state self.new) }
         ensures same_loan { loan self.new ≡ loan self.old };
 
@@ -104,10 +104,10 @@ impl Source for &[u8] {
 
     ghost buffered = { λ s. s.now };
 
-    fn read_front(&mut self, buf: &mut [u8]) -> Result<usize> {
+    fn read_front(&mut self, place: &mut [u8]) -> Result<usize> {
         let all: &[u8] = *self;
-        let count = all.len().min(buf.len());
-        buf[..count].copy_from_slice(&all[..count]);
+        let count = all.len().min(place.len());
+        place[..count].copy_from_slice(&all[..count]);
         *self = &all[count..];
         Ok(count)
     }
@@ -152,8 +152,8 @@ impl<S: Source> Source for &mut S {
 
     ghost buffered = { λ s. S.buffered s.now };
 
-    fn read_front(&mut self, buf: &mut [u8]) -> Result<usize> {
-        Source::read_front(&mut **self, buf)
+    fn read_front(&mut self, place: &mut [u8]) -> Result<usize> {
+        Source::read_front(&mut **self, place)
     }
 
     fn buffer(&self) -> &[u8] {
@@ -182,9 +182,9 @@ impl Source for RawData<'_> {
 
     ghost buffered = { λ _. [] };
 
-    fn read_front(&mut self, buf: &mut [u8]) -> Result<usize> {
-        let count = self.len().min(buf.len());
-        self.read_exact(&mut buf[..count])?;
+    fn read_front(&mut self, place: &mut [u8]) -> Result<usize> {
+        let count = self.len().min(place.len());
+        self.read_exact(&mut place[..count])?;
         Ok(count)
     }
 
@@ -223,9 +223,9 @@ impl Source for Cursor<Vec<u8>> {
 
     ghost buffered = { λ c. drop (cursor_position c) (cursor_inner c).items };
 
-    fn read_front(&mut self, buf: &mut [u8]) -> Result<usize> {
+    fn read_front(&mut self, place: &mut [u8]) -> Result<usize> {
         let at = self.position();
-        let count = copy_from_offset(self.get_ref().as_slice(), at, buf);
+        let count = copy_from_offset(self.get_ref().as_slice(), at, place);
         if count > 0 {
             self.set_position(at + count as u64);
         }
@@ -273,10 +273,10 @@ impl Source for Cursor<&[u8]> {
 
     ghost buffered = { λ c. drop (cursor_position c) (cursor_inner c).now };
 
-    fn read_front(&mut self, buf: &mut [u8]) -> Result<usize> {
+    fn read_front(&mut self, place: &mut [u8]) -> Result<usize> {
         let at = self.position();
         let all: &[u8] = *self.get_ref();
-        let count = copy_from_offset(all, at, buf);
+        let count = copy_from_offset(all, at, place);
         if count > 0 {
             self.set_position(at + count as u64);
         }
@@ -354,22 +354,22 @@ impl<R: Read> Source for Counted<R> {
 
     ghost buffered = { λ _. [] };
 
-    fn read_front(&mut self, buf: &mut [u8]) -> Result<usize>
-        ensures idle { length buf.old ≡ 0 → (result ≡ Ok 0)
+    fn read_front(&mut self, place: &mut [u8]) -> Result<usize>
+        ensures idle { length place.old ≡ 0 → (result ≡ Ok 0)
             × (counted_state self.new ≡ counted_state self.old) }
-        ensures reads { 0 < length buf.old
-            → Reads (counted_state self.old) buf.new result (counted_state self.new) }
+        ensures reads { 0 < length place.old
+            → Reads (counted_state self.old) place.new result (counted_state self.new) }
         ensures counts { CountsRead (counted_state self.old) result (counted_state self.new) }
-        ensures position { 0 < length buf.old
+        ensures position { 0 < length place.old
             → ReadUpdatesPosition self.old.position result self.new.position }
-        ensures unchanged_if_empty { length buf.old ≡ 0 → self.new ≡ self.old }
+        ensures unchanged_if_empty { length place.old ≡ 0 → self.new ≡ self.old }
         ensures reader_consumes { ReadConsumes (R.remaining self.old.reader)
-            (R.remaining self.new.reader) result buf.new }
+            (R.remaining self.new.reader) result place.new }
     {
-        if buf.is_empty() {
+        if place.is_empty() {
             return Ok(0);
         }
-        match self.reader.read(buf) {
+        match self.reader.read(place) {
             Ok(count) => {
                 if count == 0 {
                     self.pauses = self.pauses.saturating_add(1);

@@ -55,22 +55,22 @@ impl<R: Read> Source for CountedBuffer<R> {
 
     ghost buffered = { counted_buffer_bytes };
 
-    fn read_front(&mut self, buf: &mut [u8]) -> Result<usize>
-        ensures idle { length buf.old ≡ 0 → (result ≡ Ok 0)
+    fn read_front(&mut self, place: &mut [u8]) -> Result<usize>
+        ensures idle { length place.old ≡ 0 → (result ≡ Ok 0)
             × (buffered_state self.new ≡ buffered_state self.old) }
-        ensures reads { 0 < length buf.old
-            → Reads (buffered_state self.old) buf.new result (buffered_state self.new) }
+        ensures reads { 0 < length place.old
+            → Reads (buffered_state self.old) place.new result (buffered_state self.new) }
         ensures counts { CountsRead (buffered_state self.old) result (buffered_state self.new) }
-        ensures position { 0 < length buf.old
+        ensures position { 0 < length place.old
             → ReadUpdatesPosition self.old.position result self.new.position }
-        ensures unchanged_if_empty { length buf.old ≡ 0 → self.new ≡ self.old }
+        ensures unchanged_if_empty { length place.old ≡ 0 → self.new ≡ self.old }
         ensures reader_consumes { ReadConsumes (reader_remaining R.remaining self.old.reader)
-            (reader_remaining R.remaining self.new.reader) result buf.new }
+            (reader_remaining R.remaining self.new.reader) result place.new }
     {
-        if buf.is_empty() {
+        if place.is_empty() {
             return Ok(0);
         }
-        match self.reader.read(buf) {
+        match self.reader.read(place) {
             Ok(count) => {
                 if count == 0 {
                     self.pauses = self.pauses.saturating_add(1);

@@ -67,12 +67,12 @@ impl Script {
 
     /// Makes a source of `bytes` that shows the first `shown` of them, at most all.
     ///
-    /// A seek fails with an error of kind [`ErrorKind::Other`] if its number is in `failing_seeks`. The first
+    /// A seek fails with an error of kind [`ErrorKind::Other`] if its number is in `seek_faults`. The first
     /// seek has number 0.
-    pub fn new(bytes: Vec<u8>, shown: usize, steps: Vec<Step>, failing_seeks: Vec<u64>) -> Script
+    pub fn new(bytes: Vec<u8>, shown: usize, steps: Vec<Step>, seek_faults: Vec<u64>) -> Script
         ensures { script_state result ≡ unread_script_state bytes.items }
     {
-        Script::failing(bytes, shown, steps, SeekErrors::Other(failing_seeks))
+        Script::failing(bytes, shown, steps, SeekErrors::Other(seek_faults))
     }
 
     /// Makes a source of `bytes` that shows the first `shown` of them, at most all.
@@ -138,18 +138,18 @@ impl Source for Script {
 
     ghost buffered = { λ _. [] };
 
-    fn read_front(&mut self, buf: &mut [u8]) -> Result<usize> {
-        if buf.is_empty() {
+    fn read_front(&mut self, place: &mut [u8]) -> Result<usize> {
+        if place.is_empty() {
             return Ok(0);
         }
         let most = match self.next_read_limit() {
-            Ok(most) => most.min(buf.len()),
+            Ok(most) => most.min(place.len()),
             Err(kind) => {
                 self.errors = self.errors.saturating_add(1);
                 return Err(Error::from(kind));
             }
         };
-        let count = copy_from_offset(&self.bytes[..self.shown], self.position, &mut buf[..most]);
+        let count = copy_from_offset(&self.bytes[..self.shown], self.position, &mut place[..most]);
         if count == 0 {
             self.pauses = self.pauses.saturating_add(1);
             return Ok(0);

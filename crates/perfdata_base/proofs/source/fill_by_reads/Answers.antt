@@ -14,9 +14,9 @@ loop-filled-preserved-in-Ok g c =
     let asked : 0 < length (take (length c.loop-filled.buf - c.loop-filled.filled) (drop c.loop-filled.filled c.loop-filled.buf)) =
     omega (arith, length-take (length c.loop-filled.buf - c.loop-filled.filled) (drop c.loop-filled.filled c.loop-filled.buf), length-drop c.loop-filled.filled c.loop-filled.buf) in
     let read = c.in-Ok.ensures.reads asked in
-    let same = c.read_front.auto.buf in
-    let long = length-refilled c.loop-filled.filled c.loop-filled.buf c.read_front.new.buf within same in
-    let shown = prefix_and_part c.loop-filled.filled (length c.loop-filled.buf - c.loop-filled.filled) c.in-Ok.count c.loop-filled.buf c.read_front.new.buf within read.within in
+    let same = c.read_front.auto.place in
+    let long = length-refilled c.loop-filled.filled c.loop-filled.buf c.read_front.new.place within same in
+    let shown = prefix_and_part c.loop-filled.filled (length c.loop-filled.buf - c.loop-filled.filled) c.in-Ok.count c.loop-filled.buf c.read_front.new.place within read.within in
     record {
       within = omega (arith, read.within, long, same, length-take (length c.loop-filled.buf - c.loop-filled.filled) (drop c.loop-filled.filled c.loop-filled.buf), length-drop c.loop-filled.filled c.loop-filled.buf);
       tries = omega arith;
@@ -32,8 +32,8 @@ returns-then-repeats-eq-MAX_INTERRUPTED_RETRIES-clause-fills g c =
     let asked : 0 < length (take (length c.loop-filled.buf - c.loop-filled.filled) (drop c.loop-filled.filled c.loop-filled.buf)) =
     omega (arith, length-take (length c.loop-filled.buf - c.loop-filled.filled) (drop c.loop-filled.filled c.loop-filled.buf), length-drop c.loop-filled.filled c.loop-filled.buf) in
     let read = c.in-Err.ensures.reads asked in
-    let same = c.read_front.auto.buf in
-    let long = length-refilled c.loop-filled.filled c.loop-filled.buf c.read_front.new.buf within same in
+    let same = c.read_front.auto.place in
+    let long = length-refilled c.loop-filled.filled c.loop-filled.buf c.read_front.new.place within same in
     let prefix = take c.loop-filled.filled c.loop-filled.buf in
     let short = length-take-le c.loop-filled.filled c.loop-filled.buf within in
     (record { consumed_bytes = prefix; too_few = omega (arith, short, long); consumes = consumed_no_more _ _ _ _ before.filled_part read.0 }, failed_later _ _ _ _ before.filled_part read.1)
@@ -45,7 +45,7 @@ returns-in-Ok-eq0-clause-fills g c =
     let asked : 0 < length (take (length c.loop-filled.buf - c.loop-filled.filled) (drop c.loop-filled.filled c.loop-filled.buf)) =
     omega (arith, length-take (length c.loop-filled.buf - c.loop-filled.filled) (drop c.loop-filled.filled c.loop-filled.buf), length-drop c.loop-filled.filled c.loop-filled.buf) in
     let read = c.in-Ok-eq0.ensures.reads asked in
-    let same = c.read_front.auto.buf in
-    let long = length-refilled c.loop-filled.filled c.loop-filled.buf c.read_front.new.buf within same in
-    let prefix = take-put_mid_below c.loop-filled.filled (length c.loop-filled.buf - c.loop-filled.filled) c.loop-filled.buf c.read_front.new.buf c.loop-filled.filled (omega arith) within in
+    let same = c.read_front.auto.place in
+    let long = length-refilled c.loop-filled.filled c.loop-filled.buf c.read_front.new.place within same in
+    let prefix = take-put_mid_below c.loop-filled.filled (length c.loop-filled.buf - c.loop-filled.filled) c.loop-filled.buf c.read_front.new.place c.loop-filled.filled (omega arith) within in
     record { within = omega (arith, long); consumes = rw prefix (none_read _ _ _ _ _ _ c.in-Ok-eq0.field-0-test before.filled_part read.consumes); if_incomplete = λ _. consumed_none_later _ _ _ _ before.filled_part (read.if_empty c.in-Ok-eq0.field-0-test) }

@@ -15,9 +15,9 @@ reads-preserved g c =
     let within : at ≤ length buf = before.within in
     let asked : 0 < length (take (length buf - at) (drop at buf)) = omega (arith, length-take (length buf - at) (drop at buf), length-drop at buf) in
     let read = c.in_ok-read_count.ensures.reads asked in
-    let same = c.read_front.auto.buf in
-    let long = length-refilled at buf c.read_front.new.buf within same in
-    let visible = prefix_and_part at (length buf - at) c.in_ok-read_count.read_count buf c.read_front.new.buf within read.within in
+    let same = c.read_front.auto.place in
+    let long = length-refilled at buf c.read_front.new.place within same in
+    let visible = prefix_and_part at (length buf - at) c.in_ok-read_count.read_count buf c.read_front.new.place within read.within in
     record {
       within = omega (arith, read.within, long, same, length-take (length buf - at) (drop at buf), length-drop at buf);
       consumes = rw visible (consumed_more _ _ _ _ _ before.consumes read.consumes);
@@ -33,15 +33,15 @@ returns-then-read_count-eq0-clause-fills g c =
     let within : at ≤ length buf = before.within in
     let asked : 0 < length (take (length buf - at) (drop at buf)) = omega (arith, length-take (length buf - at) (drop at buf), length-drop at buf) in
     let read = c.in_ok-read_count.ensures.reads asked in
-    let long = length-refilled at buf c.read_front.new.buf within c.read_front.auto.buf in
-    let prefix = take-put_mid_below at (length buf - at) buf c.read_front.new.buf at (omega arith) within in
+    let long = length-refilled at buf c.read_front.new.place within c.read_front.auto.place in
+    let prefix = take-put_mid_below at (length buf - at) buf c.read_front.new.place at (omega arith) within in
     record { within = omega (arith, long); consumes = rw prefix (none_read _ _ _ _ _ _ c.if-read_count-eq0.true before.consumes read.consumes); if_incomplete = λ _. consumed_none_later _ _ _ _ before.consumes (read.if_empty c.if-read_count-eq0.true) }
 
 pub returns-then-read_count-eq0-clause-counts : goal.returns-then-read_count-eq0-clause-counts
 returns-then-read_count-eq0-clause-counts g c =
     let before = c.reads.invariant in
     let within : c.reads.filled ≤ length c.reads.buf = before.within in
-    let long = length-refilled c.reads.filled c.reads.buf c.read_front.new.buf within c.read_front.auto.buf in
+    let long = length-refilled c.reads.filled c.reads.buf c.read_front.new.place within c.read_front.auto.place in
     (c.in_ok-read_count.ensures.counts.0 ∙ before.counts.errors, λ all. absurd (omega (arith, long, all, c.reads-test.true)), let once = c.in_ok-read_count.ensures.counts.2 in let before = before.counts.pauses in omega (arith, once, before))
 
 pub returns-in_err-read_count-clause-fills : goal.returns-in_err-read_count-clause-fills
@@ -52,7 +52,7 @@ returns-in_err-read_count-clause-fills g c =
     let within : at ≤ length buf = before.within in
     let asked : 0 < length (take (length buf - at) (drop at buf)) = omega (arith, length-take (length buf - at) (drop at buf), length-drop at buf) in
     let read = c.in_err-read_count.ensures.reads asked in
-    let long = length-refilled at buf c.read_front.new.buf within c.read_front.auto.buf in
-    let prefix = take-put_mid_below at (length buf - at) buf c.read_front.new.buf at (omega arith) within in
+    let long = length-refilled at buf c.read_front.new.place within c.read_front.auto.place in
+    let prefix = take-put_mid_below at (length buf - at) buf c.read_front.new.place at (omega arith) within in
     let p = err_from_is_err_and c.from_residual.result c.from_residual.ensures.1 in
     rw p.1 (record { count = at; too_few = omega (arith, long); consumes = rw prefix (consumed_no_more _ _ _ _ before.consumes read.0); source_failed = failed_later _ _ _ _ before.consumes read.1 })
