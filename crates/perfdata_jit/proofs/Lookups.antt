@@ -28,4 +28,5 @@ module _ (entries : List JitCodeDebugInfoEntry) (address above : ℕ) (point : I
               let same = slice_index_default entries k d found there in
               omega (arith, le, ap (λ e. e.code_addr) same, ap (λ e. e.code_addr) is)
         ];
+        last = λ k d later there. leb-false _ _ (point.1 k d (omega (arith, later, some)) there);
       }

@@ -17,6 +17,10 @@ source_of r = r.source
 abbrev pub buffered_in : {R : Type 0} → BufferedReader R → List ℕ
 buffered_in r = read_buffer_bytes r.buffer
 
+-- the next `n` buffered bytes are in one piece
+abbrev pub IsNextContiguous : {R : Type 0} → ℕ → BufferedReader R → Type 0
+IsNextContiguous n r = IsContiguous n r.buffer
+
 -- the length of the overflow buffer
 abbrev pub overflow_len_of : {R : Type 0} → BufferedReader R → ℕ
 overflow_len_of r = overflow_len r.buffer

@@ -1,6 +1,6 @@
 -- The parsed form of the bodies of a jitdump's records (Linux's jitdump specification). Numbers have fixed offsets, strings
 -- end at their first NUL, and bytes after a body's last part are ignored.
-use Rattle.std.specs.Prelude.{◌≡◌, ℕ, ◌+◌, ◌<◌, ◌≤◌, ◌⊎◌, List, [], ◌∷◌, ◌++◌, length, drop, slice_range, Option, MatchOption}
+use Rattle.std.specs.Prelude.{◌≡◌, ℕ, ◌+◌, ◌<◌, ◌≤◌, ◌⊎◌, List, [], ◌∷◌, ◌++◌, length, drop, slice_range, slice_index_or, Option, MatchOption}
 use Rattle.std.specs.List.{All, Contains}
 use Rattle.std.specs.IoError.{error_kind}
 use Rattle.std.specs.declared.io.Error.{Error}
@@ -87,11 +87,19 @@ module _ (number : ℕ → List ℕ → ℕ) where
     pub too_few : length entries < count
     pub is_truncated : IsTruncatedDebugEntry after_body
 
-  -- parsing `count` entries fails: an entry is truncated, or an allocation failed
+  -- the bytes begin with one entry or more, at most `count`
+  pub record BeginsWithDebugEntries (count : ℕ) (bytes : List ℕ) : Type 0 where
+    pub entries : List JitCodeDebugInfoEntry
+    pub after_body : List ℕ
+    pub elements : AreDebugEntries bytes entries after_body
+    pub is_nonempty : 0 < length entries
+    pub within : length entries ≤ count
+
+  -- parsing `count` entries fails: an entry is truncated, or an allocation failed for a complete entry
   abbrev pub IsDebugEntriesError : ℕ → List ℕ → Error → Type 0
   IsDebugEntriesError count bytes e =
       ((error_kind e ≡ UnexpectedEof) × HasTruncatedDebugEntry count bytes)
-      ⊎ ((error_kind e ≡ OutOfMemory) × (0 < count))
+      ⊎ ((error_kind e ≡ OutOfMemory) × BeginsWithDebugEntries count bytes)
 
   -- the body is no debug info: the sixteen bytes or an entry are truncated, or an allocation for the entries failed
   abbrev pub IsDebugInfoError : List ℕ → Error → Type 0
@@ -120,11 +128,12 @@ abbrev pub CodeIsAtOffset : Type 0
 CodeIsAtOffset = (number : ℕ → List ℕ → ℕ) (header body : List ℕ) (load : JitCodeLoadRecord) → length header ≡ 16 → IsLoad number body load
     → (let offset = 57 + length (bytes_of load.function_name) in slice_range (header ++ body) offset (offset + length (bytes_of load.code_bytes)) ≡ bytes_of load.code_bytes)
 
--- an entry with the greatest address that is not above this address
+-- the last entry with the greatest address that is not above this address
 pub record IsGreatestBelow (entries : List JitCodeDebugInfoEntry) (address : ℕ) (entry : JitCodeDebugInfoEntry) : Type 0 where
   pub is_entry : Contains entries entry
   pub at_most_address : entry.code_addr ≤ address
   pub greatest : All (λ other. other.code_addr ≤ address → other.code_addr ≤ entry.code_addr) entries
+  pub last : (k : ℕ) (other : JitCodeDebugInfoEntry) → is_entry.0 < k → k < length entries → address < (slice_index_or entries k other).code_addr
 
 -- the result is such an entry, or none if all addresses are above this address
 abbrev pub IsLookup : List JitCodeDebugInfoEntry → ℕ → Option JitCodeDebugInfoEntry → Type 0

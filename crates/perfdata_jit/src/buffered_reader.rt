@@ -5,8 +5,7 @@ ghost use Rattle.std.specs.Io.BufRead.{Rests};
 ghost use Rattle.std.specs.IoError.{error_kind};
 ghost use Rattle.std.specs.declared.io.ErrorKind.TheVariants.{Other};
 ghost use Rattle.perfdata_base.specs.Raw.{IsSingle, bytes_of};
-ghost use Rattle.perfdata_jit.specs.BufferedReader.{EnsuresBuffered, ConsumesData, ConsumesHeader, SkipsBytes, ConsumesBuffered, buffered_in, has_seek_failed, overflow_len_of, ring_capacity_of, source_of};
-ghost use Rattle.perfdata_jit.specs.ReadBuffer.{IsContiguous};
+ghost use Rattle.perfdata_jit.specs.BufferedReader.{EnsuresBuffered, ConsumesData, ConsumesHeader, IsNextContiguous, SkipsBytes, ConsumesBuffered, buffered_in, has_seek_failed, overflow_len_of, ring_capacity_of, source_of};
 ghost use Rattle.perfdata_jit.specs.Seeking.{SkipsBySeek};
 ghost use Rattle.perfdata_jit.specs.contracts.buffered_reader.BufferedReader.{the_row};
 
@@ -98,7 +97,7 @@ impl<R: Source> BufferedReader<R> {
     pub(crate) fn consume_buffered(&mut self, count: usize) -> RawData<'_>
         requires { count ≤ length (buffered_in self.old) }
         ensures part { bytes_of result ≡ take count (buffered_in self.old) }
-        ensures single { IsContiguous count self.old.buffer → IsSingle result }
+        ensures single { IsNextContiguous count self.old → IsSingle result }
         ensures* after_borrow { sem 𝓛 (Rests (the_row R.row) self.entry
             (λ new. ConsumesBuffered R.state count self.old new)) }
     {
@@ -113,7 +112,7 @@ impl<R: Source> BufferedReader<R> {
     /// buffer and an allocation fails. No byte is lost by `None` or by an error, and the call can be
     /// repeated. Once a seek has failed, each call fails with kind `Other` and does nothing.
     pub fn consume_data(&mut self, count: usize) -> Result<Option<RawData<'_>>>
-        ensures single { IsContiguous count self.old.buffer → IfOk result (λ part. IfSome part IsSingle) }
+        ensures single { IsNextContiguous count self.old → IfOk result (λ part. IfSome part IsSingle) }
         ensures* after_borrow { sem 𝓛 (Rests (the_row R.row) self.entry
             (λ new. ConsumesData R.state count self.old result new
             × (R.loan (source_of new) ≡ R.loan (source_of self.old)))) }

@@ -26,6 +26,27 @@ const BUFFER_SIZE: usize = 4096;
 ///
 /// A record is borrowed from the buffers until the next call. `Ok(None)` means that the next record is not
 /// complete yet. No byte is lost by `Ok(None)` or by a read error, and the call can be repeated.
+///
+/// ```
+/// use linux_perf_data::jitdump::{JitDumpError, JitDumpReader, JitDumpRecord};
+/// use linux_perf_data::source::Counted;
+/// use std::alloc::Global;
+/// use std::io::Read;
+///
+/// fn code_size<R: Read + Drop>(alloc: Global, file: R) -> Result<u64, JitDumpError> {
+///     let mut reader = JitDumpReader::new(alloc, Counted::new(file))?;
+///     let mut size = 0u64;
+///     for _ in 0..u64::MAX {
+///         let Some(record) = reader.next_record()? else {
+///             break;
+///         };
+///         if let JitDumpRecord::CodeLoad(load) = record.parse(alloc)? {
+///             size = size.saturating_add(load.code_bytes.len() as u64);
+///         }
+///     }
+///     Ok(size)
+/// }
+/// ```
 #[derive(Drop)]
 pub struct JitDumpReader<R> {
     reader: BufferedReader<R>,

@@ -281,8 +281,8 @@ impl<'a> JitCodeDebugInfoRecord<'a> {
         })
     }
 
-    /// Returns an entry with the greatest address that is not above `addr`, or `None` if all addresses are
-    /// above it.
+    /// Returns the last entry with the greatest address that is not above `addr`, or `None` if all addresses
+    /// are above it.
     ///
     /// This requires that the entries are sorted by address. Otherwise the result is any entry or `None`.
     pub fn lookup(&self, addr: u64) -> Option<&JitCodeDebugInfoEntry<'a>>
