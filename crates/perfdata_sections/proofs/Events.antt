@@ -1,6 +1,6 @@
 -- From the parts of an event, and from events, to their section, or to the error.
 use Rattle.std.proofs.Common.{◌≡◌, ◌≢◌, ℕ, ◌+◌, ◌-◌, ◌^◌, ◌<◌, ◌≤◌, List, [], ◌∷◌, ◌++◌, length, take, drop, refl, sym, ap, ◌∙◌, subst, inl, inr, arith, length-append, length-drop, append_assoc, append-nil, Option, None, Some, pos}
-use Rattle.std.specs.Prelude.{◌⊎◌, IfSome, Result, Ok, Err, Vec, string_bytes}
+use Rattle.std.specs.Prelude.{◌⊎◌, IfSome, IfErr, Result, Ok, Err, Vec, string_bytes}
 use Rattle.std.specs.Option.{option_map}
 use Rattle.std.proofs.lemmas.List.{drop-drop, length-map, length-take-le, map_push, take-append-drop}
 use Rattle.std.specs.declared.alloc.Global.{Global}
@@ -16,7 +16,7 @@ use Rattle.perfdata_base.proofs.Numbers.{ReadsFirst}
 use Rattle.perfdata_sections.specs.AttributeDescription.{DescribedEvent, event_in, events_in}
 use Rattle.perfdata_sections.specs.AttrFrames.{IsAttrInFrame, ConsumesFrameError, FrameRead, IsAttributesSourceError}
 use Rattle.perfdata_sections.specs.EventIds.{AreIds, ReadsIds}
-use Rattle.perfdata_sections.specs.EventDesc.{IsNameAndIds, IsTruncatedNameAndIds, ReadsNameAndIds, IsEvent, AreEvents, IsEventError, PaddedFrameRead, FrameEndSeekError, FrameReadError, ReadsPaddedFrame, EventReadError, ReadsEvents, EventsRead, EventsReadError, IsEventDesc, DescribesByEventDesc, IsEventDescError, EventDescReadError, ReadsEventDesc, event_count_of, frame_size_of}
+use Rattle.perfdata_sections.specs.EventDesc.{IsNameAndIds, IsTruncatedNameAndIds, ReadsNameAndIds, IsEvent, AreEvents, IsEventError, PaddedFrameRead, FrameEndSeekError, FrameReadError, ReadsPaddedFrame, EventReadError, EventNeedsMemory, EventsNeedMemory, EventDescNeedsMemory, ReadsEvents, EventsRead, EventsReadError, IsEventDesc, DescribesByEventDesc, IsEventDescError, EventDescReadError, ReadsEventDesc, event_count_of, frame_size_of}
 use Rattle.perfdata_sections.specs.ParsedPart.{PartRead, PartReadError, file_error_of}
 use Rattle.perfdata_sections.specs.Items.{SomeBytes, IsTruncationOf, IsShorterThan}
 use Rattle.perfdata_sections.specs.HeaderString.{IsHeaderStringOf, IsTruncatedString, ReadsHeaderString}
@@ -96,6 +96,9 @@ seek_in_range a b prefix distance from_position small consumed some low none =
     let known : b.bytes ≡ Some (drop none.start.offset none.start.all_bytes) = after_seek.from_position ∙ ap remaining_from none.at_start in
     let within = position_within_all a.position none.start prefix (drop none.start.offset none.start.all_bytes) (sym consumed.position ∙ none.at_start) (sym from_position ∙ consumed.bytes ∙ ap (prepend prefix) known) some in
     omega arith
+
+io_not_memory : (error : SourceError) → IoError error ≡ Memory → ⊥
+io_not_memory error is = absurd cc
 
 module _ (number : ℕ → List ℕ → ℕ) (first : ReadsFirst number) where
   -- ---- the bytes after a frame
@@ -255,6 +258,12 @@ module _ (number : ℕ → List ℕ → ℕ) (first : ReadsFirst number) where
           λ ne. inr (inr (record { attr = attr; mid = b; frame_read = skipped; error = read_error_next (IsTruncatedNameAndIds number) b c error truncated })),
         )
 
+    -- memory runs out after a frame
+    pub event_needs_memory : (a b c : State) (attr : PerfEventAttr) (error : AppendError) (e : Error) → PaddedFrameRead number attr_size a attr b → ReadsNameAndIds number b (Err error) c → e ≡ file_error_of error → e ≡ Memory
+        → EventNeedsMemory number attr_size a c
+    event_needs_memory a b c attr NoMemory e skipped some is memory = record { attr = attr; mid = b; frame_read = skipped; partly_read = some }
+    event_needs_memory a b c attr (Source error) e skipped truncated is memory = absurd (io_not_memory error (sym is ∙ memory))
+
     pub event_frame_error : (a b : State) (e : Error) → ReadsPaddedFrame number attr_size a (Err e) b → AfterSeek a b × (e ≢ Memory → EventReadError number attr_size a e b)
     event_frame_error a b e read_error = (read_error.0, λ ne. elim read_error.1 [ inl frame ↦ inl frame | inr end ↦ inr (inl end) ])
 
@@ -285,6 +294,13 @@ module _ (number : ℕ → List ℕ → ℕ) (first : ReadsFirst number) where
           after_seek_more a b c (consumed-after_seek a b was_read.bytes from_position was_read.consumes) read_error.0,
           λ ne. record { before = events_in ds; mid = b; bytes_before = was_read.bytes; too_few = omega (arith, long, length-map ds event_in); consumes = was_read.consumes; elements = was_read.elements; error = read_error.1 ne },
         )
+
+    -- memory runs out for the next event
+    pub events_need_memory : (i count : ℕ) (a b c : State) (ds : List AttributeDescription) → i < count → EventsRead number attr_size i a ds b → EventNeedsMemory number attr_size b c ⊎ ((d : AttributeDescription) × PartRead (λ xs d. IsEvent number attr_size xs (event_in d)) b d c)
+        → EventsNeedMemory number attr_size count a c
+    events_need_memory i count a b c ds low was_read needs =
+        let long = was_read.exact_len in
+        record { before = events_in ds; mid = b; bytes_before = was_read.bytes; too_few = omega (arith, long, low, length-map ds event_in); consumes = was_read.consumes; elements = was_read.elements; needs = needs }
 
     -- the next event can't be allocated
     pub events_after_seek : (i : ℕ) (a b c : State) (ds : List AttributeDescription) (d : AttributeDescription) → RemainsFromPosition a → EventsRead number attr_size i a ds b → PartRead (λ xs d. IsEvent number attr_size xs (event_in d)) b d c → AfterSeek a c
@@ -344,11 +360,26 @@ module _ (number : ℕ → List ℕ → ℕ) (first : ReadsFirst number) where
     matches = record { header = header; event_bytes = was_read.bytes; matches = refl; exact_len = long; count = length-map v.items event_in ∙ was_read.exact_len ∙ says; elements = subst (λ n. AreEvents number n was_read.bytes (events_in v.items)) sized was_read.elements };
   }
 
+  -- memory runs out for an event of the section
+  pub desc_needs_memory : (a b c : State) (header : List ℕ) (count size : ℕ) → length header ≡ 8 → Consumed a header b → count ≡ event_count_of number header → size ≡ frame_size_of number header → EventsNeedMemory number size count b c → EventDescNeedsMemory number a c
+  desc_needs_memory a b c header count size long consumed says sized needs = record {
+    header = header;
+    mid = b;
+    exact_len = long;
+    consumes = consumed;
+    needs = subst (λ n. EventsNeedMemory number n (event_count_of number header) b c) sized (subst (λ n. EventsNeedMemory number size n b c) says needs);
+  }
+
   -- the result of reading the events after the first 8 bytes is that of the section
   pub desc_result : (a b c : State) (header : List ℕ) (count size : ℕ) (r : Result (Vec AttributeDescription Global) Error) → RemainsFromPosition a → length header ≡ 8 → Consumed a header b → count ≡ event_count_of number header → size ≡ frame_size_of number header
       → ReadsEvents number size count b r c → ReadsEventDesc number a r c
   desc_result a b c header count size (Ok v) from_position long consumed says sized was_read = desc_read a b c header count size v long consumed says sized was_read
   desc_result a b c header count size (Err e) from_position long consumed says sized read_error = desc_events_error a b c header count size e from_position long consumed says sized read_error
+
+  pub desc_result_needs_memory : (a b c : State) (header : List ℕ) (count size : ℕ) (r : Result (Vec AttributeDescription Global) Error) → length header ≡ 8 → Consumed a header b → count ≡ event_count_of number header → size ≡ frame_size_of number header
+      → IfErr r (λ e. e ≡ Memory → EventsNeedMemory number size count b c) → IfErr r (λ e. e ≡ Memory → EventDescNeedsMemory number a c)
+  desc_result_needs_memory a b c header count size (Ok v) long consumed says sized needs = tt
+  desc_result_needs_memory a b c header count size (Err e) long consumed says sized needs = λ memory. desc_needs_memory a b c header count size long consumed says sized (needs memory)
 
   -- the bytes of the source contain what was read
   pub event_desc_described : (old : State) (ds : List AttributeDescription) (new : State) → PartRead (λ xs ds. IsEventDesc number xs (events_in ds)) old ds new → IfSome old.bytes (λ xs. DescribesByEventDesc number xs ds)

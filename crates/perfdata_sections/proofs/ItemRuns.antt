@@ -9,7 +9,7 @@ use Rattle.std.specs.declared.io.SeekFrom.TheVariants.{Start}
 use Rattle.perfdata_base.specs.Source.{State, Position, prepend, advance_by, remaining_from, at_offset, all_bytes_of, Consumed, EndedOrPaused, EndedOrFailed, ReadExactError, SourceFailed, SourcePaused, AfterSeek, SeekSucceeded, SeekOutOfRange}
 use Rattle.perfdata_base.proofs.ReadErrors.{none_or_paused, all_read, consumed-after_seek, after_seek_more, failed_after_seek, paused_after_seek}
 use Rattle.perfdata_sections.specs.ParsedPart.{PartReadError}
-use Rattle.perfdata_sections.specs.Items.{SomeBytes, ReadErrorCause, NextReadError, ReadOrSeekErrorAt, IsTruncationOf, IsReadErrorOf, IsShorterThan, ItemRead, ItemsAt, AreItems, ItemsRead, ItemsReadErrorBy}
+use Rattle.perfdata_sections.specs.Items.{SomeBytes, ReadErrorCause, NextReadError, ReadOrSeekErrorAt, IsTruncationOf, IsReadErrorOf, IsShorterThan, ItemRead, ItemsAt, AreItems, ItemsRead, SomeItemsRead, ItemsReadErrorBy}
 use Rattle.perfdata_sections.specs.declared.error.Error.{Error}
 use Rattle.perfdata_sections.specs.declared.error.Error.TheVariants.{IoError, Memory}
 
@@ -198,6 +198,13 @@ module _ {D : Type 0} (IsOne : List ℕ → D → Type 0) where
             is_possible = so_far.is_possible;
             matches = if_some_more (all_bytes_of a.position) (λ all. ItemsAt IsOne step all offset ds) (λ all. AreItems IsOne step offset size all ds) (λ all each. record { count = count; items_match = each }) so_far.matches;
           }
+
+      -- memory runs out for the last item
+      pub items_some : 0 < length ds → SomeItemsRead IsOne step a offset size
+      items_some some =
+          let s = size_is in
+          let fits : length ds * step ≤ size = omega arith in
+          record { items = ds; is_nonempty = some; within = le-div (length ds) size step can fits; is_possible = so_far.is_possible; elements = so_far.matches }
 
       -- one more item was read
       pub items_more : (c : State) (d : D) (now : List D) → step ≤ offset + size - at → now ≡ ds ++ d ∷ [] → ItemRead IsOne b at d c → IsSoFar offset size a c (at + step) now

@@ -7,7 +7,7 @@ use Rattle.perfdata_base.specs.declared.attr.PerfEventAttr.{PerfEventAttr}
 use Rattle.perfdata_base.specs.declared.section.PerfFileSection.{PerfFileSection}
 use Rattle.perfdata_sections.specs.AttributeDescription.{attr_in, name_in, ids_in}
 use Rattle.perfdata_sections.specs.Error.{IsUnexpectedEof, IsIoError}
-use Rattle.perfdata_sections.specs.Items.{NextReadError, ReadsItemAt, AreItems, ReadsItems}
+use Rattle.perfdata_sections.specs.Items.{NextReadError, ReadsItemAt, AreItems, SomeItemsRead, ReadsItems}
 use Rattle.perfdata_sections.specs.declared.feature_sections.AttributeDescription.{AttributeDescription}
 use Rattle.perfdata_sections.specs.declared.error.Error.{Error}
 use Rattle.perfdata_sections.specs.declared.error.Error.TheVariants.{Read, InconsistentAttributeSizes}
@@ -75,6 +75,10 @@ module _ (number : ℕ → List ℕ → ℕ) (attr_size : ℕ) where
     -- The section contains exactly these attributes, one after another: as many frames as fit into its size.
     abbrev pub DescribesByAttrSection : List ℕ → List AttributeDescription → Type 0
     DescribesByAttrSection all ds = AreItems IsPlainDescription attr_size section.offset section.size all ds
+
+    -- The first attributes of a valid section are read, at least one. Memory runs out for the description of the last.
+    abbrev pub AttrSectionNeedsMemory : State → Type 0
+    AttrSectionNeedsMemory old = (¬ IsInvalidAttrSection) × SomeItemsRead IsPlainDescription attr_size old section.offset section.size
 
     -- What reading the section does. An invalid section leaves the source unchanged. Otherwise all attributes are read; or
     -- reading fails after the first attributes: the next bytes are no frame, a read of them fails or pauses, or the seek to them

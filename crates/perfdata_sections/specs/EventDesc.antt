@@ -113,6 +113,13 @@ module _ (number : ℕ → List ℕ → ℕ) where
     ReadsEvent old (Ok d) new = PartRead (λ xs d. IsEvent xs (event_in d)) old d new
     ReadsEvent old (Err e) new = AfterSeek old new × (e ≢ Memory → EventReadError old e new)
 
+    -- Memory runs out after a frame, and after the count of ids and the length of the name.
+    pub record EventNeedsMemory (old new : State) : Type 0 where
+      pub attr : PerfEventAttr
+      pub mid : State
+      pub frame_read : PaddedFrameRead old attr mid
+      pub partly_read : PartPartlyRead (λ xs. 8 ≤ length xs) mid new
+
     module _ (count : ℕ) where
       -- `count` events are read.
       pub record EventsRead (old : State) (ds : List AttributeDescription) (new : State) : Type 0 where
@@ -130,6 +137,16 @@ module _ (number : ℕ → List ℕ → ℕ) where
         pub consumes : Consumed old bytes_before mid
         pub elements : AreEvents bytes_before before
         pub error : EventReadError mid e new
+
+      -- The first events are read, fewer than `count`, and memory runs out in the next, or for its description.
+      pub record EventsNeedMemory (old new : State) : Type 0 where
+        pub before : List DescribedEvent
+        pub mid : State
+        pub bytes_before : List ℕ
+        pub too_few : length before < count
+        pub consumes : Consumed old bytes_before mid
+        pub elements : AreEvents bytes_before before
+        pub needs : EventNeedsMemory mid new ⊎ ((d : AttributeDescription) × PartRead (λ xs d. IsEvent xs (event_in d)) mid d new)
 
       -- What reading `count` events does.
       abbrev pub ReadsEvents : State → Result (Vec AttributeDescription Global) Error → State → Type 0
@@ -189,6 +206,14 @@ module _ (number : ℕ → List ℕ → ℕ) where
   -- The first failure while the section is read.
   abbrev pub EventDescReadError : State → Error → State → Type 0
   EventDescReadError old e new = NextReadError (IsTruncationOf (IsShorterThan 8)) (IsReadErrorOf (IsShorterThan 8)) old e new ⊎ EventsErrorAfterHeader old e new
+
+  -- The first eight bytes are read, and memory runs out for an event after them.
+  pub record EventDescNeedsMemory (old new : State) : Type 0 where
+    pub header : List ℕ
+    pub mid : State
+    pub exact_len : length header ≡ 8
+    pub consumes : Consumed old header mid
+    pub needs : EventsNeedMemory (frame_size_of header) (event_count_of header) mid new
 
   -- What reading the section at the source's position does. On success, exactly its bytes are consumed. If memory runs out, no
   -- cause is specified.

@@ -1,5 +1,5 @@
 -- Items at offsets of a file, alone or one after another, and what reading them does to a source.
-use Rattle.std.specs.Prelude.{◌≡◌, ◌≢◌, ℕ, ◌+◌, ◌*◌, ◌/◌, ◌<◌, ◌⊎◌, List, [], ◌∷◌, length, take, drop, All, Option, Result, Ok, Err, IfSome, Vec}
+use Rattle.std.specs.Prelude.{◌≡◌, ◌≢◌, ℕ, ◌+◌, ◌*◌, ◌/◌, ◌<◌, ◌≤◌, ◌⊎◌, List, [], ◌∷◌, length, take, drop, All, Option, Result, Ok, Err, IfSome, Vec}
 use Rattle.std.specs.declared.alloc.Global.{Global}
 use Rattle.perfdata_base.specs.Source.{State, Consumed, SourceFailed, SourcePaused, AfterSeek, all_bytes_of, at_offset}
 use Rattle.perfdata_sections.specs.Error.{IsIoError, IsUnexpectedEof}
@@ -73,6 +73,14 @@ module _ {D : Type 0} (IsOne : List ℕ → D → Type 0) where
       pub count : length ds ≡ size / step
       pub is_possible : All (λ d. SomeBytes (λ xs. IsOne xs d)) ds
       pub matches : IfSome (all_bytes_of old.position) (λ all. AreItems offset size all ds)
+
+    -- The first items are read, at least one.
+    pub record SomeItemsRead (old : State) (offset size : ℕ) : Type 0 where
+      pub items : List D
+      pub is_nonempty : 0 < length items
+      pub within : length items ≤ size / step
+      pub is_possible : All (λ d. SomeBytes (λ xs. IsOne xs d)) items
+      pub elements : IfSome (all_bytes_of old.position) (λ all. ItemsAt all offset items)
 
   -- `Fails old at e new`: reading an item at the offset `at` fails with `e`.
   module _ (Fails : State → ℕ → Error → State → Type 0) where

@@ -1,10 +1,11 @@
 //! The sections that contain attributes, strings and numbers.
-ghost use Rattle.std.specs.Prelude.{◌≡◌, string_bytes};
+ghost use Rattle.std.specs.Prelude.{◌≡◌, ◌≢◌, IfErr, string_bytes};
 ghost use Rattle.std.specs.Option.{option_map};
 ghost use Rattle.perfdata_base.specs.Source.{State, PausesOnlyOnError};
 ghost use Rattle.perfdata_sections.specs.AttributeDescription.{attr_in, name_in, ids_in};
-ghost use Rattle.perfdata_sections.specs.AttrFrames.{ReadsFrame, ReadsFrameAt, ReadsAttrSection};
-ghost use Rattle.perfdata_sections.specs.EventDesc.{ReadsEventDesc};
+ghost use Rattle.perfdata_sections.specs.AttrFrames.{AttrSectionNeedsMemory, ReadsFrame, ReadsFrameAt, ReadsAttrSection};
+ghost use Rattle.perfdata_sections.specs.declared.error.Error.TheVariants.{Memory};
+ghost use Rattle.perfdata_sections.specs.EventDesc.{EventDescNeedsMemory, ReadsEventDesc};
 ghost use Rattle.perfdata_sections.specs.EventTypes.{ReadsEventTypes};
 ghost use Rattle.perfdata_sections.specs.SimpleperfAttrs.{ReadsSimpleperfAttrs};
 
@@ -49,6 +50,7 @@ fn read_attr_frame<R: Source, T: FileOrder>(
     attr_size: u64,
 ) -> Result<PerfEventAttr, Error>
     ensures reads { ReadsFrame T.number_of attr_size (R.state source.old) result (R.state source.new) }
+    ensures no_memory { IfErr result (λ e. e ≢ Memory) }
     ensures pauses { PausesOnlyOnError (R.state source.old) result (R.state source.new) }
     ensures same_loan { R.loan source.new ≡ R.loan source.old }
 {
@@ -73,6 +75,7 @@ fn read_attr_frame_at<C: PlacedSource, T: FileOrder>(
     attr_size: u64,
 ) -> Result<PerfEventAttr, Error>
     ensures reads { ReadsFrameAt T.number_of attr_size (C.state source.old) at result (C.state source.new) }
+    ensures no_memory { IfErr result (λ e. e ≢ Memory) }
     ensures pauses { PausesOnlyOnError (C.state source.old) result (C.state source.new) }
     ensures same_loan { C.loan source.new ≡ C.loan source.old }
 {
@@ -145,6 +148,8 @@ impl AttributeDescription {
     ) -> Result<Vec<AttributeDescription>, Error>
         ensures reads { ReadsAttrSection T.number_of attr_size section.now (C.state c.old) result
             (C.state c.new) }
+        ensures memory { IfErr result (λ e. e ≡ Memory
+            → AttrSectionNeedsMemory T.number_of attr_size section.now (C.state c.old)) }
         ensures pauses { PausesOnlyOnError (C.state c.old) result (C.state c.new) }
         ensures same_loan { C.loan c.new ≡ C.loan c.old }
     {
@@ -177,8 +182,10 @@ impl AttributeDescription {
         section: &PerfFileSection,
         attr_size: u64,
     ) -> Result<Vec<AttributeDescription>, Error>
-        ensures { (final : State) × ReadsAttrSection T.number_of attr_size section.now
+        ensures reads { (final : State) × ReadsAttrSection T.number_of attr_size section.now
             (C.state c) result final }
+        ensures memory { IfErr result (λ e. e ≡ Memory
+            → AttrSectionNeedsMemory T.number_of attr_size section.now (C.state c)) }
     {
         AttributeDescription::parse_attr_section_from::<C, T>(alloc, &mut c, section, attr_size)
     }
@@ -199,6 +206,8 @@ impl AttributeDescription {
         cursor: &mut C,
     ) -> Result<Vec<AttributeDescription>, Error>
         ensures reads { ReadsEventDesc T.number_of (C.state cursor.old) result (C.state cursor.new) }
+        ensures memory { IfErr result (λ e. e ≡ Memory
+            → EventDescNeedsMemory T.number_of (C.state cursor.old) (C.state cursor.new)) }
         ensures pauses { PausesOnlyOnError (C.state cursor.old) result (C.state cursor.new) }
         ensures same_loan { C.loan cursor.new ≡ C.loan cursor.old }
     {
@@ -210,7 +219,9 @@ impl AttributeDescription {
         alloc: Global,
         mut cursor: C,
     ) -> Result<Vec<AttributeDescription>, Error>
-        ensures { (final : State) × ReadsEventDesc T.number_of (C.state cursor) result final }
+        ensures reads { (final : State) × ReadsEventDesc T.number_of (C.state cursor) result final }
+        ensures memory { IfErr result (λ e. e ≡ Memory
+            → (final : State) × EventDescNeedsMemory T.number_of (C.state cursor) final) }
     {
         AttributeDescription::parse_event_desc_section_from::<C, T>(alloc, &mut cursor)
     }

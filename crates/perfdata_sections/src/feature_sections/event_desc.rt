@@ -1,8 +1,9 @@
 //! The section EVENT_DESC: attributes with names and ids.
-ghost use Rattle.std.specs.Prelude.{◌≡◌};
+ghost use Rattle.std.specs.Prelude.{◌≡◌, ◌≢◌, IfErr};
 ghost use Rattle.perfdata_base.specs.Source.{PausesOnlyOnError};
 ghost use Rattle.perfdata_sections.specs.ParsedPart.{NoPauseIfOutOfMemory};
-ghost use Rattle.perfdata_sections.specs.EventDesc.{ReadsNameAndIds, ReadsPaddedFrame, ReadsEvent, ReadsEvents, ReadsEventDesc};
+ghost use Rattle.perfdata_sections.specs.EventDesc.{EventNeedsMemory, EventsNeedMemory, EventDescNeedsMemory, ReadsNameAndIds, ReadsPaddedFrame, ReadsEvent, ReadsEvents, ReadsEventDesc};
+ghost use Rattle.perfdata_sections.specs.declared.error.Error.TheVariants.{Memory as OfMemory};
 
 use crate::error::Error;
 use crate::feature_sections::event_ids::read_ids;
@@ -45,6 +46,7 @@ fn read_padded_frame<C: PlacedSource, T: FileOrder>(
     attr_size: u32,
 ) -> Result<PerfEventAttr, Error>
     ensures reads { ReadsPaddedFrame T.number_of attr_size (C.state source.old) result (C.state source.new) }
+    ensures no_memory { IfErr result (λ e. e ≢ OfMemory) }
     ensures pauses { PausesOnlyOnError (C.state source.old) result (C.state source.new) }
     ensures same_loan { C.loan source.new ≡ C.loan source.old }
 {
@@ -64,6 +66,8 @@ fn read_event<C: PlacedSource, T: FileOrder>(
     attr_size: u32,
 ) -> Result<AttributeDescription, Error>
     ensures reads { ReadsEvent T.number_of attr_size (C.state source.old) result (C.state source.new) }
+    ensures needs_memory { IfErr result (λ e. e ≡ OfMemory
+        → EventNeedsMemory T.number_of attr_size (C.state source.old) (C.state source.new)) }
     ensures pauses { PausesOnlyOnError (C.state source.old) result (C.state source.new) }
     ensures same_loan { C.loan source.new ≡ C.loan source.old }
 {
@@ -84,6 +88,8 @@ fn read_events<C: PlacedSource, T: FileOrder>(
     count: u32,
 ) -> Result<Vec<AttributeDescription>, Error>
     ensures reads { ReadsEvents T.number_of attr_size count (C.state source.old) result (C.state source.new) }
+    ensures needs_memory { IfErr result (λ e. e ≡ OfMemory
+        → EventsNeedMemory T.number_of attr_size count (C.state source.old) (C.state source.new)) }
     ensures pauses { PausesOnlyOnError (C.state source.old) result (C.state source.new) }
     ensures same_loan { C.loan source.new ≡ C.loan source.old }
 {
@@ -101,6 +107,8 @@ pub(crate) fn read_event_desc<C: PlacedSource, T: FileOrder>(
     source: &mut C,
 ) -> Result<Vec<AttributeDescription>, Error>
     ensures reads { ReadsEventDesc T.number_of (C.state source.old) result (C.state source.new) }
+    ensures needs_memory { IfErr result (λ e. e ≡ OfMemory
+        → EventDescNeedsMemory T.number_of (C.state source.old) (C.state source.new)) }
     ensures pauses { PausesOnlyOnError (C.state source.old) result (C.state source.new) }
     ensures same_loan { C.loan source.new ≡ C.loan source.old }
 {
