@@ -3,10 +3,15 @@ use Rattle.std.proofs.Common.{◌≡◌, ℕ, ◌<◌, ◌⊎◌, inl, inr, List
 use Rattle.std.specs.declared.alloc.Global.{Global}
 use Rattle.perfdata_base.specs.Endian.{number_in}
 use Rattle.perfdata_base.specs.declared.raw.Endianness.{Endianness}
-use Rattle.perfdata_simpleperf.specs.Chunks.{ChunkError, truncated_length, exceeds_section, invalid_record, ReportsChunkError, ChunkAt, IsTruncatedLength, IsTruncatedChunk, ChunksAt, AreChunks, ChunkErrorAt, FirstChunkError}
+use Rattle.perfdata_simpleperf.specs.Chunks.{ChunkError, truncated_length, exceeds_section, invalid_record, ReportsChunkError, ChunkAt, IsTruncatedLength, IsTruncatedChunk, ChunksAt, AreChunks, ChunkNeedsMemory, ChunkErrorAt, FirstChunkError}
 use Rattle.perfdata_sections.specs.declared.error.Error.{Error}
 use Rattle.perfdata_sections.specs.declared.error.Error.TheVariants.{Memory}
 use Rattle.perfdata_simpleperf.proofs.Decoding.ItemUniqueness.{splits_same}
+
+-- an error without the cause of an allocation failure
+pub without_chunk : {A : Type 0} (r : Result A Error) (P : Type 0) (Q : Error → Type 0) → IfErr r (λ e. ((e ≡ Memory) × P) ⊎ Q e) → IfErr r (λ e. (e ≡ Memory) ⊎ Q e)
+without_chunk (Ok a) P Q error = tt
+without_chunk (Err e) P Q error = elim error [ inl memory ↦ inl memory.0 | inr other ↦ inr other ]
 
 module _ (endian : Endianness) where
   pub chunk_shorter : (bs chunk rest : List ℕ) → ChunkAt endian bs chunk rest → length rest < length bs
@@ -35,10 +40,11 @@ module _ (endian : Endianness) where
     chunks_then bs (x ∷ ds) mid chunk d rest before at is = (before.0, before.1, before.2, before.3, chunks_then before.1 ds mid chunk d rest before.4 at is)
 
     module _ {F : Type 0} (IsNot : List ℕ → F → Type 0) where
-      -- a chunk follows valid ones, and its bytes have an error
-      pub bad_chunk : (Reports : F → Error → Type 0) (bs : List ℕ) (ds : List D) (mid chunk rest : List ℕ) (e : Error) → ChunksAt endian Is bs ds mid → ChunkAt endian mid chunk rest → (e ≡ Memory) ⊎ ((f : F) × IsNot chunk f × Reports f e) → (e ≡ Memory) ⊎ ((f : ChunkError F) × FirstChunkError endian Is IsNot bs f × ReportsChunkError Reports f e)
-      bad_chunk Reports bs ds mid chunk rest e before at (inl m) = inl m
-      bad_chunk Reports bs ds mid chunk rest e before at (inr w) = inr (invalid_record w.0, record { earlier = ds; mid = mid; elements = before; error_here = record { chunk = chunk; rest = rest; reads = at; error = w.1 } }, w.2)
+      -- a chunk follows valid ones, and its bytes have an error, or need memory
+      pub bad_chunk : (Needs : List ℕ → Type 0) (Reports : F → Error → Type 0) (bs : List ℕ) (ds : List D) (mid chunk rest : List ℕ) (e : Error) → ChunksAt endian Is bs ds mid → ChunkAt endian mid chunk rest
+          → ((e ≡ Memory) × Needs chunk) ⊎ ((f : F) × IsNot chunk f × Reports f e) → ((e ≡ Memory) × ChunkNeedsMemory endian Is Needs bs) ⊎ ((f : ChunkError F) × FirstChunkError endian Is IsNot bs f × ReportsChunkError Reports f e)
+      bad_chunk Needs Reports bs ds mid chunk rest e before at (inl m) = inl (m.0, record { earlier = ds; mid = mid; elements = before; chunk = chunk; rest = rest; reads = at; needs = inl m.1 })
+      bad_chunk Needs Reports bs ds mid chunk rest e before at (inr w) = inr (invalid_record w.0, record { earlier = ds; mid = mid; elements = before; error_here = record { chunk = chunk; rest = rest; reads = at; error = w.1 } }, w.2)
 
       -- the bytes of a chunk encode at most one value, or else have at most one error
       pub record UniqueChunk : Type 0 where

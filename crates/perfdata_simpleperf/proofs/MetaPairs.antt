@@ -1,5 +1,5 @@
 -- From the segments between NULs to the pairs of meta info, and from the pairs to its map.
-use Rattle.std.proofs.Common.{◌≡◌, ℕ, List, [], ◌∷◌, ◌++◌, Bor, refl, sym, ap, ◌∙◌, arith, subst, true, false, append_assoc, length-append, Some, None, length, get_or, drop, All}
+use Rattle.std.proofs.Common.{◌≡◌, ℕ, List, [], ◌∷◌, ◌++◌, Bor, refl, sym, ap, ◌∙◌, subst, true, false, append_assoc, Some, None, length, get_or, drop, All}
 use Rattle.std.specs.Prelude.{cond, Ok, Err, ◌==◌}
 use Rattle.std.specs.HashMap.{HashMap, UpdatesBy, IsEmpty, get_by}
 use Rattle.std.specs.Map.{lookup, update}
@@ -78,9 +78,14 @@ module _ {S : Type 0} where
   pub pairs_error : (bytes : List ℕ) (m new : HashMap (Bor (List ℕ)) (Bor (List ℕ)) S) (rest remaining : List Pair) (p : Pair) (e : Error) → PairsSoFar bytes m rest → rest ≡ p ∷ remaining → InsertsPair m p (Err e) new
       → ParsesMetaInfo {S = S} bytes (Err e)
   pairs_error bytes m new rest remaining p StringUtf8 so_far is bad = pairs_stop bytes m rest remaining p so_far is bad
-  pairs_error bytes m new rest remaining p Memory so_far is memory = λ none.
-      let all = ap length (so_far.all ∙ ap (λ l. so_far.before ++ l) is) ∙ length-append so_far.before (p ∷ remaining) in
-      absurd (omega (arith, all, ap length none))
+  pairs_error bytes m new rest remaining p Memory so_far is utf8 = record {
+    before = so_far.before;
+    last = p;
+    rest = remaining;
+    split = so_far.all ∙ ap (λ l. so_far.before ++ l) is;
+    before_utf8 = so_far.texts;
+    last_utf8 = utf8;
+  }
   pairs_error bytes m new rest remaining p e so_far is none = absurd none
 
   pub pairs_whole : (bytes : List ℕ) (m : HashMap (Bor (List ℕ)) (Bor (List ℕ)) S) (rest : List Pair) → PairsSoFar bytes m rest → rest ≡ [] → IsMetaInfo bytes m

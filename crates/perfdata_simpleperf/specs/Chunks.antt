@@ -48,6 +48,16 @@ module _ (endian : Endianness) where
     abbrev pub AreChunks : List ℕ → List D → Type 0
     AreChunks bs ds = ChunksAt bs ds []
 
+    -- valid chunks, followed by a complete chunk that `Needs` memory, or that encodes a value
+    pub record ChunkNeedsMemory (Needs : List ℕ → Type 0) (bs : List ℕ) : Type 0 where
+      pub earlier : List D
+      pub mid : List ℕ
+      pub elements : ChunksAt bs earlier mid
+      pub chunk : List ℕ
+      pub rest : List ℕ
+      pub reads : ChunkAt mid chunk rest
+      pub needs : Needs chunk ⊎ ((d : D) × Is chunk d)
+
     -- `IsNot chunk f` says that the bytes of a chunk have the error `f`
     module _ {F : Type 0} (IsNot : List ℕ → F → Type 0) where
       -- the bytes begin with a complete chunk that has the error `f`

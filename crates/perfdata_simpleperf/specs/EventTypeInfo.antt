@@ -1,5 +1,5 @@
 -- The events in simpleperf's meta info: a line for each, with its name, type and config, separated by commas.
-use Rattle.std.specs.Prelude.{◌≡◌, ◌≢◌, ℕ, ◌^◌, ◌<◌, ◌==◌, List, [], ◌∷◌, map, Option, None, Some, Result, Ok, Err, Vec, string_bytes, ⊤}
+use Rattle.std.specs.Prelude.{◌≡◌, ℕ, ◌^◌, ◌<◌, ◌==◌, List, [], ◌∷◌, ◌++◌, length, map, Option, None, Some, Result, Ok, Err, Vec, string_bytes, ⊤}
 use Rattle.std.specs.List.{slice_split}
 use Rattle.std.specs.Str.Parse.{IsNumeral, digits_value, without_leading_plus}
 use Rattle.std.specs.declared.alloc.AllocError.{AllocError}
@@ -49,15 +49,29 @@ abbrev pub DescribesEventTypes : Option (List ℕ) → List EventType → Type 0
 DescribesEventTypes None es = ⊥
 DescribesEventTypes (Some text) es = DescribeEvents (text_lines text) es
 
+-- at least one line at the start of the text describes an event, as do all lines before it
+pub record BeginsWithEvents (text : List ℕ) : Type 0 where
+  pub lines : List (List ℕ)
+  pub rest : List (List ℕ)
+  pub events : List EventType
+  pub split : text_lines text ≡ lines ++ rest
+  pub is_nonempty : 0 < length events
+  pub valid_lines : DescribeEvents lines events
+
+-- there is a value, and it begins with lines that describe events
+abbrev pub ValueBeginsWithEvents : Option (List ℕ) → Type 0
+ValueBeginsWithEvents None = ⊥
+ValueBeginsWithEvents (Some text) = BeginsWithEvents text
+
 -- the result of parsing: the events, or `None` if the value describes no list of events
 abbrev pub ParsesEventTypes : Option (List ℕ) → Option (Vec SimplePerfEventType Global) → Type 0
 ParsesEventTypes value (Some v) = DescribesEventTypes value (map event_type_of v.items)
 ParsesEventTypes value None = (es : List EventType) → ¬ DescribesEventTypes value es
 
--- the result of parsing the value of the key, if there is one; memory runs out only if there is one
+-- the result of parsing the value of the key, if there is one; memory runs out only for a line that describes an event
 abbrev pub ReturnsEventTypes : Option (List ℕ) → Result (Option (Vec SimplePerfEventType Global)) AllocError → Type 0
 ReturnsEventTypes value (Ok events) = ParsesEventTypes value events
-ReturnsEventTypes value (Err e) = value ≢ None
+ReturnsEventTypes value (Err e) = ValueBeginsWithEvents value
 
 -- the result of parsing one line
 abbrev pub ParsesEvent : List (List ℕ) → Option SimplePerfEventType → Type 0

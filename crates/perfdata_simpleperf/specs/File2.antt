@@ -2,8 +2,8 @@
 use Rattle.std.specs.Prelude.{◌≡◌, ℕ, List}
 use Rattle.perfdata_base.specs.declared.raw.Endianness.{Endianness}
 use Rattle.perfdata_simpleperf.specs.FileRecord.{FileValue}
-use Rattle.perfdata_simpleperf.specs.Chunks.{ChunkError, AreChunks, FirstChunkError, ReportsChunkError}
-use Rattle.perfdata_simpleperf.specs.Protobuf.Messages.{FileMessageError}
+use Rattle.perfdata_simpleperf.specs.Chunks.{ChunkError, AreChunks, ChunkNeedsMemory, FirstChunkError, ReportsChunkError}
+use Rattle.perfdata_simpleperf.specs.Protobuf.Messages.{FileMessageError, FileNeedsMemory}
 use Rattle.perfdata_simpleperf.specs.Protobuf.Values.{IsFileRecord}
 use Rattle.perfdata_sections.specs.declared.error.Error.{Error}
 use Rattle.perfdata_sections.specs.declared.error.Error.TheVariants.{ProtobufParsingSimpleperfFileSection}
@@ -16,6 +16,10 @@ IsFile2Of endian bs vs = AreChunks endian IsFileRecord bs vs
 -- the section's first error
 abbrev pub File2Error : Endianness → List ℕ → ChunkError DecodeError → Type 0
 File2Error endian bs error = FirstChunkError endian IsFileRecord FileMessageError bs error
+
+-- memory can run out for a message of the section
+abbrev pub File2NeedsMemory : Endianness → List ℕ → Type 0
+File2NeedsMemory endian bs = ChunkNeedsMemory endian IsFileRecord FileNeedsMemory bs
 
 abbrev pub ReportsMessageError : DecodeError → Error → Type 0
 ReportsMessageError f e = e ≡ ProtobufParsingSimpleperfFileSection f

@@ -1,5 +1,5 @@
 -- Simpleperf's meta info: segments between NULs, alternately a key and its value, each of UTF-8. The last value of a key counts.
-use Rattle.std.specs.Prelude.{◌≡◌, ◌≢◌, ℕ, ◌==◌, List, [], ◌∷◌, ◌++◌, Option, None, Result, Ok, Err, All, ⊤}
+use Rattle.std.specs.Prelude.{◌≡◌, ℕ, ◌==◌, List, [], ◌∷◌, ◌++◌, Option, None, Result, Ok, Err, All}
 use Rattle.std.specs.Borrow.{Bor}
 use Rattle.std.specs.HashMap.{HashMap, get_by}
 use Rattle.std.specs.List.{slice_split}
@@ -44,18 +44,27 @@ pub record IsMetaInfo {S : Type 0} (bytes : List ℕ) (m : HashMap (Bor (List �
   pub all_utf8 : All IsUtf8Pair (meta_pairs bytes)
   pub map : (key : List ℕ) → map_text_at m key ≡ last_value (meta_pairs bytes) key
 
+-- The pairs begin with at least one of UTF-8.
+pub record BeginsWithUtf8Pairs (pairs : List Pair) : Type 0 where
+  pub before : List Pair
+  pub last : Pair
+  pub rest : List Pair
+  pub split : pairs ≡ before ++ last ∷ rest
+  pub before_utf8 : All IsUtf8Pair before
+  pub last_utf8 : IsUtf8Pair last
+
 -- On success, the new map has the last value of each key in any pairs and `p` if the old map has it in these pairs. An error
--- says that the pair isn't UTF-8, or that memory ran out.
+-- says that the pair isn't UTF-8, or that memory ran out for a pair of UTF-8.
 abbrev pub InsertsPair : {S : Type 0} → HashMap (Bor (List ℕ)) (Bor (List ℕ)) S → Pair → Result (Unit {0}) Error → HashMap (Bor (List ℕ)) (Bor (List ℕ)) S → Type 0
 InsertsPair old p (Ok _) new =
     IsUtf8Pair p × ((ps : List Pair) → ((key : List ℕ) → map_text_at old key ≡ last_value ps key) → (key : List ℕ) → map_text_at new key ≡ last_value (ps ++ p ∷ []) key)
 InsertsPair old p (Err StringUtf8) new = ¬ IsUtf8Pair p
-InsertsPair old p (Err Memory) new = ⊤
+InsertsPair old p (Err Memory) new = IsUtf8Pair p
 InsertsPair old p (Err _) new = ⊥
 
--- the result of parsing; memory can run out at any pair, and only if there is a pair
+-- the result of parsing; memory runs out only for a pair of UTF-8 whose earlier pairs are UTF-8 too
 abbrev pub ParsesMetaInfo : {S : Type 0} → List ℕ → Result (HashMap (Bor (List ℕ)) (Bor (List ℕ)) S) Error → Type 0
 ParsesMetaInfo bytes (Ok m) = IsMetaInfo bytes m
 ParsesMetaInfo bytes (Err StringUtf8) = ¬ All IsUtf8Pair (meta_pairs bytes)
-ParsesMetaInfo bytes (Err Memory) = meta_pairs bytes ≢ []
+ParsesMetaInfo bytes (Err Memory) = BeginsWithUtf8Pairs (meta_pairs bytes)
 ParsesMetaInfo bytes (Err _) = ⊥

@@ -8,13 +8,13 @@ use Rattle.perfdata_simpleperf.specs.declared.protobuf.field.Message.{Message}
 use Rattle.perfdata_simpleperf.specs.declared.protobuf.wire.WireType.{WireType}
 use Rattle.perfdata_simpleperf.specs.declared.protobuf.wire.WireType.TheVariants as wires
 use Rattle.std.proofs.Common.{Bool, true, false, cond}
-use Rattle.std.specs.Prelude.{◌==◌}
+use Rattle.std.specs.Prelude.{◌==◌, Result, Ok, Err, IfErr}
 use Rattle.perfdata_simpleperf.specs.declared.protobuf.field.Message.TheVariants as messages
 use Rattle.perfdata_simpleperf.specs.declared.protobuf.field.FieldType.TheVariants as field_types
 use Rattle.perfdata_simpleperf.specs.Protobuf.WireFormat.{Contents, number, bytes, skipped, NumberAt}
 use Rattle.perfdata_simpleperf.specs.Protobuf.Groups.{GroupItems, no_items, item_then}
 use Rattle.perfdata_simpleperf.specs.Protobuf.Fields.{FieldValue, field_type, FieldAt, ContentsAt}
-use Rattle.perfdata_simpleperf.specs.Protobuf.Messages.{IsValidContents, IsInvalidContents, FieldsWith, MessageErrorWith, NumbersAt, NoNestedMessage}
+use Rattle.perfdata_simpleperf.specs.Protobuf.Messages.{IsValidContents, IsInvalidContents, FieldsWith, MessageErrorWith, BeginsWithNumber, NeedsMemory, MessageNeedsMemory, NumbersAt, NoNestedMessage}
 use Rattle.perfdata_simpleperf.specs.FileRecord.{SymbolValue}
 use Rattle.perfdata_simpleperf.specs.Protobuf.Values.{numbers_of, numbers_in, texts_of, texts_in, last_or, low_u32, symbol_from, AreOffsets, contents_of, contents_in}
 use Rattle.perfdata_simpleperf.proofs.Decoding.GroupSteps.{key_shorter, value_shorter, item_shorter}
@@ -68,10 +68,22 @@ last_text d k ps qs = last_or-append d (texts_of k ps) (texts_of k qs) ∙ ap (�
 pub symbol_more : (s : SymbolValue) (ps qs : List FieldValue) → symbol_from (symbol_from s ps) qs ≡ symbol_from s (ps ++ qs)
 symbol_more s ps qs = rw (last_number s.vaddr 1 ps qs, last_low s.len 2 ps qs, last_text s.name 3 ps qs) refl
 
-module _ (Submessage : Message → List ℕ → Type 0) (SubmessageError : Message → List ℕ → DecodeError → Type 0) (message : Message) where
-  pub contents_error : (bs : List ℕ) (ps : List FieldValue) (mid : List ℕ) (p : FieldValue) (rest : List ℕ) (e : DecodeError) → FieldsWith Submessage message bs ps mid → FieldAt message mid p rest → (e ≡ errors.Memory) ⊎ IsInvalidContents SubmessageError (field_type message p.field_number) p.contents e → (e ≡ errors.Memory) ⊎ MessageErrorWith Submessage (IsInvalidContents SubmessageError) message bs e
-  contents_error bs ps mid p rest e before at (inl memory) = inl memory
+module _ (Submessage : Message → List ℕ → Type 0) (SubmessageError : Message → List ℕ → DecodeError → Type 0) (SubmessageNeeds : Message → List ℕ → Type 0) (message : Message) where
+  pub contents_error : (bs : List ℕ) (ps : List FieldValue) (mid : List ℕ) (p : FieldValue) (rest : List ℕ) (e : DecodeError) → FieldsWith Submessage message bs ps mid → FieldAt message mid p rest
+      → ((e ≡ errors.Memory) × NeedsMemory SubmessageNeeds (field_type message p.field_number) p.contents) ⊎ IsInvalidContents SubmessageError (field_type message p.field_number) p.contents e
+      → ((e ≡ errors.Memory) × MessageNeedsMemory Submessage SubmessageNeeds message bs) ⊎ MessageErrorWith Submessage (IsInvalidContents SubmessageError) message bs e
+  contents_error bs ps mid p rest e before at (inl memory) = inl (memory.0, record { fields = ps; mid = mid; earlier = before; field = p; rest = rest; reads = at; needs = memory.1 })
   contents_error bs ps mid p rest e before at (inr invalid) = inr record { fields = ps; mid = mid; earlier = before; is_nonempty = (let s = field_shorter message mid p rest at in omega (arith, s)); error_here = inr record { field = p; rest = rest; reads = at; error = invalid } }
+
+-- numbers, and one more
+pub begins_with_number : (bs ns mid : List ℕ) (n : ℕ) (rest : List ℕ) → NumbersAt bs ns mid → NumberAt mid n rest → BeginsWithNumber bs
+begins_with_number bs [] mid n rest before at = (n, rest, subst (λ (x : List ℕ). NumberAt x n rest) (sym before) at)
+begins_with_number bs (m ∷ ns) mid n rest before at = (m, before.0, before.1)
+
+-- an error without the cause of an allocation failure
+pub without_cause : {A : Type 0} (r : Result A DecodeError) (P : Type 0) (Q : DecodeError → Type 0) → IfErr r (λ e. ((e ≡ errors.Memory) × P) ⊎ Q e) → IfErr r (λ e. (e ≡ errors.Memory) ⊎ Q e)
+without_cause (Ok a) P Q error = tt
+without_cause (Err e) P Q error = elim error [ inl memory ↦ inl memory.0 | inr other ↦ inr other ]
 
 pub numbers_then : (bs ns mid : List ℕ) (n : ℕ) (rest : List ℕ) → NumbersAt bs ns mid → NumberAt mid n rest → NumbersAt bs (ns ++ n ∷ []) rest
 numbers_then bs [] mid n rest before at = (rest, subst (λ (x : List ℕ). NumberAt x n rest) (sym before) at, refl)

@@ -6,7 +6,7 @@ use Rattle.perfdata_simpleperf.specs.declared.protobuf.field.Message.{Message}
 use Rattle.perfdata_simpleperf.specs.declared.protobuf.field.Message.TheVariants as messages
 use Rattle.perfdata_simpleperf.specs.declared.protobuf.field.FieldType.{FieldType}
 use Rattle.perfdata_simpleperf.specs.declared.protobuf.field.FieldType.TheVariants as field_types
-use Rattle.perfdata_simpleperf.specs.Protobuf.WireFormat.{NumberAt, NumberError, Contents, bytes}
+use Rattle.perfdata_simpleperf.specs.Protobuf.WireFormat.{NumberAt, NumberError, Contents, number, bytes}
 use Rattle.perfdata_simpleperf.specs.Protobuf.Fields.{FieldValue, field_type, FieldAt, FieldError}
 
 -- ---- consecutive numbers
@@ -91,3 +91,40 @@ IsFileMessage bs ps = FileFields bs ps []
 
 abbrev pub FileMessageError : List ℕ → DecodeError → Type 0
 FileMessageError bs e = MessageErrorWith IsAnyLeaf (IsInvalidContents LeafError) messages.File bs e
+
+-- ---- where memory can run out
+
+-- the bytes begin with a number
+abbrev pub BeginsWithNumber : List ℕ → Type 0
+BeginsWithNumber bs = (n : ℕ) × (rest : List ℕ) × NumberAt bs n rest
+
+-- memory can run out for these contents of a field of this type; `SubmessageNeeds` says for which bytes of a message it can
+abbrev pub NeedsMemory : (Message → List ℕ → Type 0) → FieldType → Contents → Type 0
+NeedsMemory SubmessageNeeds field_types.Text (bytes b) = IsUtf8 b
+NeedsMemory SubmessageNeeds field_types.Numbers (number n) = Unit {0}
+NeedsMemory SubmessageNeeds field_types.Numbers (bytes b) = BeginsWithNumber b
+NeedsMemory SubmessageNeeds (field_types.Submessage m) (bytes b) = SubmessageNeeds m b
+NeedsMemory SubmessageNeeds _ _ = ⊥
+
+-- complete fields with valid contents, followed by a complete field for whose contents memory can run out
+pub record MessageNeedsMemory (Submessage : Message → List ℕ → Type 0) (SubmessageNeeds : Message → List ℕ → Type 0) (message : Message) (bs : List ℕ) : Type 0 where
+  pub fields : List FieldValue
+  pub mid : List ℕ
+  pub earlier : FieldsWith Submessage message bs fields mid
+  pub field : FieldValue
+  pub rest : List ℕ
+  pub reads : FieldAt message mid field rest
+  pub needs : NeedsMemory SubmessageNeeds (field_type message field.field_number) field.contents
+
+abbrev pub NoNestedNeeds : Message → List ℕ → Type 0
+NoNestedNeeds _ _ = ⊥
+
+abbrev pub LeafNeedsMemory : Message → List ℕ → Type 0
+LeafNeedsMemory m bs = MessageNeedsMemory NoNestedMessage NoNestedNeeds m bs
+
+-- memory can run out in a submessage, or for a valid symbol
+abbrev pub SubmessageNeedsMemory : Message → List ℕ → Type 0
+SubmessageNeedsMemory m bs = LeafNeedsMemory m bs ⊎ ((m ≡ messages.Symbol) × IsAnyLeaf m bs)
+
+abbrev pub FileNeedsMemory : List ℕ → Type 0
+FileNeedsMemory bs = MessageNeedsMemory IsAnyLeaf SubmessageNeedsMemory messages.File bs

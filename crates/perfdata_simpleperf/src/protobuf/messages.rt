@@ -2,7 +2,7 @@
 ghost use Rattle.std.specs.Prelude.{◌≡◌, ◌⊎◌, ◌∷◌, [], ◌++◌, List, ℕ, ◌%◌, IfOk, IfErr, OnOk, string_bytes, IsUtf8, IsTrue, map};
 ghost use Rattle.perfdata_simpleperf.specs.Protobuf.Fields.{field_value, field_type};
 ghost use Rattle.perfdata_simpleperf.specs.Protobuf.WireFormat.{bytes_contents};
-ghost use Rattle.perfdata_simpleperf.specs.Protobuf.Messages.{NoNestedMessage, NoNestedMessageError, IsValidContents, IsInvalidContents, LeafError, ArePacked, PackedError, IsAnyLeaf, FileMessageError};
+ghost use Rattle.perfdata_simpleperf.specs.Protobuf.Messages.{NoNestedMessage, NoNestedMessageError, IsValidContents, IsInvalidContents, LeafError, ArePacked, PackedError, IsAnyLeaf, FileMessageError, BeginsWithNumber, NeedsMemory, NoNestedNeeds, LeafNeedsMemory, SubmessageNeedsMemory, FileNeedsMemory};
 ghost use Rattle.perfdata_simpleperf.specs.FileRecord.{symbol_value, SymbolValue, info_value, record_value};
 ghost use Rattle.perfdata_simpleperf.specs.Protobuf.Values.{symbol_from, IsSymbol, low_u32, last_or, numbers_of, contents_of, AreOffsets, IsDex, IsAddressFrom, AreSymbols, texts_of, infos_of, is_info, MergesInfo, MergesInfos, IsFileRecord, previous_offsets, previous_elf_offset, previous_module_offset};
 ghost use Rattle.perfdata_sections.specs.declared.decode_error.DecodeError.TheVariants.{Memory, Utf8};
@@ -26,7 +26,8 @@ fn low_u32(n: u64) -> u32
 
 fn decode_text(alloc: Global, bytes: &[u8]) -> Result<String, DecodeError>
     ensures on_ok { IfOk result (λ s. (string_bytes s ≡ bytes.now) × IsUtf8 bytes.now) }
-    ensures on_error { IfErr result (λ e. (e ≡ Memory) ⊎ ((e ≡ Utf8) × (IsUtf8 bytes.now → ⊥))) }
+    ensures on_error { IfErr result (λ e. ((e ≡ Memory) × IsUtf8 bytes.now)
+        ⊎ ((e ≡ Utf8) × (IsUtf8 bytes.now → ⊥))) }
 {
     match std::str::from_utf8(bytes) {
         Ok(text) => Ok(String::from_str(alloc, text)?),
@@ -44,7 +45,9 @@ fn merge_symbol_field(
     ensures valid_contents { OnOk result
         (IsValidContents NoNestedMessage (field_type messages.Symbol (field_value field.now).field_number)
         (field_value field.now).contents) }
-    ensures on_error { IfErr result (λ e. (e ≡ Memory)
+    ensures on_error { IfErr result (λ e. ((e ≡ Memory)
+        × NeedsMemory NoNestedNeeds (field_type messages.Symbol (field_value field.now).field_number)
+        (field_value field.now).contents)
         ⊎ IsInvalidContents NoNestedMessageError
         (field_type messages.Symbol (field_value field.now).field_number)
         (field_value field.now).contents e) }
@@ -60,7 +63,8 @@ fn merge_symbol_field(
 
 fn decode_symbol(alloc: Global, bytes: &[u8]) -> Result<SimpleperfSymbol, DecodeError>
     ensures on_ok { IfOk result (λ s. IsSymbol bytes.now (symbol_value s)) }
-    ensures on_error { IfErr result (λ e. (e ≡ Memory) ⊎ LeafError messages.Symbol bytes.now e) }
+    ensures on_error { IfErr result (λ e. ((e ≡ Memory) × LeafNeedsMemory messages.Symbol bytes.now)
+        ⊎ LeafError messages.Symbol bytes.now e) }
 {
     let mut symbol = SimpleperfSymbol {
         vaddr: 0,
@@ -79,7 +83,7 @@ fn decode_symbol(alloc: Global, bytes: &[u8]) -> Result<SimpleperfSymbol, Decode
 fn push_packed(offsets: &mut Vec<u64>, bytes: &[u8]) -> Result<(), DecodeError>
     ensures on_ok { OnOk result ((ns : List ℕ) × ArePacked bytes.now ns
         × (offsets.new.items ≡ offsets.old.items ++ ns)) }
-    ensures on_error { IfErr result (λ e. (e ≡ Memory) ⊎ PackedError bytes.now e) }
+    ensures on_error { IfErr result (λ e. ((e ≡ Memory) × BeginsWithNumber bytes.now) ⊎ PackedError bytes.now e) }
 {
     let mut rest = bytes;
     'numbers: while !rest.is_empty() {
@@ -96,7 +100,9 @@ fn merge_dex_field(offsets: &mut Vec<u64>, field: &Field<'_>) -> Result<(), Deco
     ensures valid_contents { OnOk result
         (IsValidContents NoNestedMessage (field_type messages.Dex (field_value field.now).field_number)
         (field_value field.now).contents) }
-    ensures on_error { IfErr result (λ e. (e ≡ Memory)
+    ensures on_error { IfErr result (λ e. ((e ≡ Memory)
+        × NeedsMemory NoNestedNeeds (field_type messages.Dex (field_value field.now).field_number)
+        (field_value field.now).contents)
         ⊎ IsInvalidContents NoNestedMessageError
         (field_type messages.Dex (field_value field.now).field_number) (field_value field.now).contents e) }
 {
@@ -119,7 +125,8 @@ fn merge_dex_field(offsets: &mut Vec<u64>, field: &Field<'_>) -> Result<(), Deco
 fn merge_dex(offsets: &mut Vec<u64>, bytes: &[u8]) -> Result<(), DecodeError>
     ensures on_ok { OnOk result ((ns : List ℕ) × IsDex bytes.now ns
         × (offsets.new.items ≡ offsets.old.items ++ ns)) }
-    ensures on_error { IfErr result (λ e. (e ≡ Memory) ⊎ LeafError messages.Dex bytes.now e) }
+    ensures on_error { IfErr result (λ e. ((e ≡ Memory) × LeafNeedsMemory messages.Dex bytes.now)
+        ⊎ LeafError messages.Dex bytes.now e) }
 {
     let mut rest = bytes;
     'fields: while !rest.is_empty() {
@@ -193,7 +200,8 @@ fn merge_info(
         (info_value (Some new))) }
     ensures valid_contents { OnOk result
         (IsValidContents IsAnyLeaf (field_type messages.File field_number) (bytes_contents bytes.now)) }
-    ensures on_error { IfErr result (λ e. (e ≡ Memory)
+    ensures on_error { IfErr result (λ e. ((e ≡ Memory)
+        × NeedsMemory SubmessageNeedsMemory (field_type messages.File field_number) (bytes_contents bytes.now))
         ⊎ IsInvalidContents LeafError (field_type messages.File field_number) (bytes_contents bytes.now) e) }
 {
     match field_number {
@@ -239,7 +247,9 @@ fn merge_record_field(
     ensures valid_contents { OnOk result
         (IsValidContents IsAnyLeaf (field_type messages.File (field_value field.now).field_number)
         (field_value field.now).contents) }
-    ensures on_error { IfErr result (λ e. (e ≡ Memory)
+    ensures on_error { IfErr result (λ e. ((e ≡ Memory)
+        × NeedsMemory SubmessageNeedsMemory (field_type messages.File (field_value field.now).field_number)
+        (field_value field.now).contents)
         ⊎ IsInvalidContents LeafError (field_type messages.File (field_value field.now).field_number)
         (field_value field.now).contents e) }
 {
@@ -277,7 +287,8 @@ pub(crate) fn decode_file_record(
     bytes: &[u8],
 ) -> Result<SimpleperfFileRecord, DecodeError>
     ensures on_ok { IfOk result (λ r. IsFileRecord bytes.now (record_value r)) }
-    ensures on_error { IfErr result (λ e. (e ≡ Memory) ⊎ FileMessageError bytes.now e) }
+    ensures on_error { IfErr result (λ e. ((e ≡ Memory) × FileNeedsMemory bytes.now)
+        ⊎ FileMessageError bytes.now e) }
 {
     let mut file = SimpleperfFileRecord {
         path: String::new(alloc),

@@ -1,7 +1,7 @@
 //! Splits a section into chunks, each preceded by its length.
 ghost use Rattle.std.specs.Prelude.{◌≡◌, ◌⊎◌, ℕ, List, IfOk, IfErr, map};
 ghost use Rattle.perfdata_simpleperf.specs.FileRecord.{FileValue, record_value};
-ghost use Rattle.perfdata_simpleperf.specs.Chunks.{ChunkError, ChunkAt, IsChunkReadError, AreChunks, FirstChunkError, ReportsChunkError};
+ghost use Rattle.perfdata_simpleperf.specs.Chunks.{ChunkError, ChunkAt, IsChunkReadError, AreChunks, ChunkNeedsMemory, FirstChunkError, ReportsChunkError};
 ghost use Rattle.perfdata_base.specs.declared.raw.Endianness.{Endianness};
 ghost use Rattle.perfdata_sections.specs.declared.error.Error.{Error};
 ghost use Rattle.perfdata_sections.specs.declared.error.Error.TheVariants.{Memory};
@@ -24,6 +24,9 @@ pub(crate) trait ChunkFormat {
     /// The bytes of a chunk have this error.
     ghost is_invalid_for: { Endianness → List ℕ → Self.FormatError → Type 0 };
 
+    /// Memory can run out for the bytes of a chunk.
+    ghost needs_memory: { List ℕ → Type 0 };
+
     /// The section's error reports this error in a chunk.
     ghost is_reported_by: { Self.FormatError → Error → Type 0 };
 
@@ -34,7 +37,8 @@ pub(crate) trait ChunkFormat {
         chunk: &[u8],
     ) -> Result<SimpleperfFileRecord, Error>
         ensures on_ok { IfOk result (λ r. decodes_to endian chunk.now (record_value r)) }
-        ensures on_error { IfErr result (λ e. (e ≡ Memory) ⊎ ((f : Self.FormatError) × is_invalid_for endian chunk.now f × is_reported_by f e)) };
+        ensures on_error { IfErr result (λ e. ((e ≡ Memory) × needs_memory chunk.now)
+            ⊎ ((f : Self.FormatError) × is_invalid_for endian chunk.now f × is_reported_by f e)) };
 }
 
 /// Splits the first chunk off a section, and returns its bytes after the length, and the rest of the section.
@@ -64,7 +68,8 @@ pub(crate) fn parse_chunks<S: ChunkFormat>(
 ) -> Result<Vec<SimpleperfFileRecord>, Error>
     ensures on_ok { IfOk result (λ v. AreChunks endian (S.decodes_to endian) bytes.now
         (map record_value v.items)) }
-    ensures on_error { IfErr result (λ e. (e ≡ Memory)
+    ensures on_error { IfErr result (λ e. ((e ≡ Memory)
+        × ChunkNeedsMemory endian (S.decodes_to endian) S.needs_memory bytes.now)
         ⊎ ((f : ChunkError S.FormatError)
         × FirstChunkError endian (S.decodes_to endian) (S.is_invalid_for endian) bytes.now f
         × ReportsChunkError S.is_reported_by f e)) }

@@ -1,7 +1,7 @@
 //! Parses the event types in simpleperf's meta info.
-ghost use Rattle.std.specs.Prelude.{IfOk, Some};
+ghost use Rattle.std.specs.Prelude.{IfOk, OnErr, Some};
 ghost use Rattle.perfdata_simpleperf.specs.MetaInfo.{map_text_at};
-ghost use Rattle.perfdata_simpleperf.specs.EventTypeInfo.{line_fields, event_type_info, ParsesEvent, ParsesEventTypes, ReturnsEventTypes, IsFirstThree};
+ghost use Rattle.perfdata_simpleperf.specs.EventTypeInfo.{EventType, line_fields, event_type_info, DescribesEvent, BeginsWithEvents, ParsesEvent, ParsesEventTypes, ReturnsEventTypes, IsFirstThree};
 
 use perfdata_sections::event_type::SimplePerfEventType;
 use std::alloc::{AllocError, Global};
@@ -29,7 +29,8 @@ fn first_three(line: &str) -> Option<(&str, &str, &str)>
 
 // Parses the event in a line. Returns `None` if the line doesn't describe an event.
 fn parse_event(alloc: Global, line: &str) -> Result<Option<SimplePerfEventType>, AllocError>
-    ensures { IfOk result (λ event. ParsesEvent (line_fields line.now) event) }
+    ensures event { IfOk result (λ event. ParsesEvent (line_fields line.now) event) }
+    ensures memory { OnErr result ((e : EventType) × DescribesEvent (line_fields line.now) e) }
 {
     let Some((name, type_, config)) = first_three(line) else {
         return Ok(None);
@@ -43,7 +44,8 @@ fn parse_event(alloc: Global, line: &str) -> Result<Option<SimplePerfEventType>,
 
 // Parses the events in the lines of a text. Returns `None` if any line doesn't describe an event.
 fn parse_events(alloc: Global, text: &str) -> Result<Option<Vec<SimplePerfEventType>>, AllocError>
-    ensures { IfOk result (λ events. ParsesEventTypes (Some text.now) events) }
+    ensures events { IfOk result (λ events. ParsesEventTypes (Some text.now) events) }
+    ensures memory { OnErr result (BeginsWithEvents text.now) }
 {
     let mut events = Vec::new(alloc);
     'lines: for line in text.split('\n') {
@@ -62,8 +64,8 @@ fn parse_events(alloc: Global, text: &str) -> Result<Option<Vec<SimplePerfEventT
 /// a plus sign, and is below 2^64.
 ///
 /// Returns `None` if the key is missing, or if any line lacks one of the three fields or has an invalid
-/// number. An empty line after a final newline has none of them. Fails with `AllocError` if the key is there
-/// and memory runs out.
+/// number. An empty line after a final newline has none of them. Fails with `AllocError` if memory runs out
+/// for a line that describes an event.
 pub fn get_event_types(
     alloc: Global,
     meta_info_map: &HashMap<&str, &str>,

@@ -1,9 +1,9 @@
 //! Parses section SIMPLEPERF_FILE2: chunks that contain protobuf messages.
 ghost use Rattle.std.specs.Prelude.{◌≡◌, ◌⊎◌, List, IfOk, IfErr, IsErrAnd, MatchResult, map};
-ghost use Rattle.perfdata_simpleperf.specs.File2.{IsFile2Of, File2Error, ReportsFile2Error, ReportsMessageError};
+ghost use Rattle.perfdata_simpleperf.specs.File2.{IsFile2Of, File2Error, File2NeedsMemory, ReportsFile2Error, ReportsMessageError};
 ghost use Rattle.perfdata_simpleperf.specs.FileRecord.{FileValue, record_value};
 ghost use Rattle.perfdata_simpleperf.specs.Chunks.{ChunkError};
-ghost use Rattle.perfdata_simpleperf.specs.Protobuf.Messages.{FileMessageError};
+ghost use Rattle.perfdata_simpleperf.specs.Protobuf.Messages.{FileMessageError, FileNeedsMemory};
 ghost use Rattle.perfdata_simpleperf.specs.Protobuf.Values.{IsFileRecord};
 ghost use Rattle.perfdata_sections.specs.declared.error.Error.TheVariants.{Memory};
 ghost use Rattle.perfdata_sections.specs.declared.decode_error.DecodeError.{DecodeError};
@@ -24,6 +24,8 @@ impl ChunkFormat for ProtobufRecords {
     ghost decodes_to = { λ _. IsFileRecord };
 
     ghost is_invalid_for = { λ _. FileMessageError };
+
+    ghost needs_memory = { FileNeedsMemory };
 
     ghost is_reported_by = { ReportsMessageError };
 
@@ -58,6 +60,8 @@ pub fn parse_file2_section(
     // A valid section is parsed, unless memory runs out, and has no other values.
     ensures no_other { (vs : List FileValue) → IsFile2Of endian bytes.now vs
         → MatchResult result (λ v. map record_value v.items ≡ vs) (λ e. e ≡ Memory) }
+    // Memory runs out only for a message with only valid messages before it.
+    ensures memory { IfErr result (λ e. e ≡ Memory → File2NeedsMemory endian bytes.now) }
     // Unless memory runs out, an error reports an error of the section with only valid messages before it.
     ensures on_error { IfErr result (λ e. (e ≡ Memory)
         ⊎ ((f : ChunkError DecodeError) × File2Error endian bytes.now f × ReportsFile2Error f e)) }

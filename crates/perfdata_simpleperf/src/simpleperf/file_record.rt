@@ -2,7 +2,7 @@
 ghost use Rattle.std.specs.Prelude.{◌≡◌, ◌⊎◌, List, IfOk, IfErr, IsErrAnd, MatchResult};
 ghost use Rattle.perfdata_simpleperf.specs.FileRecord.{FileValue, record_value};
 ghost use Rattle.perfdata_simpleperf.specs.Protobuf.Fields.{FieldValue};
-ghost use Rattle.perfdata_simpleperf.specs.Protobuf.Messages.{IsFileMessage, FileMessageError};
+ghost use Rattle.perfdata_simpleperf.specs.Protobuf.Messages.{IsFileMessage, FileMessageError, FileNeedsMemory};
 ghost use Rattle.perfdata_simpleperf.specs.Protobuf.Values.{HasValue, IsFileRecord};
 ghost use Rattle.perfdata_sections.specs.declared.decode_error.DecodeError.{DecodeError};
 ghost use Rattle.perfdata_sections.specs.declared.decode_error.DecodeError.TheVariants.{Memory};
@@ -86,6 +86,8 @@ impl SimpleperfFileRecord {
             → MatchResult result (λ r. record_value r ≡ v) (λ e. e ≡ Memory) }
         // Unless memory runs out, an error is an error of the message with only complete fields before it.
         ensures on_error { IfErr result (λ e. (e ≡ Memory) ⊎ FileMessageError bytes.now e) }
+        // Memory runs out only for a field of the message with only valid fields before it.
+        ensures memory { IfErr result (λ e. e ≡ Memory → FileNeedsMemory bytes.now) }
         // Such an error of the message is returned, unless memory runs out before it.
         ensures first_error { (e : DecodeError) → FileMessageError bytes.now e
             → IsErrAnd result (λ f. (f ≡ Memory) ⊎ (f ≡ e)) }

@@ -40,6 +40,8 @@ impl ChunkFormat for V1Records {
 
     ghost is_invalid_for = { λ endian. V1Error (number_in endian) };
 
+    ghost needs_memory = { λ _. Unit {0} };
+
     ghost is_reported_by = { ReportsV1Error };
 
     fn parse_record(

@@ -15,6 +15,7 @@ use crate::simpleperf::{
     SimpleperfSymbol, SimpleperfTypeSpecificInfo,
 };
 use byteorder::ByteOrder;
+use perfdata_base::raw::FileOrder;
 use perfdata_base::source::unexpected_eof;
 use std::alloc::Global;
 use std::io::{Error, ErrorKind, Result};
@@ -205,7 +206,7 @@ impl SimpleperfFileRecord {
     /// Returns the first error, from left to right. Its kind is `UnexpectedEof` if a part is truncated, and
     /// `InvalidData` if a string isn't UTF-8, the type is above 5, or a count exceeds the number of bytes
     /// after it. The kind is `OutOfMemory` if out of memory.
-    pub fn decode_v1<T: ByteOrder>(alloc: Global, bytes: &[u8]) -> Result<Self>
+    pub fn decode_v1<T: FileOrder>(alloc: Global, bytes: &[u8]) -> Result<Self>
         // The bytes begin with a record of this value.
         ensures on_ok { IfOk result (λ r. IsV1 T.number_of bytes.now (record_value r)) }
         // A valid record is decoded, unless memory runs out, and has no other value.
