@@ -9,8 +9,8 @@ use perfdata_listing::{list_jit, list_live_jit, list_live_pipe};
 use std::fmt::Write;
 use std::io::Cursor;
 
-// Appends the complete lines of a text, the number of lines that the listing reports if it is another one, and
-// the end of the listing.
+// Appends the complete lines of a text, the number of lines that the listing reports if it is another one,
+// and the end of the listing.
 fn push_listed(out: &mut String, text: &[u8], listed: &Result<u64, ListFault>) -> CaseResult {
     let text = str::from_utf8(text).unwrap_or("");
     out.push_str(text.rsplit_once('\n').map_or("", |(lines, _)| lines))?;
