@@ -1,17 +1,165 @@
-//! Input in a buffer of 64 KiB.
+//! The inputs of the programs: their kind, and their bytes in a buffer of 64 KiB.
 ghost use Rattle.std.specs.Prelude.{◌≡◌, [], IfOk};
 ghost use Rattle.perfdata_base.specs.CountedBuffer.{buffered_state, counted_buffer_bytes};
 ghost use Rattle.perfdata_base.specs.Source.{opaque_source};
 
+use crate::input_bytes::{InputBytes, Unread};
 use perfdata_base::source::CountedBuffer;
 use std::alloc::Global;
 use std::fs;
-use std::io::{BufReader, Input, Read, Result};
+use std::fs::File;
+use std::io::{BufReader, Cursor, Input as StandardInput, Read, Result, Seek};
+use std::os::unix::fs::FileTypeExt;
 use std::rt::Files;
 
 /// The size of an input buffer in bytes.
 pub const BUFFER_SIZE: usize = 65536;
 
+/// The input if the arguments name none and standard input isn't a FIFO.
+const DEFAULT_PATH: &str = "perf.data";
+
+/// The path that stands for standard input.
+const STANDARD_INPUT: &str = "-";
+
+/// The system's path of standard input.
+const STANDARD_INPUT_PATH: &str = "/dev/stdin";
+
+/// Number of bytes that determine the kind of an input.
+const START_SIZE: u64 = 16;
+
+/// The size in bytes of the smallest file header. The header of a pipe is smaller.
+const FILE_HEADER_SIZE: u64 = 104;
+
+/// The kind of an input.
+#[derive(Clone, Copy, PartialEq, Eq)]
+pub enum InputKind {
+    /// A perf.data file.
+    File,
+    /// The output of `perf record -o -`, also if it was saved to a file.
+    Pipe,
+    /// A jitdump.
+    Jit,
+}
+
+/// Returns the header size after the magic value of a perf.data file or pipe, in the byte order of that value.
+fn header_size(start: &[u8]) -> Option<u64> {
+    let size = start.get(8..16)?.first_chunk::<8>()?;
+    match start.get(..8)? {
+        b"PERFILE2" => Some(u64::from_le_bytes(*size)),
+        b"2ELIFREP" => Some(u64::from_be_bytes(*size)),
+        _ => None,
+    }
+}
+
+impl InputKind {
+    /// Returns the kind of an input that starts with these 16 bytes, or `None` if it isn't known.
+    pub fn of_start(start: &[u8]) -> Option<InputKind> {
+        match start.get(..4)? {
+            b"JiTD" | b"DTiJ" => Some(InputKind::Jit),
+            _ if header_size(start)? < FILE_HEADER_SIZE => Some(InputKind::Pipe),
+            _ => Some(InputKind::File),
+        }
+    }
+}
+
+/// Returns the input that a FILE argument names: standard input if there is none and standard input is a
+/// FIFO, else the default.
+pub fn path_of<'a>(rt: &HostRuntime, file: Option<&'a str>) -> &'a str {
+    match (file, fs::metadata(rt, STANDARD_INPUT_PATH)) {
+        (Some(path), _) => path,
+        (None, Ok(metadata)) if metadata.file_type().is_fifo() => STANDARD_INPUT,
+        (None, _) => DEFAULT_PATH,
+    }
+}
+
+/// Returns the name of an input in messages.
+pub fn display_name(path: &str) -> &str {
+    match path {
+        STANDARD_INPUT => "standard input",
+        path => path,
+    }
+}
+
+/// An open input, of which the first bytes were read.
+#[derive(Drop)]
+pub struct Input {
+    /// The kind of the input, if it is known.
+    pub kind: Option<InputKind>,
+    /// The size in bytes of a regular file.
+    pub size: Option<u64>,
+    start: Vec<u8>,
+    unread: Unread,
+}
+
+/// Opens an input. Returns the size of a regular file.
+fn open_unread(rt: &HostRuntime, path: &str) -> Result<(Unread, Option<u64>)> {
+    if path == STANDARD_INPUT {
+        return Ok((Unread::Stdin(rt.stdin()), None));
+    }
+    let file = File::open(rt, path)?;
+    let metadata = file.metadata()?;
+    let size = if metadata.is_file() {
+        Some(metadata.len())
+    } else {
+        None
+    };
+    Ok((Unread::File(file), size))
+}
+
+impl Input {
+    /// Opens the input at a path and reads its first bytes, of which the first read may wait.
+    ///
+    /// Fails if it can't be opened, if a read fails, or if memory runs out.
+    pub fn open(rt: &HostRuntime, path: &str) -> Result<Input> {
+        let (mut unread, size) = open_unread(rt, path)?;
+        let mut start = Vec::new(rt.alloc());
+        unread.by_ref().take(START_SIZE).read_to_end(&mut start)?;
+        Ok(Input {
+            kind: InputKind::of_start(&start),
+            size,
+            start,
+            unread,
+        })
+    }
+
+    /// Reads the input into memory.
+    pub fn into_bytes(self) -> Result<Vec<u8>> {
+        let Input {
+            mut start,
+            mut unread,
+            ..
+        } = self;
+        unread.read_to_end(&mut start)?;
+        Ok(start)
+    }
+
+    /// Returns the bytes of the input from its start. A regular file is sought, a pipe is read as a stream,
+    /// and other inputs are read into memory.
+    fn into_input_bytes(self) -> Result<InputBytes> {
+        match self {
+            Input {
+                unread: Unread::File(mut file),
+                size: Some(_),
+                ..
+            } => {
+                file.rewind()?;
+                Ok(InputBytes::File(file))
+            }
+            Input {
+                kind: Some(InputKind::Pipe),
+                start,
+                unread,
+                ..
+            } => Ok(InputBytes::Stream(Cursor::new(start).chain(unread))),
+            input => Ok(InputBytes::Memory(Cursor::new(input.into_bytes()?))),
+        }
+    }
+
+    /// Returns the input from its start as a source with a buffer of `BUFFER_SIZE` bytes.
+    pub fn into_source(self, alloc: Global) -> Result<CountedBuffer<InputBytes>> {
+        with_buffer(alloc, self.into_input_bytes()?)
+    }
+}
 /// Buffers a reader. Fails if the allocation of the buffer fails.
 fn with_buffer<R: Read + Drop>(alloc: Global, reader: R) -> Result<CountedBuffer<R>>
     ensures counts { IfOk result (λ s. buffered_state s ≡ opaque_source 0 0) }
@@ -37,7 +185,7 @@ pub fn open_file<R: Files + AllocGlobal>(rt: &R, path: &str) -> Result<CountedBu
 /// errors and of empty reads are 0.
 ///
 /// Fails if the allocation of the buffer fails.
-pub fn open_stdin<R: Input + AllocGlobal>(rt: &R) -> Result<CountedBuffer<R::Reader>>
+pub fn open_stdin<R: StandardInput + AllocGlobal>(rt: &R) -> Result<CountedBuffer<R::Reader>>
     ensures counts { IfOk result (λ s. buffered_state s ≡ opaque_source 0 0) }
     ensures empty { IfOk result (λ s. counted_buffer_bytes s ≡ []) }
 {

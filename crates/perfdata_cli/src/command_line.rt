@@ -1,0 +1,69 @@
+//! Command lines of the form `PROGRAM [OPTIONS] [FILE]`, and the program's exit status.
+use crate::error::print_output_error;
+use clap::error::ErrorKind;
+use clap::{Arg, Command, Error};
+use std::alloc::{AllocError, Global};
+use std::{env, io};
+
+/// The version of all programs.
+pub const VERSION: &str = "0.1.0";
+
+/// The id of the argument that names the input.
+pub const FILE: &str = "FILE";
+
+/// The exit status at the end of the input.
+pub const SUCCESS: u8 = 0;
+
+/// The exit status for invalid arguments.
+pub const USAGE_ERROR: u8 = 1;
+
+/// The exit status for an input that can't be read to its end, and for output that can't be written.
+pub const FAILURE: u8 = 2;
+
+/// The end of each help text.
+const AFTER_HELP: &str =
+    "Exit status: 0 at the end of the input, 1 for invalid arguments, 2 for an error.";
+
+/// Creates the command of a program: its name, what it does, `FILE`, help and version.
+pub fn command<'a>(
+    alloc: Global,
+    name: &'a str,
+    about: &'a str,
+) -> Result<Command<'a>, AllocError> {
+    let file = Arg::new(alloc, FILE).help(
+        "A perf.data file, a pipe of perf or a jitdump; '-' is standard input [default: standard input if it is a FIFO, else perf.data]",
+    );
+    Command::new(alloc, name)
+        .about(about)
+        .version(VERSION)
+        .after_help(AFTER_HELP)
+        .arg(file)
+}
+
+/// Returns the command-line arguments, of which the first is the program's name. Fails if one isn't UTF-8,
+/// or if memory runs out.
+pub fn arguments(rt: &HostRuntime) -> io::Result<Vec<String>> {
+    Ok(env::args(rt)?.collect(rt.alloc())?)
+}
+
+/// Prints why there are no arguments. Returns the exit status.
+pub fn print_argument_error(rt: &HostRuntime, name: &str, error: &io::Error) -> u8 {
+    if error.kind() == io::ErrorKind::OutOfMemory {
+        let _ = eprintln!(rt; "{name}: out of memory");
+        return FAILURE;
+    }
+    let _ = eprintln!(rt; "{name}: an argument isn't UTF-8");
+    USAGE_ERROR
+}
+
+/// Prints the help, the version or an error of the arguments. Returns the exit status.
+pub fn print_clap_error(rt: &HostRuntime, name: &str, error: &Error) -> u8 {
+    match (error.print(rt), error.kind()) {
+        (Err(cause), ErrorKind::DisplayHelp | ErrorKind::DisplayVersion) => {
+            print_output_error(rt, name, &cause)
+        }
+        (_, ErrorKind::DisplayHelp | ErrorKind::DisplayVersion) => SUCCESS,
+        (_, ErrorKind::OutOfMemory) => FAILURE,
+        _ => USAGE_ERROR,
+    }
+}

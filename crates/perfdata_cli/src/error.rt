@@ -1,0 +1,172 @@
+//! Errors of the programs: what failed, where, and why.
+use crate::command_line::FAILURE;
+use crate::position::Position;
+use linux_perf_data::Error;
+use linux_perf_data::jitdump::JitDumpError;
+use std::fmt::{Display, Formatter, InlineText};
+use std::io::ErrorKind;
+use std::{fmt, io};
+
+/// The maximum size in bytes of the text of an I/O error.
+const TEXT_SIZE: usize = 256;
+
+/// What std appends to the text of an error of the system, before its number.
+const NUMBER_PREFIX: &str = " (os error ";
+
+/// Why an input can't be read to its end.
+#[derive(Drop)]
+pub enum InputError {
+    /// The first bytes are those of no format that the program reads.
+    UnknownFormat,
+    /// The input can't be opened, or its first bytes can't be read.
+    Io(io::Error),
+    /// The metadata of a perf.data file or pipe can't be read.
+    Metadata(Error),
+    /// The header of a jitdump can't be read.
+    JitHeader(JitDumpError),
+    /// A record can't be read.
+    Record {
+        /// What was read before it.
+        position: Position,
+        /// The cause.
+        cause: Error,
+    },
+    /// A record of a jitdump can't be read.
+    JitRecord {
+        /// What was read before it.
+        position: Position,
+        /// The cause.
+        cause: io::Error,
+    },
+    /// Number of sections that can't be read.
+    Sections(u64),
+    /// Out of memory.
+    OutOfMemory,
+}
+
+impl InputError {
+    /// Returns the error of reading the records, or of the metadata if none was read.
+    pub fn at(position: Position, cause: Error) -> InputError {
+        match position.records {
+            0 => InputError::Metadata(cause),
+            _ => InputError::Record { position, cause },
+        }
+    }
+}
+
+/// An error that ends a program or makes its output incomplete.
+#[derive(Drop)]
+pub enum ProgramError {
+    /// The input can't be read to its end.
+    Input(InputError),
+    /// Standard output can't be written.
+    Output(io::Error),
+}
+
+impl From<InputError> for ProgramError {
+    fn from(error: InputError) -> ProgramError {
+        ProgramError::Input(error)
+    }
+}
+
+/// Displays an I/O error without the system's number of it.
+#[derive(Clone, Copy)]
+struct IoCause<'a>(&'a io::Error);
+
+impl Display for IoCause<'_> {
+    fn fmt<W: fmt::Write>(&self, f: &mut Formatter<W>) -> fmt::Result {
+        let text = InlineText::<TEXT_SIZE>::of(self.0);
+        let words = text.as_str().split(NUMBER_PREFIX).next();
+        f.write_str(words.unwrap_or("I/O error"))
+    }
+}
+
+/// Displays why a part of a recording can't be read.
+#[derive(Clone, Copy)]
+struct Cause<'a>(&'a Error);
+
+impl Display for Cause<'_> {
+    fn fmt<W: fmt::Write>(&self, f: &mut Formatter<W>) -> fmt::Result {
+        match self.0 {
+            Error::Read(part) => Display::fmt(part, f),
+            Error::IoError(error) if error.kind() == ErrorKind::Unsupported => {
+                f.write_str("compressed records; record without -z")
+            }
+            Error::IoError(error) => Display::fmt(&IoCause(error), f),
+            Error::UnrecognizedMagicValue(_) => f.write_str("not a perf.data file"),
+            error => Display::fmt(error, f),
+        }
+    }
+}
+
+/// Displays a number with a comma before each group of three digits.
+#[derive(Clone, Copy)]
+struct Grouped(u64);
+
+impl Display for Grouped {
+    fn fmt<W: fmt::Write>(&self, f: &mut Formatter<W>) -> fmt::Result {
+        let digits = InlineText::<20>::of(self.0);
+        let mut remaining = digits.as_str().len();
+        for digit in digits.as_str().chars() {
+            f.write_char(digit)?;
+            remaining = remaining.saturating_sub(1);
+            if remaining != 0 && remaining % 3 == 0 {
+                f.write_char(',')?;
+            }
+        }
+        Ok(())
+    }
+}
+
+/// Writes where a record is that can't be read, and why.
+fn write_record_error<W: fmt::Write, C: Display>(
+    position: Position,
+    cause: &C,
+    f: &mut Formatter<W>,
+) -> fmt::Result {
+    if let Some(offset) = position.offset {
+        write!(f, "record at offset {offset} ")?;
+    }
+    write!(f, "(after {} records): {cause}", Grouped(position.records))
+}
+
+impl Display for InputError {
+    fn fmt<W: fmt::Write>(&self, f: &mut Formatter<W>) -> fmt::Result {
+        match self {
+            InputError::UnknownFormat => f.write_str("not a perf.data file"),
+            InputError::Io(error) => Display::fmt(&IoCause(error), f),
+            InputError::Metadata(error) => Display::fmt(&Cause(error), f),
+            InputError::JitHeader(error) => Display::fmt(error, f),
+            InputError::Record { position, cause } => write_record_error(
+                *position,
+                &Cause(cause),
+                f,
+            ),
+            InputError::JitRecord { position, cause } => {
+                write_record_error(*position, &IoCause(cause), f)
+            }
+            InputError::OutOfMemory => f.write_str("out of memory"),
+            InputError::Sections(count) => write!(f, "sections that can't be read: {count}"),
+        }
+    }
+}
+
+/// Prints that standard output can't be written. Returns the exit status. That nobody reads the output any
+/// more is no error to report.
+pub fn print_output_error(rt: &HostRuntime, program: &str, error: &io::Error) -> u8 {
+    if error.kind() != ErrorKind::BrokenPipe {
+        let _ = eprintln!(rt; "{program}: standard output: {}", IoCause(error));
+    }
+    FAILURE
+}
+
+/// Prints an error of a program that reads this input. Returns the exit status.
+pub fn print_error(rt: &HostRuntime, program: &str, input: &str, error: &ProgramError) -> u8 {
+    match error {
+        ProgramError::Input(cause) => {
+            let _ = eprintln!(rt; "{program}: {input}: {cause}");
+            FAILURE
+        }
+        ProgramError::Output(cause) => print_output_error(rt, program, cause),
+    }
+}

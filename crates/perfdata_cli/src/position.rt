@@ -1,0 +1,35 @@
+//! How far an input was read.
+use linux_perf_data::event::PerfEventHeader;
+use linux_perf_data::{PerfFileRecord, RecordPlace};
+
+/// What was read of an input's records.
+#[derive(Clone, Copy)]
+pub struct Position {
+    /// Number of records.
+    pub records: u64,
+    /// Offset of the end of the last record in bytes, from the start of the first one; `None` if the records
+    /// aren't read in their order.
+    pub offset: Option<u64>,
+}
+
+impl Position {
+    /// The position before the first record.
+    pub const START: Position = Position {
+        records: 0,
+        offset: Some(0),
+    };
+
+    /// Moves the position to the end of a record.
+    pub fn add(&mut self, place: &RecordPlace, record: &PerfFileRecord<'_>) {
+        self.records = self.records.saturating_add(1);
+        self.offset = Some(record_end(place, record));
+    }
+}
+
+/// Returns the offset of a record's end in bytes, from the start of the first record.
+pub fn record_end(place: &RecordPlace, record: &PerfFileRecord<'_>) -> u64 {
+    place
+        .offset
+        .saturating_add(record.body().len() as u64)
+        .saturating_add(PerfEventHeader::STRUCT_SIZE as u64)
+}
