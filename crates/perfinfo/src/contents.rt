@@ -2,7 +2,7 @@
 //! records, switches.
 use crate::counting::{count_one, to_vec};
 use crate::escape::{Escaped, Hex};
-use crate::report::Report;
+use crate::report::{Numbered, Report};
 use linux_perf_data::Error;
 use linux_perf_data::event::RawEventRecord;
 use linux_perf_data::raw::RawData;
@@ -17,7 +17,8 @@ use perfdata_events::task::{CommOrExecRecord, ForkOrExitRecord};
 use std::alloc::{AllocError, Global};
 use std::cmp::Reverse;
 use std::collections::BTreeMap;
-use std::io::Write;
+use std::fmt;
+use std::fmt::{Display, Formatter};
 
 /// Maximum number of mapped files in the report.
 const MAX_FILES: usize = 20;
@@ -44,6 +45,16 @@ impl Process {
             samples: 0,
             threads: BTreeMap::new(alloc),
         }
+    }
+
+    /// Returns a thread, which has no name if it is new.
+    fn thread(&mut self, alloc: Global, tid: i32) -> Result<&mut Thread, AllocError> {
+        Ok(
+            self.threads.entry(tid)?.or_insert(Thread {
+                name: Vec::new(alloc),
+                samples: 0,
+            }),
+        )
     }
 
     /// Returns the name of a thread, or an empty one.
@@ -174,14 +185,16 @@ impl Contents {
         }
     }
 
+    /// Returns a process, which has no threads if it is new.
+    fn process(&mut self, alloc: Global, pid: i32) -> Result<&mut Process, AllocError> {
+        Ok(self.processes.entry(pid)?.or_insert(Process::new(alloc)))
+    }
+
     /// Adds a sample to the counts of a thread.
     fn add_task_sample(&mut self, alloc: Global, pid: i32, tid: i32) -> Result<(), AllocError> {
-        let process = self.processes.entry(pid)?.or_insert(Process::new(alloc));
+        let process = self.process(alloc, pid)?;
         process.samples = process.samples.saturating_add(1);
-        let thread = process.threads.entry(tid)?.or_insert(Thread {
-            name: Vec::new(alloc),
-            samples: 0,
-        });
+        let thread = process.thread(alloc, tid)?;
         thread.samples = thread.samples.saturating_add(1);
         Ok(())
     }
@@ -194,12 +207,7 @@ impl Contents {
         tid: i32,
         name: Vec<u8>,
     ) -> Result<(), AllocError> {
-        let process = self.processes.entry(pid)?.or_insert(Process::new(alloc));
-        let thread = process.threads.entry(tid)?.or_insert(Thread {
-            name: Vec::new(alloc),
-            samples: 0,
-        });
-        thread.name = name;
+        self.process(alloc, pid)?.thread(alloc, tid)?.name = name;
         Ok(())
     }
 
@@ -300,78 +308,92 @@ fn files_by_count(
     Ok(Some(entries))
 }
 
-/// Writes each process: its name, its samples and its threads.
-fn show_processes<W: Write>(contents: &Contents, report: &mut Report<W>) {
-    report.line("processes", contents.processes.len());
-    for (pid, process) in contents.processes.iter() {
-        report.item(
-            format_args!("process {pid}"),
-            Escaped(process.name_of(*pid)),
-        );
-        report.detail("samples", process.samples);
-        for (tid, thread) in process.threads.iter() {
-            let (name, samples) = (Escaped(thread.name.as_slice()), thread.samples);
-            report.detail(
-                format_args!("thread {tid}"),
-                format_args!("{samples} {name}"),
-            );
-        }
+/// Displays the number of a thread's samples and its name.
+#[derive(Clone, Copy)]
+struct ThreadText<'a>(&'a Thread);
+
+impl Display for ThreadText<'_> {
+    fn fmt<W: fmt::Write>(&self, f: &mut Formatter<W>) -> fmt::Result {
+        write!(f, "{} {}", self.0.samples, Escaped(self.0.name.as_slice()))
     }
 }
 
-/// Writes the files that have most of the mappings.
-fn show_files<W: Write>(entries: &[FileEntry<'_>], report: &mut Report<W>) {
+/// Writes a process: its name, its samples and its threads.
+fn show_process(pid: i32, process: &Process, report: &mut Report) {
+    report.item(
+        Numbered("process", pid as i64),
+        Escaped(process.name_of(pid)),
+    );
+    report.number_detail("samples", process.samples);
+    for (tid, thread) in process.threads.iter() {
+        report.detail(Numbered("thread", *tid as i64), ThreadText(thread));
+    }
+}
+
+/// Writes the processes.
+fn show_processes(contents: &Contents, report: &mut Report) {
+    report.number("processes", contents.processes.len() as u64);
+    for (pid, process) in contents.processes.iter() {
+        show_process(*pid, process, report);
+    }
+}
+
+/// Writes the number of samples of each processor.
+fn show_processors(contents: &Contents, report: &mut Report) {
+    report.number("samples by CPU", contents.samples_by_cpu.len() as u64);
+    for (cpu, count) in contents.samples_by_cpu.iter() {
+        report.item(Numbered("CPU", *cpu as i64), *count);
+    }
+}
+
+/// Writes files and the numbers of their mappings.
+fn show_files(entries: &[FileEntry<'_>], report: &mut Report) {
     for (path, count) in entries {
         report.item(Escaped(path.as_slice()), **count);
     }
 }
 
 /// Writes the number of mappings and the files that have most of them.
-fn show_mappings<W: Write>(alloc: Global, contents: &Contents, report: &mut Report<W>) {
-    report.line("mappings", contents.mappings);
-    report.line("mapped files", contents.files.len());
-    let by_count = report.value_or_note("mapped files", files_by_count(alloc, &contents.files));
-    if let Some(entries) = by_count {
+fn show_mappings(alloc: Global, contents: &Contents, report: &mut Report) {
+    report.number("mappings", contents.mappings);
+    report.number("mapped files", contents.files.len() as u64);
+    let by_count = files_by_count(alloc, &contents.files);
+    if let Some(entries) = report.value_or_note("mapped files", by_count) {
         show_files(&entries, report);
     }
-    report.line("build ids of mappings", contents.build_ids.len());
+}
+
+/// Writes the build ids of mappings.
+fn show_build_ids(contents: &Contents, report: &mut Report) {
+    report.number("build ids of mappings", contents.build_ids.len() as u64);
     for (id, path) in contents.build_ids.iter() {
         report.item(Hex(id.as_slice()), Escaped(path.as_slice()));
     }
 }
 
-/// Writes a line for each count.
-fn show_counts<W: Write>(counts: &[(&str, u64)], report: &mut Report<W>) {
-    for (name, count) in counts {
-        report.line(*name, *count);
-    }
+/// Writes the sizes of the parts of samples.
+fn show_sizes(contents: &Contents, report: &mut Report) {
+    report.number("frames of call chains", contents.frames);
+    report.number("counter values in samples", contents.counter_values);
+    report.number("bytes of user stacks", contents.stack_bytes);
+}
+
+/// Writes the numbers of lost records, of switches and of bodies that can't be parsed.
+fn show_losses(contents: &Contents, report: &mut Report) {
+    report.number("lost records", contents.lost_records);
+    report.number("lost samples", contents.lost_samples);
+    report.number("switches to a task", contents.switches.into);
+    report.number("switches from a task", contents.switches.out);
+    report.number("switches by preemption", contents.switches.preempted);
+    report.number("bodies that can't be parsed", contents.unparsed);
 }
 
 /// Writes the counts.
-pub(crate) fn show<W: Write>(alloc: Global, contents: &Contents, report: &mut Report<W>) {
+pub(crate) fn show(alloc: Global, contents: &Contents, report: &mut Report) {
     show_processes(contents, report);
-    report.line("samples by CPU", contents.samples_by_cpu.len());
-    for (cpu, count) in contents.samples_by_cpu.iter() {
-        report.item(format_args!("CPU {cpu}"), *count);
-    }
-    show_counts(
-        &[
-            ("frames of call chains", contents.frames),
-            ("counter values in samples", contents.counter_values),
-            ("bytes of user stacks", contents.stack_bytes),
-        ],
-        report,
-    );
+    show_processors(contents, report);
+    show_sizes(contents, report);
     show_mappings(alloc, contents, report);
-    show_counts(
-        &[
-            ("lost records", contents.lost_records),
-            ("lost samples", contents.lost_samples),
-            ("switches to a task", contents.switches.into),
-            ("switches from a task", contents.switches.out),
-            ("switches by preemption", contents.switches.preempted),
-            ("bodies that can't be parsed", contents.unparsed),
-        ],
-        report,
-    );
+    show_build_ids(contents, report);
+    show_losses(contents, report);
 }

@@ -2,46 +2,62 @@
 use crate::escape::Escaped;
 use crate::names::{ATTR_FLAGS, BitNames, READ_FORMAT, SAMPLE_FORMAT, event_type_name};
 use crate::records::{EventCounts, RecordCounts};
-use crate::report::Report;
-use linux_perf_data::PerfFile;
+use crate::report::{Numbered, Report};
 use linux_perf_data::attr::PerfEventAttr;
+use linux_perf_data::{AttributeDescription, PerfFile};
 use std::fmt;
-use std::io::Write;
 
 /// The attribute flag that makes `period_or_freq` a frequency.
 const FREQ_FLAG: u64 = 1 << 10;
 
 /// Writes one item for each event, with the fields of its attribute, its ids and its counts.
-pub(crate) fn show<W: Write>(file: &PerfFile, counts: &RecordCounts, report: &mut Report<W>) {
-    report.line("events", file.event_attributes().len());
+pub(crate) fn show(file: &PerfFile, counts: &RecordCounts, report: &mut Report) {
+    report.number("events", file.event_attributes().len() as u64);
     for (index, event) in file.event_attributes().iter().enumerate() {
-        report.item(
-            format_args!("event {index}"),
-            Escaped(event.name().unwrap_or("unnamed").as_bytes()),
-        );
-        show_attr(event.attributes(), report);
-        report.detail("ids", IdList(event.ids()));
-        show_counts(counts.event_counts(index), report);
+        show_event(index, event, counts.event_counts(index), report);
     }
 }
 
+/// Writes an event: the fields of its attribute, its ids and its counts.
+fn show_event(
+    index: usize,
+    event: &AttributeDescription,
+    counts: EventCounts,
+    report: &mut Report,
+) {
+    let name = event.name().unwrap_or("unnamed");
+    report.item(
+        Numbered("event", i64::try_from(index).unwrap_or(i64::MAX)),
+        Escaped(name.as_bytes()),
+    );
+    show_attr(event.attributes(), report);
+    report.detail("ids", IdList(event.ids()));
+    show_counts(counts, report);
+}
+
 /// Writes the fields of an attribute.
-fn show_attr<W: Write>(attr: &PerfEventAttr, report: &mut Report<W>) {
+fn show_attr(attr: &PerfEventAttr, report: &mut Report) {
     report.detail("type", event_type_name(attr.type_));
-    report.detail("type number", attr.type_);
-    report.detail("config", attr.config);
-    let name = if attr.flags.0 & FREQ_FLAG == 0 {
+    report.number_detail("type number", attr.type_ as u64);
+    report.number_detail("config", attr.config);
+    report.number_detail(period_name(attr), attr.period_or_freq);
+    show_bits("sample format", attr.sample_format.0, SAMPLE_FORMAT, report);
+    show_bits("read format", attr.read_format, READ_FORMAT, report);
+    show_bits("flags", attr.flags.0, ATTR_FLAGS, report);
+}
+
+/// Returns the name of `period_or_freq`.
+fn period_name(attr: &PerfEventAttr) -> &'static str {
+    if attr.flags.0 & FREQ_FLAG == 0 {
         "period"
     } else {
         "frequency"
-    };
-    report.detail(name, attr.period_or_freq);
-    let (bits, names) = (attr.sample_format.0, SAMPLE_FORMAT);
-    report.detail("sample format", BitNames { bits, names });
-    let (bits, names) = (attr.read_format, READ_FORMAT);
-    report.detail("read format", BitNames { bits, names });
-    let (bits, names) = (attr.flags.0, ATTR_FLAGS);
-    report.detail("flags", BitNames { bits, names });
+    }
+}
+
+/// Writes a field of an attribute that consists of bits with these names.
+fn show_bits(field: &str, bits: u64, names: &'static str, report: &mut Report) {
+    report.detail(field, BitNames { bits, names });
 }
 
 /// Displays the number of ids and then each id.
@@ -61,11 +77,11 @@ impl fmt::Display for IdList<'_> {
 }
 
 /// Writes the counts of an event and the times of its first and last sample.
-fn show_counts<W: Write>(counts: EventCounts, report: &mut Report<W>) {
-    report.detail("records", counts.records);
-    report.detail("samples", counts.samples);
+fn show_counts(counts: EventCounts, report: &mut Report) {
+    report.number_detail("records", counts.records);
+    report.number_detail("samples", counts.samples);
     if let (Some(first), Some(last)) = (counts.first_sample, counts.last_sample) {
-        report.detail("first sample in ns", first);
-        report.detail("last sample in ns", last);
+        report.number_detail("first sample in ns", first);
+        report.number_detail("last sample in ns", last);
     }
 }

@@ -2,14 +2,14 @@
 use crate::escape::Escaped;
 use crate::names::clock_name;
 use crate::report::Report;
+use linux_perf_data::feature_sections::PmuMappings;
 use linux_perf_data::{Endianness, Error, PerfFile};
-use std::alloc::Global;
+use std::alloc::{AllocError, Global};
 use std::collections::HashMap;
 use std::fmt;
-use std::io::Write;
 
 /// Writes all lines. A missing value has no line.
-pub(crate) fn show<W: Write>(alloc: Global, file: &PerfFile, report: &mut Report<W>) {
+pub(crate) fn show(alloc: Global, file: &PerfFile, report: &mut Report) {
     show_strings(file, report);
     show_numbers(file, report);
     show_command_line(alloc, file, report);
@@ -22,7 +22,7 @@ pub(crate) fn show<W: Write>(alloc: Global, file: &PerfFile, report: &mut Report
 }
 
 /// Writes the feature sections that contain a string.
-fn show_strings<W: Write>(file: &PerfFile, report: &mut Report<W>) {
+fn show_strings(file: &PerfFile, report: &mut Report) {
     report.string_line("host name", file.hostname());
     report.string_line("OS release", file.os_release());
     report.string_line("perf version", file.perf_version());
@@ -40,19 +40,19 @@ pub(crate) fn byte_order_name(endian: Endianness) -> &'static str {
 }
 
 /// Writes the numeric values and the byte order.
-fn show_numbers<W: Write>(file: &PerfFile, report: &mut Report<W>) {
+fn show_numbers(file: &PerfFile, report: &mut Report) {
     if let Some(cpus) = report.value_or_note("CPUs", file.nr_cpus()) {
-        report.line("CPUs available", cpus.nr_cpus_available);
-        report.line("CPUs online", cpus.nr_cpus_online);
+        report.number("CPUs available", cpus.nr_cpus_available as u64);
+        report.number("CPUs online", cpus.nr_cpus_online as u64);
     }
     report.number_line("memory in kB", file.total_mem());
-    report.line("byte order", byte_order_name(file.endian()));
+    report.word("byte order", byte_order_name(file.endian()));
     let stat = if file.is_stats() { "yes" } else { "no" };
-    report.line("written by perf stat", stat);
+    report.word("written by perf stat", stat);
 }
 
 /// Writes the recording's command line, with spaces between the arguments.
-fn show_command_line<W: Write>(alloc: Global, file: &PerfFile, report: &mut Report<W>) {
+fn show_command_line(alloc: Global, file: &PerfFile, report: &mut Report) {
     if let Some(arguments) = report.value_or_note("command line", file.cmdline(alloc)) {
         report.line("command line", CommandLine(arguments.as_slice()));
     }
@@ -74,38 +74,38 @@ impl fmt::Display for CommandLine<'_> {
 }
 
 /// Writes the times of the first and the last sample from the sample time section.
-fn show_times<W: Write>(file: &PerfFile, report: &mut Report<W>) {
+fn show_times(file: &PerfFile, report: &mut Report) {
     if let Some(times) = report.value_or_note("sample times", file.sample_time_range()) {
-        report.line("first sample in ns", times.first_sample_time);
-        report.line("last sample in ns", times.last_sample_time);
+        report.number("first sample in ns", times.first_sample_time);
+        report.number("last sample in ns", times.last_sample_time);
     }
 }
 
 /// Writes the clock of the timestamps.
-fn show_clock<W: Write>(file: &PerfFile, report: &mut Report<W>) {
+fn show_clock(file: &PerfFile, report: &mut Report) {
     report.number_line("clock tick in ns", file.clock_frequency());
     if let Some(clock) = report.value_or_note("clock", file.clock_data()) {
-        report.line("clock", clock_name(clock.clockid));
-        report.line("clock number", clock.clockid);
-        report.line("clock time in ns", clock.clockid_time_ns);
-        report.line("wall clock in ns", clock.wall_clock_ns);
+        report.word("clock", clock_name(clock.clockid));
+        report.number("clock number", clock.clockid as u64);
+        report.number("clock time in ns", clock.clockid_time_ns);
+        report.number("wall clock in ns", clock.wall_clock_ns);
     }
 }
 
 /// Writes how the records are compressed.
-fn show_compression<W: Write>(file: &PerfFile, report: &mut Report<W>) {
+fn show_compression(file: &PerfFile, report: &mut Report) {
     if let Some(compression) = report.value_or_note("compression", file.compression_info()) {
-        report.line("compression type", compression.type_);
-        report.line("compression version", compression.version);
-        report.line("compression level", compression.level);
-        report.line("compression ratio", compression.ratio);
-        report.line("compression buffer in bytes", compression.mmap_len);
+        report.number("compression type", compression.type_ as u64);
+        report.number("compression version", compression.version as u64);
+        report.number("compression level", compression.level as u64);
+        report.number("compression ratio", compression.ratio as u64);
+        report.number("compression buffer in bytes", compression.mmap_len as u64);
     }
 }
 
 /// Writes the features, each with the size of its section in bytes.
-fn show_features<W: Write>(file: &PerfFile, report: &mut Report<W>) {
-    report.line("features", file.features().len());
+fn show_features(file: &PerfFile, report: &mut Report) {
+    report.number("features", file.features().len() as u64);
     for feature in file.features().iter() {
         if let Some(section) = file.feature_section_data(feature) {
             report.item(feature, section.len());
@@ -114,39 +114,57 @@ fn show_features<W: Write>(file: &PerfFile, report: &mut Report<W>) {
 }
 
 /// Writes the performance monitoring units, ordered by number.
-fn show_pmu_mappings<W: Write>(alloc: Global, file: &PerfFile, report: &mut Report<W>) {
-    if let Some(units) = report.value_or_note("PMU mappings", file.pmu_mappings(alloc)) {
-        report.line("PMU mappings", units.0.len());
-        for (number, name) in units.0.iter() {
-            report.item(*number, Escaped(name.as_bytes()));
-        }
+fn show_pmu_mappings(alloc: Global, file: &PerfFile, report: &mut Report) {
+    let section = file.pmu_mappings(alloc);
+    if let Some(units) = report.value_or_note("PMU mappings", section) {
+        show_units(&units, report);
+    }
+}
+
+/// Writes performance monitoring units.
+fn show_units(units: &PmuMappings, report: &mut Report) {
+    report.number("PMU mappings", units.0.len() as u64);
+    for (number, name) in units.0.iter() {
+        report.item(*number, Escaped(name.as_bytes()));
     }
 }
 
 /// Writes simpleperf's meta info, ordered by key.
-fn show_meta_info<W: Write>(alloc: Global, file: &PerfFile, report: &mut Report<W>) {
-    if let Some(map) = report.value_or_note("meta info", file.simpleperf_meta_info(alloc)) {
-        report.line("meta info", map.len());
-        if let Some(pairs) = report.value_or_note("meta info", sorted_pairs(alloc, &map)) {
-            for (key, value) in pairs.iter() {
-                report.item(Escaped(key.as_bytes()), Escaped(value.as_bytes()));
-            }
-        }
+fn show_meta_info(alloc: Global, file: &PerfFile, report: &mut Report) {
+    let section = sorted_meta_info(alloc, file);
+    if let Some(pairs) = report.value_or_note("meta info", section) {
+        show_pairs(&pairs, report);
+    }
+}
+
+/// Writes keys and their values.
+fn show_pairs(pairs: &[Pair<'_>], report: &mut Report) {
+    report.number("meta info", pairs.len() as u64);
+    for (key, value) in pairs {
+        report.item(Escaped(key.as_bytes()), Escaped(value.as_bytes()));
     }
 }
 
 /// A key and its value.
 type Pair<'a> = (&'a str, &'a str);
 
+/// Returns simpleperf's meta info, ordered by key.
+fn sorted_meta_info(alloc: Global, file: &PerfFile) -> Result<Option<Vec<Pair<'_>>>, Error> {
+    match file.simpleperf_meta_info(alloc)? {
+        Some(map) => Ok(Some(sorted_pairs(alloc, &map)?)),
+        None => Ok(None),
+    }
+}
+
 /// Returns the pairs, ordered by key.
 fn sorted_pairs<'a>(
     alloc: Global,
     map: &HashMap<&'a str, &'a str>,
-) -> Result<Option<Vec<Pair<'a>>>, Error> {
+) -> Result<Vec<Pair<'a>>, AllocError> {
     let mut pairs = Vec::with_capacity(alloc, map.len())?;
     for (key, value) in map.iter() {
         pairs.push((*key, *value))?;
     }
     pairs.sort()?;
-    Ok(Some(pairs))
+    Ok(pairs)
 }

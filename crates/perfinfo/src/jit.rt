@@ -1,20 +1,19 @@
 //! Prints a jitdump file: its header, its records by type, and its code.
-ghost use Rattle.std.specs.Prelude.{◌↔◌, IsOk};
 
 use crate::counting::{count_one, to_vec};
-use crate::error::InfoError;
 use crate::escape::Escaped;
 use crate::header_info::byte_order_name;
 use crate::names::jit_record_type_name;
-use crate::report::Report;
-use linux_perf_data::jitdump::{JitDumpRawRecord, JitDumpReader, JitDumpRecord};
+use crate::report::{Named, Report};
+use linux_perf_data::jitdump::{JitDumpHeader, JitDumpRawRecord, JitDumpReader, JitDumpRecord};
 use linux_perf_data::raw::RawData;
 use linux_perf_data::source::Source;
+use perfdata_cli::error::InputError;
+use perfdata_cli::position::Position;
 use std::alloc::{AllocError, Global};
 use std::cmp::Reverse;
 use std::collections::BTreeMap;
 use std::io;
-use std::io::Write;
 
 /// Maximum number of largest functions in the report.
 const MAX_FUNCTIONS: usize = 10;
@@ -30,6 +29,7 @@ struct JitFunction {
 #[derive(Drop)]
 pub struct JitCounts {
     per_type: BTreeMap<u32, u64>,
+    records: u64,
     code_bytes: u64,
     /// The largest functions, ordered by decreasing size.
     largest: Vec<JitFunction>,
@@ -42,6 +42,7 @@ impl JitCounts {
     pub(crate) fn new(alloc: Global) -> JitCounts {
         JitCounts {
             per_type: BTreeMap::new(alloc),
+            records: 0,
             code_bytes: 0,
             largest: Vec::new(alloc),
             end: 0,
@@ -70,6 +71,7 @@ impl JitCounts {
             self.add_function(alloc, load.code_bytes.len() as u64, load.function_name)?;
         }
         count_one(&mut self.per_type, raw.record_type.0)?;
+        self.records = self.records.saturating_add(1);
         self.end = raw.start_offset.saturating_add(raw.record_size as u64);
         Ok(())
     }
@@ -91,48 +93,47 @@ impl JitCounts {
     }
 
     /// Fails with the error that ends the records, if `read` returned one.
-    pub fn outcome(&self, read: io::Result<()>) -> Result<(), InfoError>
-        ensures { IsOk result ↔ IsOk read }
-    {
-        match read {
-            Ok(()) => Ok(()),
-            Err(source_error) => Err(InfoError::JitRecord {
-                bytes_before: self.end,
-                source_error,
-            }),
-        }
-    }
-
-    /// Writes the counts.
-    fn show<W: Write>(&self, report: &mut Report<W>) {
-        report.line("records by type", self.per_type.len());
-        for (record_type, count) in self.per_type.iter() {
-            report.item(
-                format_args!("{} ({record_type})", jit_record_type_name(*record_type)),
-                *count,
-            );
-        }
-        report.line("bytes of records", self.end);
-        report.line("bytes of code", self.code_bytes);
-        report.line("largest functions", self.largest.len());
-        for function in self.largest.iter() {
-            report.item(function.size, Escaped(function.name.as_slice()));
-        }
+    pub(crate) fn outcome(&self, read: io::Result<()>) -> Result<(), InputError> {
+        let position = Position {
+            records: self.records,
+            offset: Some(self.end),
+        };
+        read.map_err(|cause: io::Error| InputError::JitRecord { position, cause })
     }
 }
 
 /// Writes the header and the counts.
-pub(crate) fn show<R: Source, W: Write>(
-    reader: &JitDumpReader<R>,
-    counts: &JitCounts,
-    report: &mut Report<W>,
-) {
-    let header = reader.header();
-    report.line("byte order", byte_order_name(reader.endian()));
-    report.line("version", header.version);
-    report.line("machine number", header.elf_machine_arch);
-    report.line("process", header.pid);
-    report.line("time", header.timestamp);
-    report.line("flags", header.flags);
-    counts.show(report);
+pub(crate) fn show<R: Source>(reader: &JitDumpReader<R>, counts: &JitCounts, report: &mut Report) {
+    report.word("byte order", byte_order_name(reader.endian()));
+    show_header(reader.header(), report);
+    show_types(counts, report);
+    report.number("bytes of records", counts.end);
+    report.number("bytes of code", counts.code_bytes);
+    show_functions(&counts.largest, report);
+}
+
+/// Writes the header.
+fn show_header(header: &JitDumpHeader, report: &mut Report) {
+    report.number("version", header.version as u64);
+    report.number("machine number", header.elf_machine_arch as u64);
+    report.number("process", header.pid as u64);
+    report.number("time", header.timestamp);
+    report.number("flags", header.flags);
+}
+
+/// Writes the number of records of each type.
+fn show_types(counts: &JitCounts, report: &mut Report) {
+    report.number("records by type", counts.per_type.len() as u64);
+    for (record_type, count) in counts.per_type.iter() {
+        let name = jit_record_type_name(*record_type);
+        report.item(Named(name, *record_type), *count);
+    }
+}
+
+/// Writes the sizes and names of functions.
+fn show_functions(functions: &[JitFunction], report: &mut Report) {
+    report.number("largest functions", functions.len() as u64);
+    for function in functions {
+        report.item(function.size, Escaped(function.name.as_slice()));
+    }
 }

@@ -1,83 +1,69 @@
-//! Prints a report on a `perf.data` file, a pipe or a jitdump file: one `name: value` pair a line, with
-//! indented lists.
+//! Prints a report on a `perf.data` file, a pipe or a jitdump: one `name: value` pair a line, with indented
+//! lists.
 #![tactic(auto)]
 
 mod build_ids;
 mod contents;
 mod counting;
-mod error;
 mod escape;
 mod events;
 mod header_info;
-mod help;
 mod jit;
 mod names;
-mod progress;
 mod records;
 mod report;
 
-use error::{InfoError, exit_status};
-use help::requested_text;
+use clap::{ArgMatches, Error};
 use jit::JitCounts;
-use linux_perf_data::jitdump::JitDumpReader;
-use linux_perf_data::source::Source;
-use linux_perf_data::{PerfFile, PerfFileReader};
-use perfdata_cli::args::{Command, parse_args};
-use perfdata_cli::input::{open_file, open_stdin};
-use progress::Progress;
+use linux_perf_data::PerfFileReader;
+use linux_perf_data::jitdump::{JitDumpError, JitDumpReader};
+use perfdata_base::source::CountedBuffer;
+use perfdata_cli::command_line::{
+    FILE, SUCCESS, arguments, command, print_argument_error, print_clap_error,
+};
+use perfdata_cli::error::{InputError, ProgramError, print_error};
+use perfdata_cli::input::{Input, InputKind, display_name, path_of};
+use perfdata_cli::input_bytes::InputBytes;
+use perfdata_cli::progress::Progress;
 use records::RecordCounts;
 use report::Report;
-use std::fs;
-use std::io::{BufWriter, Write};
+use std::alloc::Global;
 use std::process::ExitCode;
 
-/// Returns the size of a file in bytes, if it is known.
-fn file_size(rt: &HostRuntime, path: &str) -> Option<u64> {
-    match fs::metadata(rt, path) {
-        Ok(metadata) => Some(metadata.len()),
-        Err(_) => None,
-    }
-}
+/// The program's name.
+const NAME: &str = "perfinfo";
 
-/// Prints the report on a perf.data file.
-fn report_file(rt: &HostRuntime, path: &str) -> Result<(), InfoError> {
-    let file = open_file(rt, path).map_err(InfoError::Open)?;
-    let size = file_size(rt, path);
-    match PerfFileReader::parse_file(rt.alloc(), file) {
-        Ok(mut reader) => report_records(rt, &mut reader, size),
-        Err(error) => Err(InfoError::Parse(error)),
-    }
-}
+/// What the program does.
+const ABOUT: &str =
+    "Summarizes a perf.data file, a pipe or a jitdump: the machine, the events, the records by type, processes and threads, mappings, lost records, context switches and build ids.";
 
-/// Prints the report on a pipe from standard input.
-fn report_pipe(rt: &HostRuntime) -> Result<(), InfoError> {
-    let input = open_stdin(rt).map_err(InfoError::Open)?;
-    match PerfFileReader::parse_pipe(rt.alloc(), input) {
-        Ok(mut reader) => report_records(rt, &mut reader, None),
-        Err(error) => Err(InfoError::Parse(error)),
-    }
-}
+/// The bytes of an input in a buffer.
+type Source = CountedBuffer<InputBytes>;
 
-/// Reads the records of a file or pipe to their end or to the first error, and prints the report. A read
-/// error takes precedence over an error of the report.
-fn report_records<R: Source>(
+/// Reads the records of a file or pipe to their end or to the first error, and prints the report.
+fn report_recording(
     rt: &HostRuntime,
-    reader: &mut PerfFileReader<R>,
+    opened: Result<PerfFileReader<Source>, linux_perf_data::Error>,
     size: Option<u64>,
-) -> Result<(), InfoError> {
+) -> Result<(), ProgramError> {
+    let mut reader = opened.map_err(InputError::Metadata)?;
     let mut progress = Progress::start(rt, size);
     let mut counts = RecordCounts::new(rt.alloc());
-    let read = counts.read(rt.alloc(), reader, &mut progress);
+    let read = counts.read(rt.alloc(), &mut reader, &mut progress);
     progress.finish();
-    let printed = print_report(rt, &reader.perf_file, &counts);
+    let printed = print_report(rt, &reader, &counts);
     counts.outcome(read)?;
     printed
 }
 
 /// Prints the report on the metadata and the records of a file or pipe.
-fn print_report(rt: &HostRuntime, file: &PerfFile, counts: &RecordCounts) -> Result<(), InfoError> {
-    let out = BufWriter::new(rt.alloc(), rt.stdout()).map_err(InfoError::Write)?;
-    let mut report = Report::new(out);
+fn print_report(
+    rt: &HostRuntime,
+    reader: &PerfFileReader<Source>,
+    counts: &RecordCounts,
+) -> Result<(), ProgramError> {
+    let file = &reader.perf_file;
+    let mut report = Report::new(rt.alloc(), rt.stdout()).map_err(InputError::Io)?;
     header_info::show(rt.alloc(), file, &mut report);
     events::show(file, counts, &mut report);
     records::show(counts, &mut report);
@@ -86,63 +72,72 @@ fn print_report(rt: &HostRuntime, file: &PerfFile, counts: &RecordCounts) -> Res
     report.finish()
 }
 
-/// Prints the report on a jitdump file.
-fn report_jitdump(rt: &HostRuntime, path: &str) -> Result<(), InfoError> {
-    let file = open_file(rt, path).map_err(InfoError::Open)?;
-    match JitDumpReader::new(rt.alloc(), file) {
-        Ok(mut reader) => report_jit_records(rt, &mut reader),
-        Err(error) => Err(InfoError::JitParse(error)),
-    }
-}
-
-/// Reads the records of a jitdump file to the last complete one or to the first error, and prints the report.
-/// A read error takes precedence over an error of the report.
-fn report_jit_records<R: Source>(
+/// Reads the records of a jitdump to the last complete one or to the first error, and prints the report.
+fn report_jitdump(
     rt: &HostRuntime,
-    reader: &mut JitDumpReader<R>,
-) -> Result<(), InfoError> {
+    opened: Result<JitDumpReader<Source>, JitDumpError>,
+) -> Result<(), ProgramError> {
+    let mut reader = opened.map_err(InputError::JitHeader)?;
     let mut counts = JitCounts::new(rt.alloc());
-    let read = counts.read(rt.alloc(), reader);
-    let printed = print_jit_report(rt, reader, &counts);
+    let read = counts.read(rt.alloc(), &mut reader);
+    let printed = print_jit_report(rt, &reader, &counts);
     counts.outcome(read)?;
     printed
 }
 
-/// Prints the report on the header and the records of a jitdump file.
-fn print_jit_report<R: Source>(
+/// Prints the report on the header and the records of a jitdump.
+fn print_jit_report(
     rt: &HostRuntime,
-    reader: &JitDumpReader<R>,
+    reader: &JitDumpReader<Source>,
     counts: &JitCounts,
-) -> Result<(), InfoError> {
-    let out = BufWriter::new(rt.alloc(), rt.stdout()).map_err(InfoError::Write)?;
-    let mut report = Report::new(out);
+) -> Result<(), ProgramError> {
+    let mut report = Report::new(rt.alloc(), rt.stdout()).map_err(InputError::Io)?;
     jit::show(reader, counts, &mut report);
     report.finish()
 }
 
-/// Prints a text.
-fn print_text(rt: &HostRuntime, text: &str) -> Result<(), InfoError> {
-    let mut out = rt.stdout();
-    out.write_all(text.as_bytes()).map_err(InfoError::Write)?;
-    out.flush().map_err(InfoError::Write)
+/// Prints the report on the input at a path.
+fn report_input(rt: &HostRuntime, path: &str) -> Result<(), ProgramError> {
+    let input = Input::open(rt, path).map_err(InputError::Io)?;
+    let kind = input.kind.ok_or(InputError::UnknownFormat)?;
+    let size = input.size;
+    let source = input.into_source(rt.alloc()).map_err(InputError::Io)?;
+    match kind {
+        InputKind::File => report_recording(
+            rt,
+            PerfFileReader::parse_file(rt.alloc(), source),
+            size,
+        ),
+        InputKind::Pipe => report_recording(
+            rt,
+            PerfFileReader::parse_pipe(rt.alloc(), source),
+            size,
+        ),
+        InputKind::Jit => report_jitdump(rt, JitDumpReader::new(rt.alloc(), source)),
+    }
 }
 
-/// Runs the command that the arguments select.
-fn run(rt: &HostRuntime) -> Result<(), InfoError> {
-    if let Some(text) = requested_text(rt)? {
-        return print_text(rt, text);
-    }
-    match parse_args(rt)? {
-        Command::File(path) => report_file(rt, path.as_str()),
-        Command::Pipe => report_pipe(rt),
-        Command::Jit(path) => report_jitdump(rt, path.as_str()),
+/// Parses the arguments.
+fn parse(alloc: Global, words: &[String]) -> Result<ArgMatches<'_>, Error> {
+    command(alloc, NAME, ABOUT)?.try_get_matches_from(words)
+}
+
+/// Reports on the input that the arguments name. Returns the exit status.
+fn run(rt: &HostRuntime, matches: &ArgMatches<'_>) -> u8 {
+    let path = path_of(rt, matches.get_str(FILE));
+    match report_input(rt, path) {
+        Ok(()) => SUCCESS,
+        Err(error) => print_error(rt, NAME, display_name(path), &error),
     }
 }
 
 fn main(rt: HostRuntime) -> ExitCode {
-    let outcome = run(&rt);
-    if let Err(error) = &outcome {
-        let _ = writeln!(rt.stderr(), "{error}");
-    }
-    ExitCode::from(exit_status(&outcome))
+    let status = match arguments(&rt) {
+        Ok(words) => match parse(rt.alloc(), &words) {
+            Ok(matches) => run(&rt, &matches),
+            Err(error) => print_clap_error(&rt, NAME, &error),
+        },
+        Err(error) => print_argument_error(&rt, NAME, &error),
+    };
+    ExitCode::from(status)
 }

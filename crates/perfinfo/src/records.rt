@@ -1,23 +1,21 @@
 //! Counts the records by event and by type.
-ghost use Rattle.std.specs.Prelude.{◌≡◌, ◌≢◌, ◌+◌, ◌-◌, ◌^◌, ◌<◌, ◌↔◌, IsOk, IfSome, IfNone};
-ghost use Rattle.perfinfo.specs.Times.{IsEarliest, IsLatest};
 
 use crate::contents::Contents;
 use crate::counting::count_one;
-use crate::error::InfoError;
 use crate::names::record_type_name;
-use crate::progress::Progress;
-use crate::report::Report;
-use linux_perf_data::event::{PerfEventHeader, RecordType};
+use crate::report::{Named, Report};
+use linux_perf_data::event::RecordType;
 use linux_perf_data::source::Source;
 use linux_perf_data::{
     Error, PerfFile, PerfFileReader, PerfFileRecord, PerfRecordIter, RawUserRecord, RecordPlace,
     UserRecord, UserRecordType,
 };
+use perfdata_cli::error::InputError;
+use perfdata_cli::position::{Position, record_end};
+use perfdata_cli::progress::Progress;
 use perfdata_events::format::EventFormat;
 use std::alloc::{AllocError, Global};
 use std::collections::BTreeMap;
-use std::io::Write;
 
 /// Counts of an event's records.
 #[derive(Clone, Copy)]
@@ -42,19 +40,7 @@ impl EventCounts {
     };
 
     /// Adds a record to the counts.
-    fn add(&mut self, summary: RecordSummary)
-        ensures records { self.old.records < 2 ^ 64 - 1 → self.new.records ≡ self.old.records + 1 }
-        ensures sample { summary.record_type ≡ 9 → self.old.samples < 2 ^ 64 - 1 → self.new.samples
-            ≡ self.old.samples + 1 }
-        ensures other { summary.record_type ≢ 9
-            → (self.new ≡ record self.old { records = self.new.records }) }
-        ensures first { summary.record_type ≡ 9
-            → IfSome summary.timestamp (λ time. IsEarliest self.old.first_sample time self.new.first_sample) }
-        ensures last { summary.record_type ≡ 9
-            → IfSome summary.timestamp (λ time. IsLatest self.old.last_sample time self.new.last_sample) }
-        ensures same_first { IfNone summary.timestamp (self.new.first_sample ≡ self.old.first_sample) }
-        ensures same_last { IfNone summary.timestamp (self.new.last_sample ≡ self.old.last_sample) }
-    {
+    fn add(&mut self, summary: RecordSummary) {
         self.records = self.records.saturating_add(1);
         if summary.record_type == RecordType::SAMPLE.0 {
             self.samples = self.samples.saturating_add(1);
@@ -81,16 +67,12 @@ struct RecordSummary {
 impl RecordSummary {
     /// Returns the values of a record with this size of aux data.
     fn new(place: &RecordPlace, file_record: &PerfFileRecord<'_>, aux_size: u64) -> RecordSummary {
-        let end = place
-            .offset
-            .saturating_add(file_record.body().len() as u64)
-            .saturating_add(PerfEventHeader::STRUCT_SIZE as u64);
         RecordSummary {
             record_type: file_record.record_type().0,
             attr_index: file_record.attr_index(),
             timestamp: place.timestamp,
             round: place.round,
-            end,
+            end: record_end(place, file_record),
             aux_size,
         }
     }
@@ -101,6 +83,7 @@ impl RecordSummary {
 pub struct RecordCounts {
     per_event: Vec<EventCounts>,
     per_type: BTreeMap<u32, u64>,
+    records: u64,
     rounds: u64,
     aux_bytes: u64,
     end: u64,
@@ -114,6 +97,7 @@ impl RecordCounts {
         RecordCounts {
             per_event: Vec::new(alloc),
             per_type: BTreeMap::new(alloc),
+            records: 0,
             rounds: 0,
             aux_bytes: 0,
             end: 0,
@@ -147,6 +131,7 @@ impl RecordCounts {
             self.count_for_event(index, summary)?;
         }
         count_one(&mut self.per_type, summary.record_type)?;
+        self.records = self.records.saturating_add(1);
         self.rounds = summary.round;
         self.aux_bytes = self.aux_bytes.saturating_add(summary.aux_size);
         self.end = summary.end;
@@ -172,16 +157,12 @@ impl RecordCounts {
     }
 
     /// Fails with the error that ends the records, if `read` returned one.
-    pub fn outcome(&self, read: Result<(), Error>) -> Result<(), InfoError>
-        ensures { IsOk result ↔ IsOk read }
-    {
-        match read {
-            Ok(()) => Ok(()),
-            Err(source_error) => Err(InfoError::Record {
-                bytes_before: self.end,
-                source_error,
-            }),
-        }
+    pub(crate) fn outcome(&self, read: Result<(), Error>) -> Result<(), InputError> {
+        let position = Position {
+            records: self.records,
+            offset: Some(self.end),
+        };
+        read.map_err(|cause: Error| InputError::at(position, cause))
     }
 }
 
@@ -238,15 +219,18 @@ fn next_summary<R: Source>(
 
 /// Writes the number of records of each type, the number of rounds, and the total sizes of aux data and of
 /// all records.
-pub(crate) fn show<W: Write>(counts: &RecordCounts, report: &mut Report<W>) {
-    report.line("records by type", counts.per_type.len());
+pub(crate) fn show(counts: &RecordCounts, report: &mut Report) {
+    show_types(counts, report);
+    report.number("rounds before the last record", counts.rounds);
+    report.number("bytes of aux data", counts.aux_bytes);
+    report.number("bytes of records", counts.end);
+}
+
+/// Writes the number of records of each type.
+fn show_types(counts: &RecordCounts, report: &mut Report) {
+    report.number("records by type", counts.per_type.len() as u64);
     for (record_type, count) in counts.per_type.iter() {
-        report.item(
-            format_args!("{} ({record_type})", record_type_name(*record_type)),
-            *count,
-        );
+        let name = record_type_name(*record_type);
+        report.item(Named(name, *record_type), *count);
     }
-    report.line("rounds before the last record", counts.rounds);
-    report.line("bytes of aux data", counts.aux_bytes);
-    report.line("bytes of records", counts.end);
 }
