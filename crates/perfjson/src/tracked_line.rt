@@ -1,0 +1,60 @@
+//! The line of a record, with the position of that record and the progress of the listing.
+ghost use Rattle.std.specs.Prelude.{true};
+ghost use Rattle.perfdata_json.specs.Line.{json_text, IsLineOf};
+
+use linux_perf_data::{Error, PerfFile, PerfFileRecord, RecordPlace};
+use perfdata_cli::position::Position;
+use perfdata_cli::progress::Progress;
+use perfdata_json::JsonLine;
+use perfdata_listing::RecordLine;
+
+/// The line of a record as JSON, which remembers where the record ends.
+#[derive(Drop)]
+pub struct TrackedLine<'a> {
+    line: JsonLine,
+    position: Position,
+    progress: Progress<'a>,
+}
+
+impl<'a> TrackedLine<'a> {
+    /// Creates an empty line before the first record.
+    pub(crate) fn new(line: JsonLine, progress: Progress<'a>) -> TrackedLine<'a> {
+        TrackedLine {
+            line,
+            position: Position::START,
+            progress,
+        }
+    }
+
+    /// Ends the progress. Returns the position after the last record.
+    pub(crate) fn finish(&self) -> Position {
+        self.progress.finish();
+        self.position
+    }
+}
+
+impl RecordLine for TrackedLine<'_> {
+    ghost is_line = { IsLineOf };
+
+    ghost allocates = { true };
+
+    ghost text = { λ tracked. json_text tracked.line };
+
+    fn set(
+        &mut self,
+        place: RecordPlace,
+        file_record: &PerfFileRecord<'_>,
+        file: &PerfFile,
+    ) -> Result<(), Error> {
+        let outcome = self.line.set(place, file_record, file);
+        if outcome.is_ok() {
+            self.position.add(&place, file_record);
+            self.progress.add_record(self.position.offset.unwrap_or(0));
+        }
+        outcome
+    }
+
+    fn as_bytes(&self) -> &[u8] {
+        self.line.as_bytes()
+    }
+}
