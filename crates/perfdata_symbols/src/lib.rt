@@ -1,0 +1,19 @@
+//! Symbol tables, and readers that make them: of ELF files, perf-PID.map files, the kernel's list of symbols,
+//! jitdumps and the symbols that simpleperf records.
+#![tactic(auto)]
+
+pub mod elf;
+pub mod error;
+pub mod jit;
+pub mod kallsyms;
+mod layer;
+pub mod perf_map;
+pub mod ranked;
+pub mod simpleperf;
+pub mod table;
+
+pub use elf::{DebugLink, ElfFile, Segment, SymbolSection};
+pub use error::{ElfError, ElfTable, JitSymbolsError};
+pub use jit::JitSymbols;
+pub use ranked::{RankedSymbol, RankedSymbols};
+pub use table::{Symbol, SymbolTable};

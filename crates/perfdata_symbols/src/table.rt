@@ -1,0 +1,138 @@
+//! Symbols, and tables that find the symbol of an address.
+
+use crate::layer::Layer;
+use std::alloc::{AllocError, Global};
+
+/// A symbol. It contains the addresses `a` with `start <= a` and `a - start < size`.
+#[derive(Clone, Copy, Debug, PartialEq, Eq)]
+pub struct Symbol {
+    /// The first address.
+    pub start: u64,
+    /// The size in bytes.
+    pub size: u64,
+    /// The offset of the name's first byte in the names of the table.
+    pub name_start: usize,
+    /// The offset of the end of the name.
+    pub name_end: usize,
+}
+
+/// A table of symbols, which finds the last symbol that was pushed of those that contain an address.
+///
+/// The order of the pushes is the order of preference, so a reader pushes first what it prefers least. A
+/// push costs amortized logarithmic time. A search costs logarithmic time after `compact`, and the square of
+/// the logarithm otherwise, however many symbols contain one another.
+#[derive(Drop)]
+pub struct SymbolTable {
+    alloc: Global,
+    names: Vec<u8>,
+    symbols: Vec<Symbol>,
+    layers: Vec<Layer>,
+}
+
+impl SymbolTable {
+    /// Makes a table without symbols. `names` contains the names of the symbols that `push` will add, anywhere
+    /// and in any order.
+    pub fn new(alloc: Global, names: Vec<u8>) -> SymbolTable {
+        SymbolTable {
+            alloc,
+            names,
+            symbols: Vec::new(alloc),
+            layers: Vec::new(alloc),
+        }
+    }
+
+    /// Returns the symbols, in the order in which they were pushed.
+    pub fn symbols(&self) -> &[Symbol] {
+        &self.symbols[..]
+    }
+
+    /// Returns the name of a symbol of this table. It is empty if the offsets aren't within the names.
+    pub fn name(&self, symbol: &Symbol) -> &[u8] {
+        let (start, end) = (symbol.name_start, symbol.name_end);
+        if start <= end && end <= self.names.len() {
+            &self.names[start..end]
+        } else {
+            &[]
+        }
+    }
+
+    /// Adds a symbol, which is preferred to all symbols before it. Its name is in the names of the table.
+    ///
+    /// If it fails with `AllocError`, the table is unchanged.
+    pub fn push(&mut self, symbol: Symbol) -> Result<(), AllocError> {
+        merge_equal(self.alloc, &mut self.layers)?;
+        let layer = Layer::of_symbol(self.alloc, self.symbols.len(), symbol.start, symbol.size)?;
+        self.symbols.reserve(1)?;
+        self.layers.push(layer)?;
+        self.symbols.push(symbol)?;
+        Ok(())
+    }
+
+    /// Makes later searches faster, and changes nothing else.
+    ///
+    /// It can fail with `AllocError`. Searches have the same results then.
+    pub fn compact(&mut self) -> Result<(), AllocError> {
+        merge_all(self.alloc, &mut self.layers)
+    }
+
+    /// Returns the index of the last symbol that contains an address, or `None` if no symbol contains it.
+    pub fn find_index(&self, address: u64) -> Option<usize> {
+        find_in(&self.layers, address)
+    }
+
+    /// Returns the last symbol that contains an address, or `None` if no symbol contains it.
+    pub fn find(&self, address: u64) -> Option<Symbol> {
+        let index = self.find_index(address)?;
+        if index < self.symbols.len() {
+            Some(self.symbols[index])
+        } else {
+            None
+        }
+    }
+
+    /// Returns the name of the last symbol that contains an address, or `None` if no symbol contains it.
+    pub fn find_name(&self, address: u64) -> Option<&[u8]> {
+        match self.find(address) {
+            Some(symbol) => Some(self.name(&symbol)),
+            None => None,
+        }
+    }
+}
+
+// Replaces the last two layers by the last one over the other.
+fn merge_last(alloc: Global, layers: &mut Vec<Layer>) -> Result<(), AllocError> {
+    let count = layers.len();
+    let merged = Layer::overlay(alloc, &layers[count - 2], &layers[count - 1])?;
+    layers[count - 2] = merged;
+    layers.truncate(count - 1);
+    Ok(())
+}
+
+// Merges the last two layers while the last one is at least as long as the one before it.
+fn merge_equal(alloc: Global, layers: &mut Vec<Layer>) -> Result<(), AllocError> {
+    'merges: while layers.len() > 1
+        && layers[layers.len() - 2].len() <= layers[layers.len() - 1].len()
+    {
+        merge_last(alloc, layers)?;
+    }
+    Ok(())
+}
+
+// Merges all layers into one.
+fn merge_all(alloc: Global, layers: &mut Vec<Layer>) -> Result<(), AllocError> {
+    'merges: while layers.len() > 1 {
+        merge_last(alloc, layers)?;
+    }
+    Ok(())
+}
+
+// The symbol at an address in the last layer that has one.
+fn find_in(layers: &[Layer], address: u64) -> Option<usize> {
+    'layers: for layer in layers.iter().rev() {
+        match layer.find(address) {
+            Some(index) => return Some(index),
+            None => {}
+        }
+    }
+    None
+}
