@@ -1,42 +1,176 @@
 //! The code that a jitdump describes, at a time.
 
 use crate::error::JitSymbolsError;
+use crate::symbol::Symbol;
 use crate::table::SymbolTable;
+use perfdata_base::raw::RawData;
 use perfdata_base::source::Source;
+use perfdata_jit::{JitDumpRawRecord, JitDumpReader, JitDumpRecord};
 use std::alloc::{AllocError, Global};
-use std::collections::VecDeque;
+use std::collections::HashMap;
 
-// The code of a load or move record.
-#[derive(Drop)]
+// The code of a load or move record, and the time of the record.
+#[derive(Clone, Copy)]
 struct Load {
     time: u64,
-    start: u64,
-    size: u64,
-    name: Vec<u8>,
+    symbol: Symbol,
 }
 
 /// The symbols of a jitdump: the code that is loaded up to a time.
 #[derive(Drop)]
 pub struct JitSymbols {
-    loads: VecDeque<Load>,
+    // In the order of their times.
+    loads: Vec<Load>,
+    added: usize,
     table: SymbolTable,
+}
+
+// The loads that are read so far.
+#[derive(Drop)]
+struct Loads {
+    names: Vec<u8>,
+    loads: Vec<Load>,
+    // The last load of each code index.
+    by_index: HashMap<u64, usize>,
+}
+
+// Appends the bytes of a name.
+fn append(names: &mut Vec<u8>, name: RawData<'_>) -> Result<(), AllocError> {
+    match name {
+        RawData::Single(bytes) => names.extend_from_slice(bytes),
+        RawData::Split(first, second) => {
+            names.extend_from_slice(first)?;
+            names.extend_from_slice(second)
+        }
+    }
+}
+
+impl Loads {
+    // Adds a load of code with a name.
+    fn add_load(
+        &mut self,
+        time: u64,
+        code_index: u64,
+        start: u64,
+        size: u64,
+        name: RawData<'_>,
+    ) -> Result<(), AllocError> {
+        let name_start = self.names.len();
+        append(&mut self.names, name)?;
+        let symbol = Symbol {
+            start,
+            size,
+            name_start,
+            name_end: self.names.len(),
+        };
+        self.by_index.insert(code_index, self.loads.len())?;
+        self.loads.push(Load { time, symbol })?;
+        Ok(())
+    }
+
+    // Adds the code of a load at its new address. Code that was never loaded is skipped.
+    fn add_move(
+        &mut self,
+        time: u64,
+        code_index: u64,
+        start: u64,
+        size: u64,
+    ) -> Result<(), AllocError> {
+        let Some(index) = self.by_index.get(&code_index).copied() else {
+            return Ok(());
+        };
+        if index < self.loads.len() {
+            let symbol = Symbol {
+                start,
+                size,
+                ..self.loads[index].symbol
+            };
+            self.loads.push(Load { time, symbol })?;
+        }
+        Ok(())
+    }
+
+    // Adds the code of a record, if it is a load or a move.
+    fn add_record(
+        &mut self,
+        alloc: Global,
+        raw: &JitDumpRawRecord<'_>,
+    ) -> Result<(), JitSymbolsError> {
+        match raw.parse(alloc)? {
+            JitDumpRecord::CodeLoad(load) => {
+                let size = load.code_bytes.len() as u64;
+                self.add_load(
+                    raw.timestamp,
+                    load.code_index,
+                    load.code_addr,
+                    size,
+                    load.function_name,
+                )?;
+            }
+            JitDumpRecord::CodeMove(moved) => {
+                self.add_move(
+                    raw.timestamp,
+                    moved.code_index,
+                    moved.new_code_addr,
+                    moved.code_size,
+                )?;
+            }
+            _ => {}
+        }
+        Ok(())
+    }
+}
+
+// Adds the code of the next record. Returns whether there is one.
+fn add_next<R: Source>(
+    alloc: Global,
+    reader: &mut JitDumpReader<R>,
+    loads: &mut Loads,
+) -> Result<bool, JitSymbolsError> {
+    match reader.next_record()? {
+        Some(raw) => {
+            loads.add_record(alloc, &raw)?;
+            Ok(true)
+        }
+        None => Ok(false),
+    }
 }
 
 impl JitSymbols {
     /// Reads the load and move records of a jitdump, up to its end or its first incomplete record.
-    pub fn read<R: Source + Drop>(
-        alloc: Global,
-        _source: R,
-    ) -> Result<JitSymbols, JitSymbolsError> {
+    ///
+    /// It fails with `Jitdump` if the file does not open as a jitdump, with `Io` if a record is invalid or the
+    /// source fails, and with `Memory` if out of memory.
+    pub fn read<R: Source + Drop>(alloc: Global, source: R) -> Result<JitSymbols, JitSymbolsError> {
+        let mut reader = JitDumpReader::new(alloc, source)?;
+        let mut loads = Loads {
+            names: Vec::new(alloc),
+            loads: Vec::new(alloc),
+            by_index: HashMap::new(alloc),
+        };
+        'records: while add_next(alloc, &mut reader, &mut loads)? {}
+        loads.loads.sort_by_key(|load| load.time)?;
+        let Loads {
+            names,
+            loads,
+            by_index: _,
+        } = loads;
         Ok(JitSymbols {
-            loads: VecDeque::new(alloc),
-            table: SymbolTable::new(alloc, Vec::new(alloc)),
+            loads,
+            added: 0,
+            table: SymbolTable::new(alloc, names),
         })
     }
 
-    /// Adds to the table the code of the records up to a time, with it. Times of later calls don't decrease:
-    /// what was added stays.
-    pub fn advance_to(&mut self, _time: u64) -> Result<(), AllocError> {
+    /// Adds to the table the code of the records whose times are at most `time`. It never removes code, so
+    /// call it with times that don't decrease.
+    ///
+    /// If it fails with `AllocError`, it can be called again.
+    pub fn advance_to(&mut self, time: u64) -> Result<(), AllocError> {
+        'loads: while self.added < self.loads.len() && self.loads[self.added].time <= time {
+            self.table.push(self.loads[self.added].symbol)?;
+            self.added += 1;
+        }
         Ok(())
     }
 

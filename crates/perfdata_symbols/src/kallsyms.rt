@@ -1,23 +1,89 @@
 //! The kernel's list of symbols, `/proc/kallsyms`.
 
+use crate::symbol::Symbol;
 use crate::table::SymbolTable;
+use crate::text::{hex_number, line_end, split_field};
+use memchr::memchr;
 use std::alloc::{AllocError, Global};
 
-/// Makes a table of the text of such a list. The symbol at an address is the last line of those with the
-/// greatest address at or before it.
+// Whether symbols of this type are code or data.
+fn is_listed_type(symbol_type: u8) -> bool {
+    matches!(
+        symbol_type,
+        b'T' | b't' | b'W' | b'w' | b'D' | b'd' | b'B' | b'b'
+    )
+}
+
+// The symbol, of size 0, of a line `ADDRESS TYPE NAME` that starts at an offset of the text.
+fn symbol_of_line(line: &[u8], offset: usize) -> Option<Symbol> {
+    let (address, type_at) = split_field(line, b' ')?;
+    let rest = &line[type_at..];
+    if rest.len() < 3 || !is_listed_type(rest[0]) || rest[1] != b' ' || rest[2] == b'$' {
+        return None;
+    }
+    let name = &rest[2..];
+    let name_len = memchr(b'\t', name).unwrap_or(name.len());
+    if name_len == 0 {
+        return None;
+    }
+    let name_start = offset + type_at + 2;
+    Some(Symbol {
+        start: hex_number(address)?,
+        size: 0,
+        name_start,
+        name_end: name_start + name_len,
+    })
+}
+
+// The symbols of the lines, in their order.
+fn symbols_of_lines(alloc: Global, text: &[u8]) -> Result<Vec<Symbol>, AllocError> {
+    let mut symbols = Vec::new(alloc);
+    let mut at = 0;
+    'lines: while at < text.len() {
+        let end = line_end(text, at);
+        if let Some(symbol) = symbol_of_line(&text[at..end], at) {
+            symbols.push(symbol)?;
+        }
+        at = end + 1;
+    }
+    Ok(symbols)
+}
+
+// Extends each symbol to the next greater start. The symbols are sorted by their starts.
+fn extend_to_next(symbols: &mut [Symbol]) {
+    let mut end = u64::MAX;
+    let mut next_start = u64::MAX;
+    'symbols: for symbol in symbols.iter_mut().rev() {
+        if symbol.start < next_start {
+            end = next_start;
+        }
+        symbol.size = end.saturating_sub(symbol.start);
+        next_start = symbol.start;
+    }
+}
+
+/// Makes a table of the text of such a list. The symbol at an address below 2^64 - 1 is the last line of those
+/// with the greatest address at or before it.
 ///
 /// A line is `ADDRESS TYPE NAME`, and after a tab the name of a module in brackets, which isn't part of the
 /// name. Lines of other types than T, W, D and B, in both cases, names that start with `$`, and malformed lines
 /// are skipped.
 pub fn parse_kallsyms(alloc: Global, text: Vec<u8>) -> Result<SymbolTable, AllocError> {
-    Ok(SymbolTable::new(alloc, text))
+    let mut symbols = symbols_of_lines(alloc, &text)?;
+    symbols.sort_by_key(|symbol| symbol.start)?;
+    extend_to_next(&mut symbols);
+    SymbolTable::from_symbols(alloc, text, &symbols)
 }
 
-/// Returns the address of the first symbol in the list with this name, such as `_text`.
+/// Returns the address of the first symbol in the table with this name, such as `_text`.
 ///
-/// The difference to the address that a recording has for it (`pgoff` of the MMAP record of the kernel) is
-/// how far the kernel of the list is shifted.
+/// The difference to the address that a recording has for it (`pgoff` of the kernel's MMAP record) is how far
+/// the kernel of the list is shifted.
 pub fn address_of(table: &SymbolTable, name: &[u8]) -> Option<u64> {
-    let symbol = table.symbols().iter().find(|s| table.name(*s) == name)?;
-    Some(symbol.start)
+    'symbols: for symbol in table.symbols().iter() {
+        if table.name(symbol) == name {
+            return Some(symbol.start);
+        }
+    }
+    None
 }

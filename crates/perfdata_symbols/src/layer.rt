@@ -1,28 +1,31 @@
 //! Cuts of the address space, each with the index of the symbol up to the next cut.
+ghost use Rattle.std.specs.Prelude.{◌≡◌, ◌<◌, ◌^◌, ℕ, if◌then◌else◌, IfOk, Some, None};
+ghost use Rattle.std.specs.List.Sorted.{IsNonDecreasingBy};
+ghost use Rattle.perfdata_symbols.specs.Cuts.{covers, later_of};
 
+use crate::cuts::{Cut, is_first_next, later_symbol};
 use std::alloc::{AllocError, Global};
-
-// From `start` up to the start of the next cut, each address has this symbol, by its index.
-#[derive(Clone, Copy)]
-pub struct Cut {
-    pub(crate) start: u64,
-    pub(crate) symbol: Option<usize>,
-}
 
 // Cuts in the order of their starts. Addresses before the first one have no symbol.
 #[derive(Drop)]
 pub struct Layer {
     cuts: Vec<Cut>,
+    ghost sorted: { IsNonDecreasingBy (λ c. c.start) cuts.items },
 }
 
 impl Layer {
+    ghost use Rattle.perfdata_symbols.specs.Layer.{symbol_in};
+
     // The layer of one symbol, which contains `size` addresses from `start` on.
     pub(crate) fn of_symbol(
         alloc: Global,
         index: usize,
         start: u64,
         size: u64,
-    ) -> Result<Layer, AllocError> {
+    ) -> Result<Layer, AllocError>
+        ensures { IfOk result (λ l. (x : ℕ) → x < 2 ^ 64
+            → symbol_in l x ≡ (if covers start size x then Some index else None)) }
+    {
         let mut cuts = Vec::new(alloc);
         if size > 0 {
             cuts.push(Cut {
@@ -45,7 +48,9 @@ impl Layer {
     }
 
     // The symbol at an address.
-    pub(crate) fn find(&self, address: u64) -> Option<usize> {
+    pub(crate) fn find(&self, address: u64) -> Option<usize>
+        ensures { result ≡ symbol_in self.now address }
+    {
         let end = self.cuts.partition_point(|cut| cut.start <= address);
         if end == 0 {
             return None;
@@ -54,21 +59,18 @@ impl Layer {
     }
 
     // The layer whose symbol at an address is that of `upper`, or that of `lower` if `upper` has none.
-    pub(crate) fn overlay(
-        alloc: Global,
-        lower: &Layer,
-        upper: &Layer,
-    ) -> Result<Layer, AllocError> {
+    pub(crate) fn overlay(alloc: Global, lower: &Layer, upper: &Layer) -> Result<Layer, AllocError>
+        ensures { IfOk result (λ l. (x : ℕ)
+            → symbol_in l x ≡ later_of (symbol_in lower.now x) (symbol_in upper.now x)) }
+    {
         let mut cuts = Vec::new(alloc);
+        let mut start = 0;
         let mut below = None;
-        let mut above: Option<usize> = None;
+        let mut above = None;
         let mut i = 0;
         let mut k = 0;
         'cuts: while i < lower.cuts.len() || k < upper.cuts.len() {
-            let start;
-            if k == upper.cuts.len()
-                || i < lower.cuts.len() && lower.cuts[i].start <= upper.cuts[k].start
-            {
+            if is_first_next(&lower.cuts, i, &upper.cuts, k) {
                 start = lower.cuts[i].start;
                 below = lower.cuts[i].symbol;
                 i += 1;
@@ -79,7 +81,7 @@ impl Layer {
             }
             cuts.push(Cut {
                 start,
-                symbol: above.or(below),
+                symbol: later_symbol(below, above),
             })?;
         }
         Ok(Layer { cuts })

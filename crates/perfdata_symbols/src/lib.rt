@@ -2,6 +2,7 @@
 //! jitdumps and the symbols that simpleperf records.
 #![tactic(auto)]
 
+mod cuts;
 pub mod elf;
 pub mod error;
 pub mod jit;
@@ -10,10 +11,16 @@ mod layer;
 pub mod perf_map;
 pub mod ranked;
 pub mod simpleperf;
+pub mod symbol;
 pub mod table;
+mod text;
 
 pub use elf::{DebugLink, ElfFile, Segment, SymbolSection};
 pub use error::{ElfError, ElfTable, JitSymbolsError};
 pub use jit::JitSymbols;
+pub use kallsyms::{address_of, parse_kallsyms};
+pub use perf_map::parse_perf_map;
 pub use ranked::{RankedSymbol, RankedSymbols};
-pub use table::{Symbol, SymbolTable};
+pub use simpleperf::table_of_record;
+pub use symbol::Symbol;
+pub use table::SymbolTable;

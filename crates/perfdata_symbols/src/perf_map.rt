@@ -1,12 +1,39 @@
 //! The files `/tmp/perf-PID.map`, in which runtimes list the code that they generate.
 
+use crate::symbol::Symbol;
 use crate::table::SymbolTable;
+use crate::text::{hex_number, line_end, split_field};
 use std::alloc::{AllocError, Global};
+
+// The symbol of a line `START SIZE NAME` that starts at an offset of the text.
+fn symbol_of_line(line: &[u8], offset: usize) -> Option<Symbol> {
+    let (start_digits, size_at) = split_field(line, b' ')?;
+    let (size_digits, size_len) = split_field(&line[size_at..], b' ')?;
+    let name_at = size_at + size_len;
+    if name_at == line.len() {
+        return None;
+    }
+    Some(Symbol {
+        start: hex_number(start_digits)?,
+        size: hex_number(size_digits)?,
+        name_start: offset + name_at,
+        name_end: offset + line.len(),
+    })
+}
 
 /// Makes a table of the text of such a file. The last line that contains an address is preferred.
 ///
-/// A line is `START SIZE NAME`: two hexadecimal numbers below 2^64, each followed by one space, and a name,
-/// which may contain spaces. Other lines are skipped.
+/// A line is `START SIZE NAME`: two hexadecimal numbers below 2^64, each followed by one space, and a name of at
+/// least one byte, which may contain spaces. Other lines are skipped.
 pub fn parse_perf_map(alloc: Global, text: Vec<u8>) -> Result<SymbolTable, AllocError> {
-    Ok(SymbolTable::new(alloc, text))
+    let mut symbols = Vec::new(alloc);
+    let mut at = 0;
+    'lines: while at < text.len() {
+        let end = line_end(&text, at);
+        if let Some(symbol) = symbol_of_line(&text[at..end], at) {
+            symbols.push(symbol)?;
+        }
+        at = end + 1;
+    }
+    SymbolTable::from_symbols(alloc, text, &symbols)
 }

@@ -1,7 +1,12 @@
 //! Symbols with what decides which of several symbols at an address is preferred, as ELF files have them.
 
-use crate::table::{Symbol, SymbolTable};
+use crate::symbol::Symbol;
+use crate::table::SymbolTable;
 use std::alloc::{AllocError, Global};
+use std::cmp::Reverse;
+
+/// The greatest number of leading underscores that are counted.
+const MAX_UNDERSCORES: usize = 255;
 
 /// A symbol of an ELF file.
 #[derive(Clone, Copy, Debug)]
@@ -21,14 +26,78 @@ pub struct RankedSymbol {
 ///
 /// The symbol at an address is, of those with a size that contain it, the one with the greatest start. Of
 /// several with that start, one that isn't weak is preferred, then one that is global, then one with fewer
-/// leading underscores (up to 255), then one with a longer name, then an earlier one. If none with a size
-/// contains the address, it is the symbol without a size with the greatest start at or before the address, if
-/// no symbol starts after it up to the address, no symbol with a size starts with it, and the address is in
-/// its section.
+/// leading underscores (255 and more are the same), then one with a longer name, then an earlier one. If none
+/// with a size contains the address, it is the symbol without a size with the greatest start at or before the
+/// address, if no symbol starts after it up to the address, no symbol with a size starts with it, and the
+/// address is in its section.
 #[derive(Drop)]
 pub struct RankedSymbols {
     pub(crate) names: Vec<u8>,
     pub(crate) symbols: Vec<RankedSymbol>,
+}
+
+// What decides between symbols, from the least preferred one to the most preferred one.
+#[derive(Clone, Copy, PartialEq, Eq, PartialOrd, Ord)]
+struct Rank {
+    start: u64,
+    has_size: bool,
+    is_strong: bool,
+    is_global: bool,
+    underscores: Reverse<usize>,
+    name_len: usize,
+}
+
+// A symbol and what decides between it and others.
+#[derive(Clone, Copy)]
+struct Candidate {
+    rank: Rank,
+    symbol: Symbol,
+    section_end: u64,
+}
+
+// The number of leading underscores of a name.
+fn underscore_count(name: &[u8]) -> usize {
+    name.iter()
+        .take(MAX_UNDERSCORES)
+        .position(|byte| *byte != b'_')
+        .unwrap_or(name.len().min(MAX_UNDERSCORES))
+}
+
+// The bytes of the name.
+fn name_of<'a>(names: &'a [u8], symbol: &Symbol) -> &'a [u8] {
+    names
+        .get(symbol.name_start..symbol.name_end)
+        .unwrap_or(&names[..0])
+}
+
+fn candidate_of(names: &[u8], ranked: &RankedSymbol) -> Candidate {
+    let name = name_of(names, &ranked.symbol);
+    Candidate {
+        rank: Rank {
+            start: ranked.symbol.start,
+            has_size: ranked.symbol.size > 0,
+            is_strong: !ranked.is_weak,
+            is_global: ranked.is_global,
+            underscores: Reverse(underscore_count(name)),
+            name_len: name.len(),
+        },
+        symbol: ranked.symbol,
+        section_end: ranked.section_end,
+    }
+}
+
+// Extends each symbol without a size to the next greater start or the end of its section, unless another
+// symbol with its start is preferred. The symbols are sorted by their ranks.
+fn extend_to_next(candidates: &mut [Candidate]) {
+    let mut next_start = u64::MAX;
+    'candidates: for candidate in candidates.iter_mut().rev() {
+        let start = candidate.symbol.start;
+        if !candidate.rank.has_size && start < next_start {
+            let end = next_start.min(candidate.section_end);
+            candidate.symbol.size = end.saturating_sub(start);
+        }
+        next_start = start;
+    }
 }
 
 impl RankedSymbols {
@@ -45,9 +114,27 @@ impl RankedSymbols {
         &self.symbols[..]
     }
 
+    // The symbols that are found, from the least preferred one to the most preferred one.
+    fn preferences(&self, alloc: Global) -> Result<Vec<Candidate>, AllocError> {
+        let mut candidates = Vec::new(alloc);
+        // Of equal symbols the earlier one is preferred, so it comes last.
+        'symbols: for ranked in self.symbols.iter().rev() {
+            candidates.push(candidate_of(&self.names, ranked))?;
+        }
+        candidates.sort_by_key(|candidate| candidate.rank)?;
+        extend_to_next(&mut candidates);
+        candidates.sort_by_key(|candidate| candidate.rank.has_size)?;
+        Ok(candidates)
+    }
+
     /// Makes a table whose symbol at an address is that of the list.
     pub fn into_table(self, alloc: Global) -> Result<SymbolTable, AllocError> {
-        let table = SymbolTable::new(alloc, self.names);
+        let candidates = self.preferences(alloc)?;
+        let mut table = SymbolTable::new(alloc, self.names);
+        'candidates: for candidate in candidates.iter() {
+            table.push(candidate.symbol)?;
+        }
+        table.compact()?;
         Ok(table)
     }
 }

@@ -1,20 +1,8 @@
 //! Symbols, and tables that find the symbol of an address.
 
 use crate::layer::Layer;
+use crate::symbol::Symbol;
 use std::alloc::{AllocError, Global};
-
-/// A symbol. It contains the addresses `a` with `start <= a` and `a - start < size`.
-#[derive(Clone, Copy, Debug, PartialEq, Eq)]
-pub struct Symbol {
-    /// The first address.
-    pub start: u64,
-    /// The size in bytes.
-    pub size: u64,
-    /// The offset of the name's first byte in the names of the table.
-    pub name_start: usize,
-    /// The offset of the end of the name.
-    pub name_end: usize,
-}
 
 /// A table of symbols, which finds the last symbol that was pushed of those that contain an address.
 ///
@@ -39,6 +27,20 @@ impl SymbolTable {
             symbols: Vec::new(alloc),
             layers: Vec::new(alloc),
         }
+    }
+
+    /// Makes a table of symbols, the last of which is preferred. Their names are in `names`.
+    pub fn from_symbols(
+        alloc: Global,
+        names: Vec<u8>,
+        symbols: &[Symbol],
+    ) -> Result<SymbolTable, AllocError> {
+        let mut table = SymbolTable::new(alloc, names);
+        'symbols: for symbol in symbols.iter() {
+            table.push(*symbol)?;
+        }
+        table.compact()?;
+        Ok(table)
     }
 
     /// Returns the symbols, in the order in which they were pushed.

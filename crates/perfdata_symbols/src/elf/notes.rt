@@ -1,0 +1,85 @@
+//! Notes, and the build id in them.
+
+use crate::elf::header::{NOTE_SECTION, Section};
+use crate::elf::input::{Encoding, Entry};
+use std::alloc::AllocError;
+
+/// The type of a note with the build id (`NT_GNU_BUILD_ID`), whose owner is `GNU`.
+const BUILD_ID: u32 = 3;
+
+/// The owner of the note, with its NUL.
+const OWNER: [u8; 4] = [b'G', b'N', b'U', 0];
+
+/// The size of the fields before the owner of a note, in bytes.
+const NOTE_HEADER_SIZE: usize = 12;
+
+// A range of notes in the file.
+#[derive(Clone, Copy)]
+pub(crate) struct NoteRange {
+    pub(crate) offset: u64,
+    pub(crate) size: u64,
+    // Whether notes are aligned to 8 bytes, otherwise to 4.
+    pub(crate) has_align_8: bool,
+}
+
+// Adds the sections of notes.
+pub(crate) fn add_note_sections(
+    sections: &[Section],
+    notes: &mut Vec<NoteRange>,
+) -> Result<(), AllocError> {
+    'sections: for section in sections.iter() {
+        if section.section_type == NOTE_SECTION {
+            notes.push(NoteRange {
+                offset: section.offset,
+                size: section.size,
+                has_align_8: false,
+            })?;
+        }
+    }
+    Ok(())
+}
+
+// The least multiple of the alignment that is at least `value`.
+fn aligned(value: usize, has_align_8: bool) -> usize {
+    let mask = if has_align_8 { 7 } else { 3 };
+    value.saturating_add(mask) & !mask
+}
+
+// The number of bytes of a note up to the end of its owner, of its description, and up to the next note.
+#[derive(Clone, Copy)]
+struct NoteLayout {
+    owner_end: usize,
+    description: usize,
+    description_end: usize,
+}
+
+// The layout of the note at the start of these bytes. `None` if it isn't completely in them.
+fn note_layout(entry: Entry<'_>, has_align_8: bool) -> Option<NoteLayout> {
+    let owner_end = NOTE_HEADER_SIZE + entry.u32_at(0) as usize;
+    let description = aligned(owner_end, has_align_8);
+    let description_end = description.checked_add(entry.u32_at(4) as usize)?;
+    if entry.bytes.len() < NOTE_HEADER_SIZE || entry.bytes.len() < description_end {
+        return None;
+    }
+    Some(NoteLayout {
+        owner_end,
+        description,
+        description_end,
+    })
+}
+
+// The build id in these notes.
+pub(crate) fn build_id_in(encoding: Encoding, notes: &[u8], has_align_8: bool) -> Option<&[u8]> {
+    let mut at = 0;
+    'notes: while at < notes.len() {
+        let bytes = &notes[at..];
+        let entry = Entry { encoding, bytes };
+        let layout = note_layout(entry, has_align_8)?;
+        let owner = &bytes[NOTE_HEADER_SIZE..layout.owner_end];
+        if entry.u32_at(8) == BUILD_ID && owner == OWNER.as_slice() {
+            return Some(&bytes[layout.description..layout.description_end]);
+        }
+        at = at.saturating_add(aligned(layout.description_end, has_align_8));
+    }
+    None
+}

@@ -1,0 +1,195 @@
+//! The entries of symbol tables.
+
+use crate::elf::header::{FileHeader, RELOCATABLE, Section, Segment};
+use crate::elf::input::{Encoding, Entry};
+use crate::elf::strings::Strings;
+use crate::error::{ElfError, ElfTable};
+use crate::ranked::RankedSymbol;
+use crate::symbol::Symbol;
+
+/// The bindings of global and weak symbols (`STB_GLOBAL`, `STB_WEAK`).
+const GLOBAL: u8 = 1;
+
+const WEAK: u8 = 2;
+
+/// The types of labels, objects, functions and functions that choose a function (`STT_NOTYPE`, `STT_OBJECT`,
+/// `STT_FUNC`, `STT_GNU_IFUNC`).
+const NO_TYPE: u8 = 0;
+
+const OBJECT: u8 = 1;
+
+const FUNCTION: u8 = 2;
+
+const INDIRECT_FUNCTION: u8 = 10;
+
+/// Visibilities of symbols that other files don't see (`STV_INTERNAL`, `STV_HIDDEN`).
+const INTERNAL: u8 = 1;
+
+const HIDDEN: u8 = 2;
+
+/// The sections of symbols that are in another file or have no section (`SHN_UNDEF`, `SHN_ABS`).
+const UNDEFINED: u16 = 0;
+
+const ABSOLUTE: u16 = 0xfff1;
+
+/// The 32-bit machine of Arm (`EM_ARM`). Bit 0 of a function's value there says in which mode it runs.
+const ARM: u16 = 40;
+
+// What the symbols of a file refer to.
+#[derive(Clone, Copy)]
+pub(crate) struct SymbolContext<'a> {
+    pub(crate) header: FileHeader,
+    pub(crate) sections: &'a [Section],
+    pub(crate) text_sections: &'a [bool],
+    pub(crate) segments: &'a [Segment],
+    pub(crate) names: &'a Strings,
+}
+
+// The fields of an entry.
+#[derive(Clone, Copy)]
+pub(crate) struct ElfSymbol {
+    pub(crate) name: u32,
+    pub(crate) binding: u8,
+    pub(crate) symbol_type: u8,
+    pub(crate) visibility: u8,
+    pub(crate) section: u16,
+    pub(crate) value: u64,
+    pub(crate) size: u64,
+}
+
+// The minimum size of an entry in bytes.
+pub(crate) fn min_symbol_size(encoding: Encoding) -> usize {
+    encoding.select(16, 24)
+}
+
+pub(crate) fn symbol_of(entry: Entry<'_>) -> ElfSymbol {
+    let encoding = entry.encoding;
+    let info = entry.u8_at(encoding.select(12, 4));
+    ElfSymbol {
+        name: entry.u32_at(0),
+        binding: info >> 4,
+        symbol_type: info & 15,
+        visibility: entry.u8_at(encoding.select(13, 5)) & 3,
+        section: entry.u16_at(encoding.select(14, 6)),
+        value: entry.word(4, 8),
+        size: entry.word(8, 16),
+    }
+}
+
+// Whether a name is that of a mark between code and data in code for Arm and RISC-V.
+fn is_mapping_symbol(name: &[u8]) -> bool {
+    name.len() >= 2 && name[0] == b'$' && matches!(name[1], b'a' | b'd' | b't' | b'x')
+}
+
+// The offset of an address in a file with these segments.
+fn offset_of_address(segments: &[Segment], address: u64) -> Option<u64> {
+    'segments: for segment in segments.iter() {
+        if segment.address <= address && address - segment.address < segment.memory_size {
+            return Some((address - segment.address).wrapping_add(segment.offset));
+        }
+    }
+    None
+}
+
+impl SymbolContext<'_> {
+    fn section(&self, index: u16) -> Option<Section> {
+        if (index as usize) < self.sections.len() {
+            Some(self.sections[index as usize])
+        } else {
+            None
+        }
+    }
+
+    // Whether a symbol without a type is a label in code.
+    fn is_label(&self, symbol: &ElfSymbol) -> bool {
+        let index = symbol.section as usize;
+        symbol.section != ABSOLUTE
+            && symbol.visibility != INTERNAL
+            && symbol.visibility != HIDDEN
+            && index < self.text_sections.len()
+            && self.text_sections[index]
+            && !is_mapping_symbol(self.names.at(symbol.name as usize))
+    }
+
+    // Whether a symbol is one of a function, an object or a label.
+    fn is_listed(&self, symbol: &ElfSymbol) -> bool {
+        if symbol.name == 0 || symbol.section == UNDEFINED {
+            return false;
+        }
+        match symbol.symbol_type {
+            FUNCTION | INDIRECT_FUNCTION | OBJECT => true,
+            NO_TYPE => self.is_label(symbol),
+            _ => false,
+        }
+    }
+
+    // The offset of a symbol in the file that is mapped.
+    fn offset_of(&self, symbol: &ElfSymbol, section: Option<Section>) -> Option<u64> {
+        let is_arm_function = self.header.machine == ARM && symbol.symbol_type == FUNCTION;
+        let value = if is_arm_function {
+            symbol.value & !1
+        } else {
+            symbol.value
+        };
+        if self.header.file_type == RELOCATABLE {
+            return section.map(|s| value.wrapping_sub(s.address).wrapping_add(s.offset));
+        }
+        offset_of_address(self.segments, value)
+    }
+
+    // The symbol of an entry, if it is listed.
+    fn ranked(&self, symbol: &ElfSymbol) -> Option<RankedSymbol> {
+        if !self.is_listed(symbol) {
+            return None;
+        }
+        let name_start = symbol.name as usize;
+        let name_end = self.names.end_of(name_start);
+        if name_end <= name_start {
+            return None;
+        }
+        let section = self.section(symbol.section);
+        let start = self.offset_of(symbol, section)?;
+        Some(RankedSymbol {
+            symbol: Symbol {
+                start,
+                size: symbol.size,
+                name_start,
+                name_end,
+            },
+            is_weak: symbol.binding == WEAK,
+            is_global: symbol.binding == GLOBAL,
+            section_end: section_end(section, symbol.value, start),
+        })
+    }
+}
+
+// The end of a symbol's section, in the units of its start.
+fn section_end(section: Option<Section>, value: u64, start: u64) -> u64 {
+    match section {
+        Some(section) => {
+            let end = section.address.saturating_add(section.size);
+            start.saturating_add(end.saturating_sub(value))
+        }
+        None => u64::MAX,
+    }
+}
+
+// Adds the symbols of a table's entries.
+pub(crate) fn add_symbols(
+    context: &SymbolContext<'_>,
+    entries: &[u8],
+    entry_size: u64,
+    symbols: &mut Vec<RankedSymbol>,
+) -> Result<(), ElfError> {
+    let encoding = context.header.encoding;
+    if entry_size < min_symbol_size(encoding) as u64 {
+        return Err(ElfError::EntrySize(ElfTable::Symbols, entry_size));
+    }
+    'entries: for bytes in entries.chunks_exact(entry_size as usize) {
+        let symbol = symbol_of(Entry { encoding, bytes });
+        if let Some(ranked) = context.ranked(&symbol) {
+            symbols.push(ranked)?;
+        }
+    }
+    Ok(())
+}

@@ -1,0 +1,46 @@
+//! Numbers and lines of text files.
+
+use memchr::memchr;
+
+// The value of a hexadecimal digit.
+fn hex_digit(byte: u8) -> Option<u8> {
+    match byte {
+        b'0'..=b'9' => Some(byte - b'0'),
+        b'a'..=b'f' => Some(byte - b'a' + 10),
+        b'A'..=b'F' => Some(byte - b'A' + 10),
+        _ => None,
+    }
+}
+
+// The number below 2^64 that these hexadecimal digits write. `None` if there is no digit, or another byte.
+pub(crate) fn hex_number(digits: &[u8]) -> Option<u64> {
+    if digits.is_empty() {
+        return None;
+    }
+    let mut value: u64 = 0;
+    'digits: for byte in digits.iter() {
+        let digit = hex_digit(*byte)?;
+        if value >= 1 << 60 {
+            return None;
+        }
+        value = value * 16 + digit as u64;
+    }
+    Some(value)
+}
+
+// The offset of the end of the line that starts at this offset.
+pub(crate) fn line_end(text: &[u8], start: usize) -> usize {
+    if start > text.len() {
+        return text.len();
+    }
+    match memchr(b'\n', &text[start..]) {
+        Some(len) => start + len,
+        None => text.len(),
+    }
+}
+
+// The bytes before the first byte `separator`, and the number of bytes up to it, with it.
+pub(crate) fn split_field(line: &[u8], separator: u8) -> Option<(&[u8], usize)> {
+    let end = memchr(separator, line)?;
+    Some((&line[..end], end + 1))
+}
